@@ -13,11 +13,11 @@ use Rattle.of_mem.specs.ProgramWork.{memory_of}
 use Rattle.of_script.specs.declared.instr.Instr.{Instr}
 use Rattle.of_script.specs.declared.instr.TheConstants.{REGISTERS, MOST_INSTRS}
 use Rattle.of_script.specs.Language.{IsScript}
-use Rattle.of_store.specs.State.{Store, run, last_store}
+use Rattle.of_store.specs.Store.{Store, run, last_store}
 use Rattle.of_eval.specs.declared.scripts.Scripts.{Scripts}
 use Rattle.of_eval.specs.Stored.{IsStored}
 use Rattle.of_eval.specs.Scripts.{store_at, scripts_data_cells, LawfulCells}
-use Rattle.of_core.specs.World.{TableStart}
+use Rattle.of_core.specs.TableMoment.{TableStart}
 use Rattle.example_bank.specs.Money.{money_of_numbers, changes, IsBalanced, TransfersKeep}
 use Rattle.example_bank.specs.Ledger.{Entry, Holds, IsLedger, IsEntryOf, scripts_in}
 use Rattle.example_bank.specs.Clerks.{scripts_of}

@@ -10,7 +10,7 @@ use Rattle.of_script.specs.declared.instr.Instr.{Instr}
 use Rattle.of_script.specs.declared.instr.Instr.TheVariants.{Load, Store as StoreInstr, Add, Sub, Get, Put, Del, Need, Push, Pop, Len, Count, First, Next, DropBelow}
 use Rattle.of_script.specs.declared.instr.TheConstants.{REGISTERS}
 use Rattle.of_script.specs.Language.{IsScript, IsInstrInRange, greatest}
-use Rattle.of_store.specs.State.{Store, InstrEffect, ScriptOutcome, register, instr_effect, with_register, pop_effect, queue, stored_count, is_there, with_answer_first, then_outcome, outcome_of_script, run_result, run}
+use Rattle.of_store.specs.Store.{Store, InstrEffect, ScriptOutcome, register, instr_effect, with_register, pop_effect, queue, stored_count, is_there, with_answer_first, then_outcome, outcome_of_script, run_result, run}
 use Rattle.example_bank.specs.Money.{paid_in, paid_out, sets_none, all_set_none, TransfersKeep}
 
 -- there are sixteen accounts still, and what was paid out and what is there now is what was there and what was paid in

@@ -12,7 +12,7 @@ use Rattle.of_core.specs.declared.place.Outcome.{Outcome}
 use Rattle.of_core.specs.declared.place.Outcome.TheVariants.{Spent as RanOut}
 use Rattle.of_core.specs.Calls.{NoneSpent, IsAnswered}
 use Rattle.of_core.specs.Table.{Setup}
-use Rattle.of_core.specs.World.{TableStart}
+use Rattle.of_core.specs.TableMoment.{TableStart}
 use Rattle.of_core.specs.Machine.{CallState, MayReplace, is_idle, IsOpen}
 use Rattle.of_core.specs.Turn.{IsIdle}
 use Rattle.of_row.specs.declared.member.Member.{Member}
@@ -35,7 +35,7 @@ use Rattle.example_bank.specs.declared.tally.Tally.{Tally}
 use Rattle.example_bank.specs.declared.tally.End.{End}
 use Rattle.example_bank.specs.declared.tally.End.TheVariants.{Done, Stopped, Spent}
 use Rattle.example_bank.specs.Tallies.{no_tally}
-use Rattle.example_bank.specs.Ledger.{counted}
+use Rattle.example_bank.specs.Ledger.{calls_done}
 use Rattle.example_bank.specs.Worked.{op_of, aborts, EndsAs, HasWorked, KeepsOne}
 use Rattle.example_bank.specs.Clerks.{StepsLeft, StopsWith, Works, IsReady, Counted, MayHire}
 use Rattle.example_bank.proofs.Closing.{one_is}
@@ -346,7 +346,7 @@ words_are script count size out rest words =
 pub counts_more : (o : Outcome) (t u : Tally) → Counted o t u → t.made + t.aborted ≡ t.answered → u.made + u.aborted ≡ u.answered
 counts_more o t u e h = subst (λ (z : Tally). z.made + z.aborted ≡ z.answered) (sym e) (omega (arith, h, one (aborts o)))
   where
-    one : (b : Bool) → counted (not b) + counted b ≡ 1
+    one : (b : Bool) → calls_done (not b) + calls_done b ≡ 1
     one true = refl
     one false = refl
 

@@ -12,7 +12,7 @@ use Rattle.of_mem.specs.declared.work.TheConstants.{MOST_INSTRS, LEAST_ABORT}
 use Rattle.of_mem.specs.Places.{ticket_cell_at, shape_at}
 use Rattle.of_mem.specs.ProgramWork.{memory_of}
 use Rattle.of_script.specs.declared.instr.Instr.{Instr}
-use Rattle.of_store.specs.State.{Store, replies_in_order, last_store}
+use Rattle.of_store.specs.Store.{Store, replies_in_order, last_store}
 use Rattle.of_eval.specs.declared.scripts.Scripts.{Scripts}
 use Rattle.of_eval.specs.Scripts.{store_at, scripts_data_cells, LawfulCells, scripts_meaning}
 use Rattle.of_eval.specs.SoundScripts.{scripts_fit}
@@ -23,11 +23,11 @@ use Rattle.of_core.specs.declared.place.Outcome.{Outcome}
 use Rattle.of_core.specs.declared.place.Outcome.TheVariants.{Spent as RanOut}
 use Rattle.of_core.specs.Table.{Setup, cell_count, words_before_members, durable_word, durable_seq}
 use Rattle.of_core.specs.Machine.{Call, no_call}
-use Rattle.of_core.specs.World.{Moment, TableStart}
+use Rattle.of_core.specs.TableMoment.{Moment, TableStart}
 use Rattle.of_core.specs.History.{numbers_after_calls}
 use Rattle.of_core.specs.Events.{Event, machine_in}
 use Rattle.of_core.specs.Calls.{HasCalls, operations_begun, outcomes, no_outcome, OutcomeStands}
-use Rattle.of_core.specs.Shared.{MayStart}
+use Rattle.of_core.specs.WordsMatch.{MayStart}
 use Rattle.of_core.specs.Starts.{IsDurable, start_from_durable}
 use Rattle.of_core.specs.Laws.{EveryCallStands}
 use Rattle.of_core.specs.Linear.{IsRecovered, recovered_number}
@@ -40,14 +40,14 @@ use Rattle.example_bank.specs.declared.tally.End.{End}
 use Rattle.example_bank.specs.declared.tally.End.TheVariants.{Done, Stopped, Spent}
 use Rattle.example_bank.specs.Ledger.{Entry, scripts_in, entries_of, made_in, aborted_in, is_abort}
 use Rattle.example_bank.specs.Worked.{aborts, EndsAs, HasWorked}
-use Rattle.example_bank.specs.Ledger.{Holds, ticket_in, aborted_last, counted, HasOwn, SpentSo, HasLedger, IsEntryOf}
+use Rattle.example_bank.specs.Ledger.{Holds, ticket_in, aborted_last, calls_done, HasOwn, SpentSo, HasLedger, IsEntryOf}
 use Rattle.example_bank.specs.Closed.{setup_with, KeepsClerks, AllChange, IsRecovery, RowsKeepLedgers}
 use Rattle.example_bank.proofs.Lists.{filter_made, made_twice, counted_all, counted_more}
 use Rattle.example_bank.proofs.Replays.{leads, aborts as replayed_aborts}
 use Rattle.example_bank.proofs.Own.{IsRun}
 use Rattle.example_bank.proofs.Ledgers.{who, tick, shape, told_shape, ReadAgain, Found, find, script_among, entry_of, calls_are, mine, begun_many, run, front, told_so, IsLast, is_last}
 
-pub one_is : (b : Bool) → cond b 1 0 ≡ counted b
+pub one_is : (b : Bool) → cond b 1 0 ≡ calls_done b
 one_is true = refl
 one_is false = refl
 
@@ -193,7 +193,7 @@ module _ (w : Scripts) (limit : ℕ) (means : MeansWords w) (words : WordsMeanSc
         ∙ ap (λ (j : ℕ). nat_le LEAST_ABORT (get_or calls j no_call).raw.shape) k
         ∙ last_aborted some
 
-    is_more : length one ≡ (t i).answered + 1 → (made_in one ≡ (t i).made + counted (not (aborted_last C i))) × (aborted_in one ≡ (t i).aborted + counted (aborted_last C i))
+    is_more : length one ≡ (t i).answered + 1 → (made_in one ≡ (t i).made + calls_done (not (aborted_last C i))) × (aborted_in one ≡ (t i).aborted + calls_done (aborted_last C i))
     is_more e =
         let long : length (map (entry_of to_do before) calls) ≡ length f.holds.calls + 1 = omega (arith, ap length (sym one_is_made), e, f.holds.count) in (
           ap made_in one_is_made ∙ counted_more (λ (x : Entry). not x.aborted) (λ (x : EndedCall). not (aborts x.outcome)) (map (entry_of to_do before) calls) f.holds.calls (entry_of to_do before no_call) no_ended long (λ j l. ap not (flag j l))

@@ -1,7 +1,7 @@
 -- What the tallies of a day tell of its ledger.
 use Rattle.std.proofs.Common.{◌≡◌, ℕ, ◌+◌, zero, suc, ◌<◌, ◌≤◌, refl, sym, ◌∙◌, ap, subst, arith, Bool, true, false, Option, List, length, take, vec_len}
 use Rattle.std.specs.Prelude.{not, IsSome}
-use Rattle.of_core.specs.World.{TableStart}
+use Rattle.of_core.specs.TableMoment.{TableStart}
 use Rattle.of_row.specs.declared.row.Row.{Row}
 use Rattle.of_eval.specs.declared.scripts.Scripts.{Scripts}
 use Rattle.example_bank.specs.declared.clerk.Job.{Job}
@@ -9,7 +9,7 @@ use Rattle.example_bank.specs.declared.tally.Tally.{Tally}
 use Rattle.example_bank.specs.declared.tally.End.{End}
 use Rattle.example_bank.specs.declared.tally.End.TheVariants.{Done, Stopped, Spent}
 use Rattle.example_bank.specs.declared.books.TheConstants.{LIMIT}
-use Rattle.example_bank.specs.Ledger.{Entry, counted, HasOwn, SpentSo, aborted_last, entries_of, HasLedger}
+use Rattle.example_bank.specs.Ledger.{Entry, calls_done, HasOwn, SpentSo, aborted_last, entries_of, HasLedger}
 use Rattle.std.proofs.lemmas.List.{length-map}
 use Rattle.of_row.specs.declared.member.Pass.{Pass}
 use Rattle.example_bank.specs.declared.clerk.Clerk.{Clerk}
@@ -27,13 +27,13 @@ ends_so C i j n Spent e s = (e, s)
 
 -- without the last
 module _ (B C : TableStart) (i : ℕ) (j : Job) (t : Tally) (own : List Entry) (h : HasOwn B C i (to_do_of j) t own) (e : HasEnded j t) (s : SpentSo LIMIT C i t.end) where
-  one : (b : Bool) → counted (not b) + counted b ≡ 1
+  one : (b : Bool) → calls_done (not b) + calls_done b ≡ 1
   one true = refl
   one false = refl
 
-  pub with_last : length own ≡ t.answered + 1 → IsTold C i j (record t { made = t.made + counted (not (aborted_last C i)); aborted = t.aborted + counted (aborted_last C i) }) own
+  pub with_last : length own ≡ t.answered + 1 → IsTold C i j (record t { made = t.made + calls_done (not (aborted_last C i)); aborted = t.aborted + calls_done (aborted_last C i) }) own
   with_last more =
-      let whole : length own ≡ t.made + counted (not (aborted_last C i)) + (t.aborted + counted (aborted_last C i)) = omega (arith, more, e.counts, one (aborted_last C i)) in
+      let whole : length own ≡ t.made + calls_done (not (aborted_last C i)) + (t.aborted + calls_done (aborted_last C i)) = omega (arith, more, e.counts, one (aborted_last C i)) in
       record {
         front = h.front ∙ ap (λ (k : ℕ). take k (to_do_of j)) whole;
         few = omega (arith, h.few, whole);

@@ -18,7 +18,7 @@ use Rattle.of_core.specs.declared.place.Outcome.{Outcome}
 use Rattle.of_core.specs.declared.place.Outcome.TheVariants.{Answered, Spent as RanOut}
 use Rattle.of_core.specs.Table.{Setup, setup_of, ticket_cell, shape_cell}
 use Rattle.of_core.specs.Machine.{Call, no_call}
-use Rattle.of_core.specs.World.{TableStart}
+use Rattle.of_core.specs.TableMoment.{TableStart}
 use Rattle.of_core.specs.Events.{Event, start_ticket}
 use Rattle.of_core.specs.Calls.{operations_begun, NoneSpent, IsAnswered, WasBegun}
 use Rattle.of_core.specs.Linear.{ExplainsOutcome, Linearizes, FindsCall, Detects, recovered_number}

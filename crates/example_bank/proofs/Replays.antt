@@ -11,7 +11,7 @@ use Rattle.of_mem.specs.ProgramWork.{memory_of}
 use Rattle.of_script.specs.declared.instr.Instr.{Instr}
 use Rattle.of_script.specs.declared.instr.TheConstants.{MOST_INSTRS}
 use Rattle.of_script.specs.Language.{IsScript, instr_word}
-use Rattle.of_store.specs.State.{Store, InstrEffect, ScriptOutcome, with_answer_first, then_outcome, instr_effect, outcome_of_script, run_result, run, replies_in_order, last_store}
+use Rattle.of_store.specs.Store.{Store, InstrEffect, ScriptOutcome, with_answer_first, then_outcome, instr_effect, outcome_of_script, run_result, run, replies_in_order, last_store}
 use Rattle.of_eval.specs.declared.scripts.Scripts.{Scripts}
 use Rattle.of_eval.specs.Means.{DoesOperation, MeansWords, WordsMeanScript}
 use Rattle.of_eval.specs.ShapeLaws.{mask_width, code_some}

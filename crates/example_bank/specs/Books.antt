@@ -1,8 +1,8 @@
 -- The books of the bank.
 use Rattle.std.specs.Prelude.{ℕ}
 use Rattle.of_eval.specs.Scripts.{LawfulCells, scripts_data_cells}
-use Rattle.of_store.specs.State.{Store}
-use Rattle.of_core.specs.World.{TableStart}
+use Rattle.of_store.specs.Store.{Store}
+use Rattle.of_core.specs.TableMoment.{TableStart}
 use Rattle.of_core.specs.Starts.{IsStartRow, start_from_durable}
 use Rattle.example_bank.specs.declared.books.Books.{Books}
 use Rattle.example_bank.specs.declared.books.TheConstants.{LIMIT}

@@ -1,5 +1,5 @@
 -- Clerks of a row: callers at work on their transfers.
-use Rattle.std.specs.Prelude.{◌≡◌, ℕ, ◌+◌, ◌<◌, ◌≤◌, ◌^◌, List, [], ◌∷◌, length, map, not, true, Option, Some, None, slice_index_or, vec_len}
+use Rattle.std.specs.Prelude.{◌≡◌, ℕ, ◌+◌, ◌<◌, ◌≤◌, ◌^◌, List, [], ◌∷◌, length, map, not, Option, Some, None, slice_index_or, vec_len}
 use Rattle.of_script.specs.declared.instr.Instr.{Instr}
 use Rattle.of_eval.specs.declared.scripts.Scripts.{Scripts}
 use Rattle.of_eval.specs.Scripts.{scripts_meaning, scripts_data_cells}
@@ -7,7 +7,7 @@ use Rattle.of_core.specs.declared.place.Outcome.{Outcome}
 use Rattle.of_core.specs.Turn.{IsIdle}
 use Rattle.of_row.specs.declared.member.Pass.{Pass}
 use Rattle.of_row.specs.declared.row.Row.{Row}
-use Rattle.of_row.specs.Rows.{key_of, IsSeatOf}
+use Rattle.of_row.specs.Rows.{key_of, view_of_pass, IsRowPass, IsFirstPass, KeepsNobody}
 use Rattle.of_row.specs.Rule.{IsAsked}
 use Rattle.of_row.specs.Views.{KnownCaller}
 use Rattle.of_caller.specs.declared.caller.Caller.{Caller}
@@ -18,7 +18,7 @@ use Rattle.example_bank.specs.declared.tally.End.{End}
 use Rattle.example_bank.specs.declared.tally.End.TheVariants.{Done, Stopped, Spent}
 use Rattle.example_bank.specs.declared.clerk.Clerk.{Clerk}
 use Rattle.example_bank.specs.declared.clerk.Job.{Job}
-use Rattle.example_bank.specs.Ledger.{counted}
+use Rattle.example_bank.specs.Ledger.{calls_done}
 use Rattle.example_bank.specs.Worked.{aborts, HasWorked, KeepsOne}
 
 -- the scripts of these transfers, and those of a job
@@ -40,7 +40,8 @@ StopsWith Stopped stop made = stop ≡ Some made
 StopsWith Spent stop made = Unit {0}
 
 -- a caller of this number has worked at these scripts, under a stop of which so much is left
-pub record Works (stop : Option ℕ) (left : Option (Option ℕ)) (to_do : List (List Instr)) (number : ℕ) (t : Tally) (c : Caller Scripts) : Type 0 where
+pub record Works (stop : Option ℕ) (left : Option (Option ℕ)) (to_do : List (List Instr))
+    (number : ℕ) (t : Tally) (c : Caller Scripts) : Type 0 where
   pub kept : KnownCaller
   pub kept_is : (sight_of c).kept ≡ kept ∷ []
   pub number_is : kept.machine.caller ≡ number
@@ -49,7 +50,8 @@ pub record Works (stop : Option ℕ) (left : Option (Option ℕ)) (to_do : List 
   pub stops : StopsWith t.end stop kept.turns
   pub none_pending : t.pending ≡ 0
   -- while its day has not ended it has no open call, and was answered to all that it has begun
-  pub free : t.end ≡ Done → IsIdle (caller_call c) × IsIdle kept.machine × (worked.begun ≡ t.answered) × (worked.beyond ≡ [])
+  pub free : t.end ≡ Done → IsIdle (caller_call c) × IsIdle kept.machine
+      × (worked.begun ≡ t.answered) × (worked.beyond ≡ [])
 
 -- a new caller, of this number, that has made no call
 pub record IsReady (number : ℕ) (c : Caller Scripts) : Type 0 where
@@ -67,10 +69,15 @@ CanCount t = (t.made + t.aborted ≡ t.answered) × (t.answered < 2 ^ 63)
 
 -- the second tally counts a call more, with this outcome
 abbrev pub Counted : Outcome → Tally → Tally → Type 0
-Counted o t u = u ≡ record t { answered = t.answered + 1; made = t.made + counted (not (aborts o)); aborted = t.aborted + counted (aborts o) }
+Counted o t u = u ≡ record t {
+  answered = t.answered + 1;
+  made = t.made + calls_done (not (aborts o));
+  aborted = t.aborted + calls_done (aborts o);
+}
 
 -- the caller has made the call of this script, where that is the next one
-abbrev pub MakesNext : List Instr → (left : Option (Option ℕ)) → Tally → Caller Scripts → (left_now : Option (Option ℕ)) → Tally → Caller Scripts → Type 0
+abbrev pub MakesNext : List Instr → (left : Option (Option ℕ)) → Tally → Caller Scripts
+    → (left_now : Option (Option ℕ)) → Tally → Caller Scripts → Type 0
 MakesNext script l t c m u d =
     (stop : Option ℕ) (to_do : List (List Instr)) (number : ℕ) → Works stop l to_do number t c
     → t.answered < length to_do → slice_index_or to_do t.answered [] ≡ script
@@ -113,11 +120,11 @@ pub record IsRowOf (r : Row Scripts) (w : Scripts) (limit : ℕ) : Type 0 where
 
 -- the row's first pass, which has asked for numbers below the next one alone and keeps nobody yet
 pub record MayHire (r : Row Scripts) (next : ℕ) (p : Pass) : Type 0 where
-  pub row : IsSeatOf r p.seat
-  pub first : p.seat.me.0.first ≡ true
-  pub nobody : p.seat.me.0.kept ≡ []
-  pub below : (number : ℕ) → IsAsked number p.seat.me.0.asked → number < next
+  pub row : IsRowPass r p
+  pub first : IsFirstPass p
+  pub nobody : KeepsNobody p
+  pub below : (number : ℕ) → IsAsked number (view_of_pass p).asked → number < next
 
 -- the pass keeps a clerk of this number, which has worked so at its job
 abbrev pub KeepsClerk : (number : ℕ) → Job → Tally → Pass → Type 0
-KeepsClerk number j t p = KeepsOne number (HasWorked (to_do_of j) t) p.seat.me.0.kept
+KeepsClerk number j t p = KeepsOne number (HasWorked (to_do_of j) t) (view_of_pass p).kept

@@ -7,8 +7,8 @@ use Rattle.of_script.specs.declared.instr.Instr.{Instr}
 use Rattle.of_eval.specs.declared.scripts.Scripts.{Scripts}
 use Rattle.of_eval.specs.Scripts.{scripts_data_cells, LawfulCells, scripts_meaning}
 use Rattle.of_core.specs.Table.{Setup, setup_of}
-use Rattle.of_core.specs.World.{TableStart}
-use Rattle.of_core.specs.Shared.{MayStart}
+use Rattle.of_core.specs.TableMoment.{TableStart}
+use Rattle.of_core.specs.WordsMatch.{MayStart}
 use Rattle.of_core.specs.Starts.{IsDurable, IsStartRow, start_from_durable}
 use Rattle.of_row.specs.Views.{View}
 use Rattle.of_row.specs.Rule.{ViewMeetsRule}
@@ -35,12 +35,13 @@ pub record IsRecovery (w : Scripts) (row new : List ℕ) : Type 0 where
   pub on_data : RecoversData w.callers (scripts_data_cells w) row new
   pub others : KeepsOthers w.callers (scripts_data_cells w) row new
 
--- Where words and a view meet the rule of a row of these scripts, and the view keeps each clerk, the row
--- that recovery makes of the durable words ends a ledger of what the clerks did.
+-- Where words and a view meet the rule of a row of these scripts, and the view keeps each clerk,
+-- the row that recovery makes of the durable words ends a ledger of what the clerks did.
 abbrev pub RowsKeepLedgers : Scripts → (limit : ℕ) → Type 0
 RowsKeepLedgers w limit =
     let S : Setup = setup_with w limit in
-    (B : TableStart) (ws : List ℕ) (v : View) → MayStart S (LawfulCells w) B → ViewMeetsRule S (LawfulCells w) B ws v → v.spent ≡ false
+    (B : TableStart) (ws : List ℕ) (v : View) → MayStart S (LawfulCells w) B
+    → ViewMeetsRule S (LawfulCells w) B ws v → v.spent ≡ false
     → (row new : List ℕ) → IsDurable S ws row → IsRecovery w row new
     → (to_do : ℕ → List (List Instr)) (t : ℕ → Tally) → AllChange w to_do → KeepsClerks w to_do t v
     → HasLedger w limit B (start_from_durable w.callers (scripts_data_cells w) new) to_do t
@@ -49,5 +50,7 @@ RowsKeepLedgers w limit =
 abbrev pub RowsRestart : Scripts → (limit : ℕ) → Type 0
 RowsRestart w limit =
     let S : Setup = setup_with w limit in
-    (B : TableStart) (ws : List ℕ) (v : View) → ViewMeetsRule S (LawfulCells w) B ws v → v.spent ≡ false
-    → (row : List ℕ) → IsDurable S ws row → IsStartRow S (LawfulCells w) (recovered_words w.callers (scripts_data_cells w) row)
+    (B : TableStart) (ws : List ℕ) (v : View) → ViewMeetsRule S (LawfulCells w) B ws v
+    → v.spent ≡ false
+    → (row : List ℕ) → IsDurable S ws row
+    → IsStartRow S (LawfulCells w) (recovered_words w.callers (scripts_data_cells w) row)

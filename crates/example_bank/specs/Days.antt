@@ -2,7 +2,7 @@
 use Rattle.std.specs.Prelude.{◌≡◌, ℕ, ◌+◌, ◌<◌, ◌≤◌, List, length, take, IsSome, slice_index_or}
 use Rattle.std.proofs.Common.{zero, suc}
 use Rattle.std.specs.List.{All}
-use Rattle.of_core.specs.World.{TableStart}
+use Rattle.of_core.specs.TableMoment.{TableStart}
 use Rattle.example_bank.specs.declared.books.Books.{Books}
 use Rattle.example_bank.specs.declared.books.TheConstants.{CLERKS, LIMIT}
 use Rattle.example_bank.specs.declared.clerk.Job.{Job}
@@ -27,8 +27,8 @@ job_of j (suc (suc (suc i))) = j.others.1
 abbrev pub tally_of : List Tally → ℕ → Tally
 tally_of ts i = slice_index_or ts i no_tally
 
--- why a clerk made no more of its transfers: there are no more; it was stopped, as its job says; or no
--- sequence, or no ticket of it, is left in the books
+-- why a clerk made no more of its transfers: there are no more; it was stopped, as its job says; or
+-- no sequence, or no ticket of it, is left in the books
 abbrev pub EndsSo : (after : TableStart) → (clerk : ℕ) → Job → (answered : ℕ) → End → Type 0
 EndsSo C i j n Done = n ≡ length (to_do_of j)
 EndsSo C i j n Stopped = (n < length (to_do_of j)) × IsSome j.stop
@@ -57,7 +57,8 @@ pub record IsDay (b : Books) (j : Jobs) (d : Day) : Type 0 where
   pub entries : List Entry
   pub ledger : IsLedger b.scripts (start_in b) (start_in d.books) entries
   pub origin : All (IsEntryOf b.scripts (λ i. to_do_of (job_of j i))) entries
-  pub each : (i : ℕ) → i < CLERKS → IsTold (start_in d.books) i (job_of j i) (tally_of d.tallies i) (entries_of i entries)
+  pub each : (i : ℕ) → i < CLERKS
+      → IsTold (start_in d.books) i (job_of j i) (tally_of d.tallies i) (entries_of i entries)
 
 -- so a clerk's day has ended, as far as itself can know
 abbrev pub Ends : Job → (answered : ℕ) → End → Type 0

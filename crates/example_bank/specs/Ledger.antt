@@ -7,11 +7,11 @@ use Rattle.of_mem.specs.Places.{ticket_cell_at, shape_at}
 use Rattle.of_mem.specs.ProgramWork.{memory_of}
 use Rattle.of_script.specs.declared.instr.Instr.{Instr}
 use Rattle.of_script.specs.Language.{IsScript}
-use Rattle.of_store.specs.State.{Store, Reply, Answered, Aborted, replies_in_order, last_store}
+use Rattle.of_store.specs.Store.{Store, Reply, Answered, Aborted, replies_in_order, last_store}
 use Rattle.of_eval.specs.declared.scripts.Scripts.{Scripts}
 use Rattle.of_eval.specs.Scripts.{store_at}
 use Rattle.of_eval.specs.Stored.{IsStored}
-use Rattle.of_core.specs.World.{TableStart}
+use Rattle.of_core.specs.TableMoment.{TableStart}
 use Rattle.example_bank.specs.declared.tally.Tally.{Tally}
 use Rattle.example_bank.specs.declared.tally.End.{End}
 use Rattle.example_bank.specs.declared.tally.End.TheVariants.{Done, Stopped, Spent}
@@ -54,22 +54,25 @@ ticket_in B i = payload_of (slice_index_or B.cells (ticket_cell_at MOST_INSTRS i
 
 -- whether it was aborted
 abbrev pub aborted_last : TableStart → (clerk : ℕ) → Bool
-aborted_last B i = nat_le LEAST_ABORT (payload_of (slice_index_or B.cells (shape_at MOST_INSTRS i) 0))
+aborted_last B i =
+    nat_le LEAST_ABORT (payload_of (slice_index_or B.cells (shape_at MOST_INSTRS i) 0))
 
 -- 1 where it is so
-abbrev pub counted : Bool → ℕ
-counted true = 1
-counted false = 0
+abbrev pub calls_done : Bool → ℕ
+calls_done true = 1
+calls_done false = 0
 
--- made one after the other, the entries lead from what the one start holds to what the other does, and
--- those abort that say so
+-- made one after the other, the entries lead from what the one start holds to what the other does,
+-- and those abort that say so
 pub record IsLedger (w : Scripts) (B C : TableStart) (es : List Entry) : Type 0 where
   pub leads : (s : Store) → Holds w B s → Holds w C (last_store s (scripts_in es))
-  pub aborts : (s : Store) → Holds w B s → map (λ e. e.aborted) es ≡ map is_abort (replies_in_order s (scripts_in es))
+  pub aborts : (s : Store) → Holds w B s
+      → map (λ e. e.aborted) es ≡ map is_abort (replies_in_order s (scripts_in es))
 
--- What a ledger has of one clerk: as many entries as its tickets rose by, the front of what it was to
--- do. They are those that it was answered to, and perhaps the one in which it was stopped.
-pub record HasOwn (B C : TableStart) (i : ℕ) (to_do : List (List Instr)) (t : Tally) (own : List Entry) : Type 0 where
+-- What a ledger has of one clerk: as many entries as its tickets rose by, the front of what it was
+-- to do. They are those that it was answered to, and perhaps the one in which it was stopped.
+pub record HasOwn (B C : TableStart) (i : ℕ) (to_do : List (List Instr)) (t : Tally)
+    (own : List Entry) : Type 0 where
   pub tickets : ticket_in C i ≡ ticket_in B i + length own
   pub front : scripts_in own ≡ take (length own) to_do
   pub few : length own ≤ length to_do
@@ -77,8 +80,10 @@ pub record HasOwn (B C : TableStart) (i : ℕ) (to_do : List (List Instr)) (t : 
   pub most : length own ≤ t.answered + 1
   pub made : length own ≡ t.answered → made_in own ≡ t.made
   pub aborted : length own ≡ t.answered → aborted_in own ≡ t.aborted
-  pub made_more : length own ≡ t.answered + 1 → made_in own ≡ t.made + counted (not (aborted_last C i))
-  pub aborted_more : length own ≡ t.answered + 1 → aborted_in own ≡ t.aborted + counted (aborted_last C i)
+  pub made_more : length own ≡ t.answered + 1
+      → made_in own ≡ t.made + calls_done (not (aborted_last C i))
+  pub aborted_more : length own ≡ t.answered + 1
+      → aborted_in own ≡ t.aborted + calls_done (aborted_last C i)
 
 -- no sequence is left, or no ticket of the clerk
 abbrev pub NoneLeft : (limit : ℕ) → TableStart → (clerk : ℕ) → Type 0
@@ -96,7 +101,8 @@ pub record IsEntryOf (w : Scripts) (to_do : ℕ → List (List Instr)) (e : Entr
   pub fits : IsScript e.script
 
 -- a ledger between two starts, of clerks that were to do this and of whom this was told
-pub record HasLedger (w : Scripts) (limit : ℕ) (B C : TableStart) (to_do : ℕ → List (List Instr)) (t : ℕ → Tally) : Type 0 where
+pub record HasLedger (w : Scripts) (limit : ℕ) (B C : TableStart) (to_do : ℕ → List (List Instr))
+    (t : ℕ → Tally) : Type 0 where
   pub entries : List Entry
   pub ledger : IsLedger w B C entries
   pub origin : All (IsEntryOf w to_do) entries

@@ -5,4 +5,5 @@ pub mod Worked
 pub mod Closed
 pub mod Clerks
 pub mod Books
+pub mod Founding
 pub mod Days

@@ -5,18 +5,21 @@ use Rattle.of_script.specs.declared.instr.Instr.{Instr}
 use Rattle.of_script.specs.declared.instr.Instr.TheVariants.{Store as StoreInstr, Add, Sub}
 use Rattle.of_script.specs.declared.instr.TheConstants.{REGISTERS}
 use Rattle.of_script.specs.Language.{IsScript, reads_only}
-use Rattle.of_store.specs.State.{Store, run}
+use Rattle.of_store.specs.Store.{Store, run}
 use Rattle.of_eval.specs.declared.scripts.Scripts.{Scripts}
 use Rattle.of_eval.specs.Scripts.{store_at, scripts_data_cells}
 use Rattle.of_core.specs.Starts.{start_from_durable}
 
--- The accounts are the registers. What they hold together, where these are the numbers of the data cells.
+-- The accounts are the registers. What they hold together, where these are the numbers of the data
+-- cells.
 abbrev pub money_of_numbers : Scripts → List ℕ → ℕ
 money_of_numbers w xs = sum (take REGISTERS (drop (store_at w) xs))
 
 -- what they hold in a durable row
 abbrev pub money_in : Scripts → List ℕ → ℕ
-money_in w row = money_of_numbers w (map payload_of (start_from_durable w.callers (scripts_data_cells w) row).cells)
+money_in w row =
+    money_of_numbers w
+    (map payload_of (start_from_durable w.callers (scripts_data_cells w) row).cells)
 
 -- what an instruction adds to an account
 abbrev pub paid_in : Instr → ℕ
@@ -60,5 +63,7 @@ pub record IsTransfer (script : List Instr) : Type 0 where
 
 -- on every store with sixteen registers a balanced script leaves them as much as they held together
 abbrev pub TransfersKeep : Type 0
-TransfersKeep = (s : Store) (script : List Instr) → length s.registers ≡ REGISTERS → IsScript script → IsBalanced script
+TransfersKeep =
+    (s : Store) (script : List Instr) → length s.registers ≡ REGISTERS → IsScript script
+    → IsBalanced script
     → sum (run s script).0.registers ≡ sum s.registers

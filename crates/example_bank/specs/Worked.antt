@@ -35,8 +35,8 @@ EndsAs Done n b beyond x = Unit {0}
 EndsAs Stopped n b beyond x = Unit {0}
 EndsAs Spent n b beyond x = IsSpent n b beyond x
 
--- It has begun the scripts at the front of what it is to do, and was answered to all of them but the
--- last, or to all. What became of these is counted.
+-- It has begun the scripts at the front of what it is to do, and was answered to all of them but
+-- the last, or to all. What became of these is counted.
 pub record HasWorked (to_do : List (List Instr)) (t : Tally) (x : KnownCaller) : Type 0 where
   -- its calls that were answered, and then at most the spent one
   pub calls : List EndedCall

@@ -6,7 +6,7 @@ use of_script::REGISTERS;
 use of_store::Store;
 
 /// What the accounts of a store hold together.
-pub fn together(store: &Store) -> u64
+pub fn total_money(store: &Store) -> u64
     ensures { result ≡ sum store.now.registers }
 {
     store.room();

@@ -11,17 +11,27 @@ pub enum BankErr {
     Memory,
     /// The books stand for no store, and this is the first data cell at fault.
     Unlawful { cell: u32 },
-    /// The accounts don't hold what their founder gave them.
-    NotFounded,
+    /// The accounts hold this sum together, and not what their founder gave them.
+    NotFounded { money: u64 },
 }
 
 impl From<AllocError> for BankErr {
+    ghost use Rattle.std.specs.Prelude.{◌≡◌};
+    ghost use Rattle.example_bank.specs.declared.bank_err.BankErr.TheVariants.{Memory};
+
+    ghost from_gives = { λ _ e. e ≡ Memory };
+
     fn from(_error: AllocError) -> BankErr {
         BankErr::Memory
     }
 }
 
 impl From<LawErr> for BankErr {
+    ghost use Rattle.std.specs.Prelude.{◌≡◌};
+    ghost use Rattle.example_bank.specs.Founding.{bank_err_of};
+
+    ghost from_gives = { λ l e. e ≡ bank_err_of l };
+
     fn from(error: LawErr) -> BankErr {
         match error {
             LawErr::Memory => BankErr::Memory,
@@ -35,7 +45,9 @@ impl fmt::Display for BankErr {
         match self {
             BankErr::Memory => write!(f, "out of memory"),
             BankErr::Unlawful { cell } => write!(f, "data cell {cell} is at fault"),
-            BankErr::NotFounded => write!(f, "the accounts don't hold what was given"),
+            BankErr::NotFounded { money } => {
+                write!(f, "the accounts hold {money}, and not what was given")
+            }
         }
     }
 }

@@ -8,9 +8,9 @@ ghost use Rattle.of_mem.specs.declared.work.TheConstants.{MOST_INSTRS};
 ghost use Rattle.of_script.specs.declared.instr.Instr.{Instr};
 ghost use Rattle.of_eval.specs.Scripts.{LawfulCells, scripts_data_cells, scripts_meaning};
 ghost use Rattle.of_core.specs.Table.{durable_word as the_durable_word};
-ghost use Rattle.of_core.specs.Shared.{MayStart};
+ghost use Rattle.of_core.specs.WordsMatch.{MayStart};
 ghost use Rattle.of_core.specs.Starts.{IsDurable};
-ghost use Rattle.of_row.specs.Rows.{IsSeatOf, row_start};
+ghost use Rattle.of_row.specs.Rows.{row_start, view_of_pass, IsRowPass};
 ghost use Rattle.example_bank.specs.Ledger.{HasLedger, ticket_in, aborted_last};
 ghost use Rattle.example_bank.specs.Closed.{AllChange, KeepsClerks, setup_with};
 ghost use Rattle.example_bank.specs.Clerks.{IsRowOf, MayHire};
@@ -19,7 +19,7 @@ ghost use Rattle.example_bank.specs.declared.tally.Tally.{Tally};
 
 use crate::laws::rows_keep_ledgers;
 use of_cell::{Shape, payload_of};
-use of_eval::{LawErr, Scripts, lawful};
+use of_eval::{LawErr, Scripts, lawful, shape_of};
 use of_mem::LEAST_ABORT;
 use of_recover::laws::recovered_cells;
 use of_recover::recover;
@@ -32,20 +32,6 @@ pub const CLERKS: u32 = 4;
 
 /// The last sequence that may be committed.
 pub const LIMIT: u32 = 1_000_000;
-
-/// The shape of a table for scripts.
-pub fn shape_of(scripts: Scripts) -> Shape
-    ensures callers { result.callers ≡ scripts.callers }
-    ensures instrs { result.instrs ≡ MOST_INSTRS }
-    ensures cells { result.cells ≡ scripts_data_cells scripts }
-{
-    let plot = scripts.plot();
-    Shape {
-        callers: plot.callers,
-        instrs: plot.instrs,
-        cells: plot.cells(),
-    }
-}
 
 /// A durable row that recovery has been through.
 #[derive(Drop)]
@@ -100,8 +86,8 @@ impl Books {
     ghost use Rattle.of_mem.specs.ProgramWork.{memory_of};
     ghost use Rattle.example_bank.specs.Books.{AreBooks, StandForStore, money_of, start_in};
 
-    /// Closes a row, takes its durable words alone, as a crash does, and recovers them. Where the pass
-    /// keeps all clerks, the books end a ledger of what these have done.
+    /// Closes a row, takes its durable words alone, as a crash does, and recovers them. Where the
+    /// pass keeps all clerks, the books end a ledger of what these have done.
     pub fn close(
         alloc: Global,
         scripts: Scripts,
@@ -110,13 +96,13 @@ impl Books {
     ) -> Result<Books, AllocError>
         requires clerks { scripts.callers ≡ CLERKS }
         requires row { IsRowOf row scripts LIMIT }
-        requires pass { IsSeatOf row pass.seat }
+        requires pass { IsRowPass row pass }
         ensures scripts { IfOk result (λ b. b.scripts ≡ scripts) }
         ensures books { IfOk result AreBooks }
         ensures ledger { IfOk result (λ b. (to_do : ℕ → List (List Instr)) (tally : ℕ → Tally) →
             MayStart (setup_with scripts LIMIT) (LawfulCells scripts)
             (row_start scripts_meaning row) → AllChange scripts to_do →
-            KeepsClerks scripts to_do tally pass.seat.me.0 → HasLedger scripts LIMIT
+            KeepsClerks scripts to_do tally (view_of_pass pass) → HasLedger scripts LIMIT
             (row_start scripts_meaning row) (start_in b) to_do tally) }
     {
         rows_keep_ledgers(scripts, LIMIT);
@@ -149,8 +135,9 @@ impl Books {
         requires { AreBooks self.now }
         ensures store { IfOk result (StandForStore self.now) }
         ensures money { IfOk result (λ s. sum s.registers ≡ money_of self.now) }
-        ensures unlawful { IfErr result (λ e. NamesCellWith (IsFirstFault self.now.scripts.callers
-            MOST_INSTRS self.now.scripts.blocks (memory_of (map payload_of (start_in self.now).cells))) e) }
+        ensures unlawful { IfErr result (NamesCellWith (IsFirstFault self.now.scripts.callers
+            MOST_INSTRS self.now.scripts.blocks
+            (memory_of (map payload_of (start_in self.now).cells)))) }
     {
         let words = data_words(alloc, &shape_of(self.scripts), &self.row)?;
         let cells = numbers(alloc, &words)?;

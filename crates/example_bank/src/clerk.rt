@@ -4,13 +4,14 @@ ghost use Rattle.std.specs.Prelude.{◌≡◌, ◌+◌, ◌<◌, ◌≤◌, ℕ,
 ghost use Rattle.of_eval.specs.Scripts.{scripts_meaning};
 ghost use Rattle.of_core.specs.Calls.{IsAnswered};
 ghost use Rattle.of_core.specs.Turn.{IsIdle};
-ghost use Rattle.of_row.specs.Rows.{IsSeatOf, key_of};
+ghost use Rattle.of_row.specs.Rows.{IsRowPass, key_of};
 ghost use Rattle.of_caller.specs.Callers.{IsCaller, caller_call};
 ghost use Rattle.example_bank.specs.declared.clerk.Job.{Job as TheJob};
 ghost use Rattle.example_bank.specs.declared.clerk.Shift.TheVariants.{Evening};
 ghost use Rattle.example_bank.specs.declared.tally.Tally.{Tally as TheTally};
 ghost use Rattle.example_bank.specs.declared.tally.End.TheVariants.{Done as NotEnded};
-ghost use Rattle.example_bank.specs.Clerks.{IsReady, CanCount, Counted, MakesNext, Advances, MayHire};
+ghost use Rattle.example_bank.specs.Clerks.{IsReady, CanCount, Counted, MakesNext, Advances};
+ghost use Rattle.example_bank.specs.Clerks.{MayHire};
 ghost use Rattle.example_bank.specs.Clerks.{IsClerk, IsSame, IsThrough, KeepsClerk};
 
 use crate::tally::{End, Tally};
@@ -29,7 +30,7 @@ use std::sync::ledger::{Blank, Ledger};
 
 /// Gives a number to a new caller, none below which was asked for. The error is that there is no
 /// memory.
-pub fn enter(
+pub fn new_caller(
     alloc: Global,
     row: &Row<Scripts>,
     pass: Pass,
@@ -127,8 +128,9 @@ pub struct Clerk {
 }
 
 impl Clerk {
-    /// A clerk with a number, none below which was asked for, and with a brake that stops it when its
-    /// job says so. The error is that there is no memory: all that its work needs is taken here.
+    /// A clerk with a number, none below which was asked for, and with a brake that stops it when
+    /// its job says so. The error is that there is no memory: all that its work needs is taken
+    /// here.
     pub fn hire(
         alloc: Global,
         row: &Row<Scripts>,
@@ -145,7 +147,7 @@ impl Clerk {
         ensures job { IfOk result (λ r. r.0.job ≡ job) }
         ensures pass { IfOk result (λ r. MayHire row.now (number + 1) r.1) }
     {
-        let (caller, pass) = enter(alloc, row, pass, number)?;
+        let (caller, pass) = new_caller(alloc, row, pass, number)?;
         Ok((
             Clerk {
                 number,
@@ -213,8 +215,8 @@ impl Clerk {
     /// Hands all that it has done to the pass, which keeps it.
     pub fn leave(self, row: &Row<Scripts>, pass: Pass) -> Pass
         requires clerk { IsClerk (left self.brake) row.now self }
-        requires pass { IsSeatOf row.now pass.seat }
-        ensures pass { IsSeatOf row.now result.seat }
+        requires pass { IsRowPass row.now pass }
+        ensures pass { IsRowPass row.now result }
         ensures own { KeepsClerk self.number self.job self.tally result }
         ensures others { (number : ℕ) (job : TheJob) (tally : TheTally) →
             KeepsClerk number job tally pass → KeepsClerk number job tally result }

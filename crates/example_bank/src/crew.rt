@@ -2,7 +2,7 @@
 
 ghost use Rattle.std.specs.Prelude.{◌≡◌, ◌+◌, ◌<◌, ℕ, Some, IfOk};
 ghost use Rattle.std.specs.Thread.{IsSync};
-ghost use Rattle.of_row.specs.Rows.{IsSeatOf, key_of};
+ghost use Rattle.of_row.specs.Rows.{IsRowPass, key_of};
 ghost use Rattle.example_bank.specs.declared.clerk.Job.{Job as TheJob};
 ghost use Rattle.example_bank.specs.declared.clerk.Shift.TheVariants.{Evening};
 ghost use Rattle.example_bank.specs.declared.tally.Tally.{Tally as TheTally};
@@ -18,8 +18,8 @@ use std::thread::{Threads, join};
 /// The brakes of two clerks.
 pub(crate) type Brakes = (Box<dyn Brake + Send>, Box<dyn Brake + Send>);
 
-/// Hires two clerks, of this number and the next, with brakes that stop them when their jobs say so.
-/// The error is that there is no memory.
+/// Hires two clerks, of this number and the next, with brakes that stop them when their jobs say
+/// so. The error is that there is no memory.
 pub(crate) fn hire_two(
     alloc: Global,
     row: &Row<Scripts>,
@@ -120,8 +120,8 @@ pub(crate) fn four_at_once<R: Threads + Sync>(
 pub(crate) fn leave_two(row: &Row<Scripts>, two: (Clerk, Clerk), pass: Pass) -> Pass
     requires one { IsClerk (left two.0.brake) row.now two.0 }
     requires other { IsClerk (left two.1.brake) row.now two.1 }
-    requires pass { IsSeatOf row.now pass.seat }
-    ensures pass { IsSeatOf row.now result.seat }
+    requires pass { IsRowPass row.now pass }
+    ensures pass { IsRowPass row.now result }
     ensures one { KeepsClerk two.0.number two.0.job two.0.tally result }
     ensures other { KeepsClerk two.1.number two.1.job two.1.tally result }
     ensures others { (number : ℕ) (job : TheJob) (tally : TheTally) →

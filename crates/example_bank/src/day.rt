@@ -1,11 +1,11 @@
 //! A working day of the bank.
 
 ghost use Rattle.std.specs.Prelude.{◌≡◌, ◌+◌, ◌<◌, ℕ, Some, IfOk, List, not};
-ghost use Rattle.of_row.specs.Rows.{IsSeatOf, key_of};
+ghost use Rattle.of_row.specs.Rows.{IsRowPass, key_of};
 ghost use Rattle.example_bank.specs.Books.{AreBooks, money_of, start_in};
 ghost use Rattle.example_bank.specs.Clerks.{CanCount, KeepsClerk, MayHire, to_do_of};
 ghost use Rattle.example_bank.specs.Days.{HasEnded, IsDay, IsTold, job_of, tally_of};
-ghost use Rattle.example_bank.specs.Ledger.{Entry, HasLedger, HasOwn, SpentSo, counted};
+ghost use Rattle.example_bank.specs.Ledger.{Entry, HasLedger, HasOwn, SpentSo, calls_done};
 ghost use Rattle.example_bank.specs.declared.books.TheConstants.{CLERKS, LIMIT};
 ghost use Rattle.example_bank.specs.declared.clerk.Job.{Job as TheJob};
 
@@ -51,7 +51,7 @@ fn work_all_day<R: Threads + Sync>(
     requires second { left brakes.0.1 ≡ Some jobs.two.1.stop }
     requires third { left brakes.1.0 ≡ Some jobs.others.0.stop }
     requires fourth { left brakes.1.1 ≡ Some jobs.others.1.stop }
-    ensures pass { IfOk result (λ r. IsSeatOf row.now r.0.seat) }
+    ensures pass { IfOk result (λ r. IsRowPass row.now r.0) }
     ensures keeps { IfOk result (λ r. (i : ℕ) → i < CLERKS →
         KeepsClerk i (job_of jobs i) (tally_of r.1 i) r.0) }
     ensures ended { IfOk result (λ r. (i : ℕ) → i < CLERKS →
@@ -109,8 +109,8 @@ fn fuel_for(job: &Job) -> Fuel
 fn with_last(tally: Tally, aborted: bool) -> Tally
     requires { CanCount tally }
     ensures { result ≡ record tally {
-      made = tally.made + counted (not aborted);
-      aborted = tally.aborted + counted aborted;
+      made = tally.made + calls_done (not aborted);
+      aborted = tally.aborted + calls_done aborted;
     } }
 {
     let mut tally = tally;
@@ -155,9 +155,9 @@ fn told(before: &Books, after: &Books, clerk: u32, tally: Tally) -> Tally
     tally
 }
 
-/// A day at the bank. The new books end a ledger of what the clerks have done of their jobs, and hold
-/// as much money as the old ones, whatever the threads did and whoever was stopped. The error is that
-/// there is no memory; the old books are as they were then.
+/// A day at the bank. The new books end a ledger of what the clerks have done of their jobs, and
+/// hold as much money as the old ones, whatever the threads did and whoever was stopped. The error
+/// is that there is no memory; the old books are as they were then.
 pub fn working_day<R: Threads + Sync>(
     rt: &R,
     alloc: Global,

@@ -1,5 +1,5 @@
-//! What transfers do to the accounts, and what a row keeps of clerks: functions that do nothing, whose
-//! contracts are the theorems.
+//! What transfers do to the accounts, and what a row keeps of clerks: functions that do nothing,
+//! whose contracts are the theorems.
 
 ghost use Rattle.example_bank.specs.Closed.{RowsKeepLedgers, RowsRestart};
 ghost use Rattle.example_bank.specs.Money.{TransfersKeep};
@@ -15,10 +15,10 @@ pub fn transfers_keep()
     ensures { TransfersKeep }
 {}
 
-/// Recovery finds what the clerks of a closed row have done, whatever the interleaving and whoever was
-/// stopped: one order of their scripts, of each clerk the front of what it was to do, leads from the
-/// store of the row's start to the store that recovery finds. From the row that it makes a table may
-/// start.
+/// Recovery finds what the clerks of a closed row have done, whatever the interleaving and whoever
+/// was stopped: one order of their scripts, of each clerk the front of what it was to do, leads
+/// from the store of the row's start to the store that recovery finds. From the row that it makes a
+/// table may start.
 pub fn rows_keep_ledgers(work: Scripts, limit: u32)
     ensures ledgers { RowsKeepLedgers work limit }
     ensures restart { RowsRestart work limit }

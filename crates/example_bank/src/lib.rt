@@ -1,5 +1,5 @@
-//! A bank over the library: sixteen accounts, and clerks that move money between them from threads of
-//! their own, so that none is lost.
+//! A bank over the library: sixteen accounts, and clerks that move money between them from threads
+//! of their own, so that none is lost.
 
 #![tactic(auto)]
 
@@ -14,10 +14,10 @@ pub mod laws;
 mod tally;
 mod transfer;
 
-pub use balance::together;
+pub use balance::total_money;
 pub use bank_err::BankErr;
-pub use books::{Books, CLERKS, LIMIT, shape_of};
-pub use clerk::{Clerk, Job, Shift, call, enter};
+pub use books::{Books, CLERKS, LIMIT};
+pub use clerk::{Clerk, Job, Shift, call, new_caller};
 pub use day::{Day, Jobs, working_day};
 pub use tally::{End, Tally};
 pub use transfer::Transfer;

@@ -19,7 +19,8 @@ pub struct Transfer {
 }
 
 impl Transfer {
-    /// Takes an amount off an account and adds it to another; aborts where the first hasn't as much.
+    /// Takes an amount off an account and adds it to another; aborts where the first hasn't as
+    /// much.
     pub fn new(from: u8, to: u8, amount: u32) -> Transfer
         requires from { from < REGISTERS }
         requires to { to < REGISTERS }

@@ -7,7 +7,7 @@ ghost use Rattle.example_bank.specs.Books.{AreBooks, StandForStore};
 ghost use Rattle.example_bank_day.specs.declared.TheConstants.{AMOUNT};
 
 use example_bank::{
-    BankErr, Books, CLERKS, Day, End, Job, Jobs, Tally, Transfer, together, working_day,
+    BankErr, Books, CLERKS, Day, End, Job, Jobs, Tally, Transfer, total_money, working_day,
 };
 use of_eval::Scripts;
 use of_script::REGISTERS;
@@ -36,7 +36,8 @@ fn job(alloc: Global, to_do: &[Transfer], morning: usize) -> Result<Job, AllocEr
 }
 
 /// Clerk 0 places orders, which clerk 1 fills as far as they are placed, and the others in the
-/// evening. Clerk 2 is stopped three steps after its begin, when its transfer is announced and no more.
+/// evening. Clerk 2 is stopped three steps after its begin, when its transfer is announced and no
+/// more.
 fn jobs(alloc: Global) -> Result<Jobs, AllocError> {
     let orders = [
         Transfer::order(1, 30),
@@ -74,7 +75,7 @@ fn a_day<R: Threads + Sync>(rt: &R, alloc: Global) -> Result<Shown, BankErr>
     ensures money { IfOk result (λ s. sum s.after.registers ≡ sum s.before.registers) }
     ensures founded { IfOk result (λ s. sum s.before.registers ≡ AMOUNT * REGISTERS) }
 {
-    let books = Books::found(alloc, SCRIPTS, AMOUNT)?;
+    let books = Books::with_amount(alloc, SCRIPTS, AMOUNT)?;
     let before = books.store(alloc)?;
     let day = working_day(rt, alloc, &books, jobs(alloc)?)?;
     let after = day.books.store(alloc)?;
@@ -95,7 +96,7 @@ fn print_accounts(rt: &impl Print, store: &Store) -> io::Result<()> {
     for account in 0..REGISTERS as u32 {
         print!(rt; " {}", store.register(account))?;
     }
-    println!(rt; ", together {}", together(store))
+    println!(rt; ", together {}", total_money(store))
 }
 
 fn print_day(rt: &impl Print, shown: &Shown) -> io::Result<()> {

@@ -14,7 +14,7 @@ use Rattle.of_mem.proofs.Changes.{changed_same, changed_other, total_changed, to
 use Rattle.of_mem.proofs.Heaps.{front_bucket, front_below, each_weaker, each_left, each_right, cell_in, all_links, chain_rest, pointer_small}
 use Rattle.of_mem.proofs.Moves.{heap_changed, heap_unlink}
 use Rattle.of_mem.proofs.Frames.{SameBlocks, value_same, bucket_same, queue_same, value_none, bucket_split, value_without}
-use Rattle.of_mem.specs.Pad.{Part, write}
+use Rattle.of_mem.specs.Part.{Part, write}
 use Rattle.of_mem.proofs.Counts.{blocks_below, two_total}
 use Rattle.of_mem.proofs.Runs.{part_wrote}
 use Rattle.of_alloc.specs.Blocks.{IsFreeList, IsOut}

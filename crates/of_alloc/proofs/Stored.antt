@@ -6,7 +6,7 @@ use Rattle.of_mem.specs.declared.plot.Plot.{Plot}
 use Rattle.of_mem.specs.Plots.{base}
 use Rattle.of_mem.specs.Calls.{HasStore}
 use Rattle.of_mem.specs.Places.{cells_at}
-use Rattle.of_mem.specs.Pad.{Part}
+use Rattle.of_mem.specs.Part.{Part}
 use Rattle.of_mem.specs.Programs.{program_answer, memory_after, program_writes, StaysBetween, IsPartOf, RunsAs}
 use Rattle.of_mem.specs.Stores.{CellStore, StandsForStore, thing_count}
 use Rattle.of_mem.proofs.Moves.{out_owner}

@@ -10,7 +10,7 @@ use Rattle.of_mem.specs.declared.plot.Plot.{Plot}
 use Rattle.of_mem.specs.Plots.{base, data_cell_count}
 use Rattle.of_mem.specs.Calls.{RunsProgram}
 use Rattle.of_mem.specs.Places.{fresh_at, free_at, cells_at}
-use Rattle.of_mem.specs.Pad.{Part, newest_at}
+use Rattle.of_mem.specs.Part.{Part, newest_at}
 use Rattle.of_mem.specs.Programs.{Program, program_answer, memory_after, program_writes, with_value, with_writes, StaysBetween, IsPartOf, RunsAs}
 use Rattle.of_mem.specs.Stores.{link_at}
 use Rattle.of_mem.proofs.Changes.{changed_same, changed_other}

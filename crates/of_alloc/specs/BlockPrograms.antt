@@ -26,7 +26,8 @@ abbrev pub take_program : ℕ → ℕ → Program (Option ℕ)
 take_program o blocks = Read (free_at o) (with_free o blocks)
 
 abbrev pub give_program : ℕ → ℕ → Program (Unit {0})
-give_program o b = Read (free_at o) (λ front. Write (link_at o b) front (Write (free_at o) (b + 1) (Done tt)))
+give_program o b =
+    Read (free_at o) (λ front. Write (link_at o b) front (Write (free_at o) (b + 1) (Done tt)))
 
 -- The programs of the calls on a plot.
 

@@ -5,7 +5,7 @@ use Rattle.of_mem.specs.declared.part.Need.{Need}
 use Rattle.of_mem.specs.declared.plot.Plot.{Plot}
 use Rattle.of_mem.specs.Plots.{base, data_cell_count}
 use Rattle.of_mem.specs.Places.{fresh_at, free_at}
-use Rattle.of_mem.specs.Pad.{Part}
+use Rattle.of_mem.specs.Part.{Part}
 use Rattle.of_mem.specs.Programs.{IsPartOf, with_writes}
 use Rattle.of_mem.specs.Stores.{IsChain, link_at}
 
@@ -20,7 +20,8 @@ abbrev pub IsOut : ℕ → (ℕ → ℕ) → List ℕ → ℕ → Type 0
 IsOut o m free b = (b < m (fresh_at o)) × Each (λ x. x ≢ b) free
 
 -- block b was not out, and now it is; no other block came or went
-pub record IsBlockTaken (o blocks : ℕ) (m : ℕ → ℕ) (free : List ℕ) (b : ℕ) (n : ℕ → ℕ) : Type 0 where
+pub record IsBlockTaken (o blocks : ℕ) (m : ℕ → ℕ) (free : List ℕ) (b : ℕ) (n : ℕ → ℕ)
+    : Type 0 where
   pub left : List ℕ
   pub list : IsFreeList o blocks n left
   pub was_in : IsOut o m free b → ⊥
@@ -58,22 +59,31 @@ pub record HasOut (plot : Plot) (p : Part) (b : ℕ) : Type 0 where
   pub list : IsFreeList (base plot) plot.blocks memory free
   pub out : IsOut (base plot) memory free b
 
--- the call took this block, or none, from the free list of this memory, which is changed by what the script wrote
-pub record TakesFromList (plot : Plot) (m : ℕ → ℕ) (free : List ℕ) (r : Option ℕ) (after : Part) : Type 0 where
+-- the call took this block, or none, from the free list of this memory, which is changed by what
+-- the script wrote
+pub record TakesFromList (plot : Plot) (m : ℕ → ℕ) (free : List ℕ) (r : Option ℕ) (after : Part)
+    : Type 0 where
   pub part : IsPartOf after (with_writes m after.script)
   pub takes : TakesBlock (base plot) plot.blocks m free r (with_writes m after.script)
 
 -- whatever the free list was, a block was taken from it, or none, and then nothing was written
-pub record TakesFromMemory (plot : Plot) (before after : Part) (result : Result (Option ℕ) Need) : Type 0 where
-  pub takes : IfOk result (λ r. (m : ℕ → ℕ) (free : List ℕ) → IsPartOf before m → IsFreeList (base plot) plot.blocks m free → TakesFromList plot m free r after)
+pub record TakesFromMemory (plot : Plot) (before after : Part) (result : Result (Option ℕ) Need)
+    : Type 0 where
+  pub takes : IfOk result (λ r. (m : ℕ → ℕ) (free : List ℕ)
+      → IsPartOf before m → IsFreeList (base plot) plot.blocks m free
+      → TakesFromList plot m free r after)
   pub none : IfOk result (λ r. r ≡ None → after ≡ before)
 
--- the call gave this block back to the free list of this memory, which is changed by what the script wrote
-pub record GivesToList (plot : Plot) (m : ℕ → ℕ) (free : List ℕ) (b : ℕ) (after : Part) : Type 0 where
+-- the call gave this block back to the free list of this memory, which is changed by what the
+-- script wrote
+pub record GivesToList (plot : Plot) (m : ℕ → ℕ) (free : List ℕ) (b : ℕ) (after : Part)
+    : Type 0 where
   pub part : IsPartOf after (with_writes m after.script)
   pub given : IsGiven (base plot) plot.blocks m free b (with_writes m after.script)
 
 -- whatever the free list was, the block that was out is in front of it
 abbrev pub GivesToMemory : Plot → Part → Part → ℕ → Result (Unit {0}) Need → Type 0
 GivesToMemory plot before after b result =
-    IfOk result (λ r. (m : ℕ → ℕ) (free : List ℕ) → IsPartOf before m → IsFreeList (base plot) plot.blocks m free → IsOut (base plot) m free b → GivesToList plot m free b after)
+    IfOk result (λ r. (m : ℕ → ℕ) (free : List ℕ)
+    → IsPartOf before m → IsFreeList (base plot) plot.blocks m free → IsOut (base plot) m free b
+    → GivesToList plot m free b after)

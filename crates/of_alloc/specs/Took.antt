@@ -3,12 +3,15 @@ use Rattle.std.specs.Prelude.{◌≡◌, ◌≢◌, ℕ, ◌+◌, ◌<◌, ◌�
 use Rattle.of_mem.specs.Places.{fresh_at, free_at}
 use Rattle.of_mem.specs.Stores.{IsHeap, blocks_in_chains}
 
--- the block is out from then on, no other chain than the free list changed, and no other cell than free and fresh
-pub record HasTakenBlock (o blocks : ℕ) (m : ℕ → ℕ) (chains : ℕ → List ℕ) (b : ℕ) (n : ℕ → ℕ) : Type 0 where
+-- the block is out from then on, no other chain than the free list changed, and no other cell than
+-- free and fresh
+pub record HasTakenBlock (o blocks : ℕ) (m : ℕ → ℕ) (chains : ℕ → List ℕ) (b : ℕ) (n : ℕ → ℕ)
+    : Type 0 where
   pub chains_after : ℕ → List ℕ
   pub owner : ℕ → ℕ
   pub heap : IsHeap o blocks n chains_after owner
   pub out : chains_after 37 ≡ b ∷ []
   pub others : (c : ℕ) → 1 ≤ c → c < 37 → chains_after c ≡ chains c
-  pub sums : blocks_in_chains chains_after 33 + length (chains 0) ≡ blocks_in_chains chains 33 + length (chains_after 0)
+  pub sums : blocks_in_chains chains_after 33 + length (chains 0)
+      ≡ blocks_in_chains chains 33 + length (chains_after 0)
   pub cells : (a : ℕ) → a ≢ free_at o → a ≢ fresh_at o → n a ≡ m a

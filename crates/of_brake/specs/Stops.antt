@@ -11,7 +11,8 @@ abbrev pub HasRisen : (before now : ℕ) → Type 0
 HasRisen before now = saturating_next before ≤ now
 
 -- the steps left after a brake was armed with a stop, where they are told
-abbrev pub IsArmedWith : (before : Option (Option ℕ)) → (stop : Option ℕ) → (after : Option (Option ℕ)) → Type 0
+abbrev pub IsArmedWith : (before : Option (Option ℕ)) → (stop : Option ℕ)
+    → (after : Option (Option ℕ)) → Type 0
 IsArmedWith None stop after = after ≡ None
 IsArmedWith (Some left) stop after = after ≡ Some stop
 

@@ -3,7 +3,8 @@
 ghost use Rattle.std.specs.Prelude.{◌≡◌, ℕ, ◌≤◌, false, Option};
 ghost use Rattle.of_brake.specs.Stops.{HasRisen, IsArmedWith, ChargesAsk, HasHeardAnswer, Asked};
 
-/// It is asked before each step of one caller, and may deny it. Whether it tells the steps left never changes.
+/// It is asked before each step of one caller, and may deny it. Whether it tells the steps left
+/// never changes.
 pub trait Brake: Drop {
     /// How often it has denied a step: a count that never falls.
     ghost denials: { Self → ℕ };

@@ -8,25 +8,27 @@ use std::alloc::{AllocError, Global};
 use std::sync::Arc;
 use std::sync::atomic::{AtomicBool, Ordering};
 
-/// A brake that allows each ask but one. In that one it looks for the flag of its teller so many times, allows the step at the
-/// first look that finds it set, and else denies it. It tells no steps left.
+/// A brake that allows each ask but one. In that one it looks for the flag of its teller so many
+/// times, allows the step at the first look that finds it set, and else denies it. It tells no
+/// steps left.
 #[derive(Drop)]
 pub struct Holder {
     told: Arc<AtomicBool, Global>,
-    /// How many asks come up to the one that it holds, that one too; 0 where that has come.
+    // How many asks come up to the one that it holds, that one too; 0 where that has come.
     until: u64,
     turns: u64,
     denials: u64,
 }
 
-/// A brake that allows each ask, and sets the flag of its holder once a call is answered. It tells no steps left.
+/// A brake that allows each ask, and sets the flag of its holder once a call is answered. It tells
+/// no steps left.
 #[derive(Drop)]
 pub struct Teller {
     told: Arc<AtomicBool, Global>,
 }
 
-/// A holder of the ask with number `at`, from 1, which it holds for `turns` looks, and its teller. The error is that there is no
-/// memory.
+/// A holder of the ask with number `at`, from 1, which it holds for `turns` looks, and its teller.
+/// The error is that there is no memory.
 pub fn hold_pair(alloc: Global, at: u64, turns: u64) -> Result<(Holder, Teller), AllocError>
     requires at { 1 ≤ at }
     requires turns { 1 ≤ turns }

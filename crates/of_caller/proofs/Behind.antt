@@ -10,7 +10,7 @@ use Rattle.of_core.specs.Table.{Setup}
 use Rattle.of_core.specs.Machine.{CallState, is_idle}
 use Rattle.of_core.specs.Turn.{IsIdle}
 use Rattle.of_core.specs.Events.{Event, after_events}
-use Rattle.of_core.specs.World.{Moment, TableStart, Batch}
+use Rattle.of_core.specs.TableMoment.{Moment, TableStart, Batch}
 use Rattle.of_core.specs.Calls.{operations_begun, outcomes, outcome_seq, IsNotBefore}
 use Rattle.of_core.proofs.Parts.{outcomes_append}
 use Rattle.of_row.specs.Views.{EndedCall, KnownCaller, View, last_caller, seen_seq, seen_history}

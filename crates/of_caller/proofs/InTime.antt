@@ -25,11 +25,11 @@ use Rattle.of_core.specs.declared.place.Outcome.{Outcome}
 use Rattle.of_core.specs.declared.place.Outcome.TheVariants.{Answered, Spent}
 use Rattle.of_core.specs.Table.{Setup}
 use Rattle.of_core.specs.Machine.{Call, no_call}
-use Rattle.of_core.specs.World.{Moment, TableStart}
+use Rattle.of_core.specs.TableMoment.{Moment, TableStart}
 use Rattle.of_core.specs.History.{batch_at}
 use Rattle.of_core.specs.Moment.{table_word_count}
 use Rattle.of_core.specs.Turn.{turn_of}
-use Rattle.of_core.specs.Shared.{MayStart}
+use Rattle.of_core.specs.WordsMatch.{MayStart}
 use Rattle.of_core.specs.Events.{Event, Begins, Turns, Loads, Evicts, Raises, after_event, machine_in, after_events, IsSchedule, start_ticket}
 use Rattle.of_core.specs.Calls.{if_so, operations_begun, outcomes, outcome_of_step, outcome_of_event, operation_begun, outcome_of_turn, no_outcome, outcome_seq, IsNotBefore, NoneSpent}
 use Rattle.of_core.proofs.Tests.{same_number}

@@ -5,6 +5,7 @@ use Rattle.std.specs.List.{AllByRecursion as Each}
 use Rattle.std.proofs.lemmas.Bool.{cases_lt}
 use Rattle.std.proofs.lemmas.Bool.Decides.{eqb_tells}
 use Rattle.std.proofs.lemmas.List.Elements.{All-from_recursion}
+use Rattle.std.proofs.lemmas.Bool.{eqb-true as tells}
 use Rattle.of_mem.specs.Places.{ticket_cell_at}
 use Rattle.of_script.specs.declared.instr.TheConstants.{MOST_INSTRS}
 use Rattle.of_eval.specs.Record.{record_number, answer_entry, answer_entries, open_entry, OpenCall, BeyondAnswers, IsLawfulRecord}
@@ -17,7 +18,7 @@ use Rattle.of_plan.specs.Ended.{Ended, answers_of, ending_of}
 use Rattle.of_plan.specs.Histories.{IsIn}
 use Rattle.of_plan.proofs.HistoriesLists.{each_append, any_in, in_left}
 use Rattle.of_core.specs.Machine.{no_call}
-use Rattle.of_core.specs.World.{Moment, TableStart}
+use Rattle.of_core.specs.TableMoment.{Moment, TableStart}
 use Rattle.of_caller.specs.Runs.{IsRunOfPlan}
 use Rattle.of_caller.specs.Restarts.{IsHeldIn, HoldsLastAnnounced}
 use Rattle.of_caller.proofs.RecordsLists.{in_at, length-answer_entries, answer_at}
@@ -46,12 +47,6 @@ open_has p e c x true one other is first second some =
     (any_in (IsHeldIn (record_number p e) c) (open_entry p e c x second.0) (open_entry p e c x second.0 ∷ []) (inl refl)
     (record { announced = refl; ticket = is refl; reply = second.0; held = second.1; response = refl }))
 open_has p e c x false one other is first second some = absurd (omega (arith, ap length first, some))
-
-tells : (a b : ℕ) → (a == b) ≡ true → a ≡ b
-tells a b is = elim (eqb_tells a b) [
-  | inl here ↦ here.1
-  | inr other ↦ absurd (cc (other.0, is))
-]
 
 beyond_below : (p : Plan) (e : Ended) (c x : ℕ) (q : Ending) (extra : List Entry) → BeyondAnswers p e c x q extra → Each (Below (record_number p e (ticket_cell_at MOST_INSTRS c))) extra
 beyond_below p e c x Done extra told = subst (Each (Below (record_number p e (ticket_cell_at MOST_INSTRS c)))) (sym told) tt

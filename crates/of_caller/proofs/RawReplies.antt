@@ -7,16 +7,16 @@ use Rattle.of_mem.specs.declared.work.RawReply.{RawReply}
 use Rattle.of_mem.specs.Meaning.{Meaning}
 use Rattle.of_script.specs.declared.instr.Reply.{Reply}
 use Rattle.of_script.specs.declared.instr.TheConstants.{MOST_INSTRS}
-use Rattle.of_store.specs.State.{Store}
+use Rattle.of_store.specs.Store.{Store}
 use Rattle.of_eval.specs.Shapes.{IsHeldBy}
 use Rattle.of_eval.specs.Words.{run_words, words_outcome}
-use Rattle.of_eval.specs.Scripted.{words_answer}
+use Rattle.of_eval.specs.ScriptRuns.{words_answer}
 use Rattle.of_eval.specs.SoundScripts.{scripts_sound}
 use Rattle.of_eval.proofs.Meanings.{means_words}
 use Rattle.of_plan.specs.Plan.{Plan, IsPlan, data_cells}
 use Rattle.of_core.specs.declared.place.Outcome.TheVariants.{Answered}
 use Rattle.of_core.specs.Machine.{Call, no_call}
-use Rattle.of_core.specs.World.{Batch, TableStart}
+use Rattle.of_core.specs.TableMoment.{Batch, TableStart}
 use Rattle.of_core.specs.History.{batch_at, no_batch, numbers_after_calls, CallsHaveReplies, numbers_after_batches, IsLegalHistory, SameReply, HasCall}
 use Rattle.of_row.specs.Rule.{CallHasEnded}
 use Rattle.of_row.specs.Turned.{IsMeantReply}

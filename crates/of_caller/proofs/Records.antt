@@ -5,7 +5,7 @@ use Rattle.of_plan.specs.Plan.{Plan}
 use Rattle.of_plan.specs.Report.{Start, Report, finished_of}
 use Rattle.of_plan.specs.Ended.{Ended}
 use Rattle.of_core.specs.Least.{least_read}
-use Rattle.of_core.specs.World.{Moment, Read, TableStart}
+use Rattle.of_core.specs.TableMoment.{Moment, Read, TableStart}
 use Rattle.of_caller.specs.Tables.{plan_setup}
 use Rattle.of_caller.specs.Moments.{script_of_ticket}
 use Rattle.of_caller.specs.Runs.{IsMomentOf, IsRunOfPlan, RunsAreLawful}

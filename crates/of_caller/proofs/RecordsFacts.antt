@@ -8,7 +8,7 @@ use Rattle.of_mem.specs.Places.{ticket_cell_at}
 use Rattle.of_script.specs.declared.instr.Reply.{Reply as RustReply}
 use Rattle.of_script.specs.declared.instr.TheConstants.{MOST_INSTRS}
 use Rattle.of_script.specs.Language.{reads_only}
-use Rattle.of_store.specs.State.{Reply, run as play_script}
+use Rattle.of_store.specs.Store.{Reply, run as play_script}
 use Rattle.of_store.specs.Replies.{reply_value_of}
 use Rattle.of_eval.specs.Shapes.{IsHeldBy}
 use Rattle.of_eval.specs.Lawful.{reply_in}
@@ -19,7 +19,7 @@ use Rattle.of_plan.specs.Ended.{Ended}
 use Rattle.of_core.specs.declared.place.Outcome.{Outcome}
 use Rattle.of_core.specs.declared.place.Outcome.TheVariants.{Answered}
 use Rattle.of_core.specs.Table.{durable_seq}
-use Rattle.of_core.specs.World.{Moment, TableStart}
+use Rattle.of_core.specs.TableMoment.{Moment, TableStart}
 use Rattle.of_core.specs.History.{HasNoCallBetween}
 use Rattle.of_core.specs.Order.{no_read}
 use Rattle.of_core.specs.Calls.{HasCalls, no_outcome}

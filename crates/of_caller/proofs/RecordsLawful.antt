@@ -21,7 +21,7 @@ use Rattle.of_plan.specs.Histories.{history_report}
 use Rattle.of_plan.proofs.HistoriesLegal.{histories_legal}
 use Rattle.of_core.specs.declared.place.Outcome.{Outcome}
 use Rattle.of_core.specs.Table.{durable_seq}
-use Rattle.of_core.specs.World.{Moment, TableStart}
+use Rattle.of_core.specs.TableMoment.{Moment, TableStart}
 use Rattle.of_core.specs.Claim.{IsSound}
 use Rattle.of_caller.specs.Tables.{plan_setup}
 use Rattle.of_caller.specs.Moments.{store_at_seq}

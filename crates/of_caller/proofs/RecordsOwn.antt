@@ -6,6 +6,7 @@ use Rattle.std.specs.List.{range_with_len, AllByRecursion as Each}
 use Rattle.std.proofs.lemmas.List.{get_or-map, get_or-take, get_or-drop, length-map, length-drop}
 use Rattle.std.proofs.lemmas.Bool.{cases_order}
 use Rattle.std.proofs.lemmas.Bool.Decides.{eqb_tells}
+use Rattle.std.proofs.lemmas.Bool.{eq-eqb as eqb_is, ne_eqb as eqb_not}
 use Rattle.of_cell.specs.Words.{seq_of}
 use Rattle.of_cell.proofs.Order.{seq_word}
 use Rattle.of_mem.specs.Places.{ticket_cell_at}
@@ -13,7 +14,7 @@ use Rattle.of_script.specs.declared.instr.TheConstants.{MOST_INSTRS}
 use Rattle.of_script.specs.declared.instr.Instr.{Instr}
 use Rattle.of_script.specs.declared.instr.Reply.{Reply as RustReply}
 use Rattle.of_script.specs.Language.{instr_word, reads_only}
-use Rattle.of_store.specs.State.{Reply, run as play_script}
+use Rattle.of_store.specs.Store.{Reply, run as play_script}
 use Rattle.of_eval.specs.Shapes.{IsHeldBy}
 use Rattle.of_eval.specs.Lawful.{reply_in}
 use Rattle.of_eval.specs.Record.{recovered_data_word, record_number, answer_entry, answer_entries, open_entry, OpenCall, BeyondAnswers, end_state_of}
@@ -33,7 +34,7 @@ use Rattle.of_core.specs.declared.place.Outcome.TheVariants.{Answered, Spent}
 use Rattle.of_core.specs.Table.{durable_seq}
 use Rattle.of_core.specs.Bound.{bound}
 use Rattle.of_core.specs.Machine.{is_idle, no_call}
-use Rattle.of_core.specs.World.{Moment, TableStart}
+use Rattle.of_core.specs.TableMoment.{Moment, TableStart}
 use Rattle.of_core.specs.Events.{machine_in}
 use Rattle.of_core.specs.Claim.{IsSound}
 use Rattle.of_core.specs.Calls.{no_outcome, last_outcome, NoneSpent}
@@ -113,18 +114,6 @@ open_none p e c x true is = absurd (cc)
 open_one : (p : Plan) (e : Ended) (c x : ℕ) (b : Bool) (r : RustReply) → b ≡ true → IsHeldBy (reply_in MOST_INSTRS (record_number p e) c) r → OpenCall p e c x b (open_entry p e c x r ∷ [])
 open_one p e c x true r is held = (r, held, refl)
 open_one p e c x false r is held = absurd (cc)
-
-eqb_is : (a b : ℕ) → a ≡ b → eqb a b ≡ true
-eqb_is a b same = elim (eqb_tells a b) [
-  | inl here ↦ here.0
-  | inr other ↦ absurd (other.1 same)
-]
-
-eqb_not : (a b : ℕ) → a ≢ b → eqb a b ≡ false
-eqb_not a b ne = elim (eqb_tells a b) [
-  | inl here ↦ absurd (ne here.1)
-  | inr other ↦ other.0
-]
 
 module _ (p : Plan) (s : Start) (B : TableStart) (w : Moment) (sound : IsSound (plan_setup p) B w) (e : Ended) (c : ℕ) (ops : List (List ℕ)) (outs : List Outcome) (lt : c < p.callers) (narrow : length (scripts_of p c) < 4294967296)
     (f : CallerFacts p s B w e c ops outs) where

@@ -7,7 +7,7 @@ use Rattle.of_plan.specs.Plan.{Plan}
 use Rattle.of_plan.specs.Report.{Start}
 use Rattle.of_core.specs.declared.place.Outcome.{Outcome}
 use Rattle.of_core.specs.declared.place.Outcome.TheVariants.{Answered, Spent}
-use Rattle.of_core.specs.World.{Moment, TableStart}
+use Rattle.of_core.specs.TableMoment.{Moment, TableStart}
 use Rattle.of_core.specs.Calls.{no_outcome}
 use Rattle.of_caller.specs.Ends.{OutcomeHoldsReply}
 use Rattle.of_caller.specs.Runs.{RepliesAreHeld}

@@ -14,7 +14,7 @@ use Rattle.of_plan.specs.Plan.{Plan}
 use Rattle.of_plan.specs.Report.{Entry, Start, Report, entries_of, finished_of}
 use Rattle.of_plan.specs.Ended.{Ended, answers_of, ending_of}
 use Rattle.of_plan.specs.Allowance.{least_steps}
-use Rattle.of_core.specs.World.{Moment, TableStart}
+use Rattle.of_core.specs.TableMoment.{Moment, TableStart}
 use Rattle.of_caller.specs.Runs.{IsRunOfPlan, RunsAreReported}
 use Rattle.of_caller.proofs.RecordsLists.{length-answer_entries}
 use Rattle.of_caller.proofs.RecordsOwn.{answer_is}

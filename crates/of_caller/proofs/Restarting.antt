@@ -23,9 +23,9 @@ use Rattle.of_plan.specs.Plan.{Plan}
 use Rattle.of_plan.specs.Report.{Entry, Start, Report, entries_of, finished_of}
 use Rattle.of_plan.specs.Ended.{Ended}
 use Rattle.of_core.specs.Table.{Setup, cell_count, durable_word, durable_seq}
-use Rattle.of_core.specs.World.{Moment, TableStart}
+use Rattle.of_core.specs.TableMoment.{Moment, TableStart}
 use Rattle.of_core.specs.Starts.{start_from_durable, IsDurable, IsStartRow}
-use Rattle.of_core.specs.Shared.{MayStart}
+use Rattle.of_core.specs.WordsMatch.{MayStart}
 use Rattle.of_caller.specs.Tables.{plan_setup, IsLawfulFor}
 use Rattle.of_caller.specs.Starts.{start_number}
 use Rattle.of_caller.specs.Runs.{IsRunOfPlan}

@@ -10,7 +10,7 @@ use Rattle.of_eval.specs.Scripts.{LawfulCells, StandsForSome, scripts_meaning}
 use Rattle.of_plan.specs.Plan.{Plan}
 use Rattle.of_plan.specs.Report.{Start, empty_start, finished_of}
 use Rattle.of_core.specs.Table.{Setup, setup_of}
-use Rattle.of_core.specs.World.{TableStart}
+use Rattle.of_core.specs.TableMoment.{TableStart}
 use Rattle.of_core.specs.Events.{zero_start}
 use Rattle.of_row.specs.Views.{View}
 use Rattle.of_row.specs.Rule.{ViewMeetsRule}

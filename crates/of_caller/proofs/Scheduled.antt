@@ -18,7 +18,7 @@ use Rattle.of_core.specs.declared.place.Outcome.TheVariants.{Answered, Spent}
 use Rattle.of_core.specs.declared.place.Place.TheVariants.{Idle}
 use Rattle.of_core.specs.Table.{Setup, words_before_members}
 use Rattle.of_core.specs.Machine.{CallState, IsOpen, is_idle}
-use Rattle.of_core.specs.World.{Moment, TableStart}
+use Rattle.of_core.specs.TableMoment.{Moment, TableStart}
 use Rattle.of_core.specs.Turn.{IsIdle}
 use Rattle.of_core.specs.Events.{Event, Begins, Turns, Loads, Evicts, Raises, after_event, machine_in, after_events, IsSchedule, MayHappen, start_ticket}
 use Rattle.of_core.specs.Calls.{HasCalls, TurnsFindOpenCalls, NoneSpent, if_so, last_outcome_or, last_outcome, operations_begun, outcomes}

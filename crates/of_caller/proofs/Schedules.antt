@@ -14,8 +14,8 @@ use Rattle.of_plan.specs.Plan.{Plan, IsPlan, scripts_of}
 use Rattle.of_plan.specs.Legal.{scripts_left}
 use Rattle.of_plan.specs.Report.{Start, finished_of}
 use Rattle.of_core.specs.Table.{ticket_cell}
-use Rattle.of_core.specs.World.{TableStart}
-use Rattle.of_core.specs.Shared.{IsStart, MayStart}
+use Rattle.of_core.specs.TableMoment.{TableStart}
+use Rattle.of_core.specs.WordsMatch.{IsStart, MayStart}
 use Rattle.of_core.specs.Moment.{table_word_count}
 use Rattle.of_core.specs.Calls.{HasCalls, operations_begun, outcomes}
 use Rattle.of_core.specs.Events.{machine_in, after_events, start_ticket}

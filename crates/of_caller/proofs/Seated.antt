@@ -14,7 +14,7 @@ use Rattle.of_row.specs.Turned.{StandsForMachine, after_ask, new_known_caller, a
 use Rattle.of_eval.specs.Scripts.{scripts_meaning}
 use Rattle.of_core.specs.Table.{Setup}
 use Rattle.of_core.specs.Machine.{CallState, MayReplace, idle_machine}
-use Rattle.of_core.specs.Seen.{Machine, machine_setup}
+use Rattle.of_core.specs.MachineValue.{Machine, machine_setup}
 use Rattle.of_core.specs.Turn.{IsIdle}
 use Rattle.of_row.specs.Rows.{setup_at, row_start}
 use Rattle.of_row.specs.Passes.{HasEnrolled}
@@ -23,7 +23,7 @@ use Rattle.of_row.specs.declared.member.Pass.{Pass}
 use Rattle.of_row.specs.declared.row.Row.{Row}
 use Rattle.of_caller.specs.declared.caller.Caller.{Caller}
 use Rattle.of_caller.specs.Tables.{operation_of}
-use Rattle.of_caller.specs.declared.lane.Lane.{Lane}
+use Rattle.of_caller.specs.declared.team_caller.TeamCaller.{TeamCaller}
 use Rattle.of_caller.specs.Callers.{IsCaller, caller_call, calls_begun_by, sight_of}
 use Rattle.of_caller.specs.Stops.{KeepToToldStop, KeepStops}
 use Rattle.of_caller.specs.Teams.{KeepsCaller, KeepsCallerWith}
@@ -95,35 +95,35 @@ armed_stop (Some left) after stop answers ending a k = subst (λ (z : Option (Op
 module _ {X : Type 0} {Y : X → Type 0} where
   -- ---- before they run
 
-  seated_end : (p : Plan) (r : Row Scripts) (n m : ℕ) (xs : List (Lane X Y)) (a : Lane X Y) → Seated p r n xs → m ≡ n + length xs → IsSeat p r m a → Seated p r n (xs ++ a ∷ [])
+  seated_end : (p : Plan) (r : Row Scripts) (n m : ℕ) (xs : List (TeamCaller X Y)) (a : TeamCaller X Y) → Seated p r n xs → m ≡ n + length xs → IsSeat p r m a → Seated p r n (xs ++ a ∷ [])
   seated_end p r n m [] a s at one = (subst (λ (k : ℕ). IsSeat p r k a) (omega (arith, at)) one, tt)
   seated_end p r n m (x ∷ xs) a s at one = (s.0, seated_end p r (n + 1) m xs a s.1 (omega (arith, at)) one)
 
-  pub seated_adds : (p : Plan) (r : Row Scripts) (n : ℕ) (xs ys : List (Lane X Y)) (a : Lane X Y) → Seated p r 0 xs → n ≡ length xs → ys ≡ xs ++ a ∷ [] → IsSeat p r n a → Seated p r 0 ys
+  pub seated_adds : (p : Plan) (r : Row Scripts) (n : ℕ) (xs ys : List (TeamCaller X Y)) (a : TeamCaller X Y) → Seated p r 0 xs → n ≡ length xs → ys ≡ xs ++ a ∷ [] → IsSeat p r n a → Seated p r 0 ys
   seated_adds p r n xs ys a s at is one = subst (Seated p r 0) (sym is) (seated_end p r 0 n xs a s (omega (arith, at)) one)
 
-  pub seated_ready : (p : Plan) (r : Row Scripts) (n : ℕ) (xs : List (Lane X Y)) → Seated p r n xs → Each (IsReady p r) xs
+  pub seated_ready : (p : Plan) (r : Row Scripts) (n : ℕ) (xs : List (TeamCaller X Y)) → Seated p r n xs → Each (IsReady p r) xs
   seated_ready p r n [] s = tt
   seated_ready p r n (x ∷ xs) s = (s.0.ready, seated_ready p r (n + 1) xs s.1)
 
   -- ---- when they have run
 
-  pub ran_at : (p : Plan) (r : Row Scripts) (xs ys : List (Lane X Y)) → AllPaired (HasRun p r) xs ys → Each (IsAt r) ys
+  pub ran_at : (p : Plan) (r : Row Scripts) (xs ys : List (TeamCaller X Y)) → AllPaired (HasRun p r) xs ys → Each (IsAt r) ys
   ran_at p r [] [] b = tt
   ran_at p r [] (y ∷ ys) b = absurd b
   ran_at p r (x ∷ xs) [] b = absurd b
   ran_at p r (x ∷ xs) (y ∷ ys) b = (b.0.ends.seat, ran_at p r xs ys b.1)
 
-  abbrev pub kept_in : List (Lane X Y) → List KnownCaller
+  abbrev pub kept_in : List (TeamCaller X Y) → List KnownCaller
   kept_in [] = []
   kept_in (a ∷ others) = (sight_of a.caller).kept ++ kept_in others
 
-  pub gathered_is : (v : View) (xs : List (Lane X Y)) → ((gathered v xs).kept ≡ v.kept ++ kept_in xs) × ((gathered v xs).first ≡ v.first) × ((gathered v xs).asked ≡ v.asked) × ((gathered v xs).evicted ≡ v.evicted) × ((gathered v xs).loaded ≡ v.loaded)
+  pub gathered_is : (v : View) (xs : List (TeamCaller X Y)) → ((gathered v xs).kept ≡ v.kept ++ kept_in xs) × ((gathered v xs).first ≡ v.first) × ((gathered v xs).asked ≡ v.asked) × ((gathered v xs).evicted ≡ v.evicted) × ((gathered v xs).loaded ≡ v.loaded)
   gathered_is v [] = (sym (append-nil v.kept), refl, refl, refl, refl)
   gathered_is v (a ∷ xs) = let h = gathered_is (after_join v (sight_of a.caller)) xs in (h.0 ∙ append_assoc v.kept (sight_of a.caller).kept (kept_in xs), h.1, h.2, h.3, h.4)
 
   -- each caller is kept, with what its lane leaves
-  pub kept_so : (p : Plan) (r : Row Scripts) (n : ℕ) (xs ys : List (Lane X Y)) → Seated p r n xs → AllPaired (HasRun p r) xs ys → (c i : ℕ) → c ≡ n + i → i < length ys
+  pub kept_so : (p : Plan) (r : Row Scripts) (n : ℕ) (xs ys : List (TeamCaller X Y)) → Seated p r n xs → AllPaired (HasRun p r) xs ys → (c i : ℕ) → c ≡ n + i → i < length ys
       → KeepsCallerWith c (KeepsCaller p (done_at r c) c (get_or (answers_in ys) i []) (get_or (endings_in ys) i Done)) (kept_in ys)
   kept_so p r n [] [] s b c i at lt = absurd (omega (arith, lt))
   kept_so p r n [] (y ∷ ys) s b c i at lt = absurd b
@@ -145,7 +145,7 @@ module _ {X : Type 0} {Y : X → Type 0} where
 
   -- each caller keeps to the stop with which the brake at its place was armed; the brakes behind
   -- those of the lanes are of no caller
-  pub keep_stops : {A : Type 0} (L : A → Option (Option ℕ)) (M : Lane X Y → Option (Option ℕ)) (p : Plan) (r : Row Scripts) (e : Ended) (n : ℕ) (bs : List A) (xs ys : List (Lane X Y)) → Seated p r n xs
+  pub keep_stops : {A : Type 0} (L : A → Option (Option ℕ)) (M : TeamCaller X Y → Option (Option ℕ)) (p : Plan) (r : Row Scripts) (e : Ended) (n : ℕ) (bs : List A) (xs ys : List (TeamCaller X Y)) → Seated p r n xs
       → PrefixPaired (λ b a. IsArmedWith (L b) (stop_of p a.number) (M a)) bs xs → AllPaired (λ a b. KeepsLeft (M a) b.answers.items b.ending) xs ys → p.callers ≡ n + length xs
       → ((i k : ℕ) → k ≡ n + i → i < length ys → (get_or e.answers k [] ≡ get_or (answers_in ys) i []) × (get_or e.endings k Done ≡ get_or (endings_in ys) i Done)) → KeepStops L p e n bs
   keep_stops L M p r e n [] xs ys s a b all at = tt

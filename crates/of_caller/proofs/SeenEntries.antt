@@ -11,7 +11,7 @@ use Rattle.of_plan.proofs.HistoriesLists.{each_append, each_over, each_filter, i
 use Rattle.of_core.specs.declared.place.Outcome.{Outcome}
 use Rattle.of_core.specs.Table.{durable_seq}
 use Rattle.of_core.specs.Machine.{Call, no_call}
-use Rattle.of_core.specs.World.{Moment, TableStart}
+use Rattle.of_core.specs.TableMoment.{Moment, TableStart}
 use Rattle.of_row.specs.Views.{SeenBatch}
 use Rattle.of_caller.specs.Tables.{plan_setup}
 use Rattle.of_caller.specs.Moments.{batch_calls}

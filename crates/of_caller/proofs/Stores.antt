@@ -15,7 +15,7 @@ use Rattle.of_script.specs.declared.instr.Instr.{Instr}
 use Rattle.of_script.specs.declared.instr.TheConstants.{MOST_INSTRS}
 use Rattle.of_script.specs.Language.{IsScript, reads_only}
 use Rattle.of_script.proofs.WordLaws.{words_injective}
-use Rattle.of_store.specs.State.{replies_in_order, last_store, run}
+use Rattle.of_store.specs.Store.{replies_in_order, last_store, run}
 use Rattle.of_eval.specs.Scripts.{script_reads}
 use Rattle.of_eval.specs.Stored.{cell_store, IsStored}
 use Rattle.of_eval.proofs.ReadsOnly.{reads_of}
@@ -27,7 +27,7 @@ use Rattle.of_core.specs.declared.place.Place.{Place}
 use Rattle.of_core.specs.declared.place.Place.TheVariants.{Idle}
 use Rattle.of_core.specs.Table.{Setup, first_operation_cell, durable_seq}
 use Rattle.of_core.specs.Machine.{no_call, is_idle}
-use Rattle.of_core.specs.World.{Moment, Batch, Read, TableStart}
+use Rattle.of_core.specs.TableMoment.{Moment, Batch, Read, TableStart}
 use Rattle.of_core.specs.Order.{no_read}
 use Rattle.of_core.specs.History.{numbers_after, no_batch, numbers_after_calls, CallsHaveReplies, numbers_after_batches, SameReply}
 use Rattle.of_core.specs.Calls.{no_outcome}

@@ -11,7 +11,7 @@ use Rattle.of_plan.specs.Plan.{Plan, IsPlan, scripts_of}
 use Rattle.of_plan.specs.Report.{Start, finished_of}
 use Rattle.of_core.specs.declared.place.Outcome.{Outcome}
 use Rattle.of_core.specs.Machine.{Call}
-use Rattle.of_core.specs.World.{Moment, TableStart}
+use Rattle.of_core.specs.TableMoment.{Moment, TableStart}
 use Rattle.of_caller.specs.Tables.{operation_of}
 use Rattle.of_caller.specs.Moments.{script_of_ticket, batch_calls}
 use Rattle.of_caller.specs.Runs.{IsMomentOf}

@@ -16,7 +16,7 @@ use Rattle.of_mem.specs.Meaning.{is_marked}
 use Rattle.of_mem.specs.Places.{base_of, ticket_cell_at, shape_at, reply_at}
 use Rattle.of_mem.specs.ProgramWork.{memory_of}
 use Rattle.of_script.specs.declared.instr.TheConstants.{MOST_INSTRS}
-use Rattle.of_store.specs.State.{replies_in_order}
+use Rattle.of_store.specs.Store.{replies_in_order}
 use Rattle.of_eval.specs.Shapes.{IsHeldBy}
 use Rattle.of_eval.specs.Stored.{cell_store, IsStored}
 use Rattle.of_eval.specs.Lawful.{reply_number, reply_in, OwnCellsAreSound, DataCellsStandFor}
@@ -28,7 +28,7 @@ use Rattle.of_plan.specs.Ended.{Ended}
 use Rattle.of_core.specs.declared.place.Outcome.{Outcome}
 use Rattle.of_core.specs.Table.{Setup, durable_seq, ticket_cell, shape_cell, reply_cell}
 use Rattle.of_core.specs.Machine.{Call, no_call}
-use Rattle.of_core.specs.World.{Moment, TableStart}
+use Rattle.of_core.specs.TableMoment.{Moment, TableStart}
 use Rattle.of_core.specs.History.{data_word_after, state_after, numbers_after, HasNoCallBetween, IsCellOfCaller, IsNewestCall, SameReply}
 use Rattle.of_caller.specs.Tables.{plan_setup}
 use Rattle.of_caller.specs.Moments.{batch_calls, batch_scripts, store_at_seq}

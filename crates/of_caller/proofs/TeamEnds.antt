@@ -14,7 +14,7 @@ use Rattle.of_row.specs.Views.{KnownCaller, View}
 use Rattle.of_row.specs.Rule.{members_of, IsAsked, ViewMeetsRule, IsCallerKept, KeepsAll}
 use Rattle.of_row.specs.Rows.{key_of, setup_at}
 use Rattle.of_row.specs.declared.row.Row.{Row}
-use Rattle.of_caller.specs.declared.lane.Lane.{Lane}
+use Rattle.of_caller.specs.declared.team_caller.TeamCaller.{TeamCaller}
 use Rattle.of_caller.specs.Tables.{plan_setup, IsLawfulFor}
 use Rattle.of_caller.specs.Starts.{StartsAtPlan}
 use Rattle.of_caller.specs.PlanRows.{start_of_row}
@@ -31,7 +31,7 @@ is_kept c P [] q = absurd q
 is_kept c P (x ∷ xs) (inl q) = inl q.0
 is_kept c P (x ∷ xs) (inr q) = inr (is_kept c P xs q)
 
-module _ {X : Type 0} {Y : X → Type 0} (p : Plan) (r : Row Scripts) (row : IsPlanRow p r) (e : Ended) (v0 v1 v : View) (xs ys : List (Lane X Y))
+module _ {X : Type 0} {Y : X → Type 0} (p : Plan) (r : Row Scripts) (row : IsPlanRow p r) (e : Ended) (v0 v1 v : View) (xs ys : List (TeamCaller X Y))
     (seated : HasSeated p.callers v0) (evicts : EvictsCells (evictions_of p) v0 v1) (is : v ≡ gathered v1 ys) (seats : Seated p r 0 xs) (all : length xs ≡ p.callers) (ran : AllPaired (HasRun p r) xs ys)
     (answers : e.answers ≡ answers_in ys) (endings : e.endings ≡ endings_in ys) (closes : ViewMeetsRule (setup_at scripts_meaning r) (LawfulCells (key_of r).work) (start_of_row r) e.words v) (live : v.spent ≡ false) where
   many : length ys ≡ p.callers
@@ -70,7 +70,7 @@ module _ {X : Type 0} {Y : X → Type 0} (p : Plan) (r : Row Scripts) (row : IsP
     first = ap (λ (z : View). z.first) is ∙ (gathered_is v1 ys).1 ∙ evicts.first ∙ seated.first;
     loaded = ap (λ (z : View). z.loaded) is ∙ (gathered_is v1 ys).4 ∙ evicts.loaded seated.loaded;
     evicted = ap (map (λ (f : ℕ × ℕ). f.0)) (ap (λ (z : View). z.evicted) is ∙ (gathered_is v1 ys).3) ∙ (evicts.evicted ∙ ap (λ (l : List (ℕ × ℕ)). map (λ (f : ℕ × ℕ). f.0) l ++ evictions_of p) seated.evicted);
-    answers = ap length answers ∙ length-map ys (λ (a : Lane X Y). a.answers.items) ∙ many;
-    endings = ap length endings ∙ length-map ys (λ (a : Lane X Y). a.ending) ∙ many;
+    answers = ap length answers ∙ length-map ys (λ (a : TeamCaller X Y). a.answers.items) ∙ many;
+    endings = ap length endings ∙ length-map ys (λ (a : TeamCaller X Y). a.ending) ∙ many;
     each = λ c lt. subst (λ (n : ℕ). KeepsCallerWith c (KeepsCaller p n c (answers_of e c) (ending_of e c)) v.kept) (done_is p r row.row s starts c lt) (each c lt);
   }

@@ -13,7 +13,7 @@ use Rattle.of_plan.specs.Allowance.{KeepsAllowance}
 use Rattle.of_core.specs.declared.place.Outcome.{Outcome}
 use Rattle.of_core.specs.Table.{Setup, words_before_members}
 use Rattle.of_core.specs.Machine.{CallState}
-use Rattle.of_core.specs.World.{Moment, Batch, TableStart}
+use Rattle.of_core.specs.TableMoment.{Moment, Batch, TableStart}
 use Rattle.of_core.specs.History.{batch_at, no_batch}
 use Rattle.of_core.specs.Bound.{bound}
 use Rattle.of_core.specs.Claim.{IsSound}

@@ -4,7 +4,7 @@ use Rattle.of_plan.specs.Plan.{Plan}
 use Rattle.of_plan.specs.Report.{Start, Report}
 use Rattle.of_plan.specs.Ended.{Ended}
 use Rattle.of_eval.specs.Record.{IsLawfulRecord}
-use Rattle.of_core.specs.World.{TableStart}
+use Rattle.of_core.specs.TableMoment.{TableStart}
 use Rattle.of_core.specs.Events.{Event}
 use Rattle.of_row.specs.Views.{View}
 use Rattle.of_row.specs.Runs.{RunsAreSchedules}

@@ -11,6 +11,8 @@ KeepsStopAsAllowance None p r c = Unit {0}
 KeepsStopAsAllowance (Some steps) p r c = KeepsAllowance p r c (stop_of p c)
 
 -- so does each caller from c on, by the brake at its place
-abbrev pub KeepAllowances : {A : Type 0} → (A → Option (Option ℕ)) → Plan → Report → (c : ℕ) → List A → Type 0
+abbrev pub KeepAllowances : {A : Type 0} → (A → Option (Option ℕ)) → Plan → Report → (c : ℕ)
+    → List A → Type 0
 KeepAllowances left p r c [] = Unit {0}
-KeepAllowances left p r c (b ∷ bs) = (c < p.callers → KeepsStopAsAllowance (left b) p r c) × KeepAllowances left p r (c + 1) bs
+KeepAllowances left p r c (b ∷ bs) =
+    (c < p.callers → KeepsStopAsAllowance (left b) p r c) × KeepAllowances left p r (c + 1) bs

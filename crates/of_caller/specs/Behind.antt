@@ -16,7 +16,7 @@ use Rattle.of_row.specs.Trail.{first_of}
 use Rattle.of_caller.specs.declared.caller.Caller.{Caller}
 use Rattle.of_caller.specs.declared.caller.CallErr.{CallErr}
 use Rattle.of_caller.specs.declared.caller.CallErr.TheVariants.{Stopped}
-use Rattle.of_caller.specs.Callers.{caller_call, sight_of}
+use Rattle.of_caller.specs.Callers.{caller_call, member_of, sight_of}
 use Rattle.of_caller.specs.CallsTold.{TellsCallOf}
 
 -- the second caller has seen all that the first had: it has taken in a pass that knew it
@@ -34,14 +34,14 @@ IsAnsweredAfter {W} meaning lawful row (suc stops) m b b' p =
     × TellsCallOf meaning lawful row m b c s t (Err (Stopped asked))
     × IsAnsweredAfter meaning lawful row stops (caller_call c) c b' p
 
--- A call of caller a was answered with o and left it as a'. Caller b has heard of that, and has then
--- begun a call that is answered with p, at once or after stops. So p comes after o: an announced call
--- at a higher sequence, and a read at no lower one.
+-- A call of caller a was answered with o and left it as a'. Caller b has heard of that, and has
+-- then begun a call that is answered with p, at once or after stops. So p comes after o: an
+-- announced call at a higher sequence, and a read at no lower one.
 abbrev pub ComesBehind : {W : Type 0} → (W → Meaning) → (W → List ℕ → Type 0) → Type 0
 ComesBehind {W} meaning lawful =
     (row : Row W) (m n : CallState) (a a' b b' : Caller W) (s t stops : ℕ) (o p : Outcome)
     → TellsCallOf meaning lawful row m a a' s t (Ok o)
-    → HasHeard a' b → HasNoCall b.member
+    → HasHeard a' b → HasNoCall (member_of b)
     → IsAnsweredAfter meaning lawful row stops n b b' p
     → IsNotBefore (outcome_seq o) p
 
@@ -49,15 +49,15 @@ ComesBehind {W} meaning lawful =
 abbrev pub HasFollowed : {W : Type 0} → (told hearer : Caller W) → Type 0
 HasFollowed a b = IsPrefix (sight_of a).past (sight_of b).past
 
--- A call of caller a has ended and left it as a'. Caller b has taken in a pass that knew of that, and
--- has then made a step of its next call. So in all events that begin with b's past, as those of the
--- row do from then on, a's call has ended before b's begins.
+-- A call of caller a has ended and left it as a'. Caller b has taken in a pass that knew of that,
+-- and has then made a step of its next call. So in all events that begin with b's past, as those of
+-- the row do from then on, a's call has ended before b's begins.
 abbrev pub EndsFirst : {W : Type 0} → (W → Meaning) → (W → List ℕ → Type 0) → Type 0
 EndsFirst {W} meaning lawful =
     (row : Row W) (m n : CallState) (a a' b b' : Caller W) (s t p q : ℕ)
     (r result : Result Outcome CallErr)
     → (first : TellsCallOf meaning lawful row m a a' s t r) → IsIdle (caller_call a')
-    → HasFollowed a' b → HasNoCall b.member
+    → HasFollowed a' b → HasNoCall (member_of b)
     → (second : TellsCallOf meaning lawful row n b b' p q result) → 0 < second.steps
     → (es : List Event) → IsPrefix (sight_of b').past es
     → CallEndsBefore (setup_at meaning row)

@@ -3,17 +3,22 @@ use Rattle.std.specs.Prelude.{◌≡◌, ◌<◌, ℕ}
 use Rattle.of_mem.specs.Meaning.{Meaning}
 use Rattle.of_core.specs.Machine.{CallState, IsOpen}
 use Rattle.of_core.specs.Bound.{bound}
-use Rattle.of_core.specs.Seen.{machine_setup}
+use Rattle.of_core.specs.MachineValue.{machine_setup}
 use Rattle.of_core.specs.Turn.{IsIdle}
 use Rattle.of_row.specs.Views.{View}
 use Rattle.of_row.specs.declared.member.Member.{Member}
 use Rattle.of_row.specs.declared.row.Row.{Row}
-use Rattle.of_row.specs.Rows.{IsSeatOf, RunsOnRow, IsMemberOf, HasNoCall}
+use Rattle.of_row.specs.Rows.{IsRowMember, RunsOnRow, IsMemberOf, HasNoCall}
+use Rattle.of_row.specs.Rows.{view_of_member, calls_of_member}
 use Rattle.of_caller.specs.declared.caller.Caller.{Caller}
+
+-- the member that the caller makes its calls with
+abbrev pub member_of : {W : Type 0} → Caller W → Member
+member_of c = c.member
 
 -- what the caller's member knows
 abbrev pub sight_of : {W : Type 0} → Caller W → View
-sight_of c = c.member.seat.me.0
+sight_of c = view_of_member (member_of c)
 
 -- its call, as its machine holds it: the open one, or the last one
 abbrev pub caller_call : {W : Type 0} → Caller W → CallState
@@ -26,12 +31,15 @@ calls_begun_by c = (caller_call c).made
 -- member and machine are of the row, and the member stands for the machine; an open call has a step
 -- left
 pub record IsCaller {W : Type 0} (meaning : W → Meaning) (r : Row W) (c : Caller W) : Type 0 where
-  pub row : IsSeatOf r c.member.seat
+  pub row : IsRowMember r (member_of c)
   pub machine : RunsOnRow r c.machine
-  pub member : IsMemberOf meaning c.member c.machine
-  pub within : IsOpen (caller_call c).place → (caller_call c).steps < bound (machine_setup meaning c.machine)
+  pub member : IsMemberOf meaning (member_of c) c.machine
+  pub within : IsOpen (caller_call c).place
+      → (caller_call c).steps < bound (machine_setup meaning c.machine)
 
--- a caller of some row that has no open call leaves a member that has none, with as many calls behind it
+-- a caller of some row that has no open call leaves a member that has none, with as many calls
+-- behind it
 abbrev pub LeavesIdleMember : {W : Type 0} → (W → Meaning) → Caller W → Member → Type 0
 LeavesIdleMember {W} meaning c m =
-    (r : Row W) → IsCaller meaning r c → IsIdle (caller_call c) → HasNoCall m × (m.made ≡ calls_begun_by c)
+    (r : Row W) → IsCaller meaning r c → IsIdle (caller_call c)
+    → HasNoCall m × (calls_of_member m ≡ calls_begun_by c)

@@ -6,7 +6,7 @@ use Rattle.of_core.specs.declared.place.Outcome.{Outcome}
 use Rattle.of_core.specs.declared.place.Outcome.TheVariants.{Spent as Over}
 use Rattle.of_core.specs.Table.{Setup}
 use Rattle.of_core.specs.Machine.{CallState, IsOpen, begin_call}
-use Rattle.of_core.specs.World.{TableStart}
+use Rattle.of_core.specs.TableMoment.{TableStart}
 use Rattle.of_core.specs.Bound.{bound}
 use Rattle.of_core.specs.Turn.{IsIdle}
 use Rattle.of_core.specs.Calls.{operations_begun, IsNotBefore, IsAnswered}
@@ -28,8 +28,8 @@ use Rattle.of_caller.specs.Vain.{IsLastStep}
 
 -- it has ended with this outcome
 pub record HasEndedWith (S : Setup) (Lawful : List ℕ → Type 0) (B : TableStart)
-    (m : CallState) (v : View) (x : KnownCaller) (n : ℕ) (d : CallState) (w : View) (y : KnownCaller)
-    (o : Outcome) : Type 0 where
+    (m : CallState) (v : View) (x : KnownCaller) (n : ℕ) (d : CallState) (w : View)
+    (y : KnownCaller) (o : Outcome) : Type 0 where
   -- the caller is idle, and its machine holds the outcome
   pub idle : IsIdle d
   pub answer : d.answer ≡ Some o
@@ -50,8 +50,8 @@ pub record HasEndedWith (S : Setup) (Lawful : List ℕ → Type 0) (B : TableSta
   pub last : IsLastStep S Lawful d o
 
 -- it is open still, and has a step left
-pub record IsStillOpen (S : Setup) (m : CallState) (x : KnownCaller) (n : ℕ) (d : CallState) (y : KnownCaller)
-    : Type 0 where
+pub record IsStillOpen (S : Setup) (m : CallState) (x : KnownCaller) (n : ℕ) (d : CallState)
+    (y : KnownCaller) : Type 0 where
   pub open_call : IsOpen d.place
   pub steps : d.steps ≡ m.steps + n
   pub within : d.steps < bound S
@@ -71,7 +71,8 @@ TellsResult S L B m v x n d w y (Err (Spent seq)) = HasEndedWith S L B m v x n d
 -- history; it has of the caller's calls just those that the caller made, as they have ended,
 -- each announced one that was answered in one batch; and in the events of its past the caller's
 -- calls began and ended so
-pub record TellsStepsMade (S : Setup) (B : TableStart) (d : CallState) (w : View) (y : KnownCaller) : Type 0 where
+pub record TellsStepsMade (S : Setup) (B : TableStart) (d : CallState) (w : View) (y : KnownCaller)
+    : Type 0 where
   pub machine : y.machine ≡ d
   pub legal : IsLegalFront S B w.seen
   pub own : HasOwn S B w.seen y
@@ -100,7 +101,8 @@ pub record TellsCall (S : Setup) (Lawful : List ℕ → Type 0) (B : TableStart)
   pub none : steps ≡ 0 → w ≡ v
   pub some : 0 < steps → TellsStepsMade S B d w kept
   -- before the first step the past had no call of the caller but those that it had begun
-  pub behind : 0 < steps → length (operations_begun v.past m.caller) ≤ length (operations_known before)
+  pub behind : 0 < steps
+      → length (operations_begun v.past m.caller) ≤ length (operations_known before)
   -- each step that is counted was made on the table
   pub turns : kept.turns ≡ before.turns + steps
   -- and the member keeps what was seen when the call began, also where it was stopped
@@ -108,12 +110,13 @@ pub record TellsCall (S : Setup) (Lawful : List ℕ → Type 0) (B : TableStart)
   pub result : TellsResult S Lawful B m v before steps d w kept r
 
 -- what is told of the call m of a caller of the row
-abbrev pub TellsCallOf : {W : Type 0} → (W → Meaning) → (W → List ℕ → Type 0) → Row W → (m : CallState)
-    → (before now : Caller W) → (a b : ℕ) → Result Outcome CallErr → Type 0
+abbrev pub TellsCallOf : {W : Type 0} → (W → Meaning) → (W → List ℕ → Type 0) → Row W
+    → (m : CallState) → (before now : Caller W) → (a b : ℕ) → Result Outcome CallErr → Type 0
 TellsCallOf meaning lawful r m before now a b result =
     TellsCall (setup_at meaning r) (lawful (key_of r).work) (row_start meaning r)
     m (sight_of before) a (caller_call now) (sight_of now) b result
 
 -- the call that a caller of the row begins with these words
-abbrev pub call_begun_by : {W : Type 0} → (W → Meaning) → Row W → Caller W → (op : List ℕ) → CallState
+abbrev pub call_begun_by : {W : Type 0} → (W → Meaning) → Row W → Caller W → (op : List ℕ)
+    → CallState
 call_begun_by meaning r c op = begin_call (setup_at meaning r) (caller_call c) op

@@ -7,8 +7,8 @@ use Rattle.of_plan.specs.Ended.{Ended}
 use Rattle.of_plan.specs.Report.{Entry, Report, Start, finished_of}
 use Rattle.of_eval.specs.Record.{IsLawfulRecord}
 use Rattle.of_core.specs.Table.{Setup}
-use Rattle.of_core.specs.World.{Moment, TableStart}
-use Rattle.of_core.specs.Shared.{MayStart}
+use Rattle.of_core.specs.TableMoment.{Moment, TableStart}
+use Rattle.of_core.specs.WordsMatch.{MayStart}
 use Rattle.of_core.specs.Events.{Event, Begins, Turns, Loads, Evicts, Raises, after_event, machine_in, after_events, IsSchedule}
 use Rattle.of_core.specs.Calls.{outcome_of_step, outcomes}
 use Rattle.of_row.specs.Views.{View}
@@ -64,7 +64,8 @@ RespectsTime s ms r =
 abbrev pub marks_of : Setup → Moment → Event → List Mark
 marks_of S w (Begins i op) = BeginsCall i ∷ []
 marks_of S w (Turns i) =
-    map (λ o. EndsCall i) (outcome_of_step (machine_in w i) (machine_in (after_event S w (Turns i)) i))
+    map (λ o. EndsCall i)
+    (outcome_of_step (machine_in w i) (machine_in (after_event S w (Turns i)) i))
 marks_of S w (Loads c) = []
 marks_of S w (Evicts k) = []
 marks_of S w (Raises c) = []

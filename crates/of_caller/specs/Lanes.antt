@@ -12,13 +12,13 @@ use Rattle.of_core.specs.declared.place.Outcome.{Outcome}
 use Rattle.of_core.specs.declared.place.Outcome.TheVariants.{Answered, Spent}
 use Rattle.of_core.specs.Turn.{IsIdle}
 use Rattle.of_row.specs.Views.{KnownCaller}
-use Rattle.of_row.specs.Rows.{IsSeatOf}
+use Rattle.of_row.specs.Rows.{IsRowMember}
 use Rattle.of_row.specs.declared.row.Row.{Row}
 use Rattle.of_caller.specs.declared.caller.Caller.{Caller}
-use Rattle.of_caller.specs.declared.lane.Lane.{Lane}
+use Rattle.of_caller.specs.declared.team_caller.TeamCaller.{TeamCaller}
 use Rattle.of_caller.specs.Brakes.{TakesSteps}
 use Rattle.of_caller.specs.PlanRows.{IsRowOf, HasStart}
-use Rattle.of_caller.specs.Callers.{IsCaller, caller_call, sight_of}
+use Rattle.of_caller.specs.Callers.{IsCaller, caller_call, member_of, sight_of}
 use Rattle.of_caller.specs.Stops.{KeepsStop, KeepToStop, answer_steps, open_call_steps}
 use Rattle.of_caller.specs.Teams.{AreAnswered, KeepsCaller}
 
@@ -40,13 +40,15 @@ pub record Appends {A : Type 0} (P : A → Type 0) (xs ys : List A) : Type 0 whe
   pub holds : P item
 
 -- the kept caller has no open call, and i of its scripts behind those that were done are answered
-pub record HasAnsweredScripts (p : Plan) (behind c : ℕ) (x : KnownCaller) (answers : List Answer) (i : ℕ) : Type 0 where
+pub record HasAnsweredScripts (p : Plan) (behind c : ℕ) (x : KnownCaller) (answers : List Answer)
+    (i : ℕ) : Type 0 where
   pub idle : IsIdle x.machine
   pub answered : AreAnswered p behind c x.ended answers
   pub count : length answers ≡ i
 
 -- so it is of a caller between two calls, whose member shows its machine
-pub record CallerHasAnswered (p : Plan) (behind c : ℕ) (r : Row Scripts) (caller : Caller Scripts) (answers : List Answer) (i : ℕ) : Type 0 where
+pub record CallerHasAnswered (p : Plan) (behind c : ℕ) (r : Row Scripts) (caller : Caller Scripts)
+    (answers : List Answer) (i : ℕ) : Type 0 where
   pub is_caller : IsCaller scripts_meaning r caller
   pub number : (caller_call caller).caller ≡ c
   pub made : (caller_call caller).made ≡ behind + i
@@ -56,22 +58,26 @@ pub record CallerHasAnswered (p : Plan) (behind c : ℕ) (r : Row Scripts) (call
   pub going : HasAnsweredScripts p behind c kept answers i
 
 -- a caller has ended so
-pub record CallerHasEnded (p : Plan) (behind c : ℕ) (r : Row Scripts) (caller : Caller Scripts) (answers : List Answer) (ending : Ending) : Type 0 where
-  pub seat : IsSeatOf r caller.member.seat
+pub record CallerHasEnded (p : Plan) (behind c : ℕ) (r : Row Scripts) (caller : Caller Scripts)
+    (answers : List Answer) (ending : Ending) : Type 0 where
+  pub seat : IsRowMember r (member_of caller)
   pub kept : KnownCaller
   pub kept_is : (sight_of caller).kept ≡ kept ∷ []
   pub number : kept.machine.caller ≡ c
   pub keeps : KeepsCaller p behind c answers ending kept
 
 -- a brake that tells its steps left gave just those that the answers behind these tell
-abbrev pub TakesStepsOfAnswers : (before after : Option (Option ℕ)) → (these all : List Answer) → Type 0
-TakesStepsOfAnswers before after xs ys = (n : ℕ) × (answer_steps ys ≡ answer_steps xs + n) × TakesSteps before after n
+abbrev pub TakesStepsOfAnswers : (before after : Option (Option ℕ)) → (these all : List Answer)
+    → Type 0
+TakesStepsOfAnswers before after xs ys =
+    (n : ℕ) × (answer_steps ys ≡ answer_steps xs + n) × TakesSteps before after n
 
 -- the steps of the answers behind these, and of the open call, keep to what such a brake had left
 abbrev pub KeepsToBrake : (left : Option (Option ℕ)) → (these all : List Answer) → Ending → Type 0
 KeepsToBrake None xs ys ending = Unit {0}
 KeepsToBrake (Some stop) xs ys ending =
-    (n : ℕ) × (answer_steps ys ≡ answer_steps xs + n) × KeepsStop stop (n + open_call_steps ending) (end_state_of ending)
+    (n : ℕ) × (answer_steps ys ≡ answer_steps xs + n)
+    × KeepsStop stop (n + open_call_steps ending) (end_state_of ending)
 
 -- all answers and the ending keep to what such a brake had left
 abbrev pub KeepsLeft : (left : Option (Option ℕ)) → List Answer → Ending → Type 0
@@ -80,27 +86,27 @@ KeepsLeft (Some stop) answers ending = KeepToStop stop answers ending
 
 module _ {X : Type 0} {Y : X → Type 0} where
   -- the lane's caller is one of the plan's, and has room for its answers
-  pub record IsLane (p : Plan) (a : Lane X Y) : Type 0 where
+  pub record IsLane (p : Plan) (a : TeamCaller X Y) : Type 0 where
     pub number : a.number < p.callers
     pub first : a.first ≤ length (scripts_of p a.number)
     pub room : length (scripts_of p a.number) - a.first ≤ vec_capacity a.answers
 
   -- i of its scripts behind those that were done are answered
-  pub record LaneAt (p : Plan) (r : Row Scripts) (a : Lane X Y) (i : ℕ) : Type 0 where
+  pub record LaneAt (p : Plan) (r : Row Scripts) (a : TeamCaller X Y) (i : ℕ) : Type 0 where
     pub lane : IsLane p a
     pub caller : CallerHasAnswered p a.first a.number r a.caller a.answers.items i
 
   -- none is yet
-  pub record IsReady (p : Plan) (r : Row Scripts) (a : Lane X Y) : Type 0 where
+  pub record IsReady (p : Plan) (r : Row Scripts) (a : TeamCaller X Y) : Type 0 where
     pub at_first : LaneAt p r a 0
     pub none : a.answers.items ≡ []
 
   -- it has ended
-  abbrev pub LaneEnds : Plan → Row Scripts → Lane X Y → Ending → Type 0
+  abbrev pub LaneEnds : Plan → Row Scripts → TeamCaller X Y → Ending → Type 0
   LaneEnds p r a ending = CallerHasEnded p a.first a.number r a.caller a.answers.items ending
 
   -- the second lane is the first one when its caller has ended
-  pub record HasRun (p : Plan) (r : Row Scripts) (a b : Lane X Y) : Type 0 where
+  pub record HasRun (p : Plan) (r : Row Scripts) (a b : TeamCaller X Y) : Type 0 where
     pub number : b.number ≡ a.number
     pub first : b.first ≡ a.first
     pub ends : LaneEnds p r b b.ending

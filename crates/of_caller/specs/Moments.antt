@@ -2,12 +2,12 @@
 use Rattle.std.specs.Prelude.{ℕ, zero, suc, ◌+◌, ◌-◌, List, [], map, slice_index_or}
 use Rattle.of_mem.specs.declared.work.RawReply.{RawReply}
 use Rattle.of_script.specs.declared.instr.Instr.{Instr}
-use Rattle.of_store.specs.State.{Store, Reply, last_store}
+use Rattle.of_store.specs.Store.{Store, Reply, last_store}
 use Rattle.of_eval.specs.Shapes.{reply_cells}
 use Rattle.of_eval.specs.Words.{reply_to}
 use Rattle.of_plan.specs.Plan.{Plan, scripts_of}
 use Rattle.of_core.specs.Machine.{Call}
-use Rattle.of_core.specs.World.{Moment, TableStart}
+use Rattle.of_core.specs.TableMoment.{Moment, TableStart}
 use Rattle.of_core.specs.History.{batch_at}
 
 -- the script of a caller's call with this ticket
@@ -27,7 +27,8 @@ batch_scripts p B w k = map (call_script p) (batch_calls B w k)
 -- the store after so many batches, by serial replay from the start's store
 abbrev pub store_after_batches : Plan → TableStart → Store → Moment → ℕ → Store
 store_after_batches p B st w zero = st
-store_after_batches p B st w (suc j) = last_store (store_after_batches p B st w j) (batch_scripts p B w (B.seq + j + 1))
+store_after_batches p B st w (suc j) =
+    last_store (store_after_batches p B st w j) (batch_scripts p B w (B.seq + j + 1))
 
 -- the store after the batches up to sequence k
 abbrev pub store_at_seq : Plan → TableStart → Store → Moment → ℕ → Store

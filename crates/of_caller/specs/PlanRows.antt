@@ -5,7 +5,7 @@ use Rattle.of_eval.specs.Record.{plan_data_cells}
 use Rattle.of_eval.specs.Scripts.{scripts_meaning}
 use Rattle.of_plan.specs.Plan.{Plan, scripts_of}
 use Rattle.of_plan.specs.Report.{Start, finished_of}
-use Rattle.of_core.specs.World.{TableStart}
+use Rattle.of_core.specs.TableMoment.{TableStart}
 use Rattle.of_row.specs.declared.row.Row.{Row}
 use Rattle.of_row.specs.Rows.{key_of, row_start}
 use Rattle.of_caller.specs.Starts.{StartsAtPlan}

@@ -11,7 +11,7 @@ use Rattle.of_eval.specs.Record.{plan_data_cells, IsLawfulRecord}
 use Rattle.of_plan.specs.Plan.{Plan}
 use Rattle.of_plan.specs.Report.{Entry, Start, Report, entries_of, finished_of}
 use Rattle.of_plan.specs.Ended.{Ended}
-use Rattle.of_core.specs.World.{Moment, TableStart}
+use Rattle.of_core.specs.TableMoment.{Moment, TableStart}
 use Rattle.of_core.specs.Starts.{start_from_durable, IsDurable, IsStartRow}
 use Rattle.of_caller.specs.Tables.{plan_setup, IsLawfulFor}
 use Rattle.of_caller.specs.Starts.{start_number}

@@ -13,9 +13,9 @@ use Rattle.of_plan.specs.Legal.{scripts_left}
 use Rattle.of_plan.specs.Ended.{Ended, answers_of, ending_of}
 use Rattle.of_plan.specs.Allowance.{KeepsAllowance}
 use Rattle.of_core.specs.declared.place.Outcome.{Outcome}
-use Rattle.of_core.specs.World.{Moment, TableStart}
+use Rattle.of_core.specs.TableMoment.{Moment, TableStart}
 use Rattle.of_core.specs.Bound.{bound}
-use Rattle.of_core.specs.Shared.{IsStart}
+use Rattle.of_core.specs.WordsMatch.{IsStart}
 use Rattle.of_core.specs.Events.{Event, IsSchedule, machine_in, after_events}
 use Rattle.of_core.specs.Claim.{IsSound}
 use Rattle.of_core.specs.Moment.{table_word_count}
@@ -38,22 +38,27 @@ ending_of_calls outs steps n a = if a == n then Done else ending_if_left (last_o
 
 -- the plan's table has come from the start to this world, where the callers have begun these next
 -- scripts of theirs, and they have ended so
-pub record IsMomentOf (p : Plan) (s : Start) (B : TableStart) (w : Moment) (ops : ℕ → List (List ℕ)) (outs : ℕ → List Outcome) : Type 0 where
+pub record IsMomentOf (p : Plan) (s : Start) (B : TableStart) (w : Moment) (ops : ℕ → List (List ℕ))
+    (outs : ℕ → List Outcome) : Type 0 where
   pub plan : IsPlan p
   pub starts : StartsAtPlan p s B
   pub sound : IsSound (plan_setup p) B w
   pub scripts : (c : ℕ) → c < p.callers → AreNextScripts p (finished_of s c) c (ops c)
-  pub calls : (c : ℕ) → c < p.callers → HasCalls (plan_setup p) B (finished_of s c) w c (ops c) (outs c)
+  pub calls : (c : ℕ) → c < p.callers
+      → HasCalls (plan_setup p) B (finished_of s c) w c (ops c) (outs c)
 
 -- what the run has left of caller c tells how its calls have ended; answers are told by place, so
 -- none stands behind a spent call, whose script it would be taken for
-pub record TellsCalls (p : Plan) (s : Start) (w : Moment) (e : Ended) (c : ℕ) (outs : List Outcome) : Type 0 where
+pub record TellsCalls (p : Plan) (s : Start) (w : Moment) (e : Ended) (c : ℕ) (outs : List Outcome)
+    : Type 0 where
   pub answers_first : AnswersStandBeforeSpent outs
   pub told : AreAnswers outs (answers_of e c)
-  pub ended : ending_of e c ≡ ending_of_calls outs (machine_in w c).steps (scripts_left p s c) (length (answers_of e c))
+  pub ended : ending_of e c
+      ≡ ending_of_calls outs (machine_in w c).steps (scripts_left p s c) (length (answers_of e c))
 
 -- a run of the plan from the start has left this, where its table has come to this world
-pub record IsRunOfPlan (p : Plan) (s : Start) (B : TableStart) (w : Moment) (e : Ended) : Type 0 where
+pub record IsRunOfPlan (p : Plan) (s : Start) (B : TableStart) (w : Moment) (e : Ended)
+    : Type 0 where
   pub operations : ℕ → List (List ℕ)
   pub outcomes : ℕ → List Outcome
   pub moment : IsMomentOf p s B w operations outcomes
@@ -80,7 +85,8 @@ SchedulesAreMoments p =
 abbrev pub record_at_start : Plan → Start → TableStart → Ended
 record_at_start p s B = record {
   answers = replicate p.callers [];
-  endings = map (λ (c : ℕ). ending_of_calls [] 0 (scripts_left p s c) 0) (range_with_len 0 p.callers);
+  endings =
+      map (λ (c : ℕ). ending_of_calls [] 0 (scripts_left p s c) 0) (range_with_len 0 p.callers);
   words = (opening_at p B).words;
 }
 
@@ -95,7 +101,8 @@ abbrev pub RepliesAreHeld : Type 0
 RepliesAreHeld =
     (p : Plan) (s : Start) (B : TableStart) (w : Moment)
     → (ops : ℕ → List (List ℕ)) (outs : ℕ → List Outcome) → IsMomentOf p s B w ops outs
-    → (c x : ℕ) → c < p.callers → x < length (outs c) → OutcomeHoldsReply (get_or (outs c) x no_outcome)
+    → (c x : ℕ) → c < p.callers → x < length (outs c)
+    → OutcomeHoldsReply (get_or (outs c) x no_outcome)
 
 -- ---- what holds of all runs
 
@@ -119,8 +126,9 @@ steps_made w c outs = total_steps outs + (machine_in w c).steps
 -- keeps them as its allowance, where its open call has a step left
 abbrev pub RunsKeepAllowances : Type 0
 RunsKeepAllowances =
-    (p : Plan) (s : Start) (B : TableStart) (w : Moment) (e : Ended) (after_events : IsRunOfPlan p s B w e)
+    (p : Plan) (s : Start) (B : TableStart) (w : Moment) (e : Ended) (run : IsRunOfPlan p s B w e)
     → (r : Report) → IsLawfulRecord p s e r → (c n : ℕ) → c < p.callers
-    → (machine_in w c).steps < bound (plan_setup p) → steps_made w c (after_events.outcomes c) ≤ n
-    → (end_state_of (ending_of e c) ≡ stopped → NoneSpent (after_events.outcomes c) → steps_made w c (after_events.outcomes c) ≡ n)
+    → (machine_in w c).steps < bound (plan_setup p) → steps_made w c (run.outcomes c) ≤ n
+    → (end_state_of (ending_of e c) ≡ stopped → NoneSpent (run.outcomes c)
+    → steps_made w c (run.outcomes c) ≡ n)
     → KeepsAllowance p r c (Some n)

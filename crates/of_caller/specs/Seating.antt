@@ -1,4 +1,5 @@
--- The callers of a team before they run, what the pass knows meanwhile, and what it gathers of them.
+-- The callers of a team before they run, what the pass knows meanwhile, and what it gathers of
+-- them.
 use Rattle.std.specs.Prelude.{◌≡◌, ℕ, ◌+◌, ◌<◌, List, [], ◌∷◌, ◌++◌, map, true}
 use Rattle.of_eval.specs.declared.scripts.Scripts.{Scripts}
 use Rattle.of_plan.specs.declared.answer.Answer.{Answer}
@@ -8,13 +9,14 @@ use Rattle.of_eval.specs.Scripts.{scripts_meaning}
 use Rattle.of_row.specs.Views.{View}
 use Rattle.of_row.specs.Rule.{IsAsked, done_before}
 use Rattle.of_row.specs.Turned.{after_join}
-use Rattle.of_row.specs.Rows.{IsSeatOf, setup_at, row_start}
+use Rattle.of_row.specs.Rows.{IsRowMember, setup_at, row_start}
 use Rattle.of_row.specs.declared.row.Row.{Row}
-use Rattle.of_caller.specs.declared.lane.Lane.{Lane}
-use Rattle.of_caller.specs.Callers.{sight_of}
+use Rattle.of_caller.specs.declared.team_caller.TeamCaller.{TeamCaller}
+use Rattle.of_caller.specs.Callers.{member_of, sight_of}
 use Rattle.of_caller.specs.Lanes.{IsReady}
 
--- a first pass that has asked for numbers below n alone, keeps no caller, and has evicted nothing and loaded nothing for it
+-- a first pass that has asked for numbers below n alone, keeps no caller, and has evicted nothing
+-- and loaded nothing for it
 pub record HasSeated (n : ℕ) (v : View) : Type 0 where
   pub first : v.first ≡ true
   pub kept : v.kept ≡ []
@@ -36,28 +38,28 @@ done_at r c = done_before (setup_at scripts_meaning r) (row_start scripts_meanin
 
 module _ {X : Type 0} {Y : X → Type 0} where
   -- the lane of a caller that has made no call
-  pub record IsSeat (p : Plan) (r : Row Scripts) (n : ℕ) (a : Lane X Y) : Type 0 where
+  pub record IsSeat (p : Plan) (r : Row Scripts) (n : ℕ) (a : TeamCaller X Y) : Type 0 where
     pub ready : IsReady p r a
     pub number : a.number ≡ n
     pub first : a.first ≡ done_at r n
 
   -- those of the callers n, n + 1 and so on
-  abbrev pub Seated : Plan → Row Scripts → (n : ℕ) → List (Lane X Y) → Type 0
+  abbrev pub Seated : Plan → Row Scripts → (n : ℕ) → List (TeamCaller X Y) → Type 0
   Seated p r n [] = Unit {0}
   Seated p r n (a ∷ others) = IsSeat p r n a × Seated p r (n + 1) others
 
   -- the lane's member is of the row
-  abbrev pub IsAt : Row Scripts → Lane X Y → Type 0
-  IsAt r a = IsSeatOf r a.caller.member.seat
+  abbrev pub IsAt : Row Scripts → TeamCaller X Y → Type 0
+  IsAt r a = IsRowMember r (member_of a.caller)
 
   -- what a pass knows that has taken in the members of the lanes
-  abbrev pub gathered : View → List (Lane X Y) → View
+  abbrev pub gathered : View → List (TeamCaller X Y) → View
   gathered v [] = v
   gathered v (a ∷ others) = gathered (after_join v (sight_of a.caller)) others
 
   -- what the lanes leave, in order
-  abbrev pub answers_in : List (Lane X Y) → List (List Answer)
+  abbrev pub answers_in : List (TeamCaller X Y) → List (List Answer)
   answers_in lanes = map (λ a. a.answers.items) lanes
 
-  abbrev pub endings_in : List (Lane X Y) → List Ending
+  abbrev pub endings_in : List (TeamCaller X Y) → List Ending
   endings_in lanes = map (λ a. a.ending) lanes

@@ -8,7 +8,7 @@ use Rattle.of_eval.specs.Lawful.{DataCellsStandFor}
 use Rattle.of_eval.specs.Record.{plan_data_cells}
 use Rattle.of_plan.specs.Plan.{Plan}
 use Rattle.of_plan.specs.Report.{Start, empty_start, finished_of}
-use Rattle.of_core.specs.World.{TableStart}
+use Rattle.of_core.specs.TableMoment.{TableStart}
 use Rattle.of_core.specs.Events.{zero_start}
 use Rattle.of_caller.specs.Tables.{plan_setup}
 
@@ -23,7 +23,8 @@ pub record StartsAtPlan (p : Plan) (s : Start) (B : TableStart) : Type 0 where
   pub size : length B.cells ≡ plan_data_cells p
   pub stands : DataCellsStandFor p.callers MOST_INSTRS p.blocks (start_number B) s.store
   pub each_caller : length s.finished ≡ p.callers
-  pub tickets : (c : ℕ) → c < p.callers → start_number B (ticket_cell_at MOST_INSTRS c) ≡ finished_of s c
+  pub tickets : (c : ℕ) → c < p.callers
+      → start_number B (ticket_cell_at MOST_INSTRS c) ≡ finished_of s c
 
 -- a table of zeros starts where a plan's empty start is
 abbrev pub ZerosAreEmpty : Plan → Type 0

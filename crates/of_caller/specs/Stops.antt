@@ -27,10 +27,12 @@ KeepsStop (Some most) steps state = (steps ≤ most) × (state ≡ stopped → s
 
 -- answers and an ending keep to a stop
 abbrev pub KeepToStop : (stop : Option ℕ) → List Answer → Ending → Type 0
-KeepToStop stop answers ending = KeepsStop stop (answer_steps answers + open_call_steps ending) (end_state_of ending)
+KeepToStop stop answers ending =
+    KeepsStop stop (answer_steps answers + open_call_steps ending) (end_state_of ending)
 
 -- the same, where a brake tells its steps left
-abbrev pub KeepToToldStop : (left : Option (Option ℕ)) → (stop : Option ℕ) → List Answer → Ending → Type 0
+abbrev pub KeepToToldStop : (left : Option (Option ℕ)) → (stop : Option ℕ) → List Answer → Ending
+    → Type 0
 KeepToToldStop None stop answers ending = Unit {0}
 KeepToToldStop (Some steps) stop answers ending = KeepToStop stop answers ending
 
@@ -39,6 +41,8 @@ abbrev pub CallerKeepsStop : Plan → Ended → (caller : ℕ) → (left : Optio
 CallerKeepsStop p e c left = KeepToToldStop left (stop_of p c) (answers_of e c) (ending_of e c)
 
 -- so does each caller from c on, by the brake at its place
-abbrev pub KeepStops : {A : Type 0} → (A → Option (Option ℕ)) → Plan → Ended → (c : ℕ) → List A → Type 0
+abbrev pub KeepStops : {A : Type 0} → (A → Option (Option ℕ)) → Plan → Ended → (c : ℕ) → List A
+    → Type 0
 KeepStops left p e c [] = Unit {0}
-KeepStops left p e c (b ∷ bs) = (c < p.callers → CallerKeepsStop p e c (left b)) × KeepStops left p e (c + 1) bs
+KeepStops left p e c (b ∷ bs) =
+    (c < p.callers → CallerKeepsStop p e c (left b)) × KeepStops left p e (c + 1) bs

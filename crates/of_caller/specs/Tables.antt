@@ -10,13 +10,14 @@ use Rattle.of_eval.specs.ScriptPrograms.{script_program}
 use Rattle.of_eval.specs.Scripts.{StandsForSome, is_success, script_reads}
 use Rattle.of_plan.specs.Plan.{Plan, data_cells}
 use Rattle.of_core.specs.Table.{Setup, setup_of}
-use Rattle.of_core.specs.World.{Moment, TableStart}
+use Rattle.of_core.specs.TableMoment.{Moment, TableStart}
 use Rattle.of_core.specs.Events.{opening_moment, zero_start}
 use Rattle.of_core.specs.Moment.{table_word_count}
 
 -- what operations do over the cells of a plan
 abbrev pub meaning_for : Plan → Meaning
-meaning_for p = meaning_of is_success script_reads (script_program (base_of p.callers MOST_INSTRS) p.blocks)
+meaning_for p =
+    meaning_of is_success script_reads (script_program (base_of p.callers MOST_INSTRS) p.blocks)
 
 -- what the machines of a plan have in common
 abbrev pub plan_setup : Plan → Setup

@@ -13,7 +13,7 @@ use Rattle.of_plan.specs.Ended.{Ended, answers_of, ending_of}
 use Rattle.of_plan.specs.Allowance.{KeepsAllowance}
 use Rattle.of_core.specs.declared.place.Outcome.TheVariants.{Spent as RanOut}
 use Rattle.of_core.specs.Machine.{Call, CallState, IsOpen}
-use Rattle.of_core.specs.World.{TableStart}
+use Rattle.of_core.specs.TableMoment.{TableStart}
 use Rattle.of_core.specs.History.{batch_at}
 use Rattle.of_core.specs.Turn.{IsIdle}
 use Rattle.of_core.specs.Calls.{NoneSpent}
@@ -37,9 +37,11 @@ script_operation_at p c x = operation_of (slice_index_or (scripts_of p c) x [])
 
 -- calls that have ended are those of a caller's scripts behind so many, in order, and these are
 -- their answers
-pub record AreAnswered (p : Plan) (behind c : ℕ) (calls : List EndedCall) (answers : List Answer) : Type 0 where
+pub record AreAnswered (p : Plan) (behind c : ℕ) (calls : List EndedCall) (answers : List Answer)
+    : Type 0 where
   pub few : length answers ≤ length (scripts_of p c) - behind
-  pub scripts : map (λ e. e.op) calls ≡ map operation_of (take (length answers) (drop behind (scripts_of p c)))
+  pub scripts : map (λ e. e.op) calls
+      ≡ map operation_of (take (length answers) (drop behind (scripts_of p c)))
   pub none_spent : NoneSpent (map (λ e. e.outcome) calls)
   pub told : AreAnswers (map (λ e. e.outcome) calls) answers
 
@@ -59,16 +61,19 @@ KeepsLastCall p c x n m beyond Done = (x ≡ n) × IsIdle m × (beyond ≡ [])
 KeepsLastCall p c x n m beyond (Stopped asked) =
     (x < n) × IsStopped p (script_operation_at p c x) asked m × (beyond ≡ [])
 KeepsLastCall p c x n m beyond (Spent seq) =
-    (x < n) × IsIdle m × (beyond ≡ record { op = script_operation_at p c x; outcome = RanOut seq } ∷ [])
+    (x < n) × IsIdle m
+    × (beyond ≡ record { op = script_operation_at p c x; outcome = RanOut seq } ∷ [])
 
 -- what is kept of a caller, of whose scripts so many were done before, is what its answers and its
 -- ending tell
-pub record KeepsCaller (p : Plan) (behind c : ℕ) (answers : List Answer) (ending : Ending) (x : KnownCaller) : Type 0 where
+pub record KeepsCaller (p : Plan) (behind c : ℕ) (answers : List Answer) (ending : Ending)
+    (x : KnownCaller) : Type 0 where
   pub calls : List EndedCall
   pub beyond : List EndedCall
   pub ended : x.ended ≡ calls ++ beyond
   pub answered : AreAnswered p behind c calls answers
-  pub last : KeepsLastCall p c (behind + length answers) (length (scripts_of p c)) x.machine beyond ending
+  pub last :
+      KeepsLastCall p c (behind + length answers) (length (scripts_of p c)) x.machine beyond ending
 
 -- a caller of this number is kept, of which this holds
 abbrev pub KeepsCallerWith : (c : ℕ) → (KnownCaller → Type 0) → List KnownCaller → Type 0
@@ -93,7 +98,8 @@ pub record IsTeamOf (p : Plan) (s : Start) (B : TableStart) (e : Ended) (v : Vie
   pub answers : length e.answers ≡ p.callers
   pub endings : length e.endings ≡ p.callers
   pub each : (c : ℕ) → c < p.callers
-      → KeepsCallerWith c (KeepsCaller p (finished_of s c) c (answers_of e c) (ending_of e c)) v.kept
+      → KeepsCallerWith c (KeepsCaller p (finished_of s c) c (answers_of e c) (ending_of e c))
+      v.kept
 
 -- the entry and the call are of one script
 abbrev pub IsEntryOf : Entry → Call → Type 0
@@ -105,13 +111,15 @@ seen_calls B seen k = (batch_at B (seen_history seen) k).calls
 
 -- the announced entries of a report are the calls of the batches that were seen, up to its sequence
 pub record AnnouncesSeen (B : TableStart) (seen : List SeenBatch) (r : Report) : Type 0 where
-  pub entries : All (λ f. IsTrue f.announced → Any (IsEntryOf f) (seen_calls B seen f.seq)) r.entries
+  pub entries :
+      All (λ f. IsTrue f.announced → Any (IsEntryOf f) (seen_calls B seen f.seq)) r.entries
   pub calls : (k : ℕ) → B.seq < k → k ≤ r.seq
       → All (λ d. Any (λ f. IsTrue f.announced × (f.seq ≡ k) × IsEntryOf f d) r.entries)
       (seen_calls B seen k)
 
 -- what was handed back is the record of a team, which is lawful, and a spent copy of its pass
-pub record IsHandedBack (p : Plan) (s : Start) (B : TableStart) (e : Ended) (w : View) : Type 0 where
+pub record IsHandedBack (p : Plan) (s : Start) (B : TableStart) (e : Ended) (w : View)
+    : Type 0 where
   pub sight : View
   pub copy : w ≡ copied_view sight
   pub team : IsTeamOf p s B e sight

@@ -16,7 +16,8 @@ PrefixPaired P xs [] = Unit {0}
 PrefixPaired P [] (y ∷ ys) = ⊥
 PrefixPaired P (x ∷ xs) (y ∷ ys) = P x y × PrefixPaired P xs ys
 
-module _ {F T : Type 0} (g : Shared F (MutBor T × Unit {0}) (Unit {0} × (MutBor T × Unit {0}))) (f : F) where
+module _ {F T : Type 0} (g : Shared F (MutBor T × Unit {0}) (Unit {0} × (MutBor T × Unit {0})))
+    (f : F) where
   -- f may be called with a `&mut` to x
   abbrev pub Takes : T → Type 0
   Takes x = (p : MutBor T) → p.now ≡ x → g.pre f (p, tt)

@@ -13,7 +13,8 @@ use Rattle.of_core.specs.Meets.{MayTake}
 -- its caller's ticket cell, in that state, without the call's ticket
 abbrev pub MissesOwnTicketAtLimit : Setup → CallState → (found : ℕ) → Type 0
 MissesOwnTicketAtLimit S m found =
-    (m.place ≡ LoadOwnTicket) × (m.seq ≡ S.limit) × (seq_of found ≤ m.seq) × (payload_of found ≢ m.made)
+    (m.place ≡ LoadOwnTicket) × (m.seq ≡ S.limit) × (seq_of found ≤ m.seq)
+    × (payload_of found ≢ m.made)
 
 abbrev pub IsSpent : Outcome → Type 0
 IsSpent (Answered s announced raw steps) = ⊥

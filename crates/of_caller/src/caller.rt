@@ -5,7 +5,7 @@ ghost use Rattle.of_mem.specs.declared.work.TheConstants.{MOST_INSTRS};
 ghost use Rattle.of_core.specs.Machine.{IsOpen};
 ghost use Rattle.of_core.specs.Turn.{IsIdle};
 ghost use Rattle.of_brake.specs.Stops.{HasRisen, HasHeardAnswer};
-ghost use Rattle.of_row.specs.Rows.{IsSeatOf, HasNoCall};
+ghost use Rattle.of_row.specs.Rows.{calls_of_member, IsRowMember, HasNoCall};
 
 use of_brake::{Brake, Steps};
 use of_core::{Machine, Outcome};
@@ -33,7 +33,7 @@ pub struct Caller<W: Work> {
 }
 
 // Tells a brake of an answer.
-fn tell(brake: &mut Box<dyn Brake + Send>)
+fn tell_answer(brake: &mut Box<dyn Brake + Send>)
     ensures denials { denials brake.old ≤ denials brake.new }
     ensures left { left brake.new ≡ left brake.old }
     ensures answers { HasHeardAnswer (answers brake.old) (answers brake.new) }
@@ -43,9 +43,11 @@ fn tell(brake: &mut Box<dyn Brake + Send>)
 }
 
 impl<W: Work> Caller<W> {
-    ghost use Rattle.of_caller.specs.Callers.{IsCaller, LeavesIdleMember, caller_call, calls_begun_by};
+    ghost use Rattle.of_caller.specs.Callers.{IsCaller, LeavesIdleMember, member_of};
+    ghost use Rattle.of_caller.specs.Callers.{caller_call, calls_begun_by};
     ghost use Rattle.of_caller.specs.CallsTold.{TellsCallOf, call_begun_by};
-    ghost use Rattle.of_caller.specs.Brakes.{IsStop, StopsAt, UsesCountedSteps, HearsAnswerOnce, AsksOf};
+    ghost use Rattle.of_caller.specs.Brakes.{IsStop, StopsAt, UsesCountedSteps, HearsAnswerOnce};
+    ghost use Rattle.of_caller.specs.Brakes.{AsksOf};
 
     /// The caller of a member that has no open call, whether it has made calls or none: it goes on
     /// with the next ticket. Without memory the error hands the member back.
@@ -54,12 +56,12 @@ impl<W: Work> Caller<W> {
         row: &Row<W>,
         member: Member,
     ) -> Result<Caller<W>, (Member, AllocError)>
-        requires row { IsSeatOf row.now member.seat }
+        requires row { IsRowMember row.now member }
         requires idle { HasNoCall member }
         ensures caller { IfOk result (IsCaller W.meaning row.now) }
-        ensures member { IfOk result (λ c. c.member ≡ member) }
+        ensures member { IfOk result (λ c. member_of c ≡ member) }
         ensures idle { IfOk result (λ c. IsIdle (caller_call c)) }
-        ensures made { IfOk result (λ c. calls_begun_by c ≡ member.made) }
+        ensures made { IfOk result (λ c. calls_begun_by c ≡ calls_of_member member) }
         ensures memory { IfErr result (λ e. e.0 ≡ member) }
     {
         members(row.work());
@@ -72,8 +74,8 @@ impl<W: Work> Caller<W> {
         }
     }
 
-    /// Makes a call of 1 to `MOST_INSTRS` words. The brake is asked before each of its steps, and told
-    /// of its answer. A stopped call stays open for `go_on`; a spent one is over.
+    /// Makes a call of 1 to `MOST_INSTRS` words. The brake is asked before each of its steps, and
+    /// told of its answer. A stopped call stays open for `go_on`; a spent one is over.
     pub fn call<L: Ledger>(
         &mut self,
         row: &Row<W>,
@@ -135,7 +137,7 @@ impl<W: Work> Caller<W> {
         match self.machine.answer() {
             Some(Outcome::Spent { seq }) => Err(CallErr::Spent { seq }),
             Some(outcome) => {
-                tell(brake);
+                tell_answer(brake);
                 Ok(outcome)
             }
             None => unreachable!(),
@@ -158,7 +160,7 @@ impl<W: Work> Caller<W> {
 
     /// The member again, with all that it knows. An open call stays open in it.
     pub fn leave(self) -> Member
-        ensures is { result ≡ self.member }
+        ensures is { result ≡ member_of self }
         ensures idle { LeavesIdleMember W.meaning self result }
     {
         idle_members::<W>();

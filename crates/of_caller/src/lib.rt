@@ -1,14 +1,15 @@
-//! Callers of a row, teams of them, and what a run of a plan leaves of its table, from any start: a lawful record.
+//! Callers of a row, teams of them, and what a run of a plan leaves of its table, from any start: a
+//! lawful record.
 #![tactic(auto)]
 
 mod caller;
-mod lane;
+mod enrolling;
+mod join_tree;
 pub mod laws;
 mod rows;
-mod running;
-mod seats;
-mod tree;
+mod team_caller;
+mod team_run;
 
 pub use caller::{CallErr, Caller};
-pub use rows::row_for;
-pub use running::team;
+pub use rows::zero_row_for;
+pub use team_run::team;

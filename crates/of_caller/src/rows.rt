@@ -14,17 +14,14 @@ use std::alloc::{AllocError, Global};
 
 /// A row of zeros for the callers of a plan, with its first pass. The error is that there is no
 /// memory.
-pub fn row_for(alloc: Global, plan: &Plan) -> Result<(Row<Scripts>, Pass), AllocError>
+pub fn zero_row_for(alloc: Global, plan: &Plan) -> Result<(Row<Scripts>, Pass), AllocError>
     ensures row { IfOk result (λ r. IsRowOf plan.now r.0) }
     ensures zeros { IfOk result (λ r. start_of_row r.0 ≡ zero_start (plan_setup plan.now)) }
     ensures start { IfOk result (λ r. HasStart plan.now r.0) }
     ensures pass { IfOk result (λ r. IsFirst r.0 r.1) }
 {
     plan_keeps_laws(plan);
-    let scripts = Scripts {
-        callers: plan.callers(),
-        blocks: plan.blocks(),
-    };
+    let scripts = Scripts::of_plan(plan);
     let (row, pass) = Row::new(alloc, plan.shape(), plan.limit(), scripts)?;
     Ok((row, pass))
 }

@@ -1,5 +1,6 @@
--- The cells of a shape and the words of its shared table, by their numbers, and the step bound of a call.
--- A shape is three numbers: of callers, of script words a caller has room for, and of data cells.
+-- The cells of a shape and the words of its shared table, by their numbers, and the step bound of a
+-- call. A shape is three numbers: of callers, of script words a caller has room for, and of data
+-- cells.
 use Rattle.std.specs.Prelude.{ℕ, ◌+◌, ◌*◌, ◌≤◌}
 use Rattle.of_cell.specs.declared.shape.TheConstants.{MOST_CALLERS, MOST_SCRIPT_WORDS, MOST_DATA_CELLS}
 
@@ -36,7 +37,8 @@ log_addr_cell callers cells caller entry = log_cell callers cells caller (2 * en
 abbrev pub log_value_cell : (callers cells caller entry : ℕ) → ℕ
 log_value_cell callers cells caller entry = log_cell callers cells caller (2 * entry + 2)
 
--- the number of cells: the current transaction, a request for each caller, the data cells, and for each caller a log with room for each data cell
+-- the number of cells: the current transaction, a request for each caller, the data cells, and for
+-- each caller a log with room for each data cell
 abbrev pub durable_cells : (callers cells : ℕ) → ℕ
 durable_cells callers cells = 1 + callers + cells + callers * (2 * cells + 1)
 
@@ -46,7 +48,8 @@ durable_place callers cells cell = durable_cells callers cells + cell
 
 -- the place of a caller's script word x; behind the last of them is the announcement
 abbrev pub script_place : (callers instrs cells caller x : ℕ) → ℕ
-script_place callers instrs cells caller x = durable_cells callers cells + durable_cells callers cells + caller * (instrs + 1) + x
+script_place callers instrs cells caller x =
+    durable_cells callers cells + durable_cells callers cells + caller * (instrs + 1) + x
 
 -- the place of a caller's announcement
 abbrev pub announce_place : (callers instrs cells caller : ℕ) → ℕ
@@ -54,7 +57,8 @@ announce_place callers instrs cells caller = script_place callers instrs cells c
 
 -- the place of the members word, behind all the others
 abbrev pub members_place : (callers instrs cells : ℕ) → ℕ
-members_place callers instrs cells = durable_cells callers cells + durable_cells callers cells + callers * (instrs + 1)
+members_place callers instrs cells =
+    durable_cells callers cells + durable_cells callers cells + callers * (instrs + 1)
 
 -- the number of words of the shared table
 abbrev pub table_words : (callers instrs cells : ℕ) → ℕ
@@ -62,4 +66,5 @@ table_words callers instrs cells = members_place callers instrs cells + 1
 
 -- the steps of the announcement, of three rounds, and of four tries
 abbrev pub step_bound : (callers instrs cells : ℕ) → ℕ
-step_bound callers instrs cells = instrs + 1 + 3 * (15 * cells + (instrs + 1) * callers + 15) + 4 * (7 * cells + 7)
+step_bound callers instrs cells =
+    instrs + 1 + 3 * (15 * cells + (instrs + 1) * callers + 15) + 4 * (7 * cells + 7)

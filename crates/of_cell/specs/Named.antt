@@ -29,11 +29,15 @@ cell_number callers cells (LogValue caller entry) = log_value_cell callers cells
 
 -- no two cells have one number
 abbrev pub CellsDiffer : (callers cells : ℕ) → Type 0
-CellsDiffer callers cells = (c d : CellName) → IsCell callers cells c → IsCell callers cells d → cell_number callers cells c ≡ cell_number callers cells d → c ≡ d
+CellsDiffer callers cells =
+    (c d : CellName) → IsCell callers cells c → IsCell callers cells d
+    → cell_number callers cells c ≡ cell_number callers cells d → c ≡ d
 
 -- the cells' numbers are below the number of cells
 abbrev pub CellsBelow : (callers cells : ℕ) → Type 0
-CellsBelow callers cells = (c : CellName) → IsCell callers cells c → cell_number callers cells c < durable_cells callers cells
+CellsBelow callers cells =
+    (c : CellName) → IsCell callers cells c
+    → cell_number callers cells c < durable_cells callers cells
 
 pub data WordName : Type 0 where
   CellWord : (cell : ℕ) → WordName
@@ -59,8 +63,12 @@ word_place callers instrs cells Members = members_place callers instrs cells
 
 -- no two words have one place
 abbrev pub WordPlacesDiffer : (callers instrs cells : ℕ) → Type 0
-WordPlacesDiffer callers instrs cells = (v w : WordName) → IsWord callers instrs cells v → IsWord callers instrs cells w → word_place callers instrs cells v ≡ word_place callers instrs cells w → v ≡ w
+WordPlacesDiffer callers instrs cells =
+    (v w : WordName) → IsWord callers instrs cells v → IsWord callers instrs cells w
+    → word_place callers instrs cells v ≡ word_place callers instrs cells w → v ≡ w
 
 -- the places are below the number of words
 abbrev pub PlacesBelow : (callers instrs cells : ℕ) → Type 0
-PlacesBelow callers instrs cells = (w : WordName) → IsWord callers instrs cells w → word_place callers instrs cells w < table_words callers instrs cells
+PlacesBelow callers instrs cells =
+    (w : WordName) → IsWord callers instrs cells w
+    → word_place callers instrs cells w < table_words callers instrs cells

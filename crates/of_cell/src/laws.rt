@@ -1,4 +1,5 @@
-//! What follows from the numbers of cells and places. Nothing here has a body to run: a proof cites the clauses.
+//! What follows from the numbers of cells and places. Nothing here has a body to run: a proof cites
+//! the clauses.
 
 ghost use Rattle.std.specs.Prelude.{◌≡◌, ℕ, ◌^◌, ◌<◌, ◌↔◌};
 ghost use Rattle.of_cell.specs.Words.{pack, seq_of, payload_of, IsEarlier};
@@ -26,7 +27,8 @@ pub fn places_differ(shape: &Shape)
     ensures below { PlacesBelow shape.now.callers shape.now.instrs shape.now.cells }
 {}
 
-/// The numbers for sixteen callers with scripts of sixteen and 512 blocks, which make 1887 data cells.
+/// The numbers for sixteen callers with scripts of sixteen and 512 blocks, which make 1887 data
+/// cells.
 pub fn largest()
     ensures cells { durable_cells 16 1887 ≡ 62304 }
     ensures words { table_words 16 16 1887 ≡ 124881 }

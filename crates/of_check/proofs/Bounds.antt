@@ -11,7 +11,7 @@ use Rattle.of_plan.specs.Report.{Entry, EndState, done, stopped, spent, Line, Re
 use Rattle.of_plan.specs.Legal.{HasEndState, IsLegal}
 use Rattle.of_check.specs.declared.claims.CallClaim.{CallClaim}
 use Rattle.of_check.specs.Claims.{call_claim}
-use Rattle.of_check.specs.Course.{Replay, replay_at_start, after_claimed_call, course_end, index_for, AllFollow}
+use Rattle.of_check.specs.Replay.{Replay, replay_at_start, after_claimed_call, course_end, index_for, AllFollow}
 use Rattle.of_check.specs.Endings.{left_of}
 use Rattle.of_check.proofs.Own.{still_wide}
 use Rattle.of_check.proofs.Following.{own_facts, since_start, few_sequences}

@@ -9,7 +9,7 @@ use Rattle.of_check.specs.declared.replay.Replay.{Replay as RustReplay}
 use Rattle.of_check.specs.Claims.{call_claims_of_text, end_claims_of_text}
 use Rattle.of_check.specs.Verdict.{IsClaimed}
 use Rattle.of_check.specs.Causes.{DifferFirst, DiffersAt}
-use Rattle.of_check.specs.Course.{Replay, replay_at_start, entry_for, entries_from, course_end, after_claimed_call, MayFollow, AllFollow, replay_value, entries_so_far, HasRunCall, HasRunCalls}
+use Rattle.of_check.specs.Replay.{Replay, replay_at_start, entry_for, entries_from, course_end, after_claimed_call, MayFollow, AllFollow, replay_value, entries_so_far, HasRunCall, HasRunCalls}
 
 -- one call more
 

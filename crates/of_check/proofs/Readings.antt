@@ -10,7 +10,7 @@ use Rattle.of_script.specs.declared.instr.Cause.{Cause}
 use Rattle.of_script.specs.declared.instr.Cause.TheVariants.{Overflow, Short, NoRoom, Differs, BadOp}
 use Rattle.of_script.specs.Text.{text_words}
 use Rattle.of_script.proofs.Numbers.{number_again}
-use Rattle.of_store.specs.State.{Store, queue, Reply, Answered, Aborted}
+use Rattle.of_store.specs.Store.{Store, queue, Reply, Answered, Aborted}
 use Rattle.of_plan.specs.Lines.{text_lines}
 use Rattle.of_plan.specs.Report.{Entry, EndState, done, stopped, spent, Line, Report}
 use Rattle.of_plan.proofs.TextLines.{NoNewline}

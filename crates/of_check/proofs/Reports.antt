@@ -9,7 +9,7 @@ use Rattle.std.proofs.lemmas.List.{length-map}
 use Rattle.std.proofs.lemmas.List.Elements.{All-from_recursion, recursion_from_All}
 use Rattle.std.proofs.lemmas.List.FromFn.{fill_by_all, length-map-range_with_len, get_or-map-range_with_len}
 use Rattle.of_script.specs.Language.{reads_only}
-use Rattle.of_store.specs.State.{last_store}
+use Rattle.of_store.specs.Store.{last_store}
 use Rattle.of_plan.specs.Plan.{Plan}
 use Rattle.of_plan.specs.Report.{Entry, EndState, done, stopped, spent, Line, Report, Start, entries_of, caller_line}
 use Rattle.of_plan.specs.Legal.{script_of_entry, scripts_left, StandsBefore, HasOpenCall, HasSequence, HasEndState, LineIsWithinBound, IsLegal}
@@ -18,7 +18,7 @@ use Rattle.of_report.specs.Report.{end_state_value}
 use Rattle.of_check.specs.declared.claims.CallClaim.{CallClaim}
 use Rattle.of_check.specs.declared.claims.EndClaim.{EndClaim}
 use Rattle.of_check.specs.Claims.{call_claim, code_end_state, end_claim}
-use Rattle.of_check.specs.Course.{Replay, replay_at_start, entries_from, course_end, AllFollow}
+use Rattle.of_check.specs.Replay.{Replay, replay_at_start, entries_from, course_end, AllFollow}
 use Rattle.of_check.specs.Endings.{left_of, claimed_line, IsEnding, end_at, claimed_line_at, AreEndings, claimed_lines}
 use Rattle.of_check.specs.Verdict.{MakesClaims}
 use Rattle.of_check.proofs.Own.{own}

@@ -7,7 +7,7 @@ use Rattle.of_plan.specs.Plan.{Plan}
 use Rattle.of_plan.specs.Report.{Entry, Start}
 use Rattle.of_check.specs.declared.claims.CallClaim.{CallClaim}
 use Rattle.of_check.specs.declared.replay.Replay.{Replay as RustReplay}
-use Rattle.of_check.specs.Course.{Replay, replay_at_start, index_for, entry_for, entries_from, course_end, MayFollow, AllFollow, replay_value, entries_so_far, HasRunCall, HasRunCalls}
+use Rattle.of_check.specs.Replay.{Replay, replay_at_start, index_for, entry_for, entries_from, course_end, MayFollow, AllFollow, replay_value, entries_so_far, HasRunCall, HasRunCalls}
 
 -- the claims that are left lead from the replay where all lead from the start
 pub record Comes (p : Plan) (s : Start) (qs : List CallClaim) (r : RustReplay) (rest : List CallClaim) : Type 0 where

@@ -5,7 +5,7 @@ use Rattle.std.specs.Ordering.{nat_cmp}
 use Rattle.std.specs.List.Sorted.{IsStrictlySortedBy}
 use Rattle.std.specs.Map.{keys_of}
 use Rattle.std.proofs.lemmas.List.{ext_get_or}
-use Rattle.of_store.specs.State.{Store, IsState, queue}
+use Rattle.of_store.specs.Store.{Store, IsState, queue}
 use Rattle.of_report.proofs.Keys.{entries-from_entries}
 
 pub apart : (b r : Bool) (P : Type 0) → r ≡ not b → Decides b P → r ≡ true → P → ⊥

@@ -8,14 +8,14 @@ use Rattle.std.proofs.Math.Nat.{eq-or-lt_of_le}
 use Rattle.std.proofs.lemmas.Bool.Decides.{eqb_tells}
 use Rattle.of_script.specs.declared.instr.Instr.{Instr}
 use Rattle.of_script.specs.Language.{reads_only}
-use Rattle.of_store.specs.State.{Reply, replies_in_order, run}
+use Rattle.of_store.specs.Store.{Reply, replies_in_order, run}
 use Rattle.of_plan.specs.Plan.{Plan, scripts_of}
 use Rattle.of_plan.specs.Report.{Entry, Start}
 use Rattle.of_plan.specs.Legal.{script_of_entry, StandsBefore, StandsBeforeWithin, HasSequence}
 use Rattle.of_plan.proofs.HistoriesLists.{InLine, each_weaker}
 use Rattle.of_check.specs.declared.claims.CallClaim.{CallClaim}
 use Rattle.of_check.specs.Claims.{call_claim}
-use Rattle.of_check.specs.Course.{Replay, index_for, script_for, entry_for, after_claimed_call, entries_from, course_end, MayFollowWithin, MayFollow, AllFollow}
+use Rattle.of_check.specs.Replay.{Replay, index_for, script_for, entry_for, after_claimed_call, entries_from, course_end, MayFollowWithin, MayFollow, AllFollow}
 use Rattle.of_check.proofs.Own.{own, own_first, own_other, count_same, count_other, still_wide}
 
 -- an entry stands behind the last call

@@ -16,7 +16,7 @@ use Rattle.of_check.specs.declared.claims.CallClaim.{CallClaim}
 use Rattle.of_check.specs.declared.claims.EndClaim.{EndClaim}
 use Rattle.of_check.specs.declared.replay.Replay.{Replay as RustReplay}
 use Rattle.of_check.specs.Claims.{end_claim, call_claims_of_text, end_claims_of_text}
-use Rattle.of_check.specs.Course.{Replay, replay_at_start, AllFollow, entries_so_far, HasRunCalls}
+use Rattle.of_check.specs.Replay.{Replay, replay_at_start, AllFollow, entries_so_far, HasRunCalls}
 use Rattle.of_check.specs.Endings.{AreEndings, AreLines, claimed_lines}
 use Rattle.of_check.specs.Verdict.{IsLegalText, IsLegalFrom, IsTextOf, IsVerdict, IsVerdictFrom, MakesClaims, NoLegalReportMakes, IsClaimed}
 use Rattle.of_check.proofs.Following.{counts_long}

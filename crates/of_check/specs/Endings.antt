@@ -37,15 +37,19 @@ claimed_line_at done counts ends c =
     claimed_line (slice_index counts c - slice_index done c) (end_at ends c)
 
 -- there is a claim for each caller, and each may end so
-pub record AreEndings (p : Plan) (done : List ℕ) (seq : ℕ) (counts : List ℕ) (ends : List EndClaim) : Type 0 where
+pub record AreEndings (p : Plan) (done : List ℕ) (seq : ℕ) (counts : List ℕ) (ends : List EndClaim)
+    : Type 0 where
   pub each_caller : length ends ≡ p.callers
-  pub each : (c : ℕ) → c < p.callers → IsEnding p (left_of p done c) seq (claimed_line_at done counts ends c)
+  pub each : (c : ℕ) → c < p.callers
+      → IsEnding p (left_of p done c) seq (claimed_line_at done counts ends c)
 
 -- the lines of all callers
 abbrev pub claimed_lines : Plan → (done counts : List ℕ) → List EndClaim → List Line
-claimed_lines p done counts ends = map (claimed_line_at done counts ends) (range_with_len 0 p.callers)
+claimed_lines p done counts ends =
+    map (claimed_line_at done counts ends) (range_with_len 0 p.callers)
 
 -- these are the lines, and each caller may end so
-pub record AreLines (p : Plan) (done : List ℕ) (seq : ℕ) (counts : List ℕ) (ends : List EndClaim) (lines : List Line) : Type 0 where
+pub record AreLines (p : Plan) (done : List ℕ) (seq : ℕ) (counts : List ℕ) (ends : List EndClaim)
+    (lines : List Line) : Type 0 where
   pub endings : AreEndings p done seq counts ends
   pub are : lines ≡ claimed_lines p done counts ends

@@ -1,6 +1,6 @@
 pub mod Starts
 pub mod Claims
-pub mod Course
+pub mod Replay
 pub mod Endings
 pub mod Verdict
 pub mod Causes

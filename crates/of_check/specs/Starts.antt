@@ -1,6 +1,6 @@
 -- Where a report begins.
 use Rattle.std.specs.Prelude.{ℕ, List}
-use Rattle.of_store.specs.State.{Store}
+use Rattle.of_store.specs.Store.{Store}
 use Rattle.of_plan.specs.Report.{Start}
 use Rattle.of_check.specs.declared.start.Start.{Start as TheStart}
 

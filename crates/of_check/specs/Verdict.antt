@@ -52,6 +52,7 @@ abbrev pub NoLegalReportMakes : Plan → Start → List CallClaim → List EndCl
 NoLegalReportMakes p s calls ends = (r : Report) → IsLegal p s r → MakesClaims r calls ends → ⊥
 
 -- a legal report, and the only one that can make these claims
-pub record IsClaimed (p : Plan) (s : Start) (calls : List CallClaim) (ends : List EndClaim) (made : Report) : Type 0 where
+pub record IsClaimed (p : Plan) (s : Start) (calls : List CallClaim) (ends : List EndClaim)
+    (made : Report) : Type 0 where
   pub legal : IsLegal p s made
   pub only : (r : Report) → IsLegal p s r → MakesClaims r calls ends → made ≡ r

@@ -123,7 +123,8 @@ impl Claims {
     fn add(&mut self, line: &[u8]) -> Result<(), AllocError>
         ensures calls { OnOk result
             (self.new.calls.items ≡ self.old.calls.items ++ call_claims_of_line line.now) }
-        ensures ends { OnOk result (self.new.ends.items ≡ self.old.ends.items ++ end_claims_of_line line.now) }
+        ensures ends { OnOk result
+            (self.new.ends.items ≡ self.old.ends.items ++ end_claims_of_line line.now) }
     {
         if let Some(call) = call_of_line(line) {
             self.calls.push(call)?;

@@ -61,7 +61,8 @@ pub(crate) fn lines(
     requires ends { length ends.now ≡ plan.now.callers }
     ensures { IfOk result (λ found. MatchOption found
         (AreEndings plan.now done.now seq counts.now ends.now → ⊥)
-        (λ lines. AreLines plan.now done.now seq counts.now ends.now (map line_value lines.items))) }
+        (λ lines. AreLines plan.now done.now seq counts.now ends.now
+        (map line_value lines.items))) }
 {
     let mut lines = Vec::new(alloc);
     for caller in 0..plan.callers() {

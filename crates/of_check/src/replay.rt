@@ -3,7 +3,7 @@
 ghost use Rattle.std.specs.Prelude.{◌≡◌, ◌↔◌, [], IsTrue, length, IfOk, MatchOption};
 ghost use Rattle.std.specs.Bool.{MatchBool};
 ghost use Rattle.of_check.specs.Starts.{start_of};
-ghost use Rattle.of_check.specs.Course.{MayFollowWithin, MayFollow, AllFollow, HasRunCall, HasRunCalls, replay_at_start, replay_value, entries_so_far};
+ghost use Rattle.of_check.specs.Replay.{MayFollowWithin, MayFollow, AllFollow, HasRunCall, HasRunCalls, replay_at_start, replay_value, entries_so_far};
 
 use crate::claims::CallClaim;
 use crate::start::Start;
@@ -61,7 +61,7 @@ impl Replay {
 
     // Runs a claimed call and answers true, where it may come next; else false. The error is want
     // of memory.
-    pub(crate) fn take(&mut self, plan: &Plan, call: CallClaim) -> Result<bool, AllocError>
+    pub(crate) fn run_call(&mut self, plan: &Plan, call: CallClaim) -> Result<bool, AllocError>
         requires { length self.old.counts.items ≡ plan.now.callers }
         ensures { IfOk result (λ taken. MatchBool taken
             (HasRunCall plan.now self.old self.new call)
@@ -97,7 +97,7 @@ impl Replay {
 
     // Runs claimed calls from a start; None where one of them may not come next. The error is want
     // of memory.
-    pub(crate) fn all(
+    pub(crate) fn run_all(
         alloc: Global,
         plan: &Plan,
         start: Start,
@@ -110,7 +110,7 @@ impl Replay {
     {
         let mut replay = Replay::new(alloc, start);
         for call in calls {
-            if !replay.take(plan, *call)? {
+            if !replay.run_call(plan, *call)? {
                 return Ok(None);
             }
         }

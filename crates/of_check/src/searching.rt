@@ -6,7 +6,7 @@ ghost use Rattle.of_plan.specs.Lines.{text_lines as lines_of};
 ghost use Rattle.of_plan.specs.Legal.{HasOpenCall, HasEndState};
 ghost use Rattle.of_report.specs.Report.{report_value, end_state_value};
 ghost use Rattle.of_check.specs.Starts.{start_of};
-ghost use Rattle.of_check.specs.Course.{MayFollow, HasRunCalls, replay_value};
+ghost use Rattle.of_check.specs.Replay.{MayFollow, HasRunCalls, replay_value};
 ghost use Rattle.of_check.specs.Endings.{IsEnding, AreEndings, claimed_line};
 ghost use Rattle.of_check.specs.Verdict.{IsLegalText, IsTextOf};
 ghost use Rattle.of_check.specs.Causes.{BreaksEntry, BreaksAt, BreaksEnd, BreaksFirst, IsCause, DifferFirst, IsCauseFrom};
@@ -62,7 +62,7 @@ fn replayed(
         if let Some(rule) = broken_entry(plan, &replay, calls[index]) {
             return Ok(Err((index, rule)));
         }
-        if !replay.take(plan, calls[index])? {
+        if !replay.run_call(plan, calls[index])? {
             unreachable!();
         }
     }
@@ -81,7 +81,8 @@ fn has_open_call(entries: u32, end: EndClaim) -> bool
 
 // Whether a caller with so many scripts may end so.
 fn has_ended(scripts: u32, seq: u32, limit: u32, end: EndClaim) -> bool
-    ensures { IsTrue result ↔ HasEndState (end_state_value end.state) end.answered scripts seq limit }
+    ensures { IsTrue result
+        ↔ HasEndState (end_state_value end.state) end.answered scripts seq limit }
 {
     match end.state {
         EndState::Done => end.answered == scripts,

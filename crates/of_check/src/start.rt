@@ -4,7 +4,7 @@ ghost use Rattle.std.specs.Prelude.{◌≡◌, ◌≤◌, IfOk, map, replicate};
 ghost use Rattle.std.specs.List.{range_with_len};
 ghost use Rattle.of_script.specs.declared.instr.TheConstants.{MOST_INSTRS};
 ghost use Rattle.of_store.specs.declared.store.TheConstants.{MOST_BLOCKS};
-ghost use Rattle.of_store.specs.State.{empty_store};
+ghost use Rattle.of_store.specs.Store.{empty_store};
 ghost use Rattle.of_report.specs.Image.{IsImage, image_value, image_ticket, start_of_image as image_start};
 ghost use Rattle.of_check.specs.Starts.{start_where_done, start_of};
 
@@ -23,22 +23,18 @@ pub struct Start {
     pub store: Store,
 }
 
-/// The tickets of an image, caller by caller. The error is want of memory.
+/// The tickets of an image, caller by caller. The error is out of memory.
 pub fn tickets(alloc: Global, image: &Image) -> Result<Vec<u32>, AllocError>
     requires { IsImage MOST_INSTRS (image_value image.now) }
     ensures { IfOk result (λ tickets. tickets.items
         ≡ map (image_ticket (image_value image.now)) (range_with_len 0 image.now.callers)) }
 {
-    let mut tickets = Vec::new(alloc);
-    for caller in 0..image.callers {
-        tickets.push(image.ticket(caller))?;
-    }
-    Ok(tickets)
+    image.tickets(alloc)
 }
 
 impl Start {
     /// Where a plan with so many callers and blocks begins: nothing is stored, and nothing is done.
-    /// The error is want of memory.
+    /// The error is out of memory.
     pub fn empty(alloc: Global, callers: u32, blocks: u32) -> Result<Start, AllocError>
         requires { blocks ≤ MOST_BLOCKS }
         ensures { IfOk result (λ start. start_of start
@@ -51,7 +47,7 @@ impl Start {
         })
     }
 
-    /// Where an image left: its sequence, its tickets and its store. The error is want of memory.
+    /// Where an image left: its sequence, its tickets and its store. The error is out of memory.
     pub fn behind(alloc: Global, image: Image) -> Result<Start, AllocError>
         requires { IsImage MOST_INSTRS (image_value image) }
         ensures { IfOk result (λ start. start_of start ≡ image_start (image_value image)) }

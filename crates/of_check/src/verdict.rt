@@ -30,7 +30,7 @@ pub(crate) fn has_32_bits(seq: u32)
 
 // The one legal report from a start that makes these claims; None where there is none. The error is
 // want of memory.
-fn claimed(
+fn report_of_claims(
     alloc: Global,
     plan: &Plan,
     start: Start,
@@ -44,7 +44,7 @@ fn claimed(
         claims.now.ends.items (report_value made))) }
 {
     let done = Vec::from_slice(alloc, &start.finished)?;
-    let Some(replay) = Replay::all(alloc, plan, start, &claims.calls)? else {
+    let Some(replay) = Replay::run_all(alloc, plan, start, &claims.calls)? else {
         return Ok(None);
     };
     let seq = replay.last.seq;
@@ -80,7 +80,7 @@ pub fn read_report(
     if claims.ends.len() != plan.callers() as usize {
         return Ok(None);
     }
-    let Some(report) = claimed(alloc, plan, start, &claims)? else {
+    let Some(report) = report_of_claims(alloc, plan, start, &claims)? else {
         return Ok(None);
     };
     let printed = report.print(alloc)?;

@@ -2,7 +2,7 @@
 use Rattle.std.proofs.Common.{◌≡◌, ℕ, ◌<◌, ◌≤◌, inl, inr, List, ◌∙◌, arith}
 use Rattle.of_core.specs.Table.{Setup}
 use Rattle.of_core.specs.Machine.{CallState}
-use Rattle.of_core.specs.World.{Moment, TableStart}
+use Rattle.of_core.specs.TableMoment.{Moment, TableStart}
 use Rattle.of_core.specs.Rounds.{IsInTry, MayHelp, IsUnannounced, IsAnnounced, IsInRound, IsPastRequest, IsPastOwnTicket, HasNothingUnderWay}
 use Rattle.of_core.specs.Invariant.{MeetsCore}
 

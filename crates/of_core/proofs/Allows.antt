@@ -6,15 +6,15 @@ use Rattle.of_cell.specs.declared.shape.TheConstants.{MOST_CALLERS, MOST_DATA_CE
 use Rattle.of_core.specs.declared.machine.trying.TheConstants.{MOST_TRIES}
 use Rattle.of_cell.specs.Words.{pack, seq_of, payload_of}
 use Rattle.of_mem.specs.Meaning.{Meaning, IsSoundMeaning, Agrees, with_writes_in}
-use Rattle.of_mem.specs.Pairs.{value_for}
-use Rattle.of_mem.specs.Pad.{overlaid}
+use Rattle.of_mem.specs.CellMap.{value_for}
+use Rattle.of_mem.specs.Part.{overlaid}
 use Rattle.of_core.specs.declared.place.Place.{Place}
 use Rattle.of_core.specs.declared.place.Place.TheVariants.{TryCurrent, TryRequest, TryCell, LoadCurrent, CopyLog, LookAgain, LoadAnnouncement, LoadTicket, LoadScript, LoadCell, RaiseClosed}
 use Rattle.of_core.specs.Table.{Setup, setup_of, first_operation_cell, ticket_cell, data_word}
 use Rattle.of_core.specs.Machine.{CallState, no_call, log_words, with_cell_known}
 use Rattle.of_core.specs.Steps.{want, want_at, with_log_word_copied, IsFoundBy}
 use Rattle.of_core.specs.History.{state_after, batch_at, numbers_after}
-use Rattle.of_core.specs.Shared.{IsLog}
+use Rattle.of_core.specs.WordsMatch.{IsLog}
 use Rattle.of_core.specs.Rounds.{MayHelp, IsPastOwnTicket}
 use Rattle.of_core.specs.Scan.{IsInScan}
 use Rattle.of_core.specs.Transaction.{AppliesAs}

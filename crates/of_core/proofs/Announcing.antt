@@ -10,12 +10,12 @@ use Rattle.of_core.specs.declared.place.Place.TheVariants.{StoreScript, StoreAnn
 use Rattle.of_core.specs.Table.{Setup, cell_count, durable_at, request_at, log_at, script_word_at, script_words_of, script_word, announcement_of, current_word, request_of, data_word, log_word_of, durable_word, committed_seq, committed_owner, durable_seq}
 use Rattle.of_core.specs.Machine.{CallState, Call}
 use Rattle.of_core.specs.Steps.{after_store_script, take_word_at}
-use Rattle.of_core.specs.World.{Read, Moment, TableStart, after_counted_step}
+use Rattle.of_core.specs.TableMoment.{Read, Moment, TableStart, after_counted_step}
 use Rattle.of_core.specs.History.{batch_at, data_word_after, last_ticket_by}
-use Rattle.of_core.specs.Shared.{IsRequest, AnnouncementsAreServed, IsLastOpen, DataCellsMatchState, DurableWordsMatch}
+use Rattle.of_core.specs.WordsMatch.{IsRequest, AnnouncementsAreServed, IsLastOpen, DataCellsMatchState, DurableWordsMatch}
 use Rattle.of_core.specs.Rounds.{KnowsOwnRequest, IsUnannounced, HasNothingUnderWay, AnnouncesNothingNew}
 use Rattle.of_core.specs.Invariant.{HoldsAtPlace, MeetsCore}
-use Rattle.of_core.specs.Moves.{KeepsGuarantee}
+use Rattle.of_core.specs.Guarantees.{KeepsGuarantee}
 use Rattle.of_core.proofs.Logs.{room_for}
 use Rattle.of_core.proofs.Stability.{log_in, heard_as, same_row}
 use Rattle.of_core.proofs.Assembling.{assemble}

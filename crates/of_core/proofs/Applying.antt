@@ -9,13 +9,13 @@ use Rattle.of_core.specs.declared.place.Place.TheVariants.{LoadTarget, ExchangeT
 use Rattle.of_core.specs.Table.{Setup, script_word_at, cell_count, durable_at, log_at, script_word, current_word, request_of, data_word, log_word_of, durable_word, durable_cell, committed_seq, committed_owner, durable_seq}
 use Rattle.of_core.specs.Machine.{CallState, log_entry}
 use Rattle.of_core.specs.Steps.{after_load_target, take_word_at}
-use Rattle.of_core.specs.World.{Read, Moment, TableStart, after_counted_step}
+use Rattle.of_core.specs.TableMoment.{Read, Moment, TableStart, after_counted_step}
 use Rattle.of_core.specs.History.{batch_at, data_word_after}
-use Rattle.of_core.specs.Shared.{WordsHaveTheirKind, IsRequest, IsLastOpen, DataCellsMatchState, IsEntry, DurableWordsMatch}
+use Rattle.of_core.specs.WordsMatch.{WordsHaveTheirKind, IsRequest, IsLastOpen, DataCellsMatchState, IsEntry, DurableWordsMatch}
 use Rattle.of_core.specs.Rounds.{MayHelp}
 use Rattle.of_core.specs.Transaction.{IsApplying, AppliesAs}
 use Rattle.of_core.specs.Invariant.{HoldsAtPlace, MeetsCore}
-use Rattle.of_core.specs.Moves.{KeepsGuarantee}
+use Rattle.of_core.specs.Guarantees.{KeepsGuarantee}
 use Rattle.of_core.proofs.States.{old, named_at, named_later, unnamed, cases_named}
 use Rattle.of_core.proofs.Assembling.{assemble, assemble_read, logs_of}
 use Rattle.of_core.proofs.Stability.{at_stable, floor_of}

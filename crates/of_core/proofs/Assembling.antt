@@ -8,11 +8,11 @@ use Rattle.of_cell.specs.Words.{payload_of}
 use Rattle.of_cell.proofs.Order.{pay_zero}
 use Rattle.of_core.specs.Table.{Setup}
 use Rattle.of_core.specs.Machine.{CallState, log_of, entries_of_words, flat_entries, log_words}
-use Rattle.of_core.specs.World.{Read, Moment, Batch, TableStart}
+use Rattle.of_core.specs.TableMoment.{Read, Moment, Batch, TableStart}
 use Rattle.of_core.specs.History.{state_after, batch_at, data_word_after, numbers_after}
-use Rattle.of_core.specs.Shared.{WordsMatchHistory, IsLog}
+use Rattle.of_core.specs.WordsMatch.{WordsMatchHistory, IsLog}
 use Rattle.of_core.specs.Invariant.{HoldsAtPlace, MeetsCore}
-use Rattle.of_core.specs.Moves.{KeepsGuarantee, Guarantees}
+use Rattle.of_core.specs.Guarantees.{KeepsGuarantee, Guarantees}
 use Rattle.of_core.proofs.Stability.{at_stable, loaded_stable}
 
 module _ (S : Setup) (Lawful : List ℕ → Type 0) (B : TableStart) where

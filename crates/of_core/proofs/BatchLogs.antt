@@ -9,16 +9,16 @@ use Rattle.of_cell.specs.Words.{pack, seq_of, payload_of}
 use Rattle.of_cell.proofs.Order.{seq_word}
 use Rattle.of_mem.specs.declared.work.TheConstants.{MOST_INSTRS}
 use Rattle.of_mem.specs.Meaning.{WalkEnd, Needs, Gives, IsSoundMeaning, Agrees}
-use Rattle.of_mem.specs.Pad.{overlaid}
+use Rattle.of_mem.specs.Part.{overlaid}
 use Rattle.of_core.specs.declared.place.Place.{Place}
 use Rattle.of_core.specs.declared.place.Place.TheVariants.{Idle, TryCurrent, TryRequest, TryCell, StoreScript, StoreAnnouncement, LoadCurrent, LoadRequest, CopyLog, LookAgain, LoadOwnTicket, LoadShape, LoadReply, LoadAnnouncement, LoadTicket, LoadScript, LoadCell, RaiseOld, StoreLog, RaiseLog, StoreRequest, RaiseRequest, ExchangeCurrent, RaiseCurrent, LoadTarget, ExchangeTarget, ReloadTarget, RaiseTarget, CloseRequest, RaiseClosed}
 use Rattle.of_core.specs.declared.machine.trying.TheConstants.{MOST_TRIES}
 use Rattle.of_core.specs.Table.{Setup, first_operation_cell, cell_count, ticket_cell, committed_seq}
 use Rattle.of_core.specs.Machine.{Call, CallState, IsOpen, is_idle, no_machine, no_call, begin_call, first_place, no_cell_known, with_cell_known, log_words}
 use Rattle.of_core.specs.Steps.{after_read_run, begin_reading, resume, after_try_request, end_try, after_try_cell, want, want_at, word_found, take_word, take_word_at, with_step_counted, IsFoundBy, after_store_script, after_load_request, after_copy_log, after_look_again, after_own_ticket, after_load_shape, with_shape, after_load_reply, with_reply, next_reply_place, first_marked_place, after_announcement, weigh, after_load_ticket, after_load_script, with_script_word, call_as_run, after_script_run, next_scanned_caller, with_call_run, after_load_cell, after_raise_log, after_commit_exchange, after_raise_current, after_load_target, next_entry, after_raise_closed, is_request_open, with_log_word_copied}
-use Rattle.of_core.specs.World.{Moment, TableStart, Batch, step_batches, step_batches_at, one_batch}
+use Rattle.of_core.specs.TableMoment.{Moment, TableStart, Batch, step_batches, step_batches_at, one_batch}
 use Rattle.of_core.specs.History.{batch_at, numbers_after}
-use Rattle.of_core.specs.Shared.{MayStart}
+use Rattle.of_core.specs.WordsMatch.{MayStart}
 use Rattle.of_core.specs.Invariant.{HoldsAtPlace, MeetsCore, MeetsInvariant}
 use Rattle.of_core.specs.Claim.{knows_state, IsSound}
 use Rattle.of_core.specs.Events.{Event, Begins, Turns, Loads, Evicts, Raises, after_event, MayHappen, machine_in, after_events, IsSchedule, opening_moment, idle_machines, start_ticket}

@@ -12,12 +12,12 @@ use Rattle.of_core.specs.declared.bank.Turn.{Turn}
 use Rattle.of_core.specs.Table.{Setup, first_operation_cell, setup_of, cell_count, durable_at}
 use Rattle.of_core.specs.Machine.{CallState, no_machine, idle_machine, begin_call}
 use Rattle.of_core.specs.Steps.{want, want_at, take_word, take_word_at, with_step_counted, word_of, words_after, word_found}
-use Rattle.of_core.specs.World.{Moment, TableStart}
-use Rattle.of_core.specs.Shared.{MayStart}
+use Rattle.of_core.specs.TableMoment.{Moment, TableStart}
+use Rattle.of_core.specs.WordsMatch.{MayStart}
 use Rattle.of_core.specs.Invariant.{MeetsInvariant}
 use Rattle.of_core.specs.Events.{Event, Begins, Turns, Raises, machine_in, after_event, MayHappen, after_events, IsSchedule, start_ticket, opening_moment, idle_machines}
 use Rattle.of_core.specs.Starts.{first_words}
-use Rattle.of_core.specs.Seen.{Machine, ended_outcome}
+use Rattle.of_core.specs.MachineValue.{Machine, ended_outcome}
 use Rattle.of_core.specs.Meets.{MayTake}
 use Rattle.of_core.specs.Turn.{turn_of_outcome, turn_at}
 use Rattle.of_core.specs.Moment.{Bank, IsReached, RunSameWork, call_states, bank_after, bank_setup, table_word_count}

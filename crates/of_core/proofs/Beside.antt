@@ -3,9 +3,9 @@ use Rattle.std.proofs.Common.{◌≡◌, ℕ, ◌+◌, ◌*◌, ◌-◌, ◌<◌
 use Rattle.std.proofs.lemmas.List.{get_or-set_other}
 use Rattle.of_cell.specs.Words.{seq_of}
 use Rattle.of_core.specs.Table.{Setup, words_before_members, durable_at, log_at, script_word_at, current_word, request_of, data_word, log_word_of, script_word, committed_seq, committed_owner, durable_seq}
-use Rattle.of_core.specs.World.{Moment, TableStart}
+use Rattle.of_core.specs.TableMoment.{Moment, TableStart}
 use Rattle.of_core.specs.History.{data_word_after}
-use Rattle.of_core.specs.Shared.{WordsMatchHistory, IsLastOpen, DataCellsMatchState, DurableWordsMatch, IsRequest}
+use Rattle.of_core.specs.WordsMatch.{WordsMatchHistory, IsLastOpen, DataCellsMatchState, DurableWordsMatch, IsRequest}
 use Rattle.of_core.specs.Invariant.{MeetsInvariant, IsLoaded}
 use Rattle.of_core.proofs.Logs.{room_for}
 use Rattle.of_core.proofs.Touches.{Touches, durable_of, kinds_same, moves_of, shared_of}

@@ -5,7 +5,7 @@ use Rattle.of_core.specs.declared.place.Place.TheVariants.{Idle, TryCurrent, Try
 use Rattle.of_core.specs.Table.{Setup, cell_count, durable_at, log_at, ticket_cell}
 use Rattle.of_core.specs.Machine.{CallState}
 use Rattle.of_core.specs.Steps.{want, want_at, word_of, take_word, take_word_at, with_step_counted}
-use Rattle.of_core.specs.World.{Moment, TableStart, step_batches, step_batches_at}
+use Rattle.of_core.specs.TableMoment.{Moment, TableStart, step_batches, step_batches_at}
 use Rattle.of_core.specs.Invariant.{HoldsAtPlace, MeetsCore}
 use Rattle.of_core.specs.Laws.{IsRaise, GoesBlindly}
 use Rattle.of_core.proofs.Logs.{length-log_words, room_for}

@@ -11,7 +11,7 @@ use Rattle.of_core.specs.declared.place.Outcome.{Outcome}
 use Rattle.of_core.specs.Table.{Setup, first_operation_cell, words_before_members, durable_at, durable_word, durable_seq}
 use Rattle.of_core.specs.Machine.{CallState, IsOpen, no_machine, begin_call, MayReplace}
 use Rattle.of_core.specs.Steps.{want, take_word, word_found, IsFoundBy}
-use Rattle.of_core.specs.World.{Moment, TableStart, Batch, Read, after_step}
+use Rattle.of_core.specs.TableMoment.{Moment, TableStart, Batch, Read, after_step}
 use Rattle.of_core.specs.History.{batch_at}
 use Rattle.of_core.specs.Invariant.{MeetsInvariant, IsLoaded}
 use Rattle.of_core.specs.Events.{Event, Begins, Turns, Loads, Evicts, Raises, after_begin, after_raise, machine_in, after_event, MayHappen, turns_in_event, one_if}

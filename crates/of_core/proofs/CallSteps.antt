@@ -11,16 +11,16 @@ use Rattle.of_core.specs.declared.place.Outcome.TheVariants.{Answered, Spent}
 use Rattle.of_core.specs.Table.{Setup, first_operation_cell, durable_word, committed_seq, durable_seq}
 use Rattle.of_core.specs.Machine.{Call, CallState, IsOpen, is_idle, no_machine}
 use Rattle.of_core.specs.Steps.{want, take_word, IsFoundBy}
-use Rattle.of_core.specs.World.{Moment, TableStart, Read, step_batches, step_reads, after_step}
+use Rattle.of_core.specs.TableMoment.{Moment, TableStart, Read, step_batches, step_reads, after_step}
 use Rattle.of_core.specs.History.{batch_at, last_ticket_by}
-use Rattle.of_core.specs.Shared.{IsLastOpen}
+use Rattle.of_core.specs.WordsMatch.{IsLastOpen}
 use Rattle.of_core.specs.Invariant.{HoldsAtPlace, MeetsInvariant, LastOutcomeStands}
-use Rattle.of_core.specs.Moves.{Guarantees}
+use Rattle.of_core.specs.Guarantees.{Guarantees}
 use Rattle.of_core.specs.Bound.{TellsWithinBound}
 use Rattle.of_core.specs.Least.{TellsLeastSteps}
 use Rattle.of_core.specs.Order.{no_read}
 use Rattle.of_core.specs.Facts.{IsStep, TellsOutcome}
-use Rattle.of_core.specs.Seen.{ended_outcome, ended_outcome_at}
+use Rattle.of_core.specs.MachineValue.{ended_outcome, ended_outcome_at}
 use Rattle.of_core.specs.Turn.{turn_of_outcome, turn_at}
 use Rattle.of_core.specs.Events.{machine_in}
 use Rattle.of_core.specs.Calls.{outcome_of_turn, outcome_of_step, no_outcome, outcome_seq, IsNotBefore, OutcomeStands, IsOutcome, WasBegun, HasCalls, NoneSpent, total_steps}

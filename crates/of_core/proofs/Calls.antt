@@ -10,10 +10,10 @@ use Rattle.of_core.specs.declared.place.Outcome.{Outcome}
 use Rattle.of_core.specs.declared.place.Outcome.TheVariants.{Answered, Spent}
 use Rattle.of_core.specs.Table.{Setup, durable_seq}
 use Rattle.of_core.specs.Machine.{Call, CallState, IsOpen, is_idle, begin_call, first_place}
-use Rattle.of_core.specs.World.{Moment, TableStart, Batch, Read}
+use Rattle.of_core.specs.TableMoment.{Moment, TableStart, Batch, Read}
 use Rattle.of_core.specs.History.{batch_at}
 use Rattle.of_core.specs.Order.{no_read}
-use Rattle.of_core.specs.Seen.{ended_outcome_at}
+use Rattle.of_core.specs.MachineValue.{ended_outcome_at}
 use Rattle.of_core.specs.Events.{machine_in}
 use Rattle.of_core.specs.Facts.{ReadsFrom}
 use Rattle.of_core.specs.Calls.{no_outcome, last_outcome_or, outcome_seq, IsNotBefore, HasNotRun, OutcomeStands, IsOutcome, WasBegun, HasCalls}

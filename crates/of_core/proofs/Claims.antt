@@ -11,14 +11,14 @@ use Rattle.of_core.specs.declared.place.Outcome.{Outcome}
 use Rattle.of_core.specs.declared.place.Outcome.TheVariants.{Answered, Spent}
 use Rattle.of_core.specs.Table.{Setup, first_operation_cell, durable_word, durable_cell, committed_seq, durable_seq}
 use Rattle.of_core.specs.Machine.{CallState, Call, no_machine}
-use Rattle.of_core.specs.World.{Moment, TableStart}
+use Rattle.of_core.specs.TableMoment.{Moment, TableStart}
 use Rattle.of_core.specs.History.{state_after, batch_at, data_word_after, numbers_after, last_ticket_by, numbers_after_batches}
-use Rattle.of_core.specs.Shared.{IsLastOpen, WasHeldByCell, IsRequest, IsLogWord}
+use Rattle.of_core.specs.WordsMatch.{IsLastOpen, WasHeldByCell, IsRequest, IsLogWord}
 use Rattle.of_core.specs.Invariant.{MeetsCore, HoldsAtPlace, LastOutcomeStands, IsAtRest}
 use Rattle.of_core.specs.Bound.{bound, MachineIsWithinBound, TellsWithinBound}
 use Rattle.of_core.specs.Least.{HasMadeLeastSteps}
 use Rattle.of_core.specs.Events.{machine_in}
-use Rattle.of_core.specs.World.{Read}
+use Rattle.of_core.specs.TableMoment.{Read}
 use Rattle.of_core.specs.Order.{IsRead, KeepsCallOrder}
 use Rattle.of_core.specs.Claim.{ReadIsLegal, knows_state, OwnCellsAreOfState, UsesOneState, HasHeld, OutcomeIsInHistory, WasBegunByCaller, IsSound}
 use Rattle.of_core.proofs.States.{state_length, old}

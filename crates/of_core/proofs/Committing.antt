@@ -11,14 +11,14 @@ use Rattle.of_core.specs.declared.place.Place.TheVariants.{ExchangeCurrent}
 use Rattle.of_core.specs.Table.{Setup, script_word_at, cell_count, durable_at, request_at, data_at, first_operation_cell, log_at, ticket_cell, announcement_of, script_word, current_word, request_of, data_word, log_word_of, durable_word, durable_request, durable_cell, durable_log, committed_seq, committed_owner, durable_seq}
 use Rattle.of_core.specs.Machine.{CallState, Call, log_words, no_call}
 use Rattle.of_core.specs.Steps.{after_commit_exchange, next_round}
-use Rattle.of_core.specs.World.{Read, Moment, Batch, TableStart, after_counted_step, one_batch}
+use Rattle.of_core.specs.TableMoment.{Read, Moment, Batch, TableStart, after_counted_step, one_batch}
 use Rattle.of_core.specs.History.{state_after, batch_at, data_word_after, HasCall, last_ticket_by, ticket_in_state}
-use Rattle.of_core.specs.Shared.{AnnouncementsAreServed, IsRequest, IsLogWord, WordsMatchHistory, IsLastOpen, CountsBatches, DataCellsMatchState, RequestsMatchBatches, StatesFollowBatches, IsLog, DurableWordsMatch}
+use Rattle.of_core.specs.WordsMatch.{AnnouncementsAreServed, IsRequest, IsLogWord, WordsMatchHistory, IsLastOpen, CountsBatches, DataCellsMatchState, RequestsMatchBatches, StatesFollowBatches, IsLog, DurableWordsMatch}
 use Rattle.of_core.specs.Rounds.{IsBetweenRounds, IsInRound, HasNothingUnderWay}
 use Rattle.of_core.specs.Scan.{IsAnnouncedCall}
 use Rattle.of_core.specs.Transaction.{HasStoredLog}
 use Rattle.of_core.specs.Invariant.{HoldsAtPlace, MeetsCore}
-use Rattle.of_core.specs.Moves.{KeepsGuarantee, Guarantees}
+use Rattle.of_core.specs.Guarantees.{KeepsGuarantee, Guarantees}
 use Rattle.of_core.proofs.States.{state_same, state_start, batch_same, batch_new}
 use Rattle.of_core.proofs.Logs.{turned_same, length-log_words}
 use Rattle.of_core.proofs.Assembling.{assemble, assemble_read, logs_of, small_words}

@@ -5,7 +5,7 @@ use Rattle.of_core.specs.declared.place.Place.TheVariants.{Idle, TryCurrent, Try
 use Rattle.of_core.specs.Table.{Setup}
 use Rattle.of_core.specs.Machine.{CallState, log_words}
 use Rattle.of_core.specs.Steps.{with_step_counted}
-use Rattle.of_core.specs.World.{Moment, TableStart, one_batch}
+use Rattle.of_core.specs.TableMoment.{Moment, TableStart, one_batch}
 use Rattle.of_core.specs.History.{state_after}
 use Rattle.of_core.specs.Rounds.{IsInTry, MayHelp, IsUnannounced, IsAnnounced, IsInRound, IsPastRequest, IsPastOwnTicket, FindsOwnTicket, HasReadReplyUpTo}
 use Rattle.of_core.specs.Transaction.{AppliesAs, IsApplying, IsCopyingLog, HasStoredLog, IsStoringLog}

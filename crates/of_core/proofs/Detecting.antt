@@ -3,7 +3,7 @@ use Rattle.std.proofs.Common.{◌≡◌, ℕ, ◌+◌, ◌-◌, ◌<◌, ◌≤�
 use Rattle.std.proofs.lemmas.Bool.{cases_lt}
 use Rattle.of_core.specs.Table.{Setup, ticket_cell}
 use Rattle.of_core.specs.Machine.{Call, no_call}
-use Rattle.of_core.specs.World.{Moment, TableStart}
+use Rattle.of_core.specs.TableMoment.{Moment, TableStart}
 use Rattle.of_core.specs.Events.{Event, after_events, start_ticket}
 use Rattle.of_core.specs.Calls.{operations_begun}
 use Rattle.of_core.specs.Linear.{Linearizes, IsRecovered, recovered_number, FindsCall, last_ticket, last_operation, TookEffect, TookNoEffect, IsDetectable}

@@ -10,9 +10,9 @@ use Rattle.of_core.specs.declared.place.Place.TheVariants.{Idle, TryCurrent, Try
 use Rattle.of_core.specs.Table.{Setup, cell_count, durable_at, script_word_at, request_at, data_at, log_at, request_of, data_word, durable_word, durable_request, durable_cell, committed_seq, committed_owner, durable_seq}
 use Rattle.of_core.specs.Machine.{CallState, log_entry, no_machine}
 use Rattle.of_core.specs.Steps.{want, want_at, word_of, words_after, IsFoundBy}
-use Rattle.of_core.specs.World.{Moment, TableStart, after_step}
+use Rattle.of_core.specs.TableMoment.{Moment, TableStart, after_step}
 use Rattle.of_core.specs.History.{batch_at, data_word_after}
-use Rattle.of_core.specs.Shared.{IsLastOpen, WasHeldByCell}
+use Rattle.of_core.specs.WordsMatch.{IsLastOpen, WasHeldByCell}
 use Rattle.of_core.specs.Transaction.{IsApplying, AppliesAs, OwnsTransaction, HasClosedDurably}
 use Rattle.of_core.specs.Invariant.{HoldsAtPlace, MeetsCore}
 use Rattle.of_core.specs.Events.{machine_in}

@@ -7,8 +7,8 @@ use Rattle.of_mem.specs.Meaning.{IsSoundMeaning}
 use Rattle.of_core.specs.declared.place.Outcome.{Outcome}
 use Rattle.of_core.specs.Table.{Setup, first_operation_cell, cell_count}
 use Rattle.of_core.specs.Machine.{CallState, is_idle, idle_machine, no_machine}
-use Rattle.of_core.specs.World.{Moment, TableStart}
-use Rattle.of_core.specs.Shared.{MayStart}
+use Rattle.of_core.specs.TableMoment.{Moment, TableStart}
+use Rattle.of_core.specs.WordsMatch.{MayStart}
 use Rattle.of_core.specs.Invariant.{MeetsInvariant}
 use Rattle.of_core.specs.Events.{Event, machine_in, after_event, after_events, IsSchedule, start_ticket, opening_moment, turn_count}
 use Rattle.of_core.specs.Calls.{operation_begun, operations_begun, outcome_of_event, outcomes, HasCalls, TurnsFindOpenCalls, NoneSpent, total_steps, TurnsAreTold}

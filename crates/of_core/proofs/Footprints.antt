@@ -6,13 +6,13 @@ use Rattle.std.proofs.lemmas.List.{get_or-set_same, get_or-set_other}
 use Rattle.of_core.specs.declared.machine.trying.TheConstants.{MOST_TRIES}
 use Rattle.of_cell.specs.Words.{pack, seq_of, payload_of}
 use Rattle.of_mem.specs.Meaning.{WalkEnd, Needs, Gives, IsSoundMeaning}
-use Rattle.of_mem.specs.Pad.{overlaid}
+use Rattle.of_mem.specs.Part.{overlaid}
 use Rattle.of_core.specs.declared.place.Place.{Place}
 use Rattle.of_core.specs.declared.place.Place.TheVariants.{Idle, TryCurrent, TryRequest, TryCell, StoreScript, StoreAnnouncement, LoadCurrent, LoadRequest, CopyLog, LookAgain, LoadOwnTicket, LoadShape, LoadReply, LoadAnnouncement, LoadTicket, LoadScript, LoadCell, RaiseOld, StoreLog, RaiseLog, StoreRequest, RaiseRequest, ExchangeCurrent, RaiseCurrent, LoadTarget, ExchangeTarget, ReloadTarget, RaiseTarget, CloseRequest, RaiseClosed}
 use Rattle.of_core.specs.Table.{Setup, first_operation_cell, ticket_cell, shape_cell, reply_cell, data_word}
 use Rattle.of_core.specs.Machine.{CallState, IsOpen, is_idle, no_machine, no_cell_known, with_cell_known, log_words, begin_call, first_place}
 use Rattle.of_core.specs.Steps.{read_on, after_read_run, begin_reading, resume, after_try_request, end_try, after_try_cell, want, want_at, word_of, word_found, take_word, take_word_at, with_step_counted, after_store_script, after_load_request, after_copy_log, after_look_again, after_own_ticket, after_load_shape, with_shape, after_load_reply, with_reply, next_reply_place, first_marked_place, after_announcement, weigh, after_load_ticket, after_load_script, with_script_word, after_script_run, next_scanned_caller, with_call_run, after_load_cell, after_raise_log, after_commit_exchange, after_raise_current, after_load_target, next_entry, after_raise_closed, is_request_open, with_log_word_copied}
-use Rattle.of_core.specs.World.{Moment, TableStart}
+use Rattle.of_core.specs.TableMoment.{Moment, TableStart}
 use Rattle.of_core.specs.Invariant.{HoldsAtPlace, MeetsCore, MeetsInvariant}
 use Rattle.of_core.specs.Events.{Event, Begins, Turns, Loads, Evicts, Raises, after_event, MayHappen, machine_in, after_events, turn_count, turns_in_event, IsSchedule, StaysOpen}
 use Rattle.of_core.specs.Footprint.{knowns, next_load, Touches, TouchesOnly, apply_steps, help_steps, store_steps, try_steps, round_steps, footprint, HasFootprint}
@@ -279,11 +279,11 @@ module _ (S : Setup) (W R : ℕ) where
         less s u v r l e h = omega arith
 
         over : (b : Bool) → Spares S W R (end_try now b) (end_try now b).place
-        overlaid true = record { copies = tt; few = t.few; steps = again m.steps (R - knowns m.known) (R - knowns (with_cell_known S m x found)) (announced S W R m) (allowed S W R m) one t.steps }
-        overlaid false = record { copies = tt; few = t.few; steps = aloud m.steps (R - knowns m.known) (R - knowns (with_cell_known S m x found)) (length m.op) (apply_steps W) (allowed S W R m) one t.steps }
+        over true = record { copies = tt; few = t.few; steps = again m.steps (R - knowns m.known) (R - knowns (with_cell_known S m x found)) (announced S W R m) (allowed S W R m) one t.steps }
+        over false = record { copies = tt; few = t.few; steps = aloud m.steps (R - knowns m.known) (R - knowns (with_cell_known S m x found)) (length m.op) (apply_steps W) (allowed S W R m) one t.steps }
 
         go : (b : Bool) → Spares S W R (after_try_cell S now x found b) (after_try_cell S now x found b).place
-        go true = overlaid (nat_lt m.tries MOST_TRIES)
+        go true = over (nat_lt m.tries MOST_TRIES)
         go false = reads_sparing (record now { known = with_cell_known S m x found }) t.few (less m.steps (R - knowns m.known) (R - knowns (with_cell_known S m x found)) (announced S W R m) (allowed S W R m) one t.steps)
     sparing (StoreScript j) o a t e v = go (nat_lt (j + 1) (length m.op))
       where

@@ -6,7 +6,7 @@ use Rattle.of_core.specs.Table.{Setup}
 use Rattle.of_core.specs.Machine.{CallState}
 use Rattle.of_core.specs.Steps.{want, want_at, word_of, take_word, take_word_at, with_step_counted, words_after, IsFoundBy, word_found}
 use Rattle.of_core.specs.Events.{Turns, machine_in, after_event}
-use Rattle.of_core.specs.World.{Moment, Batch, step_batches, step_reads, step_reads_at, step_batches_at, after_step, after_step_at}
+use Rattle.of_core.specs.TableMoment.{Moment, Batch, step_batches, step_reads, step_reads_at, step_batches_at, after_step, after_step_at}
 
 module _ (S : Setup) (ws : List ℕ) (m : CallState) (n : ℕ) where
   -- what the step from the place p makes of the number n

@@ -2,8 +2,8 @@
 use Rattle.std.proofs.Common.{ℕ, List, subst, arith, map}
 use Rattle.of_cell.specs.Words.{payload_of}
 use Rattle.of_core.specs.Table.{Setup}
-use Rattle.of_core.specs.World.{Moment, TableStart}
-use Rattle.of_core.specs.Shared.{WordsMatchHistory}
+use Rattle.of_core.specs.TableMoment.{Moment, TableStart}
+use Rattle.of_core.specs.WordsMatch.{WordsMatchHistory}
 use Rattle.of_core.specs.Invariant.{MeetsInvariant}
 use Rattle.of_core.specs.Grounds.{HasGrounds}
 use Rattle.of_core.proofs.States.{state_start}

@@ -10,8 +10,8 @@ use Rattle.of_core.specs.declared.place.Place.{Place}
 use Rattle.of_core.specs.declared.place.Place.TheVariants.{Idle, TryCurrent, StoreScript}
 use Rattle.of_core.specs.Table.{durable_word, Setup, first_operation_cell, cell_count, log_word_of}
 use Rattle.of_core.specs.Machine.{is_idle, CallState, no_machine, first_place, begin_call, MayReplace}
-use Rattle.of_core.specs.World.{Read, Moment, TableStart}
-use Rattle.of_core.specs.Shared.{IsRequest, IsLogWord}
+use Rattle.of_core.specs.TableMoment.{Read, Moment, TableStart}
+use Rattle.of_core.specs.WordsMatch.{IsRequest, IsLogWord}
 use Rattle.of_core.specs.Rounds.{IsUnannounced, KnowsOwnRequest}
 use Rattle.of_core.specs.Invariant.{MeetsInvariant, MeetsCore, HoldsAtPlace, IsAtRest, IsLoaded}
 use Rattle.of_core.specs.Bound.{MachineIsWithinBound}

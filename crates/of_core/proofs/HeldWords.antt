@@ -10,8 +10,8 @@ use Rattle.of_mem.specs.Meaning.{IsSoundMeaning}
 use Rattle.of_core.specs.Table.{Setup, first_operation_cell, cell_count, durable_at, durable_word}
 use Rattle.of_core.specs.Machine.{no_machine}
 use Rattle.of_core.specs.Steps.{word_found}
-use Rattle.of_core.specs.World.{Moment, TableStart}
-use Rattle.of_core.specs.Shared.{MayStart}
+use Rattle.of_core.specs.TableMoment.{Moment, TableStart}
+use Rattle.of_core.specs.WordsMatch.{MayStart}
 use Rattle.of_core.specs.Invariant.{MeetsInvariant}
 use Rattle.of_core.specs.Events.{Event, Begins, Turns, Loads, Evicts, Raises, after_raise, machine_in, after_event, MayHappen, after_events, HasStood, IsSchedule, opening_moment}
 use Rattle.of_core.proofs.Starts.{words_hold}

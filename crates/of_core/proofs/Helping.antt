@@ -10,13 +10,13 @@ use Rattle.of_core.specs.declared.place.Place.TheVariants.{CopyLog, LookAgain}
 use Rattle.of_core.specs.Table.{Setup, request_at, log_at, first_operation_cell, request_of, log_word_of, durable_request, committed_seq, committed_owner}
 use Rattle.of_core.specs.Machine.{CallState, log_of, log_words}
 use Rattle.of_core.specs.Steps.{after_copy_log, after_look_again, with_log_word_copied, take_word_at}
-use Rattle.of_core.specs.World.{Moment, TableStart, after_counted_step}
+use Rattle.of_core.specs.TableMoment.{Moment, TableStart, after_counted_step}
 use Rattle.of_core.specs.History.{batch_at}
-use Rattle.of_core.specs.Shared.{IsLastOpen, IsLog}
+use Rattle.of_core.specs.WordsMatch.{IsLastOpen, IsLog}
 use Rattle.of_core.specs.Rounds.{WasCurrent}
 use Rattle.of_core.specs.Transaction.{IsReorderingOf, IsApplying, AppliesAs, IsCopyingLog}
 use Rattle.of_core.specs.Invariant.{HoldsAtPlace, MeetsCore}
-use Rattle.of_core.specs.Moves.{KeepsGuarantee}
+use Rattle.of_core.specs.Guarantees.{KeepsGuarantee}
 use Rattle.of_core.proofs.Logs.{turned_is, length-log_words}
 use Rattle.of_core.proofs.Alike.{helper_as}
 use Rattle.of_core.proofs.Assembling.{assemble_read, log_back, same_batches, same_words, small_words}

@@ -5,7 +5,7 @@ use Rattle.of_core.specs.declared.place.Place.TheVariants.{Idle}
 use Rattle.of_core.specs.Table.{Setup}
 use Rattle.of_core.specs.Machine.{CallState, IsOpen, is_idle}
 use Rattle.of_core.specs.Steps.{take_word, take_word_at, with_step_counted}
-use Rattle.of_core.specs.World.{step_reads, step_reads_if}
+use Rattle.of_core.specs.TableMoment.{step_reads, step_reads_if}
 use Rattle.of_core.specs.Order.{HasBegunTry}
 use Rattle.of_core.specs.Facts.{ReadsFrom, rests_on_seq, rests_on_seq_at}
 

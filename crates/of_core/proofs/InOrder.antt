@@ -7,7 +7,7 @@ use Rattle.std.proofs.lemmas.List.{length-append, get_or_append_left, get_or-app
 use Rattle.std.proofs.lemmas.List.Elements.{All-append}
 use Rattle.of_mem.specs.Meaning.{Meaning}
 use Rattle.of_core.specs.Machine.{Call, no_call}
-use Rattle.of_core.specs.World.{Batch, Read}
+use Rattle.of_core.specs.TableMoment.{Batch, Read}
 use Rattle.of_core.specs.History.{no_batch, numbers_after_calls, CallsHaveReplies, numbers_after_batches, IsLegalHistory}
 use Rattle.of_core.specs.Order.{no_read}
 use Rattle.of_core.specs.Calls.{if_so}

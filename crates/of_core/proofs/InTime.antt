@@ -8,7 +8,7 @@ use Rattle.of_core.specs.declared.place.Place.TheVariants.{Idle, TryCurrent, Try
 use Rattle.of_core.specs.Table.{Setup, first_operation_cell}
 use Rattle.of_core.specs.Machine.{CallState, IsOpen, is_idle, no_machine}
 use Rattle.of_core.specs.Steps.{word_found, take_word}
-use Rattle.of_core.specs.World.{Moment, TableStart}
+use Rattle.of_core.specs.TableMoment.{Moment, TableStart}
 use Rattle.of_core.specs.Invariant.{HoldsAtPlace, MeetsInvariant}
 use Rattle.of_core.specs.Bound.{bound, steps_left_at}
 use Rattle.of_core.specs.Events.{one_if, Event, Begins, Turns, Loads, Evicts, Raises, after_event, MayHappen, machine_in, after_events, turn_count, turns_in_event, IsSchedule, StaysOpen}

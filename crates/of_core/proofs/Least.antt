@@ -3,13 +3,13 @@ use Rattle.std.proofs.Common.{◌≡◌, ℕ, ◌+◌, ◌-◌, ◌*◌, ◌≤�
 use Rattle.of_core.specs.declared.machine.trying.TheConstants.{MOST_TRIES}
 use Rattle.of_cell.specs.Words.{pack, seq_of, payload_of}
 use Rattle.of_mem.specs.Meaning.{WalkEnd, Needs, Gives}
-use Rattle.of_mem.specs.Pad.{overlaid}
+use Rattle.of_mem.specs.Part.{overlaid}
 use Rattle.of_core.specs.declared.place.Place.{Place}
 use Rattle.of_core.specs.declared.place.Place.TheVariants.{Idle, TryCurrent, TryRequest, TryCell, StoreScript, StoreAnnouncement, LoadCurrent, LoadRequest, CopyLog, LookAgain, LoadOwnTicket, LoadShape, LoadReply, LoadAnnouncement, LoadTicket, LoadScript, LoadCell, RaiseOld, StoreLog, RaiseLog, StoreRequest, RaiseRequest, ExchangeCurrent, RaiseCurrent, LoadTarget, ExchangeTarget, ReloadTarget, RaiseTarget, CloseRequest, RaiseClosed}
 use Rattle.of_core.specs.Table.{Setup, ticket_cell}
 use Rattle.of_core.specs.Machine.{CallState, no_cell_known, with_cell_known, log_words, begin_call, first_place, idle_machine}
 use Rattle.of_core.specs.Steps.{after_read_run, begin_reading, resume, after_try_request, end_try, after_try_cell, take_word_at, with_step_counted, after_store_script, after_load_request, after_copy_log, after_look_again, after_own_ticket, after_load_shape, with_shape, after_load_reply, with_reply, next_reply_place, first_marked_place, after_announcement, weigh, after_load_ticket, after_load_script, with_script_word, after_script_run, next_scanned_caller, with_call_run, after_load_cell, after_raise_log, after_commit_exchange, after_raise_current, after_load_target, next_entry, after_raise_closed, is_request_open, with_log_word_copied}
-use Rattle.of_core.specs.World.{Batch, TableStart}
+use Rattle.of_core.specs.TableMoment.{Batch, TableStart}
 use Rattle.of_core.specs.Invariant.{HoldsAtPlace}
 use Rattle.of_core.specs.Least.{least_of, least_read, made_helping, made_applying, HasMadeLeastSteps}
 use Rattle.of_core.proofs.Tests.{differ, not_newer}
@@ -87,11 +87,11 @@ module _ (S : Setup) where
     late (TryCell x) a t e = go (nat_lt m.seq (seq_of n))
       where
         over : (b : Bool) → HasMadeLeastSteps S (end_try now b) (end_try now b).place
-        overlaid true = record { steps = omega arith; rests = λ q. cc; told = λ q. cc }
-        overlaid false = record { steps = omega arith; rests = λ q. cc; told = λ q. cc }
+        over true = record { steps = omega arith; rests = λ q. cc; told = λ q. cc }
+        over false = record { steps = omega arith; rests = λ q. cc; told = λ q. cc }
 
         go : (b : Bool) → HasMadeLeastSteps S (after_try_cell S now x n b) (after_try_cell S now x n b).place
-        go true = overlaid (nat_lt m.tries MOST_TRIES)
+        go true = over (nat_lt m.tries MOST_TRIES)
         go false = read_late (record now { known = with_cell_known S m x n }) (S.meaning.walk (with_cell_known S m x n) m.op) (omega (arith, t.steps)) (omega (arith, t.steps, least_upto (S.meaning.walk (no_cell_known S) m.op)))
     late (StoreScript j) a t e = go (nat_lt (j + 1) (length m.op)) refl
       where

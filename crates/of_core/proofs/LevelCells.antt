@@ -17,11 +17,11 @@ use Rattle.of_core.specs.declared.place.Op.TheVariants.{Raise}
 use Rattle.of_core.specs.Table.{Setup, first_operation_cell, cell_count, durable_at, script_word_at, request_at, data_at, log_at, request_of, data_word, log_word_of, durable_word, durable_cell, durable_log, current_word, committed_seq, committed_owner, durable_seq}
 use Rattle.of_core.specs.Machine.{CallState, log_entry, log_words, no_machine, begin_call}
 use Rattle.of_core.specs.Steps.{want, want_at, word_of, words_after, word_found, take_word, take_word_at, with_step_counted}
-use Rattle.of_core.specs.World.{Moment, TableStart}
+use Rattle.of_core.specs.TableMoment.{Moment, TableStart}
 use Rattle.of_core.specs.History.{batch_at, data_word_after}
-use Rattle.of_core.specs.Shared.{IsLastOpen, MayStart}
+use Rattle.of_core.specs.WordsMatch.{IsLastOpen, MayStart}
 use Rattle.of_core.specs.Invariant.{HoldsAtPlace, MeetsCore, MeetsInvariant, IsLoaded}
-use Rattle.of_core.specs.Moves.{Guarantees}
+use Rattle.of_core.specs.Guarantees.{Guarantees}
 use Rattle.of_core.specs.Events.{Event, Begins, Turns, Loads, Evicts, Raises, after_raise, machine_in, after_event, MayHappen, after_events, IsSchedule, opening_moment}
 use Rattle.of_core.specs.Raised.{lower_changes, pending_among, pending}
 use Rattle.of_core.proofs.States.{later_by}

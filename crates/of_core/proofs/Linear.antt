@@ -12,7 +12,7 @@ use Rattle.of_core.specs.declared.place.Outcome.{Outcome}
 use Rattle.of_core.specs.declared.place.Outcome.TheVariants.{Answered, Spent}
 use Rattle.of_core.specs.Table.{Setup, first_operation_cell, ticket_cell, shape_cell, reply_cell, durable_seq}
 use Rattle.of_core.specs.Machine.{Call, no_call}
-use Rattle.of_core.specs.World.{Moment, TableStart, Batch, Read}
+use Rattle.of_core.specs.TableMoment.{Moment, TableStart, Batch, Read}
 use Rattle.of_core.specs.History.{state_after, batch_at, no_batch, data_word_after, numbers_after, numbers_after_calls, numbers_after_batches, last_ticket_by, OwnCellsShowLast, IsCellOfCaller, HasCall, SameReply}
 use Rattle.of_core.specs.Order.{no_read}
 use Rattle.of_core.specs.Invariant.{MeetsInvariant}

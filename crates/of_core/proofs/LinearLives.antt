@@ -9,9 +9,9 @@ use Rattle.of_cell.specs.Words.{payload_of}
 use Rattle.of_mem.specs.Meaning.{IsSoundMeaning, SameFrom}
 use Rattle.of_core.specs.Table.{Setup, first_operation_cell, cell_count, ticket_cell}
 use Rattle.of_core.specs.Machine.{Call, no_call}
-use Rattle.of_core.specs.World.{Moment, TableStart}
+use Rattle.of_core.specs.TableMoment.{Moment, TableStart}
 use Rattle.of_core.specs.History.{numbers_after_calls}
-use Rattle.of_core.specs.Shared.{MayStart}
+use Rattle.of_core.specs.WordsMatch.{MayStart}
 use Rattle.of_core.specs.Invariant.{MeetsInvariant}
 use Rattle.of_core.specs.Events.{Event, after_events, IsSchedule, opening_moment, start_ticket}
 use Rattle.of_core.specs.Claim.{IsNewerCall, IsSound}

@@ -9,12 +9,12 @@ use Rattle.of_core.specs.declared.place.Place.TheVariants.{StoreLog, StoreReques
 use Rattle.of_core.specs.Table.{Setup, script_word_at, cell_count, durable_at, request_at, log_at, script_word, current_word, request_of, data_word, log_word_of, durable_word, durable_request, committed_seq, committed_owner, durable_seq}
 use Rattle.of_core.specs.Machine.{CallState, log_entry, log_words}
 use Rattle.of_core.specs.Steps.{take_word_at}
-use Rattle.of_core.specs.World.{Moment, TableStart, after_counted_step}
+use Rattle.of_core.specs.TableMoment.{Moment, TableStart, after_counted_step}
 use Rattle.of_core.specs.History.{batch_at, data_word_after}
-use Rattle.of_core.specs.Shared.{WordsHaveTheirKind, IsRequest, IsLogWord, IsLastOpen, DataCellsMatchState, DurableWordsMatch}
+use Rattle.of_core.specs.WordsMatch.{WordsHaveTheirKind, IsRequest, IsLogWord, IsLastOpen, DataCellsMatchState, DurableWordsMatch}
 use Rattle.of_core.specs.Transaction.{HasStoredLog}
 use Rattle.of_core.specs.Invariant.{HoldsAtPlace, MeetsCore}
-use Rattle.of_core.specs.Moves.{KeepsGuarantee}
+use Rattle.of_core.specs.Guarantees.{KeepsGuarantee}
 use Rattle.of_core.proofs.Logs.{words_at, length-log_words}
 use Rattle.of_core.proofs.Assembling.{assemble, small_words}
 use Rattle.of_core.proofs.Stability.{log_in, same_row}

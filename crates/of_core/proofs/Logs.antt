@@ -17,7 +17,7 @@ use Rattle.of_mem.specs.declared.work.TheConstants.{LEAST_ABORT}
 use Rattle.of_core.specs.Table.{Setup, first_operation_cell, ticket_cell}
 use Rattle.of_core.specs.Machine.{cells_from, own_cells, flat_entries, log_words, entries_going_round}
 use Rattle.of_core.specs.History.{with_log_applied}
-use Rattle.of_core.specs.Shared.{IsEntry, IsLog}
+use Rattle.of_core.specs.WordsMatch.{IsEntry, IsLog}
 use Rattle.of_core.specs.Transaction.{IsReorderingOf}
 use Rattle.of_core.proofs.States.{all_tail}
 

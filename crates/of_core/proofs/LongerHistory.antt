@@ -9,9 +9,9 @@ use Rattle.of_cell.proofs.Order.{pay_word}
 use Rattle.of_mem.specs.Meaning.{IsSoundMeaning, SameFrom, with_writes_in}
 use Rattle.of_core.specs.Table.{Setup, first_operation_cell, ticket_cell, shape_cell, reply_cell}
 use Rattle.of_core.specs.Machine.{Call, no_call}
-use Rattle.of_core.specs.World.{Batch, TableStart}
+use Rattle.of_core.specs.TableMoment.{Batch, TableStart}
 use Rattle.of_core.specs.History.{state_after, batch_at, data_word_after, with_log_applied, ShowsCall, OwnCellsShowLast, HasNoCallBetween, IsCellOfCaller, CallersRise, last_ticket_by, numbers_after, numbers_after_calls, CallsHaveReplies}
-use Rattle.of_core.specs.Shared.{IsLog, IsStart, StatesFollowBatches}
+use Rattle.of_core.specs.WordsMatch.{IsLog, IsStart, StatesFollowBatches}
 use Rattle.of_core.specs.Scan.{LogsCell, LogsOwnCells, IsOverlayOf, WasTakenByScan}
 use Rattle.of_core.proofs.States.{state_same, batch_same, batch_new, state_next, state_length, old, changed_at, changed_other}
 use Rattle.of_core.proofs.Logs.{room_for, pay_changed, length-written}

@@ -6,7 +6,7 @@ use Rattle.std.proofs.lemmas.Bool.Decides.{nat_tests}
 use Rattle.of_core.specs.declared.machine.trying.TheConstants.{MOST_TRIES}
 use Rattle.of_cell.specs.Words.{pack, seq_of, payload_of}
 use Rattle.of_mem.specs.Meaning.{WalkEnd, Needs, Gives}
-use Rattle.of_mem.specs.Pad.{overlaid}
+use Rattle.of_mem.specs.Part.{overlaid}
 use Rattle.of_core.specs.declared.place.Place.{Place}
 use Rattle.of_core.specs.declared.place.Place.TheVariants.{Idle, TryCurrent, TryRequest, TryCell, StoreScript, StoreAnnouncement, LoadCurrent, LoadRequest, CopyLog, LookAgain, LoadOwnTicket, LoadShape, LoadReply, LoadAnnouncement, LoadTicket, LoadScript, LoadCell, RaiseOld, StoreLog, RaiseLog, StoreRequest, RaiseRequest, ExchangeCurrent, RaiseCurrent, LoadTarget, ExchangeTarget, ReloadTarget, RaiseTarget, CloseRequest, RaiseClosed}
 use Rattle.of_core.specs.declared.place.Outcome.{Outcome}
@@ -14,7 +14,7 @@ use Rattle.of_core.specs.declared.place.Outcome.TheVariants.{Answered, Spent}
 use Rattle.of_core.specs.Table.{Setup, ticket_cell}
 use Rattle.of_core.specs.Machine.{CallState, no_cell_known, with_cell_known, log_words}
 use Rattle.of_core.specs.Steps.{take_word_at, with_step_counted, after_read_run, resume, first_round_seq, after_try_request, end_try, after_try_cell, after_store_script, after_load_request, after_copy_log, after_look_again, after_own_ticket, after_load_shape, after_load_reply, after_announcement, after_load_ticket, after_load_script, after_load_cell, after_raise_log, after_commit_exchange, after_raise_current, after_load_target, next_entry, after_raise_closed, after_script_run, weigh, next_scanned_caller, with_call_run, next_reply_place, with_shape, with_reply, with_log_word_copied, with_script_word, first_marked_place, is_request_open}
-use Rattle.of_core.specs.World.{Moment, TableStart}
+use Rattle.of_core.specs.TableMoment.{Moment, TableStart}
 use Rattle.of_core.specs.Order.{HasBegunTry}
 use Rattle.of_core.specs.Facts.{loads_current_at}
 use Rattle.of_core.specs.Invariant.{HoldsAtPlace}
@@ -111,11 +111,11 @@ module _ (S : Setup) (B : TableStart) (w : Moment) (i : ℕ) (m : CallState) (n 
   losing (TryCell x) a = inr (inr (go (nat_lt m.seq (seq_of n))))
     where
       over : (b : Bool) → nat_lt m.tries MOST_TRIES ≡ b → BeginsNone (TryCell x) (end_try now b)
-      overlaid true e = within (TryCell x) (end_try now true) refl refl refl refl refl (λ z q. inr (inr (refl, inl refl)))
-      overlaid false e = within (TryCell x) (end_try now false) refl refl refl refl refl (λ z q. inr (inr (refl, inr (not_newer m.tries MOST_TRIES e))))
+      over true e = within (TryCell x) (end_try now true) refl refl refl refl refl (λ z q. inr (inr (refl, inl refl)))
+      over false e = within (TryCell x) (end_try now false) refl refl refl refl refl (λ z q. inr (inr (refl, inr (not_newer m.tries MOST_TRIES e))))
 
       go : (b : Bool) → BeginsNone (TryCell x) (after_try_cell S now x n b)
-      go true = overlaid (nat_lt m.tries MOST_TRIES) refl
+      go true = over (nat_lt m.tries MOST_TRIES) refl
       go false = read_within (TryCell x) (record now { known = with_cell_known S m x n }) refl refl refl refl refl refl (S.meaning.walk (with_cell_known S m x n) m.op)
   losing (StoreScript j) a = inr (inr (go (nat_lt (j + 1) (length m.op))))
     where

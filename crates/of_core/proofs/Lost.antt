@@ -14,14 +14,14 @@ use Rattle.of_core.specs.declared.place.Outcome.TheVariants.{Answered, Spent}
 use Rattle.of_core.specs.Table.{Setup, first_operation_cell, ticket_cell}
 use Rattle.of_core.specs.Machine.{CallState, no_call, IsOpen, is_idle, no_machine, begin_call, first_place}
 use Rattle.of_core.specs.Steps.{want, take_word, word_found, first_round_seq, IsFoundBy}
-use Rattle.of_core.specs.World.{Moment, TableStart, Batch, step_batches, after_step}
+use Rattle.of_core.specs.TableMoment.{Moment, TableStart, Batch, step_batches, after_step}
 use Rattle.of_core.specs.History.{last_ticket_by}
 use Rattle.of_core.specs.Order.{HasBegunTry}
 use Rattle.of_core.specs.Facts.{IsStep, TellsOutcome, ReadsFrom, loads_current, loads_current_at}
-use Rattle.of_core.specs.Shared.{StatesFollowBatches}
+use Rattle.of_core.specs.WordsMatch.{StatesFollowBatches}
 use Rattle.of_core.specs.Rounds.{IsInTry}
 use Rattle.of_core.specs.Invariant.{HoldsAtPlace, MeetsInvariant, IsAtRest, LastOutcomeStands}
-use Rattle.of_core.specs.Seen.{ended_outcome_at}
+use Rattle.of_core.specs.MachineValue.{ended_outcome_at}
 use Rattle.of_core.specs.Events.{Event, Begins, Turns, Loads, Evicts, Raises, after_event, machine_in, after_events, MayHappen, IsSchedule}
 use Rattle.of_core.specs.Turn.{IsIdle}
 use Rattle.of_core.specs.Calls.{if_so, operation_begun, outcome_of_event, outcome_of_step, operations_begun, outcomes, no_outcome, HasCalls}

@@ -14,7 +14,7 @@ use Rattle.of_recover.proofs.Kept.{closed_after}
 use Rattle.of_recover.proofs.Fronts.{fronts_recover}
 use Rattle.of_recover.proofs.AnewPartly.{fronts_begin}
 use Rattle.of_core.specs.Table.{Setup}
-use Rattle.of_core.specs.World.{Moment, TableStart}
+use Rattle.of_core.specs.TableMoment.{Moment, TableStart}
 use Rattle.of_core.specs.Invariant.{MeetsInvariant}
 use Rattle.of_core.specs.Claim.{IsSound}
 use Rattle.of_core.specs.Starts.{start_from_durable, IsStartRow, IsDurable, recovered_start}

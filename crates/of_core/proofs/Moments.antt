@@ -4,8 +4,8 @@ use Rattle.of_mem.specs.declared.work.TheConstants.{MOST_INSTRS}
 use Rattle.of_cell.specs.declared.word.TheConstants.{PAYLOADS}
 use Rattle.of_mem.specs.Meaning.{IsSoundMeaning}
 use Rattle.of_core.specs.Table.{Setup, first_operation_cell, cell_count}
-use Rattle.of_core.specs.World.{Moment, TableStart}
-use Rattle.of_core.specs.Shared.{MayStart}
+use Rattle.of_core.specs.TableMoment.{Moment, TableStart}
+use Rattle.of_core.specs.WordsMatch.{MayStart}
 use Rattle.of_core.specs.Invariant.{MeetsInvariant}
 use Rattle.of_core.specs.Events.{Event, after_event, after_events, IsSchedule, opening_moment}
 use Rattle.of_core.specs.Claim.{IsSound}

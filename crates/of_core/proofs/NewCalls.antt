@@ -8,12 +8,12 @@ use Rattle.of_mem.specs.Meaning.{IsSoundMeaning}
 use Rattle.of_core.specs.Table.{Setup, first_operation_cell, announcement_of, script_words_of, committed_seq}
 use Rattle.of_core.specs.Machine.{Call, CallState, IsOpen, no_machine}
 use Rattle.of_core.specs.Steps.{want, IsFoundBy}
-use Rattle.of_core.specs.World.{Moment, TableStart, after_step}
+use Rattle.of_core.specs.TableMoment.{Moment, TableStart, after_step}
 use Rattle.of_core.specs.History.{batch_at, last_ticket_by}
 use Rattle.of_core.specs.Rounds.{AnnouncesNothingNew}
 use Rattle.of_core.specs.Scan.{IsAnnouncedCall}
 use Rattle.of_core.specs.Invariant.{MeetsInvariant}
-use Rattle.of_core.specs.Moves.{Guarantees}
+use Rattle.of_core.specs.Guarantees.{Guarantees}
 use Rattle.of_core.specs.Events.{machine_in}
 use Rattle.of_core.specs.Laws.{IsOpenCall}
 use Rattle.of_core.proofs.Tickets.{tickets_grow}

@@ -7,7 +7,7 @@ use Rattle.of_core.specs.declared.place.Place.{Place}
 use Rattle.of_core.specs.declared.place.Place.TheVariants.{Idle, TryCurrent, TryRequest, TryCell, StoreScript, StoreAnnouncement, LoadCurrent, LoadRequest, CopyLog, LookAgain, LoadOwnTicket, LoadShape, LoadReply, LoadAnnouncement, LoadTicket, LoadScript, LoadCell, RaiseOld, StoreLog, RaiseLog, StoreRequest, RaiseRequest, ExchangeCurrent, RaiseCurrent, LoadTarget, ExchangeTarget, ReloadTarget, RaiseTarget, CloseRequest, RaiseClosed}
 use Rattle.of_core.specs.Table.{Setup, announcement_of, script_words_of, committed_seq}
 use Rattle.of_core.specs.Machine.{CallState, Call, IsOpen, is_idle, no_call}
-use Rattle.of_core.specs.World.{Moment, TableStart}
+use Rattle.of_core.specs.TableMoment.{Moment, TableStart}
 use Rattle.of_core.specs.History.{batch_at, last_ticket_by}
 use Rattle.of_core.specs.Rounds.{IsUnannounced, IsAnnounced, MayHelp, HasOneOperation, AnnouncesNothingNew}
 use Rattle.of_core.specs.Transaction.{IsApplying, AppliesAs, OwnsTransaction}

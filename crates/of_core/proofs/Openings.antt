@@ -7,9 +7,9 @@ use Rattle.of_cell.proofs.Order.{seq_word, pay_word, seq_zero, pay_zero}
 use Rattle.of_mem.specs.Meaning.{IsSoundMeaning}
 use Rattle.of_core.specs.Table.{Setup, first_operation_cell, cell_count, durable_at, request_at, data_at, log_at, script_word_at, ticket_cell, request_of, announcement_of, committed_seq, durable_seq}
 use Rattle.of_core.specs.Machine.{CallState, idle_machine}
-use Rattle.of_core.specs.World.{TableStart}
+use Rattle.of_core.specs.TableMoment.{TableStart}
 use Rattle.of_core.specs.History.{data_word_after, last_ticket_by}
-use Rattle.of_core.specs.Shared.{MayStart}
+use Rattle.of_core.specs.WordsMatch.{MayStart}
 use Rattle.of_core.specs.Order.{KeepsCallOrder, HasOnlyOlderCalls}
 use Rattle.of_core.specs.Facts.{rests_on_seq}
 use Rattle.of_core.specs.Invariant.{MeetsInvariant, MeetsCore, HoldsAtPlace}

@@ -12,15 +12,15 @@ use Rattle.of_core.specs.declared.place.Outcome.{Outcome}
 use Rattle.of_core.specs.declared.place.Outcome.TheVariants.{Answered, Spent}
 use Rattle.of_core.specs.Table.{Setup, committed_seq, durable_seq, announcement_of}
 use Rattle.of_core.specs.Machine.{Call, CallState, IsOpen, is_idle}
-use Rattle.of_core.specs.World.{Moment, Batch, TableStart, Read, read_of, step_reads_if, step_reads_at}
+use Rattle.of_core.specs.TableMoment.{Moment, Batch, TableStart, Read, read_of, step_reads_if, step_reads_at}
 use Rattle.of_core.specs.History.{batch_at, last_ticket_by}
-use Rattle.of_core.specs.Shared.{WordsMatchHistory, IsLastOpen}
+use Rattle.of_core.specs.WordsMatch.{WordsMatchHistory, IsLastOpen}
 use Rattle.of_core.specs.Rounds.{IsAnnounced, WasCurrent, MayHelp, IsInTry, AnnouncesNothingNew}
 use Rattle.of_core.specs.Transaction.{AppliesAs}
 use Rattle.of_core.specs.Order.{IsRead, AreInAnswerOrder, StandInCallOrder, AreInCallOrder, HasBegunTry, WasMadeBefore, IsOlder, HasOnlyOlderCalls, KeepsCallOrder, no_read}
 use Rattle.of_core.specs.Facts.{IsStepAtPlace, LastStepTells, CountsStepOrEnds}
 use Rattle.of_core.specs.Invariant.{HoldsAtPlace, MeetsCore, LastOutcomeStands, IsAtRest}
-use Rattle.of_core.specs.Moves.{Guarantees}
+use Rattle.of_core.specs.Guarantees.{Guarantees}
 use Rattle.of_core.proofs.Stability.{tick_how, tick_same}
 use Rattle.of_core.proofs.Tickets.{tickets_grow, ticket_upto}
 

@@ -5,25 +5,20 @@ use Rattle.std.proofs.lemmas.Bool.{cases_eq, cases_lt}
 use Rattle.std.proofs.lemmas.Bool.Decides.{nat_tests}
 use Rattle.std.proofs.lemmas.List.Elements.{All-append}
 use Rattle.std.proofs.lemmas.List.{get_or_append_left, get_or-append_right, get_or-set_same, get_or-set_other, set-set, set_comm, get_or_past, get_or-take, length-take, get_or_push, get_or_default}
+use Rattle.std.proofs.lemmas.Bool.{eqb-true as same_num, eqb-false as other_num}
 use Rattle.of_mem.specs.declared.work.TheConstants.{LEAST_ABORT, MOST_INSTRS}
 use Rattle.of_cell.specs.declared.word.TheConstants.{PAYLOADS}
 use Rattle.of_mem.specs.declared.work.RawReply.{RawReply}
 use Rattle.of_mem.specs.Meaning.{HasDistinctCells, with_writes_in, SameFrom, Meaning, IsFinishedWalk, IsSoundMeaning, WalkFits, Agrees, is_marked}
-use Rattle.of_mem.specs.Pairs.{put_pair, put_all}
-use Rattle.of_mem.specs.Pad.{overlaid}
+use Rattle.of_mem.specs.CellMap.{put_pair, put_all}
+use Rattle.of_mem.specs.Part.{overlaid}
 use Rattle.of_core.specs.Table.{Setup, first_operation_cell, ticket_cell, shape_cell, reply_cell}
 use Rattle.of_core.specs.Machine.{Call, cells_from, own_cells, no_call}
 use Rattle.of_core.specs.History.{IsCellOfCaller, numbers_after_calls, CallsHaveReplies}
-use Rattle.of_core.specs.Shared.{IsEntry, IsLog}
+use Rattle.of_core.specs.WordsMatch.{IsEntry, IsLog}
 use Rattle.of_core.specs.Scan.{LogsCell, LogsOwnCells, IsOverlayOf}
 use Rattle.of_core.proofs.States.{once_tail}
 use Rattle.of_core.proofs.Logs.{written_append, drop_written, own_below, once_few, room_for, whole_log, length-listed, listed_at, length-written, own_is, IsOwn}
-
-same_num : (a b : ℕ) → (a == b) ≡ true → a ≡ b
-same_num a b e = grind (arith, nat_tests)
-
-other_num : (a b : ℕ) → (a == b) ≡ false → a ≡ b → ⊥
-other_num a b e q = grind (arith, nat_tests)
 
 -- a write of a cell that no later one names may as well come last
 written_set : (xs : List ℕ) (es : List (ℕ × ℕ)) (a v : ℕ) → ((j : ℕ) → j < length es → (get_or es j (0, 0)).0 ≡ a → ⊥) → with_writes_in (set xs a v) es ≡ set (with_writes_in xs es) a v

@@ -12,12 +12,12 @@ use Rattle.of_core.specs.declared.place.Place.TheVariants.{Idle, LoadOwnTicket, 
 use Rattle.of_core.specs.Table.{Setup, data_at, ticket_cell, shape_cell, reply_cell, data_word, committed_seq}
 use Rattle.of_core.specs.Machine.{CallState, Call, with_cell_known, no_call}
 use Rattle.of_core.specs.Steps.{take_word_at, end_from_own_cells, next_reply_place, after_own_ticket, with_shape, after_load_shape, with_reply, after_load_reply, first_marked_place}
-use Rattle.of_core.specs.World.{Moment, TableStart, after_counted_step}
+use Rattle.of_core.specs.TableMoment.{Moment, TableStart, after_counted_step}
 use Rattle.of_core.specs.History.{state_after, batch_at, data_word_after, HasCall, OwnCellsShowLast, IsNewestCall, IsCellOfCaller, last_ticket_by}
 use Rattle.of_core.specs.Rounds.{IsPastRequest, FindsOwnTicket, HasReadReplyUpTo, HasNothingUnderWay}
 use Rattle.of_core.specs.Scan.{HasScannedUpTo}
 use Rattle.of_core.specs.Invariant.{HoldsAtPlace, MeetsCore}
-use Rattle.of_core.specs.Moves.{KeepsGuarantee}
+use Rattle.of_core.specs.Guarantees.{KeepsGuarantee}
 use Rattle.of_core.proofs.Alike.{calm_more, looks_as}
 use Rattle.of_core.proofs.Assembling.{assemble_read, same_batches, same_words}
 use Rattle.of_core.proofs.Rounds.{again, at_risen, cell_of, grows_to, learn, own_row_old, own_seq, round_risen, row_in, third_done}

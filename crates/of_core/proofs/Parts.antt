@@ -4,7 +4,7 @@ use Rattle.std.proofs.lemmas.List.{append_assoc, append-nil, length-append, get_
 use Rattle.of_core.specs.declared.place.Outcome.{Outcome}
 use Rattle.of_core.specs.Table.{Setup}
 use Rattle.of_core.specs.Steps.{word_found}
-use Rattle.of_core.specs.World.{Moment, TableStart, Batch, Read, step_batches, step_reads}
+use Rattle.of_core.specs.TableMoment.{Moment, TableStart, Batch, Read, step_batches, step_reads}
 use Rattle.of_core.specs.History.{batch_at}
 use Rattle.of_core.specs.Order.{no_read}
 use Rattle.of_core.specs.Events.{Event, Begins, Turns, Loads, Evicts, Raises, after_event, after_events, machine_in, IsSchedule}

@@ -3,10 +3,11 @@ use Rattle.std.proofs.Common.{◌≡◌, ℕ, zero, suc, ◌+◌, ◌-◌, ◌*�
 use Rattle.std.proofs.lemmas.List.{get_or_append_left, get_or_push, append-nil, take_more, length-replicate, get_or-replicate, get_or_past, get_or-drop, get_or-take, length-take, length-drop, length-take-le, drop_all, take_all, drop-append-le}
 use Rattle.std.proofs.lemmas.Bool.{cases_lt}
 use Rattle.std.proofs.lemmas.Bool.Decides.{nat_tests}
-use Rattle.of_wset.specs.Pairs as wset
+use Rattle.std.proofs.lemmas.Bool.{eq-eqb as same_test, ne_eqb as other_test}
+use Rattle.of_wset.specs.WriteSet as wset
 use Rattle.of_cell.specs.declared.word.TheConstants.{PAYLOADS}
-use Rattle.of_mem.specs.Pairs.{value_for, put_pair, put_all}
-use Rattle.of_mem.specs.Pad.{Part, newest_at, write}
+use Rattle.of_mem.specs.CellMap.{value_for, put_pair, put_all}
+use Rattle.of_mem.specs.Part.{Part, newest_at, write}
 use Rattle.of_mem.specs.Meaning.{Meaning, IsSoundMeaning, Agrees, HasDistinctCells, WalkFits, WalkEnd, Needs, Gives, is_marked}
 use Rattle.of_core.specs.Table.{Setup, first_operation_cell, ticket_cell}
 use Rattle.of_mem.specs.declared.work.TheConstants.{MOST_INSTRS}
@@ -15,12 +16,6 @@ use Rattle.of_core.specs.declared.place.Place.{Place}
 use Rattle.of_core.specs.Machine.{CallState, flat_entries, log_words, entries_of_words, log_of, own_cells, cells_from, entries_going_round}
 use Rattle.of_core.specs.Steps.{after_read_run, first_marked_place}
 use Rattle.of_core.proofs.Logs.{whole_log, once_append}
-
-same_test : (a b : ℕ) → a ≡ b → (a == b) ≡ true
-same_test a b e = grind (arith, nat_tests)
-
-other_test : (a b : ℕ) → (a ≡ b → ⊥) → (a == b) ≡ false
-other_test a b e = grind (arith, nat_tests)
 
 -- a write-set's put
 pub wset_put : (ds : List (ℕ × ℕ)) (a v : ℕ) → wset.put ds a v ≡ put_pair ds a v

@@ -12,13 +12,13 @@ use Rattle.of_core.specs.declared.place.Place.TheVariants.{RaiseOld, StoreLog, R
 use Rattle.of_core.specs.Table.{Setup, request_at, data_at, log_at, first_operation_cell, durable_at, current_word, request_of, data_word, log_word_of, durable_word, durable_request, durable_cell, durable_log, committed_seq, committed_owner, durable_seq}
 use Rattle.of_core.specs.Machine.{CallState, log_entry, log_words}
 use Rattle.of_core.specs.Steps.{after_raise_log, next_entry, after_raise_current, after_raise_closed, take_word_at}
-use Rattle.of_core.specs.World.{Read, Moment, Batch, TableStart, after_counted_step}
+use Rattle.of_core.specs.TableMoment.{Read, Moment, Batch, TableStart, after_counted_step}
 use Rattle.of_core.specs.History.{batch_at}
-use Rattle.of_core.specs.Shared.{IsRequest, IsLogWord, WordsMatchHistory, WasHeldByCell}
+use Rattle.of_core.specs.WordsMatch.{IsRequest, IsLogWord, WordsMatchHistory, WasHeldByCell}
 use Rattle.of_core.specs.Rounds.{MayHelp, KnowsOwnRequest, IsAnnounced, IsInRound, IsPastOwnTicket, HasNothingUnderWay}
 use Rattle.of_core.specs.Transaction.{IsApplying, AppliesAs, IsStoringLog}
 use Rattle.of_core.specs.Invariant.{HoldsAtPlace, MeetsCore, IsLoaded}
-use Rattle.of_core.specs.Moves.{KeepsGuarantee, Guarantees}
+use Rattle.of_core.specs.Guarantees.{KeepsGuarantee, Guarantees}
 use Rattle.of_core.proofs.Logs.{length-log_words}
 use Rattle.of_core.proofs.Raises.{vs, behind, table, here, rises, low, current_same, req_same, cell_same, log_same, raise_shared}
 use Rattle.of_core.proofs.Assembling.{assemble_read}

@@ -6,9 +6,9 @@ use Rattle.of_cell.specs.Words.{pack, seq_of, payload_of}
 use Rattle.of_cell.proofs.Order.{word_eta, seq_mono, seq_less}
 use Rattle.of_core.specs.Table.{Setup, cell_count, durable_at, script_word_at, request_at, log_at, script_word, current_word, request_of, data_word, log_word_of, durable_word, durable_request, durable_cell, durable_log, committed_seq, committed_owner, durable_seq}
 use Rattle.of_core.specs.Machine.{log_words}
-use Rattle.of_core.specs.World.{Batch, TableStart}
+use Rattle.of_core.specs.TableMoment.{Batch, TableStart}
 use Rattle.of_core.specs.History.{batch_at, data_word_after}
-use Rattle.of_core.specs.Shared.{WordsHaveTheirKind, IsRequest, IsLogWord, WordsMatchHistory, IsLastOpen, DurableWordsMatch, WasHeldByCell, IsLog}
+use Rattle.of_core.specs.WordsMatch.{WordsHaveTheirKind, IsRequest, IsLogWord, WordsMatchHistory, IsLastOpen, DurableWordsMatch, WasHeldByCell, IsLog}
 use Rattle.of_core.specs.Invariant.{WasHeldByCurrent, IsLoaded}
 use Rattle.of_core.proofs.States.{later, old}
 use Rattle.of_core.proofs.Logs.{room_for, length-log_words}

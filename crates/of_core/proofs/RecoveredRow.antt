@@ -10,9 +10,9 @@ use Rattle.of_recover.proofs.Rows.{length-recovered}
 use Rattle.of_recover.proofs.Kept.{data_at, others_kept, recovered_twice}
 use Rattle.of_recover.proofs.Agreeing.{recovered_data-same}
 use Rattle.of_core.specs.Table.{Setup, cell_count, durable_word, durable_seq}
-use Rattle.of_core.specs.World.{Moment, TableStart}
+use Rattle.of_core.specs.TableMoment.{Moment, TableStart}
 use Rattle.of_core.specs.History.{state_after}
-use Rattle.of_core.specs.Shared.{MayStart}
+use Rattle.of_core.specs.WordsMatch.{MayStart}
 use Rattle.of_core.specs.Invariant.{MeetsInvariant}
 use Rattle.of_core.specs.Claim.{IsSound}
 use Rattle.of_core.specs.Starts.{start_from_durable, IsStartRow, IsDurable, recovered_start}

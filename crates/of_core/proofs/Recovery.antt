@@ -10,9 +10,9 @@ use Rattle.of_recover.specs.Log.{owner_log_word, entry_count, log_entry_value, e
 use Rattle.of_recover.specs.Recovered.{replayed_data, recovered_data}
 use Rattle.of_core.specs.Table.{Setup, request_at, request_of, durable_word, durable_request, durable_cell, committed_seq, committed_owner, durable_seq}
 use Rattle.of_core.specs.Machine.{log_words}
-use Rattle.of_core.specs.World.{Moment, TableStart}
+use Rattle.of_core.specs.TableMoment.{Moment, TableStart}
 use Rattle.of_core.specs.History.{batch_at, data_word_after}
-use Rattle.of_core.specs.Shared.{IsLastOpen, IsLog}
+use Rattle.of_core.specs.WordsMatch.{IsLastOpen, IsLog}
 use Rattle.of_core.specs.Invariant.{MeetsCore}
 use Rattle.of_core.proofs.States.{old, named_at, unnamed}
 use Rattle.of_core.proofs.Logs.{length-log_words, words_at}

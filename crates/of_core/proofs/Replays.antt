@@ -5,7 +5,7 @@ use Rattle.of_cell.specs.Words.{payload_of}
 use Rattle.of_mem.specs.Meaning.{IsSoundMeaning, SameFrom}
 use Rattle.of_core.specs.Table.{Setup, first_operation_cell}
 use Rattle.of_core.specs.Machine.{Call}
-use Rattle.of_core.specs.World.{Moment, TableStart, Batch}
+use Rattle.of_core.specs.TableMoment.{Moment, TableStart, Batch}
 use Rattle.of_core.specs.History.{state_after, batch_at, no_batch, numbers_after_calls, CallsHaveReplies, numbers_after, numbers_after_batches, IsLegalHistory}
 use Rattle.of_core.specs.Invariant.{MeetsCore}
 use Rattle.of_core.proofs.States.{state_length, state_start, batch_is}

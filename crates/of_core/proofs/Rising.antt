@@ -10,9 +10,9 @@ use Rattle.of_core.specs.declared.place.Place.TheVariants.{StoreScript, StoreAnn
 use Rattle.of_core.specs.Table.{Setup, first_operation_cell, durable_at, script_word_at, request_at, data_at, log_at, data_word, committed_seq}
 use Rattle.of_core.specs.Machine.{CallState, log_entry, no_machine}
 use Rattle.of_core.specs.Steps.{want, want_at, word_of, words_after, word_found}
-use Rattle.of_core.specs.World.{Moment, TableStart}
+use Rattle.of_core.specs.TableMoment.{Moment, TableStart}
 use Rattle.of_core.specs.Invariant.{HoldsAtPlace, MeetsCore, MeetsInvariant}
-use Rattle.of_core.specs.Moves.{Guarantees}
+use Rattle.of_core.specs.Guarantees.{Guarantees}
 use Rattle.of_core.specs.Events.{Event, Begins, Turns, Loads, Evicts, Raises, machine_in, after_event, MayHappen, after_events, IsSchedule}
 use Rattle.of_core.proofs.Found.{found_now}
 use Rattle.of_core.proofs.Durables.{owner_in, entry_in}

@@ -9,12 +9,12 @@ use Rattle.of_core.specs.declared.place.Place.TheVariants.{Idle, LoadCurrent, Lo
 use Rattle.of_core.specs.Table.{Setup, announcement_of, current_word, request_of, data_word, committed_seq, committed_owner, durable_seq}
 use Rattle.of_core.specs.Machine.{CallState, no_cell_known, with_cell_known}
 use Rattle.of_core.specs.Steps.{after_load_request, enter, is_request_open, take_word_at, next_round, first_round_seq}
-use Rattle.of_core.specs.World.{Moment, TableStart, after_counted_step}
+use Rattle.of_core.specs.TableMoment.{Moment, TableStart, after_counted_step}
 use Rattle.of_core.specs.History.{batch_at, data_word_after, IsCellOfCaller, last_ticket_by, numbers_after}
-use Rattle.of_core.specs.Shared.{IsLastOpen}
+use Rattle.of_core.specs.WordsMatch.{IsLastOpen}
 use Rattle.of_core.specs.Rounds.{WasCurrent, IsAnnounced, IsInRound, IsPastRequest, IsPastOwnTicket, HasNothingUnderWay}
 use Rattle.of_core.specs.Invariant.{HoldsAtPlace, MeetsCore}
-use Rattle.of_core.specs.Moves.{KeepsGuarantee}
+use Rattle.of_core.specs.Guarantees.{KeepsGuarantee}
 use Rattle.of_core.proofs.States.{later, old}
 use Rattle.of_core.proofs.Logs.{room_for}
 use Rattle.of_core.proofs.Tickets.{tickets_grow, row_old}

@@ -9,18 +9,18 @@ use Rattle.of_cell.specs.Words.{pack, seq_of, payload_of}
 use Rattle.of_cell.proofs.Order.{seq_word, pay_word, word_eta}
 use Rattle.of_mem.specs.Meaning.{WalkEnd, Needs, Gives, WalkFits, IsFinishedWalk, IsSoundMeaning, with_writes_in}
 use Rattle.of_mem.specs.declared.work.RawReply.{RawReply}
-use Rattle.of_mem.specs.Pairs.{put_all}
-use Rattle.of_mem.specs.Pad.{overlaid}
+use Rattle.of_mem.specs.CellMap.{put_all}
+use Rattle.of_mem.specs.Part.{overlaid}
 use Rattle.of_core.specs.declared.place.Place.TheVariants.{LoadAnnouncement, LoadTicket, LoadScript, LoadCell}
 use Rattle.of_core.specs.Table.{Setup, data_at, script_word_at, ticket_cell, first_operation_cell, script_words_of, script_word, announcement_of, data_word, committed_seq}
 use Rattle.of_core.specs.Machine.{CallState, Call, with_cell_known, own_cells, no_call}
 use Rattle.of_core.specs.Steps.{after_script_run, after_load_cell, take_word_at, next_scanned_caller, with_call_run, call_as_run, own_reply_or, weigh, after_announcement, after_load_ticket, with_script_word, run_script, after_load_script}
-use Rattle.of_core.specs.World.{Moment, TableStart, after_counted_step}
+use Rattle.of_core.specs.TableMoment.{Moment, TableStart, after_counted_step}
 use Rattle.of_core.specs.History.{state_after, batch_at, CallersRise, last_ticket_by, numbers_after}
 use Rattle.of_core.specs.Rounds.{IsAnnounced, IsPastOwnTicket, HasNothingUnderWay}
 use Rattle.of_core.specs.Scan.{HasScannedUpTo, IsInScan, HasLoadedAnnouncement, HasLoadedScript, WasTakenByScan, IsAnnouncedCall}
 use Rattle.of_core.specs.Invariant.{HoldsAtPlace, MeetsCore}
-use Rattle.of_core.specs.Moves.{KeepsGuarantee}
+use Rattle.of_core.specs.Guarantees.{KeepsGuarantee}
 use Rattle.of_core.proofs.States.{state_length}
 use Rattle.of_core.proofs.Logs.{room_for}
 use Rattle.of_core.proofs.Overlays.{extended, walk_fits, over_unknown}

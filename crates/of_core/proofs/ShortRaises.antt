@@ -9,9 +9,9 @@ use Rattle.of_core.specs.declared.place.Op.TheVariants.{Raise}
 use Rattle.of_core.specs.Table.{Setup, first_operation_cell, cell_count, durable_at, durable_word}
 use Rattle.of_core.specs.Machine.{CallState, no_machine}
 use Rattle.of_core.specs.Steps.{want, word_found, words_after}
-use Rattle.of_core.specs.World.{Moment, TableStart, after_step}
+use Rattle.of_core.specs.TableMoment.{Moment, TableStart, after_step}
 use Rattle.of_core.specs.Invariant.{MeetsInvariant, IsLoaded}
-use Rattle.of_core.specs.Moves.{Guarantees}
+use Rattle.of_core.specs.Guarantees.{Guarantees}
 use Rattle.of_core.specs.Events.{Event, Begins, Turns, Loads, Evicts, Raises, one_if, after_raise, machine_in, after_event, MayHappen, after_events, IsSchedule}
 use Rattle.of_core.specs.Raised.{goes_round, lower_changes, is_pending, pending_among, pending}
 use Rattle.of_core.proofs.Found.{found_now}

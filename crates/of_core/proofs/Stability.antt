@@ -12,14 +12,14 @@ use Rattle.of_core.specs.declared.place.Outcome.{Outcome}
 use Rattle.of_core.specs.declared.place.Outcome.TheVariants.{Answered, Spent}
 use Rattle.of_core.specs.Table.{Setup, cell_count, request_at, data_at, log_at, script_words_of, script_word, announcement_of, current_word, request_of, data_word, log_word_of, durable_word, durable_request, durable_cell, committed_seq, committed_owner, durable_seq}
 use Rattle.of_core.specs.Machine.{CallState, Call, log_entry, log_words}
-use Rattle.of_core.specs.World.{Batch, TableStart}
+use Rattle.of_core.specs.TableMoment.{Batch, TableStart}
 use Rattle.of_core.specs.History.{state_after, batch_at, last_ticket_by, ticket_in_state}
-use Rattle.of_core.specs.Shared.{AnnouncementsAreServed, WordsHaveTheirKind, IsRequest, IsLogWord, WordsMatchHistory, WasHeldByCell}
+use Rattle.of_core.specs.WordsMatch.{AnnouncementsAreServed, WordsHaveTheirKind, IsRequest, IsLogWord, WordsMatchHistory, WasHeldByCell}
 use Rattle.of_core.specs.Rounds.{WasCurrent, IsInTry, MayHelp, KnowsClosedState, IsAnnounced, IsUnannounced, IsInRound, IsPastRequest, IsPastOwnTicket, HasOneOperation, AnnouncesNothingNew, HasNothingUnderWay}
 use Rattle.of_core.specs.Scan.{HasScannedUpTo, HasLoadedAnnouncement, HasLoadedScript, WasTakenByScan, IsAnnouncedCall}
 use Rattle.of_core.specs.Transaction.{IsApplying, AppliesAs, OwnsTransaction, IsStoringLog, IsCopyingLog, HasStoredLog, HasClosedDurably}
 use Rattle.of_core.specs.Invariant.{LastOutcomeStands, HoldsAtPlace, WasHeldByCurrent, IsLoaded}
-use Rattle.of_core.specs.Moves.{Guarantees}
+use Rattle.of_core.specs.Guarantees.{Guarantees}
 use Rattle.of_core.proofs.Logs.{length-log_words, room_for}
 
 -- a batch's owner has a request of at least its sequence

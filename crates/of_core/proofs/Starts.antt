@@ -9,8 +9,8 @@ use Rattle.of_cell.specs.Cells.{data_cell, durable_cells}
 use Rattle.of_cell.proofs.Order.{seq_word, pay_word, seq_zero, pay_zero, word_eta}
 use Rattle.of_mem.specs.Meaning.{IsSoundMeaning}
 use Rattle.of_core.specs.Table.{Setup, first_operation_cell, cell_count, durable_at, ticket_cell}
-use Rattle.of_core.specs.World.{TableStart}
-use Rattle.of_core.specs.Shared.{IsStart, MayStart}
+use Rattle.of_core.specs.TableMoment.{TableStart}
+use Rattle.of_core.specs.WordsMatch.{IsStart, MayStart}
 use Rattle.of_core.specs.Events.{zero_start, start_ticket}
 use Rattle.of_core.specs.Laws.{HoldsStart}
 use Rattle.of_core.specs.Starts.{closed_request, first_cells, first_words, start_from_durable}

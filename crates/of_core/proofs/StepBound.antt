@@ -5,13 +5,13 @@ use Rattle.std.proofs.lemmas.Bool.Decides.{nat_tests}
 use Rattle.of_core.specs.declared.machine.trying.TheConstants.{MOST_TRIES}
 use Rattle.of_cell.specs.Words.{pack, seq_of, payload_of}
 use Rattle.of_mem.specs.Meaning.{WalkEnd, Needs, Gives}
-use Rattle.of_mem.specs.Pad.{overlaid}
+use Rattle.of_mem.specs.Part.{overlaid}
 use Rattle.of_core.specs.declared.place.Place.{Place}
 use Rattle.of_core.specs.declared.place.Place.TheVariants.{Idle, TryCurrent, TryRequest, TryCell, StoreScript, StoreAnnouncement, LoadCurrent, LoadRequest, CopyLog, LookAgain, LoadOwnTicket, LoadShape, LoadReply, LoadAnnouncement, LoadTicket, LoadScript, LoadCell, RaiseOld, StoreLog, RaiseLog, StoreRequest, RaiseRequest, ExchangeCurrent, RaiseCurrent, LoadTarget, ExchangeTarget, ReloadTarget, RaiseTarget, CloseRequest, RaiseClosed}
 use Rattle.of_core.specs.Table.{Setup, ticket_cell, shape_cell, reply_cell, data_word}
 use Rattle.of_core.specs.Machine.{CallState, no_cell_known, with_cell_known, log_words, begin_call, first_place}
 use Rattle.of_core.specs.Steps.{read_on, after_read_run, begin_reading, resume, after_try_request, end_try, after_try_cell, want_at, word_of, take_word_at, with_step_counted, after_store_script, after_load_request, after_copy_log, after_look_again, after_own_ticket, after_load_shape, with_shape, after_load_reply, with_reply, next_reply_place, first_marked_place, after_announcement, weigh, after_load_ticket, after_load_script, with_script_word, after_script_run, next_scanned_caller, with_call_run, after_load_cell, after_raise_log, after_commit_exchange, after_raise_current, after_load_target, next_entry, after_raise_closed, is_request_open, with_log_word_copied}
-use Rattle.of_core.specs.World.{Moment, TableStart}
+use Rattle.of_core.specs.TableMoment.{Moment, TableStart}
 use Rattle.of_core.specs.Transaction.{IsApplying}
 use Rattle.of_core.specs.Invariant.{HoldsAtPlace, MeetsCore}
 use Rattle.of_core.specs.Bound.{bound, unknown_cell_count, steps_to_apply, round_steps_after_help, lost_round_steps, steps_left_in_rounds, steps_left_after_apply, steps_left_after_help, steps_left_in_tries, steps_left_announced, steps_left_in_scan, MachineIsWithinBound}
@@ -194,11 +194,11 @@ module _ (S : Setup) where
         less s u v r l e h = omega arith
 
         over : (b : Bool) → MachineIsWithinBound S (end_try now b) (end_try now b).place
-        overlaid true = record { told = λ q. cc; steps = again m.steps (unknown_cell_count m.known) (unknown_cell_count (with_cell_known S m x found)) (steps_left_in_tries S m) (bound S) one t.steps }
-        overlaid false = record { told = λ q. cc; steps = aloud m.steps (unknown_cell_count m.known) (unknown_cell_count (with_cell_known S m x found)) ((MOST_TRIES - m.tries) * (7 * S.cells + 7)) S.instrs (3 * lost_round_steps S + steps_to_apply S) (bound S) one t.steps }
+        over true = record { told = λ q. cc; steps = again m.steps (unknown_cell_count m.known) (unknown_cell_count (with_cell_known S m x found)) (steps_left_in_tries S m) (bound S) one t.steps }
+        over false = record { told = λ q. cc; steps = aloud m.steps (unknown_cell_count m.known) (unknown_cell_count (with_cell_known S m x found)) ((MOST_TRIES - m.tries) * (7 * S.cells + 7)) S.instrs (3 * lost_round_steps S + steps_to_apply S) (bound S) one t.steps }
 
         go : (b : Bool) → MachineIsWithinBound S (after_try_cell S now x found b) (after_try_cell S now x found b).place
-        go true = overlaid (nat_lt m.tries MOST_TRIES)
+        go true = over (nat_lt m.tries MOST_TRIES)
         go false = reads_within (record now { known = with_cell_known S m x found }) (less m.steps (unknown_cell_count m.known) (unknown_cell_count (with_cell_known S m x found)) (steps_left_in_tries S m) (bound S) one t.steps)
     within (StoreScript j) a t e = go (nat_lt (j + 1) (length m.op))
       where

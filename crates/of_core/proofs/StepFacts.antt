@@ -4,13 +4,13 @@ use Rattle.std.proofs.lemmas.Bool.Decides.{nat_tests}
 use Rattle.of_core.specs.declared.machine.trying.TheConstants.{MOST_TRIES}
 use Rattle.of_cell.specs.Words.{pack, seq_of, payload_of}
 use Rattle.of_mem.specs.Meaning.{WalkEnd, Needs, Gives}
-use Rattle.of_mem.specs.Pad.{overlaid}
+use Rattle.of_mem.specs.Part.{overlaid}
 use Rattle.of_core.specs.declared.place.Place.{Place}
 use Rattle.of_core.specs.declared.place.Place.TheVariants.{Idle, TryCurrent, TryRequest, TryCell, StoreScript, StoreAnnouncement, LoadCurrent, LoadRequest, CopyLog, LookAgain, LoadOwnTicket, LoadShape, LoadReply, LoadAnnouncement, LoadTicket, LoadScript, LoadCell, RaiseOld, StoreLog, RaiseLog, StoreRequest, RaiseRequest, ExchangeCurrent, RaiseCurrent, LoadTarget, ExchangeTarget, ReloadTarget, RaiseTarget, CloseRequest, RaiseClosed}
 use Rattle.of_core.specs.Table.{Setup, ticket_cell}
 use Rattle.of_core.specs.Machine.{CallState, IsOpen, no_cell_known, with_cell_known, log_words}
 use Rattle.of_core.specs.Steps.{after_read_run, resume, after_try_request, end_try, after_try_cell, after_load_request, after_copy_log, after_look_again, after_own_ticket, after_load_shape, after_load_reply, after_announcement, after_load_ticket, after_load_script, after_load_cell, after_raise_log, after_commit_exchange, after_raise_current, after_load_target, next_entry, after_raise_closed, after_store_script, after_script_run, weigh, next_scanned_caller, with_call_run, next_reply_place, with_shape, with_reply, with_log_word_copied, with_script_word, first_marked_place, is_request_open, take_word_at, with_step_counted}
-use Rattle.of_core.specs.World.{Moment, Batch, TableStart, step_batches_at, one_batch}
+use Rattle.of_core.specs.TableMoment.{Moment, Batch, TableStart, step_batches_at, one_batch}
 use Rattle.of_core.specs.History.{state_after}
 use Rattle.of_core.specs.Rounds.{FindsOwnTicket, IsPastRequest}
 use Rattle.of_core.specs.Order.{HasBegunTry}
@@ -103,11 +103,11 @@ module _ (S : Setup) (Lawful : List ℕ → Type 0) (B : TableStart) (w : Moment
   step_facts (TryCell x) o a = go (nat_lt m.seq (seq_of n))
     where
       over : (b : Bool) → IsStepAtPlace S m n (TryCell x) (end_try now b) []
-      overlaid true = on (TryCell x) (end_try now true) refl refl refl refl (omega arith) (λ q. absurd q) (refl, refl)
-      overlaid false = on (TryCell x) (end_try now false) refl refl refl refl (omega arith) (λ q. absurd q) (refl, refl)
+      over true = on (TryCell x) (end_try now true) refl refl refl refl (omega arith) (λ q. absurd q) (refl, refl)
+      over false = on (TryCell x) (end_try now false) refl refl refl refl (omega arith) (λ q. absurd q) (refl, refl)
 
       go : (b : Bool) → IsStepAtPlace S m n (TryCell x) (after_try_cell S now x n b) []
-      go true = overlaid (nat_lt m.tries MOST_TRIES)
+      go true = over (nat_lt m.tries MOST_TRIES)
       go false = read_facts (TryCell x) refl (omega arith) tt (record now { known = with_cell_known S m x n }) refl refl refl refl refl refl (S.meaning.walk (with_cell_known S m x n) m.op)
   step_facts (StoreScript j) o a = go (nat_lt (j + 1) (length m.op))
     where

@@ -8,9 +8,9 @@ use Rattle.of_core.specs.declared.place.Place.TheVariants.{Idle, TryCurrent, Try
 use Rattle.of_core.specs.Table.{Setup, first_operation_cell}
 use Rattle.of_core.specs.Machine.{CallState}
 use Rattle.of_core.specs.Steps.{want, want_at, word_of, take_word_at, with_step_counted, IsFoundBy}
-use Rattle.of_core.specs.World.{Moment, TableStart, Batch, after_step, after_step_at, step_reads_at, step_batches_at}
+use Rattle.of_core.specs.TableMoment.{Moment, TableStart, Batch, after_step, after_step_at, step_reads_at, step_batches_at}
 use Rattle.of_core.specs.Invariant.{MeetsInvariant, MeetsCore, HoldsAtPlace, IsLoaded}
-use Rattle.of_core.specs.Moves.{KeepsGuarantee, Guarantees}
+use Rattle.of_core.specs.Guarantees.{KeepsGuarantee, Guarantees}
 use Rattle.of_core.specs.Bound.{MachineIsWithinBound}
 use Rattle.of_core.specs.Least.{HasMadeLeastSteps}
 use Rattle.of_core.specs.Machine.{is_idle}

@@ -10,7 +10,7 @@ use Rattle.of_core.specs.declared.place.Outcome.TheVariants.{Answered, Spent}
 use Rattle.of_core.specs.Table.{Setup, committed_seq}
 use Rattle.of_core.specs.Machine.{CallState, IsOpen, is_idle, begin_call, first_place}
 use Rattle.of_core.specs.Steps.{want, want_at, take_word, take_word_at, with_step_counted, IsFoundBy}
-use Rattle.of_core.specs.World.{Moment, TableStart, Batch, Read, step_batches, step_reads, step_reads_if, step_reads_at, read_of, step_batches_at}
+use Rattle.of_core.specs.TableMoment.{Moment, TableStart, Batch, Read, step_batches, step_reads, step_reads_if, step_reads_at, read_of, step_batches_at}
 use Rattle.of_core.specs.Order.{HasBegunTry}
 use Rattle.of_core.specs.Facts.{IsStepAtPlace, IsStep, CountsStepOrEnds, LastStepTells, TellsOutcome, ReadsFrom, loads_current, rests_on_seq, loads_current_at, rests_on_seq_at}
 use Rattle.of_core.specs.Invariant.{HoldsAtPlace, MeetsInvariant}

@@ -2,17 +2,9 @@
 use Rattle.std.proofs.Common.{◌≡◌, ℕ, zero, suc, ◌+◌, ◌<◌, ◌≤◌, ◌⊎◌, ◌==◌, inl, inr, refl, sym, ◌∙◌, ap, arith, Some, None, Bool, true, false, nat_lt, if◌then◌else◌}
 use Rattle.std.proofs.lemmas.Bool.{cases_eq}
 use Rattle.std.proofs.lemmas.Bool.Decides.{nat_tests}
+pub use Rattle.std.proofs.lemmas.Bool.{eqb-false as differ, ltb-true as is_newer, ltb-false as not_newer}
 use Rattle.of_mem.specs.Meaning.{is_marked}
 use Rattle.of_core.specs.Steps.{first_marked_place}
-
-pub differ : (x y : ℕ) → (x == y) ≡ false → x ≡ y → ⊥
-differ x y e q = grind (arith, nat_tests)
-
-pub is_newer : (x y : ℕ) → nat_lt x y ≡ true → x < y
-is_newer x y e = grind (arith, nat_tests)
-
-pub not_newer : (x y : ℕ) → nat_lt x y ≡ false → y ≤ x
-not_newer x y e = grind (arith, nat_tests)
 
 pub same_number : (i : ℕ) → (i == i) ≡ true
 same_number i = go (i == i) refl

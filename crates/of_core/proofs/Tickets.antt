@@ -5,9 +5,9 @@ use Rattle.std.proofs.lemmas.Bool.{cases_lt}
 use Rattle.of_cell.specs.Words.{seq_of}
 use Rattle.of_core.specs.Table.{Setup, first_operation_cell}
 use Rattle.of_core.specs.Machine.{Call, no_call}
-use Rattle.of_core.specs.World.{Batch, TableStart}
+use Rattle.of_core.specs.TableMoment.{Batch, TableStart}
 use Rattle.of_core.specs.History.{batch_at, data_word_after, OwnCellsShowLast, IsNewestCall, IsCellOfCaller, last_ticket_by}
-use Rattle.of_core.specs.Shared.{StatesFollowBatches, IsLog, IsStart}
+use Rattle.of_core.specs.WordsMatch.{StatesFollowBatches, IsLog, IsStart}
 use Rattle.of_core.proofs.States.{old}
 use Rattle.of_core.proofs.Logs.{room_for}
 

@@ -10,12 +10,12 @@ use Rattle.of_core.specs.declared.place.Place.TheVariants.{TryCurrent, TryReques
 use Rattle.of_core.specs.Table.{Setup, data_at, first_operation_cell, current_word, request_of, data_word, committed_seq, committed_owner, durable_seq}
 use Rattle.of_core.specs.Machine.{CallState, no_cell_known, with_cell_known}
 use Rattle.of_core.specs.Steps.{read_on, after_read_run, begin_reading, resume, after_try_request, end_try, after_try_cell, is_request_open, take_word_at}
-use Rattle.of_core.specs.World.{Moment, TableStart, after_counted_step}
+use Rattle.of_core.specs.TableMoment.{Moment, TableStart, after_counted_step}
 use Rattle.of_core.specs.History.{state_after, data_word_after, numbers_after}
-use Rattle.of_core.specs.Shared.{IsLastOpen}
+use Rattle.of_core.specs.WordsMatch.{IsLastOpen}
 use Rattle.of_core.specs.Rounds.{WasCurrent, IsInTry, MayHelp, KnowsClosedState, HasNothingUnderWay}
 use Rattle.of_core.specs.Invariant.{HoldsAtPlace, MeetsCore}
-use Rattle.of_core.specs.Moves.{KeepsGuarantee}
+use Rattle.of_core.specs.Guarantees.{KeepsGuarantee}
 use Rattle.of_core.proofs.States.{state_length, later}
 use Rattle.of_core.proofs.Alike.{calm_more, fresh_as, trying_as}
 use Rattle.of_core.proofs.Assembling.{assemble_read, logs_of, number_at, same_batches, same_words}

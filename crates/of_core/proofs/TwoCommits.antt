@@ -7,11 +7,11 @@ use Rattle.of_mem.specs.Meaning.{IsSoundMeaning}
 use Rattle.of_core.specs.Table.{Setup, first_operation_cell, cell_count, durable_at, ticket_cell, announcement_of, script_word_at, script_word}
 use Rattle.of_core.specs.Machine.{no_call}
 use Rattle.of_core.specs.Steps.{word_found}
-use Rattle.of_core.specs.World.{Moment, TableStart, Batch, after_step}
+use Rattle.of_core.specs.TableMoment.{Moment, TableStart, Batch, after_step}
 use Rattle.of_core.specs.History.{batch_at, last_ticket_by, OwnCellsShowLast}
 use Rattle.of_core.specs.Rounds.{AnnouncesNothingNew}
 use Rattle.of_core.specs.Invariant.{MeetsInvariant}
-use Rattle.of_core.specs.Moves.{Guarantees}
+use Rattle.of_core.specs.Guarantees.{Guarantees}
 use Rattle.of_core.specs.Events.{Event, Begins, Turns, Loads, Evicts, Raises, after_event, machine_in, after_events, after_raise, MayHappen, IsSchedule, start_ticket}
 use Rattle.of_core.specs.Commits.{BatchHasCall}
 use Rattle.of_core.proofs.States.{state_start, later}

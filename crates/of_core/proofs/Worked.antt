@@ -6,7 +6,7 @@ use Rattle.of_core.specs.declared.place.Place.TheVariants.{LoadCurrent, RaiseClo
 use Rattle.of_core.specs.declared.place.Outcome.TheVariants.{Answered, Spent}
 use Rattle.of_core.specs.Table.{current_word, data_word}
 use Rattle.of_core.specs.Steps.{want, take_word}
-use Rattle.of_core.specs.World.{TableStart, step_batches, step_reads}
+use Rattle.of_core.specs.TableMoment.{TableStart, step_batches, step_reads}
 use Rattle.of_core.specs.History.{state_after, no_batch}
 use Rattle.of_core.specs.Events.{machine_in, turn_count, zero_start}
 use Rattle.of_core.specs.Starts.{first_cells, first_words, recovered_start}

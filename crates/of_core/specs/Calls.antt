@@ -10,7 +10,7 @@ use Rattle.of_core.specs.declared.place.Outcome.{Outcome}
 use Rattle.of_core.specs.declared.place.Outcome.TheVariants.{Answered, Spent}
 use Rattle.of_core.specs.Table.{Setup, durable_seq}
 use Rattle.of_core.specs.Machine.{Call, CallState, IsOpen}
-use Rattle.of_core.specs.World.{Moment, TableStart, Read}
+use Rattle.of_core.specs.TableMoment.{Moment, TableStart, Read}
 use Rattle.of_core.specs.History.{batch_at, EachCall, IsOlderCall, HasCall}
 use Rattle.of_core.specs.Order.{no_read}
 use Rattle.of_core.specs.Facts.{ReadsFrom}
@@ -73,7 +73,8 @@ TurnFindsOpenCall w (Raises c) i = Unit {0}
 -- every turn of caller i comes while a call of it is open
 abbrev pub TurnsFindOpenCalls : Setup → Moment → List Event → ℕ → Type 0
 TurnsFindOpenCalls S w [] i = Unit {0}
-TurnsFindOpenCalls S w (e ∷ es) i = TurnFindsOpenCall w e i × TurnsFindOpenCalls S (after_event S w e) es i
+TurnsFindOpenCalls S w (e ∷ es) i =
+    TurnFindsOpenCall w e i × TurnsFindOpenCalls S (after_event S w e) es i
 
 -- the steps that an outcome tells; a spent one tells none
 abbrev pub outcome_steps : Outcome → ℕ
@@ -129,9 +130,11 @@ HasRead rs i ticket op raw s = (k : ℕ) × (k < length rs)
 -- what a moment says of the outcome of the call of caller i with this ticket and operation: a
 -- batch, or a read, has it, and it has made as many steps as such a call makes; or the sequence is
 -- spent, and no batch has it
-abbrev pub OutcomeStands : Setup → TableStart → Moment → (i ticket : ℕ) → (op : List ℕ) → Outcome → Type 0
+abbrev pub OutcomeStands : Setup → TableStart → Moment → (i ticket : ℕ) → (op : List ℕ) → Outcome
+    → Type 0
 OutcomeStands S B w i ticket op (Answered s true raw steps) =
-    (B.seq < s) × (s ≤ durable_seq S w.words) × HasCall S (batch_at B w.batches s).calls i ticket op raw
+    (B.seq < s) × (s ≤ durable_seq S w.words)
+    × HasCall S (batch_at B w.batches s).calls i ticket op raw
     × (least_call op ≤ steps) × (steps ≤ bound S)
 OutcomeStands S B w i ticket op (Answered s false raw steps) =
     (s ≤ durable_seq S w.words) × HasRead w.reads i ticket op raw s
@@ -183,9 +186,12 @@ pub record HasCalls (S : Setup) (B : TableStart) (before : ℕ) (w : Moment) (i 
 -- the turns of caller i among the events are the steps of its calls
 pub record TurnsAreTold (S : Setup) (w : Moment) (es : List Event) (i : ℕ) : Type 0 where
   -- no call tells a step that was no turn
-  pub few : total_steps (outcomes S w es i) + (machine_in (after_events S w es) i).steps ≤ turn_count i es
+  pub few : total_steps (outcomes S w es i) + (machine_in (after_events S w es) i).steps
+      ≤ turn_count i es
   -- and each turn of an open call is told
   pub exact : TurnsFindOpenCalls S w es i → NoneSpent (outcomes S w es i)
-      → total_steps (outcomes S w es i) + (machine_in (after_events S w es) i).steps ≡ turn_count i es
+      → total_steps (outcomes S w es i) + (machine_in (after_events S w es) i).steps
+      ≡ turn_count i es
   -- an open call has a step left
-  pub within : IsOpen (machine_in (after_events S w es) i).place → (machine_in (after_events S w es) i).steps < bound S
+  pub within : IsOpen (machine_in (after_events S w es) i).place
+      → (machine_in (after_events S w es) i).steps < bound S

@@ -12,9 +12,9 @@ use Rattle.of_core.specs.declared.place.Outcome.TheVariants.{Answered, Spent}
 use Rattle.std.specs.List.{All}
 use Rattle.of_core.specs.Table.{Setup, first_operation_cell, cell_count, request_at, data_at, log_at, durable_word, announcement_of, committed_seq, durable_seq}
 use Rattle.of_core.specs.Machine.{Call, CallState, IsOpen}
-use Rattle.of_core.specs.World.{Moment, TableStart, Batch, Read}
+use Rattle.of_core.specs.TableMoment.{Moment, TableStart, Batch, Read}
 use Rattle.of_core.specs.Order.{AreInCallOrder}
-use Rattle.of_core.specs.Shared.{WasHeldByCell, IsRequest, IsLogWord, DataCellsMatchState}
+use Rattle.of_core.specs.WordsMatch.{WasHeldByCell, IsRequest, IsLogWord, DataCellsMatchState}
 use Rattle.of_core.specs.Rounds.{FindsOwnTicket, HasReadReplyUpTo}
 use Rattle.of_core.specs.Invariant.{WasHeldByCurrent}
 use Rattle.of_core.specs.History.{state_after, batch_at, EachBatch, EachCall, IsOlderCall, data_word_after, numbers_after, numbers_after_batches, last_ticket_by, IsLegalHistory, OwnCellsShowLast, CallersRise, HasCall}
@@ -40,21 +40,24 @@ knows_state ExchangeCurrent = true
 knows_state p = false
 
 -- what was loaded of the own cells of caller i, of which its answer is read, is of the state
-abbrev pub OwnCellsAreOfState : Setup → (state_after : List ℕ) → (i : ℕ) → CallState → Place → Type 0
+abbrev pub OwnCellsAreOfState : Setup → (state_after : List ℕ) → (i : ℕ) → CallState → Place
+    → Type 0
 OwnCellsAreOfState S st i m LoadShape = FindsOwnTicket S st i m
 OwnCellsAreOfState S st i m (LoadReply j) = FindsOwnTicket S st i m × HasReadReplyUpTo S st i m j
 OwnCellsAreOfState S st i m p = Unit {0}
 
 -- a round or a try has used the cells of one state alone: what is known of cells, and what was
 -- loaded of the own ones
-pub record UsesOneState (S : Setup) (B : TableStart) (w : Moment) (i : ℕ) (m : CallState) : Type 0 where
+pub record UsesOneState (S : Setup) (B : TableStart) (w : Moment) (i : ℕ) (m : CallState)
+    : Type 0 where
   pub known : knows_state m.place ≡ true → Agrees m.known (numbers_after B w.batches m.seq)
   pub own : OwnCellsAreOfState S (state_after B w.batches m.seq) i m m.place
 
 -- A word that the cell c has held, as the history tells it: the current-transaction word names a
 -- batch and its owner, a request is open or closes a batch of its caller, a data word is of some
 -- state, and a log word of a batch's sequence is of that batch's log.
-pub record HasHeld (S : Setup) (B : TableStart) (ws : List ℕ) (bs : List Batch) (c v : ℕ) : Type 0 where
+pub record HasHeld (S : Setup) (B : TableStart) (ws : List ℕ) (bs : List Batch) (c v : ℕ)
+    : Type 0 where
   pub current : c ≡ 0 → WasHeldByCurrent B ws bs v
   pub request : (j : ℕ) → j < S.callers → c ≡ request_at j → IsRequest B ws bs j v
   pub data_word : (a : ℕ) → a < S.cells → c ≡ data_at S a → WasHeldByCell B ws bs a v
@@ -71,11 +74,13 @@ ReadIsLegal S B bs r = S.meaning.reply (numbers_by_replay S B bs (r.seq - B.seq)
 
 -- what the last answer of caller i says of the history: a read's is the meaning on the state at its
 -- sequence, a batch has an announced call, and a spent call is in no batch
-abbrev pub OutcomeIsInHistory : Setup → TableStart → Moment → ℕ → CallState → Option Outcome → Type 0
+abbrev pub OutcomeIsInHistory : Setup → TableStart → Moment → ℕ → CallState → Option Outcome
+    → Type 0
 OutcomeIsInHistory S B w i m None = Unit {0}
 OutcomeIsInHistory S B w i m (Some (Answered s false raw steps)) =
     (steps ≤ bound S) × (B.seq ≤ s) × (s ≤ durable_seq S w.words)
-    × (S.meaning.reply (numbers_after B w.batches s) m.op ≡ raw) × (S.meaning.reads_only m.op ≡ true)
+    × (S.meaning.reply (numbers_after B w.batches s) m.op ≡ raw)
+    × (S.meaning.reads_only m.op ≡ true)
 OutcomeIsInHistory S B w i m (Some (Answered s true raw steps)) =
     (steps ≤ bound S) × (B.seq < s) × (s ≤ durable_seq S w.words)
     × HasCall S (batch_at B w.batches s).calls i m.made m.op raw
@@ -105,7 +110,8 @@ pub record IsSound (S : Setup) (B : TableStart) (w : Moment) : Type 0 where
   -- apart from the callers' own cells the state behind each batch is what the calls up to it lead
   -- to
   pub state : (k : ℕ) → k ≤ length w.batches
-      → SameFrom (first_operation_cell S) (numbers_after B w.batches (B.seq + k)) (numbers_by_replay S B w.batches k)
+      → SameFrom (first_operation_cell S) (numbers_after B w.batches (B.seq + k))
+      (numbers_by_replay S B w.batches k)
   -- each call in a batch was begun by its caller
   pub begun : EachCall B w.batches (WasBegunByCaller S B w)
   -- no batch is empty, a batch's calls stand by caller, and each caller's tickets rise

@@ -11,7 +11,7 @@ use Rattle.of_core.specs.declared.place.Outcome.TheVariants.{Answered, Spent}
 use Rattle.of_core.specs.Table.{Setup, announcement_of}
 use Rattle.of_core.specs.Machine.{CallState, IsOpen, no_call}
 use Rattle.of_core.specs.Steps.{take_word}
-use Rattle.of_core.specs.World.{Moment, TableStart, Batch}
+use Rattle.of_core.specs.TableMoment.{Moment, TableStart, Batch}
 use Rattle.of_core.specs.History.{batch_at}
 use Rattle.of_core.specs.Invariant.{MeetsInvariant}
 use Rattle.of_core.specs.Events.{Event, after_events, opening_moment, start_ticket, IsSchedule, machine_in}
@@ -83,7 +83,8 @@ pub record HasLost (S : Setup) (m : CallState) (commits : ℕ) : Type 0 where
 -- there is none, a read ends in its first try, and any other call in its first round
 abbrev pub LostToCommits : Setup → (List ℕ → Type 0) → Type 0
 LostToCommits S Lawful =
-    (B : TableStart) (w : Moment) → MeetsInvariant S Lawful B w → (es : List Event) → IsSchedule S w es →
+    (B : TableStart) (w : Moment) → MeetsInvariant S Lawful B w → (es : List Event)
+    → IsSchedule S w es →
     let v : Moment = after_events S w es in
     (i : ℕ) → i < S.callers → IsIdle (machine_in w i) → IsOpen (machine_in v i).place
     → HasLost S (machine_in v i) (last_batch B v - last_batch B w)

@@ -7,7 +7,7 @@ use Rattle.of_cell.specs.Words.{payload_of}
 use Rattle.of_core.specs.Table.{Setup, cell_count, durable_at, ticket_cell}
 use Rattle.of_core.specs.Machine.{CallState, IsOpen, no_machine, idle_machine, begin_call}
 use Rattle.of_core.specs.Steps.{word_found}
-use Rattle.of_core.specs.World.{Moment, TableStart, after_step}
+use Rattle.of_core.specs.TableMoment.{Moment, TableStart, after_step}
 use Rattle.of_core.specs.Starts.{first_words}
 
 -- what may happen to a table
@@ -27,7 +27,9 @@ machine_in w i = get_or w.machines i no_machine
 
 -- the durable word of a cell is raised to a word
 abbrev pub after_raise : Setup → Moment → ℕ × ℕ → Moment
-after_raise S w e = record w { words = set w.words (durable_at S e.0) (max (get_or w.words (durable_at S e.0) 0) e.1) }
+after_raise S w e = record w {
+  words = set w.words (durable_at S e.0) (max (get_or w.words (durable_at S e.0) 0) e.1);
+}
 
 -- the machine m of caller i begins a call
 abbrev pub after_begin : Setup → ℕ → CallState → List ℕ → Moment → Moment
@@ -39,11 +41,15 @@ after_event S w (Begins i op) = after_begin S i (machine_in w i) op w
 after_event S w (Loads c) = record w { loaded = w.loaded ++ (c, get_or w.words c 0) ∷ [] }
 after_event S w (Evicts k) = after_raise S w (get_or w.loaded k (0, 0))
 after_event S w (Raises c) = after_raise S w (c, get_or w.words c 0)
-after_event S w (Turns i) = after_step S i (machine_in w i) (word_found S w.words (machine_in w i)) w
+after_event S w (Turns i) =
+    after_step S i (machine_in w i) (word_found S w.words (machine_in w i)) w
 
--- when an event may happen: a call begins where none of the caller's is open, with 1 to as many words as an operation may have
+-- when an event may happen: a call begins where none of the caller's is open, with 1 to as many
+-- words as an operation may have
 abbrev pub MayHappen : Setup → Moment → Event → Type 0
-MayHappen S w (Begins i op) = (i < S.callers) × ((machine_in w i).place ≡ Idle) × (1 ≤ length op) × (length op ≤ S.instrs) × ((machine_in w i).made + 1 < PAYLOADS)
+MayHappen S w (Begins i op) =
+    (i < S.callers) × ((machine_in w i).place ≡ Idle) × (1 ≤ length op) × (length op ≤ S.instrs)
+    × ((machine_in w i).made + 1 < PAYLOADS)
 MayHappen S w (Loads c) = c < cell_count S
 MayHappen S w (Evicts k) = k < length w.loaded
 MayHappen S w (Raises c) = c < cell_count S
@@ -75,7 +81,13 @@ idle_machines S made i (suc n) = idle_machine S i (made i) ∷ idle_machines S m
 
 -- a table of n words at its start, before anything has happened
 abbrev pub opening_moment : Setup → TableStart → ℕ → Moment
-opening_moment S B n = record { words = first_words S.callers S.cells B n; machines = idle_machines S (start_ticket S B) 0 S.callers; batches = []; reads = []; loaded = [] }
+opening_moment S B n = record {
+  words = first_words S.callers S.cells B n;
+  machines = idle_machines S (start_ticket S B) 0 S.callers;
+  batches = [];
+  reads = [];
+  loaded = [];
+}
 
 -- the start of a table of zeros
 abbrev pub zero_start : Setup → TableStart

@@ -9,7 +9,7 @@ use Rattle.of_core.specs.declared.place.Outcome.TheVariants.{Answered, Spent}
 use Rattle.of_core.specs.Table.{Setup}
 use Rattle.of_core.specs.Machine.{CallState, IsOpen, is_idle}
 use Rattle.of_mem.specs.declared.work.RawReply.{RawReply}
-use Rattle.of_core.specs.World.{Moment, TableStart, Batch, Read, step_reads}
+use Rattle.of_core.specs.TableMoment.{Moment, TableStart, Batch, Read, step_reads}
 use Rattle.of_core.specs.Order.{HasBegunTry}
 
 -- the step loads the current-transaction word
@@ -45,7 +45,8 @@ abbrev pub CountsStep : Setup → CallState → Place → CallState → Type 0
 CountsStep S m p d = CountsStepOrEnds S m p d (is_idle d.place)
 
 -- the step from the place p that found n has led from m to d and committed these batches
-pub record IsStepAtPlace (S : Setup) (m : CallState) (n : ℕ) (p : Place) (d : CallState) (added : List Batch) : Type 0 where
+pub record IsStepAtPlace (S : Setup) (m : CallState) (n : ℕ) (p : Place) (d : CallState)
+    (added : List Batch) : Type 0 where
   -- caller, number and operation of the call stay
   pub caller : d.caller ≡ m.caller
   pub made : d.made ≡ m.made
@@ -53,7 +54,8 @@ pub record IsStepAtPlace (S : Setup) (m : CallState) (n : ℕ) (p : Place) (d : 
   -- a load of the current-transaction word rests on what it found, and any other step on what the
   -- machine rested on, or on the batch that it commits
   pub loads : loads_current_at p ≡ true → (added ≡ []) × (rests_on_seq_at d d.place ≤ seq_of n)
-  pub rests : loads_current_at p ≡ false → rests_on_seq_at d d.place ≤ rests_on_seq_at m p + length added
+  pub rests : loads_current_at p ≡ false
+      → rests_on_seq_at d d.place ≤ rests_on_seq_at m p + length added
   -- what is committed is the caller's
   pub owner : All (λ (b : Batch). b.owner ≡ m.caller) added
   pub few : length added ≤ 1

@@ -1,10 +1,11 @@
 -- What a machine keeps of itself, so that its next step is a step on the table.
-use Rattle.std.specs.Prelude.{◌≡◌, ℕ, ◌+◌, ◌*◌, ◌<◌, ◌≤◌, List, [], Bool, true, false, length}
-use Rattle.of_core.specs.declared.machine.TheConstants.{GREATEST_LIMIT}
+use Rattle.std.specs.Prelude.{◌≡◌, ℕ, ◌+◌, ◌*◌, ◌<◌, ◌≤◌, List, [], Bool, true, false, None, length}
+use Rattle.of_cell.specs.declared.word.TheConstants.{GREATEST_LIMIT}
 use Rattle.of_cell.specs.Words.{payload_of}
 use Rattle.of_core.specs.declared.place.Place.{Place}
 use Rattle.of_core.specs.declared.place.Place.TheVariants.{Idle, TryCurrent, TryRequest, TryCell, StoreScript, StoreAnnouncement, LoadCurrent, LoadRequest, CopyLog, LookAgain, LoadOwnTicket, LoadShape, LoadReply, LoadAnnouncement, LoadTicket, LoadScript, LoadCell, RaiseOld, StoreLog, RaiseLog, StoreRequest, RaiseRequest, ExchangeCurrent, RaiseCurrent, LoadTarget, ExchangeTarget, ReloadTarget, RaiseTarget, CloseRequest, RaiseClosed}
-use Rattle.of_core.specs.Table.{Setup, first_operation_cell}
+use Rattle.of_mem.specs.CellMap.{value_for}
+use Rattle.of_core.specs.Table.{Setup, first_operation_cell, ticket_cell}
 use Rattle.of_core.specs.Machine.{CallState, log_words}
 
 -- the scan is at a caller, has run no more calls than it has passed callers, and may still commit
@@ -12,6 +13,10 @@ pub record IsScanning (S : Setup) (m : CallState) : Type 0 where
   pub scan : m.scan < S.callers
   pub few : length m.calls ≤ m.scan
   pub under : m.seq < S.limit
+
+-- no call that it has run so far has written the ticket cell of that caller
+abbrev pub LeavesTicket : Setup → CallState → Type 0
+LeavesTicket S m = value_for m.log (ticket_cell S m.scan) ≡ None
 
 -- what a place asks of its machine
 abbrev pub FitsPlace : Setup → CallState → Place → Type 0
@@ -30,11 +35,14 @@ FitsPlace S m LoadShape = Unit {0}
 FitsPlace S m (LoadReply j) = j < S.instrs
 FitsPlace S m LoadAnnouncement = IsScanning S m
 FitsPlace S m LoadTicket = IsScanning S m × (payload_of m.heard ≤ S.instrs)
-FitsPlace S m (LoadScript j) = IsScanning S m × (j < payload_of m.heard) × (payload_of m.heard ≤ S.instrs)
+FitsPlace S m (LoadScript j) =
+    IsScanning S m × (j < payload_of m.heard) × (payload_of m.heard ≤ S.instrs)
 FitsPlace S m (LoadCell a) = IsScanning S m × (a < S.cells)
 FitsPlace S m RaiseOld = m.seq < S.limit
-FitsPlace S m (StoreLog x) = (x < length (log_words m.log)) × (m.seq < S.limit) × (x < 2 * S.cells + 1)
-FitsPlace S m (RaiseLog x) = (x < length (log_words m.log)) × (m.seq < S.limit) × (x < 2 * S.cells + 1)
+FitsPlace S m (StoreLog x) =
+    (x < length (log_words m.log)) × (m.seq < S.limit) × (x < 2 * S.cells + 1)
+FitsPlace S m (RaiseLog x) =
+    (x < length (log_words m.log)) × (m.seq < S.limit) × (x < 2 * S.cells + 1)
 FitsPlace S m StoreRequest = m.seq < S.limit
 FitsPlace S m RaiseRequest = m.seq < S.limit
 FitsPlace S m ExchangeCurrent = m.seq < S.limit
@@ -75,7 +83,8 @@ is_reading (TryCell a) = true
 is_reading p = false
 
 -- the room that the machine's parts have, and what lies over the known cells
-pub record HasRoomInParts (S : Setup) (m : CallState) (logs words scripts copies runs : ℕ) (batch script : List (ℕ × ℕ)) : Type 0 where
+pub record HasRoomInParts (S : Setup) (m : CallState) (logs words scripts copies runs : ℕ)
+    (batch script : List (ℕ × ℕ)) : Type 0 where
   pub log : logs ≡ S.cells
   pub op : S.instrs ≤ words
   pub scripts_in : S.instrs ≤ scripts

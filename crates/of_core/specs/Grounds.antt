@@ -3,19 +3,22 @@ use Rattle.std.specs.Prelude.{ℕ, ◌+◌, List, length, ◌≤◌, ◌<◌}
 use Rattle.of_cell.specs.declared.word.TheConstants.{PAYLOADS}
 use Rattle.of_mem.specs.declared.work.TheConstants.{MOST_INSTRS}
 use Rattle.of_core.specs.Table.{Setup, first_operation_cell, words_before_members}
-use Rattle.of_core.specs.World.{Moment, TableStart}
+use Rattle.of_core.specs.TableMoment.{Moment, TableStart}
 use Rattle.of_core.specs.History.{batch_at, numbers_after}
-use Rattle.of_core.specs.Shared.{MayStart, IsLog}
+use Rattle.of_core.specs.WordsMatch.{MayStart, IsLog}
 use Rattle.of_core.specs.Invariant.{MeetsInvariant}
 
 -- what a moment rests on
-pub record HasGrounds (S : Setup) (Lawful : List ℕ → Type 0) (B : TableStart) (w : Moment) : Type 0 where
+pub record HasGrounds (S : Setup) (Lawful : List ℕ → Type 0) (B : TableStart) (w : Moment)
+    : Type 0 where
   -- it has begun at a start that a table may have
   pub may_start : MayStart S Lawful B
   -- the state behind each batch is lawful
-  pub states : (k : ℕ) → B.seq ≤ k → k ≤ B.seq + length w.batches → Lawful (numbers_after B w.batches k)
+  pub states : (k : ℕ) → B.seq ≤ k → k ≤ B.seq + length w.batches
+      → Lawful (numbers_after B w.batches k)
   -- and each batch's log has entries of data cells, none twice
-  pub logs : (k : ℕ) → B.seq < k → k ≤ B.seq + length w.batches → IsLog S (batch_at B w.batches k).log
+  pub logs : (k : ℕ) → B.seq < k → k ≤ B.seq + length w.batches
+      → IsLog S (batch_at B w.batches k).log
   -- the table has room for all its words, and its numbers fit a word
   pub room : words_before_members S ≤ length w.words
   pub callers : S.callers < PAYLOADS

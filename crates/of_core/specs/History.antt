@@ -7,7 +7,7 @@ use Rattle.of_mem.specs.Meaning.{Meaning, is_marked}
 use Rattle.std.specs.List.{All}
 use Rattle.of_core.specs.Table.{Setup, ticket_cell, shape_cell, reply_cell}
 use Rattle.of_core.specs.Machine.{Call, no_call}
-use Rattle.of_core.specs.World.{Batch, TableStart}
+use Rattle.of_core.specs.TableMoment.{Batch, TableStart}
 
 -- the data words with a log's entries at sequence k
 abbrev pub with_log_applied : ℕ → List ℕ → List (ℕ × ℕ) → List ℕ
@@ -17,7 +17,8 @@ with_log_applied k ws (e ∷ es) = with_log_applied k (set ws e.0 (pack k e.1)) 
 -- the data words after these batches, from sequence s on
 abbrev pub words_after_batches : ℕ → List ℕ → List Batch → List ℕ
 words_after_batches s ws [] = ws
-words_after_batches s ws (b ∷ bs) = words_after_batches (s + 1) (with_log_applied (s + 1) ws b.log) bs
+words_after_batches s ws (b ∷ bs) =
+    words_after_batches (s + 1) (with_log_applied (s + 1) ws b.log) bs
 
 -- the data words after batch k
 unfoldable pub state_after : TableStart → List Batch → ℕ → List ℕ
@@ -69,7 +70,8 @@ numbers_after_batches W xs (b ∷ bs) = numbers_after_batches W (numbers_after_c
 -- in that replay each call has the reply that it meets
 abbrev pub IsLegalHistory : Meaning → List ℕ → List Batch → Type 0
 IsLegalHistory W xs [] = Unit {0}
-IsLegalHistory W xs (b ∷ bs) = CallsHaveReplies W xs b.calls × IsLegalHistory W (numbers_after_calls W xs b.calls) bs
+IsLegalHistory W xs (b ∷ bs) =
+    CallsHaveReplies W xs b.calls × IsLegalHistory W (numbers_after_calls W xs b.calls) bs
 
 -- the number of caller i's ticket cell
 abbrev pub ticket_in_state : Setup → List ℕ → ℕ → ℕ
@@ -84,7 +86,8 @@ abbrev pub IsCellOfCaller : Setup → ℕ → ℕ → Type 0
 IsCellOfCaller S i a = (ticket_cell S i ≤ a) × (a < ticket_cell S i + (S.instrs + 2))
 
 -- state k shows the call c of batch j in its caller's own cells
-pub record ShowsCall (S : Setup) (B : TableStart) (bs : List Batch) (k j : ℕ) (c : Call) : Type 0 where
+pub record ShowsCall (S : Setup) (B : TableStart) (bs : List Batch) (k j : ℕ) (c : Call)
+    : Type 0 where
   pub ticket : data_word_after B bs k (ticket_cell S c.caller) ≡ pack j c.ticket
   pub shape : payload_of (data_word_after B bs k (shape_cell S c.caller)) ≡ c.raw.shape
   pub replies : (y : ℕ) → y < S.instrs → is_marked c.raw.shape y ≡ true
@@ -111,7 +114,8 @@ pub record IsNewestCall (S : Setup) (B : TableStart) (bs : List Batch) (k i : �
 -- start's where it has none
 abbrev pub OwnCellsShowLast : Setup → TableStart → List Batch → ℕ → ℕ → Type 0
 OwnCellsShowLast S B bs k i =
-    (HasNoCallBetween B bs i B.seq k × ((a : ℕ) → IsCellOfCaller S i a → data_word_after B bs k a ≡ data_word_after B bs B.seq a))
+    (HasNoCallBetween B bs i B.seq k
+    × ((a : ℕ) → IsCellOfCaller S i a → data_word_after B bs k a ≡ data_word_after B bs B.seq a))
     ⊎ IsNewestCall S B bs k i
 
 -- the callers of a batch's calls rise

@@ -5,13 +5,13 @@ use Rattle.std.specs.Vec.{vec_capacity}
 use Rattle.of_cell.specs.Cells.{durable_cells, log_cell}
 use Rattle.of_mem.specs.Meaning.{Meaning}
 use Rattle.of_mem.specs.declared.work.TheConstants.{MOST_INSTRS}
-use Rattle.of_core.specs.declared.ran.RanCall.{RanCall}
+use Rattle.of_core.specs.declared.call.Call.{Call as RustCall}
 use Rattle.of_core.specs.declared.machine.Machine.TheInside.{Inside}
 use Rattle.of_core.specs.Machine.{Call}
-use Rattle.of_core.specs.Seen.{Machine, machine_setup}
+use Rattle.of_core.specs.MachineValue.{Machine, machine_setup}
 use Rattle.of_core.specs.Fit.{FitsSizes, HasRoomInParts}
 
-abbrev pub call_value : RanCall → Call
+abbrev pub call_value : RustCall → Call
 call_value c = record { caller = c.caller; ticket = c.ticket; op = take c.words c.op; raw = c.raw }
 
 abbrev pub machine_value : {W : Type 0} → Inside W → Machine W
@@ -45,9 +45,13 @@ machine_value m = record {
   };
 }
 
-pub record IsFit {W : Type 0} (many size : W → ℕ) (meaning : W → Meaning) (m : Inside W) : Type 0 where
+pub record IsFit {W : Type 0} (many size : W → ℕ) (meaning : W → Meaning) (m : Inside W)
+    : Type 0 where
   pub instrs : m.shape.instrs ≡ MOST_INSTRS
   pub durable : m.durable ≡ durable_cells m.shape.callers m.shape.cells
   pub own_log : m.own_log ≡ log_cell m.shape.callers m.shape.cells m.caller 0
-  pub fit : FitsSizes (many m.work) (size m.work) (machine_setup meaning (machine_value m)) (machine_value m).call
-  pub room : HasRoomInParts (machine_setup meaning (machine_value m)) (machine_value m).call m.log.room (vec_capacity m.op) (vec_capacity m.script) (vec_capacity m.copy) (vec_capacity m.calls) m.part.batch m.part.script
+  pub fit : FitsSizes (many m.work) (size m.work) (machine_setup meaning (machine_value m))
+      (machine_value m).call
+  pub room : HasRoomInParts (machine_setup meaning (machine_value m)) (machine_value m).call
+      m.log.room (vec_capacity m.op) (vec_capacity m.script) (vec_capacity m.copy)
+      (vec_capacity m.calls) m.part.batch m.part.script

@@ -16,12 +16,12 @@ use Rattle.of_core.specs.declared.place.Op.{Op}
 use Rattle.of_core.specs.declared.place.Op.TheVariants.{Load, Store, Exchange, Raise}
 use Rattle.of_core.specs.Machine.{Call, CallState, IsOpen, is_idle, idle_machine, begin_call, MayReplace}
 use Rattle.of_core.specs.Steps.{want, take_word, word_found, word_of, IsFoundBy}
-use Rattle.of_core.specs.World.{Moment, TableStart, Batch, step_batches, step_reads, after_step}
+use Rattle.of_core.specs.TableMoment.{Moment, TableStart, Batch, step_batches, step_reads, after_step}
 use Rattle.of_core.specs.History.{state_after, batch_at, no_batch, IsLegalHistory}
 use Rattle.of_core.specs.Facts.{IsStep, ReadsFrom, rests_on_seq}
-use Rattle.of_core.specs.Shared.{IsStart, MayStart}
+use Rattle.of_core.specs.WordsMatch.{IsStart, MayStart}
 use Rattle.of_core.specs.Invariant.{MeetsInvariant, IsLoaded}
-use Rattle.of_core.specs.Moves.{Guarantees}
+use Rattle.of_core.specs.Guarantees.{Guarantees}
 use Rattle.of_core.specs.Events.{Event, Turns, MayHappen, after_begin, after_event, after_raise, after_events, turn_count, HasStood, IsSchedule, StaysOpen, machine_in, start_ticket, opening_moment, zero_start}
 use Rattle.of_core.specs.Starts.{first_words, start_from_durable, IsStartRow, IsDurable, recovered_start}
 use Rattle.of_core.specs.Bound.{bound}
@@ -31,19 +31,23 @@ use Rattle.of_core.specs.Linear.{HasNotBegunBy, CallEndsBefore, Linearizes, IsRe
 use Rattle.of_core.specs.LinearLives.{AreScheduleLives, AreDurablyLinearizable}
 
 -- the setup of a table for a work, with this limit
-abbrev pub setup_for : {X : Type 0} → (many cell_count : X → ℕ) → (X → Meaning) → (limit : ℕ) → X → Setup
-setup_for many cell_count meaning limit work = setup_of (many work) (cell_count work) limit (meaning work)
+abbrev pub setup_for : {X : Type 0} → (many cell_count : X → ℕ) → (X → Meaning) → (limit : ℕ) → X
+    → Setup
+setup_for many cell_count meaning limit work =
+    setup_of (many work) (cell_count work) limit (meaning work)
 
 -- The forms that laws have.
 
 -- at each machine, in each world that meets the invariant
-abbrev pub EachMachine : Setup → (List ℕ → Type 0) → (TableStart → Moment → ℕ → CallState → Type 0) → Type 0
+abbrev pub EachMachine : Setup → (List ℕ → Type 0) → (TableStart → Moment → ℕ → CallState → Type 0)
+    → Type 0
 EachMachine S Lawful Law =
     (B : TableStart) (w : Moment) → MeetsInvariant S Lawful B w
     → (i : ℕ) (m : CallState) → i < S.callers → get_or w.machines i m ≡ m → Law B w i m
 
 -- at each step of each machine, which finds n
-abbrev pub EachStep : Setup → (List ℕ → Type 0) → (TableStart → Moment → ℕ → CallState → ℕ → Type 0) → Type 0
+abbrev pub EachStep : Setup → (List ℕ → Type 0) → (TableStart → Moment → ℕ → CallState → ℕ → Type 0)
+    → Type 0
 EachStep S Lawful Law =
     EachMachine S Lawful (λ B w i m. (n : ℕ) → IsFoundBy (want S m) w.words n → Law B w i m n)
 
@@ -61,25 +65,30 @@ EachLoaded S Lawful Law =
     → (e : ℕ × ℕ) → IsLoaded S B w.words w.batches e → Law B w e
 
 -- at each number that is put behind the table's own words
-abbrev pub EachBeside : Setup → (List ℕ → Type 0) → (TableStart → Moment → (c v : ℕ) → Type 0) → Type 0
+abbrev pub EachBeside : Setup → (List ℕ → Type 0) → (TableStart → Moment → (c v : ℕ) → Type 0)
+    → Type 0
 EachBeside S Lawful Law =
-    (B : TableStart) (w : Moment) → MeetsInvariant S Lawful B w → (c v : ℕ) → words_before_members S ≤ c → Law B w c v
+    (B : TableStart) (w : Moment) → MeetsInvariant S Lawful B w → (c v : ℕ)
+    → words_before_members S ≤ c → Law B w c v
 
 -- at each table of n words that begins at a start
 abbrev pub EachStart : Setup → (List ℕ → Type 0) → (TableStart → (n : ℕ) → Type 0) → Type 0
-EachStart S Lawful Law = (B : TableStart) → MayStart S Lawful B → (n : ℕ) → words_before_members S ≤ n → Law B n
+EachStart S Lawful Law =
+    (B : TableStart) → MayStart S Lawful B → (n : ℕ) → words_before_members S ≤ n → Law B n
 
 -- at each schedule from each start
 abbrev pub EachSchedule : Setup → (List ℕ → Type 0)
     → (TableStart → (n : ℕ) → List Event → Type 0) → Type 0
 EachSchedule S Lawful Law =
-    EachStart S Lawful (λ B n. (es : List Event) → IsSchedule S (opening_moment S B n) es → Law B n es)
+    EachStart S Lawful (λ B n.
+    (es : List Event) → IsSchedule S (opening_moment S B n) es → Law B n es)
 
 -- Steps, whatever their order.
 
 -- each step of each machine keeps the invariant
 abbrev pub StepsKeepInvariant : Setup → (List ℕ → Type 0) → Type 0
-StepsKeepInvariant S Lawful = EachStep S Lawful (λ B w i m n. MeetsInvariant S Lawful B (after_step S i m n w))
+StepsKeepInvariant S Lawful =
+    EachStep S Lawful (λ B w i m n. MeetsInvariant S Lawful B (after_step S i m n w))
 
 -- it does to words and history what a step may do to what other machines rely on
 abbrev pub StepsGuarantee : Setup → (List ℕ → Type 0) → Type 0
@@ -89,7 +98,8 @@ StepsGuarantee S Lawful = EachStep S Lawful (λ B w i m n.
 -- a step of an open call is a step, whatever its kind
 abbrev pub OpenStepsAreSteps : Setup → (List ℕ → Type 0) → Type 0
 OpenStepsAreSteps S Lawful = EachMachine S Lawful (λ B w i m. IsOpen m.place
-    → (n : ℕ) → IsFoundBy (want S m) w.words n → IsStep S B w m n (take_word S m n) (step_batches S w.words m n))
+    → (n : ℕ) → IsFoundBy (want S m) w.words n
+    → IsStep S B w m n (take_word S m n) (step_batches S w.words m n))
 
 -- each step leaves each durable word as it was, or makes it the word that its cell holds
 abbrev pub StepsKeepDurables : Setup → (List ℕ → Type 0) → Type 0
@@ -129,7 +139,8 @@ NewCallsWereOpen S Lawful = EachStep S Lawful (λ B w i m n.
 
 -- to begin a call keeps the invariant; the call rests on nothing yet, and no try of it has read
 abbrev pub BeginsKeepInvariant : Setup → (List ℕ → Type 0) → Type 0
-BeginsKeepInvariant S Lawful = EachBegin S Lawful (λ B w i d op. MeetsInvariant S Lawful B (after_begin S i d op w)
+BeginsKeepInvariant S Lawful =
+    EachBegin S Lawful (λ B w i d op. MeetsInvariant S Lawful B (after_begin S i d op w)
     × (rests_on_seq (begin_call S d op) ≡ 0) × ((low : ℕ) → ReadsFrom low (begin_call S d op)))
 
 -- a word that was loaded from its cell may be raised at any later time: it is such a word
@@ -147,7 +158,8 @@ StepsKeepLoaded S Lawful = EachStep S Lawful (λ B w i m n.
 
 -- and to raise the durable word of its cell to it keeps the invariant, and all other such words
 abbrev pub RaisesKeepInvariant : Setup → (List ℕ → Type 0) → Type 0
-RaisesKeepInvariant S Lawful = EachLoaded S Lawful (λ B w e. MeetsInvariant S Lawful B (after_raise S w e)
+RaisesKeepInvariant S Lawful =
+    EachLoaded S Lawful (λ B w e. MeetsInvariant S Lawful B (after_raise S w e)
     × ((d : ℕ × ℕ) → IsLoaded S B w.words w.batches d
     → IsLoaded S B (after_raise S w e).words w.batches d))
 
@@ -166,13 +178,15 @@ WordsBehindAreFree S Lawful = EachBeside S Lawful (λ B w c v.
 -- a table at its start, with idle machines, meets the invariant, and an idle machine rests on
 -- nothing
 abbrev pub StartsMeetInvariant : Setup → (List ℕ → Type 0) → Type 0
-StartsMeetInvariant S Lawful = EachStart S Lawful (λ B n. MeetsInvariant S Lawful B (opening_moment S B n)
+StartsMeetInvariant S Lawful =
+    EachStart S Lawful (λ B n. MeetsInvariant S Lawful B (opening_moment S B n)
     × ((i made : ℕ) → rests_on_seq (idle_machine S i made) ≡ 0))
 
 -- whatever meets the invariant has a legal history, and recovery gives the state that its
 -- durable words name
 abbrev pub InvariantIsSound : Setup → (List ℕ → Type 0) → Type 0
-InvariantIsSound S Lawful = (B : TableStart) (w : Moment) → MeetsInvariant S Lawful B w → IsSound S B w
+InvariantIsSound S Lawful =
+    (B : TableStart) (w : Moment) → MeetsInvariant S Lawful B w → IsSound S B w
 
 -- The calls of one caller, step by step.
 
@@ -207,7 +221,8 @@ StepsEndOwnCall S Lawful = EachStep S Lawful (λ B w i m n.
 -- to begin a call gives its caller one call more, and changes the calls of nobody else
 abbrev pub BeginsAddOneCall : Setup → (List ℕ → Type 0) → Type 0
 BeginsAddOneCall S Lawful = EachBegin S Lawful (λ B w i d op.
-    GainsCalls S B i (op ∷ []) [] w (after_begin S i d op w) × KeepsOthersCalls S B i w (after_begin S i d op w))
+    GainsCalls S B i (op ∷ []) [] w (after_begin S i d op w)
+    × KeepsOthersCalls S B i w (after_begin S i d op w))
 
 -- to raise a word that was loaded changes nobody's calls
 abbrev pub RaisesKeepCalls : Setup → (List ℕ → Type 0) → Type 0
@@ -235,7 +250,8 @@ SchedulesKeepInvariant S Lawful =
 
 -- every moment of every schedule from every start has what each moment claims
 abbrev pub EveryMomentIsSound : Setup → (List ℕ → Type 0) → Type 0
-EveryMomentIsSound S Lawful = EachSchedule S Lawful (λ B n es. IsSound S B (after_events S (opening_moment S B n) es))
+EveryMomentIsSound S Lawful =
+    EachSchedule S Lawful (λ B n es. IsSound S B (after_events S (opening_moment S B n) es))
 
 -- each durable word is one that its cell has held, at this moment or before
 abbrev pub DurablesWereHeld : Setup → (List ℕ → Type 0) → Type 0
@@ -248,7 +264,8 @@ abbrev pub EveryCallStands : Setup → (List ℕ → Type 0) → Type 0
 EveryCallStands S Lawful = EachSchedule S Lawful (λ B n es.
     let w : Moment = opening_moment S B n in
     (i : ℕ) → i < S.callers
-    → HasCalls S B (start_ticket S B i) (after_events S w es) i (operations_begun es i) (outcomes S w es i))
+    → HasCalls S B (start_ticket S B i) (after_events S w es) i (operations_begun es i)
+    (outcomes S w es i))
 
 -- each event leads from the calls before it to those after it
 abbrev pub EventsLeadCalls : Setup → (List ℕ → Type 0) → Type 0
@@ -257,7 +274,8 @@ EventsLeadCalls S Lawful =
     → (i before : ℕ) → i < S.callers
     → (ops : List (List ℕ)) (outs : List Outcome) → HasCalls S B before w i ops outs
     → (d : Event) → MayHappen S w d
-    → HasCalls S B before (after_event S w d) i (ops ++ operation_begun d i) (outs ++ outcome_of_event S w d i)
+    → HasCalls S B before (after_event S w d) i (ops ++ operation_begun d i)
+    (outs ++ outcome_of_event S w d i)
 
 -- in every schedule from every start the turns of a caller are the steps of its calls
 abbrev pub TurnsCountSteps : Setup → (List ℕ → Type 0) → Type 0
@@ -315,7 +333,8 @@ CallsEndInTime S Lawful =
     (B : TableStart) (w : Moment) → MeetsInvariant S Lawful B w
     → (es : List Event) → IsSchedule S w es → (i : ℕ) → i < S.callers → StaysOpen S w es i
     → ((machine_in w i).steps + turn_count i es < bound S)
-    × ((machine_in (after_events S w es) i).place ≡ LoadCurrent → (machine_in (after_events S w es) i).rounds ≤ 2)
+    × ((machine_in (after_events S w es) i).place ≡ LoadCurrent
+    → (machine_in (after_events S w es) i).rounds ≤ 2)
 
 -- Starts.
 
@@ -338,7 +357,8 @@ abbrev pub FirstMachinesAreIdle : Setup → Type 0
 FirstMachinesAreIdle S = (B : TableStart) (n : ℕ) →
     let ms : List CallState = (opening_moment S B n).machines in
     (length ms ≡ S.callers)
-    × ((i : ℕ) (d : CallState) → i < S.callers → get_or ms i d ≡ idle_machine S i (start_ticket S B i))
+    × ((i : ℕ) (d : CallState) → i < S.callers
+    → get_or ms i d ≡ idle_machine S i (start_ticket S B i))
 
 -- zeros are a start that a table may have
 abbrev pub ZerosMayStart : Setup → (List ℕ → Type 0) → Type 0
@@ -346,7 +366,9 @@ ZerosMayStart S Lawful = MayStart S Lawful (zero_start S)
 
 -- the first words of a table of zeros are zeros
 abbrev pub ZeroTablesAreZeros : Setup → Type 0
-ZeroTablesAreZeros S = (n : ℕ) → words_before_members S ≤ n → first_words S.callers S.cells (zero_start S) n ≡ replicate n 0
+ZeroTablesAreZeros S =
+    (n : ℕ) → words_before_members S ≤ n
+    → first_words S.callers S.cells (zero_start S) n ≡ replicate n 0
 
 -- and no call stands behind it
 abbrev pub ZeroTablesHaveNoCalls : Setup → Type 0
@@ -356,7 +378,8 @@ ZeroTablesHaveNoCalls S = (i : ℕ) → start_ticket S (zero_start S) i ≡ 0
 -- the state after the batch of the durable sequence
 abbrev pub RecoveredRowsMayStart : Setup → (List ℕ → Type 0) → Type 0
 RecoveredRowsMayStart S Lawful =
-    (B : TableStart) (w : Moment) → MeetsInvariant S Lawful B w → (row : List ℕ) → IsDurable S w.words row →
+    (B : TableStart) (w : Moment) → MeetsInvariant S Lawful B w → (row : List ℕ)
+    → IsDurable S w.words row →
     let found : List ℕ = recovered_words S.callers S.cells row in
     IsStartRow S Lawful found × (start_from_durable S.callers S.cells found ≡ recovered_start S B w)
 
@@ -364,10 +387,12 @@ RecoveredRowsMayStart S Lawful =
 -- left gives the same row.
 abbrev pub RestartsMidway : Setup → (List ℕ → Type 0) → Type 0
 RestartsMidway S Lawful =
-    (B : TableStart) (w : Moment) → MeetsInvariant S Lawful B w → (row : List ℕ) → IsDurable S w.words row
+    (B : TableStart) (w : Moment) → MeetsInvariant S Lawful B w → (row : List ℕ)
+    → IsDurable S w.words row
     → (made : ℕ) →
     let writes : List (ℕ × ℕ) = recovery_writes S.callers S.cells (slice_index row) in
-    let found : List ℕ = recovered_words S.callers S.cells (words_after_writes (take made writes) row) in
+    let found : List ℕ = recovered_words S.callers S.cells
+    (words_after_writes (take made writes) row) in
     IsStartRow S Lawful found × (start_from_durable S.callers S.cells found ≡ recovered_start S B w)
 
 -- and what a renumbering of such a row leaves, stopped between two of its writes, is a row from
@@ -392,15 +417,19 @@ IdleTestIsExact = (p : Place) → is_idle p ≡ true → p ≡ Idle
 
 -- a turn leaves an idle machine as it is, and answers nothing
 abbrev pub TurnsKeepIdle : Type 0
-TurnsKeepIdle = (S : Setup) (m : CallState) (n : ℕ) → m.place ≡ Idle → (take_word S m n ≡ m) × (step_reads m m ≡ [])
+TurnsKeepIdle =
+    (S : Setup) (m : CallState) (n : ℕ) → m.place ≡ Idle
+    → (take_word S m n ≡ m) × (step_reads m m ≡ [])
 
 -- an idle machine rests on nothing, and no try of it has read
 abbrev pub IdleRestsOnNothing : Type 0
-IdleRestsOnNothing = (m : CallState) → m.place ≡ Idle → (rests_on_seq m ≡ 0) × ((low : ℕ) → ReadsFrom low m)
+IdleRestsOnNothing =
+    (m : CallState) → m.place ≡ Idle → (rests_on_seq m ≡ 0) × ((low : ℕ) → ReadsFrom low m)
 
 -- a step finds the word that stands there
 abbrev pub StepsFindTheirWord : Type 0
-StepsFindTheirWord = (S : Setup) (ws : List ℕ) (m : CallState) → IsFoundBy (want S m) ws (word_found S ws m)
+StepsFindTheirWord =
+    (S : Setup) (ws : List ℕ) (m : CallState) → IsFoundBy (want S m) ws (word_found S ws m)
 
 -- a turn is the step of its caller's machine, whatever number a store is said to find
 abbrev pub TurnsAreSteps : Type 0

@@ -17,7 +17,8 @@ least_of (Gives es r) = 2
 abbrev pub least_read : Setup → List ℕ → ℕ
 least_read S op = least_of (S.meaning.walk (no_cell_known S) op)
 
--- the least steps of an announced call: its words, the announcement, the two loads of a round, its ticket and its shape
+-- the least steps of an announced call: its words, the announcement, the two loads of a round, its
+-- ticket and its shape
 abbrev pub least_call : List ℕ → ℕ
 least_call op = length op + 5
 
@@ -71,7 +72,8 @@ TellsLeastSteps S op (Some (Answered s true raw steps)) = least_call op ≤ step
 TellsLeastSteps S op (Some (Answered s false raw steps)) = least_read S op ≤ steps
 TellsLeastSteps S op (Some (Spent s)) = Unit {0}
 
--- the steps made are as many at least; an idle machine has none of an open call, and its last answer tells as many as its call needed
+-- the steps made are as many at least; an idle machine has none of an open call, and its last
+-- answer tells as many as its call needed
 pub record HasMadeLeastSteps (S : Setup) (m : CallState) (p : Place) : Type 0 where
   pub steps : least_steps_at m p ≤ m.steps
   pub rests : p ≡ Idle → m.steps ≡ 0

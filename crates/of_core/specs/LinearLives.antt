@@ -8,7 +8,7 @@ use Rattle.of_cell.specs.Words.{payload_of}
 use Rattle.of_mem.specs.Meaning.{SameFrom}
 use Rattle.of_core.specs.Table.{Setup, first_operation_cell}
 use Rattle.of_core.specs.Machine.{Call, no_call}
-use Rattle.of_core.specs.World.{TableStart}
+use Rattle.of_core.specs.TableMoment.{TableStart}
 use Rattle.of_core.specs.History.{numbers_after_calls, CallsHaveReplies}
 use Rattle.of_core.specs.Starts.{recovered_start}
 use Rattle.of_core.specs.Events.{Event, after_events, IsSchedule, opening_moment, start_ticket}

@@ -49,7 +49,8 @@ pub record CallState : Type 0 where
   pub first : ℕ
   -- the tries begun
   pub tries : ℕ
-  -- the caller that the scan has come to, its announcement and its script words as loaded, and the calls run so far
+  -- the caller that the scan has come to, its announcement and its script words as loaded, and the
+  -- calls run so far
   pub scan : ℕ
   pub heard : ℕ
   pub script : List ℕ
@@ -98,7 +99,12 @@ no_cell_known S = replicate S.cells None
 
 -- the machine of caller i that was just made, where so many calls were begun before
 abbrev pub idle_machine : Setup → ℕ → (made : ℕ) → CallState
-idle_machine S i made = record no_machine { caller = i; made = made; known = no_cell_known S; raw = record { shape = 0; values = replicate S.instrs 0 } }
+idle_machine S i made = record no_machine {
+  caller = i;
+  made = made;
+  known = no_cell_known S;
+  raw = record { shape = 0; values = replicate S.instrs 0 };
+}
 
 -- the machine d is m, or a fresh one of its caller, which may take the place of an idle one
 abbrev pub MayReplace : Setup → (m d : CallState) → Type 0
@@ -109,9 +115,17 @@ abbrev pub first_place : (reads : Bool) → Place
 first_place true = TryCurrent
 first_place false = StoreScript 0
 
+-- of the calls before it the machine keeps their number alone, and it has the new call's words
+abbrev pub fresh_call : Setup → CallState → CallState
+fresh_call S m = record (idle_machine S m.caller m.made) { op = m.op }
+
 -- it begins anew: of the calls before it the machine keeps their number alone
 abbrev pub begin_call : Setup → CallState → List ℕ → CallState
-begin_call S m op = record (idle_machine S m.caller m.made) { made = m.made + 1; op = op; place = first_place (S.meaning.reads_only op) }
+begin_call S m op = record (idle_machine S m.caller m.made) {
+  made = m.made + 1;
+  op = op;
+  place = first_place (S.meaning.reads_only op);
+}
 
 -- The words of a log: the number of its entries, and then cell and number of each.
 abbrev pub flat_entries : List (ℕ × ℕ) → List ℕ
@@ -146,8 +160,11 @@ cells_from a (v ∷ vs) = (a, v) ∷ cells_from (a + 1) vs
 
 -- the reply cells of the caller whose ticket cell this is, where the shape isn't that of an abort
 abbrev pub reply_cell_pairs : (row count : ℕ) → RawReply → List (ℕ × ℕ)
-reply_cell_pairs row count r = if nat_lt r.shape LEAST_ABORT then cells_from (row + 2) (take count r.values) else []
+reply_cell_pairs row count r =
+    if nat_lt r.shape LEAST_ABORT then cells_from (row + 2) (take count r.values) else []
 
--- what a call with so many words writes into its own cells, of which this is the ticket cell: the reply, and then the shape and the ticket
+-- what a call with so many words writes into its own cells, of which this is the ticket cell: the
+-- reply, and then the shape and the ticket
 abbrev pub own_cells : (row ticket count : ℕ) → RawReply → List (ℕ × ℕ)
-own_cells row ticket count r = reply_cell_pairs row count r ++ (row + 1, r.shape) ∷ (row, ticket) ∷ []
+own_cells row ticket count r =
+    reply_cell_pairs row count r ++ (row + 1, r.shape) ∷ (row, ticket) ∷ []

@@ -1,10 +1,11 @@
--- What lets a machine take a word: it stands beside words, machines and a history that meet the invariant, and its wanted step finds this word.
+-- What lets a machine take a word: it stands beside words, machines and a history that meet the
+-- invariant, and its wanted step finds this word.
 use Rattle.std.specs.Prelude.{◌≡◌, ℕ, ◌<◌, List}
 use Rattle.std.proofs.Common.{get_or}
 use Rattle.of_core.specs.Table.{Setup}
 use Rattle.of_core.specs.Machine.{CallState}
 use Rattle.of_core.specs.Steps.{want, IsFoundBy}
-use Rattle.of_core.specs.World.{Moment, TableStart}
+use Rattle.of_core.specs.TableMoment.{Moment, TableStart}
 use Rattle.of_core.specs.Invariant.{MeetsInvariant}
 
 pub record MayTake (S : Setup) (Lawful : List ℕ → Type 0) (m : CallState) (found : ℕ) : Type 0 where

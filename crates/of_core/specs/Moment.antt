@@ -5,10 +5,10 @@ use Rattle.of_cell.specs.Cells as cells
 use Rattle.of_mem.specs.Meaning.{Meaning}
 use Rattle.of_core.specs.Table.{Setup, setup_of}
 use Rattle.of_core.specs.Machine.{CallState, no_machine}
-use Rattle.of_core.specs.World.{Moment, TableStart}
-use Rattle.of_core.specs.Shared.{MayStart}
+use Rattle.of_core.specs.TableMoment.{Moment, TableStart}
+use Rattle.of_core.specs.WordsMatch.{MayStart}
 use Rattle.of_core.specs.Events.{Event, after_events, IsSchedule, opening_moment}
-use Rattle.of_core.specs.Seen.{Machine}
+use Rattle.of_core.specs.MachineValue.{Machine}
 
 -- what contracts see of a bank
 pub record Bank (X : Type 0) : Type 0 where
@@ -32,20 +32,31 @@ bank_setup meaning b = setup_of b.callers b.cells b.limit (meaning b.work)
 abbrev pub table_word_count : Setup → ℕ
 table_word_count S = cells.table_words S.callers S.instrs S.cells
 
+-- the moment at which it opens, if it begins at this start
+abbrev pub bank_opening : {X : Type 0} → (X → Meaning) → TableStart → Bank X → Moment
+bank_opening meaning B b =
+    opening_moment (bank_setup meaning b) B (table_word_count (bank_setup meaning b))
+
 -- caller i's machine
 abbrev pub machine_of : {X : Type 0} → Bank X → ℕ → CallState
 machine_of b i = get_or b.machines i no_machine
 
 -- a world with its words and machines
 abbrev pub moment_of_bank : {X : Type 0} → Bank X → Moment
-moment_of_bank b = record { words = b.words; machines = b.machines; batches = []; reads = []; loaded = [] }
+moment_of_bank b =
+    record { words = b.words; machines = b.machines; batches = []; reads = []; loaded = [] }
 
--- What events leave. No event's words and machines depend on the history, nor on what was loaded before.
+-- What events leave. No event's words and machines depend on the history, nor on what was loaded
+-- before.
 abbrev pub bank_after : {X : Type 0} → (X → Meaning) → List Event → Bank X → Bank X
-bank_after meaning es b = record b { words = (after_events (bank_setup meaning b) (moment_of_bank b) es).words; machines = (after_events (bank_setup meaning b) (moment_of_bank b) es).machines }
+bank_after meaning es b = record b {
+  words = (after_events (bank_setup meaning b) (moment_of_bank b) es).words;
+  machines = (after_events (bank_setup meaning b) (moment_of_bank b) es).machines;
+}
 
 -- the words and machines are those of a moment: a schedule leaves them from the start
-pub record IsReached (S : Setup) (Lawful : List ℕ → Type 0) (B : TableStart) (ws : List ℕ) (ms : List CallState) : Type 0 where
+pub record IsReached (S : Setup) (Lawful : List ℕ → Type 0) (B : TableStart) (ws : List ℕ)
+    (ms : List CallState) : Type 0 where
   pub may_start : MayStart S Lawful B
   pub events : List Event
   pub schedule : IsSchedule S (opening_moment S B (table_word_count S)) events
@@ -54,7 +65,15 @@ pub record IsReached (S : Setup) (Lawful : List ℕ → Type 0) (B : TableStart)
 
 -- each of the machines runs this work on a table of these sizes
 abbrev pub RunSameWork : {X : Type 0} → X → (callers cells limit : ℕ) → List (Machine X) → Type 0
-RunSameWork {X} work callers cells limit ms = (k : ℕ) (d : Machine X) → k < length ms → get_or ms k d ≡ record { work = work; callers = callers; cells = cells; limit = limit; call = (get_or ms k d).call }
+RunSameWork {X} work callers cells limit ms =
+    (k : ℕ) (d : Machine X) → k < length ms
+    → get_or ms k d ≡ record {
+      work = work;
+      callers = callers;
+      cells = cells;
+      limit = limit;
+      call = (get_or ms k d).call;
+    }
 
 -- what machines hold
 abbrev pub call_states : {X : Type 0} → List (Machine X) → List CallState

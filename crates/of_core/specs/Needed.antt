@@ -1,15 +1,15 @@
--- A try or a round makes no step that it has no use for: it loads a data cell only if a run needs it,
--- and copies a log only if its transaction is open.
+-- A try or a round makes no step that it has no use for: it loads a data cell only if a run needs
+-- it, and copies a log only if its transaction is open.
 use Rattle.std.specs.Prelude.{ℕ, List, ◌≡◌, ◌<◌}
 use Rattle.of_cell.specs.Words.{pack}
 use Rattle.of_mem.specs.Meaning.{Needs}
-use Rattle.of_mem.specs.Pad.{overlaid}
+use Rattle.of_mem.specs.Part.{overlaid}
 use Rattle.of_core.specs.declared.place.Place.{Place}
 use Rattle.of_core.specs.declared.place.Place.TheVariants.{TryCell, CopyLog, LoadCell}
 use Rattle.of_core.specs.Table.{Setup, request_of}
 use Rattle.of_core.specs.Machine.{CallState, IsOpen}
 use Rattle.of_core.specs.Steps.{take_word}
-use Rattle.of_core.specs.World.{Moment}
+use Rattle.of_core.specs.TableMoment.{Moment}
 use Rattle.of_core.specs.Events.{machine_in, opening_moment, after_events}
 use Rattle.of_core.specs.Laws.{EachStep, EachSchedule}
 

@@ -7,7 +7,7 @@ use Rattle.of_core.specs.declared.place.Place.{Place}
 use Rattle.of_core.specs.declared.place.Place.TheVariants.{TryRequest, TryCell, CopyLog, LookAgain, RaiseCurrent, LoadTarget, ExchangeTarget, ReloadTarget, RaiseTarget, CloseRequest, RaiseClosed}
 use Rattle.of_core.specs.Table.{Setup, committed_seq, durable_seq}
 use Rattle.of_core.specs.Machine.{Call, CallState, is_idle}
-use Rattle.of_core.specs.World.{Moment, TableStart, Batch, Read}
+use Rattle.of_core.specs.TableMoment.{Moment, TableStart, Batch, Read}
 use Rattle.of_core.specs.History.{batch_at, last_ticket_by, numbers_after}
 
 -- the read is of an operation that only reads, and its reply is the meaning on the state at its
@@ -20,7 +20,8 @@ pub record IsRead (S : Setup) (B : TableStart) (bs : List Batch) (d : ℕ) (r : 
   pub reply : S.meaning.reply (numbers_after B bs r.seq) r.op ≡ r.raw
 
 abbrev pub no_read : Read
-no_read = record { caller = 0; ticket = 0; op = []; raw = record { shape = 0; values = [] }; seq = 0 }
+no_read =
+    record { caller = 0; ticket = 0; op = []; raw = record { shape = 0; values = [] }; seq = 0 }
 
 -- of two reads of one caller the second is the later made, and has read no older state
 abbrev pub IsLaterRead : (first second : Read) → Type 0
@@ -28,7 +29,8 @@ IsLaterRead r q = r.caller ≡ q.caller → (r.ticket < q.ticket) × (r.seq ≤ 
 
 -- reads stand in the order of their answers
 abbrev pub AreInAnswerOrder : List Read → Type 0
-AreInAnswerOrder rs = (j k : ℕ) → j < k → k < length rs → IsLaterRead (get_or rs j no_read) (get_or rs k no_read)
+AreInAnswerOrder rs =
+    (j k : ℕ) → j < k → k < length rs → IsLaterRead (get_or rs j no_read) (get_or rs k no_read)
 
 -- of a call in batch k and a read of one caller the one made first stands first; a batch stands
 -- before the reads of its state
@@ -37,8 +39,8 @@ StandInCallOrder k c r = c.caller ≡ r.caller
     → ((c.ticket < r.ticket) × (k ≤ r.seq)) ⊎ ((r.ticket < c.ticket) × (r.seq < k))
 
 -- each read is lawful, and the calls of each caller stand in the order in which it made them
-pub record AreInCallOrder (S : Setup) (B : TableStart) (ws : List ℕ) (bs : List Batch) (rs : List Read)
-    : Type 0 where
+pub record AreInCallOrder (S : Setup) (B : TableStart) (ws : List ℕ) (bs : List Batch)
+    (rs : List Read) : Type 0 where
   pub reads : All (IsRead S B bs (durable_seq S ws)) rs
   pub successive : AreInAnswerOrder rs
   pub apart : (k : ℕ) → B.seq < k → k ≤ B.seq + length bs
@@ -69,11 +71,12 @@ IsOlder m p r = WasMadeBefore m r (is_idle p)
 
 -- what a machine has behind it: its caller's reads are older, and in a try none of them, and no
 -- call of its caller in a batch, is newer than the state that is read
-pub record HasOnlyOlderCalls (S : Setup) (B : TableStart) (ws : List ℕ) (bs : List Batch) (rs : List Read) (i : ℕ)
-    (m : CallState) (p : Place) : Type 0 where
+pub record HasOnlyOlderCalls (S : Setup) (B : TableStart) (ws : List ℕ) (bs : List Batch)
+    (rs : List Read) (i : ℕ) (m : CallState) (p : Place) : Type 0 where
   pub older : All (λ (r : Read). r.caller ≡ i → IsOlder m p r) rs
   pub seen : HasBegunTry m p → All (λ (r : Read). r.caller ≡ i → r.seq ≤ m.seq) rs
-  pub still : HasBegunTry m p → last_ticket_by S B bs m.seq i ≡ last_ticket_by S B bs (committed_seq ws) i
+  pub still : HasBegunTry m p
+      → last_ticket_by S B bs m.seq i ≡ last_ticket_by S B bs (committed_seq ws) i
 
 -- the order of calls in a world, and what each machine needs to keep it
 pub record KeepsCallOrder (S : Setup) (B : TableStart) (w : Moment) : Type 0 where

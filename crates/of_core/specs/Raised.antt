@@ -5,7 +5,7 @@ use Rattle.std.proofs.Common.{get_or}
 use Rattle.of_core.specs.declared.place.Op.TheVariants.{Raise}
 use Rattle.of_core.specs.Table.{Setup, cell_count, durable_at, durable_word}
 use Rattle.of_core.specs.Steps.{want}
-use Rattle.of_core.specs.World.{Moment, TableStart}
+use Rattle.of_core.specs.TableMoment.{Moment, TableStart}
 use Rattle.of_core.specs.Invariant.{MeetsInvariant, IsLoaded}
 use Rattle.of_core.specs.Events.{Event, after_event, MayHappen, after_events, opening_moment, one_if, machine_in, IsSchedule}
 use Rattle.of_core.specs.Laws.{EachSchedule}
@@ -21,8 +21,8 @@ lower_changes S w (e ∷ es) c v =
     one_if (goes_round (durable_word S w.words c) (durable_word S (after_event S w e).words c) v)
     + lower_changes S (after_event S w e) es c v
 
--- a word that was loaded for an eviction, with its cell, can change the durable word x of the cell c
--- to one below v
+-- a word that was loaded for an eviction, with its cell, can change the durable word x of the cell
+-- c to one below v
 abbrev pub is_pending : (x c v : ℕ) → ℕ × ℕ → Bool
 is_pending x c v e = (e.0 == c) && (nat_lt x e.1 && nat_lt e.1 v)
 
@@ -37,11 +37,13 @@ abbrev pub pending : Setup → Moment → (c v : ℕ) → ℕ
 pending S w c v = pending_among (durable_word S w.words c) c v w.loaded
 
 -- While a caller is about to raise a durable word to v, no call changes that word to one that is
--- still below v, whatever happens. An eviction that has loaded its word before does it at most once.
+-- still below v, whatever happens. An eviction that has loaded its word before does it at most
+-- once.
 abbrev pub RaisesAreShort : Setup → (List ℕ → Type 0) → Type 0
 RaisesAreShort S Lawful =
     (B : TableStart) (w : Moment) → MeetsInvariant S Lawful B w
-    → (i c v : ℕ) → i < S.callers → c < cell_count S → want S (machine_in w i) ≡ Raise (durable_at S c) v
+    → (i c v : ℕ) → i < S.callers → c < cell_count S
+    → want S (machine_in w i) ≡ Raise (durable_at S c) v
     → (es : List Event) → IsSchedule S w es → lower_changes S w es c v ≤ pending S w c v
 
 -- and the same of the raise of an eviction
@@ -55,7 +57,8 @@ EvictionsAreShort S Lawful =
 abbrev pub RaisesHeld : Setup → (List ℕ → Type 0) → Type 0
 RaisesHeld S Lawful =
     (B : TableStart) (w : Moment) → MeetsInvariant S Lawful B w
-    → (i c v : ℕ) → i < S.callers → c < cell_count S → want S (machine_in w i) ≡ Raise (durable_at S c) v
+    → (i c v : ℕ) → i < S.callers → c < cell_count S
+    → want S (machine_in w i) ≡ Raise (durable_at S c) v
     → v ≤ get_or w.words c 0
 
 -- In schedules from a start a cell changes only if its durable word is at least its word. So of all
@@ -71,7 +74,8 @@ CellsLevel S Lawful = EachSchedule S Lawful (λ B n es.
 abbrev pub RaisesUndisturbed : Setup → (List ℕ → Type 0) → Type 0
 RaisesUndisturbed S Lawful = EachSchedule S Lawful (λ B n es.
     let w : Moment = after_events S (opening_moment S B n) es in
-    (i c v : ℕ) → i < S.callers → c < cell_count S → want S (machine_in w i) ≡ Raise (durable_at S c) v
+    (i c v : ℕ) → i < S.callers → c < cell_count S
+    → want S (machine_in w i) ≡ Raise (durable_at S c) v
     → (ds : List Event) → IsSchedule S w ds → lower_changes S w ds c v ≡ 0)
 
 -- nor below a word that was loaded for an eviction
@@ -82,12 +86,13 @@ EvictionsUndisturbed S Lawful = EachSchedule S Lawful (λ B n es.
     → (ds : List Event) → IsSchedule S w ds
     → lower_changes S w ds (get_or w.loaded k (0, 0)).0 (get_or w.loaded k (0, 0)).1 ≡ 0)
 
--- that is, the durable word stays as it is until it is at least v: when the exchange of the loop has
--- failed, the next load ends it
+-- that is, the durable word stays as it is until it is at least v: when the exchange of the loop
+-- has failed, the next load ends it
 abbrev pub RaisesStand : Setup → (List ℕ → Type 0) → Type 0
 RaisesStand S Lawful = EachSchedule S Lawful (λ B n es.
     let w : Moment = after_events S (opening_moment S B n) es in
-    (i c v : ℕ) → i < S.callers → c < cell_count S → want S (machine_in w i) ≡ Raise (durable_at S c) v
+    (i c v : ℕ) → i < S.callers → c < cell_count S
+    → want S (machine_in w i) ≡ Raise (durable_at S c) v
     → (ds : List Event) → IsSchedule S w ds
     → (durable_word S (after_events S w ds).words c ≡ durable_word S w.words c)
     ⊎ (v ≤ durable_word S (after_events S w ds).words c))

@@ -8,9 +8,9 @@ use Rattle.of_mem.specs.Meaning.{is_marked, Agrees}
 use Rattle.std.specs.List.{All}
 use Rattle.of_core.specs.Table.{Setup, ticket_cell, shape_cell, reply_cell, request_of, log_word_of, durable_request, announcement_of, script_words_of, committed_seq, committed_owner}
 use Rattle.of_core.specs.Machine.{Call, CallState}
-use Rattle.of_core.specs.World.{Batch, TableStart}
+use Rattle.of_core.specs.TableMoment.{Batch, TableStart}
 use Rattle.of_core.specs.History.{batch_at, numbers_after, last_ticket_by}
-use Rattle.of_core.specs.Shared.{IsRequest}
+use Rattle.of_core.specs.WordsMatch.{IsRequest}
 
 -- the word that a machine knows its own durable request to have is one that its request has held
 abbrev pub KnowsOwnRequest : TableStart → List ℕ → List Batch → ℕ → ℕ → Type 0
@@ -18,10 +18,13 @@ KnowsOwnRequest B ws bs i v = (v ≤ request_of ws i) × IsRequest B ws bs i v
 
 -- caller i announces nothing that is to be run
 abbrev pub AnnouncesNothingNew : Setup → TableStart → List ℕ → List Batch → ℕ → Type 0
-AnnouncesNothingNew S B ws bs i = (seq_of (announcement_of S ws i) ≤ last_ticket_by S B bs (committed_seq ws) i) ⊎ (committed_seq ws ≡ S.limit)
+AnnouncesNothingNew S B ws bs i =
+    (seq_of (announcement_of S ws i) ≤ last_ticket_by S B bs (committed_seq ws) i)
+    ⊎ (committed_seq ws ≡ S.limit)
 
 -- a call that isn't announced yet
-pub record IsUnannounced (S : Setup) (B : TableStart) (ws : List ℕ) (bs : List Batch) (i : ℕ) (m : CallState) : Type 0 where
+pub record IsUnannounced (S : Setup) (B : TableStart) (ws : List ℕ) (bs : List Batch) (i : ℕ)
+    (m : CallState) : Type 0 where
   pub caller : m.caller ≡ i
   pub ticket : m.made < PAYLOADS
   pub words : length m.op ≤ S.instrs
@@ -37,10 +40,13 @@ pub record IsUnannounced (S : Setup) (B : TableStart) (ws : List ℕ) (bs : List
 
 -- each call of caller i in the batches that has this ticket is this one
 abbrev pub HasOneOperation : TableStart → List ℕ → List Batch → ℕ → ℕ → List ℕ → Type 0
-HasOneOperation B ws bs i t op = (k : ℕ) → B.seq < k → k ≤ committed_seq ws → All (λ (c : Call). c.caller ≡ i → c.ticket ≡ t → c.op ≡ op) (batch_at B bs k).calls
+HasOneOperation B ws bs i t op =
+    (k : ℕ) → B.seq < k → k ≤ committed_seq ws
+    → All (λ (c : Call). c.caller ≡ i → c.ticket ≡ t → c.op ≡ op) (batch_at B bs k).calls
 
 -- a call that is announced
-pub record IsAnnounced (S : Setup) (B : TableStart) (ws : List ℕ) (bs : List Batch) (i : ℕ) (m : CallState) : Type 0 where
+pub record IsAnnounced (S : Setup) (B : TableStart) (ws : List ℕ) (bs : List Batch) (i : ℕ)
+    (m : CallState) : Type 0 where
   pub caller : m.caller ≡ i
   pub ticket : m.made < PAYLOADS
   pub words : length m.op ≤ S.instrs
@@ -57,10 +63,14 @@ pub record IsAnnounced (S : Setup) (B : TableStart) (ws : List ℕ) (bs : List B
   -- where it is in a batch, it is there with these words
   pub mine : HasOneOperation B ws bs i m.made m.op
   -- it was announced before its first round, so it stood when any later batch was committed
-  pub known : 1 ≤ m.rounds → (B.seq ≤ m.first) × ((k : ℕ) → m.first < k → k ≤ committed_seq ws → (batch_at B bs k).announcements i ≡ announcement_of S ws i)
+  pub known : 1 ≤ m.rounds
+      → (B.seq ≤ m.first)
+      × ((k : ℕ) → m.first < k → k ≤ committed_seq ws
+      → (batch_at B bs k).announcements i ≡ announcement_of S ws i)
 
 -- a round at m.seq
-pub record IsInRound (S : Setup) (B : TableStart) (ws : List ℕ) (bs : List Batch) (i : ℕ) (m : CallState) : Type 0 where
+pub record IsInRound (S : Setup) (B : TableStart) (ws : List ℕ) (bs : List Batch) (i : ℕ)
+    (m : CallState) : Type 0 where
   -- the call is announced
   pub begun : IsAnnounced S B ws bs i m
   -- the round is at a sequence that stands
@@ -80,7 +90,8 @@ pub record IsInRound (S : Setup) (B : TableStart) (ws : List ℕ) (bs : List Bat
   pub few : m.rounds ≤ 3
 
 -- the current-transaction word was (s, o) at some moment
-pub record WasCurrent (S : Setup) (B : TableStart) (ws : List ℕ) (bs : List Batch) (s o : ℕ) : Type 0 where
+pub record WasCurrent (S : Setup) (B : TableStart) (ws : List ℕ) (bs : List Batch) (s o : ℕ)
+    : Type 0 where
   pub from : B.seq ≤ s
   pub upto : s ≤ committed_seq ws
   pub same : s ≡ committed_seq ws → o ≡ committed_owner ws
@@ -89,7 +100,8 @@ pub record WasCurrent (S : Setup) (B : TableStart) (ws : List ℕ) (bs : List Ba
   pub first : s ≡ B.seq → o ≡ B.owner
 
 -- a try of a read
-pub record IsInTry (S : Setup) (B : TableStart) (ws : List ℕ) (bs : List Batch) (i : ℕ) (m : CallState) : Type 0 where
+pub record IsInTry (S : Setup) (B : TableStart) (ws : List ℕ) (bs : List Batch) (i : ℕ)
+    (m : CallState) : Type 0 where
   pub fresh : IsUnannounced S B ws bs i m
   pub reads : S.meaning.reads_only m.op ≡ true
   pub few : m.tries ≤ MOST_TRIES
@@ -99,7 +111,8 @@ abbrev pub MayHelp : Setup → TableStart → List ℕ → List Batch → ℕ �
 MayHelp S B ws bs i m = IsInRound S B ws bs i m ⊎ IsInTry S B ws bs i m
 
 -- past the look at the request, a try or a round knows cells of its state
-pub record KnowsClosedState (S : Setup) (B : TableStart) (ws : List ℕ) (bs : List Batch) (s : ℕ) (known : List (Option ℕ)) : Type 0 where
+pub record KnowsClosedState (S : Setup) (B : TableStart) (ws : List ℕ) (bs : List Batch) (s : ℕ)
+    (known : List (Option ℕ)) : Type 0 where
   pub quiet : s ≡ committed_seq ws → B.seq < s → pack s 0 < request_of ws (committed_owner ws)
   pub agrees : Agrees known (numbers_after B bs s)
   pub all : length known ≡ S.cells
@@ -110,30 +123,37 @@ pub record IsBetweenRounds (ws : List ℕ) (m : CallState) : Type 0 where
   pub later : 1 ≤ m.rounds → m.first + m.rounds ≤ committed_seq ws
 
 -- past the look at the request: the transaction of the round's sequence isn't open
-pub record IsPastRequest (S : Setup) (B : TableStart) (ws : List ℕ) (bs : List Batch) (i : ℕ) (m : CallState) : Type 0 where
+pub record IsPastRequest (S : Setup) (B : TableStart) (ws : List ℕ) (bs : List Batch) (i : ℕ)
+    (m : CallState) : Type 0 where
   pub round : IsInRound S B ws bs i m
   -- the transaction of that sequence is closed, or a later one stands
-  pub quiet : m.seq ≡ committed_seq ws → B.seq < m.seq → pack m.seq 0 < request_of ws (committed_owner ws)
+  pub quiet : m.seq ≡ committed_seq ws → B.seq < m.seq
+      → pack m.seq 0 < request_of ws (committed_owner ws)
   -- what is known of cells is of its state
   pub agrees : Agrees m.known (numbers_after B bs m.seq)
   pub all : length m.known ≡ S.cells
 
--- past the look at one's own ticket: the call isn't in the history up to m.seq, and it isn't the last
-pub record IsPastOwnTicket (S : Setup) (B : TableStart) (ws : List ℕ) (bs : List Batch) (i : ℕ) (m : CallState) : Type 0 where
+-- past the look at one's own ticket: the call isn't in the history up to m.seq, and it isn't the
+-- last
+pub record IsPastOwnTicket (S : Setup) (B : TableStart) (ws : List ℕ) (bs : List Batch) (i : ℕ)
+    (m : CallState) : Type 0 where
   pub looks : IsPastRequest S B ws bs i m
   -- a batch may still be committed
   pub under : m.seq < S.limit
   -- the state has not run the call
   pub left : last_ticket_by S B bs m.seq i < m.made
 
--- a machine that has nothing under way: its own request and log words are no newer than n, its request is durable, and its own batches are closed
-pub record HasNothingUnderWay (S : Setup) (B : TableStart) (ws : List ℕ) (bs : List Batch) (i n : ℕ) : Type 0 where
+-- a machine that has nothing under way: its own request and log words are no newer than n, its
+-- request is durable, and its own batches are closed
+pub record HasNothingUnderWay (S : Setup) (B : TableStart) (ws : List ℕ) (bs : List Batch) (i n : ℕ)
+    : Type 0 where
   -- its request
   pub own : seq_of (request_of ws i) ≤ n
   -- is durable
   pub level : durable_request S ws i ≡ request_of ws i
   -- closes each of its batches
-  pub shut : (k : ℕ) → B.seq < k → k ≤ committed_seq ws → (batch_at B bs k).owner ≡ i → pack k 0 < request_of ws i
+  pub shut : (k : ℕ) → B.seq < k → k ≤ committed_seq ws → (batch_at B bs k).owner ≡ i
+      → pack k 0 < request_of ws i
   -- and its log words are old
   pub logs : (y : ℕ) → y < 2 * S.cells + 1 → seq_of (log_word_of S ws i y) ≤ n
 
@@ -145,5 +165,6 @@ pub record FindsOwnTicket (S : Setup) (st : List ℕ) (i : ℕ) (m : CallState) 
 -- the shape and the marked replies below j are those of the own cells
 pub record HasReadReplyUpTo (S : Setup) (st : List ℕ) (i : ℕ) (m : CallState) (j : ℕ) : Type 0 where
   pub shape : m.raw.shape ≡ payload_of (get_or st (shape_cell S i) 0)
-  pub replies : (y : ℕ) → y < j → is_marked m.raw.shape y ≡ true → get_or m.raw.values y 0 ≡ payload_of (get_or st (reply_cell S i y) 0)
+  pub replies : (y : ℕ) → y < j → is_marked m.raw.shape y ≡ true
+      → get_or m.raw.values y 0 ≡ payload_of (get_or st (reply_cell S i y) 0)
   pub many : length m.raw.values ≡ S.instrs

@@ -1,4 +1,5 @@
--- What the invariant says of a scan: the calls that were run are an overlay on the state of the round.
+-- What the invariant says of a scan: the calls that were run are an overlay on the state of the
+-- round.
 use Rattle.std.specs.Prelude.{ℕ, List, length, true, ◌≡◌, ◌≤◌, ◌<◌, ◌⊎◌}
 use Rattle.std.proofs.Common.{get_or}
 use Rattle.of_cell.specs.declared.word.TheConstants.{PAYLOADS}
@@ -8,9 +9,9 @@ use Rattle.of_mem.specs.Meaning.{is_marked, SameFrom, with_writes_in}
 use Rattle.std.specs.List.{All}
 use Rattle.of_core.specs.Table.{Setup, first_operation_cell, ticket_cell, shape_cell, reply_cell, announcement_of, script_words_of, committed_seq}
 use Rattle.of_core.specs.Machine.{Call, no_call, CallState}
-use Rattle.of_core.specs.World.{Batch, TableStart}
+use Rattle.of_core.specs.TableMoment.{Batch, TableStart}
 use Rattle.of_core.specs.History.{state_after, batch_at, numbers_after, numbers_after_calls, CallsHaveReplies, ticket_in_state, last_ticket_by, IsCellOfCaller, CallersRise}
-use Rattle.of_core.specs.Shared.{IsLog}
+use Rattle.of_core.specs.WordsMatch.{IsLog}
 
 -- the log names the cell with the number
 pub record LogsCell (es : List (ℕ × ℕ)) (a v : ℕ) : Type 0 where
@@ -22,16 +23,20 @@ pub record LogsCell (es : List (ℕ × ℕ)) (a v : ℕ) : Type 0 where
 pub record LogsOwnCells (S : Setup) (es : List (ℕ × ℕ)) (c : Call) : Type 0 where
   pub ticket : LogsCell es (ticket_cell S c.caller) c.ticket
   pub shape : LogsCell es (shape_cell S c.caller) c.raw.shape
-  pub replies : (y : ℕ) → y < S.instrs → is_marked c.raw.shape y ≡ true → LogsCell es (reply_cell S c.caller y) (get_or c.raw.values y 0)
+  pub replies : (y : ℕ) → y < S.instrs → is_marked c.raw.shape y ≡ true
+      → LogsCell es (reply_cell S c.caller y) (get_or c.raw.values y 0)
 
 -- the log is what the calls, in order, do to the list, with their own cells
 pub record IsOverlayOf (S : Setup) (xs : List ℕ) (cs : List Call) (es : List (ℕ × ℕ)) : Type 0 where
   pub is_log : IsLog S es
-  pub effect : SameFrom (first_operation_cell S) (with_writes_in xs es) (numbers_after_calls S.meaning xs cs)
+  pub effect : SameFrom (first_operation_cell S) (with_writes_in xs es)
+      (numbers_after_calls S.meaning xs cs)
   pub replies : CallsHaveReplies S.meaning xs cs
   pub own : All (LogsOwnCells S es) cs
   -- what it names below the others' cells is a caller's own that has a call
-  pub rows : (j : ℕ) → j < length es → (get_or es j (0, 0)).0 < first_operation_cell S → (y : ℕ) × (y < length cs) × IsCellOfCaller S (get_or cs y no_call).caller (get_or es j (0, 0)).0
+  pub rows : (j : ℕ) → j < length es → (get_or es j (0, 0)).0 < first_operation_cell S
+      → (y : ℕ) × (y < length cs)
+      × IsCellOfCaller S (get_or cs y no_call).caller (get_or es j (0, 0)).0
 
 -- the call is the one that its caller announces
 pub record IsAnnouncedCall (S : Setup) (ws : List ℕ) (c : Call) : Type 0 where
@@ -45,29 +50,40 @@ pub record WasTakenByScan (S : Setup) (st : List ℕ) (c : Call) : Type 0 where
   pub words : length c.op ≤ S.instrs
 
 -- the scan at sequence s, of a call of caller i, up to caller n
-pub record HasScannedUpTo (S : Setup) (B : TableStart) (ws : List ℕ) (bs : List Batch) (i s made : ℕ) (op : List ℕ) (raw : RawReply) (cs : List Call) (es : List (ℕ × ℕ)) (n : ℕ) : Type 0 where
+pub record HasScannedUpTo (S : Setup) (B : TableStart) (ws : List ℕ) (bs : List Batch)
+    (i s made : ℕ) (op : List ℕ) (raw : RawReply) (cs : List Call) (es : List (ℕ × ℕ)) (n : ℕ)
+    : Type 0 where
   pub over : IsOverlayOf S (numbers_after B bs s) cs es
   pub taken : All (WasTakenByScan S (state_after B bs s)) cs
   pub below : All (λ (c : Call). c.caller < n) cs
   pub ordered : CallersRise cs
   pub announced : s ≡ committed_seq ws → All (IsAnnouncedCall S ws) cs
   -- one's own call is among them
-  pub own : s ≡ committed_seq ws → i < n → (y : ℕ) × (y < length cs) × (get_or cs y no_call ≡ record { caller = i; ticket = made; op = op; raw = raw })
+  pub own : s ≡ committed_seq ws → i < n
+      → (y : ℕ) × (y < length cs)
+      × (get_or cs y no_call ≡ record { caller = i; ticket = made; op = op; raw = raw })
   -- an announcement that stood before batch s is run, or was run before
-  pub met : B.seq < s → (c : ℕ) → c < n → c < S.callers → (batch_at B bs s).announcements c ≡ announcement_of S ws c
-      → (seq_of (announcement_of S ws c) ≤ last_ticket_by S B bs s c) ⊎ ((y : ℕ) × (y < length cs) × ((get_or cs y no_call).caller ≡ c) × ((get_or cs y no_call).ticket ≡ seq_of (announcement_of S ws c)))
+  pub met : B.seq < s → (c : ℕ) → c < n → c < S.callers
+      → (batch_at B bs s).announcements c ≡ announcement_of S ws c
+      → (seq_of (announcement_of S ws c) ≤ last_ticket_by S B bs s c)
+      ⊎ ((y : ℕ) × (y < length cs) × ((get_or cs y no_call).caller ≡ c)
+      × ((get_or cs y no_call).ticket ≡ seq_of (announcement_of S ws c)))
 
 -- the announcement of caller c that a scan at s loaded
-pub record HasLoadedAnnouncement (S : Setup) (B : TableStart) (ws : List ℕ) (bs : List Batch) (i s c heard : ℕ) : Type 0 where
+pub record HasLoadedAnnouncement (S : Setup) (B : TableStart) (ws : List ℕ) (bs : List Batch)
+    (i s c heard : ℕ) : Type 0 where
   pub own : c ≡ i → announcement_of S ws c ≡ heard
   pub ticket : seq_of heard < PAYLOADS
-  pub fresh : s ≡ committed_seq ws → last_ticket_by S B bs s c < seq_of heard → announcement_of S ws c ≡ heard
-  pub stood : B.seq < s → (batch_at B bs s).announcements c ≡ announcement_of S ws c → announcement_of S ws c ≡ heard
+  pub fresh : s ≡ committed_seq ws → last_ticket_by S B bs s c < seq_of heard
+      → announcement_of S ws c ≡ heard
+  pub stood : B.seq < s → (batch_at B bs s).announcements c ≡ announcement_of S ws c
+      → announcement_of S ws c ≡ heard
   pub small : payload_of heard ≤ S.instrs
   pub some : 0 < seq_of heard → 1 ≤ payload_of heard
 
 -- a script of which j words are loaded
-pub record HasLoadedScript (S : Setup) (st ws : List ℕ) (s c heard : ℕ) (script : List ℕ) (j : ℕ) : Type 0 where
+pub record HasLoadedScript (S : Setup) (st ws : List ℕ) (s c heard : ℕ) (script : List ℕ) (j : ℕ)
+    : Type 0 where
   pub new : ticket_in_state S st c < seq_of heard
   pub words : s ≡ committed_seq ws → script ≡ script_words_of S ws c j
   pub many : length script ≡ j

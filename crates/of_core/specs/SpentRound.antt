@@ -6,7 +6,7 @@ use Rattle.of_core.specs.declared.place.Outcome.TheVariants.{Spent}
 use Rattle.of_core.specs.Table.{Setup, announcement_of}
 use Rattle.of_core.specs.Machine.{CallState, IsOpen}
 use Rattle.of_core.specs.Steps.{take_word}
-use Rattle.of_core.specs.World.{Moment}
+use Rattle.of_core.specs.TableMoment.{Moment}
 use Rattle.of_core.specs.Laws.{EachStep}
 
 -- the call of the machine m of caller i is spent at s by its next step
@@ -23,5 +23,6 @@ pub record IsSpentInRound (S : Setup) (w : Moment) (i : ℕ) (m : CallState) (s 
 -- a step that ends a call as spent looks for the call's ticket in a round
 abbrev pub SpentInRounds : Setup → (List ℕ → Type 0) → Type 0
 SpentInRounds S Lawful = EachStep S Lawful (λ B w i m n.
-    (s : ℕ) → IsOpen m.place → (take_word S m n).place ≡ Idle → (take_word S m n).answer ≡ Some (Spent s)
+    (s : ℕ) → IsOpen m.place → (take_word S m n).place ≡ Idle
+    → (take_word S m n).answer ≡ Some (Spent s)
     → IsSpentInRound S w i m s)

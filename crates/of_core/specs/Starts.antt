@@ -2,13 +2,14 @@
 -- recovery finds.
 use Rattle.std.specs.Prelude.{◌≡◌, ℕ, ◌+◌, ◌*◌, ◌-◌, ◌<◌, List, ◌∷◌, ◌++◌, length, slice_range}
 use Rattle.std.proofs.Common.{get_or, set, replicate, zero, suc}
+use Rattle.of_cell.specs.declared.shape.Shape.{Shape}
 use Rattle.of_cell.specs.Words.{pack, seq_of, payload_of}
 use Rattle.of_cell.specs.Cells.{data_cell, durable_cells}
 use Rattle.of_recover.specs.Recovered.{recovered_words}
 use Rattle.of_core.specs.Table.{Setup, cell_count, durable_word, durable_seq}
-use Rattle.of_core.specs.World.{Moment, TableStart}
+use Rattle.of_core.specs.TableMoment.{Moment, TableStart}
 use Rattle.of_core.specs.History.{state_after}
-use Rattle.of_core.specs.Shared.{MayStart}
+use Rattle.of_core.specs.WordsMatch.{MayStart}
 
 -- the request of a start's owner: closed, where there is a transaction behind the start
 abbrev pub closed_request : ℕ → ℕ
@@ -36,6 +37,10 @@ start_from_durable callers cells row = record {
   owner = payload_of (get_or row 0 0);
   cells = slice_range row (data_cell callers 0) (data_cell callers 0 + cells);
 }
+
+-- the start that it is on a table of this shape
+abbrev pub start_on : Shape → List ℕ → TableStart
+start_on shape row = start_from_durable shape.callers shape.cells row
 
 -- the row is the durable words, cell by cell
 pub record IsDurable (S : Setup) (ws row : List ℕ) : Type 0 where

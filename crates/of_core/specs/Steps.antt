@@ -1,18 +1,19 @@
--- The order of steps: what a machine asks for at each place, and how it goes on with the word that was found.
-use Rattle.std.specs.Prelude.{◌≡◌, ℕ, ◌+◌, ◌*◌, ◌==◌, nat_lt, max, ◌-◌, List, [], ◌∷◌, ◌++◌, length, Option, Some, None, Bool, true, false, if◌then◌else◌, ◌&&◌}
+-- The order of steps: what a machine asks for at each place, and how it goes on with the word that
+-- was found.
+use Rattle.std.specs.Prelude.{◌≡◌, ◌<◌, ℕ, ◌+◌, ◌*◌, ◌==◌, nat_lt, max, ◌-◌, List, [], ◌∷◌, ◌++◌, length, Option, Some, None, Bool, true, false, if◌then◌else◌, ◌&&◌}
 use Rattle.std.proofs.Common.{get_or, set, replicate, zero, suc}
 use Rattle.of_core.specs.declared.machine.trying.TheConstants.{MOST_TRIES}
 use Rattle.of_cell.specs.Words.{pack, seq_of, payload_of}
 use Rattle.of_mem.specs.declared.work.RawReply.{RawReply}
 use Rattle.of_mem.specs.Meaning.{WalkEnd, Needs, Gives, is_marked}
-use Rattle.of_mem.specs.Pairs.{put_all}
-use Rattle.of_mem.specs.Pad.{overlaid}
+use Rattle.of_mem.specs.CellMap.{put_all}
+use Rattle.of_mem.specs.Part.{overlaid}
 use Rattle.of_core.specs.declared.place.Place.{Place}
 use Rattle.of_core.specs.declared.place.Place.TheVariants.{Idle, TryCurrent, TryRequest, TryCell, StoreScript, StoreAnnouncement, LoadCurrent, LoadRequest, CopyLog, LookAgain, LoadOwnTicket, LoadShape, LoadReply, LoadAnnouncement, LoadTicket, LoadScript, LoadCell, RaiseOld, StoreLog, RaiseLog, StoreRequest, RaiseRequest, ExchangeCurrent, RaiseCurrent, LoadTarget, ExchangeTarget, ReloadTarget, RaiseTarget, CloseRequest, RaiseClosed}
 use Rattle.of_core.specs.declared.place.Op.{Op}
 use Rattle.of_core.specs.declared.place.Op.TheVariants.{Load, Store, Exchange, Raise}
 use Rattle.of_core.specs.declared.place.Outcome.TheVariants.{Answered, Spent}
-use Rattle.of_core.specs.Table.{Setup, request_at, data_at, log_at, durable_at, script_word_at, ticket_cell, shape_cell, reply_cell}
+use Rattle.of_core.specs.Table.{Setup, words_before_members, request_at, data_at, log_at, durable_at, script_word_at, ticket_cell, shape_cell, reply_cell}
 use Rattle.of_core.specs.Machine.{Call, CallState, log_entry, log_words, log_of, entries_going_round, no_cell_known, with_cell_known, own_cells}
 
 -- what the machine m asks for at a place
@@ -22,7 +23,8 @@ want_at S m TryCurrent = Load 0
 want_at S m TryRequest = Load (request_at m.owner)
 want_at S m (TryCell a) = Load (data_at S a)
 want_at S m (StoreScript j) = Store (script_word_at S m.caller j) (get_or m.op j 0)
-want_at S m StoreAnnouncement = Store (script_word_at S m.caller S.instrs) (pack m.made (length m.op))
+want_at S m StoreAnnouncement =
+    Store (script_word_at S m.caller S.instrs) (pack m.made (length m.op))
 want_at S m LoadCurrent = Load 0
 want_at S m LoadRequest = Load (request_at m.owner)
 want_at S m (CopyLog x) = Load (log_at S m.owner x)
@@ -35,14 +37,17 @@ want_at S m LoadTicket = Load (data_at S (ticket_cell S m.scan))
 want_at S m (LoadScript j) = Load (script_word_at S m.scan j)
 want_at S m (LoadCell a) = Load (data_at S a)
 want_at S m RaiseOld = Raise (durable_at S (request_at m.caller)) m.kept
-want_at S m (StoreLog x) = Store (log_at S m.caller x) (pack (m.seq + 1) (get_or (log_words m.log) x 0))
-want_at S m (RaiseLog x) = Raise (durable_at S (log_at S m.caller x)) (pack (m.seq + 1) (get_or (log_words m.log) x 0))
+want_at S m (StoreLog x) =
+    Store (log_at S m.caller x) (pack (m.seq + 1) (get_or (log_words m.log) x 0))
+want_at S m (RaiseLog x) =
+    Raise (durable_at S (log_at S m.caller x)) (pack (m.seq + 1) (get_or (log_words m.log) x 0))
 want_at S m StoreRequest = Store (request_at m.caller) (pack (m.seq + 1) 0)
 want_at S m RaiseRequest = Raise (durable_at S (request_at m.caller)) (pack (m.seq + 1) 0)
 want_at S m ExchangeCurrent = Exchange 0 (pack m.seq m.owner) (pack (m.seq + 1) m.caller)
 want_at S m RaiseCurrent = Raise (durable_at S 0) (pack m.seq m.owner)
 want_at S m (LoadTarget j) = Load (data_at S (log_entry m j).0)
-want_at S m (ExchangeTarget j found) = Exchange (data_at S (log_entry m j).0) found (pack m.seq (log_entry m j).1)
+want_at S m (ExchangeTarget j found) =
+    Exchange (data_at S (log_entry m j).0) found (pack m.seq (log_entry m j).1)
 want_at S m (ReloadTarget j) = Load (data_at S (log_entry m j).0)
 want_at S m (RaiseTarget j found) = Raise (durable_at S (data_at S (log_entry m j).0)) found
 want_at S m CloseRequest = Exchange (request_at m.owner) (pack m.seq 0) (pack m.seq 1)
@@ -58,6 +63,10 @@ word_of (Load c) = c
 word_of (Store c v) = c
 word_of (Exchange c old new) = c
 word_of (Raise c v) = c
+
+-- it is on a word of the table
+abbrev pub IsOnTable : Setup → Op → Type 0
+IsOnTable S o = word_of o < words_before_members S
 
 -- what it leaves there, where it found this
 abbrev pub word_left : Op → ℕ → ℕ
@@ -84,10 +93,12 @@ abbrev pub after_store_script : CallState → ℕ → (more : Bool) → CallStat
 after_store_script m j true = record m { place = StoreScript (j + 1) }
 after_store_script m j false = record m { place = StoreAnnouncement }
 
--- Trying a read: its run goes on as far as the cells of the state are known, and the call is answered at its end.
+-- Trying a read: its run goes on as far as the cells of the state are known, and the call is
+-- answered at its end.
 abbrev pub after_read_run : CallState → WalkEnd → CallState
 after_read_run m (Needs a) = record m { place = TryCell a }
-after_read_run m (Gives es r) = record m { place = Idle; answer = Some (Answered m.seq false r m.steps); steps = 0 }
+after_read_run m (Gives es r) =
+    record m { place = Idle; answer = Some (Answered m.seq false r m.steps); steps = 0 }
 
 abbrev pub read_on : Setup → CallState → CallState
 read_on S m = after_read_run m (S.meaning.walk m.known m.op)
@@ -123,7 +134,14 @@ first_round_seq m s false = m.first
 
 -- behind the look at the request, or the help: one's own ticket comes next
 abbrev pub enter : Setup → CallState → CallState
-enter S m = record m { place = LoadOwnTicket; known = no_cell_known S; helps = false; log = []; calls = []; scan = 0 }
+enter S m = record m {
+  place = LoadOwnTicket;
+  known = no_cell_known S;
+  helps = false;
+  log = [];
+  calls = [];
+  scan = 0;
+}
 
 abbrev pub resume : Setup → CallState → (in_try : Bool) → CallState
 resume S m true = begin_reading S m
@@ -133,28 +151,41 @@ abbrev pub after_load_request : Setup → CallState → (opened : Bool) → Call
 after_load_request S m true = record m { place = CopyLog 0; copy = []; helps = true }
 after_load_request S m false = enter S m
 
--- Helping: the owner's log words are copied, as many as the count says, and its request is looked at again.
+-- Helping: the owner's log words are copied, as many as the count says, and its request is looked
+-- at again.
 abbrev pub with_log_word_copied : CallState → ℕ → List ℕ
 with_log_word_copied m found = m.copy ++ payload_of found ∷ []
 
 abbrev pub after_copy_log : CallState → (x found : ℕ) → (more : Bool) → CallState
-after_copy_log m x found true = record m { place = CopyLog (x + 1); copy = with_log_word_copied m found }
+after_copy_log m x found true =
+    record m { place = CopyLog (x + 1); copy = with_log_word_copied m found }
 after_copy_log m x found false = record m { place = LookAgain; copy = with_log_word_copied m found }
 
 abbrev pub after_look_again : Setup → CallState → (opened in_try : Bool) → CallState
-after_look_again S m true in_try = record m { place = RaiseCurrent; log = entries_going_round (S.begins m.caller (length (log_of m.copy))) (log_of m.copy) }
+after_look_again S m true in_try = record m {
+  place = RaiseCurrent;
+  log = entries_going_round (S.begins m.caller (length (log_of m.copy))) (log_of m.copy);
+}
 after_look_again S m false in_try = resume S m in_try
 
--- One's own ticket: where it is there the call is in the history, and its reply is read; else it is spent at the limit.
+-- One's own ticket: where it is there the call is in the history, and its reply is read; else it is
+-- spent at the limit.
 abbrev pub end_spent : CallState → CallState
 end_spent m = record m { place = Idle; answer = Some (Spent m.seq); steps = 0 }
 
 abbrev pub end_from_own_cells : CallState → CallState
-end_from_own_cells m = record m { place = Idle; answer = Some (Answered (seq_of m.heard) true m.raw m.steps); steps = 0 }
+end_from_own_cells m = record m {
+  place = Idle;
+  answer = Some (Answered (seq_of m.heard) true m.raw m.steps);
+  steps = 0;
+}
 
 abbrev pub after_own_ticket_absent : Setup → CallState → ℕ → (at_limit : Bool) → CallState
 after_own_ticket_absent S m found true = end_spent m
-after_own_ticket_absent S m found false = record m { place = LoadAnnouncement; known = with_cell_known S m (ticket_cell S m.caller) found }
+after_own_ticket_absent S m found false = record m {
+  place = LoadAnnouncement;
+  known = with_cell_known S m (ticket_cell S m.caller) found;
+}
 
 abbrev pub after_own_ticket_found : Setup → CallState → ℕ → (there at_limit : Bool) → CallState
 after_own_ticket_found S m found true at_limit = record m { place = LoadShape; heard = found }
@@ -167,27 +198,35 @@ after_own_ticket S m found false there at_limit = after_own_ticket_found S m fou
 -- the first marked place from j on, of n
 abbrev pub first_marked_place : (shape j n : ℕ) → Option ℕ
 first_marked_place shape j zero = None
-first_marked_place shape j (suc n) = if is_marked shape j then Some j else first_marked_place shape (j + 1) n
+first_marked_place shape j (suc n) =
+    if is_marked shape j then Some j else first_marked_place shape (j + 1) n
 
 abbrev pub next_reply_place : CallState → Option ℕ → CallState
 next_reply_place m None = end_from_own_cells m
 next_reply_place m (Some j) = record m { place = LoadReply j }
 
 abbrev pub with_shape : Setup → CallState → ℕ → CallState
-with_shape S m found = record m { raw = record { shape = payload_of found; values = replicate S.instrs 0 } }
+with_shape S m found =
+    record m { raw = record { shape = payload_of found; values = replicate S.instrs 0 } }
 
 abbrev pub after_load_shape : Setup → CallState → ℕ → (newer : Bool) → CallState
 after_load_shape S m found true = next_round m
-after_load_shape S m found false = next_reply_place (with_shape S m found) (first_marked_place (payload_of found) 0 S.instrs)
+after_load_shape S m found false =
+    next_reply_place (with_shape S m found) (first_marked_place (payload_of found) 0 S.instrs)
 
 abbrev pub with_reply : CallState → (j found : ℕ) → CallState
-with_reply m j found = record m { raw = record { shape = m.raw.shape; values = set m.raw.values j (payload_of found) } }
+with_reply m j found = record m {
+  raw = record { shape = m.raw.shape; values = set m.raw.values j (payload_of found) };
+}
 
 abbrev pub after_load_reply : Setup → CallState → (j found : ℕ) → (newer : Bool) → CallState
 after_load_reply S m j found true = next_round m
-after_load_reply S m j found false = next_reply_place (with_reply m j found) (first_marked_place m.raw.shape (j + 1) (S.instrs - j - 1))
+after_load_reply S m j found false =
+    next_reply_place (with_reply m j found)
+    (first_marked_place m.raw.shape (j + 1) (S.instrs - j - 1))
 
--- The scan: of each caller in turn the announcement, and where it isn't known the ticket cell. A call with a new ticket is run.
+-- The scan: of each caller in turn the announcement, and where it isn't known the ticket cell. A
+-- call with a new ticket is run.
 abbrev pub place_behind : (more : Bool) → Place
 place_behind true = LoadAnnouncement
 place_behind false = RaiseOld
@@ -201,13 +240,17 @@ weigh S m false = next_scanned_caller m (nat_lt (m.scan + 1) S.callers)
 
 abbrev pub after_announcement : Setup → CallState → ℕ → (ticket : Option ℕ) → CallState
 after_announcement S m found None = record m { place = LoadTicket; heard = found }
-after_announcement S m found (Some v) = weigh S (record m { heard = found }) (nat_lt v (seq_of found))
+after_announcement S m found (Some v) =
+    weigh S (record m { heard = found }) (nat_lt v (seq_of found))
 
 abbrev pub after_load_ticket : Setup → CallState → ℕ → (newer : Bool) → CallState
 after_load_ticket S m found true = next_round m
-after_load_ticket S m found false = weigh S (record m { known = with_cell_known S m (ticket_cell S m.scan) found }) (nat_lt (payload_of found) (seq_of m.heard))
+after_load_ticket S m found false =
+    weigh S (record m { known = with_cell_known S m (ticket_cell S m.scan) found })
+    (nat_lt (payload_of found) (seq_of m.heard))
 
--- the call that the scan has come to, as it was run: its writes go on top of those of the calls before it, and its own cells behind them
+-- the call that the scan has come to, as it was run: its writes go on top of those of the calls
+-- before it, and its own cells behind them
 abbrev pub call_as_run : CallState → RawReply → Call
 call_as_run m r = record { caller = m.scan; ticket = seq_of m.heard; op = m.script; raw = r }
 
@@ -226,7 +269,8 @@ with_call_run S m es r = record m {
 -- a run that needs a cell begins again when the cell is known
 abbrev pub after_script_run : Setup → CallState → WalkEnd → CallState
 after_script_run S m (Needs a) = record m { place = LoadCell a }
-after_script_run S m (Gives es r) = next_scanned_caller (with_call_run S m es r) (nat_lt (m.scan + 1) S.callers)
+after_script_run S m (Gives es r) =
+    next_scanned_caller (with_call_run S m es r) (nat_lt (m.scan + 1) S.callers)
 
 abbrev pub run_script : Setup → CallState → CallState
 run_script S m = after_script_run S m (S.meaning.walk (overlaid m.known m.log) m.script)
@@ -235,23 +279,27 @@ abbrev pub with_script_word : CallState → ℕ → List ℕ
 with_script_word m found = m.script ++ found ∷ []
 
 abbrev pub after_load_script : Setup → CallState → (j found : ℕ) → (more : Bool) → CallState
-after_load_script S m j found true = record m { place = LoadScript (j + 1); script = with_script_word m found }
+after_load_script S m j found true =
+    record m { place = LoadScript (j + 1); script = with_script_word m found }
 after_load_script S m j found false = run_script S (record m { script = with_script_word m found })
 
 abbrev pub after_load_cell : Setup → CallState → (a found : ℕ) → (newer : Bool) → CallState
 after_load_cell S m a found true = next_round m
 after_load_cell S m a found false = run_script S (record m { known = with_cell_known S m a found })
 
--- The log: each word is stored and raised, and then the request; the current-transaction word is exchanged last.
+-- The log: each word is stored and raised, and then the request; the current-transaction word is
+-- exchanged last.
 abbrev pub after_raise_log : CallState → ℕ → (more : Bool) → CallState
 after_raise_log m x true = record m { place = StoreLog (x + 1) }
 after_raise_log m x false = record m { place = StoreRequest }
 
 abbrev pub after_commit_exchange : CallState → (won : Bool) → CallState
-after_commit_exchange m true = record m { place = RaiseCurrent; helps = false; seq = m.seq + 1; owner = m.caller }
+after_commit_exchange m true =
+    record m { place = RaiseCurrent; helps = false; seq = m.seq + 1; owner = m.caller }
 after_commit_exchange m false = next_round m
 
--- Applying: the current-transaction word is raised, each entry's cell is exchanged where it is older, and raised; then the request is closed.
+-- Applying: the current-transaction word is raised, each entry's cell is exchanged where it is
+-- older, and raised; then the request is closed.
 abbrev pub after_raise_current : CallState → (some : Bool) → CallState
 after_raise_current m true = record m { place = LoadTarget 0 }
 after_raise_current m false = record m { place = CloseRequest }
@@ -267,32 +315,55 @@ next_entry m j false = record m { place = CloseRequest }
 -- a helper goes on with its round or try, and an owner is answered
 abbrev pub after_raise_closed : Setup → CallState → (helps in_try : Bool) → CallState
 after_raise_closed S m true in_try = resume S m in_try
-after_raise_closed S m false in_try = record m { place = Idle; answer = Some (Answered m.seq true m.raw m.steps); kept = pack m.seq 1; steps = 0 }
+after_raise_closed S m false in_try = record m {
+  place = Idle;
+  answer = Some (Answered m.seq true m.raw m.steps);
+  kept = pack m.seq 1;
+  steps = 0;
+}
 
 -- the machine after its step from a place found this number; the step is counted before
 abbrev pub take_word_at : Setup → CallState → (found : ℕ) → Place → CallState
 take_word_at S m found Idle = m
-take_word_at S m found TryCurrent = record m { place = TryRequest; seq = seq_of found; owner = payload_of found; tries = m.tries + 1 }
+take_word_at S m found TryCurrent = record m {
+  place = TryRequest;
+  seq = seq_of found;
+  owner = payload_of found;
+  tries = m.tries + 1;
+}
 take_word_at S m found TryRequest = after_try_request S m (is_request_open m.seq found)
 take_word_at S m found (TryCell a) = after_try_cell S m a found (nat_lt m.seq (seq_of found))
 take_word_at S m found (StoreScript j) = after_store_script m j (nat_lt (j + 1) (length m.op))
 take_word_at S m found StoreAnnouncement = record m { place = LoadCurrent }
-take_word_at S m found LoadCurrent = record m { place = LoadRequest; seq = seq_of found; owner = payload_of found; rounds = m.rounds + 1; first = first_round_seq m (seq_of found) (m.rounds == 0) }
+take_word_at S m found LoadCurrent = record m {
+  place = LoadRequest;
+  seq = seq_of found;
+  owner = payload_of found;
+  rounds = m.rounds + 1;
+  first = first_round_seq m (seq_of found) (m.rounds == 0);
+}
 take_word_at S m found LoadRequest = after_load_request S m (is_request_open m.seq found)
-take_word_at S m found (CopyLog x) = after_copy_log m x found (nat_lt (x + 1) (2 * get_or (with_log_word_copied m found) 0 0 + 1))
+take_word_at S m found (CopyLog x) =
+    after_copy_log m x found (nat_lt (x + 1) (2 * get_or (with_log_word_copied m found) 0 0 + 1))
 take_word_at S m found LookAgain = after_look_again S m (found == pack m.seq 0) (m.rounds == 0)
-take_word_at S m found LoadOwnTicket = after_own_ticket S m found (nat_lt m.seq (seq_of found)) (payload_of found == m.made) (m.seq == S.limit)
+take_word_at S m found LoadOwnTicket =
+    after_own_ticket S m found (nat_lt m.seq (seq_of found))
+    (payload_of found == m.made) (m.seq == S.limit)
 take_word_at S m found LoadShape = after_load_shape S m found (nat_lt m.seq (seq_of found))
 take_word_at S m found (LoadReply j) = after_load_reply S m j found (nat_lt m.seq (seq_of found))
-take_word_at S m found LoadAnnouncement = after_announcement S m found (get_or m.known (ticket_cell S m.scan) None)
+take_word_at S m found LoadAnnouncement =
+    after_announcement S m found (get_or m.known (ticket_cell S m.scan) None)
 take_word_at S m found LoadTicket = after_load_ticket S m found (nat_lt m.seq (seq_of found))
-take_word_at S m found (LoadScript j) = after_load_script S m j found (nat_lt (j + 1) (payload_of m.heard))
+take_word_at S m found (LoadScript j) =
+    after_load_script S m j found (nat_lt (j + 1) (payload_of m.heard))
 take_word_at S m found (LoadCell a) = after_load_cell S m a found (nat_lt m.seq (seq_of found))
 take_word_at S m found RaiseOld = record m { place = StoreLog 0 }
 take_word_at S m found (StoreLog x) = record m { place = RaiseLog x }
-take_word_at S m found (RaiseLog x) = after_raise_log m x (nat_lt (x + 1) (length (log_words m.log)))
+take_word_at S m found (RaiseLog x) =
+    after_raise_log m x (nat_lt (x + 1) (length (log_words m.log)))
 take_word_at S m found StoreRequest = record m { place = RaiseRequest }
-take_word_at S m found RaiseRequest = record m { place = ExchangeCurrent; kept = pack (m.seq + 1) 0 }
+take_word_at S m found RaiseRequest =
+    record m { place = ExchangeCurrent; kept = pack (m.seq + 1) 0 }
 take_word_at S m found ExchangeCurrent = after_commit_exchange m (found == pack m.seq m.owner)
 take_word_at S m found RaiseCurrent = after_raise_current m (nat_lt 0 (length m.log))
 take_word_at S m found (LoadTarget j) = after_load_target m j found (nat_lt (seq_of found) m.seq)

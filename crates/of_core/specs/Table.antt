@@ -1,6 +1,7 @@
 -- The words of the shared table: which stand where, and what they are called.
 use Rattle.std.specs.Prelude.{ℕ, List, [], ◌∷◌, ◌++◌, ◌%◌}
 use Rattle.std.proofs.Common.{get_or, zero, suc}
+use Rattle.of_cell.specs.declared.shape.Shape.{Shape}
 use Rattle.of_cell.specs.Words.{seq_of, payload_of}
 use Rattle.of_cell.specs.Cells.{request_cell, data_cell, log_cell, durable_cells, durable_place, script_place, members_place}
 use Rattle.of_recover.specs.Row.{current_seq}
@@ -23,9 +24,21 @@ pub record Setup : Type 0 where
 
 -- helper i begins at entry i mod n and goes round
 abbrev pub setup_of : (callers cells limit : ℕ) → Meaning → Setup
-setup_of n m l meaning = record { callers = n; instrs = MOST_INSTRS; cells = m; limit = l; begins = λ i n. i % n; meaning = meaning }
+setup_of n m l meaning = record {
+  callers = n;
+  instrs = MOST_INSTRS;
+  cells = m;
+  limit = l;
+  begins = λ i n. i % n;
+  meaning = meaning;
+}
 
--- Cells. Cell 0 names the last committed transaction; a request for each caller, the data cells and each caller's log words follow.
+-- on a table of this shape
+abbrev pub setup_on : Shape → (limit : ℕ) → Meaning → Setup
+setup_on shape limit meaning = setup_of shape.callers shape.cells limit meaning
+
+-- Cells. Cell 0 names the last committed transaction; a request for each caller, the data cells and
+-- each caller's log words follow.
 abbrev pub request_at : ℕ → ℕ
 request_at i = request_cell i
 
@@ -50,7 +63,8 @@ script_word_at S i x = script_place S.callers S.instrs S.cells i x
 abbrev pub words_before_members : Setup → ℕ
 words_before_members S = members_place S.callers S.instrs S.cells
 
--- Data cells. Each caller's own come first: the ticket, the shape and the reply of its last announced call that was run.
+-- Data cells. Each caller's own come first: the ticket, the shape and the reply of its last
+-- announced call that was run.
 abbrev pub ticket_cell : Setup → ℕ → ℕ
 ticket_cell S i = ticket_cell_at S.instrs i
 
@@ -59,6 +73,16 @@ shape_cell S i = shape_at S.instrs i
 
 abbrev pub reply_cell : Setup → ℕ → ℕ → ℕ
 reply_cell S i j = reply_at S.instrs i j
+
+-- where they stand on the table
+abbrev pub ticket_word_at : Setup → ℕ → ℕ
+ticket_word_at S i = data_at S (ticket_cell S i)
+
+abbrev pub shape_word_at : Setup → ℕ → ℕ
+shape_word_at S i = data_at S (shape_cell S i)
+
+abbrev pub reply_word_at : Setup → ℕ → ℕ → ℕ
+reply_word_at S i j = data_at S (reply_cell S i j)
 
 -- where the operations' own cells begin
 abbrev pub first_operation_cell : Setup → ℕ

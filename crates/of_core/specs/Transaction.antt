@@ -1,16 +1,18 @@
--- What the invariant says of one's own log and request, and of a transaction that is copied or applied.
+-- What the invariant says of one's own log and request, and of a transaction that is copied or
+-- applied.
 use Rattle.std.specs.Prelude.{ℕ, ◌+◌, ◌*◌, List, length, Bool, true, false, ◌≡◌, ◌≤◌, ◌<◌, ◌⊎◌}
 use Rattle.std.proofs.Common.{get_or, take}
 use Rattle.of_cell.specs.Words.{pack, seq_of}
 use Rattle.of_core.specs.Table.{Setup, request_of, data_word, log_word_of, durable_request, durable_cell, durable_log, announcement_of, committed_seq}
 use Rattle.of_core.specs.Machine.{CallState, log_entry, log_words}
-use Rattle.of_core.specs.World.{Batch, TableStart}
+use Rattle.of_core.specs.TableMoment.{Batch, TableStart}
 use Rattle.of_core.specs.History.{batch_at, last_ticket_by, HasCall}
 use Rattle.of_core.specs.Rounds.{WasCurrent, MayHelp, IsPastOwnTicket, HasNothingUnderWay}
 use Rattle.of_core.specs.Scan.{HasScannedUpTo}
 
 -- the owner of batch m.seq, after its exchange
-pub record OwnsTransaction (S : Setup) (B : TableStart) (ws : List ℕ) (bs : List Batch) (i : ℕ) (m : CallState) : Type 0 where
+pub record OwnsTransaction (S : Setup) (B : TableStart) (ws : List ℕ) (bs : List Batch) (i : ℕ)
+    (m : CallState) : Type 0 where
   pub caller : m.caller ≡ i
   pub owner : m.owner ≡ i
   pub says : seq_of (announcement_of S ws i) ≡ m.made
@@ -23,26 +25,36 @@ pub record OwnsTransaction (S : Setup) (B : TableStart) (ws : List ℕ) (bs : Li
 
 -- who applies: a helper in its round, or the owner
 abbrev pub AppliesAs : Setup → TableStart → List ℕ → List Batch → ℕ → CallState → Bool → Type 0
-AppliesAs S B ws bs i m true = MayHelp S B ws bs i m × WasCurrent S B ws bs m.seq m.owner × HasNothingUnderWay S B ws bs i m.seq
+AppliesAs S B ws bs i m true =
+    MayHelp S B ws bs i m × WasCurrent S B ws bs m.seq m.owner
+    × HasNothingUnderWay S B ws bs i m.seq
 AppliesAs S B ws bs i m false = OwnsTransaction S B ws bs i m
 
 -- the second list has the entries of the first, in some order
 pub record IsReorderingOf (es ds : List (ℕ × ℕ)) : Type 0 where
   pub many : length ds ≡ length es
-  pub each : (j : ℕ) → j < length ds → (k : ℕ) × (k < length es) × (get_or es k (0, 0) ≡ get_or ds j (0, 0))
-  pub all : (k : ℕ) → k < length es → (j : ℕ) × (j < length ds) × (get_or ds j (0, 0) ≡ get_or es k (0, 0))
+  pub each : (j : ℕ) → j < length ds
+      → (k : ℕ) × (k < length es) × (get_or es k (0, 0) ≡ get_or ds j (0, 0))
+  pub all : (k : ℕ) → k < length es
+      → (j : ℕ) × (j < length ds) × (get_or ds j (0, 0) ≡ get_or es k (0, 0))
 
--- m.log has the entries of batch m.seq's log, and its first entries up to j are in the cells and durable
-pub record IsApplying (S : Setup) (B : TableStart) (ws : List ℕ) (bs : List Batch) (i : ℕ) (m : CallState) (j : ℕ) : Type 0 where
+-- m.log has the entries of batch m.seq's log, and its first entries up to j are in the cells and
+-- durable
+pub record IsApplying (S : Setup) (B : TableStart) (ws : List ℕ) (bs : List Batch) (i : ℕ)
+    (m : CallState) (j : ℕ) : Type 0 where
   pub mode : AppliesAs S B ws bs i m m.helps
   pub after : B.seq < m.seq
   pub upto : m.seq ≤ committed_seq ws
   pub committed : (batch_at B bs m.seq).owner ≡ m.owner
   pub log : IsReorderingOf (batch_at B bs m.seq).log m.log
-  pub done : (k : ℕ) → k < j → (m.seq ≤ seq_of (data_word S ws (log_entry m k).0)) × (m.seq ≤ seq_of (durable_cell S ws (log_entry m k).0))
+  pub done : (k : ℕ) → k < j
+      → (m.seq ≤ seq_of (data_word S ws (log_entry m k).0))
+      × (m.seq ≤ seq_of (durable_cell S ws (log_entry m k).0))
 
--- a helper has loaded x log words of m.owner. While the request is still open, they are those of the batch's log
-pub record IsCopyingLog (S : Setup) (B : TableStart) (ws : List ℕ) (bs : List Batch) (i : ℕ) (m : CallState) (x : ℕ) : Type 0 where
+-- a helper has loaded x log words of m.owner. While the request is still open, they are those of
+-- the batch's log
+pub record IsCopyingLog (S : Setup) (B : TableStart) (ws : List ℕ) (bs : List Batch) (i : ℕ)
+    (m : CallState) (x : ℕ) : Type 0 where
   pub helper : MayHelp S B ws bs i m
   pub current_word : WasCurrent S B ws bs m.seq m.owner
   pub calm : HasNothingUnderWay S B ws bs i m.seq
@@ -50,14 +62,19 @@ pub record IsCopyingLog (S : Setup) (B : TableStart) (ws : List ℕ) (bs : List 
   pub after : B.seq < m.seq
   pub many : length m.copy ≡ x
   pub count : 1 ≤ x → get_or m.copy 0 0 ≤ S.cells
-  pub copied : request_of ws m.owner ≡ pack m.seq 0 → (x ≤ length (log_words (batch_at B bs m.seq).log)) × (m.copy ≡ take x (log_words (batch_at B bs m.seq).log))
+  pub copied : request_of ws m.owner ≡ pack m.seq 0
+      → (x ≤ length (log_words (batch_at B bs m.seq).log))
+      × (m.copy ≡ take x (log_words (batch_at B bs m.seq).log))
 
 -- the first x log words are stored, and the first z are durable
-pub record HasStoredLog (S : Setup) (B : TableStart) (ws : List ℕ) (bs : List Batch) (i : ℕ) (m : CallState) (x z : ℕ) : Type 0 where
+pub record HasStoredLog (S : Setup) (B : TableStart) (ws : List ℕ) (bs : List Batch) (i : ℕ)
+    (m : CallState) (x z : ℕ) : Type 0 where
   pub past : IsPastOwnTicket S B ws bs i m
   pub over : HasScannedUpTo S B ws bs i m.seq m.made m.op m.raw m.calls m.log S.callers
-  pub each : (y : ℕ) → y < x → log_word_of S ws i y ≡ pack (m.seq + 1) (get_or (log_words m.log) y 0)
-  pub durable : (y : ℕ) → y < z → durable_log S ws i y ≡ pack (m.seq + 1) (get_or (log_words m.log) y 0)
+  pub each : (y : ℕ) → y < x
+      → log_word_of S ws i y ≡ pack (m.seq + 1) (get_or (log_words m.log) y 0)
+  pub durable : (y : ℕ) → y < z
+      → durable_log S ws i y ≡ pack (m.seq + 1) (get_or (log_words m.log) y 0)
   pub rest : (y : ℕ) → x ≤ y → y < 2 * S.cells + 1 → seq_of (log_word_of S ws i y) ≤ m.seq
 
 -- each of caller i's batches is closed durably
@@ -66,8 +83,10 @@ HasClosedDurably S B ws bs i = (k : ℕ) → B.seq < k → k ≤ committed_seq w
     → (batch_at B bs k).owner ≡ i → pack k 0 < durable_request S ws i
 
 -- a machine that stores its log still has its old request
-pub record IsStoringLog (S : Setup) (B : TableStart) (ws : List ℕ) (bs : List Batch) (i : ℕ) (m : CallState) (x z : ℕ) : Type 0 where
+pub record IsStoringLog (S : Setup) (B : TableStart) (ws : List ℕ) (bs : List Batch) (i : ℕ)
+    (m : CallState) (x z : ℕ) : Type 0 where
   pub stored : HasStoredLog S B ws bs i m x z
   pub own : seq_of (request_of ws i) ≤ m.seq
   pub level : durable_request S ws i ≡ request_of ws i
-  pub shut : (k : ℕ) → B.seq < k → k ≤ committed_seq ws → (batch_at B bs k).owner ≡ i → pack k 0 < request_of ws i
+  pub shut : (k : ℕ) → B.seq < k → k ≤ committed_seq ws → (batch_at B bs k).owner ≡ i
+      → pack k 0 < request_of ws i

@@ -6,7 +6,7 @@ use Rattle.of_core.specs.declared.place.Outcome.{Outcome}
 use Rattle.of_core.specs.declared.place.Place.{Place}
 use Rattle.of_core.specs.declared.place.Place.TheVariants.{Idle}
 use Rattle.of_core.specs.Machine.{CallState}
-use Rattle.of_core.specs.Seen.{ended_outcome}
+use Rattle.of_core.specs.MachineValue.{ended_outcome}
 
 -- the call has ended with an outcome, or it is open
 abbrev pub turn_of_outcome : Option Outcome → Turn

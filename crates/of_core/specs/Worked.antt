@@ -6,14 +6,15 @@ use Rattle.of_mem.specs.declared.work.TheConstants.{MOST_INSTRS}
 use Rattle.of_mem.specs.declared.work.RawReply.{RawReply}
 use Rattle.of_mem.specs.Meaning.{Meaning, WalkEnd, Needs, Gives, with_writes_in}
 use Rattle.of_core.specs.Table.{Setup, setup_of, words_before_members}
-use Rattle.of_core.specs.World.{Moment, TableStart}
+use Rattle.of_core.specs.TableMoment.{Moment, TableStart}
 use Rattle.of_core.specs.declared.place.Outcome.{Outcome}
 use Rattle.of_core.specs.Events.{Event, Begins, Turns, after_events, opening_moment, zero_start}
 use Rattle.of_core.specs.Calls.{outcomes}
 
 -- a reply whose numbers are these, each marked at its place
 abbrev pub reply_with : List ℕ → RawReply
-reply_with vs = record { shape = 2 ^ length vs - 1; values = vs ++ replicate (MOST_INSTRS - length vs) 0 }
+reply_with vs =
+    record { shape = 2 ^ length vs - 1; values = vs ++ replicate (MOST_INSTRS - length vs) 0 }
 
 -- the walk asks for the cell a where it isn't known, and goes on with its number
 abbrev pub known_or : ℕ → (ℕ → WalkEnd) → Option ℕ → WalkEnd
@@ -23,13 +24,15 @@ known_or a next (Some v) = next v
 -- the walk loads n cells from a on, and ends with their numbers
 abbrev pub loaded_more : List (Option ℕ) → (a n : ℕ) → List ℕ → (List ℕ → WalkEnd) → WalkEnd
 loaded_more known a zero vs end = end vs
-loaded_more known a (suc n) vs end = known_or a (λ v. loaded_more known (a + 1) n (vs ++ v ∷ []) end) (get_or known a None)
+loaded_more known a (suc n) vs end =
+    known_or a (λ v. loaded_more known (a + 1) n (vs ++ v ∷ []) end) (get_or known a None)
 
 abbrev pub numbers_from : List ℕ → (a n : ℕ) → List ℕ
 numbers_from xs a zero = []
 numbers_from xs a (suc n) = get_or xs a 0 ∷ numbers_from xs (a + 1) n
 
--- Two registers from the cell a on. The operation v ∷ [] stores v in the second, and n zeros read the first n.
+-- Two registers from the cell a on. The operation v ∷ [] stores v in the second, and n zeros read
+-- the first n.
 abbrev pub is_read : List ℕ → Bool
 is_read op = get_or op 0 0 == 0
 
@@ -53,7 +56,8 @@ register_meaning a = record {
   reads_only = is_read;
 }
 
--- An operation that loads four cells from a on, and then writes six behind them, as the first key of an empty map does.
+-- An operation that loads four cells from a on, and then writes six behind them, as the first key
+-- of an empty map does.
 abbrev pub six_writes : ℕ → ℕ → List (ℕ × ℕ)
 six_writes a v = (a + 4, v) ∷ (a + 5, v) ∷ (a + 6, v) ∷ (a + 7, v) ∷ (a + 8, v) ∷ (a + 9, v) ∷ []
 
@@ -61,7 +65,8 @@ abbrev pub first_key_meaning : ℕ → Meaning
 first_key_meaning a = record {
   cells = λ xs op. with_writes_in xs (six_writes a (get_or op 0 0));
   reply = λ xs op. reply_with (0 ∷ []);
-  walk = λ known op. loaded_more known a 4 [] (λ vs. Gives (six_writes a (get_or op 0 0)) (reply_with (0 ∷ [])));
+  walk = λ known op. loaded_more known a 4 [] (λ vs.
+      Gives (six_writes a (get_or op 0 0)) (reply_with (0 ∷ [])));
   reads_only = λ op. false;
 }
 
@@ -69,33 +74,53 @@ first_key_meaning a = record {
 abbrev pub table_with : ℕ → (ℕ → Meaning) → Setup
 table_with n meaning = setup_of n (n * (MOST_INSTRS + 2) + 10) 100 (meaning (n * (MOST_INSTRS + 2)))
 
+-- such a table of zeros, before anything has happened
+abbrev pub opening_of_zeros : Setup → Moment
+opening_of_zeros S = opening_moment S (zero_start S) (words_before_members S)
+
 -- from zeros, caller 0 begins the operation and makes so many turns
 abbrev pub moment_alone : ℕ → (ℕ → Meaning) → List ℕ → (turns : ℕ) → Moment
-moment_alone n meaning op k = after_events (table_with n meaning) (opening_moment (table_with n meaning) (zero_start (table_with n meaning)) (words_before_members (table_with n meaning))) (Begins 0 op ∷ replicate k (Turns 0))
+moment_alone n meaning op k =
+    after_events (table_with n meaning) (opening_of_zeros (table_with n meaning))
+    (Begins 0 op ∷ replicate k (Turns 0))
 
 -- caller 1 begins to store v, and ends it
 abbrev pub other_stores : ℕ → List Event
 other_stores v = Begins 1 (v ∷ []) ∷ replicate 50 (Turns 1)
 
--- caller 0 reads two registers, and before each load of the second, in each try, caller 1 stores there
+-- caller 0 reads two registers, and before each load of the second, in each try, caller 1 stores
+-- there
 abbrev pub moment_overtaken : (turns : ℕ) → Moment
-moment_overtaken k = after_events (table_with 2 register_meaning) (opening_moment (table_with 2 register_meaning) (zero_start (table_with 2 register_meaning)) (words_before_members (table_with 2 register_meaning)))
-    (Begins 0 (0 ∷ 0 ∷ []) ∷ replicate 3 (Turns 0) ++ other_stores 1 ++ replicate 4 (Turns 0) ++ other_stores 2 ++ replicate 4 (Turns 0) ++ other_stores 3 ++ replicate 4 (Turns 0) ++ other_stores 4 ++ replicate k (Turns 0))
+moment_overtaken k =
+    after_events (table_with 2 register_meaning)
+    (opening_of_zeros (table_with 2 register_meaning))
+    (Begins 0 (0 ∷ 0 ∷ []) ∷ replicate 3 (Turns 0) ++ other_stores 1 ++ replicate 4 (Turns 0)
+    ++ other_stores 2 ++ replicate 4 (Turns 0) ++ other_stores 3 ++ replicate 4 (Turns 0)
+    ++ other_stores 4 ++ replicate k (Turns 0))
 
 -- caller 0 reads one register, and then stores to one
 abbrev pub read_and_store : List Event
-read_and_store = Begins 0 (0 ∷ []) ∷ replicate 3 (Turns 0) ++ Begins 0 (7 ∷ []) ∷ replicate 48 (Turns 0)
+read_and_store =
+    Begins 0 (0 ∷ []) ∷ replicate 3 (Turns 0) ++ Begins 0 (7 ∷ []) ∷ replicate 48 (Turns 0)
 
 -- and how its calls end, from zeros
 abbrev pub two_calls : List Outcome
-two_calls = outcomes (table_with 1 register_meaning) (opening_moment (table_with 1 register_meaning) (zero_start (table_with 1 register_meaning)) (words_before_members (table_with 1 register_meaning))) read_and_store 0
+two_calls =
+    outcomes (table_with 1 register_meaning)
+    (opening_of_zeros (table_with 1 register_meaning)) read_and_store 0
 
--- a start behind one call of caller 0, whose ticket is 1 and which has stored 7 in the second register
+-- a start behind one call of caller 0, whose ticket is 1 and which has stored 7 in the second
+-- register
 abbrev pub one_done : (seq : ℕ) → TableStart
-one_done s = record { seq = s; owner = 0; cells = pack s 1 ∷ pack s 65536 ∷ (replicate MOST_INSTRS 0 ++ (0 ∷ pack s 7 ∷ replicate 8 0)) }
+one_done s = record {
+  seq = s;
+  owner = 0;
+  cells = pack s 1 ∷ pack s 65536 ∷ (replicate MOST_INSTRS 0 ++ (0 ∷ pack s 7 ∷ replicate 8 0));
+}
 
 -- from that start, with this limit, the caller begins to store and makes so many turns
 abbrev pub behind_one : (seq limit turns : ℕ) → Moment
 behind_one s l k =
     let S : Setup = setup_of 1 (MOST_INSTRS + 12) l (register_meaning (MOST_INSTRS + 2)) in
-    after_events S (opening_moment S (one_done s) (words_before_members S)) (Begins 0 (8 ∷ []) ∷ replicate k (Turns 0))
+    after_events S (opening_moment S (one_done s) (words_before_members S))
+    (Begins 0 (8 ∷ []) ∷ replicate k (Turns 0))

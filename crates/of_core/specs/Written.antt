@@ -4,13 +4,13 @@ use Rattle.std.specs.Prelude.{ℕ, ◌+◌, ◌-◌, List, [], ◌∷◌, ◌++�
 use Rattle.std.proofs.Common.{get_or}
 use Rattle.of_cell.specs.Words.{seq_of}
 use Rattle.of_mem.specs.Meaning.{Gives, Agrees}
-use Rattle.of_mem.specs.Pad.{overlaid}
-use Rattle.of_mem.specs.Pairs.{put_all}
+use Rattle.of_mem.specs.Part.{overlaid}
+use Rattle.of_mem.specs.CellMap.{put_all}
 use Rattle.of_core.specs.Table.{Setup, ticket_cell, data_word}
 use Rattle.of_core.specs.Machine.{Call, no_call, own_cells}
-use Rattle.of_core.specs.World.{Batch, TableStart, Moment}
+use Rattle.of_core.specs.TableMoment.{Batch, TableStart, Moment}
 use Rattle.of_core.specs.History.{batch_at, numbers_after}
-use Rattle.of_core.specs.Shared.{IsLog}
+use Rattle.of_core.specs.WordsMatch.{IsLog}
 use Rattle.of_core.specs.Invariant.{MeetsInvariant}
 use Rattle.of_core.specs.Events.{Event, IsSchedule, opening_moment, after_events}
 use Rattle.of_core.specs.Laws.{EachSchedule}
@@ -63,7 +63,9 @@ OwnersTakePart S Lawful = EachSchedule S Lawful (λ B n es.
 -- never writes an older number, however late it comes
 abbrev pub CellsRise : Setup → (List ℕ → Type 0) → Type 0
 CellsRise S Lawful =
-    (B : TableStart) (w : Moment) → MeetsInvariant S Lawful B w → (es : List Event) → IsSchedule S w es →
+    (B : TableStart) (w : Moment) → MeetsInvariant S Lawful B w → (es : List Event)
+    → IsSchedule S w es →
     let v : Moment = after_events S w es in
     (a : ℕ) → a < S.cells
-    → (data_word S v.words a ≡ data_word S w.words a) ⊎ (seq_of (data_word S w.words a) < seq_of (data_word S v.words a))
+    → (data_word S v.words a ≡ data_word S w.words a)
+    ⊎ (seq_of (data_word S w.words a) < seq_of (data_word S v.words a))

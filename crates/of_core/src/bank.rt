@@ -1,4 +1,5 @@
-//! The plain bank: the words of a table, and a machine for each caller, whose steps come one after the other.
+//! The plain bank: the words of a table, and a machine for each caller, whose steps come one after
+//! the other.
 
 ghost use Rattle.std.specs.Prelude.{◌≡◌, ◌<◌, ◌≤◌, ◌+◌, ◌*◌, [], ◌∷◌, length, IfOk, IsTrue, ◌↔◌};
 ghost use Rattle.std.proofs.Common.{get_or};
@@ -6,23 +7,23 @@ ghost use Rattle.of_mem.specs.declared.work.TheConstants.{MOST_INSTRS};
 ghost use Rattle.of_cell.specs.Words.{payload_of};
 ghost use Rattle.of_cell.specs.Cells.{durable_cells, table_words as cell_words};
 ghost use Rattle.of_cell.specs.declared.word.TheConstants.{PAYLOADS};
-ghost use Rattle.of_core.specs.Table.{cell_count, setup_of};
-ghost use Rattle.of_core.specs.Events.{Begins, Turns, Raises, zero_start, idle_machines, opening_moment, start_ticket};
-ghost use Rattle.of_core.specs.Shared.{MayStart};
-ghost use Rattle.of_core.specs.Starts.{IsStartRow, closed_request, first_cells, first_words, start_from_durable};
-ghost use Rattle.of_core.specs.Moment.{IsReached, RunSameWork, bank_after, call_states, machine_of, bank_setup, table_word_count};
+ghost use Rattle.of_core.specs.Table.{cell_count, setup_on};
+ghost use Rattle.of_core.specs.Events.{Begins, Turns, Raises, zero_start, idle_machines, start_ticket};
+ghost use Rattle.of_core.specs.WordsMatch.{MayStart};
+ghost use Rattle.of_core.specs.Starts.{IsStartRow, closed_request, first_cells, first_words, start_on};
+ghost use Rattle.of_core.specs.Moment.{IsReached, RunSameWork, bank_after, bank_opening, call_states, machine_of, bank_setup, table_word_count};
 ghost use Rattle.of_core.specs.Turn.{turn_of, turn_of_outcome, IsIdle};
 
-use crate::machine::{GREATEST_LIMIT, Machine};
+use crate::machine::Machine;
 use crate::performer::OnWords;
 use crate::place::Outcome;
-use of_cell::{Shape, pack, payload_of, seq_of};
+use of_cell::{GREATEST_LIMIT, Shape, pack, payload_of, seq_of};
 use of_mem::{MOST_INSTRS, Work};
 use std::alloc::{AllocError, Global};
 use std::marker::Model;
 use std::snapshot::Snapshot;
 
-mod showing;
+mod inspect;
 
 /// What a turn says of its caller's call.
 #[derive(Clone, Copy)]
@@ -35,8 +36,8 @@ pub enum Turn {
     Ended(Outcome),
 }
 
-/// The words of a table, and a machine for each caller. A contract sees them and where the table started; they are those of a moment,
-/// which a schedule leaves from there.
+/// The words of a table, and a machine for each caller. A contract sees them and where the table
+/// started; they are those of a moment, which a schedule leaves from there.
 #[derive(Drop)]
 pub struct Bank<W: Work> {
     work: W,
@@ -61,7 +62,7 @@ impl<W: Work> Model for Bank<W> {
 }
 
 /// What a turn says of a call that was open before it.
-fn turn_to(answer: Option<Outcome>) -> Turn
+fn turn_of_answer(answer: Option<Outcome>) -> Turn
     ensures { result ≡ turn_of_outcome answer }
 {
     match answer {
@@ -81,7 +82,8 @@ fn closed(seq: u32) -> u64
 fn first_cells(alloc: Global, shape: &Shape, durable: &[u64]) -> Result<Vec<u64>, AllocError>
     requires row { length durable.now ≡ durable_cells shape.now.callers shape.now.cells }
     requires owner { payload_of (get_or durable.now 0 0) < shape.now.callers }
-    ensures { IfOk result (λ cells. cells.items ≡ first_cells shape.now.callers shape.now.cells (start_from_durable shape.now.callers shape.now.cells durable.now)) }
+    ensures { IfOk result (λ cells. cells.items
+        ≡ first_cells shape.now.callers shape.now.cells (start_on shape.now durable.now)) }
 {
     let current = durable[shape.cur() as usize];
     let first = shape.data_cell(0) as usize;
@@ -97,7 +99,9 @@ fn first_cells(alloc: Global, shape: &Shape, durable: &[u64]) -> Result<Vec<u64>
 fn first_words(alloc: Global, shape: &Shape, durable: &[u64]) -> Result<Vec<u64>, AllocError>
     requires row { length durable.now ≡ durable_cells shape.now.callers shape.now.cells }
     requires owner { payload_of (get_or durable.now 0 0) < shape.now.callers }
-    ensures { let start = start_from_durable shape.now.callers shape.now.cells durable.now in IfOk result (λ words. words.items ≡ first_words shape.now.callers shape.now.cells start (cell_words shape.now.callers shape.now.instrs shape.now.cells)) }
+    ensures { IfOk result (λ words. words.items
+        ≡ first_words shape.now.callers shape.now.cells (start_on shape.now durable.now)
+        (cell_words shape.now.callers shape.now.instrs shape.now.cells)) }
 {
     let cells = first_cells(alloc, shape, durable)?;
     let mut words = Vec::from_slice(alloc, &cells)?;
@@ -106,20 +110,21 @@ fn first_words(alloc: Global, shape: &Shape, durable: &[u64]) -> Result<Vec<u64>
     Ok(words)
 }
 
-/// How many calls a caller has behind it at the start that a row's first words are: the number of its
-/// ticket cell.
+/// How many calls a caller has behind it at the start that a row's first words are: the number of
+/// its ticket cell.
 fn start_ticket(shape: &Shape, words: &[u64], caller: u32) -> u32
     requires caller { caller < shape.now.callers }
     requires own { shape.now.callers * (MOST_INSTRS + 2) ≤ shape.now.cells }
     requires row { durable_cells shape.now.callers shape.now.cells ≤ length words.now }
-    ensures { let start = start_from_durable shape.now.callers shape.now.cells words.now in result ≡ payload_of (get_or start.cells (caller * (MOST_INSTRS + 2)) 0) }
+    ensures { let start = start_on shape.now words.now in
+        result ≡ payload_of (get_or start.cells (caller * (MOST_INSTRS + 2)) 0) }
 {
     let ticket = caller * (MOST_INSTRS as u32 + 2);
     payload_of(words[shape.data_cell(ticket) as usize])
 }
 
-/// An idle machine for each caller, with the calls behind it that the first words tell. The error is
-/// that there is no memory.
+/// An idle machine for each caller, with the calls behind it that the first words tell. The error
+/// is that there is no memory.
 fn idle_machines<W: Work>(
     alloc: Global,
     shape: Shape,
@@ -134,7 +139,9 @@ fn idle_machines<W: Work>(
     requires row { durable_cells shape.callers shape.cells ≤ length words.now }
     ensures each { IfOk result (λ ms. length ms.items ≡ shape.callers) }
     ensures alike { IfOk result (λ ms. RunSameWork work shape.callers shape.cells limit ms.items) }
-    ensures idle { let S = setup_of shape.callers shape.cells limit (W.meaning work) in IfOk result (λ ms. call_states ms.items ≡ idle_machines S (start_ticket S (start_from_durable shape.callers shape.cells words.now)) 0 shape.callers) }
+    ensures idle { let S = setup_on shape limit (W.meaning work) in
+        IfOk result (λ ms. call_states ms.items
+        ≡ idle_machines S (start_ticket S (start_on shape words.now)) 0 shape.callers) }
 {
     let mut machines = Vec::new(alloc);
     for caller in 0..shape.callers {
@@ -146,8 +153,8 @@ fn idle_machines<W: Work>(
 }
 
 impl<W: Work> Bank<W> {
-    /// A bank of zeros, with an idle machine for each caller. `limit` is the last sequence that may be committed. The error is that there
-    /// is no memory.
+    /// A bank of zeros, with an idle machine for each caller. `limit` is the last sequence that may
+    /// be committed. The error is that there is no memory.
     pub fn new(alloc: Global, shape: Shape, limit: u32, work: W) -> Result<Self, AllocError>
         requires callers { shape.callers ≡ W.many work }
         requires instrs { shape.instrs ≡ MOST_INSTRS }
@@ -158,17 +165,21 @@ impl<W: Work> Bank<W> {
         ensures cells { IfOk result (λ b. b.cells ≡ shape.cells) }
         ensures limit { IfOk result (λ b. b.limit ≡ limit) }
         ensures start { IfOk result (λ b. b.start ≡ zero_start (bank_setup W.meaning b)) }
-        ensures words { IfOk result (λ b. b.words ≡ (opening_moment (bank_setup W.meaning b) (zero_start (bank_setup W.meaning b)) (table_word_count (bank_setup W.meaning b))).words) }
-        ensures machines { IfOk result (λ b. b.machines ≡ (opening_moment (bank_setup W.meaning b) (zero_start (bank_setup W.meaning b)) (table_word_count (bank_setup W.meaning b))).machines) }
-        ensures idle { IfOk result (λ b. b.machines ≡ idle_machines (bank_setup W.meaning b) (λ i. 0) 0 b.callers) }
+        ensures words { IfOk result (λ b. b.words
+            ≡ (bank_opening W.meaning (zero_start (bank_setup W.meaning b)) b).words) }
+        ensures machines { IfOk result (λ b. b.machines
+            ≡ (bank_opening W.meaning (zero_start (bank_setup W.meaning b)) b).machines) }
+        ensures idle { IfOk result (λ b. b.machines
+            ≡ idle_machines (bank_setup W.meaning b) (λ i. 0) 0 b.callers) }
     {
         let words = vec![in alloc; 0; shape.words() as usize]?;
         let bank = Bank::over(alloc, shape, limit, work, words)?;
         Ok(bank)
     }
 
-    /// A bank that starts from a durable row of which recovery changes nothing, with an idle machine for each caller, which has the
-    /// row's calls behind it. `limit` is the last sequence that may be committed. The error is that there is no memory.
+    /// A bank that starts from a durable row of which recovery changes nothing, with an idle
+    /// machine for each caller, which has the row's calls behind it. `limit` is the last sequence
+    /// that may be committed. The error is that there is no memory.
     pub fn start(
         alloc: Global,
         shape: Shape,
@@ -180,22 +191,25 @@ impl<W: Work> Bank<W> {
         requires instrs { shape.instrs ≡ MOST_INSTRS }
         requires cells { shape.cells ≡ W.size work }
         requires limit { limit ≤ GREATEST_LIMIT }
-        requires row { IsStartRow (setup_of shape.callers shape.cells limit (W.meaning work)) (W.lawful work) durable.now }
+        requires row { IsStartRow (setup_on shape limit (W.meaning work)) (W.lawful work)
+            durable.now }
         ensures work { IfOk result (λ b. b.work ≡ work) }
         ensures callers { IfOk result (λ b. b.callers ≡ shape.callers) }
         ensures cells { IfOk result (λ b. b.cells ≡ shape.cells) }
         ensures limit { IfOk result (λ b. b.limit ≡ limit) }
-        ensures start { IfOk result (λ b. b.start ≡ start_from_durable shape.callers shape.cells durable.now) }
-        ensures words { let start = start_from_durable shape.callers shape.cells durable.now in IfOk result (λ b. b.words ≡ (opening_moment (bank_setup W.meaning b) start (table_word_count (bank_setup W.meaning b))).words) }
-        ensures machines { let start = start_from_durable shape.callers shape.cells durable.now in IfOk result (λ b. b.machines ≡ (opening_moment (bank_setup W.meaning b) start (table_word_count (bank_setup W.meaning b))).machines) }
+        ensures start { IfOk result (λ b. b.start ≡ start_on shape durable.now) }
+        ensures words { IfOk result (λ b. b.words
+            ≡ (bank_opening W.meaning (start_on shape durable.now) b).words) }
+        ensures machines { IfOk result (λ b. b.machines
+            ≡ (bank_opening W.meaning (start_on shape durable.now) b).machines) }
     {
         let words = first_words(alloc, &shape, durable)?;
         let bank = Bank::over(alloc, shape, limit, work, words)?;
         Ok(bank)
     }
 
-    /// A bank over these first words, with an idle machine for each caller. The error is that there is
-    /// no memory.
+    /// A bank over these first words, with an idle machine for each caller. The error is that there
+    /// is no memory.
     fn over(
         alloc: Global,
         shape: Shape,
@@ -207,15 +221,19 @@ impl<W: Work> Bank<W> {
         requires instrs { shape.instrs ≡ MOST_INSTRS }
         requires cells { shape.cells ≡ W.size work }
         requires limit { limit ≤ GREATEST_LIMIT }
-        requires start { let S = setup_of shape.callers shape.cells limit (W.meaning work) in MayStart S (W.lawful work) (start_from_durable shape.callers shape.cells words.items) }
-        requires words { let S = setup_of shape.callers shape.cells limit (W.meaning work) in words.items ≡ first_words shape.callers shape.cells (start_from_durable shape.callers shape.cells words.items) (table_word_count S) }
+        requires start { let S = setup_on shape limit (W.meaning work) in
+            MayStart S (W.lawful work) (start_on shape words.items) }
+        requires words { let S = setup_on shape limit (W.meaning work) in words.items
+            ≡ first_words shape.callers shape.cells (start_on shape words.items)
+            (table_word_count S) }
         ensures work { IfOk result (λ b. b.work ≡ work) }
         ensures callers { IfOk result (λ b. b.callers ≡ shape.callers) }
         ensures cells { IfOk result (λ b. b.cells ≡ shape.cells) }
         ensures limit { IfOk result (λ b. b.limit ≡ limit) }
-        ensures start { IfOk result (λ b. b.start ≡ start_from_durable shape.callers shape.cells words.items) }
-        ensures words { IfOk result (λ b. b.words ≡ (opening_moment (bank_setup W.meaning b) b.start (table_word_count (bank_setup W.meaning b))).words) }
-        ensures machines { IfOk result (λ b. b.machines ≡ (opening_moment (bank_setup W.meaning b) b.start (table_word_count (bank_setup W.meaning b))).machines) }
+        ensures start { IfOk result (λ b. b.start ≡ start_on shape words.items) }
+        ensures words { IfOk result (λ b. b.words ≡ (bank_opening W.meaning b.start b).words) }
+        ensures machines { IfOk result (λ b.
+            b.machines ≡ (bank_opening W.meaning b.start b).machines) }
     {
         let machines = idle_machines(alloc, shape, limit, work, &words)?;
         Ok(Bank {
@@ -270,9 +288,9 @@ impl<W: Work> Bank<W> {
         }
         let machine = &mut self.machines[caller as usize];
         let place = machine.place();
-        let found = machine.want_by(place, &OnWords, &mut self.words);
+        let found = machine.perform(place, &OnWords, &mut self.words);
         machine.take_at(place, found);
-        turn_to(machine.answer())
+        turn_of_answer(machine.answer())
     }
 
     /// Raises a cell's durable word to the word that the cell holds.
@@ -286,7 +304,8 @@ impl<W: Work> Bank<W> {
 
     /// The words and machines are those that a schedule leaves from the start. It does nothing.
     pub fn stands(&self)
-        ensures { IsReached (bank_setup W.meaning self.now) (W.lawful self.now.work) self.now.start self.now.words self.now.machines }
+        ensures { IsReached (bank_setup W.meaning self.now) (W.lawful self.now.work)
+            self.now.start self.now.words self.now.machines }
     {
         // to read a field shows what the type keeps
         let _limit = self.limit;

@@ -32,41 +32,60 @@ use of_mem::Work;
 /// the invariant, and whatever meets it has what every moment claims: it has begun at a start that
 /// a table may have, and its states are lawful.
 pub fn step_kept<W: Work>(limit: u32, work: W)
-    ensures kept { StepsKeepInvariant (setup_for W.many W.size W.meaning limit work) (W.lawful work) }
+    ensures kept { StepsKeepInvariant
+        (setup_for W.many W.size W.meaning limit work) (W.lawful work) }
     ensures moves { StepsGuarantee (setup_for W.many W.size W.meaning limit work) (W.lawful work) }
-    ensures taken { OpenStepsAreSteps (setup_for W.many W.size W.meaning limit work) (W.lawful work) }
-    ensures durables { StepsKeepDurables (setup_for W.many W.size W.meaning limit work) (W.lawful work) }
+    ensures taken { OpenStepsAreSteps
+        (setup_for W.many W.size W.meaning limit work) (W.lawful work) }
+    ensures durables { StepsKeepDurables
+        (setup_for W.many W.size W.meaning limit work) (W.lawful work) }
     ensures blind { StepBlind (setup_for W.many W.size W.meaning limit work) (W.lawful work) }
-    ensures new_calls { NewCallsWereOpen (setup_for W.many W.size W.meaning limit work) (W.lawful work) }
-    ensures begins { BeginsKeepInvariant (setup_for W.many W.size W.meaning limit work) (W.lawful work) }
-    ensures loads { LoadsMayBeRaised (setup_for W.many W.size W.meaning limit work) (W.lawful work) }
+    ensures new_calls { NewCallsWereOpen
+        (setup_for W.many W.size W.meaning limit work) (W.lawful work) }
+    ensures begins { BeginsKeepInvariant
+        (setup_for W.many W.size W.meaning limit work) (W.lawful work) }
+    ensures loads { LoadsMayBeRaised
+        (setup_for W.many W.size W.meaning limit work) (W.lawful work) }
     ensures stays { StepsKeepLoaded (setup_for W.many W.size W.meaning limit work) (W.lawful work) }
-    ensures raises { RaisesKeepInvariant (setup_for W.many W.size W.meaning limit work) (W.lawful work) }
-    ensures rises { RaisesNeverLower (setup_for W.many W.size W.meaning limit work) (W.lawful work) }
-    ensures beside { WordsBehindAreFree (setup_for W.many W.size W.meaning limit work) (W.lawful work) }
-    ensures start { StartsMeetInvariant (setup_for W.many W.size W.meaning limit work) (W.lawful work) }
-    ensures sound { InvariantIsSound (setup_for W.many W.size W.meaning limit work) (W.lawful work) }
+    ensures raises { RaisesKeepInvariant
+        (setup_for W.many W.size W.meaning limit work) (W.lawful work) }
+    ensures rises { RaisesNeverLower
+        (setup_for W.many W.size W.meaning limit work) (W.lawful work) }
+    ensures beside { WordsBehindAreFree
+        (setup_for W.many W.size W.meaning limit work) (W.lawful work) }
+    ensures start { StartsMeetInvariant
+        (setup_for W.many W.size W.meaning limit work) (W.lawful work) }
+    ensures sound { InvariantIsSound
+        (setup_for W.many W.size W.meaning limit work) (W.lawful work) }
     ensures grounds { GoodGrounds (setup_for W.many W.size W.meaning limit work) (W.lawful work) }
 {}
 
 /// The calls of one caller, from a start on: a step ends its caller's open call or none, a begin
 /// adds one, also where a fresh machine makes it, and nothing else changes anybody's calls.
 pub fn calls_kept<W: Work>(limit: u32, work: W)
-    ensures start { StartsHaveNoCalls (setup_for W.many W.size W.meaning limit work) (W.lawful work) }
+    ensures start { StartsHaveNoCalls
+        (setup_for W.many W.size W.meaning limit work) (W.lawful work) }
     ensures steps { StepsEndOwnCall (setup_for W.many W.size W.meaning limit work) (W.lawful work) }
-    ensures begins { BeginsAddOneCall (setup_for W.many W.size W.meaning limit work) (W.lawful work) }
-    ensures raises { RaisesKeepCalls (setup_for W.many W.size W.meaning limit work) (W.lawful work) }
-    ensures beside { WordsBehindKeepCalls (setup_for W.many W.size W.meaning limit work) (W.lawful work) }
+    ensures begins { BeginsAddOneCall
+        (setup_for W.many W.size W.meaning limit work) (W.lawful work) }
+    ensures raises { RaisesKeepCalls
+        (setup_for W.many W.size W.meaning limit work) (W.lawful work) }
+    ensures beside { WordsBehindKeepCalls
+        (setup_for W.many W.size W.meaning limit work) (W.lawful work) }
 {}
 
 /// Each event, and so each schedule, keeps the invariant. From every start every schedule leaves a
 /// moment with a legal history, of which recovery gives the state that its durable words name; and
 /// no durable word is other than one that its cell has held.
 pub fn every_moment<W: Work>(limit: u32, work: W)
-    ensures kept { EventsKeepInvariant (setup_for W.many W.size W.meaning limit work) (W.lawful work) }
-    ensures runs { SchedulesKeepInvariant (setup_for W.many W.size W.meaning limit work) (W.lawful work) }
-    ensures durables { DurablesWereHeld (setup_for W.many W.size W.meaning limit work) (W.lawful work) }
-    ensures sound { EveryMomentIsSound (setup_for W.many W.size W.meaning limit work) (W.lawful work) }
+    ensures kept { EventsKeepInvariant
+        (setup_for W.many W.size W.meaning limit work) (W.lawful work) }
+    ensures runs { SchedulesKeepInvariant
+        (setup_for W.many W.size W.meaning limit work) (W.lawful work) }
+    ensures durables { DurablesWereHeld
+        (setup_for W.many W.size W.meaning limit work) (W.lawful work) }
+    ensures sound { EveryMomentIsSound
+        (setup_for W.many W.size W.meaning limit work) (W.lawful work) }
 {}
 
 /// Of every schedule the calls of each caller are those that its events begin. Each ends with an
@@ -94,18 +113,21 @@ pub fn every_order<W: Work>(limit: u32, work: W)
 {}
 
 /// Every call is answered or spent within the step bound of its own steps, in three rounds at most.
-/// It also ends within a bound that doesn't grow with the memory. That one is by the longest log that
-/// the call writes, copies or applies, the most cells that one of its tries or rounds loads, and the
-/// tries and rounds that it has begun. These load a cell only if a run needs it, and copy a log only
-/// if its transaction is open. An announced call is done after at most two commits that follow its
-/// announcement. A try or a round is lost only to a commit: if nobody commits, a read ends in its
-/// first try and any other call in its first round. A call is spent only in one of its rounds.
+/// It also ends within a bound that doesn't grow with the memory. That one is by the longest log
+/// that the call writes, copies or applies, the most cells that one of its tries or rounds loads,
+/// and the tries and rounds that it has begun. These load a cell only if a run needs it, and copy a
+/// log only if its transaction is open. An announced call is done after at most two commits that
+/// follow its announcement. A try or a round is lost only to a commit: if nobody commits, a read
+/// ends in its first try and any other call in its first round. A call is spent only in one of its
+/// rounds.
 pub fn ends_in_time<W: Work>(limit: u32, work: W)
-    ensures in_time { CallsEndInTime (setup_for W.many W.size W.meaning limit work) (W.lawful work) }
+    ensures in_time { CallsEndInTime
+        (setup_for W.many W.size W.meaning limit work) (W.lawful work) }
     ensures footprint { ByFootprint (setup_for W.many W.size W.meaning limit work) (W.lawful work) }
     ensures needed { LoadsNeeded (setup_for W.many W.size W.meaning limit work) (W.lawful work) }
     ensures helped { CopiesOpenLogs (setup_for W.many W.size W.meaning limit work) (W.lawful work) }
-    ensures two_commits { DoneAfterTwoCommits (setup_for W.many W.size W.meaning limit work) (W.lawful work) }
+    ensures two_commits { DoneAfterTwoCommits
+        (setup_for W.many W.size W.meaning limit work) (W.lawful work) }
     ensures given_up { GivenUp (setup_for W.many W.size W.meaning limit work) (W.lawful work) }
     ensures lost { LostToCommits (setup_for W.many W.size W.meaning limit work) (W.lawful work) }
     ensures spent { SpentInRounds (setup_for W.many W.size W.meaning limit work) (W.lawful work) }
@@ -127,11 +149,14 @@ pub fn batches<W: Work>(limit: u32, work: W)
 pub fn raises_are_short<W: Work>(limit: u32, work: W)
     ensures held { RaisesHeld (setup_for W.many W.size W.meaning limit work) (W.lawful work) }
     ensures calls { RaisesAreShort (setup_for W.many W.size W.meaning limit work) (W.lawful work) }
-    ensures evictions { EvictionsAreShort (setup_for W.many W.size W.meaning limit work) (W.lawful work) }
+    ensures evictions { EvictionsAreShort
+        (setup_for W.many W.size W.meaning limit work) (W.lawful work) }
     ensures level { CellsLevel (setup_for W.many W.size W.meaning limit work) (W.lawful work) }
-    ensures undisturbed { RaisesUndisturbed (setup_for W.many W.size W.meaning limit work) (W.lawful work) }
+    ensures undisturbed { RaisesUndisturbed
+        (setup_for W.many W.size W.meaning limit work) (W.lawful work) }
     ensures stand { RaisesStand (setup_for W.many W.size W.meaning limit work) (W.lawful work) }
-    ensures loads { EvictionsUndisturbed (setup_for W.many W.size W.meaning limit work) (W.lawful work) }
+    ensures loads { EvictionsUndisturbed
+        (setup_for W.many W.size W.meaning limit work) (W.lawful work) }
 {}
 
 /// A table's first words hold its start, and its machines are idle. Zeros are a start that may be,
@@ -144,9 +169,11 @@ pub fn starts<W: Work>(limit: u32, work: W)
     ensures zeros { ZerosMayStart (setup_for W.many W.size W.meaning limit work) (W.lawful work) }
     ensures zero_words { ZeroTablesAreZeros (setup_for W.many W.size W.meaning limit work) }
     ensures zero_tickets { ZeroTablesHaveNoCalls (setup_for W.many W.size W.meaning limit work) }
-    ensures restarts { RecoveredRowsMayStart (setup_for W.many W.size W.meaning limit work) (W.lawful work) }
+    ensures restarts { RecoveredRowsMayStart
+        (setup_for W.many W.size W.meaning limit work) (W.lawful work) }
     ensures midway { RestartsMidway (setup_for W.many W.size W.meaning limit work) (W.lawful work) }
-    ensures renumbered { RenumbersMidway (setup_for W.many W.size W.meaning limit work) (W.lawful work) }
+    ensures renumbered { RenumbersMidway
+        (setup_for W.many W.size W.meaning limit work) (W.lawful work) }
 {}
 
 /// What holds of a machine by itself, on any table.

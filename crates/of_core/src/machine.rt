@@ -4,10 +4,10 @@ ghost use Rattle.std.specs.Prelude.{◌≡◌, ◌≢◌, ◌<◌, ◌≤◌, �
 ghost use Rattle.std.proofs.Common.{get_or};
 ghost use Rattle.of_mem.specs.declared.work.TheConstants.{MOST_INSTRS};
 ghost use Rattle.of_cell.specs.declared.word.TheConstants.{PAYLOADS};
-ghost use Rattle.of_core.specs.Table.{cell_count, words_before_members, data_at, log_at, durable_at, ticket_cell, shape_cell, reply_cell};
-ghost use Rattle.of_core.specs.Seen.{machine_setup, ended_outcome};
-ghost use Rattle.of_core.specs.Machine.{idle_machine, begin_call, log_words};
-ghost use Rattle.of_core.specs.Steps.{want, want_at, take_word, take_word_at, with_step_counted, word_of};
+ghost use Rattle.of_core.specs.Table.{cell_count, words_before_members, log_at, durable_at, ticket_word_at, shape_word_at, reply_word_at};
+ghost use Rattle.of_core.specs.MachineValue.{machine_setup, machine_after, op_at, ended_outcome};
+ghost use Rattle.of_core.specs.Machine.{idle_machine, fresh_call, begin_call, log_words};
+ghost use Rattle.of_core.specs.Steps.{want, take_word, take_word_at, with_step_counted, IsOnTable};
 ghost use Rattle.of_core.specs.declared.place.Op.{Op};
 ghost use Rattle.of_core.specs.Meets.{MayTake};
 
@@ -15,29 +15,27 @@ mod announcing;
 mod answering;
 mod applying;
 mod committing;
-mod fill;
 mod helping;
+mod inspect;
+mod logs;
 mod scanning;
-mod showing;
 mod trying;
 
-use crate::performer::{Naming, Performer};
+use crate::call::Call;
+use crate::performer::{NameStep, Performer};
 use crate::place::{Op, Outcome, Place};
-use crate::ran::RanCall;
-use of_cell::{Shape, pack};
+use of_cell::{GREATEST_LIMIT, Shape, pack};
 use of_mem::{MOST_INSTRS, RawReply, Work, Workspace};
 use of_wset::WriteSet;
 use std::alloc::{AllocError, Global};
 use std::marker::Model;
 
-/// The greatest sequence that may be the last: the log words of the next one are still words.
-pub const GREATEST_LIMIT: u32 = u32::MAX - 1;
-
-/// How many data cells belong to each caller: its ticket, the shape of its reply, and the reply's numbers.
+/// How many data cells belong to each caller: its ticket, the shape of its reply, and the reply's
+/// numbers.
 const OWN_CELLS: u32 = MOST_INSTRS as u32 + 2;
 
-/// One call as a machine of atomic steps on the words of a shared table. It makes no step itself: it names the next one, and takes the
-/// word which that step found.
+/// One call as a machine of atomic steps on the words of a shared table. It makes no step itself:
+/// it names the next one, and takes the word which that step found.
 #[derive(Drop)]
 pub struct Machine<W: Work> {
     work: W,
@@ -70,11 +68,11 @@ pub struct Machine<W: Work> {
     scan: u32,
     heard: u64,
     script: Vec<u64>,
-    calls: Vec<RanCall>,
+    calls: Vec<Call>,
 }
 
 impl<W: Work> Model for Machine<W> {
-    ghost use Rattle.of_core.specs.Seen.{Machine};
+    ghost use Rattle.of_core.specs.MachineValue.{Machine};
 
     ghost Value = { Machine W };
 
@@ -86,8 +84,8 @@ impl<W: Work> Model for Machine<W> {
 }
 
 impl<W: Work> Machine<W> {
-    /// An idle machine of a caller that has begun `made` calls before. `limit` is the last sequence that may be committed. The error is
-    /// that there is no memory.
+    /// An idle machine of a caller that has begun `made` calls before. `limit` is the last sequence
+    /// that may be committed. The error is that there is no memory.
     pub fn new(
         alloc: Global,
         shape: Shape,
@@ -105,7 +103,8 @@ impl<W: Work> Machine<W> {
         ensures callers { IfOk result (λ m. m.callers ≡ shape.callers) }
         ensures cells { IfOk result (λ m. m.cells ≡ shape.cells) }
         ensures limit { IfOk result (λ m. m.limit ≡ limit) }
-        ensures idle { IfOk result (λ m. m.call ≡ idle_machine (machine_setup W.meaning m) caller made) }
+        ensures idle { IfOk result (λ m.
+            m.call ≡ idle_machine (machine_setup W.meaning m) caller made) }
     {
         let op = Vec::with_capacity(alloc, MOST_INSTRS)?;
         let part = Workspace::new(alloc, shape.cells)?;
@@ -146,13 +145,14 @@ impl<W: Work> Machine<W> {
         })
     }
 
-    /// Opens a call of 1 to `MOST_INSTRS` words: one that only reads is tried first, any other is announced.
+    /// Opens a call of 1 to `MOST_INSTRS` words: one that only reads is tried first, any other is
+    /// announced.
     pub fn begin(&mut self, op: &[u64])
         requires idle { self.old.call.place ≡ Place.Idle }
         requires some { 1 ≤ length op.now }
         requires few { length op.now ≤ MOST_INSTRS }
         requires made { self.old.call.made + 1 < PAYLOADS }
-        ensures { self.new ≡ record self.old { call = begin_call (machine_setup W.meaning self.old) self.old.call op.now } }
+        ensures { self.new ≡ machine_after W.meaning (λ S m. begin_call S m op.now) self.old }
     {
         self.op.clear();
         match self.op.extend_from_slice(op) {
@@ -169,9 +169,10 @@ impl<W: Work> Machine<W> {
         };
     }
 
-    /// Nothing of the calls before is kept but their number: a call begins as that of a fresh machine does.
+    /// Nothing of the calls before is kept but their number: a call begins as that of a fresh
+    /// machine does.
     fn forget(&mut self)
-        ensures { self.new ≡ record self.old { call = record (idle_machine (machine_setup W.meaning self.old) self.old.call.caller self.old.call.made) { op = self.old.call.op } } }
+        ensures { self.new ≡ machine_after W.meaning fresh_call self.old }
     {
         self.place = Place::Idle;
         self.seq = 0;
@@ -262,7 +263,7 @@ impl<W: Work> Machine<W> {
     /// The word of a caller's ticket cell.
     fn ticket_word(&self, caller: u32) -> u32
         requires { caller < self.now.callers }
-        ensures value { result ≡ data_at (machine_setup W.meaning self.now) (ticket_cell (machine_setup W.meaning self.now) caller) }
+        ensures value { result ≡ ticket_word_at (machine_setup W.meaning self.now) caller }
         ensures below { result < cell_count (machine_setup W.meaning self.now) }
     {
         self.shape.data_cell(caller * OWN_CELLS)
@@ -270,7 +271,8 @@ impl<W: Work> Machine<W> {
 
     /// The word of the shape of one's reply.
     fn shape_word(&self) -> u32
-        ensures value { result ≡ data_at (machine_setup W.meaning self.now) (shape_cell (machine_setup W.meaning self.now) self.now.call.caller) }
+        ensures value { result
+            ≡ shape_word_at (machine_setup W.meaning self.now) self.now.call.caller }
         ensures below { result < cell_count (machine_setup W.meaning self.now) }
     {
         self.shape.data_cell(self.caller * OWN_CELLS + 1)
@@ -279,7 +281,8 @@ impl<W: Work> Machine<W> {
     /// The word of a number of one's reply.
     fn reply_word(&self, at: u32) -> u32
         requires { at < MOST_INSTRS }
-        ensures value { result ≡ data_at (machine_setup W.meaning self.now) (reply_cell (machine_setup W.meaning self.now) self.now.call.caller at) }
+        ensures value { result
+            ≡ reply_word_at (machine_setup W.meaning self.now) self.now.call.caller at }
         ensures below { result < cell_count (machine_setup W.meaning self.now) }
     {
         self.shape.data_cell(self.caller * OWN_CELLS + 2 + at)
@@ -291,19 +294,22 @@ impl<W: Work> Machine<W> {
     pub fn want(&self) -> Op
         requires { self.now.call.place ≢ Place.Idle }
         ensures value { result ≡ want (machine_setup W.meaning self.now) self.now.call }
-        ensures range { word_of result < words_before_members (machine_setup W.meaning self.now) }
+        ensures range { IsOnTable (machine_setup W.meaning self.now) result }
     {
-        self.want_by(self.place, &Naming, &mut ())
+        self.perform(self.place, &NameStep, &mut ())
     }
 
     /// Has the next atomic step performed: that of `place`, where the machine stands.
-    // in line, and with an arm for each place: it performs its own form of step and goes straight on from there, with one jump by the place
+    // in line, and with an arm for each place: it performs its own form of step and goes straight
+    // on from there, with one jump by the place
     #[inline(always)]
-    pub fn want_by<P: Performer>(&self, place: Place, by: &P, hand: &mut P::Hand) -> P::Given
+    pub fn perform<P: Performer>(&self, place: Place, by: &P, hand: &mut P::Hand) -> P::Given
         requires here { place ≡ self.now.call.place }
-        requires takes { (op : Op) → op ≡ want_at (machine_setup W.meaning self.now) self.now.call place → word_of op < words_before_members (machine_setup W.meaning self.now) → P.takes by.now hand.old op }
-        ensures made { P.made by.now hand.old (want_at (machine_setup W.meaning self.now) self.now.call place) result hand.new }
-        ensures range { word_of (want_at (machine_setup W.meaning self.now) self.now.call place) < words_before_members (machine_setup W.meaning self.now) }
+        requires takes { (op : Op) → op ≡ op_at W.meaning place self.now
+            → IsOnTable (machine_setup W.meaning self.now) op → P.takes by.now hand.old op }
+        ensures made { P.made by.now hand.old (op_at W.meaning place self.now) result hand.new }
+        ensures range { IsOnTable (machine_setup W.meaning self.now)
+            (op_at W.meaning place self.now) }
     {
         match place {
             Place::Idle => by.load(hand, 0),
@@ -404,8 +410,9 @@ impl<W: Work> Machine<W> {
     #[tactic(auto, unfolding(crate::specs::Steps::take_word))]
     pub fn take(&mut self, found: u64)
         requires open { self.old.call.place ≢ Place.Idle }
-        requires good { MayTake (machine_setup W.meaning self.old) (W.lawful self.old.work) self.old.call found }
-        ensures { self.new ≡ record self.old { call = take_word (machine_setup W.meaning self.old) self.old.call found } }
+        requires good { MayTake (machine_setup W.meaning self.old) (W.lawful self.old.work)
+            self.old.call found }
+        ensures { self.new ≡ machine_after W.meaning (λ S m. take_word S m found) self.old }
     {
         self.take_at(self.place, found)
     }
@@ -415,8 +422,10 @@ impl<W: Work> Machine<W> {
     pub fn take_at(&mut self, place: Place, found: u64)
         requires here { place ≡ self.old.call.place }
         requires open { place ≢ Place.Idle }
-        requires good { MayTake (machine_setup W.meaning self.old) (W.lawful self.old.work) self.old.call found }
-        ensures { self.new ≡ record self.old { call = take_word_at (machine_setup W.meaning self.old) (with_step_counted place self.old.call) found place } }
+        requires good { MayTake (machine_setup W.meaning self.old) (W.lawful self.old.work)
+            self.old.call found }
+        ensures { self.new ≡ machine_after W.meaning
+            (λ S m. take_word_at S (with_step_counted place m) found place) self.old }
     {
         // the step bound keeps the count within its type
         self.steps += 1;

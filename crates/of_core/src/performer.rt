@@ -45,9 +45,9 @@ pub trait Performer {
 
 /// Makes no step, and gives the step itself.
 #[derive(Clone, Copy)]
-pub(crate) struct Naming;
+pub(crate) struct NameStep;
 
-impl Performer for Naming {
+impl Performer for NameStep {
     type Given = Op;
 
     type Hand = ();

@@ -5,7 +5,7 @@ use Rattle.of_row.specs.declared.member.Member.{Member}
 use Rattle.of_row.specs.declared.row.Row.{Row}
 use Rattle.of_row.specs.Views.{seen_seq, seen_history}
 use Rattle.of_row.specs.Rule.{EachCallBetween}
-use Rattle.of_row.specs.Rows.{row_start}
+use Rattle.of_row.specs.Rows.{row_start, view_of_member, number_of_member, calls_of_member}
 use Rattle.of_door.specs.declared.door.Door.{Door}
 use Rattle.of_door.specs.declared.door.Hand.{Hand}
 
@@ -27,17 +27,21 @@ found_by h = h.seat.me.0.found
 abbrev pub stored_by : Hand → List ℕ
 stored_by h = h.seat.me.0.stored
 
--- between these the hand has exchanged the word once, from w, and found it so, and has then stored n
+-- between these the hand has exchanged the word once, from w, and found it so, and has then stored
+-- n
 abbrev pub WentThrough : (w n : ℕ) → (before now : Hand) → Type 0
-WentThrough w n before now = (found_by now ≡ found_by before ++ w ∷ []) × (stored_by now ≡ stored_by before ++ n ∷ [])
+WentThrough w n before now =
+    (found_by now ≡ found_by before ++ w ∷ []) × (stored_by now ≡ stored_by before ++ n ∷ [])
 
 -- or it has found the word n, which isn't w, and stored nothing
 abbrev pub WasRefused : (w n : ℕ) → (before now : Hand) → Type 0
-WasRefused w n before now = (n ≢ w) × (found_by now ≡ found_by before ++ n ∷ []) × (stored_by now ≡ stored_by before)
+WasRefused w n before now =
+    (n ≢ w) × (found_by now ≡ found_by before ++ n ∷ []) × (stored_by now ≡ stored_by before)
 
 -- each of the member's calls in what it has seen has a ticket that it has begun
 abbrev pub TicketsUpTo : {W : Type 0} → (W → Meaning) → Row W → Member → Type 0
 TicketsUpTo meaning r m =
     let B = row_start meaning r in
-    let seen = m.seat.me.0.seen in
-    EachCallBetween B (seen_history seen) B.seq (seen_seq B seen) (λ c. c.caller ≡ m.number → c.ticket ≤ m.made)
+    let seen = (view_of_member m).seen in
+    EachCallBetween B (seen_history seen) B.seq (seen_seq B seen)
+    (λ c. c.caller ≡ number_of_member m → c.ticket ≤ calls_of_member m)

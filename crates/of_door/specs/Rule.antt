@@ -5,12 +5,12 @@ use lib.ListN.{get_elem?}
 use Rattle.atomic_table.specs.Table.{State, Me, rest}
 use Rattle.of_row.specs.declared.member.Member.{Member}
 use Rattle.of_row.specs.declared.row.Row.{Row}
-use Rattle.of_row.specs.Rows.{IsSeatOf, HasNoCall}
+use Rattle.of_row.specs.Rows.{number_of_member, IsRowMember, HasNoCall}
 use Rattle.of_door.specs.Hands.{HandLog, log_after_exchange, after_store}
 
 -- the member is one of this row, has this number, and has no open call
 abbrev pub IsMemberAtDoor : {W : Type 0} → Row W → ℕ → Member → Type 0
-IsMemberAtDoor r number m = IsSeatOf r m.seat × (m.number ≡ number) × HasNoCall m
+IsMemberAtDoor r number m = IsRowMember r m × (number_of_member m ≡ number) × HasNoCall m
 
 -- so it is where the row is told
 abbrev pub IsMemberAtToldDoor : {W : Type 0} → Option (Row W) → ℕ → Member → Type 0
@@ -22,7 +22,8 @@ abbrev pub SlotHolds : (Member → Type 0) → (w : ℕ) → Option Member → T
 SlotHolds May w x = (w ≡ 0 → x ≡ None) × (w ≡ 1 → (m : Member) × (x ≡ Some m) × May m)
 
 -- the slot is at home and holds what the word says, or at 2 it is out
-abbrev pub SlotMatchesWord : (Member → Type 0) → (w : ℕ) → List (maybe.Option (Option Member)) → Type 0
+abbrev pub SlotMatchesWord : (Member → Type 0) → (w : ℕ) → List (maybe.Option (Option Member))
+    → Type 0
 SlotMatchesWord May w homes =
     ((w ≡ 0) × (homes ≡ maybe.some None ∷ []))
     ⊎ ((w ≡ 1) × ((m : Member) × May m × (homes ≡ maybe.some (Some m) ∷ [])))
@@ -35,14 +36,17 @@ pub record DoorMeetsRule (May : Member → Type 0) (s : State (Option Member) Ha
   pub words : s.words ≡ word ∷ []
   pub home : SlotMatchesWord May word s.homes
   pub out : (j : ℕ) (v : HandLog) → get_elem? s.views j ≡ maybe.some v → v.holds ≡ true → word ≡ 2
-  pub one : (j k : ℕ) (v w : HandLog) → get_elem? s.views j ≡ maybe.some v → get_elem? s.views k ≡ maybe.some w
+  pub one : (j k : ℕ) (v w : HandLog) → get_elem? s.views j ≡ maybe.some v
+      → get_elem? s.views k ≡ maybe.some w
       → v.holds ≡ true → w.holds ≡ true → j ≡ k
 
--- An exchange from the word old to 2 has found n: where they are the same the hand has got the slot,
--- with what the word says, and else nothing has changed.
-abbrev pub TakesSlot : (Member → Type 0) → (old : ℕ) → Me (Option Member) HandLog → (n : ℕ) → Me (Option Member) HandLog → Type 0
+-- An exchange from the word old to 2 has found n: where they are the same the hand has got the
+-- slot, with what the word says, and else nothing has changed.
+abbrev pub TakesSlot : (Member → Type 0) → (old : ℕ) → Me (Option Member) HandLog → (n : ℕ)
+    → Me (Option Member) HandLog → Type 0
 TakesSlot May old me n after =
-    (n ≡ old → (x : Option Member) × SlotHolds May old x × (after ≡ (log_after_exchange n true me.0, (0, x) ∷ me.1)))
+    (n ≡ old → (x : Option Member) × SlotHolds May old x
+    × (after ≡ (log_after_exchange n true me.0, (0, x) ∷ me.1)))
     × (n ≢ old → after ≡ (log_after_exchange n false me.0, me.1))
 
 -- a store of the word n has given the slot back

@@ -3,7 +3,7 @@
 #![tactic(auto)]
 
 mod door;
-mod plays;
+mod rule_steps;
 mod trace;
 
 pub use door::{Door, Hand};

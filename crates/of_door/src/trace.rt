@@ -7,17 +7,17 @@ use std::snapshot::Snapshot;
 
 /// What is fixed for a door: the row, and the number of the member that goes through.
 #[derive(Drop)]
-pub struct Key<W: Work> {
+pub struct DoorKey<W: Work> {
     pub number: u32,
     pub row: Snapshot<Row<W>>,
 }
 
 /// What a hand knows. No value of it is made.
-pub struct Trace {
+pub struct HandLog {
     of: PhantomData<()>,
 }
 
-impl Model for Trace {
+impl Model for HandLog {
     ghost use Rattle.of_door.specs.Hands.{HandLog, no_exchange};
 
     ghost Value = { HandLog };

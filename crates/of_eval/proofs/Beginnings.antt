@@ -10,7 +10,7 @@ use Rattle.of_mem.specs.Places.{fresh_at}
 use Rattle.of_mem.specs.Plots.{base, data_cell_count}
 use Rattle.of_mem.specs.ProgramWork.{memory_of}
 use Rattle.of_mem.specs.Stores.{front_at, link_at, first_at, value_in, blocks_in_chains}
-use Rattle.of_store.specs.State.{Store}
+use Rattle.of_store.specs.Store.{Store}
 use Rattle.of_mem.proofs.Heaps.{front_below, each_weaker, cell_in}
 use Rattle.of_eval.specs.Faults.{pointer_cell}
 use Rattle.of_eval.specs.Walking.{HasBegun, HasWalked, LinkLeadsOn, HasWalkedFreeList, IsBeforeChain, HasRegisters, unmet_count}

@@ -10,7 +10,7 @@ use Rattle.of_mem.specs.ProgramWork.{memory_of}
 use Rattle.of_mem.specs.Stores.{IsBucket, front_at, first_at, second_at, cell_after, value_in}
 use Rattle.of_mem.proofs.Frames.{none_value}
 use Rattle.of_script.specs.Language.{greatest}
-use Rattle.of_store.specs.State.{Store, stored_count, with_key}
+use Rattle.of_store.specs.Store.{Store, stored_count, with_key}
 use Rattle.of_eval.specs.Faults.{ContainsNumber, IsNoKey, LeadsToNewBlock, IsFirstFault, pointer_cell}
 use Rattle.of_eval.specs.Faults.ChainFault.{Key, Value}
 use Rattle.of_eval.specs.Walking.{HasWalked, HoldsWhatWasMet, IsBeforeChain, LinkLeadsOn}

@@ -9,7 +9,7 @@ use Rattle.of_mem.specs.Plots.{base}
 use Rattle.of_mem.specs.ProgramWork.{memory_of}
 use Rattle.of_mem.specs.Numbers.{IsNumber}
 use Rattle.of_mem.specs.Stores.{StandsForStore, first_at, blocks_in_chains}
-use Rattle.of_store.specs.State.{Store}
+use Rattle.of_store.specs.Store.{Store}
 use Rattle.of_eval.specs.Stored.{cell_store}
 use Rattle.of_eval.specs.Lawful.{DataCellsStandFor}
 use Rattle.of_eval.specs.Faults.{IsFirstFault}

@@ -4,7 +4,7 @@ use Rattle.std.specs.Prelude.{Result, IfOk, IfErr, MatchResult}
 use Rattle.of_mem.specs.declared.plot.Plot.{Plot}
 use Rattle.of_mem.specs.Places.{base_of}
 use Rattle.of_mem.specs.ProgramWork.{memory_of}
-use Rattle.of_store.specs.State.{Store}
+use Rattle.of_store.specs.Store.{Store}
 use Rattle.of_eval.specs.declared.lawful_cells.LawErr.{LawErr}
 use Rattle.of_eval.specs.declared.lawful_cells.LawErr.TheVariants.{Memory, Unlawful}
 use Rattle.of_eval.specs.Lawful.{DataCellsStandFor}

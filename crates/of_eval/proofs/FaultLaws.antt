@@ -6,7 +6,7 @@ use Rattle.of_mem.specs.Places.{base_of, fresh_at, keys_at}
 use Rattle.of_mem.specs.Numbers.{IsNumber}
 use Rattle.of_mem.specs.Stores.{CellStore, StandsForStore, first_at, blocks_in_chains}
 use Rattle.of_mem.proofs.Counts.{lengths}
-use Rattle.of_store.specs.State.{Store}
+use Rattle.of_store.specs.Store.{Store}
 use Rattle.of_eval.specs.Stored.{cell_store}
 use Rattle.of_eval.specs.Lawful.{DataCellsStandFor}
 use Rattle.of_eval.specs.Faults.{HasRightCounts, IsFirstFault}

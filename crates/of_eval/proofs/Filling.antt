@@ -15,7 +15,7 @@ use Rattle.of_mem.proofs.Frames.{none_value, value_without}
 use Rattle.of_mem.proofs.Heaps.{each_append}
 use Rattle.of_alloc.proofs.Leaving.{keys_tie}
 use Rattle.of_script.specs.Language.{greatest}
-use Rattle.of_store.specs.State.{Store, stored_count, queue, with_key, with_queue}
+use Rattle.of_store.specs.Store.{Store, stored_count, queue, with_key, with_queue}
 use Rattle.of_store.proofs.Kept.{kept_put}
 use Rattle.of_store.proofs.Keeps.{put_keeps, queue_keeps, small_pushed}
 use Rattle.of_eval.specs.Instructions.{things_kept}

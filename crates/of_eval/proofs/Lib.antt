@@ -2,6 +2,7 @@ pub mod Masks
 pub mod Unpacked
 pub mod Meanings
 pub mod Walks
+pub mod FirstReads
 pub mod ReadsOnly
 pub mod Resumed
 pub mod Overlay

@@ -1,6 +1,6 @@
 -- Words that look for a key before all else.
 use Rattle.std.proofs.Common.{◌≡◌, ℕ, refl, ◌∙◌, ap, Option, Some}
-use Rattle.of_mem.specs.Pad.{Part}
+use Rattle.of_mem.specs.Part.{Part}
 use Rattle.of_mem.specs.Programs.{Program, Lacks, run_program, then_do}
 use Rattle.of_mem.proofs.Runs.{run_then_needs}
 use Rattle.of_map.specs.MapPrograms.{seek_program, get_at, put_found, del_found}
@@ -8,7 +8,7 @@ use Rattle.of_script.specs.declared.instr.Instr.{Instr}
 use Rattle.of_script.specs.declared.instr.Instr.TheVariants.{Get, Put, Del, Need}
 use Rattle.of_script.specs.Reading.{instr_at}
 use Rattle.of_eval.specs.ScriptPrograms.{InstrResult, answer_program, put_answers, need_answers, instr_program, program_of, word_program}
-use Rattle.of_eval.specs.Stopped.{LooksFor}
+use Rattle.of_eval.specs.Resuming.{LooksFor}
 
 -- a word is that of an instruction that begins with the walk
 module _ (w key : ℕ) (i : Instr) (is : instr_at w ≡ Some i) where

@@ -12,7 +12,7 @@ use Rattle.of_script.specs.declared.instr.TheConstants.{MOST_INSTRS}
 use Rattle.of_script.specs.declared.instr.Instr.{Instr}
 use Rattle.of_script.specs.Language.{IsInstrInRange, instr_word}
 use Rattle.of_script.proofs.WordLaws.{instr_at_again}
-use Rattle.of_store.specs.State.{Store, ScriptOutcome, outcome_of_script, run_result, then_outcome, instr_effect, Aborted}
+use Rattle.of_store.specs.Store.{Store, ScriptOutcome, outcome_of_script, run_result, then_outcome, instr_effect, Aborted}
 use Rattle.of_eval.specs.declared.scripts.Scripts.{Scripts}
 use Rattle.of_eval.specs.Shapes.{reply_cells, mask_of}
 use Rattle.of_eval.specs.ShapeLaws.{code_some}
@@ -20,8 +20,8 @@ use Rattle.of_eval.specs.Stored.{IsStored}
 use Rattle.of_eval.specs.Words.{effect_of, words_outcome, run_words, reply_to}
 use Rattle.of_eval.specs.ScriptPrograms.{words_program}
 use Rattle.of_eval.specs.Scripts.{store_at, scripts_data_cells, is_success}
-use Rattle.of_eval.specs.Scripted.{DoesOutcome, AnswerInRange, reply_behind, words_run, words_answer}
-use Rattle.of_eval.specs.Marked.{full_width, mask_all}
+use Rattle.of_eval.specs.ScriptRuns.{DoesOutcome, AnswerInRange, reply_behind, words_run, words_answer}
+use Rattle.of_eval.specs.MaskLaws.{full_width, mask_all}
 use Rattle.of_eval.specs.Means.{DoesOperation, MeansWords, WordsMeanScript}
 
 script_outcome : (s : Store) (is : List Instr) → Each IsInstrInRange is → words_outcome s (map instr_word is) ≡ outcome_of_script s is

@@ -5,7 +5,7 @@ use Rattle.std.proofs.lemmas.Cmp.{nat_cmp_total}
 use Rattle.std.proofs.lemmas.List.{ext_get_or}
 use Rattle.of_mem.specs.Stores.{first_at, front_at, value_in}
 use Rattle.of_mem.proofs.Heaps.{same_chain}
-use Rattle.of_store.specs.State.{Store, register, queue}
+use Rattle.of_store.specs.Store.{Store, register, queue}
 use Rattle.of_eval.specs.Stored.{IsStored}
 
 module _ (o blocks : ℕ) (m : ℕ → ℕ) (s t : Store) (h : IsStored o blocks m s) (k : IsStored o blocks m t) where

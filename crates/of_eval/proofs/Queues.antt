@@ -9,7 +9,7 @@ use Rattle.of_mem.specs.Stores.{first_at, last_pointer}
 use Rattle.of_mem.proofs.Changes.{changed_same}
 use Rattle.of_queue.proofs.Pushes.{last_pointer-append}
 use Rattle.of_script.specs.Language.{greatest}
-use Rattle.of_store.specs.State.{Store, stored_count, queue, with_queue}
+use Rattle.of_store.specs.Store.{Store, stored_count, queue, with_queue}
 use Rattle.of_eval.specs.Faults.{LeadsToNewBlock, HasRightCounts, IsFirstFault, pointer_cell}
 use Rattle.of_eval.specs.Faults.ChainFault.{Item}
 use Rattle.of_eval.specs.Faults.CountFault.{Tail, Length}

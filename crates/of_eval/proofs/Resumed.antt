@@ -5,19 +5,19 @@ use Rattle.std.proofs.lemmas.List.{length-replicate}
 use Rattle.std.proofs.lemmas.Option.{none-some}
 use Rattle.of_mem.specs.declared.plot.Plot.{Plot}
 use Rattle.of_mem.specs.declared.plot.TheConstants.{MOST_BLOCKS}
-use Rattle.of_mem.specs.Pad.{Part, Extends}
+use Rattle.of_mem.specs.Part.{Part, Extends}
 use Rattle.of_mem.specs.Places.{base_of}
 use Rattle.of_mem.specs.Plots.{base}
 use Rattle.of_mem.specs.Programs.{Lacks, Ends, run_program}
 use Rattle.of_mem.specs.Calls.{HasStore}
-use Rattle.of_mem.specs.Remains.{SuspendedRun, begin_run, IsSuspensionOf}
+use Rattle.of_mem.specs.SuspendedRun.{SuspendedRun, begin_run, IsSuspensionOf}
 use Rattle.of_mem.proofs.Extended.{ends_again}
 use Rattle.of_map.specs.MapPrograms.{seek_program}
 use Rattle.of_script.specs.declared.instr.TheConstants.{MOST_INSTRS}
 use Rattle.of_store.specs.Replies.{IsSmall}
 use Rattle.of_store.proofs.Values.{small_values, none_left}
 use Rattle.of_eval.specs.ScriptPrograms.{word_program, words_program, script_program}
-use Rattle.of_eval.specs.Stopped.{part_with, IsOfStore, LooksFor, MayResume, HoldsScript}
+use Rattle.of_eval.specs.Resuming.{part_with, IsOfStore, LooksFor, MayResume, HoldsScript}
 use Rattle.of_eval.specs.Stored.{cell_store, HasState}
 use Rattle.of_eval.proofs.Walks.{script_is, ran_more, ran_lacks, word_leaves}
 

@@ -2,7 +2,7 @@
 use Rattle.std.proofs.Common.{◌≡◌, ℕ, ◌+◌, ◌-◌, ◌<◌, ◌≤◌, refl, sym, ◌∙◌, ap, subst, arith, Option, Some, None, Ok, Err, List, [], ◌∷◌, ◌++◌, length, get_or, set, take, drop, replicate, length-drop, take-append-drop, drop_of_length-le}
 use Rattle.std.proofs.lemmas.List.{drop_more, take_more_set, take_all, get_or-drop, length-take-le}
 use Rattle.of_mem.specs.declared.work.RawReply.{RawReply}
-use Rattle.of_mem.specs.Pad.{Part, newest_at}
+use Rattle.of_mem.specs.Part.{Part, newest_at}
 use Rattle.of_mem.specs.Places.{register_at, cells_at}
 use Rattle.of_mem.specs.declared.plot.TheConstants.{MOST_BLOCKS}
 use Rattle.of_mem.specs.Programs.{Program, Lacks, Ends, run_program, program_answer, memory_after}
@@ -14,16 +14,16 @@ use Rattle.of_mem.proofs.Runs.{Ended, run_ended, run_then_gives, run_then_needs}
 use Rattle.of_script.specs.declared.instr.TheConstants.{MOST_INSTRS}
 use Rattle.of_script.specs.declared.instr.Cause.{Cause}
 use Rattle.of_script.specs.Reading.{instr_at}
-use Rattle.of_store.specs.State.{InstrEffect, Aborted}
+use Rattle.of_store.specs.Store.{InstrEffect, Aborted}
 use Rattle.of_store.specs.Replies.{IsSmall}
 use Rattle.of_store.proofs.Keeps.{Leaves}
 use Rattle.of_store.proofs.Values.{value_of}
 use Rattle.of_eval.specs.Shapes.{reply_cells}
-use Rattle.of_eval.specs.Stopped.{IsOfStore}
+use Rattle.of_eval.specs.Resuming.{IsOfStore}
 use Rattle.of_eval.specs.Words.{word_effect, reply_to}
 use Rattle.of_eval.specs.ScriptPrograms.{InstrResult, word_program, go_on, words_program, script_program}
 use Rattle.of_eval.specs.Instructions.{GivesEffect}
-use Rattle.of_eval.specs.Scripted.{word_acts, instr_leaves, instr_small}
+use Rattle.of_eval.specs.ScriptRuns.{word_acts, instr_leaves, instr_small}
 use Rattle.of_eval.proofs.Unpacked.{nones}
 
 -- a register that is known holds a number

@@ -1,4 +1,5 @@
--- The first of the data cells, in the order in which they are looked at, for which they stand for no store.
+-- The first of the data cells, in the order in which they are looked at, for which they stand for
+-- no store.
 use Rattle.std.specs.Prelude.{◌≡◌, ◌≢◌, ◌⊎◌, ℕ, ◌+◌, ◌%◌, ◌<◌, ◌≤◌, true, is_some, None, List, [], ◌∷◌, length, replicate, slice_index_or}
 use Rattle.std.specs.List.{AllByRecursion as Each, AllPairs}
 use Rattle.of_script.specs.declared.instr.Reply.{Reply}
@@ -10,7 +11,7 @@ use Rattle.of_mem.specs.Stores.{IsChain, IsBucket, front_at, first_at, second_at
 use Rattle.of_eval.specs.declared.lawful_cells.LawErr.{LawErr}
 use Rattle.of_eval.specs.declared.lawful_cells.LawErr.TheVariants.{Memory, Unlawful}
 use Rattle.of_eval.specs.Shapes.{IsHeldBy}
-use Rattle.of_store.specs.State.{Store}
+use Rattle.of_store.specs.Store.{Store}
 use Rattle.of_eval.specs.Lawful.{OwnCellsAreSound, DataCellsStandFor}
 
 -- ---- the cells of a caller
@@ -19,7 +20,8 @@ use Rattle.of_eval.specs.Lawful.{OwnCellsAreSound, DataCellsStandFor}
 abbrev pub shape_alone : ℕ → RawReply
 shape_alone shape = record { shape = shape; values = replicate MOST_INSTRS 0 }
 
--- the shape is that of this reply, to a script of at most so many instructions; which numbers it has is not asked
+-- the shape is that of this reply, to a script of at most so many instructions; which numbers it
+-- has is not asked
 pub record IsShapeOf (instrs shape : ℕ) (r : Reply) : Type 0 where
   pub held : IsHeldBy (shape_alone shape) r
   pub few : r.len ≤ instrs
@@ -31,12 +33,18 @@ HasNumber r j = is_some (slice_index_or r.values j None) ≡ true
 -- the first fault of a caller's own cells
 pub data OwnFault (instrs : ℕ) (m : ℕ → ℕ) (caller cell : ℕ) : Type 0 where
   -- there was no call, and there is a shape
-  Left : m (ticket_cell_at instrs caller) ≡ 0 → m (shape_at instrs caller) ≢ 0 → cell ≡ shape_at instrs caller → OwnFault instrs m caller cell
+  Left : m (ticket_cell_at instrs caller) ≡ 0 → m (shape_at instrs caller) ≢ 0
+      → cell ≡ shape_at instrs caller → OwnFault instrs m caller cell
   -- there was a call, and the shape is that of no reply
-  NoShape : m (ticket_cell_at instrs caller) ≢ 0 → ((r : Reply) → IsShapeOf instrs (m (shape_at instrs caller)) r → ⊥) → cell ≡ shape_at instrs caller → OwnFault instrs m caller cell
+  NoShape : m (ticket_cell_at instrs caller) ≢ 0
+      → ((r : Reply) → IsShapeOf instrs (m (shape_at instrs caller)) r → ⊥)
+      → cell ≡ shape_at instrs caller → OwnFault instrs m caller cell
   -- the first number of the reply that is too great
-  GreatReply : m (ticket_cell_at instrs caller) ≢ 0 → (r : Reply) → IsShapeOf instrs (m (shape_at instrs caller)) r
-      → (j : ℕ) → j < r.len → HasNumber r j → ((i : ℕ) → i < j → HasNumber r i → IsNumber (m (reply_at instrs caller i))) → (IsNumber (m (reply_at instrs caller j)) → ⊥)
+  GreatReply : m (ticket_cell_at instrs caller) ≢ 0 → (r : Reply)
+      → IsShapeOf instrs (m (shape_at instrs caller)) r
+      → (j : ℕ) → j < r.len → HasNumber r j
+      → ((i : ℕ) → i < j → HasNumber r i → IsNumber (m (reply_at instrs caller i)))
+      → (IsNumber (m (reply_at instrs caller j)) → ⊥)
       → cell ≡ reply_at instrs caller j → OwnFault instrs m caller cell
 
 -- ---- what is looked at before the chains
@@ -67,8 +75,9 @@ abbrev pub ContainsNumber : List ℕ → ℕ → Type 0
 ContainsNumber [] x = ⊥
 ContainsNumber (a ∷ l) x = (x ≡ a) ⊎ ContainsNumber l x
 
--- The blocks that were met: all of the chains before chain n, and those of chain n from its front up to here. Each is below fresh and
--- stands in one chain, and once in it, and what stands in the blocks is sound.
+-- The blocks that were met: all of the chains before chain n, and those of chain n from its front
+-- up to here. Each is below fresh and stands in one chain, and once in it, and what stands in the
+-- blocks is sound.
 pub record HasPassed (o : ℕ) (m : ℕ → ℕ) (n : ℕ) (chains : ℕ → List ℕ) : Type 0 where
   pub linked : (c : ℕ) → c < n → IsChain o m (front_at o c) (chains c)
   pub path : IsPath o m (front_at o n) (chains n)
@@ -79,7 +88,8 @@ pub record HasPassed (o : ℕ) (m : ℕ → ℕ) (n : ℕ) (chains : ℕ → Lis
   pub buckets : (k : ℕ) → k < 32 → IsBucket o m k (chains (1 + k))
   pub items : (q : ℕ) → q < 4 → Each (λ b. IsNumber (m (first_at o b))) (chains (33 + q))
 
--- what is counted behind the chains before chain n is right: keys behind the buckets, and behind each queue its tail and its length
+-- what is counted behind the chains before chain n is right: keys behind the buckets, and behind
+-- each queue its tail and its length
 pub record HasRightCounts (o : ℕ) (m : ℕ → ℕ) (n : ℕ) (chains : ℕ → List ℕ) : Type 0 where
   pub keys : 33 ≤ n → m (keys_at o) + length (chains 0) ≡ blocks_in_chains chains 33
   pub tails : (q : ℕ) → 33 + q < n → m (tail_at o q) ≡ last_pointer 0 (chains (33 + q))
@@ -101,47 +111,74 @@ pub record LeadsToNewBlock (o : ℕ) (m : ℕ → ℕ) (n : ℕ) (chains : ℕ �
 
 -- a key is none: too great, of another bucket, or met in its bucket before
 abbrev pub IsNoKey : ℕ → (ℕ → ℕ) → ℕ → List ℕ → ℕ → Type 0
-IsNoKey o m k bucket key = (IsNumber key → ⊥) ⊎ ((key % 32 ≢ k) ⊎ ((x : ℕ) × ContainsNumber bucket x × (m (first_at o x) ≡ key)))
+IsNoKey o m k bucket key =
+    (IsNumber key → ⊥)
+    ⊎ ((key % 32 ≢ k) ⊎ ((x : ℕ) × ContainsNumber bucket x × (m (first_at o x) ≡ key)))
 
 -- the first fault, where these blocks were met
 pub data ChainFault (o : ℕ) (m : ℕ → ℕ) (n : ℕ) (chains : ℕ → List ℕ) (cell : ℕ) : Type 0 where
   -- the pointer leads to a block that is not below fresh or was met
-  Pointer : n < 37 → (b : ℕ) → m (pointer_cell o n chains) ≡ b + 1 → (m (fresh_at o) ≤ b) ⊎ IsMet chains b → cell ≡ pointer_cell o n chains → ChainFault o m n chains cell
+  Pointer : n < 37 → (b : ℕ) → m (pointer_cell o n chains) ≡ b + 1
+      → (m (fresh_at o) ≤ b) ⊎ IsMet chains b → cell ≡ pointer_cell o n chains
+      → ChainFault o m n chains cell
   -- the key is none of this bucket
-  Key : (k b : ℕ) → k < 32 → n ≡ 1 + k → LeadsToNewBlock o m n chains b → IsNoKey o m k (chains n) (m (first_at o b)) → cell ≡ first_at o b → ChainFault o m n chains cell
+  Key : (k b : ℕ) → k < 32 → n ≡ 1 + k → LeadsToNewBlock o m n chains b
+      → IsNoKey o m k (chains n) (m (first_at o b)) → cell ≡ first_at o b
+      → ChainFault o m n chains cell
   -- the value beside a key is too great
-  Value : (k b : ℕ) → k < 32 → n ≡ 1 + k → LeadsToNewBlock o m n chains b → (IsNoKey o m k (chains n) (m (first_at o b)) → ⊥) → (IsNumber (m (second_at o b)) → ⊥) → cell ≡ second_at o b → ChainFault o m n chains cell
+  Value : (k b : ℕ) → k < 32 → n ≡ 1 + k → LeadsToNewBlock o m n chains b
+      → (IsNoKey o m k (chains n) (m (first_at o b)) → ⊥) → (IsNumber (m (second_at o b)) → ⊥)
+      → cell ≡ second_at o b → ChainFault o m n chains cell
   -- the item is too great
-  Item : (q b : ℕ) → q < 4 → n ≡ 33 + q → LeadsToNewBlock o m n chains b → (IsNumber (m (first_at o b)) → ⊥) → cell ≡ first_at o b → ChainFault o m n chains cell
+  Item : (q b : ℕ) → q < 4 → n ≡ 33 + q → LeadsToNewBlock o m n chains b
+      → (IsNumber (m (first_at o b)) → ⊥) → cell ≡ first_at o b → ChainFault o m n chains cell
 
 -- the first fault of what is counted behind the chains before chain n
 pub data CountFault (o : ℕ) (m : ℕ → ℕ) (n : ℕ) (chains : ℕ → List ℕ) (cell : ℕ) : Type 0 where
   -- there are not so many keys in the buckets
-  Keys : n ≡ 33 → m (keys_at o) + length (chains 0) ≢ blocks_in_chains chains 33 → cell ≡ keys_at o → CountFault o m n chains cell
+  Keys : n ≡ 33 → m (keys_at o) + length (chains 0) ≢ blocks_in_chains chains 33 → cell ≡ keys_at o
+      → CountFault o m n chains cell
   -- the tail does not point to the last block
-  Tail : (q : ℕ) → q < 4 → n ≡ 34 + q → m (tail_at o q) ≢ last_pointer 0 (chains (33 + q)) → cell ≡ tail_at o q → CountFault o m n chains cell
+  Tail : (q : ℕ) → q < 4 → n ≡ 34 + q → m (tail_at o q) ≢ last_pointer 0 (chains (33 + q))
+      → cell ≡ tail_at o q → CountFault o m n chains cell
   -- there are not so many items
-  Length : (q : ℕ) → q < 4 → n ≡ 34 + q → m (tail_at o q) ≡ last_pointer 0 (chains (33 + q)) → m (length_at o q) ≢ length (chains (33 + q)) → cell ≡ length_at o q → CountFault o m n chains cell
+  Length : (q : ℕ) → q < 4 → n ≡ 34 + q → m (tail_at o q) ≡ last_pointer 0 (chains (33 + q))
+      → m (length_at o q) ≢ length (chains (33 + q)) → cell ≡ length_at o q
+      → CountFault o m n chains cell
 
 -- The first cell at fault. What is looked at before it is sound.
 pub data IsFirstFault (callers instrs blocks : ℕ) (m : ℕ → ℕ) (cell : ℕ) : Type 0 where
   -- a caller's own cells
-  Own : (c : ℕ) → c < callers → AllOwnCellsAreSound instrs m c → OwnFault instrs m c cell → IsFirstFault callers instrs blocks m cell
+  Own : (c : ℕ) → c < callers → AllOwnCellsAreSound instrs m c → OwnFault instrs m c cell
+      → IsFirstFault callers instrs blocks m cell
   -- a register that is too great
-  Register : AllOwnCellsAreSound instrs m callers → (r : ℕ) → r < REGISTERS → AreNumbers (base_of callers instrs) m r → (IsNumber (m (register_at (base_of callers instrs) r)) → ⊥)
+  Register : AllOwnCellsAreSound instrs m callers → (r : ℕ) → r < REGISTERS
+      → AreNumbers (base_of callers instrs) m r
+      → (IsNumber (m (register_at (base_of callers instrs) r)) → ⊥)
       → cell ≡ register_at (base_of callers instrs) r → IsFirstFault callers instrs blocks m cell
   -- more blocks were taken than there are
-  Fresh : AllOwnCellsAreSound instrs m callers → AreNumbers (base_of callers instrs) m REGISTERS → blocks < m (fresh_at (base_of callers instrs))
+  Fresh : AllOwnCellsAreSound instrs m callers → AreNumbers (base_of callers instrs) m REGISTERS
+      → blocks < m (fresh_at (base_of callers instrs))
       → cell ≡ fresh_at (base_of callers instrs) → IsFirstFault callers instrs blocks m cell
   -- a pointer of a chain, or what stands in a block
-  Chain : HasSoundHead callers instrs blocks m → (n : ℕ) (chains : ℕ → List ℕ) → HasPassed (base_of callers instrs) m n chains → HasRightCounts (base_of callers instrs) m n chains
-      → ChainFault (base_of callers instrs) m n chains cell → IsFirstFault callers instrs blocks m cell
-  -- what is counted behind the chains up to chain n; what is counted behind those before it is right
-  Count : HasSoundHead callers instrs blocks m → (n : ℕ) (chains : ℕ → List ℕ) → HasPassed (base_of callers instrs) m (1 + n) chains → HasRightCounts (base_of callers instrs) m n chains → chains (1 + n) ≡ []
-      → CountFault (base_of callers instrs) m (1 + n) chains cell → IsFirstFault callers instrs blocks m cell
+  Chain : HasSoundHead callers instrs blocks m → (n : ℕ) (chains : ℕ → List ℕ)
+      → HasPassed (base_of callers instrs) m n chains
+      → HasRightCounts (base_of callers instrs) m n chains
+      → ChainFault (base_of callers instrs) m n chains cell
+      → IsFirstFault callers instrs blocks m cell
+  -- what is counted behind the chains up to chain n; what is counted behind those before it is
+  -- right
+  Count : HasSoundHead callers instrs blocks m → (n : ℕ) (chains : ℕ → List ℕ)
+      → HasPassed (base_of callers instrs) m (1 + n) chains
+      → HasRightCounts (base_of callers instrs) m n chains → chains (1 + n) ≡ []
+      → CountFault (base_of callers instrs) m (1 + n) chains cell
+      → IsFirstFault callers instrs blocks m cell
   -- a block below fresh was not met
-  Lost : HasSoundHead callers instrs blocks m → (chains : ℕ → List ℕ) → HasPassed (base_of callers instrs) m 37 chains → HasRightCounts (base_of callers instrs) m 37 chains → chains 37 ≡ []
-      → blocks_in_chains chains 37 ≢ m (fresh_at (base_of callers instrs)) → cell ≡ fresh_at (base_of callers instrs) → IsFirstFault callers instrs blocks m cell
+  Lost : HasSoundHead callers instrs blocks m → (chains : ℕ → List ℕ)
+      → HasPassed (base_of callers instrs) m 37 chains
+      → HasRightCounts (base_of callers instrs) m 37 chains → chains 37 ≡ []
+      → blocks_in_chains chains 37 ≢ m (fresh_at (base_of callers instrs))
+      → cell ≡ fresh_at (base_of callers instrs) → IsFirstFault callers instrs blocks m cell
 
 -- an error that names a cell says this of it
 abbrev pub NamesCellWith : (ℕ → Type 0) → LawErr → Type 0
@@ -150,8 +187,12 @@ NamesCellWith P (Unlawful cell) = P cell
 
 -- cells with a first fault stand for no store
 abbrev pub FaultsExcludeStores : Type 0
-FaultsExcludeStores = (callers instrs blocks : ℕ) (m : ℕ → ℕ) (s : Store) (cell : ℕ) → DataCellsStandFor callers instrs blocks m s → IsFirstFault callers instrs blocks m cell → ⊥
+FaultsExcludeStores =
+    (callers instrs blocks : ℕ) (m : ℕ → ℕ) (s : Store) (cell : ℕ)
+    → DataCellsStandFor callers instrs blocks m s → IsFirstFault callers instrs blocks m cell → ⊥
 
 -- the first cell at fault is one
 abbrev pub FirstFaultIsOne : Type 0
-FirstFaultIsOne = (callers instrs blocks : ℕ) (m : ℕ → ℕ) (a b : ℕ) → IsFirstFault callers instrs blocks m a → IsFirstFault callers instrs blocks m b → a ≡ b
+FirstFaultIsOne =
+    (callers instrs blocks : ℕ) (m : ℕ → ℕ) (a b : ℕ) → IsFirstFault callers instrs blocks m a
+    → IsFirstFault callers instrs blocks m b → a ≡ b

@@ -1,11 +1,12 @@
--- When data cells stand for a store, the callers' own cells included. The cells are a function from their numbers.
+-- When data cells stand for a store, the callers' own cells included. The cells are a function from
+-- their numbers.
 use Rattle.std.specs.Prelude.{◌≡◌, ◌≢◌, ℕ, ◌≤◌, ◌<◌, nat_lt, if◌then◌else◌, map}
 use Rattle.std.specs.List.{range_with_len}
 use Rattle.of_mem.specs.declared.work.RawReply.{RawReply}
 use Rattle.of_mem.specs.Places.{base_of, ticket_cell_at, shape_at, reply_at}
 use Rattle.of_script.specs.declared.instr.Reply.{Reply}
 use Rattle.of_script.specs.declared.instr.TheConstants.{MOST_INSTRS}
-use Rattle.of_store.specs.State.{Store}
+use Rattle.of_store.specs.Store.{Store}
 use Rattle.of_eval.specs.Shapes.{IsHeldBy}
 use Rattle.of_eval.specs.Stored.{IsStored}
 
@@ -15,7 +16,10 @@ reply_number instrs m c j = if nat_lt j instrs then m (reply_at instrs c j) else
 
 -- the reply in a caller's own cells, as they hold it
 abbrev pub reply_in : (instrs : ℕ) → (ℕ → ℕ) → (caller : ℕ) → RawReply
-reply_in instrs m c = record { shape = m (shape_at instrs c); values = map (reply_number instrs m c) (range_with_len 0 MOST_INSTRS) }
+reply_in instrs m c = record {
+  shape = m (shape_at instrs c);
+  values = map (reply_number instrs m c) (range_with_len 0 MOST_INSTRS);
+}
 
 -- a reply to a script of so many instructions at most, which a caller's own cells hold
 pub record OwnCellsHoldReply (instrs : ℕ) (m : ℕ → ℕ) (caller : ℕ) : Type 0 where

@@ -8,9 +8,9 @@ pub mod Calls
 pub mod Scripts
 pub mod Registers
 pub mod Instructions
-pub mod Scripted
-pub mod Marked
-pub mod Staying
+pub mod ScriptRuns
+pub mod MaskLaws
+pub mod ScriptsStay
 pub mod SoundScripts
 pub mod Means
 pub mod Lawful
@@ -18,4 +18,4 @@ pub mod Record
 pub mod Faults
 pub mod Walking
 pub mod Reported
-pub mod Stopped
+pub mod Resuming

@@ -1,4 +1,5 @@
--- The record of a run: what its answers and the cells that recovery finds say of the history, and when the record is lawful.
+-- The record of a run: what its answers and the cells that recovery finds say of the history, and
+-- when the record is lawful.
 use Rattle.std.specs.Prelude.{◌≡◌, ℕ, ◌+◌, ◌==◌, ◌<◌, true, false, Bool, List, [], ◌∷◌, ◌++◌, length, All}
 use Rattle.std.proofs.Common.{get_or}
 use Rattle.of_cell.specs.Words.{seq_of, payload_of}
@@ -41,7 +42,13 @@ record_number p e a = payload_of (recovered_data_word p e a)
 
 -- the entry of a caller's answer
 abbrev pub answer_entry : (caller index : ℕ) → Answer → Entry
-answer_entry c x a = record { seq = a.seq; caller = c; index = x; announced = a.announced; reply = reply_value_of a.reply }
+answer_entry c x a = record {
+  seq = a.seq;
+  caller = c;
+  index = x;
+  announced = a.announced;
+  reply = reply_value_of a.reply;
+}
 
 -- the entries of answers from this index on
 abbrev pub answer_entries : (caller index : ℕ) → List Answer → List Entry
@@ -50,17 +57,27 @@ answer_entries c x (a ∷ others) = answer_entry c x a ∷ answer_entries c (x +
 
 -- a caller's open call, by what its own cells hold
 abbrev pub open_entry : Plan → Ended → (caller index : ℕ) → Reply → Entry
-open_entry p e c x r = record { seq = seq_of (recovered_data_word p e (ticket_cell_at MOST_INSTRS c)); caller = c; index = x; announced = true; reply = reply_value_of r }
+open_entry p e c x r = record {
+  seq = seq_of (recovered_data_word p e (ticket_cell_at MOST_INSTRS c));
+  caller = c;
+  index = x;
+  announced = true;
+  reply = reply_value_of r;
+}
 
--- an open call is an entry where the caller's recovered ticket cell holds its ticket, with the reply that the other own cells hold
+-- an open call is an entry where the caller's recovered ticket cell holds its ticket, with the
+-- reply that the other own cells hold
 abbrev pub OpenCall : Plan → Ended → (caller index : ℕ) → (recovered : Bool) → List Entry → Type 0
-OpenCall p e c x true extra = (r : Reply) × IsHeldBy (reply_in MOST_INSTRS (record_number p e) c) r × (extra ≡ open_entry p e c x r ∷ [])
+OpenCall p e c x true extra =
+    (r : Reply) × IsHeldBy (reply_in MOST_INSTRS (record_number p e) c) r
+    × (extra ≡ open_entry p e c x r ∷ [])
 OpenCall p e c x false extra = extra ≡ []
 
 -- what a caller has beyond its answers: a stopped one may have its open call
 abbrev pub BeyondAnswers : Plan → Ended → (caller index : ℕ) → Ending → List Entry → Type 0
 BeyondAnswers p e c x Done extra = extra ≡ []
-BeyondAnswers p e c x (Stopped asked) extra = OpenCall p e c x (record_number p e (ticket_cell_at MOST_INSTRS c) == x + 1) extra
+BeyondAnswers p e c x (Stopped asked) extra =
+    OpenCall p e c x (record_number p e (ticket_cell_at MOST_INSTRS c) == x + 1) extra
 BeyondAnswers p e c x (Spent s) extra = extra ≡ []
 
 -- the entries of a caller in the record: its answers, and what is beyond them
@@ -77,9 +94,15 @@ end_state_of (Spent seq_of) = plain.spent
 
 -- the line of a caller with so many entries
 abbrev pub line_for : Ended → (caller entries : ℕ) → plain.Line
-line_for e c n = record { state = end_state_of (ending_of e c); answered = length (answers_of e c); entries = n; longest = longest_steps (answers_of e c) }
+line_for e c n = record {
+  state = end_state_of (ending_of e c);
+  answered = length (answers_of e c);
+  entries = n;
+  longest = longest_steps (answers_of e c);
+}
 
--- the report that a record is: its entries, endings and steps, and the sequence and the store that recovery finds
+-- the report that a record is: its entries, endings and steps, and the sequence and the store that
+-- recovery finds
 pub record IsRecordOf (p : Plan) (s : Start) (e : Ended) (r : plain.Report) : Type 0 where
   pub entries : (c : ℕ) → c < p.callers → OwnEntries p s e c (entries_of r c)
   pub each_caller : length r.callers ≡ p.callers
@@ -87,7 +110,8 @@ pub record IsRecordOf (p : Plan) (s : Start) (e : Ended) (r : plain.Report) : Ty
   pub seq : r.seq ≡ recovered_seq p e
   pub store : DataCellsStandFor p.callers MOST_INSTRS p.blocks (record_number p e) r.store
 
--- what a run leaves is a record of the plan from the start, whose replies are whole, and whose report is this one and is legal
+-- what a run leaves is a record of the plan from the start, whose replies are whole, and whose
+-- report is this one and is legal
 pub record IsLawfulRecord (p : Plan) (s : Start) (e : Ended) (r : plain.Report) : Type 0 where
   pub answers : length e.answers ≡ p.callers
   pub endings : length e.endings ≡ p.callers

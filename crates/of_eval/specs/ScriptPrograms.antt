@@ -15,7 +15,7 @@ use Rattle.of_script.specs.declared.instr.Cause.TheVariants.{Overflow, Short, No
 use Rattle.of_script.specs.declared.instr.TheConstants.{MOST_INSTRS}
 use Rattle.of_script.specs.Language.{greatest}
 use Rattle.of_script.specs.Reading.{instr_at}
-use Rattle.of_store.specs.State.{is_there, Answered, Aborted}
+use Rattle.of_store.specs.Store.{is_there, Answered, Aborted}
 use Rattle.of_eval.specs.Shapes.{reply_cells}
 use Rattle.of_eval.specs.Words.{reply_to}
 
@@ -90,15 +90,19 @@ abbrev pub word_program : ℕ → ℕ → ℕ → Program InstrResult
 word_program o blocks w = program_of o blocks (instr_at w)
 
 -- the script goes on behind these values, or aborts
-abbrev pub go_on : ℕ → List (Option ℕ) → (Option ℕ → Program RawReply) → InstrResult → Program RawReply
+abbrev pub go_on : ℕ → List (Option ℕ) → (Option ℕ → Program RawReply) → InstrResult
+    → Program RawReply
 go_on n done further (Ok v) = further v
 go_on n done further (Err cause) = Done (reply_cells (reply_to n (Aborted (length done) cause)))
 
 -- the words of a script of n, behind these values
 abbrev pub words_program : ℕ → ℕ → ℕ → List (Option ℕ) → List ℕ → Program RawReply
 words_program o blocks n done [] = Done (reply_cells (reply_to n (Answered done)))
-words_program o blocks n done (w ∷ ws) = then_do (word_program o blocks w) (go_on n done (λ v. words_program o blocks n (done ++ v ∷ []) ws))
+words_program o blocks n done (w ∷ ws) =
+    then_do (word_program o blocks w)
+    (go_on n done (λ v. words_program o blocks n (done ++ v ∷ []) ws))
 
 -- words past the most of a script are not looked at
 abbrev pub script_program : ℕ → ℕ → List ℕ → Program RawReply
-script_program o blocks op = words_program o blocks (length (take MOST_INSTRS op)) [] (take MOST_INSTRS op)
+script_program o blocks op =
+    words_program o blocks (length (take MOST_INSTRS op)) [] (take MOST_INSTRS op)

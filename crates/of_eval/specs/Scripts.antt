@@ -8,7 +8,7 @@ use Rattle.of_mem.specs.ProgramWork.{memory_of, meaning_of}
 use Rattle.of_script.specs.declared.instr.Instr.{Instr}
 use Rattle.of_script.specs.Language.{reads_only}
 use Rattle.of_script.specs.Reading.{instr_at}
-use Rattle.of_store.specs.State.{Store}
+use Rattle.of_store.specs.Store.{Store}
 use Rattle.of_eval.specs.declared.scripts.Scripts.{Scripts}
 use Rattle.of_eval.specs.Stored.{IsStored}
 use Rattle.of_eval.specs.ScriptPrograms.{script_program}

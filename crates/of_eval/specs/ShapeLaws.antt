@@ -1,4 +1,5 @@
 -- How great the parts of a shape are.
+-- These lemmas stand in specs/ since SoundScripts, the law of an impl, is proved with them.
 use Rattle.std.proofs.Common.{◌≡◌, ℕ, zero, suc, ◌<◌, ◌≤◌, ◌^◌, List, [], ◌∷◌, length, get_or, Option, Some, None, refl, arith}
 use Rattle.of_script.specs.declared.instr.Cause.{Cause}
 use Rattle.of_script.specs.declared.instr.Cause.TheVariants.{Overflow, Short, NoRoom, Differs, BadOp}
@@ -9,7 +10,8 @@ mark_small None = omega arith
 mark_small (Some v) = omega arith
 
 -- a mask is below the bit of the first place from which on there is no number
-pub mask_below : (vs : List (Option ℕ)) (n : ℕ) → ((i : ℕ) → n ≤ i → get_or vs i None ≡ None) → mask_of vs < 2 ^ n
+pub mask_below : (vs : List (Option ℕ)) (n : ℕ) → ((i : ℕ) → n ≤ i → get_or vs i None ≡ None)
+    → mask_of vs < 2 ^ n
 mask_below [] zero h = omega arith
 mask_below [] (suc n) h = let again : 0 < 2 ^ n = mask_below [] n (λ i l. refl) in grind arith
 mask_below (v ∷ vs) zero h =

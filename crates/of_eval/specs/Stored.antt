@@ -2,14 +2,19 @@
 use Rattle.std.specs.Prelude.{◌≡◌, ℕ, length}
 use Rattle.of_mem.specs.declared.plot.Plot.{Plot}
 use Rattle.of_mem.specs.Plots.{base, data_cell_count}
-use Rattle.of_mem.specs.Pad.{Part}
+use Rattle.of_mem.specs.Part.{Part}
 use Rattle.of_mem.specs.Programs.{IsPartOf}
 use Rattle.of_mem.specs.Stores.{CellStore, StandsForStore}
-use Rattle.of_store.specs.State.{Store, IsState, queue}
+use Rattle.of_store.specs.Store.{Store, IsState, queue}
 
 -- the same store as cells see it
 abbrev pub cell_store : Store → CellStore
-cell_store s = record { registers = s.registers; map = s.keys; queues = λ q. queue s q; room = s.room }
+cell_store s = record {
+  registers = s.registers;
+  map = s.keys;
+  queues = λ q. queue s q;
+  room = s.room;
+}
 
 -- The cells from o on stand for this store, with so many blocks.
 pub record IsStored (o blocks : ℕ) (m : ℕ → ℕ) (s : Store) : Type 0 where

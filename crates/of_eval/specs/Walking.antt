@@ -1,4 +1,5 @@
--- How far the walk through the chains came: what its owners table and its store say of the blocks that were met.
+-- How far the walk through the chains came: what its owners table and its store say of the blocks
+-- that were met.
 use Rattle.std.specs.Prelude.{◌≡◌, ◌≢◌, ◌⊎◌, ℕ, ◌+◌, ◌%◌, ◌<◌, ◌≤◌, cond, eqb, Option, Some, None, List, [], ◌∷◌, length, map}
 use Rattle.std.specs.FinMap as fin
 use Rattle.std.proofs.Common.{get_or, set}
@@ -7,15 +8,32 @@ use Rattle.of_mem.specs.Places.{register_at, fresh_at}
 use Rattle.of_mem.specs.Plots.{base}
 use Rattle.of_mem.specs.ProgramWork.{memory_of}
 use Rattle.of_mem.specs.Stores.{first_at, value_in, blocks_in_chains}
-use Rattle.of_store.specs.State.{Store, IsState, queue}
+use Rattle.of_script.specs.declared.instr.TheConstants.{REGISTERS}
+use Rattle.of_store.specs.Store.{Store, IsState, queue}
 use Rattle.of_eval.specs.declared.lawful_cells.LawErr.{LawErr}
 use Rattle.of_eval.specs.declared.lawful_cells.LawErr.TheVariants.{Memory, Unlawful}
-use Rattle.of_eval.specs.Lawful.{DataCellsStandFor}
-use Rattle.of_eval.specs.Faults.{IsFirstFault, HasSoundHead, HasPassed, HasRightCounts, ContainsNumber, IsMet, NamesCellWith}
+use Rattle.of_eval.specs.Lawful.{OwnCellsAreSound, DataCellsStandFor}
+use Rattle.of_eval.specs.Faults.{OwnFault, AllOwnCellsAreSound, AreNumbers, IsFirstFault, HasSoundHead, HasPassed, HasRightCounts, ContainsNumber, IsMet, NamesCellWith}
 
 -- an error that names a cell names the first one at fault
 abbrev pub NamesFault : Plot → List ℕ → LawErr → Type 0
 NamesFault p cells e = NamesCellWith (IsFirstFault p.callers p.instrs p.blocks (memory_of cells)) e
+
+-- the caller's own cells are those of no call, or hold the reply to its last one
+abbrev pub CallerIsSound : Plot → List ℕ → (caller : ℕ) → Type 0
+CallerIsSound p cells caller = OwnCellsAreSound p.instrs (memory_of cells) caller
+
+-- an error that names a cell names the first fault of the caller's own cells
+abbrev pub NamesOwnFault : Plot → List ℕ → (caller : ℕ) → LawErr → Type 0
+NamesOwnFault p cells caller e = NamesCellWith (OwnFault p.instrs (memory_of cells) caller) e
+
+-- every caller's own cells are sound
+abbrev pub CallersAreSound : Plot → List ℕ → Type 0
+CallersAreSound p cells = AllOwnCellsAreSound p.instrs (memory_of cells) p.callers
+
+-- no register is too great
+abbrev pub RegistersAreNumbers : Plot → List ℕ → Type 0
+RegistersAreNumbers p cells = AreNumbers (base p) (memory_of cells) REGISTERS
 
 -- the cells stand for this store, those of the callers included
 abbrev pub CellsStandFor : Plot → List ℕ → Store → Type 0
@@ -30,31 +48,39 @@ abbrev pub unmet_count : List ℕ → ℕ
 unmet_count [] = 0
 unmet_count (x ∷ owners) = cond (eqb x 0) 1 0 + unmet_count owners
 
--- The owners table has 1 more than its chain's number for each block that was met, and 0 for the others.
+-- The owners table has 1 more than its chain's number for each block that was met, and 0 for the
+-- others.
 pub record OwnersMatchChains (fresh : ℕ) (chains : ℕ → List ℕ) (owners : List ℕ) : Type 0 where
   pub sized : length owners ≡ fresh
   pub paint : (c b : ℕ) → ContainsNumber (chains c) b → get_or owners b 0 ≡ c + 1
   pub met : (b : ℕ) → get_or owners b 0 ≢ 0 → IsMet chains b
   pub counted : blocks_in_chains chains 37 + unmet_count owners ≡ fresh
 
--- the walk met these blocks, the last of them in chain n, and what it counted behind the chains before chain k is right
-pub record HasWalked (p : Plot) (cells : List ℕ) (n k : ℕ) (chains : ℕ → List ℕ) (owners : List ℕ) : Type 0 where
+-- the walk met these blocks, the last of them in chain n, and what it counted behind the chains
+-- before chain k is right
+pub record HasWalked (p : Plot) (cells : List ℕ) (n k : ℕ) (chains : ℕ → List ℕ) (owners : List ℕ) :
+    Type 0 where
   pub begun : HasBegun p cells
   pub passed : HasPassed (base p) (memory_of cells) n chains
   pub counted : HasRightCounts (base p) (memory_of cells) k chains
   pub painted : OwnersMatchChains (memory_of cells (fresh_at (base p))) chains owners
 
 -- the store has the registers, and what the blocks that were met hold
-pub record HoldsWhatWasMet (p : Plot) (cells : List ℕ) (chains : ℕ → List ℕ) (s : Store) : Type 0 where
+pub record HoldsWhatWasMet (p : Plot) (cells : List ℕ) (chains : ℕ → List ℕ) (s : Store)
+    : Type 0 where
   pub state : IsState s
   pub room : s.room ≡ p.blocks
-  pub registers : (r : ℕ) → r < 16 → memory_of cells (register_at (base p) r) ≡ get_or s.registers r 0
-  pub values : (key : ℕ) → fin.get s.keys key ≡ value_in (base p) (memory_of cells) key (chains (1 + key % 32))
+  pub registers : (r : ℕ) → r < 16
+      → memory_of cells (register_at (base p) r) ≡ get_or s.registers r 0
+  pub values : (key : ℕ)
+      → fin.get s.keys key ≡ value_in (base p) (memory_of cells) key (chains (1 + key % 32))
   pub key_blocks : blocks_in_chains chains 33 ≡ length (chains 0) + fin.len s.keys
-  pub items : (q : ℕ) → q < 4 → map (λ b. memory_of cells (first_at (base p) b)) (chains (33 + q)) ≡ queue s q
+  pub items : (q : ℕ) → q < 4
+      → map (λ b. memory_of cells (first_at (base p) b)) (chains (33 + q)) ≡ queue s q
 
 -- the walk stands before chain n, and what was counted behind the chains before chain k is right
-pub record IsBeforeChain (p : Plot) (cells : List ℕ) (n k : ℕ) (owners : List ℕ) (s : Store) : Type 0 where
+pub record IsBeforeChain (p : Plot) (cells : List ℕ) (n k : ℕ) (owners : List ℕ) (s : Store)
+    : Type 0 where
   pub chains : ℕ → List ℕ
   pub walked : HasWalked p cells n k chains owners
   pub kept : HoldsWhatWasMet p cells chains s
@@ -70,32 +96,41 @@ pub record HasWalkedFreeList (p : Plot) (cells : List ℕ) (owners : List ℕ) :
 pub record HasRegisters (p : Plot) (cells : List ℕ) (n : ℕ) (s : Store) : Type 0 where
   pub state : IsState s
   pub room : s.room ≡ p.blocks
-  pub registers : (r : ℕ) → r < n → memory_of cells (register_at (base p) r) ≡ get_or s.registers r 0
+  pub registers : (r : ℕ) → r < n
+      → memory_of cells (register_at (base p) r) ≡ get_or s.registers r 0
   pub keys : s.keys ≡ fin.empty
   pub queues : (q : ℕ) → queue s q ≡ []
 
 -- the pointer ends its chain, or leads to a block with no owner, which gets this chain
 abbrev pub LinkLeadsOn : List ℕ → ℕ → ℕ → List ℕ → List ℕ → Option ℕ → Type 0
 LinkLeadsOn cells cell chain before after None = (memory_of cells cell ≡ 0) × (after ≡ before)
-LinkLeadsOn cells cell chain before after (Some b) = (memory_of cells cell ≡ b + 1) × (b < length before) × (get_or before b 0 ≡ 0) × (after ≡ set before b (chain + 1))
+LinkLeadsOn cells cell chain before after (Some b) =
+    (memory_of cells cell ≡ b + 1) × (b < length before) × (get_or before b 0 ≡ 0)
+    × (after ≡ set before b (chain + 1))
 
 -- the pointer leads beyond the table, or to a block that has an owner
 abbrev pub LinkIsAtFault : List ℕ → ℕ → List ℕ → LawErr → Type 0
 LinkIsAtFault cells cell owners Memory = ⊥
-LinkIsAtFault cells cell owners (Unlawful at) = (at ≡ cell) × ((b : ℕ) × (memory_of cells cell ≡ b + 1) × ((length owners ≤ b) ⊎ (get_or owners b 0 ≢ 0)))
+LinkIsAtFault cells cell owners (Unlawful at) =
+    (at ≡ cell)
+    × ((b : ℕ) × (memory_of cells cell ≡ b + 1) × ((length owners ≤ b) ⊎ (get_or owners b 0 ≢ 0)))
 
 -- a walk that came to the queues found the keys counted rightly
 abbrev pub KeysAreCounted : Plot → List ℕ → Store → Type 0
-KeysAreCounted p cells s = (owners : List ℕ) → IsBeforeChain p cells 33 0 owners s → IsBeforeChain p cells 33 33 owners s
+KeysAreCounted p cells s =
+    (owners : List ℕ) → IsBeforeChain p cells 33 0 owners s → IsBeforeChain p cells 33 33 owners s
 
 -- or wrongly
 abbrev pub KeysAreMiscounted : Plot → List ℕ → Store → LawErr → Type 0
-KeysAreMiscounted p cells s e = (owners : List ℕ) → IsBeforeChain p cells 33 0 owners s → NamesFault p cells e
+KeysAreMiscounted p cells s e =
+    (owners : List ℕ) → IsBeforeChain p cells 33 0 owners s → NamesFault p cells e
 
 -- a walk through all chains met every block
 abbrev pub AllAreMet : Plot → List ℕ → List ℕ → Type 0
-AllAreMet p cells owners = (s : Store) → IsBeforeChain p cells 37 37 owners s → CellsStandFor p cells s
+AllAreMet p cells owners =
+    (s : Store) → IsBeforeChain p cells 37 37 owners s → CellsStandFor p cells s
 
 -- or not every one
 abbrev pub SomeAreUnmet : Plot → List ℕ → List ℕ → LawErr → Type 0
-SomeAreUnmet p cells owners e = (s : Store) → IsBeforeChain p cells 37 37 owners s → NamesFault p cells e
+SomeAreUnmet p cells owners e =
+    (s : Store) → IsBeforeChain p cells 37 37 owners s → NamesFault p cells e

@@ -1,11 +1,12 @@
--- What the words of an operation mean: those of a script are that script, and a word that is no instruction aborts at its place.
+-- What the words of an operation mean: those of a script are that script, and a word that is no
+-- instruction aborts at its place.
 use Rattle.std.specs.Prelude.{ℕ, ◌≤◌, ◌-◌, List, [], ◌∷◌, ◌++◌, length, replicate, Option, Some, None, Ok, Err}
 use Rattle.of_script.specs.declared.instr.Instr.{Instr}
 use Rattle.of_script.specs.declared.instr.Cause.TheVariants.{BadOp}
 use Rattle.of_script.specs.declared.instr.Reply.{Reply as RustReply}
 use Rattle.of_script.specs.declared.instr.TheConstants.{MOST_INSTRS}
 use Rattle.of_script.specs.Reading.{instr_at}
-use Rattle.of_store.specs.State.{Store, InstrEffect, instr_effect, ScriptOutcome, then_outcome, run_result, Reply, Answered, Aborted}
+use Rattle.of_store.specs.Store.{Store, InstrEffect, instr_effect, ScriptOutcome, then_outcome, run_result, Reply, Answered, Aborted}
 
 -- an operation has one to the most words
 pub record IsOperation (op : List ℕ) : Type 0 where
@@ -30,5 +31,13 @@ run_words s ws = run_result s (words_outcome s ws)
 
 -- the reply of so many instructions
 abbrev pub reply_to : ℕ → Reply → RustReply
-reply_to n (Answered vs) = record { len = n; values = vs ++ replicate (MOST_INSTRS - length vs) None; abort = None }
-reply_to n (Aborted place cause) = record { len = n; values = replicate MOST_INSTRS None; abort = Some (record { place = place; cause = cause }) }
+reply_to n (Answered vs) = record {
+  len = n;
+  values = vs ++ replicate (MOST_INSTRS - length vs) None;
+  abort = None;
+}
+reply_to n (Aborted place cause) = record {
+  len = n;
+  values = replicate MOST_INSTRS None;
+  abort = Some (record { place = place; cause = cause });
+}

@@ -2,7 +2,7 @@
 
 ghost use Rattle.std.specs.Prelude.{◌≡◌, IfOk, IfErr, MatchResult, length};
 ghost use Rattle.of_mem.specs.Plots.{data_cell_count};
-ghost use Rattle.of_store.specs.State.{Store};
+ghost use Rattle.of_store.specs.Store.{Store};
 ghost use Rattle.of_eval.specs.Walking.{NamesFault, CellsStandFor};
 ghost use Rattle.of_eval.specs.declared.lawful_cells.LawErr.TheVariants.{Memory};
 
@@ -38,7 +38,7 @@ impl From<AllocError> for LawErr {
 }
 
 /// Looks at the cells in their order, and makes the store that they stand for.
-fn looked_at(alloc: Global, plot: &Plot, cells: &[u32]) -> Result<Store, LawErr>
+fn read_store(alloc: Global, plot: &Plot, cells: &[u32]) -> Result<Store, LawErr>
     requires { length cells.now ≡ data_cell_count plot.now }
     ensures ok { IfOk result (CellsStandFor plot.now cells.now) }
     ensures unlawful { IfErr result (NamesFault plot.now cells.now) }
@@ -73,5 +73,5 @@ pub fn lawful(alloc: Global, plot: &Plot, cells: &[u32]) -> Result<Store, LawErr
     ensures only { (s : Store) → CellsStandFor plot.now cells.now s →
         MatchResult result (λ t. t ≡ s) (λ e. e ≡ Memory) }
 {
-    looked_at(alloc, plot, cells)
+    read_store(alloc, plot, cells)
 }

@@ -2,7 +2,7 @@
 
 ghost use Rattle.std.specs.Prelude.{◌≡◌, ℕ};
 ghost use Rattle.of_script.specs.declared.instr.Reply.{Reply};
-ghost use Rattle.of_store.specs.State.{Store};
+ghost use Rattle.of_store.specs.Store.{Store};
 ghost use Rattle.of_eval.specs.Faults.{FaultsExcludeStores, FirstFaultIsOne};
 ghost use Rattle.of_eval.specs.Means.{MeansWords, WordsMeanScript};
 ghost use Rattle.of_eval.specs.Shapes.{IsWhole, IsHeldBy, reply_cells};
@@ -39,7 +39,8 @@ pub fn first_fault_is_one()
     ensures { FirstFaultIsOne }
 {}
 
-/// A reply is held by the cells in which it is written; so `reply_of` of what `reply_cells` makes of it is that reply.
+/// A reply is held by the cells in which it is written; so `reply_of` of what `reply_cells` makes of
+/// it is that reply.
 pub fn replies_are_held()
     ensures { (r : Reply) → IsWhole r → IsHeldBy (reply_cells r) r }
 {}

@@ -10,4 +10,4 @@ mod walk;
 
 pub use lawful_cells::{LawErr, lawful};
 pub use reply::{reply_cells, reply_of};
-pub use scripts::Scripts;
+pub use scripts::{Scripts, shape_of};

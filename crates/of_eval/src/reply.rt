@@ -66,8 +66,8 @@ pub fn reply_cells(reply: &Reply) -> RawReply
     RawReply { shape, values }
 }
 
-/// The reply that these cells hold. None comes exactly where they hold none: their shape is that of no reply, or a number that it
-/// marks is above `GREATEST`.
+/// The reply that these cells hold. None comes exactly if they hold none: their shape is that of no
+/// reply, or a number that it marks is above `GREATEST`.
 pub fn reply_of(raw: &RawReply) -> Option<Reply>
     ensures some { IfSome result (IsHeldBy raw.now) }
     ensures only { (r : TheReply) → IsHeldBy raw.now r → result ≡ Some r }
@@ -80,13 +80,17 @@ pub fn reply_of(raw: &RawReply) -> Option<Reply>
         return None;
     }
     if raw.shape < 1 << 21 {
-        return answered(raw, len);
+        return answered_reply(raw, len);
     }
-    aborted(raw, len)
+    aborted_reply(raw, len)
 }
 
 /// The numbers that a mask marks. None where one of them is above `GREATEST`.
-fn marked(mask: u32, cells: &[u32; MOST_INSTRS], len: usize) -> Option<[Option<u32>; MOST_INSTRS]>
+fn marked_values(
+    mask: u32,
+    cells: &[u32; MOST_INSTRS],
+    len: usize,
+) -> Option<[Option<u32>; MOST_INSTRS]>
     requires few { len ≤ MOST_INSTRS }
     requires below { mask < 2 ^ len }
     ensures { MatchOption result (All IsSmall (marked_in mask cells.now) → ⊥)
@@ -107,7 +111,7 @@ fn marked(mask: u32, cells: &[u32; MOST_INSTRS], len: usize) -> Option<[Option<u
 }
 
 /// The reply of a script that ran to its end.
-fn answered(raw: &RawReply, len: u32) -> Option<Reply>
+fn answered_reply(raw: &RawReply, len: u32) -> Option<Reply>
     requires len { len ≡ raw.now.shape / 2 ^ 16 % 32 }
     requires some { 1 ≤ len }
     requires few { len ≤ MOST_INSTRS }
@@ -119,7 +123,7 @@ fn answered(raw: &RawReply, len: u32) -> Option<Reply>
     if marks >= 1 << len {
         return None;
     }
-    let values = marked(marks, &raw.values, len as usize)?;
+    let values = marked_values(marks, &raw.values, len as usize)?;
     Some(Reply {
         len: len as u8,
         values,
@@ -128,7 +132,7 @@ fn answered(raw: &RawReply, len: u32) -> Option<Reply>
 }
 
 /// The reply of a script that aborted.
-fn aborted(raw: &RawReply, len: u32) -> Option<Reply>
+fn aborted_reply(raw: &RawReply, len: u32) -> Option<Reply>
     requires len { len ≡ raw.now.shape / 2 ^ 16 % 32 }
     requires some { 1 ≤ len }
     requires few { len ≤ MOST_INSTRS }

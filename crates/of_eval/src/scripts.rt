@@ -3,15 +3,18 @@
 ghost use Rattle.std.specs.Prelude.{◌≡◌, ◌≤◌};
 ghost use Rattle.of_mem.specs.declared.work.TheConstants.{MOST_CALLERS};
 ghost use Rattle.of_mem.specs.declared.plot.TheConstants.{MOST_BLOCKS};
+ghost use Rattle.of_eval.specs.Scripts.{scripts_data_cells};
 
 use crate::reply::reply_cells;
 use crate::step::word_reads;
 use crate::walk::{keep_sought, reach, run_words};
-use of_mem::{Keeps, Kept, MOST_INSTRS, Need, Part, Plot, RawReply, Work};
+use of_cell::Shape;
+use of_mem::{MOST_INSTRS, MaySuspend, Need, Part, Plot, RawReply, SuspendedRun, Work};
+use of_plan::{Plan, table_shape};
 
-/// What runs scripts on cells: so many callers, 1 to `MOST_CALLERS`, and room for so
-/// many keys and items, at most `MOST_BLOCKS`. An operation is the words of a script; a
-/// word that is no instruction aborts at its place.
+/// What runs scripts on cells: so many callers, 1 to `MOST_CALLERS`, and room for so many keys and
+/// items, at most `MOST_BLOCKS`. An operation is the words of a script; a word that is no instruction
+/// aborts at its place.
 #[derive(Clone, Copy, Debug, PartialEq, Eq)]
 pub struct Scripts {
     pub callers: u32,
@@ -22,6 +25,17 @@ pub struct Scripts {
 }
 
 impl Scripts {
+    /// Those of a plan.
+    pub fn of_plan(plan: &Plan) -> Scripts
+        ensures callers { result.callers ≡ plan.now.callers }
+        ensures blocks { result.blocks ≡ plan.now.blocks }
+    {
+        Scripts {
+            callers: plan.callers(),
+            blocks: plan.blocks(),
+        }
+    }
+
     /// Where the data cells stand.
     pub fn plot(&self) -> Plot
         ensures callers { result.callers ≡ self.now.callers }
@@ -36,8 +50,17 @@ impl Scripts {
     }
 }
 
-impl Keeps for Scripts {
-    ghost use Rattle.of_eval.specs.Stopped.{HoldsScript, holds_nothing, holds_learnt};
+/// The shape of a table for these scripts.
+pub fn shape_of(scripts: Scripts) -> Shape
+    ensures callers { result.callers ≡ scripts.callers }
+    ensures instrs { result.instrs ≡ MOST_INSTRS }
+    ensures cells { result.cells ≡ scripts_data_cells scripts }
+{
+    table_shape(&scripts.plot())
+}
+
+impl MaySuspend for Scripts {
+    ghost use Rattle.of_eval.specs.Resuming.{HoldsScript, holds_nothing, holds_learnt};
 
     ghost holds = { HoldsScript };
 
@@ -69,7 +92,7 @@ impl Work for Scripts {
     fn run_on(
         &self,
         part: &mut Part,
-        kept: &mut Kept,
+        kept: &mut SuspendedRun,
         op: &[u64],
         out: &mut RawReply,
     ) -> Result<(), Need> {

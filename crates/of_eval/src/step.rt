@@ -9,18 +9,18 @@ ghost use Rattle.of_eval.specs.ScriptPrograms.{need_answers};
 ghost use Rattle.of_script.specs.Reading.{instr_at};
 ghost use Rattle.of_eval.specs.Calls.{step, run_word};
 ghost use Rattle.of_eval.specs.Scripts.{instr_reads};
-ghost use Rattle.of_eval.specs.Stopped.{LooksFor};
+ghost use Rattle.of_eval.specs.Resuming.{LooksFor};
 
 use of_map::Put;
 use of_mem::{Need, Part, Plot};
 use of_script::{Cause, GREATEST, Instr, from_word};
 
 /// A number or none, or the cause for which the script aborts.
-pub(crate) type Answer = Result<Option<u32>, Cause>;
+pub(crate) type InstrResult = Result<Option<u32>, Cause>;
 
 /// Runs one word, which aborts where it is no instruction. The error names a cell that is read and
 /// isn't known.
-pub(crate) fn run_word(plot: &Plot, part: &mut Part, word: u64) -> Result<Answer, Need>
+pub(crate) fn run_word(plot: &Plot, part: &mut Part, word: u64) -> Result<InstrResult, Need>
     requires { HasStore plot.now part.old }
     ensures { RunsProgram (run_word plot.now word) part.old part.new result }
 {
@@ -54,7 +54,7 @@ pub(crate) fn word_seeks(word: u64) -> Option<u32>
 }
 
 /// Runs one instruction.
-fn step(plot: &Plot, part: &mut Part, instr: Instr) -> Result<Answer, Need>
+fn step(plot: &Plot, part: &mut Part, instr: Instr) -> Result<InstrResult, Need>
     requires stands { HasStore plot.now part.old }
     requires range { IsInstrInRange instr }
     ensures { RunsProgram (step plot.now instr) part.old part.new result }
@@ -80,7 +80,7 @@ fn step(plot: &Plot, part: &mut Part, instr: Instr) -> Result<Answer, Need>
 
 /// Answers a register.
 #[tactic(auto, using(of_mem::proofs::Runs::run_then_gives, of_mem::proofs::Runs::run_then_needs))]
-fn load(plot: &Plot, part: &Part, reg: u8) -> Result<Answer, Need>
+fn load(plot: &Plot, part: &Part, reg: u8) -> Result<InstrResult, Need>
     requires stands { HasStore plot.now part.now }
     requires range { IsInstrInRange (Load reg) }
     ensures { RunsProgram (step plot.now (Load reg)) part.now part.now result }
@@ -91,7 +91,7 @@ fn load(plot: &Plot, part: &Part, reg: u8) -> Result<Answer, Need>
 
 /// Writes a register.
 #[tactic(auto, using(of_mem::proofs::Runs::run_then_gives, of_mem::proofs::Runs::run_then_needs))]
-fn store(plot: &Plot, part: &mut Part, reg: u8, value: u32) -> Result<Answer, Need>
+fn store(plot: &Plot, part: &mut Part, reg: u8, value: u32) -> Result<InstrResult, Need>
     requires stands { HasStore plot.now part.old }
     requires range { IsInstrInRange (Store reg value) }
     ensures { RunsProgram (step plot.now (Store reg value)) part.old part.new result }
@@ -102,7 +102,7 @@ fn store(plot: &Plot, part: &mut Part, reg: u8, value: u32) -> Result<Answer, Ne
 
 /// Adds to a register.
 #[tactic(auto, using(of_mem::proofs::Runs::run_then_gives, of_mem::proofs::Runs::run_then_needs))]
-fn add(plot: &Plot, part: &mut Part, reg: u8, value: u32) -> Result<Answer, Need>
+fn add(plot: &Plot, part: &mut Part, reg: u8, value: u32) -> Result<InstrResult, Need>
     requires stands { HasStore plot.now part.old }
     requires range { IsInstrInRange (Add reg value) }
     ensures { RunsProgram (step plot.now (Add reg value)) part.old part.new result }
@@ -118,7 +118,7 @@ fn add(plot: &Plot, part: &mut Part, reg: u8, value: u32) -> Result<Answer, Need
 
 /// Takes off a register.
 #[tactic(auto, using(of_mem::proofs::Runs::run_then_gives, of_mem::proofs::Runs::run_then_needs))]
-fn sub(plot: &Plot, part: &mut Part, reg: u8, value: u32) -> Result<Answer, Need>
+fn sub(plot: &Plot, part: &mut Part, reg: u8, value: u32) -> Result<InstrResult, Need>
     requires stands { HasStore plot.now part.old }
     requires range { IsInstrInRange (Sub reg value) }
     ensures { RunsProgram (step plot.now (Sub reg value)) part.old part.new result }
@@ -134,7 +134,7 @@ fn sub(plot: &Plot, part: &mut Part, reg: u8, value: u32) -> Result<Answer, Need
 
 /// Answers the value at a key.
 #[tactic(auto, using(of_mem::proofs::Runs::run_then_gives, of_mem::proofs::Runs::run_then_needs))]
-fn get(plot: &Plot, part: &mut Part, key: u32) -> Result<Answer, Need>
+fn get(plot: &Plot, part: &mut Part, key: u32) -> Result<InstrResult, Need>
     requires { HasStore plot.now part.old }
     ensures { RunsProgram (step plot.now (Get key)) part.old part.new result }
 {
@@ -144,7 +144,7 @@ fn get(plot: &Plot, part: &mut Part, key: u32) -> Result<Answer, Need>
 
 /// Puts a value at a key.
 #[tactic(auto, using(of_mem::proofs::Runs::run_then_gives, of_mem::proofs::Runs::run_then_needs))]
-fn put(plot: &Plot, part: &mut Part, key: u32, value: u32) -> Result<Answer, Need>
+fn put(plot: &Plot, part: &mut Part, key: u32, value: u32) -> Result<InstrResult, Need>
     requires stands { HasStore plot.now part.old }
     requires range { IsInstrInRange (PutAt key value) }
     ensures { RunsProgram (step plot.now (PutAt key value)) part.old part.new result }
@@ -158,7 +158,7 @@ fn put(plot: &Plot, part: &mut Part, key: u32, value: u32) -> Result<Answer, Nee
 
 /// Deletes a key.
 #[tactic(auto, using(of_mem::proofs::Runs::run_then_gives, of_mem::proofs::Runs::run_then_needs))]
-fn del(plot: &Plot, part: &mut Part, key: u32) -> Result<Answer, Need>
+fn del(plot: &Plot, part: &mut Part, key: u32) -> Result<InstrResult, Need>
     requires { HasStore plot.now part.old }
     ensures { RunsProgram (step plot.now (Del key)) part.old part.new result }
 {
@@ -168,7 +168,7 @@ fn del(plot: &Plot, part: &mut Part, key: u32) -> Result<Answer, Need>
 
 /// Aborts unless the value at a key is this one.
 #[tactic(auto, using(of_mem::proofs::Runs::run_then_gives, of_mem::proofs::Runs::run_then_needs))]
-fn need(plot: &Plot, part: &mut Part, key: u32, value: u32) -> Result<Answer, Need>
+fn need(plot: &Plot, part: &mut Part, key: u32, value: u32) -> Result<InstrResult, Need>
     requires { HasStore plot.now part.old }
     ensures { RunsProgram (step plot.now (Needs key value)) part.old part.new result }
 {
@@ -177,7 +177,7 @@ fn need(plot: &Plot, part: &mut Part, key: u32, value: u32) -> Result<Answer, Ne
 }
 
 /// Aborts unless the value that was found is this one.
-fn compare(found: Option<u32>, value: u32) -> Answer
+fn compare(found: Option<u32>, value: u32) -> InstrResult
     ensures { need_answers value found ≡ Done result }
 {
     if found == Some(value) {
@@ -188,7 +188,7 @@ fn compare(found: Option<u32>, value: u32) -> Answer
 
 /// Puts an item behind a queue.
 #[tactic(auto, using(of_mem::proofs::Runs::run_then_gives, of_mem::proofs::Runs::run_then_needs))]
-fn push(plot: &Plot, part: &mut Part, queue: u8, value: u32) -> Result<Answer, Need>
+fn push(plot: &Plot, part: &mut Part, queue: u8, value: u32) -> Result<InstrResult, Need>
     requires stands { HasStore plot.now part.old }
     requires range { IsInstrInRange (Push queue value) }
     ensures { RunsProgram (step plot.now (Push queue value)) part.old part.new result }
@@ -201,7 +201,7 @@ fn push(plot: &Plot, part: &mut Part, queue: u8, value: u32) -> Result<Answer, N
 
 /// Takes the front item of a queue.
 #[tactic(auto, using(of_mem::proofs::Runs::run_then_gives, of_mem::proofs::Runs::run_then_needs))]
-fn pop(plot: &Plot, part: &mut Part, queue: u8) -> Result<Answer, Need>
+fn pop(plot: &Plot, part: &mut Part, queue: u8) -> Result<InstrResult, Need>
     requires stands { HasStore plot.now part.old }
     requires range { IsInstrInRange (Pop queue) }
     ensures { RunsProgram (step plot.now (Pop queue)) part.old part.new result }
@@ -212,7 +212,7 @@ fn pop(plot: &Plot, part: &mut Part, queue: u8) -> Result<Answer, Need>
 
 /// Answers the length of a queue.
 #[tactic(auto, using(of_mem::proofs::Runs::run_then_gives, of_mem::proofs::Runs::run_then_needs))]
-fn len(plot: &Plot, part: &Part, queue: u8) -> Result<Answer, Need>
+fn len(plot: &Plot, part: &Part, queue: u8) -> Result<InstrResult, Need>
     requires stands { HasStore plot.now part.now }
     requires range { IsInstrInRange (Len queue) }
     ensures { RunsProgram (step plot.now (Len queue)) part.now part.now result }
@@ -223,7 +223,7 @@ fn len(plot: &Plot, part: &Part, queue: u8) -> Result<Answer, Need>
 
 /// Answers the number of keys.
 #[tactic(auto, using(of_mem::proofs::Runs::run_then_gives, of_mem::proofs::Runs::run_then_needs))]
-fn count(plot: &Plot, part: &Part) -> Result<Answer, Need>
+fn count(plot: &Plot, part: &Part) -> Result<InstrResult, Need>
     requires { HasStore plot.now part.now }
     ensures { RunsProgram (step plot.now Count) part.now part.now result }
 {
@@ -233,7 +233,7 @@ fn count(plot: &Plot, part: &Part) -> Result<Answer, Need>
 
 /// Answers the least key.
 #[tactic(auto, using(of_mem::proofs::Runs::run_then_gives, of_mem::proofs::Runs::run_then_needs))]
-fn first(plot: &Plot, part: &Part) -> Result<Answer, Need>
+fn first(plot: &Plot, part: &Part) -> Result<InstrResult, Need>
     requires { HasStore plot.now part.now }
     ensures { RunsProgram (step plot.now First) part.now part.now result }
 {
@@ -243,7 +243,7 @@ fn first(plot: &Plot, part: &Part) -> Result<Answer, Need>
 
 /// Answers the least key above one.
 #[tactic(auto, using(of_mem::proofs::Runs::run_then_gives, of_mem::proofs::Runs::run_then_needs))]
-fn next(plot: &Plot, part: &Part, key: u32) -> Result<Answer, Need>
+fn next(plot: &Plot, part: &Part, key: u32) -> Result<InstrResult, Need>
     requires { HasStore plot.now part.now }
     ensures { RunsProgram (step plot.now (Next key)) part.now part.now result }
 {
@@ -253,7 +253,7 @@ fn next(plot: &Plot, part: &Part, key: u32) -> Result<Answer, Need>
 
 /// Drops the keys below one.
 #[tactic(auto, using(of_mem::proofs::Runs::run_then_gives, of_mem::proofs::Runs::run_then_needs))]
-fn drop_below(plot: &Plot, part: &mut Part, key: u32) -> Result<Answer, Need>
+fn drop_below(plot: &Plot, part: &mut Part, key: u32) -> Result<InstrResult, Need>
     requires { HasStore plot.now part.old }
     ensures { RunsProgram (step plot.now (DropBelow key)) part.old part.new result }
 {

@@ -2,26 +2,31 @@
 
 ghost use Rattle.std.proofs.Common.{set};
 ghost use Rattle.std.specs.Prelude.{◌-◌, ◌≡◌, ◌≤◌, ◌<◌, [], length, IfOk, MatchResult, None};
-ghost use Rattle.of_mem.specs.Pad.{Part};
+ghost use Rattle.of_mem.specs.Part.{Part};
 ghost use Rattle.of_mem.specs.Programs.{NeedsAt};
-ghost use Rattle.of_mem.specs.Remains.{IsSuspensionOf};
+ghost use Rattle.of_mem.specs.SuspendedRun.{IsSuspensionOf};
 ghost use Rattle.of_mem.specs.declared.work.TheConstants.{MOST_INSTRS};
 ghost use Rattle.of_mem.specs.Calls.{RunsProgram};
 ghost use Rattle.of_eval.specs.Calls.{script, in_cells};
 ghost use Rattle.of_eval.specs.Shapes.{IsWhole};
-ghost use Rattle.of_eval.specs.Stopped.{HoldsScript};
+ghost use Rattle.of_eval.specs.Resuming.{HoldsScript};
 ghost use Rattle.of_eval.specs.Stored.{HasState};
 ghost use Rattle.of_eval.specs.Words.{IsOperation, reply_to};
-ghost use Rattle.of_store.specs.State.{Aborted};
+ghost use Rattle.of_store.specs.Store.{Aborted};
 
 use crate::step::{run_word, word_seeks};
-use of_mem::{Kept, Need, Part, Plot};
+use of_mem::{Need, Part, Plot, SuspendedRun};
 use of_script::{Abort, Cause, MOST_INSTRS, Reply};
 
 /// Walks towards the key that the next word looks for, where `kept` is of these words and has one.
 /// The error names a cell that is read and isn't known. A run that lacks one cell after the other of
 /// a bucket so costs the walk alone.
-pub(crate) fn reach(plot: &Plot, part: &mut Part, kept: &Kept, op: &[u64]) -> Result<(), Need>
+pub(crate) fn reach(
+    plot: &Plot,
+    part: &mut Part,
+    kept: &SuspendedRun,
+    op: &[u64],
+) -> Result<(), Need>
     requires stands { HasState plot.now part.old }
     requires instrs { plot.now.instrs ≡ MOST_INSTRS }
     requires words { IsOperation op.now }
@@ -51,7 +56,7 @@ pub(crate) fn reach(plot: &Plot, part: &mut Part, kept: &Kept, op: &[u64]) -> Re
 pub(crate) fn run_words(
     plot: &Plot,
     part: &mut Part,
-    kept: &mut Kept,
+    kept: &mut SuspendedRun,
     op: &[u64],
 ) -> Result<Reply, Need>
     requires stands { HasState plot.now part.old }
@@ -73,9 +78,9 @@ pub(crate) fn run_words(
     kept.restore(part);
     for i in kept.done()..op.len() {
         match run_word(plot, part, op[i])? {
-            Err(cause) => return Ok(aborted(op.len(), i, cause)),
+            Err(cause) => return Ok(aborted_reply(op.len(), i, cause)),
             // no word goes on behind the last one, so what it answers and writes need not be kept
-            Ok(value) if i == last => return Ok(answered(op.len(), kept.values(), value)),
+            Ok(value) if i == last => return Ok(answered_reply(op.len(), kept.values(), value)),
             Ok(value) => kept.advance(value, part),
         }
     }
@@ -84,7 +89,7 @@ pub(crate) fn run_words(
 }
 
 /// Keeps the key that the next of these words looks for, if it does so before all else.
-pub(crate) fn keep_sought(kept: &mut Kept, op: &[u64])
+pub(crate) fn keep_sought(kept: &mut SuspendedRun, op: &[u64])
     requires { kept.old.words ≡ op.now }
     ensures holds { (p : Part) → HoldsScript kept.old p → HoldsScript kept.new p }
     ensures room { kept.new.room ≡ kept.old.room }
@@ -96,7 +101,7 @@ pub(crate) fn keep_sought(kept: &mut Kept, op: &[u64])
 }
 
 /// The reply of a script of `len` words that answers these values, and this one for its last word.
-fn answered(len: usize, values: [Option<u32>; MOST_INSTRS], last: Option<u32>) -> Reply
+fn answered_reply(len: usize, values: [Option<u32>; MOST_INSTRS], last: Option<u32>) -> Reply
     requires some { 1 ≤ len }
     requires few { len ≤ MOST_INSTRS }
     ensures { result ≡ record { len = len; values = set values (len - 1) last; abort = None } }
@@ -111,7 +116,7 @@ fn answered(len: usize, values: [Option<u32>; MOST_INSTRS], last: Option<u32>) -
 }
 
 /// The reply of a script of `len` words that aborts at a place.
-fn aborted(len: usize, place: usize, cause: Cause) -> Reply
+fn aborted_reply(len: usize, place: usize, cause: Cause) -> Reply
     requires few { len ≤ MOST_INSTRS }
     requires place { place < len }
     ensures { result ≡ reply_to len (Aborted place cause) }

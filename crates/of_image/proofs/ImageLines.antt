@@ -7,15 +7,15 @@ use Rattle.of_script.specs.Reading.{◌>>=◌, next_number, at_end_of_words}
 use Rattle.of_script.proofs.Numbers.{number_again}
 use Rattle.of_script.proofs.Instrs.{bind_some, chosen, some_is, number_at_takes, ended_takes}
 use Rattle.of_plan.specs.Lines.{is_skipped}
-use Rattle.of_image.specs.declared.line.Line.{Line}
-use Rattle.of_image.specs.declared.line.Line.TheVariants.{Title, Callers, Blocks, Cell, End}
+use Rattle.of_image.specs.declared.line.ImageLine.{ImageLine}
+use Rattle.of_image.specs.declared.line.ImageLine.TheVariants.{Title, Callers, Blocks, Cell, End}
 use Rattle.of_plan.specs.Reader.{SpellsLine, SpellsNoLine}
 use Rattle.of_image.specs.ImageText.{image_line_words}
 use Rattle.of_image.specs.ImageReading.{IsImageLineInRange, line_with_count, image_title_line, cell_line_of, line_named, image_language}
 
 -- ---- what is read is a line's words
 
-record Takes (ws : List (List ℕ)) (l : Line) : Type 0 where
+record Takes (ws : List (List ℕ)) (l : ImageLine) : Type 0 where
   pub words : ws ≡ image_line_words l
   pub range : IsImageLineInRange l
 
@@ -23,23 +23,23 @@ named : (name text : List ℕ) → bytes_eq name text ≡ true → name ≡ text
 named name text e = (bytes_eq-Decides name text).0 e
 
 -- words that are one number
-record IsCounted (f : ℕ → Line) (most : ℕ) (ws : List (List ℕ)) (l : Line) : Type 0 where
+record IsCounted (f : ℕ → ImageLine) (most : ℕ) (ws : List (List ℕ)) (l : ImageLine) : Type 0 where
   pub number : ℕ
   pub small : number ≤ most
   pub words : ws ≡ decimal number ∷ []
   pub line : f number ≡ l
 
-counted_takes : (f : ℕ → Line) (most : ℕ) (ws : List (List ℕ)) (l : Line) → most < 2 ^ 64 → line_with_count f most ws ≡ Some l → IsCounted f most ws l
+counted_takes : (f : ℕ → ImageLine) (most : ℕ) (ws : List (List ℕ)) (l : ImageLine) → most < 2 ^ 64 → line_with_count f most ws ≡ Some l → IsCounted f most ws l
 counted_takes f most ws l small e =
     let n = bind_some (next_number most ws) (λ n. at_end_of_words (f n.0) n.1) l e in
     let t = number_at_takes most ws n.0 small n.1 in
     let end = ended_takes (f n.0.0) l n.0.1 n.2 in
     record { number = n.0.0; small = t.1; words = t.0 ∙ ap (λ (v : List (List ℕ)). decimal n.0.0 ∷ v) end.0; line = end.1 }
 
-title_takes : (ws : List (List ℕ)) (l : Line) → image_title_line ws ≡ Some l → Takes (codes "onefile" ∷ ws) l
+title_takes : (ws : List (List ℕ)) (l : ImageLine) → image_title_line ws ≡ Some l → Takes (codes "onefile" ∷ ws) l
 title_takes [] l e = absurd cc
 title_takes (kind ∷ ws) l e =
-    let none : Option Line = None in
+    let none : Option ImageLine = None in
     elim (chosen (bytes_eq kind (codes "image")) (line_with_count Title 4294967295 ws) none (Some l) e) [
       | inl h ↦ (let n = counted_takes Title 4294967295 ws l (lit< tt) h.1 in
           subst (Takes (codes "onefile" ∷ kind ∷ ws)) n.line (record {
@@ -49,17 +49,17 @@ title_takes (kind ∷ ws) l e =
       | inr h ↦ absurd (let k = h.1 in cc)
     ]
 
-callers_takes : (ws : List (List ℕ)) (l : Line) → line_with_count Callers 16 ws ≡ Some l → Takes (codes "callers" ∷ ws) l
+callers_takes : (ws : List (List ℕ)) (l : ImageLine) → line_with_count Callers 16 ws ≡ Some l → Takes (codes "callers" ∷ ws) l
 callers_takes ws l e =
     let n = counted_takes Callers 16 ws l (lit< tt) e in
     subst (Takes (codes "callers" ∷ ws)) n.line (record { words = ap (λ (v : List (List ℕ)). codes "callers" ∷ v) n.words; range = n.small })
 
-blocks_takes : (ws : List (List ℕ)) (l : Line) → line_with_count Blocks 512 ws ≡ Some l → Takes (codes "blocks" ∷ ws) l
+blocks_takes : (ws : List (List ℕ)) (l : ImageLine) → line_with_count Blocks 512 ws ≡ Some l → Takes (codes "blocks" ∷ ws) l
 blocks_takes ws l e =
     let n = counted_takes Blocks 512 ws l (lit< tt) e in
     subst (Takes (codes "blocks" ∷ ws)) n.line (record { words = ap (λ (v : List (List ℕ)). codes "blocks" ∷ v) n.words; range = n.small })
 
-cell_takes : (ws : List (List ℕ)) (l : Line) → cell_line_of ws ≡ Some l → Takes (codes "cell" ∷ ws) l
+cell_takes : (ws : List (List ℕ)) (l : ImageLine) → cell_line_of ws ≡ Some l → Takes (codes "cell" ∷ ws) l
 cell_takes ws l e =
     let c = bind_some (next_number 4294967295 ws) (λ c. next_number 4294967295 c.1 >>= λ s. next_number 4294967295 s.1 >>= λ p. at_end_of_words (Cell c.0 s.0 p.0) p.1) l e in
     let s = bind_some (next_number 4294967295 c.0.1) (λ s. next_number 4294967295 s.1 >>= λ p. at_end_of_words (Cell c.0.0 s.0 p.0) p.1) l c.2 in
@@ -73,14 +73,14 @@ cell_takes ws l e =
       range = (one.1, two.1, three.1);
     })
 
-end_takes : (ws : List (List ℕ)) (l : Line) → at_end_of_words End ws ≡ Some l → Takes (codes "end" ∷ ws) l
+end_takes : (ws : List (List ℕ)) (l : ImageLine) → at_end_of_words End ws ≡ Some l → Takes (codes "end" ∷ ws) l
 end_takes ws l e = let end = ended_takes End l ws e in subst (Takes (codes "end" ∷ ws)) end.1 (record { words = ap (λ (v : List (List ℕ)). codes "end" ∷ v) end.0; range = tt })
 
 -- a name, and what takes the words behind it
-with_name : (name text : List ℕ) (ws : List (List ℕ)) (l : Line) → bytes_eq name text ≡ true → Takes (text ∷ ws) l → Takes (name ∷ ws) l
+with_name : (name text : List ℕ) (ws : List (List ℕ)) (l : ImageLine) → bytes_eq name text ≡ true → Takes (text ∷ ws) l → Takes (name ∷ ws) l
 with_name name text ws l e h = subst (λ (n : List ℕ). Takes (n ∷ ws) l) (sym (named name text e)) h
 
-line_takes : (name : List ℕ) (ws : List (List ℕ)) (l : Line) → line_named name ws ≡ Some l → Takes (name ∷ ws) l
+line_takes : (name : List ℕ) (ws : List (List ℕ)) (l : ImageLine) → line_named name ws ≡ Some l → Takes (name ∷ ws) l
 unfolding line_named
 line_takes name ws l e = elim (chosen (bytes_eq name (codes "onefile")) _ _ (Some l) e) [
   | inl h ↦ with_name name (codes "onefile") ws l h.0 (title_takes ws l h.1)
@@ -104,7 +104,7 @@ line_takes name ws l e = elim (chosen (bytes_eq name (codes "onefile")) _ _ (Som
 number_at_again : (most n : ℕ) (ws : List (List ℕ)) → most < 2 ^ 64 → n ≤ most → next_number most (decimal n ∷ ws) ≡ Some (n, ws)
 number_at_again most n ws small le = ap (λ (o : Option ℕ). o >>= λ k. Some (k, ws)) (number_again most n small le)
 
-counted_again : (f : ℕ → Line) (most n : ℕ) → most < 2 ^ 64 → n ≤ most → line_with_count f most (decimal n ∷ []) ≡ Some (f n)
+counted_again : (f : ℕ → ImageLine) (most n : ℕ) → most < 2 ^ 64 → n ≤ most → line_with_count f most (decimal n ∷ []) ≡ Some (f n)
 counted_again f most n small le = ap (λ (o : Option (ℕ × List (List ℕ))). o >>= λ x. at_end_of_words (f x.0) x.1) (number_at_again most n [] small le)
 
 cell_again : (c s p : ℕ) → c ≤ 4294967295 → s ≤ 4294967295 → p ≤ 4294967295 → cell_line_of (decimal c ∷ decimal s ∷ decimal p ∷ []) ≡ Some (Cell c s p)
@@ -113,11 +113,11 @@ cell_again c s p low middle high =
     ∙ ap (λ (o : Option (ℕ × List (List ℕ))). o >>= λ s. next_number 4294967295 s.1 >>= λ p. at_end_of_words (Cell c s.0 p.0) p.1) (number_at_again 4294967295 s (decimal p ∷ []) (lit< tt) middle)
     ∙ ap (λ (o : Option (ℕ × List (List ℕ))). o >>= λ p. at_end_of_words (Cell c s p.0) p.1) (number_at_again 4294967295 p [] (lit< tt) high)
 
-abbrev read_words : List (List ℕ) → Option Line
+abbrev read_words : List (List ℕ) → Option ImageLine
 read_words [] = None
 read_words (w ∷ ws) = line_named w ws
 
-line_again : (l : Line) → IsImageLineInRange l → read_words (image_line_words l) ≡ Some l
+line_again : (l : ImageLine) → IsImageLineInRange l → read_words (image_line_words l) ≡ Some l
 unfolding line_named
 line_again (Title v) r = counted_again Title 4294967295 v (lit< tt) r
 line_again (Callers n) r = counted_again Callers 16 n (lit< tt) r
@@ -126,9 +126,9 @@ line_again (Cell c s p) r = cell_again c s p r.0 r.1 r.2
 line_again End r = refl
 
 -- lines that are spelled alike are one
-pub line_same : (l m : Line) → IsImageLineInRange l → IsImageLineInRange m → image_line_words l ≡ image_line_words m → l ≡ m
+pub line_same : (l m : ImageLine) → IsImageLineInRange l → IsImageLineInRange m → image_line_words l ≡ image_line_words m → l ≡ m
 line_same l m p q e = some_is l m (sym (line_again l p) ∙ ap read_words e ∙ line_again m q)
 
-pub named_spells : (o : Option Line) (name : List ℕ) (ws : List (List ℕ)) → o ≡ line_named name ws → is_skipped (name ∷ ws) ≡ false → MatchOption o (SpellsNoLine image_language (name ∷ ws)) (SpellsLine image_language (name ∷ ws))
+pub named_spells : (o : Option ImageLine) (name : List ℕ) (ws : List (List ℕ)) → o ≡ line_named name ws → is_skipped (name ∷ ws) ≡ false → MatchOption o (SpellsNoLine image_language (name ∷ ws)) (SpellsLine image_language (name ∷ ws))
 named_spells None name ws e kept = record { kept = kept; none = λ l range is. let k = e ∙ ap read_words is ∙ line_again l range in cc }
 named_spells (Some l) name ws e kept = let t = line_takes name ws l (sym e) in record { kept = kept; words = t.words; range = t.range }

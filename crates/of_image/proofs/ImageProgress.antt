@@ -5,6 +5,7 @@ use Rattle.std.specs.List.{AllByRecursion}
 use Rattle.std.proofs.lemmas.Bool.{eqb-true}
 use Rattle.std.proofs.lemmas.Bool.Decides.{eqb_tells, nat_tests}
 use Rattle.std.proofs.lemmas.List.{append-nil, length-replicate, length-append}
+use Rattle.std.proofs.lemmas.Bool.{ne_eqb as eqb_other}
 use Rattle.of_cell.specs.Words.{pack, seq_of, payload_of}
 use Rattle.of_cell.specs.Cells.{durable_cells}
 use Rattle.of_cell.proofs.Order.{word_eta, seq_word, pay_word, pay_small, seq_small}
@@ -12,8 +13,8 @@ use Rattle.of_script.proofs.Instrs.{bind_some, chosen, some_is}
 use Rattle.of_plan.proofs.Lists.{all-both}
 use Rattle.of_image.specs.declared.version.Version.{Version}
 use Rattle.of_image.specs.declared.version.Version.TheVariants.{One, Two}
-use Rattle.of_image.specs.declared.line.Line.{Line}
-use Rattle.of_image.specs.declared.line.Line.TheVariants.{Title, Callers, Blocks, Cell, End}
+use Rattle.of_image.specs.declared.line.ImageLine.{ImageLine}
+use Rattle.of_image.specs.declared.line.ImageLine.TheVariants.{Title, Callers, Blocks, Cell, End}
 use Rattle.of_image.specs.declared.reading.Stage.{Stage}
 use Rattle.of_image.specs.declared.reading.Stage.TheVariants.{Start, Named, Counted, Body, Ended}
 use Rattle.of_report.specs.ImageRow.{DurableRow, IsRow, data_cell_count_for}
@@ -36,9 +37,6 @@ none_lines : (c : ℕ) (ws : List ℕ) → ((k : ℕ) → get_or ws k 0 ≡ 0) �
 none_lines c [] h = refl
 none_lines c (w ∷ ws) h = let first : w ≡ 0 = h 0 in rw first (none_lines (c + 1) ws (λ k. h (suc k)))
 
-eqb_other : (a b : ℕ) → (a ≡ b → ⊥) → eqb a b ≡ false
-eqb_other a b h = elim (eqb_tells a b) [ inl p ↦ absurd (h p.1) | inr p ↦ p.0 ]
-
 -- a word of a cell from which on all are 0 has the last line
 set_lines : (c : ℕ) (ws : List ℕ) (i w : ℕ) → i < length ws → ((k : ℕ) → i ≤ k → get_or ws k 0 ≡ 0) → (w ≡ 0 → ⊥) → cell_lines c (set ws i w) ≡ cell_lines c ws ++ Cell (c + i) (seq_of w) (payload_of w) ∷ []
 set_lines c [] i w lt h some = absurd (omega arith)
@@ -51,13 +49,13 @@ set_lines c (x ∷ xs) zero w lt h some =
 set_lines c (x ∷ xs) (suc i) w lt h some =
     let later = set_lines (c + 1) xs i w (omega arith) (λ k le. h (suc k) (omega arith)) some in
     let here : c + 1 + i ≡ c + suc i = omega arith in
-    ap (λ (ls : List Line). cell_line c x ++ ls) (later ∙ ap (λ (n : ℕ). cell_lines (c + 1) xs ++ Cell n (seq_of w) (payload_of w) ∷ []) here)
+    ap (λ (ls : List ImageLine). cell_line c x ++ ls) (later ∙ ap (λ (n : ℕ). cell_lines (c + 1) xs ++ Cell n (seq_of w) (payload_of w) ∷ []) here)
     ∙ sym (append_assoc (cell_line c x) (cell_lines (c + 1) xs) (Cell (c + suc i) (seq_of w) (payload_of w) ∷ []))
 
 -- ---- where a reading stands
 
 -- the lines that lead there
-abbrev pub lines_at : Version → Stage → RowReading → List Line
+abbrev pub lines_at : Version → Stage → RowReading → List ImageLine
 lines_at v Start p = []
 lines_at v Named p = Title (version_number v) ∷ []
 lines_at v Counted p = Title (version_number v) ∷ Callers p.callers ∷ []
@@ -77,7 +75,7 @@ Fits v Body p = IsBegun v p
 Fits v Ended p = IsRow (instrs_of v) (row_read p)
 
 -- a line has led from p to q
-record Stepped (v : Version) (stage : Stage) (p : RowReading) (l : Line) (q : RowReading) : Type 0 where
+record Stepped (v : Version) (stage : Stage) (p : RowReading) (l : ImageLine) (q : RowReading) : Type 0 where
   pub fits : Fits v q.stage q
   pub lines : lines_at v q.stage q ≡ lines_at v stage p ++ l ∷ []
 
@@ -125,11 +123,11 @@ celled_step v p q c s x f body r e =
         zeros = λ k le. get_or-set_other p.words c k (pack s x) 0 (λ z. omega (arith, z, le)) ∙ f.zeros k (omega (arith, from, le));
       });
       lines = subst (λ (t : Stage). lines_at v t (record p { words = set p.words c (pack s x); from = c + 1 }) ≡ lines_at v Body p ++ Cell c s x ∷ []) (sym body)
-          (ap (λ (ls : List Line). Title (version_number v) ∷ Callers p.callers ∷ Blocks p.blocks ∷ ls) (set_lines 0 p.words c (pack s x) within (λ k le. f.zeros k (omega (arith, from, le))) some
+          (ap (λ (ls : List ImageLine). Title (version_number v) ∷ Callers p.callers ∷ Blocks p.blocks ∷ ls) (set_lines 0 p.words c (pack s x) within (λ k le. f.zeros k (omega (arith, from, le))) some
           ∙ (λ i. cell_lines 0 p.words ++ Cell (let here : 0 + c ≡ c = omega arith in here i) (seq_word s x (omega (arith, r.2)) i) (pay_word s x (omega (arith, r.2)) i) ∷ [])));
     })
 
-step : (v : Version) (stage : Stage) (p q : RowReading) (l : Line) → p.stage ≡ stage → Fits v stage p → IsImageLineInRange l → after_line_at v stage p l ≡ Some q → Stepped v stage p l q
+step : (v : Version) (stage : Stage) (p q : RowReading) (l : ImageLine) → p.stage ≡ stage → Fits v stage p → IsImageLineInRange l → after_line_at v stage p l ≡ Some q → Stepped v stage p l q
 step v Start p q (Title x) is f r e = elim (chosen (x == version_number v) (Some (record p { stage = Named })) None (Some q) e) [
   | inl h ↦ subst (Stepped v Start p (Title x)) (some_is _ q h.1) (record { fits = tt; lines = ap (λ (n : ℕ). Title n ∷ []) (sym (eqb-true x (version_number v) h.0)) })
   | inr h ↦ absurd (let k = h.1 in cc)
@@ -140,24 +138,24 @@ step v Named p q (Callers n) is f r e =
     subst (Stepped v Named p (Callers n)) (some_is _ q t.1) (record { fits = (some, r); lines = refl })
 step v Counted p q (Blocks b) is f r e = subst (Stepped v Counted p (Blocks b)) (some_is _ q e) (record {
   fits = begun v p b f r;
-  lines = ap (λ (ls : List Line). Title (version_number v) ∷ Callers p.callers ∷ Blocks b ∷ ls) (zeros_lines 0 (durable_cells p.callers (data_cell_count_for (instrs_of v) p.callers b)));
+  lines = ap (λ (ls : List ImageLine). Title (version_number v) ∷ Callers p.callers ∷ Blocks b ∷ ls) (zeros_lines 0 (durable_cells p.callers (data_cell_count_for (instrs_of v) p.callers b)));
 })
 step v Body p q (Cell c s x) is f r e = celled_step v p q c s x f is r e
 step v Body p q End is f r e = subst (Stepped v Body p End) (some_is _ q e) (record { fits = f.row; lines = refl })
 step v stage p q l is f r e = absurd cc
 
 -- lines that have led to some place are those of that place
-pub record Said (v : Version) (p : RowReading) (ls : List Line) (last : RowReading) : Type 0 where
+pub record Said (v : Version) (p : RowReading) (ls : List ImageLine) (last : RowReading) : Type 0 where
   pub fits : Fits v last.stage last
   pub lines : lines_at v last.stage last ≡ lines_at v p.stage p ++ ls
 
-pub said : (v : Version) (p last : RowReading) (ls : List Line) → Fits v p.stage p → AllByRecursion IsImageLineInRange ls → after_lines image_language (image_reader v) p ls ≡ Some last → Said v p ls last
+pub said : (v : Version) (p last : RowReading) (ls : List ImageLine) → Fits v p.stage p → AllByRecursion IsImageLineInRange ls → after_lines image_language (image_reader v) p ls ≡ Some last → Said v p ls last
 said v p last [] f r e = subst (Said v p []) (some_is p last e) (record { fits = f; lines = sym (append-nil _) })
 said v p last (l ∷ ls) f r e =
     let q = bind_some (after_line_at v p.stage p l) (λ q. after_lines image_language (image_reader v) q ls) last e in
     let one = step v p.stage p q.0 l refl f r.0 q.1 in
     let rest = said v q.0 last ls one.fits r.1 q.2 in
-    record { fits = rest.fits; lines = rest.lines ∙ ap (λ (ks : List Line). ks ++ ls) one.lines ∙ append_assoc (lines_at v p.stage p) (l ∷ []) ls }
+    record { fits = rest.fits; lines = rest.lines ∙ ap (λ (ks : List ImageLine). ks ++ ls) one.lines ∙ append_assoc (lines_at v p.stage p) (l ∷ []) ls }
 
 -- ---- a row's lines
 
@@ -173,7 +171,7 @@ set_at (y ∷ front) x w back zero e = absurd (omega (arith, e))
 set_at (y ∷ front) x w back (suc k) e = ap (λ (l : List ℕ). y ∷ l) (set_at front x w back k (omega (arith, e)))
 
 -- the lines of the cells from here on, and what they lead to
-record Led (v : Version) (c b : ℕ) (p : RowReading) (ls : List Line) (ws : List ℕ) : Type 0 where
+record Led (v : Version) (c b : ℕ) (p : RowReading) (ls : List ImageLine) (ws : List ℕ) : Type 0 where
   pub from : ℕ
   pub leads : after_lines image_language (image_reader v) p ls ≡ Some (ended c b ws from)
 

@@ -6,7 +6,7 @@ use Rattle.of_script.proofs.Instrs.{some_is}
 use Rattle.of_plan.proofs.TextLines.{NoNewline}
 use Rattle.of_image.specs.declared.version.Version.{Version}
 use Rattle.of_image.specs.declared.version.Version.TheVariants.{One, Two}
-use Rattle.of_image.specs.declared.line.Line.TheVariants.{Title, Callers, Blocks, End}
+use Rattle.of_image.specs.declared.line.ImageLine.TheVariants.{Title, Callers, Blocks, End}
 use Rattle.of_image.specs.declared.reading.Stage.{Stage}
 use Rattle.of_image.specs.declared.reading.Stage.TheVariants.{Start, Named, Counted, Body, Ended}
 use Rattle.of_plan.specs.BadLine.{HasBadLine}

@@ -11,7 +11,7 @@ use Rattle.of_mem.specs.declared.plot.Plot.{Plot}
 use Rattle.of_mem.specs.Plots.{data_cell_count}
 use Rattle.of_mem.specs.ProgramWork.{memory_of}
 use Rattle.of_recover.specs.Row.{IsDurableRow}
-use Rattle.of_store.specs.State.{Store}
+use Rattle.of_store.specs.Store.{Store}
 use Rattle.of_eval.specs.Lawful.{DataCellsStandFor}
 use Rattle.of_eval.specs.Faults.{IsFirstFault}
 use Rattle.of_eval.proofs.FaultLaws.{first_excludes}

@@ -25,9 +25,11 @@ pub record IsLineFault (v : Version) (text : List ℕ) (p : BadPiece) : Type 0 w
   pub bad : HasBadLine (IsImageText v) text p.line
   pub order : p.start ≤ p.end
   pub within : p.end ≤ length (line_at (text_lines text) (p.line - 1))
-  pub is : let line = line_at (text_lines text) (p.line - 1) in IsTrueOfImage v p.reason (text_lines text) (p.line - 1) line (slice_range line p.start p.end)
+  pub is : let line = line_at (text_lines text) (p.line - 1) in
+      IsTrueOfImage v p.reason (text_lines text) (p.line - 1) line (slice_range line p.start p.end)
 
--- the text is in the grammar, and this is the first cell at fault of what recovery finds in its row, and the law that it breaks
+-- the text is in the grammar, and this is the first cell at fault of what recovery finds in its
+-- row, and the law that it breaks
 pub record IsCellFault (v : Version) (text : List ℕ) (cell : ℕ) (law : Law) : Type 0 where
   pub raw : DurableRow
   pub spelled : SpellsImage v text raw

@@ -25,11 +25,14 @@ law_text Store = codes "the data cells stand for no store, and this is the first
 
 -- what is printed of a cell at fault
 abbrev pub cell_message : (cell : ℕ) → Law → List ℕ
-cell_message cell law = codes "cell " ++ (decimal cell ++ (codes ": " ++ (law_text law ++ codes "\n")))
+cell_message cell law =
+    codes "cell " ++ (decimal cell ++ (codes ": " ++ (law_text law ++ codes "\n")))
 
 -- what is printed of a bad line
 abbrev pub piece_message : (text : List ℕ) → BadPiece → List ℕ
-piece_message text p = pointed.message p.line (line_at (text_lines text) (p.line - 1)) p.start p.end (image_reason_text p.reason)
+piece_message text p =
+    pointed.message p.line (line_at (text_lines text) (p.line - 1)) p.start p.end
+    (image_reason_text p.reason)
 
 -- what is printed of a fault
 abbrev pub fault_message : (text : List ℕ) → ImageFault → List ℕ

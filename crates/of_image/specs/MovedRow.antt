@@ -3,6 +3,7 @@ use Rattle.std.specs.Prelude.{◌≡◌, ℕ, ◌+◌, ◌-◌, ◌*◌, ◌/◌
 use Rattle.std.specs.List.{range_with_len}
 use Rattle.of_cell.specs.Cells.{request_cell, data_cell, durable_cells}
 use Rattle.of_script.specs.declared.instr.TheConstants.{MOST_INSTRS}
+use Rattle.of_mem.specs.declared.plot.Plot.{Plot}
 use Rattle.of_mem.specs.Places.{base_of, ticket_cell_at, shape_at, reply_at}
 use Rattle.of_report.specs.ImageRow.{DurableRow, data_cell_count_for}
 use Rattle.of_image.specs.declared.version.Version.TheVariants.{One, Two}
@@ -10,10 +11,17 @@ use Rattle.of_image.specs.ImageText.{image_text}
 use Rattle.of_report.specs.Image.{Image}
 use Rattle.of_image.specs.Parsed.{ReadsImage}
 
--- the data cell of the same meaning, where scripts have fewer instructions; a number of a reply that there isn't one for has none
+-- the own cell of a caller with the same meaning, where scripts have fewer instructions; a number of
+-- a reply that there isn't one for has none
+abbrev pub earlier_own_address : (few many addr : ℕ) → Option ℕ
+earlier_own_address few many a =
+    if nat_lt (a % (many + 2)) (few + 2) then Some (a / (many + 2) * (few + 2) + a % (many + 2))
+    else None
+
+-- the data cell with the same meaning there
 abbrev pub earlier_address : (few many callers addr : ℕ) → Option ℕ
 earlier_address few many callers a =
-    if nat_lt a (base_of callers many) then (if nat_lt (a % (many + 2)) (few + 2) then Some (a / (many + 2) * (few + 2) + a % (many + 2)) else None)
+    if nat_lt a (base_of callers many) then earlier_own_address few many a
     else Some (base_of callers few + (a - base_of callers many))
 
 -- the word of that data cell, or 0
@@ -21,38 +29,69 @@ abbrev pub word_from : (callers : ℕ) → (ℕ → ℕ) → Option ℕ → ℕ
 word_from callers row None = 0
 word_from callers row (Some a) = row (data_cell callers a)
 
--- the current transaction and the requests keep their words, data cells get theirs, and there are no logs
+-- the current transaction and the requests keep their words, data cells get theirs, and there are
+-- no logs
 abbrev pub moved_word : (few many callers blocks : ℕ) → (ℕ → ℕ) → (cell : ℕ) → ℕ
 moved_word few many callers blocks row c =
     if nat_le c callers then row c
-    else (if nat_lt c (data_cell callers (data_cell_count_for many callers blocks)) then word_from callers row (earlier_address few many callers (c - (callers + 1))) else 0)
+    else if nat_lt c (data_cell callers (data_cell_count_for many callers blocks))
+    then word_from callers row (earlier_address few many callers (c - (callers + 1)))
+    else 0
 
 unfoldable pub moved_words : (few many callers blocks : ℕ) → List ℕ → List ℕ
-moved_words few many callers blocks words = map (moved_word few many callers blocks (slice_index words)) (range_with_len 0 (durable_cells callers (data_cell_count_for many callers blocks)))
+moved_words few many callers blocks words =
+    map (moved_word few many callers blocks (slice_index words))
+    (range_with_len 0 (durable_cells callers (data_cell_count_for many callers blocks)))
+
+-- the same from one layout to another of as many callers and blocks
+abbrev pub moved_word_to : (old new : Plot) → List ℕ → (cell : ℕ) → ℕ
+moved_word_to old new words c =
+    moved_word old.instrs new.instrs old.callers old.blocks (slice_index words) c
+
+abbrev pub moved_words_to : (old new : Plot) → List ℕ → List ℕ
+moved_words_to old new words = moved_words old.instrs new.instrs old.callers old.blocks words
 
 abbrev pub moved_row : (few many : ℕ) → DurableRow → DurableRow
 moved_row few many r = record r { words = moved_words few many r.callers r.blocks r.words }
 
 -- no transaction is open in a row that was recovered
 abbrev pub moved_image : (few many : ℕ) → Image → Image
-moved_image few many i = record { row = moved_row few many i.row; seq = i.seq; replayed = false; store = i.store }
+moved_image few many i = record {
+  row = moved_row few many i.row;
+  seq = i.seq;
+  replayed = false;
+  store = i.store;
+}
 
--- the words of a row in the layout of many instructions are those of the same meaning in a row of few
+-- the words of a row in the layout of many instructions are those of the same meaning in a row of
+-- few
 pub record HasMoved (few many : ℕ) (old new : DurableRow) : Type 0 where
   pub callers : new.callers ≡ old.callers
   pub blocks : new.blocks ≡ old.blocks
   pub current : slice_index new.words 0 ≡ slice_index old.words 0
-  pub requests : (c : ℕ) → c < old.callers → slice_index new.words (request_cell c) ≡ slice_index old.words (request_cell c)
-  pub tickets : (c : ℕ) → c < old.callers → slice_index new.words (data_cell old.callers (ticket_cell_at many c)) ≡ slice_index old.words (data_cell old.callers (ticket_cell_at few c))
-  pub shapes : (c : ℕ) → c < old.callers → slice_index new.words (data_cell old.callers (shape_at many c)) ≡ slice_index old.words (data_cell old.callers (shape_at few c))
-  pub replies : (c j : ℕ) → c < old.callers → j < few → slice_index new.words (data_cell old.callers (reply_at many c j)) ≡ slice_index old.words (data_cell old.callers (reply_at few c j))
+  pub requests : (c : ℕ) → c < old.callers
+      → slice_index new.words (request_cell c) ≡ slice_index old.words (request_cell c)
+  pub tickets : (c : ℕ) → c < old.callers
+      → slice_index new.words (data_cell old.callers (ticket_cell_at many c))
+      ≡ slice_index old.words (data_cell old.callers (ticket_cell_at few c))
+  pub shapes : (c : ℕ) → c < old.callers
+      → slice_index new.words (data_cell old.callers (shape_at many c))
+      ≡ slice_index old.words (data_cell old.callers (shape_at few c))
+  pub replies : (c j : ℕ) → c < old.callers → j < few
+      → slice_index new.words (data_cell old.callers (reply_at many c j))
+      ≡ slice_index old.words (data_cell old.callers (reply_at few c j))
   -- a reply has no more numbers than it had
-  pub no_more : (c j : ℕ) → c < old.callers → few ≤ j → j < many → slice_index new.words (data_cell old.callers (reply_at many c j)) ≡ 0
+  pub no_more : (c j : ℕ) → c < old.callers → few ≤ j → j < many
+      → slice_index new.words (data_cell old.callers (reply_at many c j)) ≡ 0
   -- the cells of the store, behind those of the callers
-  pub store : (k : ℕ) → k < 63 + 3 * old.blocks → slice_index new.words (data_cell old.callers (base_of old.callers many + k)) ≡ slice_index old.words (data_cell old.callers (base_of old.callers few + k))
-  pub logs : (c : ℕ) → data_cell old.callers (data_cell_count_for many old.callers old.blocks) ≤ c → slice_index new.words c ≡ 0
+  pub store : (k : ℕ) → k < 63 + 3 * old.blocks
+      → slice_index new.words (data_cell old.callers (base_of old.callers many + k))
+      ≡ slice_index old.words (data_cell old.callers (base_of old.callers few + k))
+  pub logs : (c : ℕ) → data_cell old.callers (data_cell_count_for many old.callers old.blocks) ≤ c
+      → slice_index new.words c ≡ 0
 
--- the text is that of a version 1 image's recovered row, moved to the layout of version 2; its image has the same sequence, store and tickets
+-- the text is that of a version 1 image's recovered row, moved to the layout of version 2; its
+-- image has the same sequence, store and tickets
 pub record Migrates (before after : List ℕ) : Type 0 where
   pub image : Image
   pub read : ReadsImage One before image

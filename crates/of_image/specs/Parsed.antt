@@ -48,12 +48,16 @@ image_err (UnlawfulRow cell law) = Unlawful cell
 
 -- an unlawful text has no image
 abbrev pub UnlawfulHaveNone : Type 0
-UnlawfulHaveNone = (v : Version) (text : List ℕ) (cell : ℕ) (image : Image) → IsUnlawful v text cell → ReadsImage v text image → ⊥
+UnlawfulHaveNone =
+    (v : Version) (text : List ℕ) (cell : ℕ) (image : Image) → IsUnlawful v text cell
+    → ReadsImage v text image → ⊥
 
 -- and one cell at fault
 abbrev pub HasOneFault : Type 0
-HasOneFault = (v : Version) (text : List ℕ) (c d : ℕ) → IsUnlawful v text c → IsUnlawful v text d → c ≡ d
+HasOneFault =
+    (v : Version) (text : List ℕ) (c d : ℕ) → IsUnlawful v text c → IsUnlawful v text d → c ≡ d
 
 -- a text has one image
 abbrev pub OneImage : Type 0
-OneImage = (v : Version) (text : List ℕ) (i j : Image) → ReadsImage v text i → ReadsImage v text j → i ≡ j
+OneImage =
+    (v : Version) (text : List ℕ) (i j : Image) → ReadsImage v text i → ReadsImage v text j → i ≡ j

@@ -7,14 +7,20 @@ use Rattle.of_image.specs.declared.reason.Reason.TheVariants.{Flawed, TitleExpec
 -- what is printed of a reason
 abbrev pub image_reason_text : Reason → List ℕ
 image_reason_text (Flawed flaw) = flaw_text flaw
-image_reason_text (TitleExpected version) = codes "the first line of an image is `onefile image " ++ (decimal version ++ codes "`")
-image_reason_text (OtherVersion found read) = codes "an image of version " ++ (decimal found ++ (codes "; version " ++ (decimal read ++ codes " is read")))
-image_reason_text CallersExpected = codes "the second line of an image is `callers N`, N from 1 to 16"
+image_reason_text (TitleExpected version) =
+    codes "the first line of an image is `onefile image " ++ (decimal version ++ codes "`")
+image_reason_text (OtherVersion found read) =
+    codes "an image of version "
+    ++ (decimal found ++ (codes "; version " ++ (decimal read ++ codes " is read")))
+image_reason_text CallersExpected =
+    codes "the second line of an image is `callers N`, N from 1 to 16"
 image_reason_text BlocksExpected = codes "the third line of an image is `blocks B`, B from 0 to 512"
 image_reason_text AfterEnd = codes "a line after `end`"
 image_reason_text UnknownLine = codes "no line of an image begins with this word"
-image_reason_text (NoCell cell cells) = codes "this image has " ++ (decimal cells ++ codes " cells, from cell 0 on")
-image_reason_text (OutOfOrder line) = codes "cells ascend, and line " ++ (decimal line ++ codes " has this one or a later one")
+image_reason_text (NoCell cell cells) =
+    codes "this image has " ++ (decimal cells ++ codes " cells, from cell 0 on")
+image_reason_text (OutOfOrder line) =
+    codes "cells ascend, and line " ++ (decimal line ++ codes " has this one or a later one")
 image_reason_text EmptyCell = codes "a cell of sequence 0 and payload 0 has no line"
 image_reason_text HeadingOver = codes "this line comes once, in the heading of an image"
 image_reason_text EndMissing = codes "the text ends before `end`"

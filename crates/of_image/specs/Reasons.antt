@@ -11,18 +11,20 @@ use Rattle.of_image.specs.declared.explaining.Finding.{Finding}
 use Rattle.of_image.specs.declared.reason.Reason.{Reason}
 use Rattle.of_image.specs.declared.reason.Reason.TheVariants.{Flawed, TitleExpected, OtherVersion, CallersExpected, BlocksExpected, AfterEnd, UnknownLine, NoCell, OutOfOrder, EmptyCell, HeadingOver, EndMissing, NotHere}
 use Rattle.of_image.specs.declared.version.Version.{Version}
-use Rattle.of_image.specs.declared.line.Line.TheVariants.{Cell as CellLine}
+use Rattle.of_image.specs.declared.line.ImageLine.TheVariants.{Cell as CellLine}
 use Rattle.of_image.specs.ImageText.{image_line_words}
 use Rattle.of_image.specs.Version.{version_number, instrs_of}
 
 -- no line above is kept, and this one does not begin with the two words of a title
-pub record IsNoTitle (v : Version) (ls : List (List ℕ)) (above : ℕ) (line : List ℕ) (version : ℕ) : Type 0 where
+pub record IsNoTitle (v : Version) (ls : List (List ℕ)) (above : ℕ) (line : List ℕ) (version : ℕ)
+    : Type 0 where
   pub first : NoneSays ls above Kept
   pub read : version ≡ version_number v
   pub other : (ws : List (List ℕ)) → text_words line ≡ codes "onefile" ∷ codes "image" ∷ ws → ⊥
 
 -- no line above is kept, and the number in this one is of another version than is read
-pub record IsOtherVersion (v : Version) (ls : List (List ℕ)) (above : ℕ) (piece : List ℕ) (found read : ℕ) : Type 0 where
+pub record IsOtherVersion (v : Version) (ls : List (List ℕ)) (above : ℕ) (piece : List ℕ)
+    (found read : ℕ) : Type 0 where
   pub first : NoneSays ls above Kept
   pub is : PieceIsNumber piece found
   pub read_is : read ≡ version_number v
@@ -30,7 +32,8 @@ pub record IsOtherVersion (v : Version) (ls : List (List ℕ)) (above : ℕ) (pi
 
 -- the piece begins a line of the heading
 abbrev pub IsHeadingName : List ℕ → Type 0
-IsHeadingName piece = (piece ≡ codes "onefile") ⊎ ((piece ≡ codes "callers") ⊎ (piece ≡ codes "blocks"))
+IsHeadingName piece =
+    (piece ≡ codes "onefile") ⊎ ((piece ≡ codes "callers") ⊎ (piece ≡ codes "blocks"))
 
 -- the piece begins no line of an image
 pub record IsNoName (piece : List ℕ) : Type 0 where
@@ -39,7 +42,8 @@ pub record IsNoName (piece : List ℕ) : Type 0 where
   pub «end» : piece ≡ codes "end" → ⊥
 
 -- the cell that the piece names is none of the image's
-pub record IsNoImageCell (v : Version) (ls : List (List ℕ)) (above : ℕ) (piece : List ℕ) (cell cells : ℕ) : Type 0 where
+pub record IsNoImageCell (v : Version) (ls : List (List ℕ)) (above : ℕ) (piece : List ℕ)
+    (cell cells : ℕ) : Type 0 where
   pub named : PieceIsNumber piece cell
   pub callers : ℕ
   pub blocks : ℕ
@@ -49,7 +53,8 @@ pub record IsNoImageCell (v : Version) (ls : List (List ℕ)) (above : ℕ) (pie
   pub past : cells ≤ cell
 
 -- the line of this number, which stands above, has the cell that the piece names or a later one
-pub record IsOutOfOrder (ls : List (List ℕ)) (above : ℕ) (piece : List ℕ) (number : ℕ) : Type 0 where
+pub record IsOutOfOrder (ls : List (List ℕ)) (above : ℕ) (piece : List ℕ) (number : ℕ)
+    : Type 0 where
   pub cell : ℕ
   pub named : PieceIsNumber piece cell
   pub at : ℕ
@@ -62,23 +67,29 @@ abbrev pub IsEmptyCell : List ℕ → Type 0
 IsEmptyCell line = (cell : ℕ) × (text_words line ≡ image_line_words (CellLine cell 0 0))
 
 -- what a reason says of a line of a text, of the lines above it, and of the piece at fault
-abbrev pub IsTrueOfImage : Version → Reason → (ls : List (List ℕ)) (above : ℕ) (line piece : List ℕ) → Type 0
+abbrev pub IsTrueOfImage : Version → Reason → (ls : List (List ℕ)) (above : ℕ) (line piece : List ℕ)
+    → Type 0
 IsTrueOfImage v (Flawed flaw) ls above line piece = HasFlaw flaw above piece
 IsTrueOfImage v (TitleExpected version) ls above line piece = IsNoTitle v ls above line version
-IsTrueOfImage v (OtherVersion found read) ls above line piece = IsOtherVersion v ls above piece found read
-IsTrueOfImage v CallersExpected ls above line piece = NoneSays ls above Callers × (piece ≡ codes "callers" → ⊥)
-IsTrueOfImage v BlocksExpected ls above line piece = NoneSays ls above Blocks × (piece ≡ codes "blocks" → ⊥)
+IsTrueOfImage v (OtherVersion found read) ls above line piece =
+    IsOtherVersion v ls above piece found read
+IsTrueOfImage v CallersExpected ls above line piece =
+    NoneSays ls above Callers × (piece ≡ codes "callers" → ⊥)
+IsTrueOfImage v BlocksExpected ls above line piece =
+    NoneSays ls above Blocks × (piece ≡ codes "blocks" → ⊥)
 IsTrueOfImage v AfterEnd ls above line piece = (number : ℕ) × SaidAbove ls above End number
 IsTrueOfImage v UnknownLine ls above line piece = IsNoName piece
 IsTrueOfImage v (NoCell cell cells) ls above line piece = IsNoImageCell v ls above piece cell cells
 IsTrueOfImage v (OutOfOrder number) ls above line piece = IsOutOfOrder ls above piece number
 IsTrueOfImage v EmptyCell ls above line piece = IsEmptyCell line
-IsTrueOfImage v HeadingOver ls above line piece = IsHeadingName piece × ((number : ℕ) × SaidAbove ls above Blocks number)
+IsTrueOfImage v HeadingOver ls above line piece =
+    IsHeadingName piece × ((number : ℕ) × SaidAbove ls above Blocks number)
 IsTrueOfImage v EndMissing ls above line piece = HasNoEnd ls above
 IsTrueOfImage v NotHere ls above line piece = Unit {0}
 
 -- a piece of a line, and a reason that is true of it
-pub record IsImageFinding (v : Version) (ls : List (List ℕ)) (above : ℕ) (line : List ℕ) (f : Finding) : Type 0 where
+pub record IsImageFinding (v : Version) (ls : List (List ℕ)) (above : ℕ) (line : List ℕ)
+    (f : Finding) : Type 0 where
   pub order : f.start ≤ f.end
   pub within : f.end ≤ length line
   pub is : IsTrueOfImage v f.reason ls above line (slice_range line f.start f.end)

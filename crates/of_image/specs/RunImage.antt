@@ -24,11 +24,18 @@ pub record HasOwnerAndNoneNewer (p : Plan) (e : Ended) : Type 0 where
   pub owned : IsOwned (row_left_by_run p e)
   pub none_newer : NoneNewer p.callers (row_left_by_run p e).words (plan_data_cells p)
 
--- where a run is left: the store and the sequence of its report, and each caller's ticket that recovery finds
+-- where a run is left: the store and the sequence of its report, and each caller's ticket that
+-- recovery finds
 abbrev pub start_left : Plan → Ended → Report → Start
-start_left p e r = record { store = r.store; seq = r.seq; finished = map (λ c. record_number p e (ticket_cell_at MOST_INSTRS c)) (range_with_len 0 p.callers) }
+start_left p e r = record {
+  store = r.store;
+  seq = r.seq;
+  finished =
+      map (λ c. record_number p e (ticket_cell_at MOST_INSTRS c)) (range_with_len 0 p.callers);
+}
 
--- the text is that of the durable words that a run leaves, and its image has what the run's report says: the sequence and the store. It starts where the run is left
+-- the text is that of the durable words that a run leaves, and its image has what the run's report
+-- says: the sequence and the store. It starts where the run is left
 pub record IsImageOf (p : Plan) (e : Ended) (r : Report) (text : List ℕ) : Type 0 where
   pub text_is : text ≡ image_text Two (durable_row p e)
   pub image : Image
@@ -38,9 +45,12 @@ pub record IsImageOf (p : Plan) (e : Ended) (r : Report) (text : List ℕ) : Typ
   pub store : image.store ≡ r.store
   pub start : start_of_image image ≡ start_left p e r
 
--- from whatever start: the text of the durable words of a lawful record has an image, where recovery leaves an owner and no newer cell
+-- from whatever start: the text of the durable words of a lawful record has an image, where
+-- recovery leaves an owner and no newer cell
 abbrev pub RecordsHaveImages : Type 0
 RecordsHaveImages =
-    (p : Plan) (s : Start) (e : Ended) (r : Report) → IsPlan p → IsLawfulRecord p s e r → HasOwnerAndNoneNewer p e
-    → (text : List ℕ) → text ≡ image_text Two (durable_row p e) → SpellsImage Two text (durable_row p e)
+    (p : Plan) (s : Start) (e : Ended) (r : Report) → IsPlan p → IsLawfulRecord p s e r
+    → HasOwnerAndNoneNewer p e
+    → (text : List ℕ) → text ≡ image_text Two (durable_row p e)
+    → SpellsImage Two text (durable_row p e)
     → IsImageOf p e r text

@@ -6,8 +6,8 @@ ghost use Rattle.of_image.specs.Parsed.{IsNoImage};
 ghost use Rattle.of_image.specs.PrintedAgain.{PrintsAgain};
 
 use crate::error::ImageErr;
-use crate::from_text::plot_of;
-use crate::parsing::read_row;
+use crate::parse::plot_of;
+use crate::parse_row::read_row;
 use crate::printing::print_row;
 use crate::version::Version;
 use std::alloc::Global;

@@ -11,8 +11,8 @@ ghost use Rattle.of_image.specs.declared.version.Version.{Version as TheVersion}
 ghost use Rattle.of_image.specs.Reasons.{IsImageFinding, IsHeadingName};
 ghost use Rattle.of_image.specs.Heading.{IsHeadingAbove};
 
-use crate::line::{Line, read_line};
-use crate::parsing::cells;
+use crate::line::{ImageLine, ReadLine, read_line};
+use crate::parse_row::cells;
 use crate::reason::Reason;
 use crate::version::Version;
 use of_cell::MOST_CALLERS;
@@ -160,7 +160,9 @@ fn empty_cell(line: &[u8], from: usize) -> Option<Finding>
         IsImageFinding v ls above line.now f) }
 {
     match read_line(line) {
-        Some(Some(Line::Cell { seq, payload, .. })) => {
+        ReadLine::Line {
+            line: ImageLine::Cell { seq, payload, .. },
+        } => {
             if seq != 0 || payload != 0 {
                 return None;
             }
@@ -304,8 +306,8 @@ fn in_line(text: &[u8], above: u64, line: &[u8], version: Version) -> Option<Fin
 /// Why this line of the text is its bad line.
 pub(crate) fn explain(version: Version, text: &[u8], number: u64) -> Finding
     requires { 1 ≤ number }
-    ensures { let above = number - 1 in
-        IsImageFinding version (text_lines text.now) above (the_line (text_lines text.now) above) result }
+    ensures { let above = number - 1 in let lines = text_lines text.now in
+        IsImageFinding version lines above (the_line lines above) result }
 {
     let above = number - 1;
     let (line, last) = line_at(text, above);

@@ -1,37 +1,37 @@
 //! Texts of images.
 
-ghost use Rattle.std.specs.Prelude.{◌≡◌, ◌+◌, ◌<◌, ◌^◌, length, IfOk, OnOk, flat_map, slice_range};
-ghost use Rattle.std.specs.List.{enumerate_from, range_with_len};
+ghost use Rattle.std.specs.Prelude.{◌≡◌, ◌+◌, ◌<◌, ◌^◌, length, IfOk, OnOk, slice_range};
 ghost use Rattle.of_cell.specs.Cells.{table_words};
 ghost use Rattle.of_mem.specs.Plots.{data_cell_count};
 ghost use Rattle.of_mem.specs.declared.work.TheConstants.{MOST_INSTRS};
 ghost use Rattle.of_image.specs.declared.version.Version.TheVariants.{Two};
 ghost use Rattle.of_report.specs.ImageRow.{row_in};
-ghost use Rattle.of_image.specs.ImageText.{image_cell_text, image_line_text, image_text, table_row, SpellsImage};
+ghost use Rattle.of_image.specs.ImageText.{image_cell_text, image_cells_text, image_line_text, image_text, table_row, SpellsImage};
 ghost use Rattle.of_report.specs.Image.{IsImage, image_value};
 ghost use Rattle.of_report.specs.Image.{image_ticket};
 ghost use Rattle.of_image.specs.RecoveredText.{ticket_line, ticket_lines, recovered_text};
 ghost use Rattle.of_script.specs.Appending.{AppendsText};
 
-use crate::line::Line;
+use crate::line::ImageLine;
 use crate::version::Version;
-use of_cell::{Shape, payload_of, seq_of};
+use of_cell::{payload_of, seq_of};
 use of_mem::Plot;
+use of_plan::table_shape;
 use of_report::Image;
 use of_report::store::put_store;
 use std::alloc::{AllocError, Global};
 use std::fmt::Write;
 
 // Writes a line at the end.
-fn put_line(out: &mut String, line: &Line) -> Result<(), AllocError>
+fn put_line(out: &mut String, line: &ImageLine) -> Result<(), AllocError>
     ensures { OnOk result (AppendsText out.old out.new (image_line_text line.now)) }
 {
     match line {
-        Line::Title { version } => writeln!(out, "onefile image {version}"),
-        Line::Callers { count } => writeln!(out, "callers {count}"),
-        Line::Blocks { count } => writeln!(out, "blocks {count}"),
-        Line::Cell { cell, seq, payload } => writeln!(out, "cell {cell} {seq} {payload}"),
-        Line::End => writeln!(out, "end"),
+        ImageLine::Title { version } => writeln!(out, "onefile image {version}"),
+        ImageLine::Callers { count } => writeln!(out, "callers {count}"),
+        ImageLine::Blocks { count } => writeln!(out, "blocks {count}"),
+        ImageLine::Cell { cell, seq, payload } => writeln!(out, "cell {cell} {seq} {payload}"),
+        ImageLine::End => writeln!(out, "end"),
     }
 }
 
@@ -43,13 +43,13 @@ fn put_cell(out: &mut String, cell: u32, word: u64) -> Result<(), AllocError>
         return Ok(());
     }
     let (seq, payload) = (seq_of(word), payload_of(word));
-    put_line(out, &Line::Cell { cell, seq, payload })
+    put_line(out, &ImageLine::Cell { cell, seq, payload })
 }
 
 // Writes the lines of the cells.
 fn put_cells(out: &mut String, words: &[u64]) -> Result<(), AllocError>
     requires { length words.now < 2 ^ 32 }
-    ensures { OnOk result (AppendsText out.old out.new (flat_map image_cell_text (enumerate_from 0 words.now))) }
+    ensures { OnOk result (AppendsText out.old out.new (image_cells_text words.now)) }
 {
     for (cell, word) in words.iter().enumerate() {
         put_cell(out, cell as u32, *word)?;
@@ -60,16 +60,17 @@ fn put_cells(out: &mut String, words: &[u64]) -> Result<(), AllocError>
 // Writes the lines of a row.
 fn put_row(out: &mut String, version: Version, plot: &Plot, words: &[u64]) -> Result<(), AllocError>
     requires { length words.now < 2 ^ 32 }
-    ensures { OnOk result (AppendsText out.old out.new (image_text version (row_in plot.now words.now))) }
+    ensures { OnOk result
+        (AppendsText out.old out.new (image_text version (row_in plot.now words.now))) }
 {
     let number = version.number();
-    put_line(out, &Line::Title { version: number })?;
+    put_line(out, &ImageLine::Title { version: number })?;
     let count = plot.callers;
-    put_line(out, &Line::Callers { count })?;
+    put_line(out, &ImageLine::Callers { count })?;
     let count = plot.blocks;
-    put_line(out, &Line::Blocks { count })?;
+    put_line(out, &ImageLine::Blocks { count })?;
     put_cells(out, words)?;
-    put_line(out, &Line::End)
+    put_line(out, &ImageLine::End)
 }
 
 /// The text of a row.
@@ -90,19 +91,15 @@ pub(crate) fn print_row(
 /// The text of the durable words of a table. The error is want of memory.
 pub fn image_print(alloc: Global, plot: &Plot, words: &[u64]) -> Result<Vec<u8>, AllocError>
     requires instrs { plot.now.instrs ≡ MOST_INSTRS }
-    requires size { length words.now ≡ table_words plot.now.callers MOST_INSTRS (data_cell_count plot.now) }
+    requires size { length words.now
+        ≡ table_words plot.now.callers MOST_INSTRS (data_cell_count plot.now) }
     ensures text { IfOk result (λ text.
         text.items ≡ image_text Two (table_row plot.now words.now)) }
     // It is read again as that row.
     ensures again { IfOk result (λ text.
         SpellsImage Two text.items (table_row plot.now words.now)) }
 {
-    let shape = Shape {
-        callers: plot.callers,
-        instrs: plot.instrs,
-        cells: plot.cells(),
-    };
-    let cells = shape.durable_cells() as usize;
+    let cells = table_shape(plot).durable_cells() as usize;
     print_row(alloc, Version::Two, plot, &words[cells..cells + cells])
 }
 

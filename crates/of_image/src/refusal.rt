@@ -10,11 +10,11 @@ ghost use Rattle.of_image.specs.Messages.{piece_message};
 
 use crate::error::ImageErr;
 use crate::explaining::explain;
-use crate::from_text::plot_of;
 use crate::law::{Law, RowErr};
-use crate::parsing::read_row;
+use crate::parse::plot_of;
+use crate::parse_row::read_row;
 use crate::reason::Reason;
-use crate::restoring::restore;
+use crate::restore::restore;
 use crate::version::Version;
 use of_plan::above::line_at;
 use of_plan::point_out;

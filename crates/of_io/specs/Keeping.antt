@@ -9,4 +9,5 @@ bytes_kept s = if s.whole then Some s.kept.items else None
 
 -- what was given is kept behind what was kept before; where memory ran out, nothing is
 abbrev pub Keeps : Option (List ℕ) → Option (List ℕ) → (count : ℕ) → (into : List ℕ) → Type 0
-Keeps before after count into = (after ≡ None) ⊎ (after ≡ option_map (λ kept. kept ++ take count into) before)
+Keeps before after count into =
+    (after ≡ None) ⊎ (after ≡ option_map (λ kept. kept ++ take count into) before)

@@ -1,15 +1,21 @@
 -- A source and a sink in memory, and what a call does to each.
-use Rattle.std.specs.Prelude.{◌≡◌, ℕ, ◌-◌, ◌<◌, ◌⊎◌, min, Bool, false, List, ◌++◌, length, take, drop, Contains, Result, Ok, Err}
+use Rattle.std.specs.Prelude.{◌≡◌, ℕ, ◌-◌, ◌<◌, ◌⊎◌, min, Bool, false, List, [], ◌++◌, length, take, drop, Contains, Result, Ok, Err}
 use Rattle.of_io.specs.Faults.{saturating_next}
 use Rattle.of_io.specs.declared.source.Failed.{Failed}
 
--- the bytes left, the most that one read gives, the numbers of the reads that fail, and how many were made and have failed
+-- the bytes left, the most that one read gives, the numbers of the reads that fail, and how many
+-- were made and have failed
 pub record MemSource : Type 0 where
   pub left : List ℕ
   pub piece : ℕ
   pub fails : List ℕ
   pub reads : ℕ
   pub faults : ℕ
+
+-- a source of which nothing is read
+abbrev pub source_of_bytes : List ℕ → (piece : ℕ) → (fails : List ℕ) → MemSource
+source_of_bytes bytes piece fails =
+    record { left = bytes; piece = piece; fails = fails; reads = 0; faults = 0 }
 
 -- how many bytes a read into a buffer of that length gives
 abbrev pub read_count : MemSource → ℕ → ℕ
@@ -18,10 +24,11 @@ read_count s len = min (min (length s.left) s.piece) len
 -- what a read leaves
 abbrev pub after_read : MemSource → Result ℕ Failed → MemSource
 after_read s (Ok n) = record s { left = drop n s.left; reads = saturating_next s.reads }
-after_read s (Err e) = record s { reads = saturating_next s.reads; faults = saturating_next s.faults }
+after_read s (Err e) =
+    record s { reads = saturating_next s.reads; faults = saturating_next s.faults }
 
--- the bytes written, the room for them, the most that one write takes, the numbers of the writes that fail, how many were
--- made and have failed, and whether what was written is finished
+-- the bytes written, the room for them, the most that one write takes, the numbers of the writes
+-- that fail, how many were made and have failed, and whether what was written is finished
 pub record MemSink : Type 0 where
   pub bytes : List ℕ
   pub room : ℕ
@@ -31,7 +38,20 @@ pub record MemSink : Type 0 where
   pub faults : ℕ
   pub finished : Bool
 
--- a write fails at the numbers that are listed, and where something is to be written and no room is left
+-- a sink in which nothing is written
+abbrev pub empty_sink : (room piece : ℕ) → (fails : List ℕ) → MemSink
+empty_sink room piece fails = record {
+  bytes = [];
+  room = room;
+  piece = piece;
+  fails = fails;
+  writes = 0;
+  faults = 0;
+  finished = false;
+}
+
+-- a write fails at the numbers that are listed, and where something is to be written and no room is
+-- left
 abbrev pub FailsToWrite : MemSink → List ℕ → Type 0
 FailsToWrite s text = Contains s.fails s.writes ⊎ ((s.room ≡ length s.bytes) × (0 < length text))
 
@@ -41,5 +61,13 @@ write_count s len = min (min (s.room - length s.bytes) s.piece) len
 
 -- what a write leaves
 abbrev pub after_write : MemSink → List ℕ → Result ℕ Failed → MemSink
-after_write s text (Ok n) = record s { bytes = s.bytes ++ take n text; writes = saturating_next s.writes; finished = false }
-after_write s text (Err e) = record s { writes = saturating_next s.writes; faults = saturating_next s.faults; finished = false }
+after_write s text (Ok n) = record s {
+  bytes = s.bytes ++ take n text;
+  writes = saturating_next s.writes;
+  finished = false;
+}
+after_write s text (Err e) = record s {
+  writes = saturating_next s.writes;
+  faults = saturating_next s.faults;
+  finished = false;
+}

@@ -31,7 +31,8 @@ impl<S: Source> KeepingSource<S> {
 
     /// All that was given so far; nothing if memory ran out for it.
     pub fn kept(&self) -> Option<&[u8]>
-        ensures { MatchOption result (bytes_kept self.now ≡ None) (λ bytes. bytes_kept self.now ≡ Some bytes.now) }
+        ensures { MatchOption result (bytes_kept self.now ≡ None)
+            (λ bytes. bytes_kept self.now ≡ Some bytes.now) }
     {
         if self.whole {
             return Some(self.kept.as_slice());
@@ -54,11 +55,13 @@ impl<S: Source> Source for KeepingSource<S> {
     fn read(&mut self, into: &mut [u8]) -> Result<usize, Failed>
         // What every source ensures.
         ensures bound { ReadsAtMost result into.new }
-        ensures bytes { ReadConsumes (S.remaining self.old.source) (S.remaining self.new.source) result into.new }
+        ensures bytes { ReadConsumes (S.remaining self.old.source) (S.remaining self.new.source)
+            result into.new }
         ensures cause { HasCause (S.faults self.old.source) (S.faults self.new.source) result }
 
         // What was given is kept behind what was kept before, or nothing is kept from now on.
-        ensures keeps { IfOk result (λ count. Keeps (bytes_kept self.old) (bytes_kept self.new) count into.new) }
+        ensures keeps { IfOk result
+            (λ count. Keeps (bytes_kept self.old) (bytes_kept self.new) count into.new) }
         ensures fails { OnErr result (bytes_kept self.new ≡ bytes_kept self.old) }
     {
         let count = self.source.read(into)?;

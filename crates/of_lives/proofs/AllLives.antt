@@ -6,7 +6,7 @@ use Rattle.std.proofs.lemmas.Bool.{cases_lt}
 use Rattle.std.proofs.lemmas.List.{map-append}
 use Rattle.std.proofs.lemmas.List.Elements.{All-from_recursion, filter-append}
 use Rattle.of_script.specs.declared.instr.Instr.{Instr}
-use Rattle.of_store.specs.State.{Store, Reply, replies_in_order, last_store}
+use Rattle.of_store.specs.Store.{Store, Reply, replies_in_order, last_store}
 use Rattle.of_store.proofs.Replays.{replies-append, last_store-append}
 use Rattle.of_plan.specs.Report.{Entry, Start, entries_of, finished_of}
 use Rattle.of_plan.specs.Legal.{script_of_entry, IsLegal}

@@ -4,18 +4,13 @@ use Rattle.std.specs.Prelude.{filter}
 use Rattle.std.specs.List.{AllByRecursion as Each}
 use Rattle.std.proofs.lemmas.Bool.{eq-eqb}
 use Rattle.std.proofs.lemmas.Bool.Decides.{eqb_tells}
+pub use Rattle.std.proofs.lemmas.Bool.{eqb-true as is_caller}
 use Rattle.of_plan.specs.Report.{Entry}
 use Rattle.of_plan.specs.Histories.{IsIn}
 use Rattle.of_plan.proofs.HistoriesLists.{each_at, each_from_in, each_filter, in_filter, InLine}
 
 abbrev pub is_of : ℕ → Entry → Bool
 is_of c e = eqb e.caller c
-
-pub is_caller : (a b : ℕ) → eqb a b ≡ true → a ≡ b
-is_caller a b is = elim (eqb_tells a b) [
-  | inl here ↦ here.1
-  | inr other ↦ absurd (let two : true ≡ false = sym is ∙ other.0 in cc)
-]
 
 is_other : (a b : ℕ) → a < b → eqb a b ≡ false
 is_other a b lt = elim (eqb_tells a b) [

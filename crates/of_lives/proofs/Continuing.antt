@@ -14,7 +14,7 @@ use Rattle.of_plan.specs.Plan.{Plan}
 use Rattle.of_plan.specs.Report.{Start, Report}
 use Rattle.of_plan.specs.Ended.{Ended}
 use Rattle.of_core.specs.Table.{setup_of}
-use Rattle.of_core.specs.World.{TableStart}
+use Rattle.of_core.specs.TableMoment.{TableStart}
 use Rattle.of_core.specs.Starts.{start_from_durable as table_start, IsStartRow}
 use Rattle.of_row.specs.Views.{View}
 use Rattle.of_caller.specs.Tables.{plan_setup, IsLawfulFor}

@@ -4,18 +4,18 @@ use Rattle.of_script.specs.declared.instr.TheConstants.{MOST_INSTRS}
 use Rattle.of_plan.specs.Plan.{Plan}
 use Rattle.of_plan.specs.Report.{Start, Report, entries_of, finished_of}
 use Rattle.of_plan.specs.Ended.{Ended}
-use Rattle.of_report.specs.Image.{Image, IsRestored, start_of_image, durable_row}
-use Rattle.of_core.specs.World.{TableStart}
+use Rattle.of_report.specs.Image.{Image, IsRestored, image_number, start_of_image, durable_row}
+use Rattle.of_core.specs.TableMoment.{TableStart}
 use Rattle.of_row.specs.Views.{View}
 use Rattle.of_caller.specs.Restarts.{HoldsLastAnnounced}
 use Rattle.of_caller.specs.Teams.{IsHandedBack}
 use Rattle.of_lives.specs.Lives.{start_behind}
 use Rattle.of_lives.specs.Restarts.{start_from_row}
-use Rattle.of_lives.specs.Images.{image_number}
 
 -- A team has run the plan over a table that starts so, and has handed back this run and a pass with
 -- this view; the report is that of its lawful record.
-pub record IsReportOfTeam (p : Plan) (s : Start) (B : TableStart) (e : Ended) (w : View) (r : Report)
+pub record IsReportOfTeam (p : Plan) (s : Start) (B : TableStart) (e : Ended) (w : View)
+    (r : Report)
     : Type 0 where
   pub handed : IsHandedBack p s B e w
   pub report : handed.report ≡ r

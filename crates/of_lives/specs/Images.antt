@@ -1,13 +1,11 @@
 -- Which plans can go on from an image, and what its callers' own cells hold.
 use Rattle.std.specs.Prelude.{◌≡◌, ℕ, ◌≤◌}
-use Rattle.of_mem.specs.ProgramWork.{memory_of}
 use Rattle.of_script.specs.declared.instr.Reply.{Reply}
 use Rattle.of_script.specs.declared.instr.TheConstants.{MOST_INSTRS}
 use Rattle.of_eval.specs.Shapes.{IsHeldBy}
 use Rattle.of_eval.specs.Lawful.{reply_in}
 use Rattle.of_plan.specs.Plan.{Plan}
-use Rattle.of_report.specs.ImageRow.{data_numbers_in}
-use Rattle.of_report.specs.Image.{Image, start_of_image}
+use Rattle.of_report.specs.Image.{Image, image_number, start_of_image}
 use Rattle.of_caller.specs.PlanRows.{HasScripts}
 
 -- the plan can go on from the image: it has as many callers and blocks, its limit isn't below the
@@ -17,10 +15,6 @@ pub record PlanFitsImage (i : Image) (p : Plan) : Type 0 where
   pub blocks : p.blocks ≡ i.row.blocks
   pub limit : i.seq ≤ p.limit
   pub scripts : HasScripts p (start_of_image i)
-
--- the number in a data cell of an image
-abbrev pub image_number : Image → (cell : ℕ) → ℕ
-image_number i = memory_of (data_numbers_in MOST_INSTRS i.row)
 
 -- a caller's own cells hold this reply
 abbrev pub CallerHoldsReply : Image → (caller : ℕ) → Reply → Type 0

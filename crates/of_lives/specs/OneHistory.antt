@@ -2,7 +2,7 @@
 use Rattle.std.specs.Prelude.{◌≡◌, ℕ, ◌+◌, ◌≤◌, ◌<◌, ◌⊎◌, ◌==◌, false, IsTrue, List, ◌∷◌, ◌++◌, length, map, filter, flat_map, All, Any, AllPairs}
 use Rattle.of_script.specs.declared.instr.Instr.{Instr}
 use Rattle.of_script.specs.Language.{reads_only}
-use Rattle.of_store.specs.State.{replies_in_order, last_store}
+use Rattle.of_store.specs.Store.{replies_in_order, last_store}
 use Rattle.of_plan.specs.Report.{Entry, Start, finished_of, caller_line}
 use Rattle.of_plan.specs.Legal.{script_of_entry}
 use Rattle.of_lives.specs.Lives.{Life, done_behind, start_behind_all, EachLife, AreLives}
@@ -60,7 +60,8 @@ NoneAnnouncedOf c es = All (λ e. e.caller ≡ c → e.announced ≡ false) es
 
 -- an entry that wasn't announced is of a script that only reads
 abbrev pub UnannouncedOnlyReads : Life → Entry → Type 0
-UnannouncedOnlyReads l e = e.announced ≡ false → All (λ i. IsTrue (reads_only i)) (script_of_entry l.plan e)
+UnannouncedOnlyReads l e =
+    e.announced ≡ false → All (λ i. IsTrue (reads_only i)) (script_of_entry l.plan e)
 
 -- so it is with each entry of a life
 abbrev pub HasReads : Start → Life → Type 0

@@ -6,7 +6,7 @@ use Rattle.of_eval.specs.Record.{plan_data_cells, IsLawfulRecord}
 use Rattle.of_plan.specs.Plan.{Plan}
 use Rattle.of_plan.specs.Report.{Start, Report, entries_of, finished_of}
 use Rattle.of_plan.specs.Ended.{Ended}
-use Rattle.of_core.specs.World.{Moment, TableStart}
+use Rattle.of_core.specs.TableMoment.{Moment, TableStart}
 use Rattle.of_core.specs.Starts.{start_from_durable, IsDurable, IsStartRow}
 use Rattle.of_caller.specs.Tables.{plan_setup, IsLawfulFor}
 use Rattle.of_caller.specs.Starts.{start_number, StartsAtPlan}
@@ -22,10 +22,12 @@ start_from_row p row = start_from_durable p.callers (plan_data_cells p) row
 pub record LeavesRow (p : Plan) (s : Start) (r : Report) (found : List ℕ) : Type 0 where
   -- a table may start from it, behind the life
   pub row : IsStartRow (plan_setup p) (IsLawfulFor p) found
-  pub start : StartsAtPlan p (start_behind s (record { plan = p; report = r })) (start_from_row p found)
+  pub start : StartsAtPlan p (start_behind s (record { plan = p; report = r }))
+      (start_from_row p found)
   -- and each caller's own cells hold its last announced call, with the reply that the report tells
   pub last_calls : (c : ℕ) → c < p.callers
-      → HoldsLastAnnounced (start_number (start_from_row p found)) c (finished_of s c) (entries_of r c)
+      → HoldsLastAnnounced (start_number (start_from_row p found)) c (finished_of s c)
+      (entries_of r c)
 
 -- so it is of what recovery makes of the durable words of each run of a plan from a start
 abbrev pub LivesRestart : Type 0

@@ -1,7 +1,7 @@
 -- Two worked lives, and four that can't be the second, each a number or an entry away from it.
 use Rattle.std.specs.Prelude.{ℕ, true, false, Option, Some, List, [], ◌∷◌, map}
 use Rattle.of_script.specs.declared.instr.Instr.TheVariants.{Load, Store, Add}
-use Rattle.of_store.specs.State.{Reply, Answered, empty_store, with_register}
+use Rattle.of_store.specs.Store.{Reply, Answered, empty_store, with_register}
 use Rattle.of_plan.specs.Plan.{Plan}
 use Rattle.of_plan.specs.Report.{Entry, Line, done, Start, empty_start}
 use Rattle.of_plan.specs.Worked.{two_callers, worked_entry, legal_report}

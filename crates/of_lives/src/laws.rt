@@ -30,7 +30,8 @@ pub fn lives_restart()
 pub fn worked_lives()
     ensures follows { FollowsFirst second_life }
     ensures asked_again { asked_by 0 ≡ 0 ∷ 1 ∷ 1 ∷ [] }
-    ensures in_its_place { replies_to 0 ≡ one_number_reply None ∷ one_number_reply (Some 6) ∷ one_number_reply (Some 7) ∷ [] }
+    ensures in_its_place { replies_to 0
+        ≡ one_number_reply None ∷ one_number_reply (Some 6) ∷ one_number_reply (Some 7) ∷ [] }
     ensures not_run_again { asked_by 1 ≡ 0 ∷ 1 ∷ 2 ∷ [] }
     ensures tickets { done_in_both ≡ 1 ∷ 3 ∷ [] }
     ensures call_run_again { FollowsFirst runs_again → ⊥ }

@@ -64,14 +64,12 @@ pub fn continue_from<R: Threads + Sync>(
     ensures allowances { IfOk result (λ l.
         KeepAllowances (λ b. left b) plan.now (report_value l.report) 0 brakes.items) }
     // The next life can be given the image of the durable words, which is where this report ends.
-    ensures leaves { IfOk result (λ l. (next : PlainImage) × LeavesImage plan.now
-        (start_of_image (image_value image.now)) (ended_value l.ended) (report_value l.report) next) }
+    ensures leaves { let start = start_of_image (image_value image.now) in
+        IfOk result (λ l. (next : PlainImage) × LeavesImage plan.now start
+        (ended_value l.ended) (report_value l.report) next) }
 {
     teams_are_lawful(plan);
-    let work = Scripts {
-        callers: plan.callers(),
-        blocks: plan.blocks(),
-    };
+    let work = Scripts::of_plan(plan);
     let (row, pass) = Row::start(alloc, plan.shape(), plan.limit(), work, &image.durable)?;
     let (ended, pass) = team(rt, alloc, row, pass, plan, brakes)?;
     let report = Report::make_from(alloc, plan, image, &ended)?;

@@ -4,41 +4,14 @@
 ghost use Rattle.std.specs.Prelude.{◌≡◌, ◌<◌, ◌≤◌, ◌↔◌, ℕ, length, IsTrue, IsNone, IfSome};
 ghost use Rattle.of_mem.specs.declared.work.TheConstants.{MOST_INSTRS};
 ghost use Rattle.of_script.specs.declared.instr.Reply.{Reply as TheReply};
-ghost use Rattle.of_eval.specs.Lawful.{reply_in};
-ghost use Rattle.of_report.specs.ImageRow.{row_cell_count};
 ghost use Rattle.of_report.specs.Image.{IsImage, image_value, image_ticket, start_of_image};
 ghost use Rattle.of_caller.specs.PlanRows.{HasScripts};
-ghost use Rattle.of_lives.specs.Images.{image_number, PlanFitsImage, CallerHoldsReply};
+ghost use Rattle.of_lives.specs.Images.{PlanFitsImage, CallerHoldsReply};
 
-use of_cell::payload_of;
 use of_eval::reply_of;
-use of_mem::{MOST_INSTRS, Plot, RawReply};
 use of_plan::Plan;
 use of_report::Image;
 use of_script::Reply;
-
-// Where the data cells of an image stand.
-fn plot(image: &Image) -> Plot
-    requires { IsImage MOST_INSTRS (image_value image.now) }
-    ensures callers { result.callers ≡ image.now.callers }
-    ensures instrs { result.instrs ≡ MOST_INSTRS }
-    ensures blocks { result.blocks ≡ image.now.blocks }
-{
-    Plot {
-        callers: image.callers,
-        instrs: MOST_INSTRS as u32,
-        blocks: image.blocks,
-    }
-}
-
-// The number in a data cell of an image.
-fn number(image: &Image, cell: u32) -> u32
-    requires image { IsImage MOST_INSTRS (image_value image.now) }
-    requires cell { cell < row_cell_count MOST_INSTRS (image_value image.now).row }
-    ensures { result ≡ image_number (image_value image.now) cell }
-{
-    payload_of(image.durable[(image.callers + 1 + cell) as usize])
-}
 
 // Whether each caller has the scripts that are done.
 #[tactic(auto, using(crate::proofs::ImageStarts::done_is_ticket))]
@@ -67,23 +40,6 @@ pub fn fits(image: &Image, plan: &Plan) -> bool
         && has_scripts(image, plan)
 }
 
-// The reply in a caller's own cells.
-fn reply(image: &Image, caller: u32) -> RawReply
-    requires image { IsImage MOST_INSTRS (image_value image.now) }
-    requires caller { caller < image.now.callers }
-    ensures { result ≡ reply_in MOST_INSTRS (image_number (image_value image.now)) caller }
-{
-    let plot = plot(image);
-    let mut values = [0; MOST_INSTRS];
-    for place in 0..MOST_INSTRS {
-        values[place] = number(image, plot.reply(caller, place as u32));
-    }
-    RawReply {
-        shape: number(image, plot.shape(caller)),
-        values,
-    }
-}
-
 /// The ticket of a caller's last announced call and the reply to it, also where the caller was
 /// stopped before it was answered: no later life runs it again. None where no call of the caller was
 /// announced.
@@ -101,7 +57,7 @@ pub fn last_reply(image: &Image, caller: u32) -> Option<(u32, Reply)>
     if ticket == 0 {
         return None;
     }
-    let Some(reply) = reply_of(&reply(image, caller)) else {
+    let Some(reply) = reply_of(&image.reply(caller)) else {
         unreachable!();
     };
     Some((ticket, reply))

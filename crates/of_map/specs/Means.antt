@@ -4,7 +4,7 @@ use Rattle.std.specs.FinMap as fin
 use Rattle.of_mem.specs.declared.part.Need.{Need}
 use Rattle.of_mem.specs.declared.plot.Plot.{Plot}
 use Rattle.of_mem.specs.Numbers.{IsNumber}
-use Rattle.of_mem.specs.Pad.{Part}
+use Rattle.of_mem.specs.Part.{Part}
 use Rattle.of_mem.specs.Stores.{CellStore, thing_count}
 use Rattle.of_mem.specs.Calls.{ActsOnStore}
 use Rattle.of_map.specs.declared.answers.Put.{Put}
@@ -37,8 +37,10 @@ abbrev pub after_put : ℕ → ℕ → ℕ → CellStore → CellStore
 after_put blocks key v s = put_store s key v (fin.get s.map key) (ltb (thing_count s) blocks)
 
 -- the call put this value at this key, or found no room, and then it wrote nothing
-pub record PutsValue (plot : Plot) (before after : Part) (key v : ℕ) (result : Result Put Need) : Type 0 where
-  pub acts : ActsOnStore plot before after result (answer_of_put plot.blocks key) (after_put plot.blocks key v)
+pub record PutsValue (plot : Plot) (before after : Part) (key v : ℕ) (result : Result Put Need)
+    : Type 0 where
+  pub acts : ActsOnStore plot before after result
+      (answer_of_put plot.blocks key) (after_put plot.blocks key v)
   pub full : IfOk result (λ r. r ≡ Full → after ≡ before)
 
 -- the store after a del

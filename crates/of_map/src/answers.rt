@@ -1,6 +1,6 @@
 //! What the calls of the map answer.
 
-/// Where the block of a key stands.
+// Where the block of a key stands.
 #[derive(Clone, Copy, Debug, PartialEq, Eq)]
 pub(crate) struct Position {
     /// The cell that points to the block.
@@ -8,13 +8,13 @@ pub(crate) struct Position {
     pub block: u32,
 }
 
-/// What a walk finds at a cell that points to a block.
+// What a walk finds at a cell that points to a block.
 pub(crate) enum Look {
-    /// There is none.
+    // There is none.
     End,
-    /// The block has the key.
+    // The block has the key.
     Here(u32),
-    /// It has another one, and its link is this cell.
+    // It has another one, and its link is this cell.
     Past(u32),
 }
 

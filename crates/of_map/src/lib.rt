@@ -5,7 +5,7 @@ ghost use Rattle.std.specs.Prelude.{◌≡◌, ◌≢◌, ◌%◌, ◌<◌, ◌�
 ghost use Rattle.std.specs.FinMap as fin;
 ghost use Rattle.of_mem.specs.Plots.{base, data_cell_count};
 ghost use Rattle.of_mem.specs.Places.{keys_at};
-ghost use Rattle.of_mem.specs.Pad.{newest_at};
+ghost use Rattle.of_mem.specs.Part.{newest_at};
 ghost use Rattle.of_mem.specs.Calls.{RunsProgram, HasStore, AnswersOfStore, ActsOnStore};
 ghost use Rattle.of_map.specs.declared.answers.Put.TheVariants.{Full};
 ghost use Rattle.of_map.specs.MapPrograms.{seek, get, read_value, put_in_map, change, insert, fill, del, unlink, give_key_back, count_key_down, count};
@@ -19,7 +19,7 @@ use crate::answers::{Look, Position};
 pub use answers::Put;
 use of_mem::{BUCKETS, Need, Part, Plot, Walk};
 
-/// Where the block of a key stands, None where the key is absent.
+// Where the block of a key stands, None where the key is absent.
 fn seek(plot: &Plot, part: &mut Part, key: u32) -> Result<Option<Position>, Need>
     requires { HasBucketChain plot.now part.old key }
     ensures part { part.new ≡ part.old }
@@ -47,7 +47,7 @@ fn seek(plot: &Plot, part: &mut Part, key: u32) -> Result<Option<Position>, Need
     Ok(None)
 }
 
-/// Looks at the block to which a cell points.
+// Looks at the block to which a cell points.
 fn look(plot: &Plot, part: &Part, key: u32, cell: u32) -> Result<Look, Need>
     requires { HasChainFrom plot.now part.now cell }
     ensures { Looks plot.now part.now key cell result }
@@ -91,7 +91,7 @@ pub fn get(plot: &Plot, part: &mut Part, key: u32) -> Result<Option<u32>, Need>
     }
 }
 
-/// The value in a block.
+// The value in a block.
 fn read_value(plot: &Plot, part: &Part, block: u32) -> Result<Option<u32>, Need>
     requires fits { length part.now.known ≡ data_cell_count plot.now }
     requires block { block < plot.now.blocks }
@@ -117,7 +117,7 @@ pub fn put(plot: &Plot, part: &mut Part, key: u32, value: u32) -> Result<Put, Ne
     }
 }
 
-/// Changes the value in a block, and answers the value before.
+// Changes the value in a block, and answers the value before.
 fn change(plot: &Plot, part: &mut Part, block: u32, value: u32) -> Result<Put, Need>
     requires fits { length part.old.known ≡ data_cell_count plot.now }
     requires block { block < plot.now.blocks }
@@ -130,7 +130,7 @@ fn change(plot: &Plot, part: &mut Part, block: u32, value: u32) -> Result<Put, N
     Ok(Put::Over(before))
 }
 
-/// Puts a value at a key that is absent, where a block is free.
+// Puts a value at a key that is absent, where a block is free.
 #[tactic(auto, using(of_mem::proofs::Runs::run_then_needs))]
 fn insert(plot: &Plot, part: &mut Part, key: u32, value: u32) -> Result<Put, Need>
     requires { HasStore plot.now part.old }
@@ -143,7 +143,7 @@ fn insert(plot: &Plot, part: &mut Part, key: u32, value: u32) -> Result<Put, Nee
     }
 }
 
-/// Makes a block that was taken the front of its key's bucket.
+// Makes a block that was taken the front of its key's bucket.
 fn fill(plot: &Plot, part: &mut Part, key: u32, value: u32, block: u32) -> Result<Put, Need>
     requires { CanFill plot.now part.old block }
     ensures runs { RunsProgram (fill plot.now key value block) part.old part.new result }
@@ -166,7 +166,8 @@ fn fill(plot: &Plot, part: &mut Part, key: u32, value: u32, block: u32) -> Resul
 pub fn del(plot: &Plot, part: &mut Part, key: u32) -> Result<Option<u32>, Need>
     requires { HasStore plot.now part.old }
     ensures runs { RunsProgram (del plot.now key) part.old part.new result }
-    ensures acts { ActsOnStore plot.now part.old part.new result (λ s. fin.get s.map key) (after_del key) }
+    ensures acts { ActsOnStore plot.now part.old part.new result
+        (λ s. fin.get s.map key) (after_del key) }
 {
     match seek(plot, part, key)? {
         None => Ok(None),
@@ -174,7 +175,7 @@ pub fn del(plot: &Plot, part: &mut Part, key: u32) -> Result<Option<u32>, Need>
     }
 }
 
-/// Takes a key's block out of its bucket.
+// Takes a key's block out of its bucket.
 fn unlink(plot: &Plot, part: &mut Part, key: u32, place: Position) -> Result<Option<u32>, Need>
     requires { IsPositionKept plot.now part.old key place }
     ensures { RunsProgram (unlink plot.now place) part.old part.new result }
@@ -185,7 +186,7 @@ fn unlink(plot: &Plot, part: &mut Part, key: u32, place: Position) -> Result<Opt
     give_back(plot, part, place.block, value)
 }
 
-/// Gives back a block that is in no bucket any more, and counts one key less.
+// Gives back a block that is in no bucket any more, and counts one key less.
 #[tactic(auto, using(of_mem::proofs::Runs::run_then_needs))]
 fn give_back(plot: &Plot, part: &mut Part, block: u32, value: u32) -> Result<Option<u32>, Need>
     requires { IsUnlinked plot.now part.old block }
@@ -195,7 +196,7 @@ fn give_back(plot: &Plot, part: &mut Part, block: u32, value: u32) -> Result<Opt
     count_down(plot, part, value)
 }
 
-/// Counts one key less.
+// Counts one key less.
 fn count_down(plot: &Plot, part: &mut Part, value: u32) -> Result<Option<u32>, Need>
     requires fits { length part.old.known ≡ data_cell_count plot.now }
     requires keys { (k : ℕ) → newest_at part.old (keys_at (base plot.now)) ≡ Some k → 1 ≤ k }

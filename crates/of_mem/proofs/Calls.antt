@@ -5,7 +5,7 @@ use Rattle.std.proofs.lemmas.Result.{MatchResult-weaker}
 use Rattle.of_mem.specs.declared.part.Need.{Need}
 use Rattle.of_mem.specs.declared.plot.Plot.{Plot}
 use Rattle.of_mem.specs.Plots.{base, data_cell_count}
-use Rattle.of_mem.specs.Pad.{Part}
+use Rattle.of_mem.specs.Part.{Part}
 use Rattle.of_mem.specs.Programs.{Program, then_do, RunsAs, IsPartOf, StaysBetween, program_answer, memory_after}
 use Rattle.of_mem.specs.Stores.{CellStore}
 use Rattle.of_mem.specs.Calls.{RunsProgram, PlotStandsForStore, AnswersOfStore, HasActedOnStore, ActsOnStore}

@@ -1,5 +1,5 @@
 -- What the place that is noted at an address says of the pairs.
-use Rattle.std.proofs.Common.{◌≡◌, ◌≢◌, ℕ, zero, suc, ◌+◌, ◌<◌, ◌≤◌, ◌==◌, eqb, Bool, true, false, List, [], ◌∷◌, ◌++◌, length, map, Some, None, get_or, set, take, refl, sym, ◌∙◌, ap, arith, length-append, length-set, ◌⊎◌, inl, inr, if◌then◌else◌}
+use Rattle.std.proofs.Common.{◌≡◌, ◌≢◌, ℕ, zero, suc, ◌+◌, ◌<◌, ◌≤◌, ◌==◌, eqb, Bool, true, false, List, [], ◌∷◌, ◌++◌, length, map, Some, None, get_or, set, refl, sym, ◌∙◌, ap, arith, length-append, ◌⊎◌, inl, inr, if◌then◌else◌}
 use Rattle.std.specs.List.{list_any}
 use Rattle.std.specs.List.{Any, AllPairs}
 use Rattle.std.proofs.lemmas.Map.Steps.{length-le_from_distinct_below}
@@ -7,16 +7,10 @@ use Rattle.std.proofs.lemmas.Map.Made.{IsDistinct-from_AllPairs}
 use Rattle.std.proofs.lemmas.List.Folds.{Any-from_list_any}
 use Rattle.std.proofs.lemmas.Bool.Decides.{Decides-eqb, nat_tests}
 use Rattle.std.proofs.lemmas.Bool.{cases_eq}
-use Rattle.std.proofs.lemmas.List.{get_or-map, length-map, get_or-set_same, get_or-set_other, get_or_append_left, get_or_push, get_or_default, get_or-take, length-take-le}
-use Rattle.std.proofs.Math.Seq.{take-set-lt}
-use Rattle.of_mem.specs.Pairs.{CellMap, value_for, put_pair, entry_address, IsAbsent, IsCellMap}
-use Rattle.of_mem.specs.Indexed.{IsIndexed, FindsEntry, MissesEntry}
-
-equals : (a b : ℕ) → a ≡ b → (a == b) ≡ true
-equals a b e = grind (arith, nat_tests)
-
-differs : (a b : ℕ) → (a ≡ b → ⊥) → (a == b) ≡ false
-differs a b e = grind (arith, nat_tests)
+use Rattle.std.proofs.lemmas.Bool.{eq-eqb as equals, ne_eqb as differs}
+use Rattle.std.proofs.lemmas.List.{get_or-map, length-map, get_or_append_left, get_or_push}
+use Rattle.of_mem.specs.CellMap.{value_for, put_pair, entry_address, IsAbsent, IsCellMap}
+use Rattle.of_mem.specs.Indexed.{IsIndexed, FindsEntry, MissesEntry, SetsPlace, place_noted}
 
 -- where the address is absent
 pub value_at-absent : (es : List (ℕ × ℕ)) (a : ℕ) → IsAbsent es a → value_for es a ≡ None
@@ -38,104 +32,102 @@ put-here [] a v k l q h = absurd (omega arith)
 put-here (e ∷ es) a v zero l q h = rw (equals e.0 a q) refl
 put-here (e ∷ es) a v (suc k) l q h = rw (differs e.0 a (h 0 (omega arith))) (ap (λ (xs : List (ℕ × ℕ)). e ∷ xs) (put-here es a v k (omega arith) q (λ j m. h (suc j) (omega arith))))
 
-module _ (es : List (ℕ × ℕ)) (ps : List ℕ) (n : ℕ) (h : IsIndexed es ps n) where
-  pub once : (j k : ℕ) → j < length es → k < length es → entry_address es j ≡ entry_address es k → j ≡ k
-  once j k l m e = sym (h.found j l) ∙ ap (λ (a : ℕ). get_or ps a 0) e ∙ h.found k m
+-- of different addresses below n there are at most n
+few_addresses : (es : List (ℕ × ℕ)) (n : ℕ) → ((k : ℕ) → k < length es → entry_address es k < n) → ((j k : ℕ) → j < length es → k < length es → entry_address es j ≡ entry_address es k → j ≡ k) → length es ≤ n
+few_addresses es n below once = rw (← size) (length-le_from_distinct_below xs n (IsDistinct-from_AllPairs Decides-eqb xs apart) within)
+  where
+    xs : List ℕ
+    xs = map (λ (e : ℕ × ℕ). e.0) es
 
-  pub first : (a k : ℕ) → k < length es → entry_address es k ≡ a → (j : ℕ) → j < k → entry_address es j ≡ a → ⊥
-  first a k l q j m e = let s : j ≡ k = once j k (omega arith) l (e ∙ sym q) in omega arith
+    at_x : (k d : ℕ) → k < length es → get_or xs k d ≡ entry_address es k
+    at_x k d l = get_or-map (λ (e : ℕ × ℕ). e.0) es k (0, 0) d l
 
-  pub few : length es ≤ length ps
-  few = rw (← length-map es (λ (e : ℕ × ℕ). e.0)) (length-le_from_distinct_below xs (length ps) (IsDistinct-from_AllPairs Decides-eqb xs apart) below)
+    size : length xs ≡ length es
+    size = length-map es (λ (e : ℕ × ℕ). e.0)
+
+    apart : AllPairs (λ x y. x ≢ y) xs
+    apart j k d l m q =
+        let mk : k < length es = omega (arith, size) in
+        let e : j ≡ k = once j k (omega arith) mk (sym (at_x j d (omega arith)) ∙ q ∙ at_x k d mk) in
+        omega arith
+
+    within : (q : ℕ) → list_any (eqb q) xs ≡ true → q < n
+    within q e =
+        let f : Any (λ (x : ℕ). eqb q x ≡ true) xs = Any-from_list_any (eqb q) xs e in
+        let mk : f.0 < length es = omega (arith, size, f.2) in
+        let same : q ≡ f.1 = grind (arith, nat_tests, f.4) in
+        let here : entry_address es f.0 ≡ f.1 = sym (at_x f.0 f.1 mk) ∙ f.3 in
+        omega (arith, below f.0 mk)
+
+module _ (room : ℕ) (es : List (ℕ × ℕ)) (ps : List ℕ) (m n : ℕ) (h : IsIndexed room es ps m n) where
+  once : (j k : ℕ) → j < length es → k < length es → entry_address es j ≡ entry_address es k → j ≡ k
+  once j k l m e = sym (h.found j l) ∙ ap (place_noted ps) e ∙ h.found k m
+
+  below : (k : ℕ) → k < length es → entry_address es k < room
+  below k l = omega (arith, h.below k l, h.few_places)
+
+  pub few : length es ≤ room
+  few = few_addresses es room below once
+
+  pub is_map : IsCellMap (record { room = room; entries = es })
+  is_map = record { once = once; below = below; few = few; room = h.fits }
+
+  pub finds : (a k : ℕ) → k < length es → entry_address es k ≡ a → FindsEntry (record { room = room; entries = es }) a k
+  finds a k l q = record { below = l; value = value_at-here es a k l q first; put = λ v. put-here es a v k l q first; here = q }
     where
-      xs : List ℕ
-      xs = map (λ (e : ℕ × ℕ). e.0) es
+      first : (j : ℕ) → j < k → entry_address es j ≡ a → ⊥
+      first j m e = let s : j ≡ k = once j k (omega arith) l (e ∙ sym q) in omega arith
 
-      at_x : (k d : ℕ) → k < length es → get_or xs k d ≡ entry_address es k
-      at_x k d l = get_or-map (λ (e : ℕ × ℕ). e.0) es k (0, 0) d l
+  module _ (a : ℕ) (absent : IsAbsent es a) where
+    -- an address more is still one of different ones
+    room_left : a < room → length es < room
+    room_left l = omega (arith, few_addresses ((a, 0) ∷ es) room below_more once_more)
+      where
+        below_more : (k : ℕ) → k < length ((a, 0) ∷ es) → entry_address ((a, 0) ∷ es) k < room
+        below_more zero m = l
+        below_more (suc k) m = below k (omega arith)
 
-      size : length xs ≡ length es
-      size = length-map es (λ (e : ℕ × ℕ). e.0)
+        once_more : (j k : ℕ) → j < length ((a, 0) ∷ es) → k < length ((a, 0) ∷ es) → entry_address ((a, 0) ∷ es) j ≡ entry_address ((a, 0) ∷ es) k → j ≡ k
+        once_more zero zero m o e = refl
+        once_more zero (suc k) m o e = absurd (absent k (omega arith) (sym e))
+        once_more (suc j) zero m o e = absurd (absent j (omega arith) e)
+        once_more (suc j) (suc k) m o e = ap suc (once j k (omega arith) (omega arith) e)
 
-      apart : AllPairs (λ x y. x ≢ y) xs
-      apart j k d l m q =
-          let mk : k < length es = omega (arith, size) in
-          let e : j ≡ k = once j k (omega arith) mk (sym (at_x j d (omega arith)) ∙ q ∙ at_x k d mk) in
-          omega arith
+    pub misses : MissesEntry (record { room = room; entries = es }) a
+    misses = record {
+      absent = absent;
+      value = value_at-absent es a absent;
+      put = λ v. put-absent es a v absent;
+      room = room_left;
+    }
 
-      below : (q : ℕ) → list_any (eqb q) xs ≡ true → q < length ps
-      below q e =
-          let f : Any (λ (x : ℕ). eqb q x ≡ true) xs = Any-from_list_any (eqb q) xs e in
-          let mk : f.0 < length es = omega (arith, size, f.2) in
-          let same : q ≡ f.1 = grind (arith, nat_tests, f.4) in
-          let here : entry_address es f.0 ≡ f.1 = sym (at_x f.0 f.1 mk) ∙ f.3 in
-          omega (arith, h.below f.0 mk)
+  -- with one entry more
+  pub more : (qs : List ℕ) (a v o p : ℕ) → IsAbsent es a → a < room → SetsPlace ps qs a (length es) → m ≤ o → n ≤ p → IsIndexed room (es ++ (a, v) ∷ []) qs o p
+  more qs a v o p absent l s more_entries more_places = record {
+    fits = h.fits;
+    spare = omega (arith, h.spare);
+    spare_places = omega (arith, h.spare_places);
+    few_places = s.below room h.few_places l;
+    below = λ k m. here k (cases_eq k (length es)) m;
+    found = λ k m. found k (cases_eq k (length es)) m;
+  }
+    where
+      size : length (es ++ (a, v) ∷ []) ≡ length es + 1
+      size = length-append es ((a, v) ∷ [])
 
-  pub is_map : IsCellMap (record { room = length ps; entries = es })
-  is_map = record { once = once; below = h.below; few = few; room = h.room }
+      old : (k : ℕ) → k < length es → entry_address (es ++ (a, v) ∷ []) k ≡ entry_address es k
+      old k m = ap (λ (e : ℕ × ℕ). e.0) (get_or_append_left es ((a, v) ∷ []) (0, 0) k m)
 
-  pub finds : (a k : ℕ) → k < length es → entry_address es k ≡ a → FindsEntry (record { room = length ps; entries = es }) a k
-  finds a k l q = record { below = l; value = value_at-here es a k l q (first a k l q); put = λ v. put-here es a v k l q (first a k l q); here = q }
+      new : entry_address (es ++ (a, v) ∷ []) (length es) ≡ a
+      new = ap (λ (e : ℕ × ℕ). e.0) (get_or_push es (a, v) (0, 0) (length es) refl)
 
--- with one entry more
-more : (es : List (ℕ × ℕ)) (ps : List ℕ) (n a : ℕ) → IsIndexed es ps n → a < length ps → IsAbsent es a → IsIndexed (es ++ (a, 0) ∷ []) (set ps a (length es)) (length ps)
-more es ps n a h l absent = record {
-  room = rw length-set h.room;
-  spare = rw length-set (omega arith);
-  below = λ k m. rw length-set (below k (cases_eq k (length es)) m);
-  found = λ k m. found k (cases_eq k (length es)) m;
-}
-  where
-    size : length (es ++ (a, 0) ∷ []) ≡ length es + 1
-    size = length-append es ((a, 0) ∷ [])
+      here : (k : ℕ) → (k ≡ length es) ⊎ (k ≡ length es → ⊥) → k < length (es ++ (a, v) ∷ []) → entry_address (es ++ (a, v) ∷ []) k < length qs
+      here k (inl e) m = rw (e, new) s.reached
+      here k (inr d) m = let i : k < length es = omega (arith, size) in rw (old k i) (omega (arith, h.below k i, s.longer))
 
-    old : (k : ℕ) → k < length es → entry_address (es ++ (a, 0) ∷ []) k ≡ entry_address es k
-    old k m = ap (λ (e : ℕ × ℕ). e.0) (get_or_append_left es ((a, 0) ∷ []) (0, 0) k m)
-
-    new : entry_address (es ++ (a, 0) ∷ []) (length es) ≡ a
-    new = ap (λ (e : ℕ × ℕ). e.0) (get_or_push es (a, 0) (0, 0) (length es) refl)
-
-    below : (k : ℕ) → (k ≡ length es) ⊎ (k ≡ length es → ⊥) → k < length (es ++ (a, 0) ∷ []) → entry_address (es ++ (a, 0) ∷ []) k < length ps
-    below k (inl e) m = rw (e, new) l
-    below k (inr n) m = let s : k < length es = omega (arith, size) in rw (old k s) (h.below k s)
-
-    found : (k : ℕ) → (k ≡ length es) ⊎ (k ≡ length es → ⊥) → k < length (es ++ (a, 0) ∷ []) → get_or (set ps a (length es)) (entry_address (es ++ (a, 0) ∷ []) k) 0 ≡ k
-    found k (inl e) m = rw (e, new) (get_or-set_same ps a (length es) 0 l)
-    found k (inr n) m = let s : k < length es = omega (arith, size) in rw (old k s) (get_or-set_other ps a (entry_address es k) (length es) 0 (λ q. absent k s q) ∙ h.found k s)
-
-pub misses : (es : List (ℕ × ℕ)) (ps : List ℕ) (n : ℕ) (h : IsIndexed es ps n) (a : ℕ) → IsAbsent es a → MissesEntry (record { room = length ps; entries = es }) a
-misses es ps n h a absent = record {
-  absent = absent;
-  value = value_at-absent es a absent;
-  put = λ v. put-absent es a v absent;
-  room = λ l. room l (few (es ++ (a, 0) ∷ []) (set ps a (length es)) (length ps) (more es ps n a h l absent));
-}
-  where
-    room : a < length ps → length (es ++ (a, 0) ∷ []) ≤ length (set ps a (length es)) → length es < length ps
-    room l f = omega (arith, length-append es ((a, 0) ∷ []), length-set ps a (length es))
-
-pub absent_past : (es : List (ℕ × ℕ)) (ps : List ℕ) (n : ℕ) (h : IsIndexed es ps n) (a : ℕ) → length ps ≤ a → IsAbsent es a
-absent_past es ps n h a l k m q = omega (arith, h.below k m)
-
--- what stands at the address's place is past the entries, or another address
-pub absent_else : (es : List (ℕ × ℕ)) (ps : List ℕ) (n : ℕ) (h : IsIndexed es ps n) (a k : ℕ) → get_or ps a k ≡ k → a < length ps → length es ≤ k → IsAbsent es a
-absent_else es ps n h a k e l m j i q = let p : get_or ps a 0 ≡ k = get_or_default ps a 0 k l ∙ e in let r : get_or ps a 0 ≡ j = rw (← q) (h.found j i) in omega arith
-
-pub absent_other : (es : List (ℕ × ℕ)) (ps : List ℕ) (n : ℕ) (h : IsIndexed es ps n) (a k : ℕ) → get_or ps a k ≡ k → a < length ps → (entry_address es k ≡ a → ⊥) → IsAbsent es a
-absent_other es ps n h a k e l m j i q = let p : get_or ps a 0 ≡ k = get_or_default ps a 0 k l ∙ e in let r : get_or ps a 0 ≡ j = rw (← q) (h.found j i) in let s : j ≡ k = sym r ∙ p in m (ap (λ (x : ℕ). entry_address es x) (sym s) ∙ q)
-
--- a number that is written in its place
-pub put_there : (es : List (ℕ × ℕ)) (n : ℕ) (p : CellMap) (a v k : ℕ) (e : ℕ × ℕ) → take n es ≡ p.entries → n ≤ length es → FindsEntry p a k → e ≡ get_or es k e → take n (set es k (e.0, v)) ≡ put_pair p.entries a v
-put_there es n p a v k e view l f is =
-    let below : k < n = omega (arith, f.below, ap length view, length-take-le n es l) in
-    let same : e.0 ≡ a =
-    ap (λ (x : ℕ × ℕ). x.0) (is ∙ get_or_default es k e (0, 0) (omega arith) ∙ sym (get_or-take n es k (0, 0) below))
-    ∙ ap (λ (xs : List (ℕ × ℕ)). entry_address xs k) view
-    ∙ f.here in
-    take-set-lt n es k (e.0, v) below
-    ∙ ap (λ (xs : List (ℕ × ℕ)). set xs k (e.0, v)) view
-    ∙ ap (λ (x : ℕ). set p.entries k (x, v)) same
-    ∙ sym (f.put v)
+      found : (k : ℕ) → (k ≡ length es) ⊎ (k ≡ length es → ⊥) → k < length (es ++ (a, v) ∷ []) → place_noted qs (entry_address (es ++ (a, v) ∷ []) k) ≡ k
+      found k (inl e) m = rw (e, new) s.here
+      found k (inr d) m = let i : k < length es = omega (arith, size) in rw (old k i) (s.others (entry_address es k) (absent k i) ∙ h.found k i)
 
 -- what is found after a write
 pub value_at_put : (es : List (ℕ × ℕ)) (a v b : ℕ) → value_for (put_pair es a v) b ≡ (if a == b then Some v else value_for es b)

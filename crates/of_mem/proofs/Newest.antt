@@ -4,13 +4,11 @@ use Rattle.std.proofs.lemmas.Bool.{cases_eq}
 use Rattle.std.proofs.lemmas.Bool.Decides.{nat_tests}
 use Rattle.std.proofs.lemmas.List.{drop_more, get_or-drop, length-drop, get_or-set_same, get_or-set_other}
 use Rattle.std.specs.Option.{option_or}
-use Rattle.of_mem.specs.Pairs.{CellMap, IsCellMap, value_for, put_pair, put_all, entry_address, IsAbsent}
-use Rattle.of_mem.specs.Pad.{Part, newest_at, newer_of, empty_part, learn, write, keep}
+use Rattle.std.proofs.lemmas.Bool.{ne_eqb as differs}
+use Rattle.of_mem.specs.CellMap.{CellMap, IsCellMap, value_for, put_pair, put_all, entry_address, IsAbsent}
+use Rattle.of_mem.specs.Part.{Part, newest_at, newer_of, empty_part, learn, write, keep}
 use Rattle.of_mem.specs.Newest.{HasNewest}
 use Rattle.of_mem.proofs.Indexed.{value_at_put, value_at-absent}
-
-differs : (a b : ℕ) → (a ≡ b → ⊥) → (a == b) ≡ false
-differs a b e = grind (arith, nat_tests)
 
 equals : (a : ℕ) → (a == a) ≡ true
 equals a = grind (arith, nat_tests)

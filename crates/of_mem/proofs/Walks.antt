@@ -1,6 +1,6 @@
 -- The walk of a key: one block more, and what it passed where more is known.
 use Rattle.std.proofs.Common.{◌≡◌, ◌≢◌, ℕ, zero, suc, ◌+◌, Some, None, get_or, set, refl, sym, subst, arith}
-use Rattle.of_mem.specs.Pad.{Part, newest_at, learn}
+use Rattle.of_mem.specs.Part.{Part, newest_at, learn}
 use Rattle.of_mem.specs.Stores.{first_at, link_at}
 use Rattle.of_mem.specs.Walks.{Passes}
 use Rattle.of_mem.proofs.Extended.{extends_learnt, newest_more}

@@ -3,13 +3,14 @@ use Rattle.std.specs.Prelude.{◌≡◌, ℕ, length, Result, MatchResult, IfOk}
 use Rattle.of_mem.specs.declared.part.Need.{Need}
 use Rattle.of_mem.specs.declared.plot.Plot.{Plot}
 use Rattle.of_mem.specs.Plots.{base, data_cell_count}
-use Rattle.of_mem.specs.Pad.{Part}
+use Rattle.of_mem.specs.Part.{Part}
 use Rattle.of_mem.specs.Programs.{Program, RunsAs, NeedsAt, IsPartOf, with_writes}
 use Rattle.of_mem.specs.Stores.{CellStore, StandsForStore}
 
 -- the call ran as this program: it answered and left what the program does, or named the cell
 -- that the program lacks; what is known and what the batch wrote stay
-pub record RunsProgram {A : Type 0} (f : Program A) (before after : Part) (result : Result A Need) : Type 0 where
+pub record RunsProgram {A : Type 0} (f : Program A) (before after : Part) (result : Result A Need)
+    : Type 0 where
   pub walk : MatchResult result (λ r. RunsAs f before r after) (λ need. NeedsAt f before need.addr)
   pub known : after.known ≡ before.known
   pub batch : after.batch ≡ before.batch
@@ -29,16 +30,21 @@ pub record HasStore (plot : Plot) (p : Part) : Type 0 where
 -- whatever the store is, a call that found its cells answers this
 abbrev pub AnswersOfStore : {A : Type 0} → Plot → Part → Result A Need → (CellStore → A) → Type 0
 AnswersOfStore plot p result answer =
-    IfOk result (λ r. (m : ℕ → ℕ) (s : CellStore) → IsPartOf p m → PlotStandsForStore plot m s → r ≡ answer s)
+    IfOk result (λ r. (m : ℕ → ℕ) (s : CellStore) → IsPartOf p m → PlotStandsForStore plot m s
+    → r ≡ answer s)
 
 -- the call answered this of the store s in the memory m, which, with what the script has written,
 -- stands for the store that comes next
-pub record HasActedOnStore {A : Type 0} (plot : Plot) (m : ℕ → ℕ) (s : CellStore) (r : A) (after : Part) (answer : CellStore → A) (next : CellStore → CellStore) : Type 0 where
+pub record HasActedOnStore {A : Type 0} (plot : Plot) (m : ℕ → ℕ) (s : CellStore) (r : A)
+    (after : Part) (answer : CellStore → A) (next : CellStore → CellStore) : Type 0 where
   pub answers : r ≡ answer s
   pub part : IsPartOf after (with_writes m after.script)
   pub stands : PlotStandsForStore plot (with_writes m after.script) (next s)
 
 -- whatever the store is, a call that found its cells does this to it
-abbrev pub ActsOnStore : {A : Type 0} → Plot → Part → Part → Result A Need → (CellStore → A) → (CellStore → CellStore) → Type 0
+abbrev pub ActsOnStore : {A : Type 0} → Plot → Part → Part → Result A Need
+    → (CellStore → A) → (CellStore → CellStore) → Type 0
 ActsOnStore plot before after result answer next =
-    IfOk result (λ r. (m : ℕ → ℕ) (s : CellStore) → IsPartOf before m → PlotStandsForStore plot m s → HasActedOnStore plot m s r after answer next)
+    IfOk result (λ r. (m : ℕ → ℕ) (s : CellStore)
+    → IsPartOf before m → PlotStandsForStore plot m s
+    → HasActedOnStore plot m s r after answer next)

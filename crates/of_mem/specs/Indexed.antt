@@ -1,15 +1,32 @@
--- How the code keeps pairs: each entry's place is noted at its address, and a note counts only where that entry names the address.
-use Rattle.std.specs.Prelude.{◌≡◌, ℕ, ◌<◌, ◌≤◌, List, ◌∷◌, [], ◌++◌, length, Some, None}
+-- How the code keeps pairs: each entry's place is noted at its address, and a note counts only where
+-- that entry names the address.
+use Rattle.std.specs.Prelude.{◌≡◌, ◌≢◌, ℕ, ◌<◌, ◌≤◌, List, ◌∷◌, [], ◌++◌, length, Some, None}
 use Rattle.std.proofs.Common.{get_or, set}
 use Rattle.of_mem.specs.Numbers.{FitsCell}
-use Rattle.of_mem.specs.Pairs.{CellMap, value_for, put_pair, entry_address, IsAbsent}
+use Rattle.of_mem.specs.CellMap.{CellMap, value_for, put_pair, entry_address, IsAbsent}
 
--- the places fit the entries, of which there is room for one at each address
-pub record IsIndexed (entries : List (ℕ × ℕ)) (places : List ℕ) (capacity : ℕ) : Type 0 where
-  pub room : FitsCell (length places)
-  pub spare : length places ≤ capacity
+-- the place that is noted at an address, and 0 at one to which no note has come
+abbrev pub place_noted : List ℕ → ℕ → ℕ
+place_noted places a = get_or places a 0
+
+-- the places fit the entries, and there is room for an entry and a place at each address
+pub record IsIndexed (room : ℕ) (entries : List (ℕ × ℕ)) (places : List ℕ)
+    (entry_room place_room : ℕ) : Type 0 where
+  pub fits : FitsCell room
+  pub spare : room ≤ entry_room
+  pub spare_places : room ≤ place_room
+  pub few_places : length places ≤ room
   pub below : (k : ℕ) → k < length entries → entry_address entries k < length places
-  pub found : (k : ℕ) → k < length entries → get_or places (entry_address entries k) 0 ≡ k
+  pub found : (k : ℕ) → k < length entries → place_noted places (entry_address entries k) ≡ k
+
+-- a place is noted at an address, and the other notes stay
+pub record SetsPlace (old new : List ℕ) (addr place : ℕ) : Type 0 where
+  pub here : place_noted new addr ≡ place
+  pub others : (a : ℕ) → a ≢ addr → place_noted new a ≡ place_noted old a
+  -- no more notes are made than up to the address
+  pub longer : length old ≤ length new
+  pub reached : addr < length new
+  pub below : (n : ℕ) → length old ≤ n → addr < n → length new ≤ n
 
 -- the address stands in entry k
 pub record FindsEntry (p : CellMap) (a k : ℕ) : Type 0 where

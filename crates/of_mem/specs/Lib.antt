@@ -1,11 +1,11 @@
 pub mod Meaning
-pub mod Pairs
+pub mod CellMap
 pub mod Indexed
 pub mod Eras
 pub mod Newest
 pub mod Numbers
-pub mod Pad
-pub mod Remains
+pub mod Part
+pub mod SuspendedRun
 pub mod Places
 pub mod Plots
 pub mod Programs

@@ -1,4 +1,5 @@
--- What a work means: what an operation does to a lawful list of cells, and how a run that knows only some cells goes.
+-- What a work means: what an operation does to a lawful list of cells, and how a run that knows
+-- only some cells goes.
 use Rattle.std.specs.Prelude.{◌≡◌, ℕ, ◌+◌, ◌*◌, ◌^◌, ◌/◌, ◌%◌, ◌==◌, ◌<◌, ◌≤◌, List, [], ◌∷◌, length, Option, Some, None, Bool, true, false, Result, MatchResult}
 use Rattle.std.specs.List.{All}
 use Rattle.of_mem.specs.declared.work.TheConstants.{MOST_INSTRS, MOST_CALLERS, MOST_DATA_CELLS, LEAST_ABORT}
@@ -7,7 +8,8 @@ use Rattle.std.proofs.Common.{get_or, set, drop}
 use Rattle.of_mem.specs.declared.part.Need.{Need}
 use Rattle.of_mem.specs.declared.work.RawReply.{RawReply}
 
--- how a run on known cells ends: at a cell that it needs and that isn't known, or with its writes in order of first writing and its reply
+-- how a run on known cells ends: at a cell that it needs and that isn't known, or with its writes
+-- in order of first writing and its reply
 pub data WalkEnd : Type 0 where
   Needs : ℕ → WalkEnd
   Gives : List (ℕ × ℕ) → RawReply → WalkEnd
@@ -37,7 +39,8 @@ KnowsSome lawful size known = (xs : List ℕ) × (length xs ≡ size) × lawful 
 
 -- the run went as the walk on these known cells: it gave the walk's writes and reply, or named the
 -- cell that the walk needs, with no writes and the reply as before
-abbrev pub RunsAsWalked : Meaning → List (Option ℕ) → List ℕ → Result (Unit {0}) Need → List (ℕ × ℕ) → RawReply → RawReply → Type 0
+abbrev pub RunsAsWalked : Meaning → List (Option ℕ) → List ℕ → Result (Unit {0}) Need
+    → List (ℕ × ℕ) → RawReply → RawReply → Type 0
 RunsAsWalked M known op result script before after =
     MatchResult result (λ _. M.walk known op ≡ Gives script after)
     (λ need. (M.walk known op ≡ Needs need.addr) × (script ≡ []) × (after ≡ before))
@@ -52,10 +55,13 @@ is_marked shape j = shape / 2 ^ j % 2 == 1
 
 -- no cell stands twice in it
 abbrev pub HasDistinctCells : List (ℕ × ℕ) → Type 0
-HasDistinctCells es = (j k : ℕ) → j < length es → k < length es → (get_or es j (0, 0)).0 ≡ (get_or es k (0, 0)).0 → j ≡ k
+HasDistinctCells es =
+    (j k : ℕ) → j < length es → k < length es
+    → (get_or es j (0, 0)).0 ≡ (get_or es k (0, 0)).0 → j ≡ k
 
 -- what a finished walk says is so of the list
-pub record IsFinishedWalk (M : Meaning) (base size : ℕ) (xs op : List ℕ) (es : List (ℕ × ℕ)) (r : RawReply) : Type 0 where
+pub record IsFinishedWalk (M : Meaning) (base size : ℕ) (xs op : List ℕ) (es : List (ℕ × ℕ))
+    (r : RawReply) : Type 0 where
   pub inside : All (λ (e : ℕ × ℕ). (base ≤ e.0) × (e.0 < size) × FitsCell e.1) es
   pub once : HasDistinctCells es
   pub cells : M.cells xs op ≡ with_writes_in xs es
@@ -63,7 +69,8 @@ pub record IsFinishedWalk (M : Meaning) (base size : ℕ) (xs op : List ℕ) (es
   pub shape : FitsCell r.shape
   pub values : All FitsCell r.values
   -- a number is marked only for an instruction of a script that wasn't aborted
-  pub marks : (j : ℕ) → j < MOST_INSTRS → is_marked r.shape j ≡ true → (r.shape < LEAST_ABORT) × (j < length op) × (j < length r.values)
+  pub marks : (j : ℕ) → j < MOST_INSTRS → is_marked r.shape j ≡ true
+      → (r.shape < LEAST_ABORT) × (j < length op) × (j < length r.values)
   -- 0 stands where none is marked
   pub rest : (j : ℕ) → j < MOST_INSTRS → is_marked r.shape j ≡ false → get_or r.values j 0 ≡ 0
   -- an operation that only reads writes nothing
@@ -87,8 +94,15 @@ pub record IsSoundMeaning (M : Meaning) (lawful : List ℕ → Type 0) (base siz
   pub leads : (xs op : List ℕ) → length xs ≡ size → lawful xs → lawful (M.cells xs op)
   pub keeps_length : (xs op : List ℕ) → length xs ≡ size → length (M.cells xs op) ≡ size
   -- nothing below base is read
-  pub lawful_from : (xs ys : List ℕ) → length xs ≡ size → length ys ≡ size → SameFrom base xs ys → lawful xs → lawful ys
-  pub cells_from : (xs ys op : List ℕ) → length xs ≡ size → length ys ≡ size → SameFrom base xs ys → SameFrom base (M.cells xs op) (M.cells ys op)
-  pub reply_from : (xs ys op : List ℕ) → length xs ≡ size → length ys ≡ size → SameFrom base xs ys → M.reply xs op ≡ M.reply ys op
-  pub walk_from : (known others : List (Option ℕ)) (op : List ℕ) → length known ≡ size → length others ≡ size → drop base known ≡ drop base others → M.walk known op ≡ M.walk others op
-  pub walks : (known : List (Option ℕ)) (xs op : List ℕ) → length xs ≡ size → lawful xs → Agrees known xs → WalkFits M base size known xs op (M.walk known op)
+  pub lawful_from : (xs ys : List ℕ) → length xs ≡ size → length ys ≡ size → SameFrom base xs ys
+      → lawful xs → lawful ys
+  pub cells_from : (xs ys op : List ℕ) → length xs ≡ size → length ys ≡ size → SameFrom base xs ys
+      → SameFrom base (M.cells xs op) (M.cells ys op)
+  pub reply_from : (xs ys op : List ℕ) → length xs ≡ size → length ys ≡ size → SameFrom base xs ys
+      → M.reply xs op ≡ M.reply ys op
+  pub walk_from : (known others : List (Option ℕ)) (op : List ℕ)
+      → length known ≡ size → length others ≡ size → drop base known ≡ drop base others
+      → M.walk known op ≡ M.walk others op
+  pub walks : (known : List (Option ℕ)) (xs op : List ℕ)
+      → length xs ≡ size → lawful xs → Agrees known xs
+      → WalkFits M base size known xs op (M.walk known op)

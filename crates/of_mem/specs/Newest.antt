@@ -1,7 +1,7 @@
 -- What each cell holds, kept beside the numbers of which it is the newest.
 use Rattle.std.specs.Prelude.{◌≡◌, ℕ, ◌<◌, List, length, Option, None}
 use Rattle.std.proofs.Common.{get_or}
-use Rattle.of_mem.specs.Pad.{Part, newest_at}
+use Rattle.of_mem.specs.Part.{Part, newest_at}
 
 -- at each address stands what the cell holds, as far as it is known
 pub record HasNewest (p : Part) (cells : List (Option ℕ)) : Type 0 where

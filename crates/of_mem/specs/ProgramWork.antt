@@ -5,7 +5,7 @@ use Rattle.std.proofs.Common.{get_or}
 use Rattle.of_mem.specs.declared.work.RawReply.{RawReply}
 use Rattle.of_mem.specs.declared.work.TheConstants.{MOST_INSTRS, LEAST_ABORT}
 use Rattle.of_mem.specs.Numbers.{FitsCell}
-use Rattle.of_mem.specs.Pad.{Part}
+use Rattle.of_mem.specs.Part.{Part}
 use Rattle.of_mem.specs.Programs.{Program, RunEnd, Lacks, Ends, run_program, program_answer, memory_after, program_writes, StaysBetween, StaysFrom, OnlyReads}
 use Rattle.of_mem.specs.Meaning.{Meaning, WalkEnd, Needs, Gives, with_writes_in, is_marked}
 
@@ -22,26 +22,34 @@ abbrev pub walk_of_run : (RawReply → Bool) → RunEnd RawReply → WalkEnd
 walk_of_run keeps (Lacks a) = Needs a
 walk_of_run keeps (Ends r q) = Gives (cond (keeps r) q.script []) r
 
--- what operations do that are programs; keeps says which replies are a success, reads which operations are known to write nothing
+-- what operations do that are programs; keeps says which replies are a success, reads which
+-- operations are known to write nothing
 abbrev pub meaning_of : (RawReply → Bool) → (List ℕ → Bool) → (List ℕ → Program RawReply) → Meaning
 meaning_of keeps reads program = record {
-  cells = λ xs op. cond (keeps (program_answer (program op) (memory_of xs))) (with_writes_in xs (program_writes (program op) (memory_of xs))) xs;
+  cells = λ xs op. cond (keeps (program_answer (program op) (memory_of xs)))
+      (with_writes_in xs (program_writes (program op) (memory_of xs))) xs;
   reply = λ xs op. program_answer (program op) (memory_of xs);
   walk = λ known op. walk_of_run keeps (run_program (program op) (fresh_part known));
   reads_only = reads;
 }
 
--- a reply of words, whose marked numbers belong to instructions of a script that wasn't aborted, and that has 0 elsewhere
+-- a reply of words, whose marked numbers belong to instructions of a script that wasn't aborted,
+-- and that has 0 elsewhere
 pub record IsReplyTo (op : List ℕ) (r : RawReply) : Type 0 where
   pub shape : FitsCell r.shape
   pub values : All FitsCell r.values
-  pub marks : (j : ℕ) → j < MOST_INSTRS → is_marked r.shape j ≡ true → (r.shape < LEAST_ABORT) × (j < length op) × (j < length r.values)
+  pub marks : (j : ℕ) → j < MOST_INSTRS → is_marked r.shape j ≡ true
+      → (r.shape < LEAST_ABORT) × (j < length op) × (j < length r.values)
   pub rest : (j : ℕ) → j < MOST_INSTRS → is_marked r.shape j ≡ false → get_or r.values j 0 ≡ 0
 
--- what is asked of the programs, for a work of this size whose operations begin at this cell and keep memory lawful
-pub record AreSound (keeps : RawReply → Bool) (reads : List ℕ → Bool) (program : List ℕ → Program RawReply) (lawful : (ℕ → ℕ) → Type 0) (low size : ℕ) : Type 0 where
+-- what is asked of the programs, for a work of this size whose operations begin at this cell and
+-- keep memory lawful
+pub record AreSound (keeps : RawReply → Bool) (reads : List ℕ → Bool)
+    (program : List ℕ → Program RawReply) (lawful : (ℕ → ℕ) → Type 0) (low size : ℕ)
+    : Type 0 where
   pub zeros : (m : ℕ → ℕ) → ((a : ℕ) → m a ≡ 0) → lawful m
-  pub leads : (m : ℕ → ℕ) (op : List ℕ) → lawful m → keeps (program_answer (program op) m) ≡ true → lawful (memory_after (program op) m)
+  pub leads : (m : ℕ → ℕ) (op : List ℕ) → lawful m
+      → keeps (program_answer (program op) m) ≡ true → lawful (memory_after (program op) m)
   -- nothing below low matters
   pub lawful_from : (m n : ℕ → ℕ) → ((a : ℕ) → low ≤ a → m a ≡ n a) → lawful m → lawful n
   pub stays : (op : List ℕ) → StaysFrom low (program op)

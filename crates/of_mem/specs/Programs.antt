@@ -1,9 +1,10 @@
--- Programs that read and write cells, one after the other: what a call over cells reads and writes, and in which order. The cells of a whole memory are a function from their numbers.
+-- Programs that read and write cells, one after the other: what a call over cells reads and writes,
+-- and in which order. The cells of a whole memory are a function from their numbers.
 use Rattle.std.specs.Prelude.{◌≡◌, ℕ, cond, eqb, ◌<◌, ◌≤◌, List, [], ◌∷◌, Option, Some, None}
 use Rattle.std.specs.Option.{unwrap_or}
 use Rattle.of_mem.specs.Numbers.{FitsCell}
-use Rattle.of_mem.specs.Pairs.{value_for}
-use Rattle.of_mem.specs.Pad.{Part, newest_at, write}
+use Rattle.of_mem.specs.CellMap.{value_for}
+use Rattle.of_mem.specs.Part.{Part, newest_at, write}
 
 pub data Program (A : Type 0) : Type 0 where
   Done : A → Program A
@@ -66,11 +67,13 @@ program_writes (Done r) m = []
 program_writes (Read a k) m = program_writes (k (m a)) m
 program_writes (Write a v f) m = (a, v) ∷ program_writes f (with_value m a v)
 
--- on this memory each cell that it reads or writes lies between the two, and each number that it writes is a word
+-- on this memory each cell that it reads or writes lies between the two, and each number that it
+-- writes is a word
 abbrev pub StaysBetween : {A : Type 0} → ℕ → ℕ → Program A → (ℕ → ℕ) → Type 0
 StaysBetween low size (Done r) m = Unit {0}
 StaysBetween low size (Read a k) m = (low ≤ a) × (a < size) × StaysBetween low size (k (m a)) m
-StaysBetween low size (Write a v f) m = (low ≤ a) × (a < size) × FitsCell v × StaysBetween low size f (with_value m a v)
+StaysBetween low size (Write a v f) m =
+    (low ≤ a) × (a < size) × FitsCell v × StaysBetween low size f (with_value m a v)
 
 -- on every memory it reads and writes no cell before this one
 abbrev pub StaysFrom : {A : Type 0} → ℕ → Program A → Type 0

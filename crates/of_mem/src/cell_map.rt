@@ -1,36 +1,37 @@
 //! A map from cells to numbers, in order of first writing.
 
-ghost use Rattle.std.specs.Prelude.{◌↔◌, IsTrue, ◌≡◌, ◌<◌, [], length, IfOk, MatchOption, slice_index_or};
-ghost use Rattle.of_mem.specs.Pairs.{value_for, put_pair, IsCellMap};
-ghost use Rattle.of_mem.specs.Indexed.{FindsEntry, MissesEntry};
+ghost use Rattle.std.specs.Prelude.{◌↔◌, IsTrue, ◌≡◌, ◌<◌, ◌≤◌, [], length, IfOk, MatchOption, slice_index_or};
+ghost use Rattle.std.specs.Vec.{vec_capacity};
+ghost use Rattle.of_mem.specs.CellMap.{value_for, put_pair, IsCellMap};
+ghost use Rattle.of_mem.specs.Indexed.{FindsEntry, MissesEntry, SetsPlace};
 
 use std::alloc::{AllocError, Global};
 use std::marker::Model;
 
-/// A map from cells to numbers, in order of first writing. Each call but `new` takes the same time,
-/// however many cells there are.
+/// A map from cells to numbers, in order of first writing. Only `new` takes memory, and it fills
+/// none of it. The other calls take the same time, however many entries there are; but a write to
+/// an address above all earlier ones also fills the places up to it.
 #[derive(Drop)]
 pub struct CellMap {
-    /// As many places as there are addresses. The first `count` are the entries.
+    room: u32,
     entries: Vec<(u32, u32)>,
-    count: u32,
     /// At each address that is there, the place of its entry. What stands at another address is
-    /// left over from earlier.
+    /// left over from earlier. No address past the end is there.
     places: Vec<u32>,
 }
 
 impl Model for CellMap {
-    ghost use Rattle.of_mem.specs.Pairs.{CellMap};
+    ghost use Rattle.of_mem.specs.CellMap.{CellMap};
 
     ghost Value = { CellMap };
 
-    ghost use Rattle.std.specs.Prelude.{◌≤◌, length, take};
+    ghost use Rattle.std.specs.Vec.{vec_capacity};
     ghost use Rattle.of_mem.specs.Indexed.{IsIndexed};
 
-    ghost view = { λ w. record { room = length w.places.items; entries = take w.count w.entries.items } };
+    ghost view = { λ w. record { room = w.room; entries = w.entries.items } };
 
-    ghost invariant = { λ w. (w.count ≤ length w.entries.items)
-        × IsIndexed (take w.count w.entries.items) w.places.items (length w.entries.items) };
+    ghost invariant = { λ w. IsIndexed w.room w.entries.items w.places.items
+        (vec_capacity w.entries) (vec_capacity w.places) };
 }
 
 impl CellMap {
@@ -39,11 +40,11 @@ impl CellMap {
         ensures entries { IfOk result (λ w. w.entries ≡ []) }
         ensures room { IfOk result (λ w. w.room ≡ room) }
     {
-        let entries = vec![in alloc; (0, 0); room as usize]?;
-        let places = vec![in alloc; 0; room as usize]?;
+        let entries = Vec::with_capacity(alloc, room as usize)?;
+        let places = Vec::with_capacity(alloc, room as usize)?;
         Ok(CellMap {
+            room,
             entries,
-            count: 0,
             places,
         })
     }
@@ -53,24 +54,17 @@ impl CellMap {
         ensures value { result ≡ length self.now.entries }
         ensures map { IsCellMap self.now }
     {
-        self.count
+        self.entries.len() as u32
     }
 
-    /// The place of an address among the entries.
+    // The place of an address among the entries.
     fn find(&self, addr: u32) -> Option<usize>
         ensures place { MatchOption result (MissesEntry self.now addr) (FindsEntry self.now addr) }
         ensures map { IsCellMap self.now }
     {
-        let place = *self.places.get(addr as usize)?;
-        if place >= self.count {
-            return None;
-        }
-        let (at, _) = self.entries[place as usize];
-        if at == addr {
-            Some(place as usize)
-        } else {
-            None
-        }
+        let place = *self.places.get(addr as usize)? as usize;
+        let (at, _) = *self.entries.get(place)?;
+        if at == addr { Some(place) } else { None }
     }
 
     /// The number at an address.
@@ -90,9 +84,9 @@ impl CellMap {
         match self.find(addr) {
             Some(place) => self.entries[place].1 = value,
             None => {
-                self.places[addr as usize] = self.count;
-                self.entries[self.count as usize] = (addr, value);
-                self.count += 1;
+                set_place(&mut self.places, addr, self.entries.len() as u32);
+                // there is room for each address below `room`
+                self.entries.push_reserved((addr, value));
             }
         }
     }
@@ -111,14 +105,14 @@ impl CellMap {
         ensures entries { self.new.entries ≡ [] }
         ensures room { self.new.room ≡ self.old.room }
     {
-        self.count = 0;
+        self.entries.clear();
     }
 
     /// Whether its entries are those of another one, in the same order.
     pub fn has_entries_of(&self, other: &CellMap) -> bool
         ensures { IsTrue result ↔ (self.now.entries ≡ other.now.entries) }
     {
-        self.entries[..self.count as usize] == other.entries[..other.count as usize]
+        self.entries.as_slice() == other.entries.as_slice()
     }
 
     /// Takes the entries of another one.
@@ -133,4 +127,20 @@ impl CellMap {
             self.put(addr, value);
         }
     }
+}
+
+/// Notes a place at an address.
+fn set_place(places: &mut Vec<u32>, addr: u32, place: u32)
+    requires { addr < vec_capacity places.old }
+    ensures places { SetsPlace places.old.items places.new.items addr place }
+    ensures capacity { vec_capacity places.old ≤ vec_capacity places.new }
+{
+    let at = addr as usize;
+    if places.len() <= at {
+        match places.resize(at + 1, 0) {
+            Ok(()) => {}
+            Err(_) => unreachable!(),
+        }
+    }
+    places[at] = place;
 }

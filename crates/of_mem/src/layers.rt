@@ -3,8 +3,8 @@
 ghost use Rattle.std.specs.Prelude.{◌≡◌, ◌<◌, ◌≤◌, ◌↔◌, IsTrue, [], length, slice_index_or, IfOk, None};
 ghost use Rattle.std.proofs.Common.{get_or, is_some};
 ghost use Rattle.std.specs.Option.{option_or};
-ghost use Rattle.of_mem.specs.Pairs.{value_for};
-ghost use Rattle.of_mem.specs.Pad.{empty_part, learn, write, keep, ReadsAt};
+ghost use Rattle.of_mem.specs.CellMap.{value_for};
+ghost use Rattle.of_mem.specs.Part.{empty_part, learn, write, keep, ReadsAt};
 
 use crate::cell_map::CellMap;
 use crate::part::Need;
@@ -12,32 +12,40 @@ use crate::slots::Slots;
 use std::alloc::{AllocError, Global};
 use std::marker::Model;
 
-/// The cells that are known, what a batch of scripts wrote over them, and what a script wrote over
-/// both. A contract sees what `Part` shows of them.
+// The cells that are known, what a batch of scripts wrote over them, and what a script wrote over
+// both. A contract sees what `Part` shows of them.
 #[derive(Drop)]
 pub(crate) struct Layers {
     known: Slots,
     batch: CellMap,
     script: CellMap,
-    /// What each cell holds, so that a read is one look-up.
+    // What each cell holds, so that a read is one look-up.
     newest: Slots,
 }
 
 impl Model for Layers {
-    ghost use Rattle.of_mem.specs.Pad.{Part};
+    ghost use Rattle.of_mem.specs.Part.{Part};
 
     ghost Value = { Part };
 
     ghost use Rattle.std.specs.Prelude.{◌≡◌, length};
     ghost use Rattle.of_mem.specs.Newest.{HasNewest};
 
-    ghost view = { λ p. record { known = p.known; batch = p.batch.entries; script = p.script.entries } };
+    ghost view = { λ p. record {
+      known = p.known;
+      batch = p.batch.entries;
+      script = p.script.entries;
+    } };
 
     ghost invariant = { λ p. (p.batch.room ≡ length p.known) × (p.script.room ≡ length p.known)
-        × HasNewest (record { known = p.known; batch = p.batch.entries; script = p.script.entries }) p.newest };
+        × HasNewest (record {
+          known = p.known;
+          batch = p.batch.entries;
+          script = p.script.entries;
+        }) p.newest };
 }
 
-#[tactic(auto, unfolding(crate::specs::Pad::newest_at, crate::specs::Pad::write))]
+#[tactic(auto, unfolding(crate::specs::Part::newest_at, crate::specs::Part::write))]
 impl Layers {
     /// A memory of the cells below `cells` of which nothing is known. The error is that there is no
     /// memory.
@@ -66,10 +74,11 @@ impl Layers {
         self.newest.set(addr, over.or(Some(value)));
     }
 
-    /// What the script or else the batch wrote into a cell.
+    // What the script or else the batch wrote into a cell.
     fn written(&self, addr: u32) -> Option<u32>
         requires { addr < length self.now.known }
-        ensures { result ≡ option_or (value_for self.now.script addr) (value_for self.now.batch addr) }
+        ensures { result
+            ≡ option_or (value_for self.now.script addr) (value_for self.now.batch addr) }
     {
         // a cell that was written holds a number
         self.newest.get(addr)?;

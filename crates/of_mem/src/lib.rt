@@ -2,17 +2,17 @@
 #![tactic(auto)]
 
 mod cell_map;
-mod kept;
 pub mod laws;
 mod layers;
 mod part;
 mod plot;
 mod slots;
+mod suspended_run;
 mod work;
 mod workspace;
 
-pub use kept::{Keeps, Kept};
 pub use part::{Need, Part, Walk};
 pub use plot::{BUCKETS, MOST_BLOCKS, Plot, QUEUES, REGISTERS};
+pub use suspended_run::{MaySuspend, SuspendedRun};
 pub use work::{LEAST_ABORT, MOST_CALLERS, MOST_DATA_CELLS, MOST_INSTRS, RawReply, Work};
 pub use workspace::Workspace;

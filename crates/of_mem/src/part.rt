@@ -2,7 +2,7 @@
 
 ghost use Rattle.std.specs.Prelude.{◌≡◌, ◌<◌, ◌≤◌, ◌%◌, [], length, slice_index_or, IfOk, None};
 ghost use Rattle.std.proofs.Common.{get_or, is_some};
-ghost use Rattle.of_mem.specs.Pad.{empty_part, learn, write, keep, ReadsAt};
+ghost use Rattle.of_mem.specs.Part.{empty_part, learn, write, keep, ReadsAt};
 ghost use Rattle.of_mem.specs.declared.plot.TheConstants.{BUCKETS};
 ghost use Rattle.of_mem.specs.Places.{bucket_at};
 ghost use Rattle.of_mem.specs.Plots.{base};
@@ -28,7 +28,7 @@ pub struct Walk {
     pub passed: u32,
 }
 
-/// The walk of which key, over cells of a store that begin at which one.
+// The walk of which key, over cells of a store that begin at which one.
 #[derive(Clone, Copy, Debug, PartialEq, Eq)]
 struct KeyWalk {
     base: u32,
@@ -42,29 +42,30 @@ struct KeyWalk {
 #[derive(Drop)]
 pub struct Part {
     layers: Layers,
-    /// Whether the script's writes are undone, though they still stand in the layers: a script that
-    /// goes on where it stopped has written the same.
+    // Whether the script's writes are undone, though they still stand in the layers: a script that
+    // goes on where it stopped has written the same.
     undone: bool,
-    /// The last walk of a key that was kept, so that a run that lacked a cell goes on in the middle
-    /// of a bucket. None is kept where it passed no block.
+    // The last walk of a key that was kept, so that a run that lacked a cell goes on in the middle
+    // of a bucket. None is kept where it passed no block.
     last: KeyWalk,
 }
 
 impl Model for Part {
-    ghost use Rattle.of_mem.specs.Pad.{Part};
+    ghost use Rattle.of_mem.specs.Part.{Part};
 
     ghost Value = { Part };
 
     ghost use Rattle.std.specs.Prelude.{◌≤◌, ◌%◌};
     ghost use Rattle.of_mem.specs.declared.plot.TheConstants.{BUCKETS};
-    ghost use Rattle.of_mem.specs.Pad.{visible};
+    ghost use Rattle.of_mem.specs.Part.{visible};
     ghost use Rattle.of_mem.specs.Places.{bucket_at};
     ghost use Rattle.of_mem.specs.Walks.{Passes};
 
     ghost view = { λ p. visible p.undone p.layers };
 
     ghost invariant = { λ p. 1 ≤ p.last.walk.passed
-        → Passes p.last.base p.last.key p.layers p.last.walk.passed (bucket_at p.last.base (p.last.key % BUCKETS)) p.last.walk.cell };
+        → Passes p.last.base p.last.key p.layers p.last.walk.passed
+        (bucket_at p.last.base (p.last.key % BUCKETS)) p.last.walk.cell };
 }
 
 impl Part {
@@ -96,7 +97,7 @@ impl Part {
         self.layers.learn(addr, value);
     }
 
-    /// Whether a cell's number is known.
+    // Whether a cell's number is known.
     pub(crate) fn knows(&self, addr: u32) -> bool
         requires { addr < length self.now.known }
         ensures { result ≡ is_some (get_or self.now.known addr None) }
@@ -215,7 +216,7 @@ impl Part {
         }
     }
 
-    /// Copies what the script wrote.
+    // Copies what the script wrote.
     pub(crate) fn copy_script(&self, to: &mut CellMap)
         requires { to.old.room ≡ length self.now.known }
         ensures entries { to.new.entries ≡ self.now.script }
@@ -228,8 +229,8 @@ impl Part {
         }
     }
 
-    /// Lets these be what the script wrote. It takes no time where the script wrote the same before
-    /// it was undone, but for a look.
+    // Lets these be what the script wrote. It takes no time where the script wrote the same before
+    // it was undone, but for a look.
     pub(crate) fn set_script(&mut self, writes: &CellMap)
         requires { writes.now.room ≡ length self.old.known }
         ensures { self.new ≡ record self.old { script = writes.now.entries } }

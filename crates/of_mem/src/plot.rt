@@ -52,7 +52,7 @@ impl Plot {
     ghost use Rattle.of_mem.specs.Plots.{base, data_cell_count};
     ghost use Rattle.of_mem.specs.Places.{ticket_cell_at, shape_at, reply_at, register_at, fresh_at, free_at, keys_at, bucket_at, head_at, tail_at, length_at, block_at};
 
-    /// The first cell of a caller.
+    // The first cell of a caller.
     fn row(&self, caller: u32) -> u32
         requires { caller ≤ self.now.callers }
         ensures value { result ≡ ticket_cell_at self.now.instrs caller }

@@ -1,18 +1,23 @@
 //! A number or none for each cell.
 
-ghost use Rattle.std.specs.Prelude.{◌≡◌, ◌<◌, length, IfOk, None};
+ghost use Rattle.std.specs.Prelude.{◌≡◌, ◌+◌, ◌<◌, ◌≤◌, length, IfOk, None};
+ghost use Rattle.std.specs.Vec.{vec_capacity};
 ghost use Rattle.std.proofs.Common.{get_or, set, replicate};
+ghost use Rattle.of_mem.specs.Eras.{all_slots, slot_number};
 
 use std::alloc::{AllocError, Global};
 use std::marker::Model;
 
-/// A number or none for each of some cells. `get` and `set` are one access, and `clear` takes the
-/// same time however many cells there are, but once in 2^32 - 2 calls.
+/// A number or none for each of some cells. Only `new` takes memory, and it fills none of it. `get`
+/// and `set` are one access, but the first `set` at a cell above all earlier ones also fills the
+/// slots up to it. `clear` takes the same time however many cells there are.
 #[derive(Drop)]
 pub struct Slots {
+    cells: u32,
     /// Counts the calls of `clear`, from 1.
     era: u32,
-    /// For each cell an era and a number, which is there in that era alone.
+    /// For each cell an era and a number, which is there in that era alone. The cells past the end
+    /// have none.
     slots: Vec<(u32, u32)>,
 }
 
@@ -21,22 +26,28 @@ impl Model for Slots {
 
     ghost Value = { List (Option ℕ) };
 
-    ghost use Rattle.std.specs.Prelude.{◌≤◌};
-    ghost use Rattle.of_mem.specs.Eras.{slot_numbers, IsUpToEra};
+    ghost use Rattle.std.specs.Prelude.{◌≤◌, length};
+    ghost use Rattle.std.specs.Vec.{vec_capacity};
+    ghost use Rattle.of_mem.specs.Eras.{all_slots, slot_numbers, IsUpToEra};
 
-    ghost view = { λ s. slot_numbers s.era s.slots.items };
+    ghost view = { λ s. slot_numbers s.era (all_slots s.cells s.slots.items) };
 
-    ghost invariant = { λ s. (1 ≤ s.era) × IsUpToEra s.era s.slots.items };
+    ghost invariant = { λ s. (1 ≤ s.era) × IsUpToEra s.era s.slots.items
+        × (length s.slots.items ≤ s.cells) × (s.cells ≤ vec_capacity s.slots) };
 }
 
-#[tactic(auto, using(crate::proofs::Eras::era_laws))]
+#[tactic(auto, using(crate::proofs::Eras::by_later))]
 impl Slots {
     /// None for each of so many cells. The error is that there is no memory.
     pub fn new(alloc: Global, cells: u32) -> Result<Self, AllocError>
         ensures { IfOk result (λ s. s ≡ replicate cells None) }
     {
-        let slots = vec![in alloc; (0, 0); cells as usize]?;
-        Ok(Slots { era: 1, slots })
+        let slots = Vec::with_capacity(alloc, cells as usize)?;
+        Ok(Slots {
+            cells,
+            era: 1,
+            slots,
+        })
     }
 
     /// What a cell has.
@@ -44,7 +55,7 @@ impl Slots {
         requires { addr < length self.now }
         ensures { result ≡ get_or self.now addr None }
     {
-        let (era, number) = self.slots[addr as usize];
+        let (era, number) = *self.slots.get(addr as usize)?;
         if era == self.era { Some(number) } else { None }
     }
 
@@ -53,10 +64,8 @@ impl Slots {
         requires { addr < length self.old }
         ensures { self.new ≡ set self.old addr number }
     {
-        self.slots[addr as usize] = match number {
-            Some(number) => (self.era, number),
-            None => (0, 0),
-        };
+        reach(&mut self.slots, addr);
+        self.slots[addr as usize] = slot(self.era, number);
     }
 
     /// Takes each cell's number away.
@@ -66,8 +75,35 @@ impl Slots {
         if self.era < u32::MAX {
             self.era += 1;
         } else {
-            self.slots.fill((0, 0));
+            self.slots.clear();
             self.era = 1;
+        }
+    }
+}
+
+/// A slot that holds a number in an era, or none.
+fn slot(era: u32, number: Option<u32>) -> (u32, u32)
+    requires { 1 ≤ era }
+    ensures number { slot_number era result ≡ number }
+    ensures era { result.0 ≤ era }
+{
+    match number {
+        Some(number) => (era, number),
+        None => (0, 0),
+    }
+}
+
+/// Fills the slots up to a cell.
+fn reach(slots: &mut Vec<(u32, u32)>, addr: u32)
+    requires { addr < vec_capacity slots.old }
+    ensures slots { slots.new.items ≡ all_slots (addr + 1) slots.old.items }
+    ensures capacity { vec_capacity slots.old ≤ vec_capacity slots.new }
+{
+    let at = addr as usize;
+    if slots.len() <= at {
+        match slots.resize(at + 1, (0, 0)) {
+            Ok(()) => {}
+            Err(_) => unreachable!(),
         }
     }
 }

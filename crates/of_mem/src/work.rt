@@ -3,10 +3,10 @@
 ghost use Rattle.std.specs.Prelude.{◌≡◌, ◌+◌, ◌*◌, ◌≤◌, ℕ, List, [], length};
 ghost use Rattle.of_mem.specs.declared.work.TheConstants.{MOST_INSTRS};
 ghost use Rattle.of_mem.specs.Meaning.{Meaning, IsSoundMeaning, HasRoom, KnowsSome, RunsAsWalked};
-ghost use Rattle.of_mem.specs.Pad.{overlaid};
+ghost use Rattle.of_mem.specs.Part.{overlaid};
 
-use crate::kept::{Keeps, Kept};
 use crate::part::{Need, Part};
+use crate::suspended_run::{MaySuspend, SuspendedRun};
 use crate::workspace::Workspace;
 
 /// The most words of an operation, and the most numbers of a reply.
@@ -30,7 +30,7 @@ pub struct RawReply {
 
 /// What runs operations on cells: the first `callers * (MOST_INSTRS + 2)` cells are the callers'
 /// own, and no operation reads or writes them.
-pub trait Work: Keeps {
+pub trait Work: MaySuspend {
     /// How many callers there are.
     ghost many: { Self → ℕ };
 
@@ -59,7 +59,7 @@ pub trait Work: Keeps {
     fn run_on(
         &self,
         part: &mut Part,
-        kept: &mut Kept,
+        kept: &mut SuspendedRun,
         op: &[u64],
         out: &mut RawReply,
     ) -> Result<(), Need>
@@ -105,5 +105,6 @@ pub trait Work: Keeps {
 
     ghost fits: { (w : Self) → HasRoom (many w) (size w) };
 
-    ghost sound: { (w : Self) → IsSoundMeaning (meaning w) (lawful w) (many w * (MOST_INSTRS + 2)) (size w) };
+    ghost sound: { (w : Self)
+        → IsSoundMeaning (meaning w) (lawful w) (many w * (MOST_INSTRS + 2)) (size w) };
 }

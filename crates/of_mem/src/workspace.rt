@@ -1,24 +1,24 @@
 //! Partial memory, and what a work keeps over it.
 
 ghost use Rattle.std.specs.Prelude.{◌≡◌, ◌<◌, ◌≤◌, [], length, slice_index_or, IfOk};
-ghost use Rattle.of_mem.specs.Pad.{empty_part, learn, write, keep, ReadsAt};
+ghost use Rattle.of_mem.specs.Part.{empty_part, learn, write, keep, ReadsAt};
 
-use crate::kept::{Keeps, Kept};
 use crate::part::{Need, Part};
+use crate::suspended_run::{MaySuspend, SuspendedRun};
 use std::alloc::{AllocError, Global};
 use std::marker::{Model, PhantomData};
 
 /// Partial memory, and what a work keeps between two runs over it. A contract sees the memory
 /// alone, as that of `Part`. Only `new` takes memory.
 #[derive(Drop)]
-pub struct Workspace<W: Keeps> {
+pub struct Workspace<W: MaySuspend> {
     pub(crate) part: Part,
-    pub(crate) kept: Kept,
+    pub(crate) kept: SuspendedRun,
     of: PhantomData<W>,
 }
 
-impl<W: Keeps> Model for Workspace<W> {
-    ghost use Rattle.of_mem.specs.Pad.{Part};
+impl<W: MaySuspend> Model for Workspace<W> {
+    ghost use Rattle.of_mem.specs.Part.{Part};
 
     ghost Value = { Part };
 
@@ -26,17 +26,18 @@ impl<W: Keeps> Model for Workspace<W> {
 
     ghost view = { λ s. s.part };
 
-    ghost invariant = { λ s. W.holds s.kept (record s.part { script = [] }) × (s.kept.room ≡ length s.part.known) };
+    ghost invariant = { λ s. W.holds s.kept (record s.part { script = [] })
+        × (s.kept.room ≡ length s.part.known) };
 }
 
-impl<W: Keeps> Workspace<W> {
+impl<W: MaySuspend> Workspace<W> {
     /// A memory of the cells below `cells` of which nothing is known. The error is that there is no
     /// memory.
     pub fn new(alloc: Global, cells: u32) -> Result<Self, AllocError>
         ensures { IfOk result (λ p. p ≡ empty_part cells) }
     {
         let part = Part::new(alloc, cells)?;
-        let kept = Kept::new(alloc, cells)?;
+        let kept = SuspendedRun::new(alloc, cells)?;
         Ok(Workspace {
             part,
             kept,

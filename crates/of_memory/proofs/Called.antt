@@ -19,7 +19,7 @@ use Rattle.of_core.specs.declared.place.Outcome.{Outcome}
 use Rattle.of_core.specs.declared.place.Outcome.TheVariants.{Answered, Spent as Over}
 use Rattle.of_core.specs.Table.{Setup}
 use Rattle.of_core.specs.Machine.{CallState, IsOpen, MayReplace}
-use Rattle.of_core.specs.World.{TableStart}
+use Rattle.of_core.specs.TableMoment.{TableStart}
 use Rattle.of_core.specs.History.{IsLegalHistory}
 use Rattle.of_core.specs.Calls.{IsAnswered}
 use Rattle.of_row.specs.declared.row.Row.{Row}
@@ -38,7 +38,8 @@ use Rattle.of_caller.specs.Tables.{plan_setup}
 use Rattle.of_caller.proofs.RawReplies.{IsFine, answer_holds}
 use Rattle.of_memory.specs.History.{End, Replied, Spent, Made}
 use Rattle.of_memory.specs.Calls.{IsScriptOperation, EndsAs, IsMade, AreMade, RunsScripts}
-use Rattle.of_memory.specs.Serving.{IsScriptsRow, Serves, start_of_row}
+use Rattle.of_caller.specs.PlanRows.{start_of_row}
+use Rattle.of_memory.specs.Serving.{IsScriptsRow, Serves}
 use Rattle.of_memory.specs.declared.error.RunErr.{RunErr}
 use Rattle.of_memory.specs.declared.error.RunErr.TheVariants.{OutOfMemory, Stopped as Halted, Spent as RanOut, Open, NoTicket}
 use Rattle.of_memory.specs.Called.{WasTried, IsRefusedBy, CallerOpensOnly, CallerOpensNone}

@@ -5,7 +5,7 @@ use Rattle.std.proofs.lemmas.List.{get_or-take, get_or-drop, length-drop, take_a
 use Rattle.of_cell.specs.Cells.{durable_cells, table_words}
 use Rattle.of_mem.specs.declared.work.TheConstants.{MOST_INSTRS}
 use Rattle.of_recover.specs.Recovered.{recovered_words}
-use Rattle.of_store.specs.State.{Store}
+use Rattle.of_store.specs.Store.{Store}
 use Rattle.of_eval.specs.declared.scripts.Scripts.{Scripts}
 use Rattle.of_eval.specs.Scripts.{scripts_data_cells, LawfulCells, scripts_meaning}
 use Rattle.of_core.specs.Table.{Setup, setup_of, cell_count, words_before_members}
@@ -17,7 +17,8 @@ use Rattle.of_row.specs.Rows.{key_of, setup_at, IsSeatOf}
 use Rattle.of_row.specs.Passes.{ClosesWith}
 use Rattle.of_memory.specs.History.{HistoryEntry}
 use Rattle.of_memory.specs.Laws.{setup_with, StandsAt, KeepScripts, HoldsHistory, HistoryLeads}
-use Rattle.of_memory.specs.Serving.{IsScriptsRow, start_of_row}
+use Rattle.of_caller.specs.PlanRows.{start_of_row}
+use Rattle.of_memory.specs.Serving.{IsScriptsRow}
 
 -- the words that are left when the durable ones are moved to the front
 pub kept_durable : (n k : ℕ) (old ws : List ℕ) → n + n ≤ length old → length ws ≡ length old → n ≤ k → ((i : ℕ) → i < k → get_or ws i 0 ≡ get_or old (n + i) 0) → take n ws ≡ slice_range old n (n + n)

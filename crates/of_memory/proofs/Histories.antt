@@ -25,13 +25,13 @@ use Rattle.of_eval.specs.Lawful.{reply_in, reply_number}
 use Rattle.of_eval.proofs.ReadsOnly.{reads_of}
 use Rattle.of_caller.proofs.StoresHeld.{has_reply}
 use Rattle.of_core.specs.Linear.{recovered_number, FindsCall}
-use Rattle.of_store.specs.State.{Store}
+use Rattle.of_store.specs.Store.{Store}
 use Rattle.of_eval.specs.declared.scripts.Scripts.{Scripts}
 use Rattle.of_eval.specs.Scripts.{store_at, scripts_data_cells, LawfulCells, scripts_meaning, script_reads}
 use Rattle.of_eval.specs.Stored.{cell_store}
 use Rattle.of_core.specs.Table.{Setup, cell_count, words_before_members, durable_at, durable_word, ticket_cell, shape_cell, reply_cell}
 use Rattle.of_core.specs.Machine.{Call, CallState, no_call, is_idle, IsOpen}
-use Rattle.of_core.specs.World.{Moment, TableStart}
+use Rattle.of_core.specs.TableMoment.{Moment, TableStart}
 use Rattle.of_core.specs.History.{numbers_after_calls, SameReply}
 use Rattle.of_core.specs.Events.{Event, start_ticket}
 use Rattle.of_core.specs.Calls.{operations_begun}

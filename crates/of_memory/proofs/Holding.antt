@@ -4,13 +4,13 @@ use Rattle.std.specs.List.{All}
 use Rattle.std.proofs.lemmas.Bool.{cases_lt}
 use Rattle.std.proofs.lemmas.List.{get_or-set_same, get_or-set_other, get_or_past}
 use Rattle.of_script.specs.declared.instr.Instr.{Instr}
-use Rattle.of_store.specs.State.{Store}
+use Rattle.of_store.specs.Store.{Store}
 use Rattle.of_eval.specs.declared.scripts.Scripts.{Scripts}
 use Rattle.of_eval.specs.Scripts.{scripts_data_cells}
 use Rattle.of_core.specs.Table.{Setup}
 use Rattle.of_core.specs.Machine.{CallState, IsOpen, is_idle}
 use Rattle.of_core.specs.Turn.{IsIdle}
-use Rattle.of_core.specs.World.{TableStart}
+use Rattle.of_core.specs.TableMoment.{TableStart}
 use Rattle.of_core.specs.Starts.{start_from_durable}
 use Rattle.of_row.specs.declared.row.Row.{Row}
 use Rattle.of_row.specs.Rows.{key_of}
@@ -25,7 +25,8 @@ use Rattle.of_memory.specs.History.{HistoryEntry, Made, store_after, ExplainsAll
 use Rattle.of_memory.specs.Calls.{AreMade, RunsScripts}
 use Rattle.of_memory.specs.Called.{IsOpenAt}
 use Rattle.of_memory.specs.Laws.{setup_with, StandsAt, KeepsSo, ExplainsKept, HasOpenScript, HasOnlyKept, TellsLast, HistoryLeads}
-use Rattle.of_memory.specs.Serving.{Serves, IsNew, AllStand, AllHere, IsKeptOf, KeepsThose, ended_of, start_of_row}
+use Rattle.of_caller.specs.PlanRows.{start_of_row}
+use Rattle.of_memory.specs.Serving.{Serves, IsNew, AllStand, AllHere, IsKeptOf, KeepsThose, ended_of}
 use Rattle.of_memory.specs.Handles.{IsHandle}
 use Rattle.of_memory.specs.Memories.{IsMemory, IsFrom, HasMadeOf, HasOpenOf, HasNoneOpen, KnowsOthers, OthersStayOpen, HasHistory, row_of, callers_of}
 use Rattle.of_memory.proofs.Seats.{number_below, keeps_as, same_caller}

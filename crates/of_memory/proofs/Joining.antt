@@ -1,7 +1,7 @@
 -- Serial histories one after the other, and what they keep.
 use Rattle.std.proofs.Common.{◌≡◌, true, [], ◌∷◌, refl}
 use Rattle.std.proofs.lemmas.List.Elements.{All-head, All-tail}
-use Rattle.of_store.specs.State.{run}
+use Rattle.of_store.specs.Store.{run}
 use Rattle.of_memory.specs.History.{HistoryEntry}
 use Rattle.of_memory.specs.Joining.{HistoriesJoin, InvariantsHold}
 

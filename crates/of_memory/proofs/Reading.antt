@@ -8,7 +8,7 @@ use Rattle.of_mem.specs.declared.plot.Plot.{Plot}
 use Rattle.of_mem.specs.Places.{base_of}
 use Rattle.of_mem.specs.ProgramWork.{memory_of}
 use Rattle.of_script.specs.declared.instr.TheConstants.{MOST_INSTRS}
-use Rattle.of_store.specs.State.{Store}
+use Rattle.of_store.specs.Store.{Store}
 use Rattle.of_eval.specs.Stored.{IsStored}
 use Rattle.of_eval.specs.Walking.{CellsStandFor}
 use Rattle.of_memory.specs.declared.saved.Saved.{Saved}

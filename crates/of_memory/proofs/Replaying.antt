@@ -10,7 +10,7 @@ use Rattle.of_script.specs.declared.instr.Instr.{Instr}
 use Rattle.of_script.specs.declared.instr.TheConstants.{MOST_INSTRS}
 use Rattle.of_script.specs.Language.{IsScript, instr_word}
 use Rattle.of_script.proofs.WordLaws.{words_injective}
-use Rattle.of_store.specs.State.{Store, Reply, run}
+use Rattle.of_store.specs.Store.{Store, Reply, run}
 use Rattle.of_eval.specs.declared.scripts.Scripts.{Scripts}
 use Rattle.of_eval.specs.Scripts.{store_at, scripts_data_cells, scripts_meaning}
 use Rattle.of_eval.specs.Stored.{IsStored}

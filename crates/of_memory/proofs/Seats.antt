@@ -18,7 +18,7 @@ use Rattle.of_row.specs.Turned.{new_known_caller, StandsForMachine}
 use Rattle.of_core.specs.Table.{Setup}
 use Rattle.of_core.specs.Machine.{CallState, IsOpen, is_idle}
 use Rattle.of_core.specs.Turn.{IsIdle}
-use Rattle.of_core.specs.Seen.{machine_setup}
+use Rattle.of_core.specs.MachineValue.{machine_setup}
 use Rattle.of_caller.specs.declared.caller.Caller.{Caller}
 use Rattle.of_caller.specs.Callers.{IsCaller, caller_call, sight_of}
 use Rattle.of_memory.specs.Calls.{RunsScripts}

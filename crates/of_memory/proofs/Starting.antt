@@ -5,13 +5,13 @@ use Rattle.of_cell.specs.Words.{payload_of}
 use Rattle.of_cell.proofs.Order.{pay_zero}
 use Rattle.of_cell.specs.declared.shape.Shape.{Shape}
 use Rattle.of_mem.specs.ProgramWork.{memory_of}
-use Rattle.of_store.specs.State.{Store, empty_store}
-use Rattle.of_plan.specs.declared.plan.TheConstants.{GREATEST_LIMIT}
+use Rattle.of_store.specs.Store.{Store, empty_store}
+use Rattle.of_cell.specs.declared.word.TheConstants.{GREATEST_LIMIT}
 use Rattle.of_eval.specs.declared.scripts.Scripts.{Scripts}
 use Rattle.of_eval.specs.Scripts.{store_at, scripts_data_cells, LawfulCells, scripts_meaning}
 use Rattle.of_eval.specs.SoundScripts.{empty_is_stored}
 use Rattle.of_core.specs.Table.{Setup, setup_of}
-use Rattle.of_core.specs.World.{TableStart}
+use Rattle.of_core.specs.TableMoment.{TableStart}
 use Rattle.of_core.specs.Events.{zero_start}
 use Rattle.of_core.specs.Starts.{start_from_durable, IsStartRow}
 use Rattle.of_row.specs.declared.row.Row.{Row}
@@ -21,7 +21,8 @@ use Rattle.of_caller.proofs.StoresReplay.{number_at}
 use Rattle.of_memory.specs.declared.memory.Memory.{Memory}
 use Rattle.of_memory.specs.Calls.{AreMade}
 use Rattle.of_memory.specs.Laws.{setup_with, StandsAt}
-use Rattle.of_memory.specs.Serving.{IsScriptsRow, IsNew, Serves, ServeAll, AllStand, start_of_row, made_before}
+use Rattle.of_caller.specs.PlanRows.{start_of_row}
+use Rattle.of_memory.specs.Serving.{IsScriptsRow, IsNew, Serves, ServeAll, AllStand, made_before}
 use Rattle.of_memory.specs.Memories.{IsMemory, HasMadeOf, row_of}
 
 zero_at : (n a : ℕ) → ◌≡◌ {A = ℕ} (get_or (replicate n 0) a 0) 0

@@ -11,10 +11,13 @@ use Rattle.of_caller.specs.Callers.{caller_call}
 use Rattle.of_memory.specs.declared.error.RunErr.{RunErr}
 use Rattle.of_memory.specs.declared.error.RunErr.TheVariants.{OutOfMemory, Stopped, Spent as NoneLeft, Open, NoTicket}
 use Rattle.of_memory.specs.History.{Made, Replied, Spent}
+use Rattle.of_memory.specs.Calls.{AreMade}
+use Rattle.of_memory.specs.Serving.{ended_of}
 
 -- the calls that have ended after these, where a call of a script has come to this
 abbrev pub made_with : List Instr → Result Answer RunErr → List Made → List Made
-made_with script (Ok a) ms = ms ++ record { script = script; ended = Replied (reply_value_of a.reply) } ∷ []
+made_with script (Ok a) ms =
+    ms ++ record { script = script; ended = Replied (reply_value_of a.reply) } ∷ []
 made_with script (Err OutOfMemory) ms = ms
 made_with script (Err (Stopped asked)) ms = ms
 made_with script (Err (NoneLeft seq)) ms = ms ++ record { script = script; ended = Spent } ∷ []
@@ -35,6 +38,25 @@ LeavesOpen script (Err (Stopped asked)) c = IsOpenAt script c
 LeavesOpen script (Err (NoneLeft seq)) c = Unit {0}
 LeavesOpen script (Err Open) c = Unit {0}
 LeavesOpen script (Err NoTicket) c = Unit {0}
+
+-- a call of this script has come to the result: what the caller has made is what it had made, with
+-- this call if it has ended
+abbrev pub MakesCallOf : List Instr → Result Answer RunErr → (before now : Caller Scripts) → Type 0
+MakesCallOf script result c d =
+    (ms : List Made) → AreMade (ended_of c) ms → AreMade (ended_of d) (made_with script result ms)
+
+-- the caller's call is one of this script: so it is of the call that was open
+abbrev pub MakesOpenCall : Result Answer RunErr → (before now : Caller Scripts) → Type 0
+MakesOpenCall result c d =
+    (script : List Instr) (ms : List Made) → IsScript script
+    → (caller_call c).op ≡ map instr_word script → AreMade (ended_of c) ms
+    → AreMade (ended_of d) (made_with script result ms)
+
+-- and if it is stopped it stays open
+abbrev pub LeavesOpenCall : Result Answer RunErr → (before now : Caller Scripts) → Type 0
+LeavesOpenCall result c d =
+    (script : List Instr) → IsScript script
+    → (caller_call c).op ≡ map instr_word script → LeavesOpen script result d
 
 -- a call that is open now is one of this script, or was open before
 abbrev pub CallerOpensOnly : List Instr → (before now : Caller Scripts) → Type 0

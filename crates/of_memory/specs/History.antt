@@ -4,10 +4,10 @@ use Rattle.std.specs.List.{All}
 use Rattle.std.proofs.Common.{get_or}
 use Rattle.of_script.specs.declared.instr.Instr.{Instr}
 use Rattle.of_script.specs.Language.{reads_only}
-use Rattle.of_store.specs.State.{Store, Reply, Answered as Replied, run}
+use Rattle.of_store.specs.Store.{Store, Reply, Answered as Replied, run}
 
--- a call in the history: a script of a caller, the number that the call has among its caller's calls,
--- and its reply
+-- a call in the history: a script of a caller, the number that the call has among its caller's
+-- calls, and its reply
 pub record HistoryEntry : Type 0 where
   pub caller : ℕ
   pub ticket : ℕ
@@ -31,9 +31,12 @@ store_after s (e ∷ es) = store_after (run s e.script).0 es
 abbrev pub IsLater : HistoryEntry → HistoryEntry → Type 0
 IsLater e f = f.caller ≡ e.caller → e.ticket < f.ticket
 
--- each call stands there once at most, and the calls of each caller in the order in which it made them
+-- each call stands there once at most, and the calls of each caller in the order in which it made
+-- them
 abbrev pub StandsInOrder : List HistoryEntry → Type 0
-StandsInOrder h = (p q : ℕ) → p < q → q < length h → IsLater (get_or h p no_history_entry) (get_or h q no_history_entry)
+StandsInOrder h =
+    (p q : ℕ) → p < q → q < length h
+    → IsLater (get_or h p no_history_entry) (get_or h q no_history_entry)
 
 -- how a call has ended: with this reply, or with none, since the limit was reached before it
 pub data End : Type 0 where
@@ -54,7 +57,8 @@ HasEntry h e = (p : ℕ) × (p < length h) × (get_or h p no_history_entry ≡ e
 
 -- The history has the call with its reply; it has no call that was spent.
 abbrev pub ExplainsEnd : List HistoryEntry → (caller ticket : ℕ) → List Instr → End → Type 0
-ExplainsEnd h c t script (Replied r) = HasEntry h (record { caller = c; ticket = t; script = script; reply = r })
+ExplainsEnd h c t script (Replied r) =
+    HasEntry h (record { caller = c; ticket = t; script = script; reply = r })
 ExplainsEnd h c t script Spent = All (λ (e : HistoryEntry). e.caller ≡ c → e.ticket ≡ t → ⊥) h
 
 -- so it is of each of these calls of a caller, the first of which has the number behind n
@@ -63,15 +67,17 @@ ExplainsAll h c n ms =
     (y : ℕ) → y < length ms
     → ExplainsEnd h c (n + y + 1) (get_or ms y no_made).script (get_or ms y no_made).ended
 
--- the entry is one of these calls, the first of which has the number behind n, or the one behind them,
--- which is open
-abbrev pub IsOneOf : (n : ℕ) → List Made → (IsOpenCall : List Instr → Type 0) → HistoryEntry → Type 0
+-- the entry is one of these calls, the first of which has the number behind n, or the one behind
+-- them, which is open
+abbrev pub IsOneOf : (n : ℕ) → List Made → (IsOpenCall : List Instr → Type 0) → HistoryEntry
+    → Type 0
 IsOneOf n ms IsOpenCall e =
     ((y : ℕ) × (y < length ms) × (e.ticket ≡ n + y + 1) × (e.script ≡ (get_or ms y no_made).script))
     ⊎ ((e.ticket ≡ n + length ms + 1) × IsOpenCall e.script)
 
 -- so is each entry of the caller
-abbrev pub HasOnly : List HistoryEntry → (caller n : ℕ) → List Made → (IsOpenCall : List Instr → Type 0) → Type 0
+abbrev pub HasOnly : List HistoryEntry → (caller n : ℕ) → List Made
+    → (IsOpenCall : List Instr → Type 0) → Type 0
 HasOnly h c n ms IsOpenCall = All (λ (e : HistoryEntry). e.caller ≡ c → IsOneOf n ms IsOpenCall e) h
 
 -- the script leaves every store as it is
@@ -80,4 +86,5 @@ ScriptOnlyReads script = All (λ (i : Instr). IsTrue (reads_only i)) script
 
 -- no call of the caller that may write is later than this one
 abbrev pub IsUpTo : List HistoryEntry → (caller ticket : ℕ) → Type 0
-IsUpTo h c t = All (λ (e : HistoryEntry). e.caller ≡ c → (ScriptOnlyReads e.script → ⊥) → e.ticket ≤ t) h
+IsUpTo h c t =
+    All (λ (e : HistoryEntry). e.caller ≡ c → (ScriptOnlyReads e.script → ⊥) → e.ticket ≤ t) h

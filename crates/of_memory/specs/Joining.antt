@@ -2,7 +2,7 @@
 use Rattle.std.specs.Prelude.{◌≡◌, ◌++◌, Bool, true, List}
 use Rattle.std.specs.List.{All}
 use Rattle.of_script.specs.declared.instr.Instr.{Instr}
-use Rattle.of_store.specs.State.{Store, run}
+use Rattle.of_store.specs.Store.{Store, run}
 use Rattle.of_memory.specs.History.{HistoryEntry, IsSerial, store_after}
 
 -- a history and one that goes on from its end are one history
@@ -15,6 +15,8 @@ HistoriesJoin =
 abbrev pub InvariantsHold : Type 0
 InvariantsHold =
     (holds : Store → Bool) (kind : List Instr → Bool)
-    → ((s : Store) (script : List Instr) → holds s ≡ true → kind script ≡ true → holds (run s script).0 ≡ true)
-    → (s : Store) (h : List HistoryEntry) → holds s ≡ true → All (λ (e : HistoryEntry). kind e.script ≡ true) h
+    → ((s : Store) (script : List Instr) → holds s ≡ true → kind script ≡ true
+    → holds (run s script).0 ≡ true)
+    → (s : Store) (h : List HistoryEntry) → holds s ≡ true
+    → All (λ (e : HistoryEntry). kind e.script ≡ true) h
     → holds (store_after s h) ≡ true

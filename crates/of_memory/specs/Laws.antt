@@ -7,14 +7,14 @@ use Rattle.of_mem.specs.ProgramWork.{memory_of}
 use Rattle.of_script.specs.declared.instr.Instr.{Instr}
 use Rattle.of_script.specs.Language.{IsScript, instr_word}
 use Rattle.of_script.specs.declared.instr.TheConstants.{MOST_INSTRS}
-use Rattle.of_store.specs.State.{Store, Reply}
+use Rattle.of_store.specs.Store.{Store, Reply}
 use Rattle.of_eval.specs.declared.scripts.Scripts.{Scripts}
 use Rattle.of_eval.specs.Scripts.{store_at, scripts_data_cells, LawfulCells, scripts_meaning}
 use Rattle.of_eval.specs.Stored.{IsStored}
 use Rattle.of_eval.specs.Lawful.{reply_in}
 use Rattle.of_core.specs.Table.{Setup, setup_of}
 use Rattle.of_core.specs.Machine.{IsOpen}
-use Rattle.of_core.specs.World.{TableStart}
+use Rattle.of_core.specs.TableMoment.{TableStart}
 use Rattle.of_core.specs.Starts.{IsDurable, IsStartRow, start_from_durable}
 use Rattle.of_row.specs.Views.{KnownCaller, View, Each}
 use Rattle.of_row.specs.Rule.{ViewMeetsRule, done_before}
@@ -46,7 +46,8 @@ ExplainsKept S B h x =
 
 -- the kept caller's call of this script is open
 abbrev pub HasOpenScript : KnownCaller → List Instr → Type 0
-HasOpenScript x script = IsOpen x.machine.place × IsScript script × (x.machine.op ≡ map instr_word script)
+HasOpenScript x script =
+    IsOpen x.machine.place × IsScript script × (x.machine.op ≡ map instr_word script)
 
 -- and of its calls the history has no others
 abbrev pub HasOnlyKept : Setup → TableStart → List HistoryEntry → KnownCaller → Type 0
@@ -56,18 +57,20 @@ HasOnlyKept S B h x =
 
 -- the cells of a start hold this reply to the last call of caller n
 abbrev pub HoldsReplyAt : TableStart → (n : ℕ) → Reply → Type 0
-HoldsReplyAt C n response = HoldsResponse (reply_in MOST_INSTRS (memory_of (map payload_of C.cells)) n) response
+HoldsReplyAt C n response =
+    HoldsResponse (reply_in MOST_INSTRS (memory_of (map payload_of C.cells)) n) response
 
--- The last call of caller n that the cells at C hold: none since the start B, or one of the history, with
--- its reply.
+-- The last call of caller n that the cells at C hold: none since the start B, or one of the
+-- history, with its reply.
 abbrev pub TellsLast : Setup → (B C : TableStart) → List HistoryEntry → (n : ℕ) → Type 0
 TellsLast S B C h n =
     (done_before S C n ≡ done_before S B n)
-    ⊎ ((e : HistoryEntry) × HasEntry h e × (e.caller ≡ n) × (e.ticket ≡ done_before S C n) × HoldsReplyAt C n e.reply)
+    ⊎ ((e : HistoryEntry) × HasEntry h e × (e.caller ≡ n) × (e.ticket ≡ done_before S C n)
+    × HoldsReplyAt C n e.reply)
 
 -- a serial history leads from the store to the one that the row stands for
-pub record HistoryLeads (w : Scripts) (limit : ℕ) (B : TableStart) (v : View) (s : Store) (row : List ℕ)
-    (h : List HistoryEntry) : Type 0 where
+pub record HistoryLeads (w : Scripts) (limit : ℕ) (B : TableStart) (v : View) (s : Store)
+    (row : List ℕ) (h : List HistoryEntry) : Type 0 where
   pub serial : IsSerial s h
   pub ends : StandsAt w (start_from_durable w.callers (scripts_data_cells w) row) (store_after s h)
   pub order : StandsInOrder h
@@ -75,18 +78,23 @@ pub record HistoryLeads (w : Scripts) (limit : ℕ) (B : TableStart) (v : View) 
   pub only : Each (HasOnlyKept (setup_with w limit) B h) v.kept
   pub callers : All (λ (e : HistoryEntry). e.caller < w.callers) h
   pub last : (n : ℕ) → n < w.callers
-      → TellsLast (setup_with w limit) B (start_from_durable w.callers (scripts_data_cells w) row) h n
+      → TellsLast (setup_with w limit) B
+      (start_from_durable w.callers (scripts_data_cells w) row) h n
   pub upto : (n : ℕ) → n < w.callers
-      → IsUpTo h n (done_before (setup_with w limit) (start_from_durable w.callers (scripts_data_cells w) row) n)
+      → IsUpTo h n
+      (done_before (setup_with w limit)
+      (start_from_durable w.callers (scripts_data_cells w) row) n)
 
 -- Where words and a view meet the rule of a row of these scripts, and the view keeps each caller,
--- recovery of the durable words finds a row from which a table may start, and a serial history leads
--- there from each store that the row has started with.
+-- recovery of the durable words finds a row from which a table may start, and a serial history
+-- leads there from each store that the row has started with.
 abbrev pub HoldsHistory : Scripts → (limit : ℕ) → Type 0
 HoldsHistory w limit =
     let S : Setup = setup_with w limit in
-    (B : TableStart) (ws : List ℕ) (v : View) → ViewMeetsRule S (LawfulCells w) B ws v → v.spent ≡ false
+    (B : TableStart) (ws : List ℕ) (v : View) → ViewMeetsRule S (LawfulCells w) B ws v
+    → v.spent ≡ false
     → KeepScripts S v → (row : List ℕ) → IsDurable S ws row
     → IsStartRow S (LawfulCells w) (recovered_words w.callers (scripts_data_cells w) row)
     × ((s : Store) → StandsAt w B s
-    → (h : List HistoryEntry) × HistoryLeads w limit B v s (recovered_words w.callers (scripts_data_cells w) row) h)
+    → (h : List HistoryEntry)
+    × HistoryLeads w limit B v s (recovered_words w.callers (scripts_data_cells w) row) h)

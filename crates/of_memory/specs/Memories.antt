@@ -4,14 +4,15 @@ use Rattle.std.proofs.Common.{get_or}
 use Rattle.std.specs.Arc.{arc_value}
 use Rattle.std.specs.List.{All}
 use Rattle.of_script.specs.declared.instr.Instr.{Instr}
-use Rattle.of_store.specs.State.{Store}
+use Rattle.of_store.specs.Store.{Store}
 use Rattle.of_eval.specs.declared.scripts.Scripts.{Scripts}
 use Rattle.of_row.specs.declared.row.Row.{Row}
-use Rattle.of_row.specs.Rows.{key_of, IsSeatOf}
+use Rattle.of_row.specs.Rows.{key_of, IsRowPass}
 use Rattle.of_caller.specs.declared.caller.Caller.{Caller}
+use Rattle.of_caller.specs.PlanRows.{start_of_row}
 use Rattle.of_mem.specs.declared.work.TheConstants.{MOST_CALLERS}
 use Rattle.of_mem.specs.declared.plot.TheConstants.{MOST_BLOCKS}
-use Rattle.of_plan.specs.declared.plan.TheConstants.{GREATEST_LIMIT}
+use Rattle.of_cell.specs.declared.word.TheConstants.{GREATEST_LIMIT}
 use Rattle.of_memory.specs.declared.error.EnrolErr.{EnrolErr}
 use Rattle.of_memory.specs.declared.error.EnrolErr.TheVariants.{OutOfMemory, NoCaller, Enrolled}
 use Rattle.of_memory.specs.declared.error.OpenErr.{OpenErr}
@@ -23,9 +24,9 @@ use Rattle.of_memory.specs.History.{HistoryEntry, Made, IsSerial, store_after, S
 use Rattle.of_memory.specs.Calls.{AreMade}
 use Rattle.of_memory.specs.Called.{IsOpenAt}
 use Rattle.of_memory.specs.Laws.{StandsAt}
-use Rattle.of_memory.specs.Serving.{IsScriptsRow, ServeAll, ended_of, start_of_row, made_before}
+use Rattle.of_memory.specs.Serving.{IsScriptsRow, ServeAll, AllHere, ended_of, made_before}
 use Rattle.of_memory.specs.Saving.{SavedHolds, HoldsReply, saved_ticket}
-use Rattle.of_memory.specs.Handles.{home_of}
+use Rattle.of_memory.specs.Handles.{home_of, number_of_handle, caller_of}
 
 abbrev pub row_of : Memory → Row Scripts
 row_of m = arc_value m.row
@@ -33,7 +34,7 @@ row_of m = arc_value m.row
 -- it is open, and its callers have run scripts alone
 pub record IsMemory (m : Memory) : Type 0 where
   pub row : IsScriptsRow (row_of m)
-  pub pass : IsSeatOf (row_of m) m.pass.seat
+  pub pass : IsRowPass (row_of m) m.pass
   pub each : length m.callers.items ≡ (key_of (row_of m)).callers
   pub serve : ServeAll (row_of m) m.callers.items
 
@@ -62,6 +63,10 @@ pub record HasOpenOf (m : Memory) (n : ℕ) (script : List Instr) : Type 0 where
   pub here : get_or m.callers.items n None ≡ Some caller
   pub opened : IsOpenAt script caller
 
+-- no handle is out
+abbrev pub HasNoHandleOut : Memory → Type 0
+HasNoHandleOut m = AllHere m.callers.items (length m.callers.items)
+
 -- the handle is the memory's
 abbrev pub IsFrom : Memory → Handle → Type 0
 IsFrom m h = home_of h ≡ row_of m
@@ -76,7 +81,8 @@ KnowsOthers n m k = (i : ℕ) (ms : List Made) → i ≢ n → HasMadeOf m i ms 
 
 -- nor is a call of theirs open no longer
 abbrev pub OthersStayOpen : ℕ → (before now : Memory) → Type 0
-OthersStayOpen n m k = (i : ℕ) (script : List Instr) → i ≢ n → HasOpenOf m i script → HasOpenOf k i script
+OthersStayOpen n m k =
+    (i : ℕ) (script : List Instr) → i ≢ n → HasOpenOf m i script → HasOpenOf k i script
 
 -- no call is open
 abbrev pub HasNoneOpen : Memory → Type 0
@@ -84,8 +90,8 @@ HasNoneOpen m = (n : ℕ) (script : List Instr) → HasOpenOf m n script → ⊥
 
 -- the handle's caller was in the memory, and is taken out of it
 pub record TakesOut (m k : Memory) (h : Handle) : Type 0 where
-  pub was : get_or m.callers.items h.number None ≡ Some h.caller
-  pub now : k.callers.items ≡ slice_set m.callers.items h.number None
+  pub was : get_or m.callers.items (number_of_handle h) None ≡ Some (caller_of h)
+  pub now : k.callers.items ≡ slice_set m.callers.items (number_of_handle h) None
 
 -- no caller is taken out
 abbrev pub TakesNone : (before now : Memory) → Type 0
@@ -97,25 +103,28 @@ PutsCaller n c m k = k.callers.items ≡ slice_set m.callers.items n (Some c)
 
 -- the handle's caller is put back
 abbrev pub PutsBack : (before now : Memory) → Handle → Type 0
-PutsBack m k h = PutsCaller h.number h.caller m k
+PutsBack m k h = PutsCaller (number_of_handle h) (caller_of h) m k
 
--- What is saved of the last call of caller n: there was none since the memory was opened, or it is one of
--- the history, with its reply.
+-- What is saved of the last call of caller n: there was none since the memory was opened, or it is
+-- one of the history, with its reply.
 abbrev pub TellsLastOf : Memory → Saved → List HistoryEntry → ℕ → Type 0
 TellsLastOf m d h n =
     (saved_ticket d n ≡ tickets_before m n)
-    ⊎ ((e : HistoryEntry) × HasEntry h e × (e.caller ≡ n) × (e.ticket ≡ saved_ticket d n) × HoldsReply d n e.reply)
+    ⊎ ((e : HistoryEntry) × HasEntry h e × (e.caller ≡ n) × (e.ticket ≡ saved_ticket d n)
+    × HoldsReply d n e.reply)
 
--- The history leads from the store with which the memory was opened to the saved one. It is serial, and
--- the calls of each caller stand in it in the order in which they were made, each once at most. It has
--- each call that was answered, with its reply, and no call that was spent; beside these it has open
--- calls alone. What is saved tells the last call of each caller, and no call that may write is later.
+-- The history leads from the store with which the memory was opened to the saved one. It is serial,
+-- and the calls of each caller stand in it in the order in which they were made, each once at most.
+-- It has each call that was answered, with its reply, and no call that was spent; beside these it
+-- has open calls alone. What is saved tells the last call of each caller, and no call that may
+-- write is later.
 pub record LeadsTo (m : Memory) (s : Store) (d : Saved) (h : List HistoryEntry) : Type 0 where
   pub serial : IsSerial s h
   pub ends : SavedHolds d (store_after s h)
   pub order : StandsInOrder h
   pub made : (n : ℕ) (ms : List Made) → HasMadeOf m n ms → ExplainsAll h n (tickets_before m n) ms
-  pub only : (n : ℕ) (ms : List Made) → HasMadeOf m n ms → HasOnly h n (tickets_before m n) ms (HasOpenOf m n)
+  pub only : (n : ℕ) (ms : List Made) → HasMadeOf m n ms
+      → HasOnly h n (tickets_before m n) ms (HasOpenOf m n)
   pub callers : All (λ (e : HistoryEntry). e.caller < callers_of m) h
   pub last : (n : ℕ) → n < callers_of m → TellsLastOf m d h n
   pub upto : (n : ℕ) → n < callers_of m → IsUpTo h n (saved_ticket d n)

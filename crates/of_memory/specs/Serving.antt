@@ -1,26 +1,22 @@
 -- A row of scripts, and its callers.
-use Rattle.std.specs.Prelude.{◌≡◌, ℕ, ◌≤◌, ◌<◌, List, [], length, Option, Some, None, true}
+use Rattle.std.specs.Prelude.{◌≡◌, ℕ, ◌≤◌, ◌<◌, List, [], length, Option, Some, None}
 use Rattle.std.proofs.Common.{get_or}
-use Rattle.of_store.specs.State.{Store}
-use Rattle.of_plan.specs.declared.plan.TheConstants.{GREATEST_LIMIT}
+use Rattle.of_store.specs.Store.{Store}
+use Rattle.of_cell.specs.declared.word.TheConstants.{GREATEST_LIMIT}
 use Rattle.of_eval.specs.declared.scripts.Scripts.{Scripts}
 use Rattle.of_eval.specs.Scripts.{scripts_data_cells, scripts_meaning}
 use Rattle.of_core.specs.Machine.{IsOpen}
 use Rattle.of_core.specs.Turn.{IsIdle}
-use Rattle.of_core.specs.World.{TableStart}
 use Rattle.of_row.specs.declared.row.Row.{Row}
 use Rattle.of_row.specs.declared.member.Pass.{Pass}
-use Rattle.of_row.specs.Rows.{key_of, setup_at, row_start, IsSeatOf}
+use Rattle.of_row.specs.Rows.{key_of, setup_at, view_of_pass, IsRowPass, IsFirstPass}
 use Rattle.of_row.specs.Rule.{IsAsked, done_before}
 use Rattle.of_row.specs.Views.{KnownCaller, EndedCall, last_caller}
 use Rattle.of_caller.specs.declared.caller.Caller.{Caller}
 use Rattle.of_caller.specs.Callers.{IsCaller, caller_call, sight_of}
+use Rattle.of_caller.specs.PlanRows.{start_of_row}
 use Rattle.of_memory.specs.Calls.{IsScriptOperation, RunsScripts}
 use Rattle.of_memory.specs.Laws.{StandsAt, KeepsSo}
-
--- where the row started
-abbrev pub start_of_row : Row Scripts → TableStart
-start_of_row r = row_start scripts_meaning r
 
 -- how many calls a caller had made before that
 abbrev pub made_before : Row Scripts → ℕ → ℕ
@@ -55,13 +51,14 @@ pub record IsNew (r : Row Scripts) (n : ℕ) (c : Caller Scripts) : Type 0 where
 
 -- the row's first pass, which has asked for numbers below the next one alone
 pub record Enrols (r : Row Scripts) (next : ℕ) (p : Pass) : Type 0 where
-  pub row : IsSeatOf r p.seat
-  pub first : p.seat.me.0.first ≡ true
-  pub below : (number : ℕ) → IsAsked number p.seat.me.0.asked → number < next
+  pub row : IsRowPass r p
+  pub first : IsFirstPass p
+  pub below : (number : ℕ) → IsAsked number (view_of_pass p).asked → number < next
 
 -- at each place below the count stands a caller of that number, of which this holds
 abbrev pub AllStand : (ℕ → Caller Scripts → Type 0) → ℕ → List (Option (Caller Scripts)) → Type 0
-AllStand P count cs = (n : ℕ) → n < count → (c : Caller Scripts) × (get_or cs n None ≡ Some c) × P n c
+AllStand P count cs =
+    (n : ℕ) → n < count → (c : Caller Scripts) × (get_or cs n None ≡ Some c) × P n c
 
 -- at each place below the count stands one
 abbrev pub AllHere : List (Option (Caller Scripts)) → ℕ → Type 0

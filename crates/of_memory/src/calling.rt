@@ -1,18 +1,14 @@
 //! A call of a script on a row.
 
-ghost use Rattle.std.specs.Prelude.{◌≡◌, ◌+◌, ◌<◌, List};
-ghost use Rattle.of_script.specs.declared.instr.Instr.{Instr as TheInstr};
-ghost use Rattle.of_script.specs.Language.{IsScript, instr_word};
-ghost use Rattle.std.specs.Prelude.{map};
+ghost use Rattle.std.specs.Prelude.{◌≡◌, ◌+◌, ◌<◌};
 ghost use Rattle.of_core.specs.Machine.{IsOpen};
 ghost use Rattle.of_core.specs.Turn.{IsIdle};
 ghost use Rattle.of_caller.specs.Callers.{caller_call};
 ghost use Rattle.of_caller.specs.Ends.{TellsAnswer};
 ghost use Rattle.of_caller.specs.Lanes.{IsHeldAnswer};
-ghost use Rattle.of_memory.specs.History.{Made};
-ghost use Rattle.of_memory.specs.Calls.{AreMade};
-ghost use Rattle.of_memory.specs.Serving.{IsScriptsRow, Serves, ended_of};
-ghost use Rattle.of_memory.specs.Called.{made_with, LeavesOpen, WasTried};
+ghost use Rattle.of_memory.specs.Serving.{IsScriptsRow, Serves};
+ghost use Rattle.of_memory.specs.Called.{MakesCallOf, MakesOpenCall};
+ghost use Rattle.of_memory.specs.Called.{LeavesOpen, LeavesOpenCall, WasTried};
 ghost use Rattle.of_memory.specs.Called.{CallerOpensOnly, CallerOpensNone};
 
 use crate::error::RunErr;
@@ -68,8 +64,7 @@ fn call_counted<L: Ledger>(
     requires idle { IsIdle (caller_call caller.old) }
     requires ticket { (caller_call caller.old).made + 1 < 4294967296 }
     ensures serves { Serves row.now number caller.new }
-    ensures made { (ms : List Made) → AreMade (ended_of caller.old) ms
-        → AreMade (ended_of caller.new) (made_with script.now result ms) }
+    ensures made { MakesCallOf script.now result caller.old caller.new }
     ensures open_call { LeavesOpen script.now result caller.new }
     ensures tried { WasTried result }
     ensures only { CallerOpensOnly script.now caller.old caller.new }
@@ -99,11 +94,8 @@ fn go_on_counted<L: Ledger>(
     requires serves { Serves row.now number caller.old }
     requires open_call { IsOpen (caller_call caller.old).place }
     ensures serves { Serves row.now number caller.new }
-    ensures made { (script : List TheInstr) (ms : List Made) → IsScript script
-        → (caller_call caller.old).op ≡ map instr_word script → AreMade (ended_of caller.old) ms
-        → AreMade (ended_of caller.new) (made_with script result ms) }
-    ensures open_call { (script : List TheInstr) → IsScript script
-        → (caller_call caller.old).op ≡ map instr_word script → LeavesOpen script result caller.new }
+    ensures made { MakesOpenCall result caller.old caller.new }
+    ensures open_call { LeavesOpenCall result caller.old caller.new }
     ensures only { CallerOpensNone caller.old caller.new }
 {
     let mut steps: Steps<L> = Steps::new(blank);
@@ -135,8 +127,7 @@ pub(crate) fn call_script(
     requires idle { IsIdle (caller_call caller.old) }
     requires ticket { (caller_call caller.old).made + 1 < 4294967296 }
     ensures serves { Serves row.now number caller.new }
-    ensures made { (ms : List Made) → AreMade (ended_of caller.old) ms
-        → AreMade (ended_of caller.new) (made_with script.now result ms) }
+    ensures made { MakesCallOf script.now result caller.old caller.new }
     ensures open_call { LeavesOpen script.now result caller.new }
     ensures tried { WasTried result }
     ensures only { CallerOpensOnly script.now caller.old caller.new }
@@ -160,11 +151,8 @@ pub(crate) fn go_on_with(
     requires serves { Serves row.now number caller.old }
     requires open_call { IsOpen (caller_call caller.old).place }
     ensures serves { Serves row.now number caller.new }
-    ensures made { (script : List TheInstr) (ms : List Made) → IsScript script
-        → (caller_call caller.old).op ≡ map instr_word script → AreMade (ended_of caller.old) ms
-        → AreMade (ended_of caller.new) (made_with script result ms) }
-    ensures open_call { (script : List TheInstr) → IsScript script
-        → (caller_call caller.old).op ≡ map instr_word script → LeavesOpen script result caller.new }
+    ensures made { MakesOpenCall result caller.old caller.new }
+    ensures open_call { LeavesOpenCall result caller.old caller.new }
     ensures only { CallerOpensNone caller.old caller.new }
 {
     let Ok(fuel) = Box::new(alloc, fuel_of(stop)) else {

@@ -38,13 +38,15 @@ pub enum RunErr {
     /// Nothing was begun.
     #[error("out of memory")]
     OutOfMemory,
-    /// The call has asked for so many steps, and the last one was denied. It stays open, for `go_on`.
+    /// The call has asked for so many steps, and the last one was denied. It stays open, for
+    /// `go_on`.
     #[error("stopped at step {asked}")]
     Stopped { asked: u64 },
     /// The sequence has come to the limit without the call, which is over.
     #[error("no sequence is left after {seq}")]
     Spent { seq: u32 },
-    /// A call is open, and `run` begins none beside it; or none is open, with which `go_on` could go on.
+    /// A call is open, and `run` begins none beside it; or none is open, with which `go_on` could
+    /// go on.
     #[error("a call is open, or none is")]
     Open,
     /// The number has made all calls that it may make.

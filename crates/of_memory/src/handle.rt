@@ -24,15 +24,16 @@ impl Handle {
     ghost use Rattle.std.specs.Prelude.{◌≡◌, ◌≢◌, ◌↔◌, IsTrue, List, ℕ};
     ghost use Rattle.of_script.specs.declared.instr.Instr.{Instr as TheInstr};
     ghost use Rattle.of_memory.specs.History.{Made};
-    ghost use Rattle.of_memory.specs.Called.{made_with, LeavesOpen, IsRefusedBy};
-    ghost use Rattle.of_memory.specs.Handles.{IsHandle, HasMade, HasOpen, IsSame};
-    ghost use Rattle.of_memory.specs.Handles.{OpensOnly, OpensNone};
+    ghost use Rattle.of_memory.specs.Handles.{IsHandle, HasMade, HasOpen, IsSame, MakesCall};
+    ghost use Rattle.of_memory.specs.Handles.{number_of_handle};
+    ghost use Rattle.of_memory.specs.Handles.{ResumesCall, StaysOpenIfStopped, OpenCallStays, RefusesCall};
     ghost use Rattle.of_memory.specs.Memories.{IsMemory, IsFrom, IsStill, HasMadeOf, KnowsOthers};
     ghost use Rattle.of_memory.specs.Memories.{HasOpenOf, OthersStayOpen, PutsBack};
+    ghost use Rattle.of_memory.specs.Handles.{OpensOnly, OpensNone};
 
     /// Its number.
     pub fn number(&self) -> u32
-        ensures { result ≡ self.now.number }
+        ensures { result ≡ number_of_handle self.now }
     {
         self.number
     }
@@ -42,10 +43,9 @@ impl Handle {
         requires { IsHandle self.old }
         ensures handle { IsHandle self.new }
         ensures same { IsSame self.old self.new }
-        ensures made { (ms : List Made) → HasMade self.old ms
-            → HasMade self.new (made_with script.now result ms) }
-        ensures open_call { LeavesOpen script.now result self.new.caller }
-        ensures cause { IsRefusedBy self.old.caller result }
+        ensures made { MakesCall script.now result self.old self.new }
+        ensures open_call { StaysOpenIfStopped script.now result self.new }
+        ensures cause { RefusesCall self.old result }
         ensures only { OpensOnly script.now self.old self.new }
     {
         self.begin(script, None)
@@ -56,10 +56,9 @@ impl Handle {
         requires { IsHandle self.old }
         ensures handle { IsHandle self.new }
         ensures same { IsSame self.old self.new }
-        ensures made { (ms : List Made) → HasMade self.old ms
-            → HasMade self.new (made_with script.now result ms) }
-        ensures open_call { LeavesOpen script.now result self.new.caller }
-        ensures cause { IsRefusedBy self.old.caller result }
+        ensures made { MakesCall script.now result self.old self.new }
+        ensures open_call { StaysOpenIfStopped script.now result self.new }
+        ensures cause { RefusesCall self.old result }
         ensures only { OpensOnly script.now self.old self.new }
     {
         self.begin(script, Some(steps))
@@ -69,10 +68,9 @@ impl Handle {
         requires { IsHandle self.old }
         ensures handle { IsHandle self.new }
         ensures same { IsSame self.old self.new }
-        ensures made { (ms : List Made) → HasMade self.old ms
-            → HasMade self.new (made_with script.now result ms) }
-        ensures open_call { LeavesOpen script.now result self.new.caller }
-        ensures cause { IsRefusedBy self.old.caller result }
+        ensures made { MakesCall script.now result self.old self.new }
+        ensures open_call { StaysOpenIfStopped script.now result self.new }
+        ensures cause { RefusesCall self.old result }
         ensures only { OpensOnly script.now self.old self.new }
     {
         if !self.caller.is_idle() {
@@ -96,10 +94,8 @@ impl Handle {
         requires { IsHandle self.old }
         ensures handle { IsHandle self.new }
         ensures same { IsSame self.old self.new }
-        ensures made { (script : List TheInstr) (ms : List Made) → HasOpen self.old script
-            → HasMade self.old ms → HasMade self.new (made_with script result ms) }
-        ensures open_call { (script : List TheInstr) → HasOpen self.old script
-            → LeavesOpen script result self.new.caller }
+        ensures made { ResumesCall result self.old self.new }
+        ensures open_call { OpenCallStays result self.old self.new }
         ensures only { OpensNone self.old self.new }
     {
         self.resume(None)
@@ -110,10 +106,8 @@ impl Handle {
         requires { IsHandle self.old }
         ensures handle { IsHandle self.new }
         ensures same { IsSame self.old self.new }
-        ensures made { (script : List TheInstr) (ms : List Made) → HasOpen self.old script
-            → HasMade self.old ms → HasMade self.new (made_with script result ms) }
-        ensures open_call { (script : List TheInstr) → HasOpen self.old script
-            → LeavesOpen script result self.new.caller }
+        ensures made { ResumesCall result self.old self.new }
+        ensures open_call { OpenCallStays result self.old self.new }
         ensures only { OpensNone self.old self.new }
     {
         self.resume(Some(steps))
@@ -123,10 +117,8 @@ impl Handle {
         requires { IsHandle self.old }
         ensures handle { IsHandle self.new }
         ensures same { IsSame self.old self.new }
-        ensures made { (script : List TheInstr) (ms : List Made) → HasOpen self.old script
-            → HasMade self.old ms → HasMade self.new (made_with script result ms) }
-        ensures open_call { (script : List TheInstr) → HasOpen self.old script
-            → LeavesOpen script result self.new.caller }
+        ensures made { ResumesCall result self.old self.new }
+        ensures open_call { OpenCallStays result self.old self.new }
         ensures only { OpensNone self.old self.new }
     {
         if self.caller.is_idle() {
@@ -135,19 +127,20 @@ impl Handle {
         go_on_with(self.alloc, &self.row, self.number, &mut self.caller, stop)
     }
 
-    /// Leaves its memory, which keeps what it has made; a call that is open stays open. Then its number
-    /// is free again.
+    /// Leaves its memory, which keeps what it has made; a call that is open stays open. Then its
+    /// number is free again.
     pub fn leave(self, memory: &mut Memory)
         requires handle { IsHandle self }
         requires memory { IsMemory memory.old }
         requires from { IsFrom memory.old self }
         ensures memory { IsMemory memory.new }
         ensures still { IsStill memory.old memory.new }
-        ensures made { (ms : List Made) → HasMade self ms → HasMadeOf memory.new self.number ms }
+        ensures made { (ms : List Made) → HasMade self ms
+            → HasMadeOf memory.new (number_of_handle self) ms }
         ensures open_call { (script : List TheInstr) → HasOpen self script
-            → HasOpenOf memory.new self.number script }
-        ensures others { KnowsOthers self.number memory.old memory.new }
-        ensures others_open { OthersStayOpen self.number memory.old memory.new }
+            → HasOpenOf memory.new (number_of_handle self) script }
+        ensures others { KnowsOthers (number_of_handle self) memory.old memory.new }
+        ensures others_open { OthersStayOpen (number_of_handle self) memory.old memory.new }
         ensures back { PutsBack memory.old memory.new self }
     {
         let Handle {

@@ -1,4 +1,5 @@
-//! A memory that a program opens: threads run scripts on one store, and what is closed can be opened again.
+//! A memory that a program opens: threads run scripts on one store, and what is closed can be
+//! opened again.
 #![tactic(auto)]
 
 mod at_once;

@@ -2,10 +2,10 @@
 
 use crate::error::{EnrolErr, InUse, OpenErr};
 use crate::handle::Handle;
-use crate::saved::{Saved, shape_of};
+use crate::saved::Saved;
 use crate::seating::{all_here, gather, put_at, seat_all, take_at};
 use of_caller::Caller;
-use of_eval::Scripts;
+use of_eval::{Scripts, shape_of};
 use of_mem::{MOST_BLOCKS, MOST_CALLERS};
 use of_plan::GREATEST_LIMIT;
 use of_row::{Pass, Row};
@@ -23,24 +23,27 @@ pub struct Memory {
 }
 
 impl Memory {
-    ghost use Rattle.std.specs.Prelude.{◌≡◌, ◌<◌, ◌≤◌, ℕ, List, [], IfOk, IfErr, OnErr, length};
-    ghost use Rattle.of_store.specs.State.{Store, empty_store};
+    ghost use Rattle.std.specs.Prelude.{◌≡◌, ◌<◌, ◌≤◌, ℕ, List, [], IfOk, IfErr, OnErr};
+    ghost use Rattle.of_store.specs.Store.{Store, empty_store};
     ghost use Rattle.of_row.specs.Rows.{key_of};
     ghost use Rattle.of_row.specs.Passes.{IsFirst};
     ghost use Rattle.of_memory.specs.History.{Made};
     ghost use Rattle.of_memory.specs.Calls.{AreMade};
-    ghost use Rattle.of_memory.specs.Serving.{IsScriptsRow, Serves, AllHere, ended_of};
-    ghost use Rattle.of_memory.specs.Saving.{IsSaved, SavedHolds, saved_ticket};
-    ghost use Rattle.of_memory.specs.Handles.{IsHandle, HasMade, HasOpen};
-    ghost use Rattle.of_memory.specs.Memories.{IsMemory, row_of, callers_of, StartsWith, tickets_before};
+    ghost use Rattle.of_memory.specs.Serving.{IsScriptsRow, Serves, ended_of};
+    ghost use Rattle.of_memory.specs.Saving.{IsSaved, SavedHolds, saved_callers, saved_ticket};
+    ghost use Rattle.of_memory.specs.Handles.{IsHandle, HasMade, HasOpen, number_of_handle};
+    ghost use Rattle.of_memory.specs.Memories.{IsMemory, row_of, callers_of, StartsWith};
+    ghost use Rattle.of_memory.specs.Memories.{tickets_before};
     ghost use Rattle.of_memory.specs.Memories.{HasMadeOf, IsFrom, IsStill, KnowsOthers, HasHistory};
-    ghost use Rattle.of_memory.specs.Memories.{IsOpenCause, IsEnrolCause, HasOpenOf, OthersStayOpen};
+    ghost use Rattle.of_memory.specs.Memories.{IsOpenCause, IsEnrolCause, HasOpenOf};
+    ghost use Rattle.of_memory.specs.Memories.{OthersStayOpen};
+    ghost use Rattle.of_memory.specs.Memories.{HasNoHandleOut};
     ghost use Rattle.of_memory.specs.Memories.{HasNoneOpen, TakesOut, TakesNone, PutsCaller};
     ghost use Rattle.of_script.specs.declared.instr.Instr.{Instr as TheInstr};
     ghost use Rattle.of_memory.specs.Called.{IsOpenAt};
 
-    /// An empty memory: 1 to 16 callers, and room for at most 512 keys and queued items. `limit` is the
-    /// last sequence that may be committed.
+    /// An empty memory: 1 to 16 callers, and room for at most 512 keys and queued items. `limit` is
+    /// the last sequence that may be committed.
     pub fn open(alloc: Global, callers: u32, blocks: u32, limit: u32) -> Result<Memory, OpenErr>
         ensures memory { IfOk result IsMemory }
         ensures callers { IfOk result (λ m. callers_of m ≡ callers) }
@@ -87,12 +90,12 @@ impl Memory {
     pub fn reopen(alloc: Global, saved: &Saved) -> Result<Memory, AllocError>
         requires { IsSaved saved.now }
         ensures memory { IfOk result IsMemory }
-        ensures callers { IfOk result (λ m. callers_of m ≡ saved.now.scripts.callers) }
+        ensures callers { IfOk result (λ m. callers_of m ≡ saved_callers saved.now) }
         ensures goes_on { IfOk result (λ m. (s : Store) → SavedHolds saved.now s → StartsWith m s) }
-        ensures tickets { IfOk result (λ m. (n : ℕ) → n < saved.now.scripts.callers
+        ensures tickets { IfOk result (λ m. (n : ℕ) → n < saved_callers saved.now
             → tickets_before m n ≡ saved_ticket saved.now n) }
         ensures none { IfOk result (λ m.
-            (n : ℕ) → n < saved.now.scripts.callers → HasMadeOf m n []) }
+            (n : ℕ) → n < saved_callers saved.now → HasMadeOf m n []) }
         ensures idle { IfOk result HasNoneOpen }
     {
         let shape = shape_of(saved.scripts);
@@ -133,7 +136,7 @@ impl Memory {
         ensures still { IsStill self.old self.new }
         ensures handle { IfOk result IsHandle }
         ensures from { IfOk result (IsFrom self.new) }
-        ensures number { IfOk result (λ h. h.number ≡ number) }
+        ensures number { IfOk result (λ h. number_of_handle h ≡ number) }
         ensures made { IfOk result (λ h. (ms : List Made) → HasMadeOf self.old number ms
             → HasMade h ms) }
         ensures open_call { IfOk result (λ h. (script : List TheInstr)
@@ -167,7 +170,8 @@ impl Memory {
         requires caller { Serves (row_of self.old) number caller }
         ensures memory { IsMemory self.new }
         ensures still { IsStill self.old self.new }
-        ensures made { (ms : List Made) → AreMade (ended_of caller) ms → HasMadeOf self.new number ms }
+        ensures made { (ms : List Made) → AreMade (ended_of caller) ms
+            → HasMadeOf self.new number ms }
         ensures open_call { (script : List TheInstr) → IsOpenAt script caller
             → HasOpenOf self.new number script }
         ensures others { KnowsOthers number self.old self.new }
@@ -183,7 +187,7 @@ impl Memory {
         requires { IsMemory self }
         ensures saved { IfOk result IsSaved }
         ensures history { IfOk result (HasHistory self) }
-        ensures callers { IfOk result (λ d. d.scripts.callers ≡ callers_of self) }
+        ensures callers { IfOk result (λ d. saved_callers d ≡ callers_of self) }
         ensures in_use { IfErr result (λ e. e.0 ≡ self) }
     {
         if all_here(&self.callers) {
@@ -196,10 +200,10 @@ impl Memory {
     // The same, where no handle is out.
     fn close_at_home(self) -> Result<Saved, InUse>
         requires memory { IsMemory self }
-        requires here { AllHere self.callers.items (length self.callers.items) }
+        requires here { HasNoHandleOut self }
         ensures saved { IfOk result IsSaved }
         ensures history { IfOk result (HasHistory self) }
-        ensures callers { IfOk result (λ d. d.scripts.callers ≡ callers_of self) }
+        ensures callers { IfOk result (λ d. saved_callers d ≡ callers_of self) }
         ensures in_use { IfErr result (λ e. e.0 ≡ self) }
     {
         let Memory {

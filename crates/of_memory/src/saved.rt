@@ -1,6 +1,6 @@
 //! What a closed memory leaves.
 
-ghost use Rattle.std.specs.Prelude.{◌≡◌, ◌<◌, ◌≤◌, ◌+◌, ℕ, List, IfOk, IfSome, IsSome, length, map};
+ghost use Rattle.std.specs.Prelude.{◌≡◌, ◌<◌, ◌≤◌, ◌+◌, IfOk, IfSome, IsSome, length, map};
 ghost use Rattle.std.specs.Prelude.{slice_index_or, slice_range};
 ghost use Rattle.of_cell.specs.Words.{payload_of};
 ghost use Rattle.of_cell.specs.Cells.{data_cell, durable_cells};
@@ -12,7 +12,7 @@ ghost use Rattle.of_eval.specs.Scripts.{scripts_data_cells};
 use crate::error::StoreErr;
 use crate::laws::history_is_held;
 use of_cell::{Shape, payload_of};
-use of_eval::{Scripts, lawful, reply_of};
+use of_eval::{Scripts, lawful, reply_of, shape_of};
 use of_mem::{MOST_INSTRS, RawReply};
 use of_recover::laws::recovered_cells;
 use of_recover::recover;
@@ -20,20 +20,6 @@ use of_row::{Pass, Row};
 use of_script::Reply;
 use of_store::Store;
 use std::alloc::{AllocError, Global};
-
-/// The shape of a table for scripts.
-pub(crate) fn shape_of(scripts: Scripts) -> Shape
-    ensures callers { result.callers ≡ scripts.callers }
-    ensures instrs { result.instrs ≡ MOST_INSTRS }
-    ensures cells { result.cells ≡ scripts_data_cells scripts }
-{
-    let plot = scripts.plot();
-    Shape {
-        callers: plot.callers,
-        instrs: plot.instrs,
-        cells: plot.cells(),
-    }
-}
 
 /// The words of the data cells in a durable row.
 fn data_words(alloc: Global, shape: &Shape, row: &[u64]) -> Result<Vec<u64>, AllocError>
@@ -81,28 +67,24 @@ pub struct Saved {
 }
 
 impl Saved {
-    ghost use Rattle.of_row.specs.Rows.{IsSeatOf, key_of, setup_at};
-    ghost use Rattle.of_mem.specs.ProgramWork.{memory_of};
-    ghost use Rattle.of_eval.specs.Lawful.{reply_in};
-    ghost use Rattle.of_store.specs.State.{Store, Reply};
+    ghost use Rattle.of_row.specs.Rows.{key_of, setup_at, view_of_pass, IsRowPass};
+    ghost use Rattle.of_store.specs.Store.{Reply};
     ghost use Rattle.of_store.specs.Replies.{reply_value_of};
-    ghost use Rattle.of_memory.specs.History.{HistoryEntry};
-    ghost use Rattle.of_memory.specs.Laws.{HistoryLeads, KeepScripts, StandsAt};
     ghost use Rattle.of_eval.specs.Scripts.{scripts_meaning};
-    ghost use Rattle.of_memory.specs.Serving.{IsScriptsRow, start_of_row};
-    ghost use Rattle.of_memory.specs.Saving.{IsSaved, SavedHolds, HoldsReply, start_in, saved_ticket};
+    ghost use Rattle.of_memory.specs.Laws.{KeepScripts};
+    ghost use Rattle.of_memory.specs.Serving.{IsScriptsRow};
+    ghost use Rattle.of_memory.specs.Saving.{IsSaved, SavedHolds, SavesHistory, HoldsReply};
+    ghost use Rattle.of_memory.specs.Saving.{start_in, saved_callers, saved_limit, saved_reply, saved_ticket};
 
     // Closes a row, takes its durable words alone, as a crash does, and recovers them.
     pub(crate) fn close(row: Row<Scripts>, pass: Pass) -> Saved
         requires row { IsScriptsRow row }
-        requires pass { IsSeatOf row pass.seat }
-        requires keeps { KeepScripts (setup_at scripts_meaning row) pass.seat.me.0 }
+        requires pass { IsRowPass row pass }
+        requires keeps { KeepScripts (setup_at scripts_meaning row) (view_of_pass pass) }
         ensures scripts { result.scripts ≡ (key_of row).work }
-        ensures limit { result.limit ≡ (key_of row).limit }
+        ensures limit { saved_limit result ≡ (key_of row).limit }
         ensures saved { IsSaved result }
-        ensures leads { (s : Store) → StandsAt (key_of row).work (start_of_row row) s
-            → (h : List HistoryEntry) × HistoryLeads (key_of row).work (key_of row).limit (start_of_row row)
-            pass.seat.me.0 s result.row.items h }
+        ensures leads { SavesHistory row (view_of_pass pass) result }
     {
         let scripts = row.work();
         let limit = row.limit();
@@ -117,16 +99,17 @@ impl Saved {
             row: words,
         }
     }
+
     /// How many callers it has.
     pub fn callers(&self) -> u32
-        ensures { result ≡ self.now.scripts.callers }
+        ensures { result ≡ saved_callers self.now }
     {
         self.scripts.callers
     }
 
     /// The last sequence that may be committed.
     pub fn limit(&self) -> u32
-        ensures { result ≡ self.now.limit }
+        ensures { result ≡ saved_limit self.now }
     {
         self.limit
     }
@@ -145,13 +128,14 @@ impl Saved {
     /// How many calls of a caller it holds: the number of its last one, whoever finished it.
     pub fn ticket(&self, number: u32) -> u32
         requires saved { IsSaved self.now }
-        requires number { number < self.now.scripts.callers }
+        requires number { number < saved_callers self.now }
         ensures { result ≡ saved_ticket self.now number }
     {
         let ticket = self.scripts.plot().ticket(number);
         let cell = shape_of(self.scripts).data_cell(ticket);
         payload_of(self.row[cell as usize])
     }
+
     // The number of a data cell.
     fn number(&self, cell: u32) -> u32
         requires saved { IsSaved self.now }
@@ -165,8 +149,8 @@ impl Saved {
     // The reply in a caller's own cells.
     fn reply(&self, number: u32) -> RawReply
         requires saved { IsSaved self.now }
-        requires number { number < self.now.scripts.callers }
-        ensures { result ≡ reply_in MOST_INSTRS (memory_of (map payload_of (start_in self.now).cells)) number }
+        requires number { number < saved_callers self.now }
+        ensures { result ≡ saved_reply self.now number }
     {
         let plot = self.scripts.plot();
         let mut values = [0; MOST_INSTRS];
@@ -179,11 +163,11 @@ impl Saved {
         }
     }
 
-    /// The number of a caller's last call that it holds, and the reply to it, also if the caller was
-    /// stopped before it was answered. None if it holds none.
+    /// The number of a caller's last call that it holds, and the reply to it, also if the caller
+    /// was stopped before it was answered. None if it holds none.
     pub fn last_reply(&self, number: u32) -> Option<(u32, Reply)>
         requires saved { IsSaved self.now }
-        requires number { number < self.now.scripts.callers }
+        requires number { number < saved_callers self.now }
         ensures ticket { IfSome result (λ r. r.0 ≡ saved_ticket self.now number) }
         ensures reply { IfSome result (λ r. HoldsReply self.now number (reply_value_of r.1)) }
         ensures some { (r : Reply) → HoldsReply self.now number r

@@ -1,8 +1,9 @@
 //! The callers of a memory: seated when it is opened, and gathered when it is closed.
 
-ghost use Rattle.std.specs.Prelude.{◌≡◌, ◌+◌, ◌<◌, ℕ, IfOk, IsTrue, Some, None, length, slice_index_or, slice_set};
+ghost use Rattle.std.specs.Prelude.{◌≡◌, ◌+◌, ◌<◌, ℕ, IfOk, IsTrue, Some, None, length};
+ghost use Rattle.std.specs.Prelude.{slice_index_or, slice_set};
 ghost use Rattle.of_eval.specs.declared.scripts.Scripts.{Scripts as TheScripts};
-ghost use Rattle.of_row.specs.Rows.{IsSeatOf, key_of};
+ghost use Rattle.of_row.specs.Rows.{key_of, view_of_pass, IsRowPass};
 ghost use Rattle.of_row.specs.Passes.{IsFirst};
 ghost use Rattle.of_caller.specs.declared.caller.Caller.{Caller as TheCaller};
 ghost use Rattle.of_memory.specs.Laws.{KeepsSo};
@@ -44,7 +45,7 @@ pub(crate) fn seat_all(
     mut pass: Pass,
 ) -> Result<(Vec<Option<Caller<Scripts>>>, Pass), AllocError>
     requires { IsFirst row.now pass }
-    ensures pass { IfOk result (λ r. IsSeatOf row.now r.1.seat) }
+    ensures pass { IfOk result (λ r. IsRowPass row.now r.1) }
     ensures each { IfOk result (λ r. length r.0.items ≡ (key_of row.now).callers) }
     ensures new { IfOk result (λ r.
         AllStand (IsNew row.now) (key_of row.now).callers r.0.items) }
@@ -93,12 +94,13 @@ pub(crate) fn all_here(callers: &[Option<Caller<Scripts>>]) -> bool
 
 // Hands all that a caller has made to the pass, which keeps it.
 fn gather_one(row: &Row<Scripts>, pass: Pass, number: usize, caller: Caller<Scripts>) -> Pass
-    requires pass { IsSeatOf row.now pass.seat }
+    requires pass { IsRowPass row.now pass }
     requires serves { Serves row.now number caller }
-    ensures pass { IsSeatOf row.now result.seat }
-    ensures own { KeepsSo number (IsKeptOf caller) result.seat.me.0.kept }
-    ensures others { (n : ℕ) (c : TheCaller TheScripts) → KeepsSo n (IsKeptOf c) pass.seat.me.0.kept
-        → KeepsSo n (IsKeptOf c) result.seat.me.0.kept }
+    ensures pass { IsRowPass row.now result }
+    ensures own { KeepsSo number (IsKeptOf caller) (view_of_pass result).kept }
+    ensures others { (n : ℕ) (c : TheCaller TheScripts)
+        → KeepsSo n (IsKeptOf c) (view_of_pass pass).kept
+        → KeepsSo n (IsKeptOf c) (view_of_pass result).kept }
 {
     row.join(pass, caller.leave())
 }
@@ -109,10 +111,11 @@ pub(crate) fn gather(
     mut pass: Pass,
     callers: &mut Vec<Option<Caller<Scripts>>>,
 ) -> Pass
-    requires pass { IsSeatOf row.now pass.seat }
+    requires pass { IsRowPass row.now pass }
     requires serve { ServeAll row.now callers.old.items }
-    ensures pass { IsSeatOf row.now result.seat }
-    ensures keeps { KeepsThose callers.old.items (length callers.old.items) result.seat.me.0.kept }
+    ensures pass { IsRowPass row.now result }
+    ensures keeps { KeepsThose callers.old.items (length callers.old.items)
+        (view_of_pass result).kept }
 {
     for number in 0..callers.len() {
         if let Some(caller) = take_at(callers, number) {

@@ -12,7 +12,7 @@ use Rattle.of_mem.specs.Stores.{CellStore, StandsForStore, IsChain, IsBucket, fi
 use Rattle.of_mem.specs.declared.part.Need.{Need}
 use Rattle.of_mem.specs.declared.plot.Plot.{Plot}
 use Rattle.of_mem.specs.Plots.{base}
-use Rattle.of_mem.specs.Pad.{Part}
+use Rattle.of_mem.specs.Part.{Part}
 use Rattle.of_mem.specs.Calls.{RunsProgram, AnswersOfStore}
 use Rattle.of_mem.proofs.Calls.{answered}
 use Rattle.of_mem.proofs.Counts.{blocks_below, few_blocks}

@@ -3,7 +3,7 @@ use Rattle.std.proofs.Common.{◌≡◌, ℕ, suc, ◌+◌, ◌-◌, ◌<◌, �
 use Rattle.of_mem.specs.declared.plot.Plot.{Plot}
 use Rattle.of_mem.specs.Plots.{base, data_cell_count}
 use Rattle.of_mem.specs.Places.{keys_at, bucket_at}
-use Rattle.of_mem.specs.Pad.{Part, newest_at, write}
+use Rattle.of_mem.specs.Part.{Part, newest_at, write}
 use Rattle.of_mem.specs.Programs.{StaysBetween, Read, Lacks, Ends, run_program, then_do, with_value, memory_after, IsPartOf}
 use Rattle.of_mem.specs.Stores.{CellStore, first_at, link_at}
 use Rattle.of_mem.specs.Calls.{RunsProgram, HasStore}

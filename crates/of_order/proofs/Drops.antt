@@ -9,7 +9,7 @@ use Rattle.of_mem.specs.declared.plot.TheConstants.{MOST_BLOCKS}
 use Rattle.of_mem.specs.declared.part.Need.{Need}
 use Rattle.of_mem.specs.declared.plot.Plot.{Plot}
 use Rattle.of_mem.specs.Plots.{base}
-use Rattle.of_mem.specs.Pad.{Part}
+use Rattle.of_mem.specs.Part.{Part}
 use Rattle.of_mem.specs.Places.{keys_at, bucket_at, cells_at}
 use Rattle.of_mem.specs.Programs.{Program, Write, with_value, program_answer, memory_after, StaysBetween, StaysFrom}
 use Rattle.of_mem.specs.Stores.{CellStore, StandsForStore, first_at, link_at}

@@ -7,7 +7,7 @@ use Rattle.of_mem.specs.declared.part.Need.{Need}
 use Rattle.of_mem.specs.declared.plot.Plot.{Plot}
 use Rattle.of_mem.specs.Plots.{base, data_cell_count}
 use Rattle.of_mem.specs.Places.{bucket_at}
-use Rattle.of_mem.specs.Pad.{Part, newest_at}
+use Rattle.of_mem.specs.Part.{Part, newest_at}
 use Rattle.of_mem.specs.Programs.{Program, then_do, Read, Lacks, Ends, run_program, IsPartOf}
 use Rattle.of_mem.specs.Stores.{IsChain, link_at, first_at}
 use Rattle.of_mem.specs.Calls.{HasStore, RunsProgram}

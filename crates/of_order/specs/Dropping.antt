@@ -1,4 +1,5 @@
--- Where dropping stands: which keys are gone already. The cell that counts the keys still counts them.
+-- Where dropping stands: which keys are gone already. The cell that counts the keys still counts
+-- them.
 use Rattle.std.specs.Prelude.{◌≡◌, ℕ, ◌+◌, ◌%◌, ◌<◌, ◌≤◌, List, ◌++◌, length, Some, None}
 use Rattle.std.specs.List.{AllByRecursion as Each}
 use Rattle.std.specs.FinMap as fin
@@ -6,7 +7,7 @@ use Rattle.of_mem.specs.declared.plot.Plot.{Plot}
 use Rattle.of_mem.specs.declared.plot.TheConstants.{BUCKETS}
 use Rattle.of_mem.specs.Places.{keys_at}
 use Rattle.of_mem.specs.Plots.{base, data_cell_count}
-use Rattle.of_mem.specs.Pad.{Part, newest_at}
+use Rattle.of_mem.specs.Part.{Part, newest_at}
 use Rattle.of_mem.specs.Programs.{with_value, IsPartOf}
 use Rattle.of_mem.specs.Stores.{CellStore, StandsForStore, front_at, first_at, cell_after}
 
@@ -16,8 +17,10 @@ pub record HasFewerKeys (low : ℕ) (first s : CellStore) (gone : ℕ) : Type 0 
   pub others : s ≡ record first { map = s.map }
   pub count : fin.len s.map + gone ≡ fin.len first.map
 
--- the buckets before this one have no key below the lowest that stays; but for the number of keys, the cells stand for a store
-pub record IsBetweenBuckets (o blocks low i : ℕ) (first : CellStore) (m : ℕ → ℕ) (gone : ℕ) : Type 0 where
+-- the buckets before this one have no key below the lowest that stays; but for the number of keys,
+-- the cells stand for a store
+pub record IsBetweenBuckets (o blocks low i : ℕ) (first : CellStore) (m : ℕ → ℕ) (gone : ℕ)
+    : Type 0 where
   pub store : CellStore
   pub stands : StandsForStore o blocks (with_value m (keys_at o) (fin.len store.map)) store
   pub fewer : HasFewerKeys low first store gone
@@ -26,7 +29,8 @@ pub record IsBetweenBuckets (o blocks low i : ℕ) (first : CellStore) (m : ℕ 
   pub cleared : (key : ℕ) → key < low → key % BUCKETS < i → fin.get store.map key ≡ None
 
 -- inside bucket i: the blocks before this pointer cell stay, and these are behind it
-pub record IsInsideBucket (o blocks low i : ℕ) (first : CellStore) (m : ℕ → ℕ) (cell pointer gone : ℕ) (behind : List ℕ) : Type 0 where
+pub record IsInsideBucket (o blocks low i : ℕ) (first : CellStore) (m : ℕ → ℕ)
+    (cell pointer gone : ℕ) (behind : List ℕ) : Type 0 where
   pub state : IsBetweenBuckets o blocks low i first m gone
   pub before : List ℕ
   pub split : state.stands.chains (1 + i) ≡ before ++ behind

@@ -11,14 +11,17 @@ use Rattle.of_order.specs.Means.{better_of}
 
 -- The least key from one on: the front of each bucket, and of each block its key and its link.
 
-abbrev pub weigh_link : ℕ → (ℕ → Option ℕ → Program (Option ℕ)) → Option ℕ → ℕ → ℕ → Program (Option ℕ)
+abbrev pub weigh_link : ℕ → (ℕ → Option ℕ → Program (Option ℕ)) → Option ℕ → ℕ → ℕ
+    → Program (Option ℕ)
 weigh_link low further best k link = further link (better_of low k best)
 
-abbrev pub weigh_key : ℕ → ℕ → (ℕ → Option ℕ → Program (Option ℕ)) → ℕ → Option ℕ → ℕ → Program (Option ℕ)
+abbrev pub weigh_key : ℕ → ℕ → (ℕ → Option ℕ → Program (Option ℕ)) → ℕ → Option ℕ → ℕ
+    → Program (Option ℕ)
 weigh_key o low further b best k = Read (link_at o b) (weigh_link low further best k)
 
 -- by the pointer in hand
-abbrev pub at_pointer : ℕ → ℕ → (ℕ → Option ℕ → Program (Option ℕ)) → Option ℕ → ℕ → Program (Option ℕ)
+abbrev pub at_pointer : ℕ → ℕ → (ℕ → Option ℕ → Program (Option ℕ)) → Option ℕ → ℕ
+    → Program (Option ℕ)
 at_pointer o low further best zero = Done best
 at_pointer o low further best (suc b) = Read (first_at o b) (weigh_key o low further b best)
 
@@ -36,7 +39,8 @@ least_in_program o blocks i low best = Read (bucket_at o i) (from_front o blocks
 -- so many buckets, from this one on
 unfoldable pub least_buckets : ℕ → ℕ → ℕ → ℕ → ℕ → Option ℕ → Program (Option ℕ)
 least_buckets o blocks low zero i best = Done best
-least_buckets o blocks low (suc j) i best = then_do (least_in_program o blocks i low best) (least_buckets o blocks low j (i + 1))
+least_buckets o blocks low (suc j) i best =
+    then_do (least_in_program o blocks i low best) (least_buckets o blocks low j (i + 1))
 
 abbrev pub least_program : ℕ → ℕ → ℕ → Program (Option ℕ)
 least_program o blocks low = least_buckets o blocks low BUCKETS 0 None
@@ -46,9 +50,11 @@ least_program o blocks low = least_buckets o blocks low BUCKETS 0 None
 abbrev pub after_give : ℕ → (ℕ → ℕ → ℕ → Program ℕ) → ℕ → ℕ → ℕ → Unit {0} → Program ℕ
 after_give o further cell link gone u = further cell link (gone + 1)
 
--- by whether the block's key is below: the pointer cell takes the link and the block is given, or the link is the next pointer cell
+-- by whether the block's key is below: the pointer cell takes the link and the block is given, or
+-- the link is the next pointer cell
 abbrev pub drop_or : ℕ → (ℕ → ℕ → ℕ → Program ℕ) → ℕ → ℕ → ℕ → ℕ → Bool → Program ℕ
-drop_or o further cell b gone link true = Write cell link (then_do (give_program o b) (after_give o further cell link gone))
+drop_or o further cell b gone link true =
+    Write cell link (then_do (give_program o b) (after_give o further cell link gone))
 drop_or o further cell b gone link false = further (link_at o b) link gone
 
 abbrev pub drop_link : ℕ → ℕ → (ℕ → ℕ → ℕ → Program ℕ) → ℕ → ℕ → ℕ → ℕ → ℕ → Program ℕ
@@ -59,7 +65,8 @@ drop_key o low further cell b gone k = Read (link_at o b) (drop_link o low furth
 
 abbrev pub drop_pointer : ℕ → ℕ → (ℕ → ℕ → ℕ → Program ℕ) → ℕ → ℕ → ℕ → Program ℕ
 drop_pointer o low further cell gone zero = Done gone
-drop_pointer o low further cell gone (suc b) = Read (first_at o b) (drop_key o low further cell b gone)
+drop_pointer o low further cell gone (suc b) =
+    Read (first_at o b) (drop_key o low further cell b gone)
 
 -- from this pointer cell on, which holds this pointer
 abbrev pub drop_walk : ℕ → ℕ → ℕ → ℕ → ℕ → ℕ → Program ℕ
@@ -82,7 +89,8 @@ count_gone_program o (suc g) = Read (keys_at o) (less_gone o (suc g))
 
 unfoldable pub drop_buckets : ℕ → ℕ → ℕ → ℕ → ℕ → ℕ → Program ℕ
 drop_buckets o blocks low zero i gone = count_gone_program o gone
-drop_buckets o blocks low (suc j) i gone = then_do (drop_in_program o blocks i low gone) (drop_buckets o blocks low j (i + 1))
+drop_buckets o blocks low (suc j) i gone =
+    then_do (drop_in_program o blocks i low gone) (drop_buckets o blocks low j (i + 1))
 
 abbrev pub drop_program : ℕ → ℕ → ℕ → Program ℕ
 drop_program o blocks low = drop_buckets o blocks low BUCKETS 0 0

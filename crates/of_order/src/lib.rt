@@ -30,7 +30,7 @@ pub fn next(plot: &Plot, part: &Part, key: u32) -> Result<Option<u32>, Need>
     least(plot, part, u64::from(key) + 1)
 }
 
-/// The least key from this one on, None where there is none.
+// The least key from this one on, None where there is none.
 fn least(plot: &Plot, part: &Part, low: u64) -> Result<Option<u32>, Need>
     requires { HasStore plot.now part.now }
     ensures { RunsProgram (program.least plot.now low) part.now part.now result }
@@ -42,7 +42,7 @@ fn least(plot: &Plot, part: &Part, low: u64) -> Result<Option<u32>, Need>
     Ok(best)
 }
 
-/// The least of the best key so far and of a bucket's keys from this one on.
+// The least of the best key so far and of a bucket's keys from this one on.
 fn least_in(
     plot: &Plot,
     part: &Part,
@@ -68,7 +68,7 @@ fn least_in(
     Ok(best)
 }
 
-/// The less of a key and the best so far, where the key is not below the lowest that is sought.
+// The less of a key and the best so far, where the key is not below the lowest that is sought.
 fn better(low: u64, key: u32, best: Option<u32>) -> Option<u32>
     ensures { result ≡ better_of low key best }
 {
@@ -86,7 +86,8 @@ fn better(low: u64, key: u32, best: Option<u32>) -> Option<u32>
 pub fn drop_below(plot: &Plot, part: &mut Part, key: u32) -> Result<u32, Need>
     requires { HasStore plot.now part.old }
     ensures runs { RunsProgram (program.drop_below plot.now key) part.old part.new result }
-    ensures acts { ActsOnStore plot.now part.old part.new result (dropped_count key) (after_drop key) }
+    ensures acts { ActsOnStore plot.now part.old part.new result
+        (dropped_count key) (after_drop key) }
 {
     let mut gone = 0;
     for bucket in 0..BUCKETS {
@@ -95,7 +96,7 @@ pub fn drop_below(plot: &Plot, part: &mut Part, key: u32) -> Result<u32, Need>
     count_down(plot, part, gone)
 }
 
-/// Drops the keys of a bucket that are below this one, and answers how many are gone then.
+// Drops the keys of a bucket that are below this one, and answers how many are gone then.
 fn drop_in(plot: &Plot, part: &mut Part, bucket: u32, key: u32, gone: u32) -> Result<u32, Need>
     requires stands { IsDropping plot.now part.old key bucket gone }
     requires bucket { bucket < BUCKETS }
@@ -123,7 +124,7 @@ fn drop_in(plot: &Plot, part: &mut Part, bucket: u32, key: u32, gone: u32) -> Re
     Ok(gone)
 }
 
-/// Counts so many keys less, and answers how many they are.
+// Counts so many keys less, and answers how many they are.
 fn count_down(plot: &Plot, part: &mut Part, gone: u32) -> Result<u32, Need>
     requires { IsDropped plot.now part.old gone }
     ensures { RunsProgram (program.count_gone plot.now gone) part.old part.new result }

@@ -8,14 +8,14 @@ use Rattle.of_cell.specs.Cells.{durable_cells}
 use Rattle.of_script.specs.declared.instr.Instr.{Instr}
 use Rattle.of_script.proofs.Instrs.{some_is}
 use Rattle.of_plan.specs.declared.plan.Item.TheVariants.{Turns as TurnsItem, Evict as EvictItem}
-use Rattle.of_plan.specs.declared.line.Entry.{Entry}
-use Rattle.of_plan.specs.declared.line.Entry.TheVariants.{Script, Stop, Turns, Evict}
-use Rattle.of_plan.specs.declared.line.Line.TheVariants.{Body}
-use Rattle.of_plan.specs.declared.reading.Stage.{Stage}
+use Rattle.of_plan.specs.declared.parser.line.BodyLine.{BodyLine}
+use Rattle.of_plan.specs.declared.parser.line.BodyLine.TheVariants.{Script, Stop, Turns, Evict}
+use Rattle.of_plan.specs.declared.parser.line.PlanLine.TheVariants.{Body}
+use Rattle.of_plan.specs.declared.parser.state.Stage.{Stage}
 use Rattle.of_plan.specs.Plan.{data_cells}
 use Rattle.of_plan.specs.Grammar.{Heading, AreEntries, stop_at, head_of, stop_in}
 use Rattle.of_plan.specs.LineReading.{IsLineInRange}
-use Rattle.of_plan.specs.Progress.{Reading, with_entry}
+use Rattle.of_plan.specs.Reading.{Reading, with_entry}
 use Rattle.of_plan.proofs.Entries.{after, after_script, after_stop, after_item, Adds, stop_same}
 
 -- a script goes to its caller
@@ -37,23 +37,23 @@ none_first [] e = refl
 none_first (x ∷ xs) e = absurd cc
 
 -- no stop of this caller stands among the entries
-no_stop : (stage : Stage) (h : Heading) (es : List Entry) (d : ℕ) → d < h.callers → is_some (get_or (after stage h es).stops d None) ≡ false → filter_map (stop_at d) es ≡ []
+no_stop : (stage : Stage) (h : Heading) (es : List BodyLine) (d : ℕ) → d < h.callers → is_some (get_or (after stage h es).stops d None) ≡ false → filter_map (stop_at d) es ≡ []
 no_stop stage h es d lt e =
     let at : get_or (after stage h es).stops d None ≡ stop_in es d = get_or-map-range_with_len (stop_in es) 0 h.callers d d None lt (omega arith) in
     none_first (filter_map (stop_at d) es) (ap is_some (sym at) ∙ e)
 
 -- a stop of a caller without one is the only one
-only_stop : (h : Heading) (es : List Entry) (d x : ℕ) → AreEntries h es → filter_map (stop_at d) es ≡ [] → (c : ℕ) → length (filter_map (stop_at c) es) + length (filter_map (stop_at c) (Stop d x ∷ [])) ≤ 1
+only_stop : (h : Heading) (es : List BodyLine) (d x : ℕ) → AreEntries h es → filter_map (stop_at d) es ≡ [] → (c : ℕ) → length (filter_map (stop_at c) es) + length (filter_map (stop_at c) (Stop d x ∷ [])) ≤ 1
 only_stop h es d x a none c = elim (eqb_tells d c) [
   | inl p ↦ (let here : length (filter_map (stop_at c) es) ≡ 0 = ap (λ (k : ℕ). length (filter_map (stop_at k) es)) (sym p.1) ∙ ap length none in rw p.0 (omega (arith, here)))
   | inr p ↦ rw p.0 (omega (arith, a.one_stop c))
 ]
 
-pub record Taken (stage : Stage) (h : Heading) (es : List Entry) (e : Entry) (q : Reading) : Type 0 where
+pub record Taken (stage : Stage) (h : Heading) (es : List BodyLine) (e : BodyLine) (q : Reading) : Type 0 where
   pub adds : Adds h es e
   pub leads : after stage h (es ++ e ∷ []) ≡ q
 
-pub taken : (stage : Stage) (h : Heading) (es : List Entry) (e : Entry) (q : Reading) → AreEntries h es → IsLineInRange (Body e) → with_entry (after stage h es) e ≡ Some q → Taken stage h es e q
+pub taken : (stage : Stage) (h : Heading) (es : List BodyLine) (e : BodyLine) (q : Reading) → AreEntries h es → IsLineInRange (Body e) → with_entry (after stage h es) e ≡ Some q → Taken stage h es e q
 taken stage h es (Script d s) q a r e =
     let one = passed _ _ q e in
     let two = passed _ _ q one.1 in
@@ -97,7 +97,7 @@ empty_stop : (xs : List ℕ) → length xs ≡ 0 → xs ≡ []
 empty_stop [] e = refl
 empty_stop (x ∷ xs) e = absurd (omega arith)
 
-pub enters : (stage : Stage) (h : Heading) (es : List Entry) (e : Entry) → Adds h es e → with_entry (after stage h es) e ≡ Some (after stage h (es ++ e ∷ []))
+pub enters : (stage : Stage) (h : Heading) (es : List BodyLine) (e : BodyLine) → Adds h es e → with_entry (after stage h es) e ≡ Some (after stage h (es ++ e ∷ []))
 enters stage h es (Script d s) k =
     let one = lt-leb h.callers d k.range.0 in
     let two = lt-leb 20000 (after stage h es).count (omega (arith, k.scripts)) in

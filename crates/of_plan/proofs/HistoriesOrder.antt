@@ -5,6 +5,7 @@ use Rattle.std.specs.List.{range_with_len, AllByRecursion as Each}
 use Rattle.std.proofs.Math.Nat.{eq-or-lt_of_le}
 use Rattle.std.proofs.lemmas.Bool.{false≢true}
 use Rattle.std.proofs.lemmas.Bool.Decides.{eqb_tells}
+use Rattle.std.proofs.lemmas.Bool.{eqb-true as is_caller, eq-eqb as caller_passes}
 use Rattle.of_plan.specs.Plan.{Plan}
 use Rattle.of_plan.specs.Report.{Entry, Start}
 use Rattle.of_plan.specs.Legal.{StandsBefore, StandsBeforeWithin}
@@ -55,18 +56,6 @@ is_read false x k passes = elim (eqb_tells x k) [
 read_passes : (a : Bool) (x k : ℕ) → a ≡ false → x ≡ k → (not a && (x == k)) ≡ true
 read_passes true x k is same = absurd (cc)
 read_passes false x k is same = elim (eqb_tells x k) [
-  | inl here ↦ here.0
-  | inr other ↦ absurd (other.1 same)
-]
-
-is_caller : (d c : ℕ) → eqb d c ≡ true → d ≡ c
-is_caller d c passes = elim (eqb_tells d c) [
-  | inl same ↦ same.1
-  | inr other ↦ absurd (false≢true (sym other.0 ∙ passes))
-]
-
-caller_passes : (d c : ℕ) → d ≡ c → eqb d c ≡ true
-caller_passes d c same = elim (eqb_tells d c) [
   | inl here ↦ here.0
   | inr other ↦ absurd (other.1 same)
 ]

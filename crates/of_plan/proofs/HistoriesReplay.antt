@@ -4,7 +4,7 @@ use Rattle.std.specs.Prelude.{IsTrue, All, flat_map}
 use Rattle.std.specs.List.{range_with_len, AllByRecursion as Each}
 use Rattle.std.proofs.lemmas.List.{map-append}
 use Rattle.of_script.specs.Language.{reads_only}
-use Rattle.of_store.specs.State.{Store, Reply, replies_in_order, last_store, run}
+use Rattle.of_store.specs.Store.{Store, Reply, replies_in_order, last_store, run}
 use Rattle.of_store.proofs.Replays.{replies-append, last_store-append, run-reads}
 use Rattle.of_plan.specs.Plan.{Plan}
 use Rattle.of_plan.specs.Report.{Entry, Start}

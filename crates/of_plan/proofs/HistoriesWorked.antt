@@ -4,7 +4,7 @@ use Rattle.std.specs.Prelude.{IsTrue, All}
 use Rattle.std.proofs.lemmas.List.Elements.{All-nil, All-cons}
 use Rattle.of_script.specs.declared.instr.Instr.TheVariants.{Load, Store as StoreInstr, Add}
 use Rattle.of_script.specs.Language.{reads_only}
-use Rattle.of_store.specs.State.{Store, empty_store, last_store}
+use Rattle.of_store.specs.Store.{Store, empty_store, last_store}
 use Rattle.of_plan.specs.Report.{Entry, Line, empty_start, no_line}
 use Rattle.of_plan.specs.Legal.{StandsBefore, IsLegal}
 use Rattle.of_plan.specs.Histories.{History, IsBatch, IsOwn, IsHistory, FitsLine, history_report}

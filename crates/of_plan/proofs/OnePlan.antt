@@ -3,7 +3,7 @@ use Rattle.std.proofs.Common.{◌≡◌, ℕ, List, sym, ap, ◌∙◌}
 use Rattle.of_plan.specs.Plan.{Plan}
 use Rattle.of_plan.specs.Grammar.{SpellsPlan}
 use Rattle.of_plan.specs.LineReading.{plan_language}
-use Rattle.of_plan.specs.Progress.{plan_read, nothing_read, plan_reader}
+use Rattle.of_plan.specs.Reading.{plan_read, nothing_read, plan_reader}
 use Rattle.of_plan.proofs.Readings.{one_last}
 use Rattle.of_plan.proofs.Following.{IsEnded, read}
 use Rattle.of_plan.proofs.BadLine.{is_reader}

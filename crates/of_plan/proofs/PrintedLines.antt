@@ -10,9 +10,9 @@ use Rattle.of_script.specs.Language.{IsInstrInRange, IsScript}
 use Rattle.of_script.specs.Text.{text_words, instr_words, instr_text, script_text, script_words}
 use Rattle.of_script.proofs.Again.{decimal_is_word, words-word, words-join}
 use Rattle.of_script.proofs.Marks.{printed_again}
-use Rattle.of_plan.specs.declared.line.Entry.TheVariants.{Script, Stop, Turns, Evict}
-use Rattle.of_plan.specs.declared.line.Line.{Line}
-use Rattle.of_plan.specs.declared.line.Line.TheVariants.{Title, Callers, Blocks, Limit, Body, End}
+use Rattle.of_plan.specs.declared.parser.line.BodyLine.TheVariants.{Script, Stop, Turns, Evict}
+use Rattle.of_plan.specs.declared.parser.line.PlanLine.{PlanLine}
+use Rattle.of_plan.specs.declared.parser.line.PlanLine.TheVariants.{Title, Callers, Blocks, Limit, Body, End}
 use Rattle.of_plan.specs.Lines.{text_lines, unskipped_words, is_skipped, line_words}
 use Rattle.of_plan.specs.LineReading.{IsLineInRange}
 use Rattle.of_plan.specs.PlanText.{line_body, line_text}
@@ -52,13 +52,13 @@ script_clean (i ∷ is) h = all-both (λ b. eqb b 10 ≡ false) (instr_text i) (
 
 -- ---- each line
 
-record Printed (l : Line) : Type 0 where
+record Printed (l : PlanLine) : Type 0 where
   pub words_are : text_words (line_body l) ≡ line_words l
   pub clean : NoNewline (line_body l)
   pub stays : is_skipped (line_words l) ≡ false
 
 -- words with one space between two
-spaced : (l : Line) → Plains (line_words l) → join_with_byte 32 (line_words l) ≡ line_body l → is_skipped (line_words l) ≡ false → Printed l
+spaced : (l : PlanLine) → Plains (line_words l) → join_with_byte 32 (line_words l) ≡ line_body l → is_skipped (line_words l) ≡ false → Printed l
 spaced l h is stays = record {
   words_are = ap text_words (sym is) ∙ words-join (line_words l) (plain_words (line_words l) h);
   clean = subst NoNewline is (join_clean (line_words l) h);
@@ -75,7 +75,7 @@ script_words_are c s le h =
     ∙ words-word (codes "script") (32 ∷ decimal c ++ 32 ∷ script_text s) (plain_name (codes "script") (omega arith) refl refl).word refl
     ∙ ap (λ (ws : List (List ℕ)). codes "script" ∷ ws) (tail ∙ ap (λ (ws : List (List ℕ)). decimal c ∷ ws) (printed_again s h).each)
 
-printed : (l : Line) → IsLineInRange l → Printed l
+printed : (l : PlanLine) → IsLineInRange l → Printed l
 printed Title r = spaced Title (plain_name (codes "onefile") (omega arith) refl refl, (plain_name (codes "plan") (omega arith) refl refl, (plain_name (codes "1") (omega arith) refl refl, tt))) refl refl
 printed (Callers n) r = spaced (Callers n) (plain_name (codes "callers") (omega arith) refl refl, (plain_number n (omega arith), tt)) refl refl
 printed (Blocks n) r = spaced (Blocks n) (plain_name (codes "blocks") (omega arith) refl refl, (plain_number n (omega arith), tt)) refl refl
@@ -94,7 +94,7 @@ printed End r = spaced End (plain_name (codes "end") (omega arith) refl refl, tt
 
 -- ---- and all of them
 
-pub printed_lines : (ls : List Line) → AllByRecursion IsLineInRange ls → unskipped_words (text_lines (flat_map line_text ls)) ≡ map line_words ls
+pub printed_lines : (ls : List PlanLine) → AllByRecursion IsLineInRange ls → unskipped_words (text_lines (flat_map line_text ls)) ≡ map line_words ls
 printed_lines [] r = refl
 printed_lines (l ∷ ls) r =
     let h = printed l r.0 in

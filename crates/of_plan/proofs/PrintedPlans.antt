@@ -9,8 +9,8 @@ use Rattle.of_script.specs.declared.instr.Instr.{Instr}
 use Rattle.of_script.specs.Language.{IsScript}
 use Rattle.of_plan.specs.declared.plan.Item.{Item}
 use Rattle.of_plan.specs.declared.plan.Item.TheVariants.{Turns as TurnsItem, Evict as EvictItem}
-use Rattle.of_plan.specs.declared.line.Entry.{Entry}
-use Rattle.of_plan.specs.declared.line.Entry.TheVariants.{Script, Stop, Turns, Evict}
+use Rattle.of_plan.specs.declared.parser.line.BodyLine.{BodyLine}
+use Rattle.of_plan.specs.declared.parser.line.BodyLine.TheVariants.{Script, Stop, Turns, Evict}
 use Rattle.of_plan.specs.Plan.{Plan, IsPlan, IsScheduleItem, turns_of}
 use Rattle.of_plan.specs.Grammar.{Heading, IsHeading, IsEntryInRange, AreEntries, SpellsPlan, plan_lines, plan_of, script_in_entry, stop_at, item_of, is_script, head_of, scripts_in, stop_in}
 use Rattle.of_plan.specs.PlanText.{caller_entries, script_entries, stop_entries, item_entry, printed_heading, printed_entries, plan_text}
@@ -21,10 +21,10 @@ use Rattle.of_plan.proofs.PrintedLines.{printed_lines}
 
 -- ---- filters of what is printed
 
-keep_none : {X : Type 0} (f : Entry → Option X) (e : Entry) (es : List Entry) → f e ≡ None → filter_map f (e ∷ es) ≡ filter_map f es
+keep_none : {X : Type 0} (f : BodyLine → Option X) (e : BodyLine) (es : List BodyLine) → f e ≡ None → filter_map f (e ∷ es) ≡ filter_map f es
 keep_none f e es h = ap (λ (o : Option _). cons_option o (filter_map f es)) h
 
-keep_some : {X : Type 0} (f : Entry → Option X) (e : Entry) (x : X) (es : List Entry) → f e ≡ Some x → filter_map f (e ∷ es) ≡ x ∷ filter_map f es
+keep_some : {X : Type 0} (f : BodyLine → Option X) (e : BodyLine) (x : X) (es : List BodyLine) → f e ≡ Some x → filter_map f (e ∷ es) ≡ x ∷ filter_map f es
 keep_some f e x es h = ap (λ (o : Option _). cons_option o (filter_map f es)) h
 
 own_scripts : (c : ℕ) (ss : List (List Instr)) → filter_map (script_in_entry c) (caller_entries c ss) ≡ ss
@@ -77,22 +77,22 @@ items_back (TurnsItem c x ∷ items) = ap (λ (l : List Item). TurnsItem c x ∷
 items_back (EvictItem a ∷ items) = ap (λ (l : List Item). EvictItem a ∷ l) (items_back items)
 
 -- what no entry of a list gives
-nothing_of : {X : Type 0} (f : Entry → Option X) (ss : List (List Instr)) (c : ℕ) → ((s : List Instr) → f (Script c s) ≡ None) → filter_map f (caller_entries c ss) ≡ []
+nothing_of : {X : Type 0} (f : BodyLine → Option X) (ss : List (List Instr)) (c : ℕ) → ((s : List Instr) → f (Script c s) ≡ None) → filter_map f (caller_entries c ss) ≡ []
 nothing_of f [] c h = refl
 nothing_of f (s ∷ ss) c h = keep_none f (Script c s) (caller_entries c ss) (h s) ∙ nothing_of f ss c h
 
-no_scripts_of : {X : Type 0} (f : Entry → Option X) (k : ℕ) (xs : List (List (List Instr))) → ((c : ℕ) (s : List Instr) → f (Script c s) ≡ None) → filter_map f (script_entries k xs) ≡ []
+no_scripts_of : {X : Type 0} (f : BodyLine → Option X) (k : ℕ) (xs : List (List (List Instr))) → ((c : ℕ) (s : List Instr) → f (Script c s) ≡ None) → filter_map f (script_entries k xs) ≡ []
 no_scripts_of f k [] h = refl
 no_scripts_of f k (ss ∷ xs) h =
     filter_map-append f (caller_entries k ss) (script_entries (k + 1) xs)
     ∙ ap (λ (l : List _). l ++ filter_map f (script_entries (k + 1) xs)) (nothing_of f ss k (h k)) ∙ no_scripts_of f (k + 1) xs h
 
-no_stops_of : {X : Type 0} (f : Entry → Option X) (k : ℕ) (xs : List (Option ℕ)) → ((c x : ℕ) → f (Stop c x) ≡ None) → filter_map f (stop_entries k xs) ≡ []
+no_stops_of : {X : Type 0} (f : BodyLine → Option X) (k : ℕ) (xs : List (Option ℕ)) → ((c x : ℕ) → f (Stop c x) ≡ None) → filter_map f (stop_entries k xs) ≡ []
 no_stops_of f k [] h = refl
 no_stops_of f k (None ∷ xs) h = no_stops_of f (k + 1) xs h
 no_stops_of f k (Some x ∷ xs) h = keep_none f (Stop k x) (stop_entries (k + 1) xs) (h k x) ∙ no_stops_of f (k + 1) xs h
 
-no_items_of : {X : Type 0} (f : Entry → Option X) (items : List Item) → ((item : Item) → f (item_entry item) ≡ None) → filter_map f (map item_entry items) ≡ []
+no_items_of : {X : Type 0} (f : BodyLine → Option X) (items : List Item) → ((item : Item) → f (item_entry item) ≡ None) → filter_map f (map item_entry items) ≡ []
 no_items_of f [] h = refl
 no_items_of f (item ∷ items) h = keep_none f (item_entry item) (map item_entry items) (h item) ∙ no_items_of f items h
 
@@ -105,7 +105,7 @@ no_stop_item c (TurnsItem d x) = refl
 no_stop_item c (EvictItem a) = refl
 
 -- the three parts of what is printed
-parts : {X : Type 0} (f : Entry → Option X) (p : Plan) (xs ys zs : List X) → filter_map f (script_entries 0 p.scripts) ≡ xs → filter_map f (stop_entries 0 p.stops) ≡ ys → filter_map f (map item_entry p.schedule) ≡ zs → filter_map f (printed_entries p) ≡ xs ++ (ys ++ zs)
+parts : {X : Type 0} (f : BodyLine → Option X) (p : Plan) (xs ys zs : List X) → filter_map f (script_entries 0 p.scripts) ≡ xs → filter_map f (stop_entries 0 p.stops) ≡ ys → filter_map f (map item_entry p.schedule) ≡ zs → filter_map f (printed_entries p) ≡ xs ++ (ys ++ zs)
 parts f p xs ys zs a b c =
     filter_map-append f (script_entries 0 p.scripts) (stop_entries 0 p.stops ++ map item_entry p.schedule)
     ∙ ap (λ (l : List _). l ++ filter_map f (stop_entries 0 p.stops ++ map item_entry p.schedule)) a

@@ -5,10 +5,11 @@ use Rattle.std.specs.List.{AllByRecursion, range_with_len, sum_by, filter_map}
 use Rattle.std.proofs.lemmas.List.Sums.{sum_by-cons}
 use Rattle.std.proofs.lemmas.Bool.Decides.{eqb_tells}
 use Rattle.std.proofs.lemmas.List.FromFn.{length-map-range_with_len}
+use Rattle.std.proofs.lemmas.Bool.{ne_eqb as eqb_no}
 use Rattle.of_script.specs.declared.instr.Instr.{Instr}
 use Rattle.of_script.specs.Language.{IsScript}
-use Rattle.of_plan.specs.declared.line.Entry.{Entry}
-use Rattle.of_plan.specs.declared.line.Entry.TheVariants.{Script, Stop, Turns, Evict}
+use Rattle.of_plan.specs.declared.parser.line.BodyLine.{BodyLine}
+use Rattle.of_plan.specs.declared.parser.line.BodyLine.TheVariants.{Script, Stop, Turns, Evict}
 use Rattle.of_plan.specs.Plan.{Plan, IsPlan, IsScheduleItem}
 use Rattle.of_plan.specs.Grammar.{Heading, IsHeading, IsEntryInRange, AreEntries, SpellsPlan, plan_of, item_of, is_script, scripts_in, stop_in}
 use Rattle.of_plan.proofs.Lists.{all_below}
@@ -17,21 +18,21 @@ limit_fits : (o : Option ℕ) → IfSome o (λ x. (1 ≤ x) × (x ≤ 4294967294
 limit_fits None h = (omega arith, omega arith)
 limit_fits (Some x) h = h
 
-scripts_fit : (h : Heading) (c : ℕ) (es : List Entry) → AllByRecursion (IsEntryInRange h) es → AllByRecursion IsScript (scripts_in es c)
+scripts_fit : (h : Heading) (c : ℕ) (es : List BodyLine) → AllByRecursion (IsEntryInRange h) es → AllByRecursion IsScript (scripts_in es c)
 scripts_fit h c [] r = tt
 scripts_fit h c (Script d s ∷ es) r = elim (eqb_tells d c) [ inl p ↦ rw p.0 (r.0.1, scripts_fit h c es r.1) | inr p ↦ rw p.0 (scripts_fit h c es r.1) ]
 scripts_fit h c (Stop d x ∷ es) r = scripts_fit h c es r.1
 scripts_fit h c (Turns d x ∷ es) r = scripts_fit h c es r.1
 scripts_fit h c (Evict a ∷ es) r = scripts_fit h c es r.1
 
-stop_fits : (h : Heading) (c : ℕ) (es : List Entry) → AllByRecursion (IsEntryInRange h) es → IfSome (stop_in es c) (λ x. x ≤ 4294967295)
+stop_fits : (h : Heading) (c : ℕ) (es : List BodyLine) → AllByRecursion (IsEntryInRange h) es → IfSome (stop_in es c) (λ x. x ≤ 4294967295)
 stop_fits h c [] r = tt
 stop_fits h c (Script d s ∷ es) r = stop_fits h c es r.1
 stop_fits h c (Stop d x ∷ es) r = elim (eqb_tells d c) [ inl p ↦ rw p.0 r.0.1 | inr p ↦ rw p.0 (stop_fits h c es r.1) ]
 stop_fits h c (Turns d x ∷ es) r = stop_fits h c es r.1
 stop_fits h c (Evict a ∷ es) r = stop_fits h c es r.1
 
-items_fit : (h : Heading) (all es : List Entry) → AllByRecursion (IsEntryInRange h) es → AllByRecursion (IsScheduleItem (plan_of h all)) (filter_map item_of es)
+items_fit : (h : Heading) (all es : List BodyLine) → AllByRecursion (IsEntryInRange h) es → AllByRecursion (IsScheduleItem (plan_of h all)) (filter_map item_of es)
 items_fit h all [] r = tt
 items_fit h all (Script d s ∷ es) r = items_fit h all es r.1
 items_fit h all (Stop d x ∷ es) r = items_fit h all es r.1
@@ -59,13 +60,10 @@ none_below : (k n : ℕ) → sum_by length (map (scripts_in []) (range_with_len 
 none_below k zero = refl
 none_below k (suc n) = none_below (k + 1) n
 
-eqb_no : (a b : ℕ) → (a ≡ b → ⊥) → eqb a b ≡ false
-eqb_no a b h = elim (eqb_tells a b) [ inl p ↦ absurd (h p.1) | inr p ↦ p.0 ]
-
 eqb_yes : (a : ℕ) → eqb a a ≡ true
 eqb_yes a = elim (eqb_tells a a) [ inl p ↦ p.0 | inr p ↦ absurd (p.1 refl) ]
 
-scripts_few : (n : ℕ) (es : List Entry) → sum_by length (map (scripts_in es) (range_with_len 0 n)) ≤ sum_by is_script es
+scripts_few : (n : ℕ) (es : List BodyLine) → sum_by length (map (scripts_in es) (range_with_len 0 n)) ≤ sum_by is_script es
 scripts_few n [] = omega (arith, none_below 0 n)
 scripts_few n (Script d s ∷ es) =
     omega (
@@ -80,7 +78,7 @@ scripts_few n (Stop d x ∷ es) = omega (arith, sum_by-cons is_script (Stop d x)
 scripts_few n (Turns d x ∷ es) = omega (arith, sum_by-cons is_script (Turns d x) es, scripts_few n es)
 scripts_few n (Evict a ∷ es) = omega (arith, sum_by-cons is_script (Evict a) es, scripts_few n es)
 
-pub plan_fits : (h : Heading) (es : List Entry) → IsHeading h → AreEntries h es → IsPlan (plan_of h es)
+pub plan_fits : (h : Heading) (es : List BodyLine) → IsHeading h → AreEntries h es → IsPlan (plan_of h es)
 plan_fits h es k a = record {
   some_callers = k.some_callers;
   few_callers = k.few_callers;

@@ -7,7 +7,7 @@ use Rattle.std.proofs.lemmas.List.Elements.{All-from_recursion, recursion_from_A
 use Rattle.std.proofs.lemmas.List.FromFn.{length-map-range_with_len, get_or-map-range_with_len}
 use Rattle.std.proofs.lemmas.List.Sums.{length-filter}
 use Rattle.std.proofs.lemmas.Bool.Decides.{eqb_tells}
-use Rattle.of_store.specs.State.{Reply, empty_store, replies_in_order, last_store}
+use Rattle.of_store.specs.Store.{Reply, empty_store, replies_in_order, last_store}
 use Rattle.of_plan.specs.Plan.{Plan, scripts_of}
 use Rattle.of_plan.specs.Report.{Entry, done, spent, Line, empty_start, caller_line, entries_of, finished_of}
 use Rattle.of_plan.specs.Legal.{scripts_left, StandInOrder, HasOpenCall, CountOpenCalls, HasSequence, StandBySequence, HasEndState, LineIsWithinBound, IsLegal}

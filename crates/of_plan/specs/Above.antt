@@ -3,7 +3,7 @@ use Rattle.std.specs.Prelude.{◌≡◌, ℕ, ◌-◌, ◌<◌, List, [], ◌∷
 use Rattle.std.specs.Str.{bytes_eq}
 use Rattle.of_cell.specs.declared.shape.TheConstants.{MOST_CALLERS}
 use Rattle.of_store.specs.declared.store.TheConstants.{MOST_BLOCKS}
-use Rattle.of_plan.specs.declared.line.TheConstants.{GREATEST_CELL}
+use Rattle.of_plan.specs.declared.parser.line.TheConstants.{GREATEST_CELL}
 use Rattle.of_script.specs.Text.{text_words}
 use Rattle.of_script.specs.Reading.{◌>>=◌, next_number, at_end_of_words}
 use Rattle.of_plan.specs.declared.above.Wanted.{Wanted}
@@ -31,7 +31,8 @@ said Callers (name ∷ ws) = number_behind name (codes "callers") ws MOST_CALLER
 said Blocks (name ∷ ws) = number_behind name (codes "blocks") ws MOST_BLOCKS
 said End (name ∷ ws) = if bytes_eq name (codes "end") then at_end_of_words 0 ws else None
 said (Stop c) (name ∷ ws) = number_behind name (codes "stop") ws (MOST_CALLERS - 1) >>= only c
-said (Cell least) (name ∷ ws) = number_behind name (codes "cell") ws GREATEST_CELL >>= at_least least
+said (Cell least) (name ∷ ws) =
+    number_behind name (codes "cell") ws GREATEST_CELL >>= at_least least
 
 -- the line with so many lines above it, and nothing where there is none
 abbrev pub line_at : List (List ℕ) → ℕ → List ℕ

@@ -6,7 +6,8 @@ use Rattle.of_plan.specs.Plan.{Plan, bound_of}
 use Rattle.of_plan.specs.Report.{Entry, stopped, Report, entries_of, caller_line}
 use Rattle.of_plan.specs.Legal.{script_of_entry}
 
--- the least steps of an answered call: an announced one stores its words and the announcement, and makes four loads at least; a read makes three
+-- the least steps of an answered call: an announced one stores its words and the announcement, and
+-- makes four loads at least; a read makes three
 abbrev pub least_steps : Plan → Entry → ℕ
 least_steps p e = if e.announced then length (script_of_entry p e) + 5 else 3
 
@@ -22,7 +23,8 @@ pub record KeepsAllowance (p : Plan) (r : Report) (c : ℕ) (allowance : Option 
   pub upto : IfSome allowance (λ n. (caller_line r c).longest ≤ n)
   pub least : All (λ e. least_steps p e ≤ (caller_line r c).longest) (answered_of r c)
   -- where it is stopped, its answered calls and one that stays open have used the allowance up
-  pub used_up : (caller_line r c).state ≡ stopped → (n : ℕ) × (allowance ≡ Some n) × (n < (caller_line r c).answered * (caller_line r c).longest + bound_of p)
+  pub used_up : (caller_line r c).state ≡ stopped → (n : ℕ) × (allowance ≡ Some n)
+      × (n < (caller_line r c).answered * (caller_line r c).longest + bound_of p)
 
 -- the turns of a caller in an item
 abbrev pub turns_in : ℕ → Item → ℕ

@@ -1,4 +1,5 @@
--- The bad line of a text, for any set of texts: the first line with which no text of the set begins.
+-- The bad line of a text, for any set of texts: the first line with which no text of the set
+-- begins.
 use Rattle.std.specs.Prelude.{◌≡◌, ℕ, ◌≤◌, ◌<◌, ◌⊎◌, List, length, take}
 use Rattle.of_plan.specs.Lines.{text_lines}
 
@@ -8,7 +9,8 @@ pub record BeginsSomeText (Is : List ℕ → Type 0) (text : List ℕ) (j : ℕ)
   pub is : Is other
   pub same : take j (text_lines text) ≡ take j (text_lines other)
 
--- the first line with which no text of the set begins, or the last where the text only stops too early
+-- the first line with which no text of the set begins, or the last where the text only stops too
+-- early
 pub record IsBadLine (Is : List ℕ → Type 0) (text : List ℕ) (j : ℕ) : Type 0 where
   pub first : 1 ≤ j
   pub last : j ≤ length (text_lines text)

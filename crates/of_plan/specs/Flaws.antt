@@ -2,7 +2,7 @@
 use Rattle.std.specs.Prelude.{◌≡◌, ◌⊎◌, ℕ, ◌≤◌, List, [], ◌∷◌, length, slice_range, Some, None}
 use Rattle.of_script.specs.Text.{semicolon_byte}
 use Rattle.of_script.specs.Reading.{parsed_number}
-use Rattle.of_plan.specs.declared.line.TheConstants.{GREATEST_CELL}
+use Rattle.of_plan.specs.declared.parser.line.TheConstants.{GREATEST_CELL}
 use Rattle.of_plan.specs.declared.pieces.FlawedPiece.{FlawedPiece}
 use Rattle.of_plan.specs.declared.flaw.Flaw.{Flaw}
 use Rattle.of_plan.specs.declared.flaw.Flaw.TheVariants.{ByteOrderMark, CarriageReturn, Tab, NumberMissing, NoNumber, TooGreat, Zero, WordTooMany}
@@ -32,3 +32,7 @@ pub record IsFlawed (above : ℕ) (line : List ℕ) (p : FlawedPiece) : Type 0 w
   pub order : p.start ≤ p.end
   pub within : p.end ≤ length line
   pub has : HasFlaw p.flaw above (slice_range line p.start p.end)
+
+-- a flaw of the line, wherever the line stands
+abbrev pub IsFlawedAnywhere : (line : List ℕ) → FlawedPiece → Type 0
+IsFlawedAnywhere line p = (above : ℕ) → IsFlawed above line p

@@ -1,7 +1,9 @@
--- The grammar of plans: which texts are in it, the plan of each, and the bad line of every other text.
+-- The grammar of plans: which texts are in it, the plan of each, and the bad line of every other
+-- text.
 use Rattle.of_cell.specs.declared.shape.TheConstants.{MOST_CALLERS}
 use Rattle.of_store.specs.declared.store.TheConstants.{MOST_BLOCKS}
-use Rattle.of_plan.specs.declared.plan.TheConstants.{GREATEST_LIMIT, LATEST_STOP, MOST_SCRIPTS, MOST_TURNS}
+use Rattle.of_plan.specs.declared.plan.TheConstants.{LATEST_STOP, MOST_SCRIPTS, MOST_TURNS}
+use Rattle.of_cell.specs.declared.word.TheConstants.{GREATEST_LIMIT}
 use Rattle.std.specs.Prelude.{◌≡◌, ℕ, ◌≤◌, ◌<◌, List, [], ◌∷◌, ◌++◌, length, map, sum_by, filter_map, if◌then◌else◌, ◌==◌, Option, Some, None, IfSome}
 use Rattle.std.specs.Option.{unwrap_or}
 use Rattle.std.specs.List.{AllByRecursion, range_with_len}
@@ -10,10 +12,10 @@ use Rattle.of_script.specs.declared.instr.Instr.{Instr}
 use Rattle.of_script.specs.Language.{IsScript}
 use Rattle.of_plan.specs.declared.plan.Item.{Item}
 use Rattle.of_plan.specs.declared.plan.Item.TheVariants.{Turns as TurnsItem, Evict as EvictItem}
-use Rattle.of_plan.specs.declared.line.Entry.{Entry}
-use Rattle.of_plan.specs.declared.line.Entry.TheVariants.{Script, Stop, Turns, Evict}
-use Rattle.of_plan.specs.declared.line.Line.{Line}
-use Rattle.of_plan.specs.declared.line.Line.TheVariants.{Title, Callers, Blocks, Limit, Body, End}
+use Rattle.of_plan.specs.declared.parser.line.BodyLine.{BodyLine}
+use Rattle.of_plan.specs.declared.parser.line.BodyLine.TheVariants.{Script, Stop, Turns, Evict}
+use Rattle.of_plan.specs.declared.parser.line.PlanLine.{PlanLine}
+use Rattle.of_plan.specs.declared.parser.line.PlanLine.TheVariants.{Title, Callers, Blocks, Limit, Body, End}
 use Rattle.of_plan.specs.Lines.{text_lines, unskipped_words, line_words}
 use Rattle.of_plan.specs.Plan.{Plan, data_cells, turns_of}
 
@@ -24,16 +26,16 @@ pub record Heading : Type 0 where
   pub limit : Option ℕ
 
 -- the line of the limit, where there is one
-abbrev pub limit_lines : Option ℕ → List Line
+abbrev pub limit_lines : Option ℕ → List PlanLine
 limit_lines None = []
 limit_lines (Some x) = Limit x ∷ []
 
 -- the first lines
-abbrev pub heading_lines : Heading → List Line
+abbrev pub heading_lines : Heading → List PlanLine
 heading_lines h = Title ∷ Callers h.callers ∷ Blocks h.blocks ∷ limit_lines h.limit
 
 -- the lines that aren't skipped: a heading, the entries, and the end
-abbrev pub plan_lines : Heading → List Entry → List Line
+abbrev pub plan_lines : Heading → List BodyLine → List PlanLine
 plan_lines h entries = heading_lines h ++ (map Body entries ++ End ∷ [])
 
 -- the ranges of the heading
@@ -43,36 +45,37 @@ pub record IsHeading (h : Heading) : Type 0 where
   pub few_blocks : h.blocks ≤ MOST_BLOCKS
   pub limit_range : IfSome h.limit (λ x. (1 ≤ x) × (x ≤ GREATEST_LIMIT))
 
--- scripts, stops and turns are of a caller of the heading, and evictions of a cell that has a durable word; the bound on all turns bounds each
-abbrev pub IsEntryInRange : Heading → Entry → Type 0
+-- scripts, stops and turns are of a caller of the heading, and evictions of a cell that has a
+-- durable word; the bound on all turns bounds each
+abbrev pub IsEntryInRange : Heading → BodyLine → Type 0
 IsEntryInRange h (Script c script) = (c < h.callers) × IsScript script
 IsEntryInRange h (Stop c x) = (c < h.callers) × (x ≤ LATEST_STOP)
 IsEntryInRange h (Turns c x) = (c < h.callers) × (1 ≤ x)
 IsEntryInRange h (Evict a) = a < durable_cells h.callers (data_cells h.callers h.blocks)
 
 -- the script of that caller, where the entry is one
-abbrev pub script_in_entry : ℕ → Entry → Option (List Instr)
+abbrev pub script_in_entry : ℕ → BodyLine → Option (List Instr)
 script_in_entry c (Script d script) = if d == c then Some script else None
 script_in_entry c _ = None
 
 -- the stop of that caller, where the entry is one
-abbrev pub stop_at : ℕ → Entry → Option ℕ
+abbrev pub stop_at : ℕ → BodyLine → Option ℕ
 stop_at c (Stop d x) = if d == c then Some x else None
 stop_at c _ = None
 
 -- the item of the schedule, where the entry is one
-abbrev pub item_of : Entry → Option Item
+abbrev pub item_of : BodyLine → Option Item
 item_of (Turns c x) = Some (TurnsItem c x)
 item_of (Evict a) = Some (EvictItem a)
 item_of _ = None
 
 -- 1 for a script, so that a sum counts them
-abbrev pub is_script : Entry → ℕ
+abbrev pub is_script : BodyLine → ℕ
 is_script (Script c script) = 1
 is_script _ = 0
 
 -- at most 20,000 scripts, 10,000,000 turns in all, and one stop a caller
-pub record AreEntries (h : Heading) (entries : List Entry) : Type 0 where
+pub record AreEntries (h : Heading) (entries : List BodyLine) : Type 0 where
   pub in_range : AllByRecursion (IsEntryInRange h) entries
   pub few_scripts : sum_by is_script entries ≤ MOST_SCRIPTS
   pub few_turns : sum_by turns_of (filter_map item_of entries) ≤ MOST_TURNS
@@ -84,15 +87,16 @@ head_of [] = None
 head_of (x ∷ xs) = Some x
 
 -- the scripts of a caller, in the order of the entries
-abbrev pub scripts_in : List Entry → ℕ → List (List Instr)
+abbrev pub scripts_in : List BodyLine → ℕ → List (List Instr)
 scripts_in entries c = filter_map (script_in_entry c) entries
 
 -- the stop of a caller, where an entry is one
-abbrev pub stop_in : List Entry → ℕ → Option ℕ
+abbrev pub stop_in : List BodyLine → ℕ → Option ℕ
 stop_in entries c = head_of (filter_map (stop_at c) entries)
 
--- the plan of a heading and entries: each caller's scripts and stop, and the items, in the order of the entries
-abbrev pub plan_of : Heading → List Entry → Plan
+-- the plan of a heading and entries: each caller's scripts and stop, and the items, in the order of
+-- the entries
+abbrev pub plan_of : Heading → List BodyLine → Plan
 plan_of h entries = record {
   callers = h.callers;
   blocks = h.blocks;
@@ -105,7 +109,7 @@ plan_of h entries = record {
 -- the text is in the grammar, and has this plan
 pub record SpellsPlan (text : List ℕ) (plan : Plan) : Type 0 where
   pub heading : Heading
-  pub entries : List Entry
+  pub entries : List BodyLine
   pub heading_fits : IsHeading heading
   pub entries_fit : AreEntries heading entries
   pub each : unskipped_words (text_lines text) ≡ map line_words (plan_lines heading entries)

@@ -4,4 +4,11 @@ use Rattle.of_plan.specs.declared.plan.Plan.TheInside.{Inside}
 use Rattle.of_plan.specs.Plan.{Plan}
 
 abbrev pub plan_value : Inside → Plan
-plan_value p = record { callers = p.callers; blocks = p.blocks; limit = p.limit; scripts = map (λ v. v.items) p.scripts.items; stops = p.stops.items; schedule = p.schedule.items }
+plan_value p = record {
+  callers = p.callers;
+  blocks = p.blocks;
+  limit = p.limit;
+  scripts = map (λ v. v.items) p.scripts.items;
+  stops = p.stops.items;
+  schedule = p.schedule.items;
+}

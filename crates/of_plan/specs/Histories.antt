@@ -2,7 +2,7 @@
 use Rattle.std.specs.Prelude.{◌≡◌, ℕ, ◌+◌, ◌-◌, ◌≤◌, ◌<◌, ◌⊎◌, ◌==◌, ◌&&◌, not, Bool, true, false, IsTrue, List, [], ◌∷◌, ◌++◌, length, map, filter, flat_map, slice_index_or, All, AllPairs}
 use Rattle.std.specs.List.{range_with_len, AllByRecursion as Each}
 use Rattle.of_script.specs.Language.{reads_only}
-use Rattle.of_store.specs.State.{Store, replies_in_order, last_store, run}
+use Rattle.of_store.specs.Store.{Store, replies_in_order, last_store, run}
 use Rattle.of_plan.specs.Plan.{Plan}
 use Rattle.of_plan.specs.Report.{Entry, Line, no_line, Report, Start, entries_of, finished_of}
 use Rattle.of_plan.specs.Legal.{script_of_entry, scripts_left, StandsBefore, HasOpenCall, HasEndState, LineIsWithinBound, IsLegal}
@@ -12,34 +12,44 @@ abbrev pub IsIn : {A : Type 0} → A → List A → Type 0
 IsIn x [] = ⊥
 IsIn x (y ∷ ys) = (y ≡ x) ⊎ IsIn x ys
 
--- the last sequence, the announced entries of each sequence, each caller's entries in the order of its calls, and the store after each sequence
+-- the last sequence, the announced entries of each sequence, each caller's entries in the order of
+-- its calls, and the store after each sequence
 pub record History : Type 0 where
   pub last : ℕ
   pub runs : ℕ → List Entry
   pub own : ℕ → List Entry
   pub stores : ℕ → Store
 
--- the announced entries of sequence k are by caller, and serial replay of them leads from the store before to the one after
+-- the announced entries of sequence k are by caller, and serial replay of them leads from the store
+-- before to the one after
 pub record IsBatch (p : Plan) (h : History) (k : ℕ) : Type 0 where
   pub some : 0 < length (h.runs k)
-  pub each : Each (λ e. (e.seq ≡ k) × (e.announced ≡ true) × (e.caller < p.callers) × IsIn e (h.own e.caller)) (h.runs k)
+  pub each : Each (λ e. (e.seq ≡ k) × (e.announced ≡ true) × (e.caller < p.callers)
+      × IsIn e (h.own e.caller)) (h.runs k)
   pub by_caller : AllPairs (λ e f. e.caller < f.caller) (h.runs k)
-  pub replies : map (λ e. e.reply) (h.runs k) ≡ replies_in_order (h.stores (k - 1)) (map (script_of_entry p) (h.runs k))
+  pub replies : map (λ e. e.reply) (h.runs k)
+      ≡ replies_in_order (h.stores (k - 1)) (map (script_of_entry p) (h.runs k))
   pub leads : last_store (h.stores (k - 1)) (map (script_of_entry p) (h.runs k)) ≡ h.stores k
 
--- an entry is among the announced ones of its sequence, or it is a read of the store after its sequence
+-- an entry is among the announced ones of its sequence, or it is a read of the store after its
+-- sequence
 abbrev pub EntryHasPlace : Plan → Start → History → Entry → (announced : Bool) → Type 0
 EntryHasPlace p s h e true = (s.seq < e.seq) × IsIn e (h.runs e.seq)
-EntryHasPlace p s h e false = All (λ i. IsTrue (reads_only i)) (script_of_entry p e) × (e.reply ≡ (run (h.stores e.seq) (script_of_entry p e)).1)
+EntryHasPlace p s h e false =
+    All (λ i. IsTrue (reads_only i)) (script_of_entry p e)
+    × (e.reply ≡ (run (h.stores e.seq) (script_of_entry p e)).1)
 
--- the entries of a caller are its scripts from the first that isn't done, in their order, each at its place
+-- the entries of a caller are its scripts from the first that isn't done, in their order, each at
+-- its place
 pub record IsOwn (p : Plan) (s : Start) (h : History) (c : ℕ) : Type 0 where
-  pub each : Each (λ e. (e.caller ≡ c) × (s.seq ≤ e.seq) × (e.seq ≤ h.last) × EntryHasPlace p s h e e.announced) (h.own c)
+  pub each : Each (λ e. (e.caller ≡ c) × (s.seq ≤ e.seq) × (e.seq ≤ h.last)
+      × EntryHasPlace p s h e e.announced) (h.own c)
   pub indices : map (λ e. e.index) (h.own c) ≡ range_with_len (finished_of s c) (length (h.own c))
   pub few : length (h.own c) ≤ scripts_left p s c
   pub order : AllPairs StandsBefore (h.own c)
 
--- sequence by sequence its announced entries lead from the start's store to the last one, and each caller has its own entries
+-- sequence by sequence its announced entries lead from the start's store to the last one, and each
+-- caller has its own entries
 pub record IsHistory (p : Plan) (s : Start) (h : History) : Type 0 where
   pub from : s.seq ≤ h.last
   pub begins : h.stores s.seq ≡ s.store
@@ -48,15 +58,24 @@ pub record IsHistory (p : Plan) (s : Start) (h : History) : Type 0 where
 
 -- the reads at sequence k, by caller and index
 abbrev pub reads_at : Plan → History → ℕ → List Entry
-reads_at p h k = flat_map (λ c. filter (λ e. not e.announced && (e.seq == k)) (h.own c)) (range_with_len 0 p.callers)
+reads_at p h k =
+    flat_map (λ c. filter (λ e. not e.announced && (e.seq == k)) (h.own c))
+    (range_with_len 0 p.callers)
 
 -- the reads of the start's store, and then sequence by sequence the announced entries and the reads
 abbrev pub history_entries : Plan → Start → History → List Entry
-history_entries p s h = reads_at p h s.seq ++ flat_map (λ k. h.runs k ++ reads_at p h k) (range_with_len (s.seq + 1) (h.last - s.seq))
+history_entries p s h =
+    reads_at p h s.seq
+    ++ flat_map (λ k. h.runs k ++ reads_at p h k) (range_with_len (s.seq + 1) (h.last - s.seq))
 
 -- the report that a history with these lines is
 abbrev pub history_report : Plan → Start → History → List Line → Report
-history_report p s h lines = record { entries = history_entries p s h; callers = lines; seq = h.last; store = h.stores h.last }
+history_report p s h lines = record {
+  entries = history_entries p s h;
+  callers = lines;
+  seq = h.last;
+  store = h.stores h.last;
+}
 
 -- a caller's line tells its entries, and how it ended
 pub record FitsLine (p : Plan) (s : Start) (h : History) (c : ℕ) (l : Line) : Type 0 where
@@ -72,5 +91,7 @@ pub record LinesFit (p : Plan) (s : Start) (h : History) (lines : List Line) : T
 
 -- the report of a history is legal, and its entries of a caller are the caller's
 abbrev pub HistoriesAreLegal : Plan → Start → Type 0
-HistoriesAreLegal p s = (h : History) (lines : List Line) → IsHistory p s h → LinesFit p s h lines
-    → IsLegal p s (history_report p s h lines) × ((c : ℕ) → c < p.callers → entries_of (history_report p s h lines) c ≡ h.own c)
+HistoriesAreLegal p s =
+    (h : History) (lines : List Line) → IsHistory p s h → LinesFit p s h lines
+    → IsLegal p s (history_report p s h lines)
+    × ((c : ℕ) → c < p.callers → entries_of (history_report p s h lines) c ≡ h.own c)

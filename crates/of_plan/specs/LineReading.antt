@@ -1,24 +1,25 @@
 -- How the code reads a line: the ranges of its numbers, and what its words say.
 use Rattle.of_cell.specs.declared.shape.TheConstants.{MOST_CALLERS}
 use Rattle.of_store.specs.declared.store.TheConstants.{MOST_BLOCKS}
-use Rattle.of_plan.specs.declared.plan.TheConstants.{GREATEST_LIMIT, LATEST_STOP, MOST_TURNS}
-use Rattle.of_plan.specs.declared.line.TheConstants.{GREATEST_CELL}
+use Rattle.of_plan.specs.declared.plan.TheConstants.{LATEST_STOP, MOST_TURNS}
+use Rattle.of_cell.specs.declared.word.TheConstants.{GREATEST_LIMIT}
+use Rattle.of_plan.specs.declared.parser.line.TheConstants.{GREATEST_CELL}
 use Rattle.std.specs.Prelude.{◌≡◌, ℕ, ◌-◌, ◌≤◌, ◌&&◌, List, [], ◌∷◌, if◌then◌else◌, codes, decimal, Option, None}
 use Rattle.std.specs.Str.{bytes_eq}
 use Rattle.of_script.specs.declared.instr.Instr.{Instr}
 use Rattle.of_script.specs.Language.{IsScript}
 use Rattle.of_script.specs.Text.{script_words}
 use Rattle.of_script.specs.Reading.{at_end_of_words}
-use Rattle.of_plan.specs.declared.line.Entry.TheVariants.{Script, Stop, Turns, Evict}
-use Rattle.of_plan.specs.declared.line.Plain.{Plain}
-use Rattle.of_plan.specs.declared.line.Plain.TheVariants.{Title as PlainTitle, Callers as PlainCallers, Blocks as PlainBlocks, Limit as PlainLimit, Stop as PlainStop, Turns as PlainTurns, Evict as PlainEvict, End as PlainEnd}
-use Rattle.of_plan.specs.declared.line.Line.{Line}
-use Rattle.of_plan.specs.declared.line.Line.TheVariants.{Title, Callers, Blocks, Limit, Body, End}
+use Rattle.of_plan.specs.declared.parser.line.BodyLine.TheVariants.{Script, Stop, Turns, Evict}
+use Rattle.of_plan.specs.declared.parser.line.ScriptlessLine.{ScriptlessLine}
+use Rattle.of_plan.specs.declared.parser.line.ScriptlessLine.TheVariants.{Title as ScriptlessTitle, Callers as ScriptlessCallers, Blocks as ScriptlessBlocks, Limit as ScriptlessLimit, Stop as ScriptlessStop, Turns as ScriptlessTurns, Evict as ScriptlessEvict, End as ScriptlessEnd}
+use Rattle.of_plan.specs.declared.parser.line.PlanLine.{PlanLine}
+use Rattle.of_plan.specs.declared.parser.line.PlanLine.TheVariants.{Title, Callers, Blocks, Limit, Body, End}
 use Rattle.of_plan.specs.Lines.{line_words}
 use Rattle.of_plan.specs.Reader.{Language}
 
 -- the ranges of a line's numbers, whatever lines stand before it
-abbrev pub IsLineInRange : Line → Type 0
+abbrev pub IsLineInRange : PlanLine → Type 0
 IsLineInRange Title = Unit {0}
 IsLineInRange (Callers n) = n ≤ MOST_CALLERS
 IsLineInRange (Blocks n) = n ≤ MOST_BLOCKS
@@ -31,30 +32,34 @@ IsLineInRange End = Unit {0}
 
 -- plans, as they are read
 abbrev pub plan_language : Language
-plan_language = record { Line = Line; words_of = line_words; InRange = IsLineInRange }
+plan_language = record { Line = PlanLine; words_of = line_words; InRange = IsLineInRange }
 
 -- the line that was read
-abbrev pub line_of_plain : Plain → Line
-line_of_plain PlainTitle = Title
-line_of_plain (PlainCallers n) = Callers n
-line_of_plain (PlainBlocks n) = Blocks n
-line_of_plain (PlainLimit x) = Limit x
-line_of_plain (PlainStop c x) = Body (Stop c x)
-line_of_plain (PlainTurns c x) = Body (Turns c x)
-line_of_plain (PlainEvict a) = Body (Evict a)
-line_of_plain PlainEnd = End
+abbrev pub line_of_scriptless : ScriptlessLine → PlanLine
+line_of_scriptless ScriptlessTitle = Title
+line_of_scriptless (ScriptlessCallers n) = Callers n
+line_of_scriptless (ScriptlessBlocks n) = Blocks n
+line_of_scriptless (ScriptlessLimit x) = Limit x
+line_of_scriptless (ScriptlessStop c x) = Body (Stop c x)
+line_of_scriptless (ScriptlessTurns c x) = Body (Turns c x)
+line_of_scriptless (ScriptlessEvict a) = Body (Evict a)
+line_of_scriptless ScriptlessEnd = End
 
 -- how the title is read
-abbrev pub title_line : List (List ℕ) → Option Line
+abbrev pub title_line : List (List ℕ) → Option PlanLine
 title_line [] = None
 title_line (w ∷ []) = None
-title_line (w ∷ v ∷ ws) = if bytes_eq w (codes "plan") && bytes_eq v (codes "1") then at_end_of_words Title ws else None
+title_line (w ∷ v ∷ ws) =
+    if bytes_eq w (codes "plan") && bytes_eq v (codes "1") then at_end_of_words Title ws else None
 
 -- the words after `script` are a caller's number and a script
-abbrev pub ScriptLine : List (List ℕ) → Line → Type 0
-ScriptLine ws (Body (Script c script)) = (ws ≡ decimal c ∷ script_words script) × (c ≤ MOST_CALLERS - 1) × IsScript script
+abbrev pub ScriptLine : List (List ℕ) → PlanLine → Type 0
+ScriptLine ws (Body (Script c script)) =
+    (ws ≡ decimal c ∷ script_words script) × (c ≤ MOST_CALLERS - 1) × IsScript script
 ScriptLine ws _ = ⊥
 
 -- the words after `script` are no caller's number and script
 abbrev pub NoScriptLine : List (List ℕ) → Type 0
-NoScriptLine ws = (c : ℕ) (script : List Instr) → c ≤ MOST_CALLERS - 1 → IsScript script → ws ≡ decimal c ∷ script_words script → ⊥
+NoScriptLine ws =
+    (c : ℕ) (script : List Instr) → c ≤ MOST_CALLERS - 1 → IsScript script
+    → ws ≡ decimal c ∷ script_words script → ⊥

@@ -9,7 +9,8 @@ pub record IsNumeral (word : List ℕ) : Type 0 where
   pub some : 0 < length word
   pub no_zero : slice_index word 0 ≡ 48 → length word ≡ 1
 
--- the most that the two numbers of the instruction on registers with that name can be, 0 where it has none
+-- the most that the two numbers of the instruction on registers with that name can be, 0 where it
+-- has none
 unfoldable pub register_mosts : List ℕ → Option (ℕ × ℕ)
 register_mosts name =
     if bytes_eq name (codes "sub") then Some ((REGISTERS - 1), GREATEST) else

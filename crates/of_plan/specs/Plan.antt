@@ -1,7 +1,8 @@
 -- Plans: for each caller its scripts and its stop, and the schedule.
 use Rattle.of_cell.specs.declared.shape.TheConstants.{MOST_CALLERS}
 use Rattle.of_store.specs.declared.store.TheConstants.{MOST_BLOCKS}
-use Rattle.of_plan.specs.declared.plan.TheConstants.{GREATEST_LIMIT, LATEST_STOP, MOST_SCRIPTS, MOST_TURNS}
+use Rattle.of_plan.specs.declared.plan.TheConstants.{LATEST_STOP, MOST_SCRIPTS, MOST_TURNS}
+use Rattle.of_cell.specs.declared.word.TheConstants.{GREATEST_LIMIT}
 use Rattle.std.specs.Prelude.{◌≡◌, ℕ, ◌≤◌, ◌<◌, List, [], length, sum_by, slice_index_or, IfSome, Option, None}
 use Rattle.std.specs.List.{AllByRecursion}
 use Rattle.of_cell.specs.Cells.{durable_cells, step_bound}
@@ -12,7 +13,8 @@ use Rattle.of_script.specs.Language.{IsScript}
 use Rattle.of_plan.specs.declared.plan.Item.{Item}
 use Rattle.of_plan.specs.declared.plan.Item.TheVariants.{Turns, Evict}
 
--- how many callers and blocks there are, the greatest sequence, and each caller's scripts and stop, and what happens step by step
+-- how many callers and blocks there are, the greatest sequence, and each caller's scripts and stop,
+-- and what happens step by step
 pub record Plan : Type 0 where
   pub callers : ℕ
   pub blocks : ℕ

@@ -1,5 +1,9 @@
 -- What is printed of a piece of a line.
 use Rattle.std.specs.Prelude.{ℕ, ◌+◌, ◌-◌, min, max, nat_lt, List, ◌++◌, length, map, replicate, slice_range, if◌then◌else◌, codes, decimal}
+use Rattle.of_plan.specs.declared.refusal.BadPiece.{BadPiece}
+use Rattle.of_plan.specs.Lines.{text_lines}
+use Rattle.of_plan.specs.Above.{line_at}
+use Rattle.of_plan.specs.ReasonText.{reason_text}
 
 -- the byte as it is shown: a question mark for one that has no sign of its own
 abbrev pub sign : ℕ → ℕ
@@ -20,6 +24,13 @@ width start end size = max (min end (last start size) - start) 1
 -- the line's number, the column and the reason, the line, and carets below the piece
 abbrev pub message : (number : ℕ) (line : List ℕ) (start end : ℕ) (reason : List ℕ) → List ℕ
 message number line start end reason =
-    ((((((codes "line " ++ (decimal number ++ (codes ", column " ++ (decimal (start + 1) ++ (codes ": " ++ (reason ++ codes "\n    "))))))
+    ((((((codes "line " ++ (decimal number ++ (codes ", column " ++ (decimal (start + 1)
+    ++ (codes ": " ++ (reason ++ codes "\n    "))))))
     ++ map sign (slice_range line (first_shown_byte start) (last start (length line))))
-    ++ codes "\n    ") ++ replicate (start - first_shown_byte start) 32) ++ replicate (width start end (length line)) 94) ++ codes "\n")
+    ++ codes "\n    ") ++ replicate (start - first_shown_byte start) 32)
+    ++ replicate (width start end (length line)) 94) ++ codes "\n")
+
+-- what is printed of the bad piece of a text
+abbrev pub bad_piece_message : (text : List ℕ) → BadPiece → List ℕ
+bad_piece_message text f =
+    message f.line (line_at (text_lines text) (f.line - 1)) f.start f.end (reason_text f.reason)

@@ -1,4 +1,5 @@
--- How code reads a text line by line, whatever the lines are: what the words of a line say, and what a line leads to.
+-- How code reads a text line by line, whatever the lines are: what the words of a line say, and
+-- what a line leads to.
 use Rattle.std.specs.Prelude.{◌≡◌, ℕ, ◌⊎◌, true, false, List, [], ◌∷◌, Option, Some, None}
 use Rattle.of_script.specs.Reading.{◌>>=◌}
 use Rattle.of_plan.specs.Lines.{is_skipped}
@@ -15,7 +16,8 @@ pub record Reader (L : Language) : Type 1 where
   pub next : Progress → L.Line → Option Progress
 
 -- what lines lead to
-abbrev pub after_lines : (L : Language) (R : Reader L) → R.Progress → List L.Line → Option R.Progress
+abbrev pub after_lines : (L : Language) (R : Reader L) → R.Progress → List L.Line
+    → Option R.Progress
 after_lines L R p [] = Some p
 after_lines L R p (l ∷ ls) = R.next p l >>= λ q. after_lines L R q ls
 
@@ -31,8 +33,11 @@ pub record SpellsNoLine (L : Language) (ws : List (List ℕ)) : Type 0 where
   pub none : (l : L.Line) → L.InRange l → ws ≡ L.words_of l → ⊥
 
 -- the words are skipped, or are a line that may come next
-abbrev pub ReadsLine : (L : Language) (R : Reader L) → List (List ℕ) → R.Progress → R.Progress → Type 0
-ReadsLine L R ws p q = ((is_skipped ws ≡ true) × (p ≡ q)) ⊎ ((l : L.Line) × SpellsLine L ws l × (R.next p l ≡ Some q))
+abbrev pub ReadsLine : (L : Language) (R : Reader L) → List (List ℕ) → R.Progress → R.Progress
+    → Type 0
+ReadsLine L R ws p q =
+    ((is_skipped ws ≡ true) × (p ≡ q))
+    ⊎ ((l : L.Line) × SpellsLine L ws l × (R.next p l ≡ Some q))
 
 -- the words are no line, or one that may not come next
 abbrev pub RefusesLine : (L : Language) (R : Reader L) → List (List ℕ) → R.Progress → Type 0

@@ -13,8 +13,12 @@ reason_text BlocksExpected = codes "the third line of a plan is `blocks B`, B fr
 reason_text AfterEnd = codes "a line after `end`"
 reason_text UnknownLine = codes "no line of a plan begins with this word"
 reason_text UnknownInstruction = codes "no instruction has this name"
-reason_text (NoCaller caller callers) = codes "caller " ++ (decimal caller ++ (codes " of a plan with " ++ (decimal callers ++ codes "; the first is 0")))
-reason_text (NoCell cell cells) = codes "cell " ++ (decimal cell ++ (codes " of a plan with " ++ (decimal cells ++ codes "; the first is 0")))
+reason_text (NoCaller caller callers) =
+    codes "caller " ++ (decimal caller ++ (codes " of a plan with " ++ (decimal callers
+    ++ codes "; the first is 0")))
+reason_text (NoCell cell cells) =
+    codes "cell " ++ (decimal cell ++ (codes " of a plan with " ++ (decimal cells
+    ++ codes "; the first is 0")))
 reason_text InstructionMissing = codes "an instruction is missing here"
 reason_text TooManyInstructions = codes "a script has at most 16 instructions"
 reason_text (SecondStop line) = codes "this caller has a stop already, in line " ++ decimal line

@@ -1,5 +1,5 @@
 -- When a reason is true of a line, and what a fault of a text is.
-use Rattle.std.specs.Prelude.{◌≡◌, ◌⊎◌, ℕ, ◌+◌, ◌-◌, ◌<◌, ◌≤◌, List, [], ◌∷◌, length, slice_range, codes, Some, None, IfSome, IfErr, Option, Result}
+use Rattle.std.specs.Prelude.{◌≡◌, ℕ, ◌+◌, ◌-◌, ◌≤◌, List, length, slice_range, codes, None}
 use Rattle.of_cell.specs.Cells.{durable_cells}
 use Rattle.of_script.specs.declared.instr.TheConstants.{MOST_INSTRS}
 use Rattle.of_script.specs.Text.{IsFault as IsScriptFault}
@@ -23,13 +23,15 @@ abbrev pub SaidAbove : List (List ℕ) → ℕ → Wanted → ℕ → Type 0
 SaidAbove ls above wanted number = (at : ℕ) × Says ls above wanted at number
 
 -- the caller that the piece names is none of the plan's
-pub record IsNoCaller (ls : List (List ℕ)) (above : ℕ) (piece : List ℕ) (caller callers : ℕ) : Type 0 where
+pub record IsNoCaller (ls : List (List ℕ)) (above : ℕ) (piece : List ℕ) (caller callers : ℕ)
+    : Type 0 where
   pub named : PieceIsNumber piece caller
   pub said : SaidAbove ls above Callers callers
   pub past : callers ≤ caller
 
 -- the cell that the piece names is none of the plan's
-pub record IsNoCell (ls : List (List ℕ)) (above : ℕ) (piece : List ℕ) (cell cells : ℕ) : Type 0 where
+pub record IsNoCell (ls : List (List ℕ)) (above : ℕ) (piece : List ℕ) (cell cells : ℕ)
+    : Type 0 where
   pub named : PieceIsNumber piece cell
   pub callers : ℕ
   pub blocks : ℕ
@@ -75,9 +77,14 @@ pub record IsFinding (ls : List (List ℕ)) (above : ℕ) (line : List ℕ) (f :
   pub within : f.end ≤ length line
   pub is : IsTrueOf f.reason ls above (slice_range line f.start f.end)
 
+-- a finding of the line, whatever its text is and wherever the line stands in it
+abbrev pub IsFindingAnywhere : (line : List ℕ) → Finding → Type 0
+IsFindingAnywhere line f = (ls : List (List ℕ)) (above : ℕ) → IsFinding ls above line f
+
 -- the bad line of a text, the piece of it at fault, and a reason that is true of it
 pub record IsFaultOf (text : List ℕ) (f : BadPiece) : Type 0 where
   pub bad : HasBadLine IsPlanText text f.line
   pub order : f.start ≤ f.end
   pub within : f.end ≤ length (line_at (text_lines text) (f.line - 1))
-  pub is : IsTrueOf f.reason (text_lines text) (f.line - 1) (slice_range (line_at (text_lines text) (f.line - 1)) f.start f.end)
+  pub is : IsTrueOf f.reason (text_lines text) (f.line - 1)
+      (slice_range (line_at (text_lines text) (f.line - 1)) f.start f.end)

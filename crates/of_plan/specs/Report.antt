@@ -1,9 +1,10 @@
 -- What the lines of a report hold, and where a run starts.
 use Rattle.std.specs.Prelude.{ℕ, Bool, List, filter, replicate, slice_index, slice_index_or, ◌==◌}
-use Rattle.of_store.specs.State.{Store, Reply, empty_store}
+use Rattle.of_store.specs.Store.{Store, Reply, empty_store}
 use Rattle.of_plan.specs.Plan.{Plan}
 
--- a call in the history: a script of a caller by its index from 0, at a sequence, with its reply; a read that was not announced shares its sequence with others
+-- a call in the history: a script of a caller by its index from 0, at a sequence, with its reply; a
+-- read that was not announced shares its sequence with others
 pub record Entry : Type 0 where
   pub seq : ℕ
   pub caller : ℕ

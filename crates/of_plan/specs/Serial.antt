@@ -1,8 +1,9 @@
--- The report of a plan whose scripts run one after the other: those of caller 0 first, then those of caller 1, and so on, up to the limit.
+-- The report of a plan whose scripts run one after the other: those of caller 0 first, then
+-- those of caller 1, and so on, up to the limit.
 use Rattle.std.specs.Prelude.{ℕ, true, List, [], length, map, flat_map, take, count_by, slice_index_or, if◌then◌else◌, ◌==◌}
 use Rattle.std.specs.List.{enumerate_from, range_with_len, zip}
 use Rattle.of_script.specs.declared.instr.Instr.{Instr}
-use Rattle.of_store.specs.State.{Reply, empty_store, replies_in_order, last_store}
+use Rattle.of_store.specs.Store.{Reply, empty_store, replies_in_order, last_store}
 use Rattle.of_plan.specs.Plan.{Plan, scripts_of}
 use Rattle.of_plan.specs.Report.{Entry, Line, done, spent, Report}
 
@@ -32,17 +33,26 @@ serial_scripts p = map (called_script p) (serial_calls p)
 
 -- an announced entry at a sequence
 abbrev pub serial_entry : ℕ × (CallId × Reply) → Entry
-serial_entry (seq, (call, reply)) = record { seq = seq; caller = call.0; index = call.1; announced = true; reply = reply }
+serial_entry (seq, (call, reply)) =
+    record { seq = seq; caller = call.0; index = call.1; announced = true; reply = reply }
 
 -- a caller whose calls are all among them is done, any other is spent
 abbrev pub serial_line : (answered scripts : ℕ) → Line
-serial_line answered scripts = record { state = if answered == scripts then done else spent; answered = answered; entries = answered; longest = 0 }
+serial_line answered scripts = record {
+  state = if answered == scripts then done else spent;
+  answered = answered;
+  entries = answered;
+  longest = 0;
+}
 
--- the calls with the sequences 1, 2, .., the replies and the last store of their serial replay, and no steps
+-- the calls with the sequences 1, 2, .., the replies and the last store of their serial replay, and
+-- no steps
 abbrev pub serial_report : Plan → Report
 serial_report p = record {
-  entries = map serial_entry (enumerate_from 1 (zip (serial_calls p) (replies_in_order (empty_store p.blocks) (serial_scripts p))));
-  callers = map (λ c. serial_line (count_by (λ call. call.0 == c) (serial_calls p)) (length (scripts_of p c))) (range_with_len 0 p.callers);
+  entries = map serial_entry (enumerate_from 1
+      (zip (serial_calls p) (replies_in_order (empty_store p.blocks) (serial_scripts p))));
+  callers = map (λ c. serial_line (count_by (λ call. call.0 == c) (serial_calls p))
+      (length (scripts_of p c))) (range_with_len 0 p.callers);
   seq = length (serial_calls p);
   store = last_store (empty_store p.blocks) (serial_scripts p);
 }

@@ -1,7 +1,7 @@
 -- A worked legal report, and seven that are no legal ones, each one field away from it.
 use Rattle.std.specs.Prelude.{ℕ, ◌+◌, Bool, true, false, Option, Some, None, [], ◌∷◌}
 use Rattle.of_script.specs.declared.instr.Instr.TheVariants.{Load, Store as StoreInstr, Add}
-use Rattle.of_store.specs.State.{Store, Answered, empty_store, with_register}
+use Rattle.of_store.specs.Store.{Store, Answered, empty_store, with_register}
 use Rattle.of_plan.specs.Plan.{Plan, bound_of}
 use Rattle.of_plan.specs.Report.{Entry, Line, done, stopped, Report}
 
@@ -11,14 +11,21 @@ two_callers = record {
   callers = 2;
   blocks = 0;
   limit = 9;
-  scripts = ((StoreInstr 0 5 ∷ []) ∷ (Load 0 ∷ []) ∷ []) ∷ ((Load 0 ∷ []) ∷ (Add 0 1 ∷ []) ∷ []) ∷ [];
+  scripts = ((StoreInstr 0 5 ∷ []) ∷ (Load 0 ∷ []) ∷ [])
+      ∷ ((Load 0 ∷ []) ∷ (Add 0 1 ∷ []) ∷ []) ∷ [];
   stops = None ∷ None ∷ [];
   schedule = [];
 }
 
 -- an entry whose script answers one number or none
 abbrev pub worked_entry : (seq caller index : ℕ) → Bool → Option ℕ → Entry
-worked_entry seq caller index announced value = record { seq = seq; caller = caller; index = index; announced = announced; reply = Answered (value ∷ []) }
+worked_entry seq caller index announced value = record {
+  seq = seq;
+  caller = caller;
+  index = index;
+  announced = announced;
+  reply = Answered (value ∷ []);
+}
 
 abbrev pub stores_five : Entry
 stores_five = worked_entry 1 0 0 true None
@@ -42,7 +49,12 @@ holds_six = with_register (empty_store 0) 0 6
 
 -- a report of these lines
 abbrev pub worked_report : (third fourth : Entry) → (second : Line) → ℕ → Store → Report
-worked_report third fourth second seq store = record { entries = loads_nothing ∷ stores_five ∷ third ∷ fourth ∷ []; callers = both_done ∷ second ∷ []; seq = seq; store = store }
+worked_report third fourth second seq store = record {
+  entries = loads_nothing ∷ stores_five ∷ third ∷ fourth ∷ [];
+  callers = both_done ∷ second ∷ [];
+  seq = seq;
+  store = store;
+}
 
 -- the second caller reads before it adds, and the first after it stored
 abbrev pub legal_report : Report
@@ -70,8 +82,11 @@ writes_lost = worked_report adds_one loads_six both_done 1 (empty_store 0)
 
 -- a caller without a script left is stopped
 abbrev pub stopped_at_the_end : Report
-stopped_at_the_end = worked_report adds_one loads_six (record both_done { state = stopped }) 1 holds_six
+stopped_at_the_end =
+    worked_report adds_one loads_six (record both_done { state = stopped }) 1 holds_six
 
 -- a call made a step more than it can
 abbrev pub step_too_many : Report
-step_too_many = worked_report adds_one loads_six (record both_done { longest = bound_of two_callers + 1 }) 1 holds_six
+step_too_many =
+    worked_report adds_one loads_six
+    (record both_done { longest = bound_of two_callers + 1 }) 1 holds_six

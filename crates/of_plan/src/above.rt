@@ -5,7 +5,7 @@ ghost use Rattle.of_script.specs.Text.{text_words};
 ghost use Rattle.of_plan.specs.Lines.{text_lines};
 ghost use Rattle.of_plan.specs.Above as lines_above;
 
-use crate::line::GREATEST_CELL;
+use crate::parser::line::GREATEST_CELL;
 use of_cell::MOST_CALLERS;
 use of_script::text::{cut, next_number, word};
 use of_store::MOST_BLOCKS;
@@ -38,7 +38,7 @@ fn number_behind(name: &[u8], wanted: &[u8], rest: &[u8], most: u32) -> Option<u
     Some(number)
 }
 
-/// The number that a line says, where it is one that is wanted; 0 where it says none.
+// The number that a line says, where it is one that is wanted; 0 where it says none.
 pub(crate) fn said(wanted: Wanted, line: &[u8]) -> Option<u32>
     ensures { result ≡ lines_above.said wanted (text_words line.now) }
 {

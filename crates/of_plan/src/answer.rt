@@ -22,7 +22,8 @@ pub enum Ending {
     Done,
     /// It was stopped before that.
     Stopped {
-        /// How many steps its open call has asked for: those that it made, and the one that it didn't get. 1 where none is open.
+        /// How many steps its open call has asked for: those that it made, and the one that it
+        /// didn't get. 1 where none is open.
         asked: u64,
     },
     /// No sequence was left for its next call.

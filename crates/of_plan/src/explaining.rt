@@ -3,33 +3,33 @@
 ghost use Rattle.std.specs.Prelude.{◌≡◌, ◌≤◌, ◌-◌, ℕ, length, List, IfSome, MatchResult};
 ghost use Rattle.of_plan.specs.Lines.{text_lines};
 ghost use Rattle.of_plan.specs.Above.{line_at as the_line};
-ghost use Rattle.of_plan.specs.Flaws.{IsFlawed};
-ghost use Rattle.of_plan.specs.Reasons.{IsFinding, SaidAbove};
+ghost use Rattle.of_plan.specs.Flaws.{IsFlawed, IsFlawedAnywhere};
+ghost use Rattle.of_plan.specs.Reasons.{IsFinding, IsFindingAnywhere, SaidAbove};
 ghost use Rattle.of_plan.specs.Sizes.{AreSizes};
 ghost use Rattle.of_plan.specs.declared.above.Wanted.TheVariants.{Callers as TheCallers};
 
 use crate::above::{Wanted, find, line_at};
 use crate::flaw::Flaw;
-use crate::line::{Form, GREATEST_CELL, first_most, form_named, second_most};
 use crate::numerals::mosts;
+use crate::parser::line::{GREATEST_CELL, LineForm, first_most, form_named, second_most};
+use crate::parser::step::cells;
 use crate::pieces::{
     FlawedPiece, hidden, is_no_word, no_count, no_numbers, past_numbers, word_from, zero,
 };
 use crate::reason::Reason;
-use crate::taking::cells;
 use of_cell::MOST_CALLERS;
 use of_script::text::number;
 use of_script::{MOST_INSTRS, ScriptErr};
 use of_store::MOST_BLOCKS;
 
-/// What the heading of a plan says.
+// What the heading of a plan says.
 #[derive(Clone, Copy, Debug, PartialEq, Eq)]
 pub(crate) struct Sizes {
     callers: u32,
     blocks: u32,
 }
 
-/// The piece of a line at fault, from `start` to before `end`, and why.
+// The piece of a line at fault, from `start` to before `end`, and why.
 #[derive(Clone, Copy, Debug, PartialEq, Eq)]
 pub(crate) struct Finding {
     pub start: usize,
@@ -54,7 +54,7 @@ fn flawed(piece: FlawedPiece) -> Finding
 fn past_instruction(line: &[u8], from: usize) -> Result<Option<usize>, Finding>
     requires { from ≤ length line.now }
     ensures { MatchResult result (λ o. IfSome o (λ end. end ≤ length line.now))
-        (λ f. (ls : List (List ℕ)) (above : ℕ) → IsFinding ls above line.now f) }
+        (IsFindingAnywhere line.now) }
 {
     let (start, end) = word_from(line, from);
     let name = &line[start..end];
@@ -96,7 +96,7 @@ fn past_instruction(line: &[u8], from: usize) -> Result<Option<usize>, Finding>
 // Why the rest of a line is no script.
 fn no_script(line: &[u8], from: usize) -> Option<Finding>
     requires { from ≤ length line.now }
-    ensures { IfSome result (λ f. (ls : List (List ℕ)) (above : ℕ) → IsFinding ls above line.now f) }
+    ensures { IfSome result (IsFindingAnywhere line.now) }
 {
     let mut at = from;
     for _ in 0..MOST_INSTRS {
@@ -185,13 +185,13 @@ fn in_script(text: &[u8], above: u64, line: &[u8], from: usize, sizes: Sizes) ->
 }
 
 // A number of a line that is 0, where this form has none.
-fn zero_of(line: &[u8], from: usize, form: Form) -> Option<FlawedPiece>
+fn zero_of(line: &[u8], from: usize, form: LineForm) -> Option<FlawedPiece>
     requires { from ≤ length line.now }
-    ensures { IfSome result (λ f. (above : ℕ) → IsFlawed above line.now f) }
+    ensures { IfSome result (IsFlawedAnywhere line.now) }
 {
     match form {
-        Form::Limit => zero(line, from),
-        Form::Turns => {
+        LineForm::Limit => zero(line, from),
+        LineForm::Turns => {
             let (_, end) = word_from(line, from);
             zero(line, end)
         }
@@ -200,9 +200,9 @@ fn zero_of(line: &[u8], from: usize, form: Form) -> Option<FlawedPiece>
 }
 
 // Why a line with numbers alone is none, by its words.
-fn in_numbers(line: &[u8], from: usize, form: Form) -> Option<Finding>
+fn in_numbers(line: &[u8], from: usize, form: LineForm) -> Option<Finding>
     requires { from ≤ length line.now }
-    ensures { IfSome result (λ f. (ls : List (List ℕ)) (above : ℕ) → IsFinding ls above line.now f) }
+    ensures { IfSome result (IsFindingAnywhere line.now) }
 {
     match no_numbers(line, from, first_most(form), second_most(form)) {
         Some(piece) => Some(flawed(piece)),
@@ -216,7 +216,7 @@ fn in_body(
     above: u64,
     line: &[u8],
     from: usize,
-    form: Form,
+    form: LineForm,
     sizes: Sizes,
 ) -> Option<Finding>
     requires from { from ≤ length line.now }
@@ -224,7 +224,7 @@ fn in_body(
     ensures { IfSome result (IsFinding (text_lines text.now) above line.now) }
 {
     match form {
-        Form::Callers | Form::Blocks | Form::Limit => {
+        LineForm::Callers | LineForm::Blocks | LineForm::Limit => {
             let (start, end) = word_from(line, 0);
             Some(Finding {
                 start,
@@ -232,9 +232,9 @@ fn in_body(
                 reason: Reason::HeadingOver,
             })
         }
-        Form::Stop => second_stop(text, above, line, from),
-        Form::Evict => no_cell(text, above, line, from, sizes),
-        Form::Turns | Form::End => None,
+        LineForm::Stop => second_stop(text, above, line, from),
+        LineForm::Evict => no_cell(text, above, line, from, sizes),
+        LineForm::Turns | LineForm::End => None,
     }
 }
 
@@ -244,7 +244,7 @@ fn formed(
     above: u64,
     line: &[u8],
     from: usize,
-    form: Form,
+    form: LineForm,
     sizes: Sizes,
 ) -> Option<Finding>
     requires from { from ≤ length line.now }
@@ -252,7 +252,7 @@ fn formed(
     ensures { IfSome result (IsFinding (text_lines text.now) above line.now) }
 {
     match form {
-        Form::Stop | Form::Turns => {
+        LineForm::Stop | LineForm::Turns => {
             if let Some(finding) = no_caller(text, above, line, from, sizes.callers) {
                 return Some(finding);
             }
@@ -317,7 +317,7 @@ fn in_heading(text: &[u8], above: u64, line: &[u8]) -> Option<Finding>
     };
     let Some((_, blocks)) = find(text, above, Wanted::Blocks) else {
         if name == b"blocks".as_slice() {
-            return in_numbers(line, end, Form::Blocks);
+            return in_numbers(line, end, LineForm::Blocks);
         }
         return Some(Finding {
             start,
@@ -353,10 +353,11 @@ fn in_line(text: &[u8], above: u64, line: &[u8]) -> Option<Finding>
     in_heading(text, above, line)
 }
 
-/// Why this line of the text is its bad line.
+// Why this line of the text is its bad line.
 pub(crate) fn explain(text: &[u8], number: u64) -> Finding
     requires { 1 ≤ number }
-    ensures { IsFinding (text_lines text.now) (number - 1) (the_line (text_lines text.now) (number - 1)) result }
+    ensures { IsFinding (text_lines text.now) (number - 1)
+        (the_line (text_lines text.now) (number - 1)) result }
 {
     let above = number - 1;
     let (line, last) = line_at(text, above);

@@ -1,6 +1,11 @@
 //! Laws of plans and reports, and the numbers of plans.
 
 ghost use Rattle.std.specs.Prelude.{◌≡◌};
+ghost use Rattle.of_cell.specs.declared.shape.TheConstants as cell;
+ghost use Rattle.of_mem.specs.declared.work.TheConstants as work;
+ghost use Rattle.of_mem.specs.declared.plot.TheConstants as plot;
+ghost use Rattle.of_script.specs.declared.instr.TheConstants as script;
+ghost use Rattle.of_store.specs.declared.store.TheConstants as store;
 ghost use Rattle.of_plan.specs.Plan.{Plan};
 ghost use Rattle.of_plan.specs.Report.{Start, empty_start};
 ghost use Rattle.of_plan.specs.Legal.{IsLegal};
@@ -8,20 +13,22 @@ ghost use Rattle.of_plan.specs.Histories.{HistoriesAreLegal};
 ghost use Rattle.of_plan.specs.Serial.{serial_report};
 ghost use Rattle.of_plan.specs.Worked.{two_callers, legal_report, script_twice, entry_too_many, sequence_left_out, stale_read, writes_lost, stopped_at_the_end, step_too_many};
 
-use crate::plan::{GREATEST_LIMIT, LATEST_STOP, MOST_SCRIPTS, MOST_TURNS};
+use crate::plan::{LATEST_STOP, MOST_SCRIPTS, MOST_TURNS};
+use of_cell::GREATEST_LIMIT;
 
 /// The report of a plan whose scripts run one after the other is legal from the empty start.
 pub fn serial_is_legal()
     ensures { (p : Plan) → IsLegal p (empty_start p) (serial_report p) }
 {}
 
-/// The report that is put together of a history, sequence by sequence, is legal, and its entries of a caller are the
-/// caller's in the order of its calls.
+/// The report that is put together of a history, sequence by sequence, is legal, and its entries of
+/// a caller are the caller's in the order of its calls.
 pub fn histories_are_legal()
     ensures { (p : Plan) (s : Start) → HistoriesAreLegal p s }
 {}
 
-/// A worked report is legal, and for each clause of legality a report that is one field away from it is refused.
+/// A worked report is legal, and for each clause of legality a report that is one field away
+/// from it is refused.
 pub fn worked_reports()
     ensures legal { IsLegal two_callers (empty_start two_callers) legal_report }
     ensures in_order { IsLegal two_callers (empty_start two_callers) script_twice → ⊥ }
@@ -39,4 +46,15 @@ pub fn numbers()
     ensures stop { LATEST_STOP ≡ 4294967295 }
     ensures scripts { MOST_SCRIPTS ≡ 20000 }
     ensures turns { MOST_TURNS ≡ 10000000 }
+{}
+
+/// A limit that two crates state, since neither stands on the other, is one number in both.
+pub fn limits_agree()
+    ensures callers { work.MOST_CALLERS ≡ cell.MOST_CALLERS }
+    ensures data_cells { work.MOST_DATA_CELLS ≡ cell.MOST_DATA_CELLS }
+    ensures script_words { cell.MOST_SCRIPT_WORDS ≡ script.MOST_INSTRS }
+    ensures instrs { work.MOST_INSTRS ≡ script.MOST_INSTRS }
+    ensures registers { plot.REGISTERS ≡ script.REGISTERS }
+    ensures queues { plot.QUEUES ≡ script.QUEUES }
+    ensures blocks { plot.MOST_BLOCKS ≡ store.MOST_BLOCKS }
 {}

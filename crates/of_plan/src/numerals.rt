@@ -6,7 +6,7 @@ ghost use Rattle.of_plan.specs.Numerals as numerals;
 
 use of_script::{GREATEST, QUEUES, REGISTERS};
 
-/// Whether a word is digits alone, with no 0 in front of others.
+// Whether a word is digits alone, with no 0 in front of others.
 pub(crate) fn is_numeral(word: &[u8]) -> bool
     ensures { IsTrue result ↔ numerals.IsNumeral word.now }
 {
@@ -62,7 +62,7 @@ fn queue_mosts(name: &[u8]) -> Option<(u32, u32)>
     register_mosts(name)
 }
 
-/// The most that the two numbers of the instruction with that name can be, 0 where it has none.
+// The most that the two numbers of the instruction with that name can be, 0 where it has none.
 #[tactic(auto, unfolding(crate::specs::Numerals::mosts))]
 pub(crate) fn mosts(name: &[u8]) -> Option<(u32, u32)>
     ensures { result ≡ numerals.mosts name.now }

@@ -1,12 +1,12 @@
-//! Pieces of a line, and what is wrong with one by itself: a byte that looks like nothing, a word that
-//! should be a number, a word too many.
+//! Pieces of a line, and what is wrong with one by itself: a byte that looks like nothing, a word
+//! that should be a number, a word too many.
 
 ghost use Rattle.std.specs.Prelude.{◌≡◌, ◌≤◌, ℕ, length, IsTrue, IfSome, MatchResult, slice_range};
-ghost use Rattle.of_plan.specs.Flaws.{HasFlaw, IsFlawed, IsNoWord};
+ghost use Rattle.of_plan.specs.Flaws.{HasFlaw, IsFlawed, IsFlawedAnywhere, IsNoWord};
 
 use crate::flaw::Flaw;
-use crate::line::GREATEST_CELL;
 use crate::numerals::is_numeral;
+use crate::parser::line::GREATEST_CELL;
 use of_script::text::number;
 
 /// A piece of a line, from the byte `start` to before `end`, and what is wrong with it.
@@ -58,7 +58,7 @@ pub fn word_from(line: &[u8], from: usize) -> (usize, usize)
     (start, past_word(line, start))
 }
 
-/// Whether a piece is nothing, or a semicolon.
+// Whether a piece is nothing, or a semicolon.
 pub(crate) fn is_no_word(piece: &[u8]) -> bool
     ensures { IsTrue result → IsNoWord piece.now }
 {
@@ -102,7 +102,7 @@ pub fn hidden(line: &[u8], above: u64) -> Option<FlawedPiece>
 /// A word where the line should end.
 pub fn word_too_many(line: &[u8], from: usize) -> Option<FlawedPiece>
     requires { from ≤ length line.now }
-    ensures { IfSome result (λ f. (above : ℕ) → IsFlawed above line.now f) }
+    ensures { IfSome result (IsFlawedAnywhere line.now) }
 {
     let (start, end) = word_from(line, from);
     if line[start..end].is_empty() {
@@ -118,7 +118,7 @@ pub fn word_too_many(line: &[u8], from: usize) -> Option<FlawedPiece>
 /// A number that is 0.
 pub fn zero(line: &[u8], from: usize) -> Option<FlawedPiece>
     requires { from ≤ length line.now }
-    ensures { IfSome result (λ f. (above : ℕ) → IsFlawed above line.now f) }
+    ensures { IfSome result (IsFlawedAnywhere line.now) }
 {
     let (start, end) = word_from(line, from);
     let found = number(&line[start..end], GREATEST_CELL)?;
@@ -152,8 +152,7 @@ fn number_flaw(piece: &[u8], most: u32) -> Option<Flaw>
 // number.
 fn past_number(line: &[u8], from: usize, most: u32) -> Result<usize, FlawedPiece>
     requires { from ≤ length line.now }
-    ensures { MatchResult result (λ end. end ≤ length line.now)
-        (λ f. (above : ℕ) → IsFlawed above line.now f) }
+    ensures { MatchResult result (λ end. end ≤ length line.now) (IsFlawedAnywhere line.now) }
 {
     if most == 0 {
         return Ok(from);
@@ -168,8 +167,7 @@ fn past_number(line: &[u8], from: usize, most: u32) -> Result<usize, FlawedPiece
 /// Where two numbers end that come next, or why they are not there. A most of 0 wants no number.
 pub fn past_numbers(line: &[u8], from: usize, first: u32, second: u32) -> Result<usize, FlawedPiece>
     requires { from ≤ length line.now }
-    ensures { MatchResult result (λ end. end ≤ length line.now)
-        (λ f. (above : ℕ) → IsFlawed above line.now f) }
+    ensures { MatchResult result (λ end. end ≤ length line.now) (IsFlawedAnywhere line.now) }
 {
     match past_number(line, from, first) {
         Ok(at) => past_number(line, at, second),
@@ -180,7 +178,7 @@ pub fn past_numbers(line: &[u8], from: usize, first: u32, second: u32) -> Result
 /// Why a line that should end after these two numbers doesn't.
 pub fn no_numbers(line: &[u8], from: usize, first: u32, second: u32) -> Option<FlawedPiece>
     requires { from ≤ length line.now }
-    ensures { IfSome result (λ f. (above : ℕ) → IsFlawed above line.now f) }
+    ensures { IfSome result (IsFlawedAnywhere line.now) }
 {
     match past_numbers(line, from, first, second) {
         Ok(at) => word_too_many(line, at),
@@ -191,7 +189,7 @@ pub fn no_numbers(line: &[u8], from: usize, first: u32, second: u32) -> Option<F
 /// Why a line that should end after a number from 1 to the most doesn't.
 pub fn no_count(line: &[u8], from: usize, most: u32) -> Option<FlawedPiece>
     requires { from ≤ length line.now }
-    ensures { IfSome result (λ f. (above : ℕ) → IsFlawed above line.now f) }
+    ensures { IfSome result (IsFlawedAnywhere line.now) }
 {
     match no_numbers(line, from, most, 0) {
         Some(flawed) => Some(flawed),

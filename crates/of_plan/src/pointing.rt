@@ -53,7 +53,8 @@ pub fn point_out(
 ) -> Result<Vec<u8>, AllocError>
     requires order { start ≤ end }
     requires within { end ≤ length line.now }
-    ensures { IfOk result (λ out. out.items ≡ pointed.message number line.now start end reason.now) }
+    ensures { IfOk result
+        (λ out. out.items ≡ pointed.message number line.now start end reason.now) }
 {
     let first = start.saturating_sub(BEFORE);
     let last = line.len().min(first + SHOWN);

@@ -5,7 +5,7 @@ ghost use Rattle.of_plan.specs.Grammar.{IsPlanText};
 ghost use Rattle.of_plan.specs.Reasons.{IsFaultOf};
 
 use crate::explaining::explain;
-use crate::parsing::{PlanErr, parse};
+use crate::parser::{PlanErr, parse};
 use crate::pointing::point_out;
 use crate::reason::Reason;
 use std::alloc::{AllocError, Global};
@@ -41,16 +41,13 @@ pub fn fault(alloc: Global, text: &[u8]) -> Result<Option<BadPiece>, AllocError>
 }
 
 impl BadPiece {
-    ghost use Rattle.std.specs.Prelude.{◌≡◌, ◌-◌, IfOk};
-    ghost use Rattle.of_plan.specs.Lines.{text_lines};
-    ghost use Rattle.of_plan.specs.Above.{line_at};
-    ghost use Rattle.of_plan.specs.ReasonText.{reason_text};
-    ghost use Rattle.of_plan.specs.Pointed.{message};
+    ghost use Rattle.std.specs.Prelude.{◌≡◌, IfOk};
+    ghost use Rattle.of_plan.specs.Pointed.{bad_piece_message};
 
     /// What is printed of the fault of a text. The error is want of memory.
     pub fn print(&self, alloc: Global, text: &[u8]) -> Result<Vec<u8>, AllocError>
         requires { IsFaultOf text.now self.now }
-        ensures { IfOk result (λ out. out.items ≡ message self.now.line (line_at (text_lines text.now) (self.now.line - 1)) self.now.start self.now.end (reason_text self.now.reason)) }
+        ensures { IfOk result (λ out. out.items ≡ bad_piece_message text.now self.now) }
     {
         let (line, _) = crate::above::line_at(text, self.line - 1);
         let reason = format!(in alloc; "{}", self.reason)?;

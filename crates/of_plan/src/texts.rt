@@ -13,7 +13,8 @@ pub fn spelled_is_plan()
 
 /// A text has at most one plan.
 pub fn one_plan()
-    ensures { (text : List ℕ) (plan other : Plan) → SpellsPlan text plan → SpellsPlan text other → plan ≡ other }
+    ensures { (text : List ℕ) (plan other : Plan) → SpellsPlan text plan → SpellsPlan text other
+        → plan ≡ other }
 {}
 
 /// What is printed of a plan is read again as that plan.

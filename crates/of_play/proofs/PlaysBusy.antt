@@ -15,14 +15,14 @@ use Rattle.of_core.specs.declared.place.Place.TheVariants.{Idle}
 use Rattle.of_core.specs.declared.place.Outcome.{Outcome}
 use Rattle.of_core.specs.declared.place.Outcome.TheVariants.{Answered, Spent}
 use Rattle.of_core.specs.Machine.{CallState, IsOpen, is_idle, no_machine, begin_call, first_place}
-use Rattle.of_core.specs.World.{Moment}
+use Rattle.of_core.specs.TableMoment.{Moment}
 use Rattle.of_core.specs.Events.{Event, Begins, Turns, Loads, Evicts, Raises, machine_in, after_event, after_events, zero_start}
 use Rattle.of_core.specs.Calls.{TurnsFindOpenCalls, operations_begun, outcomes, no_outcome, last_outcome, HasCalls}
 use Rattle.of_caller.specs.Tables.{plan_setup, opening_for, operation_of}
 use Rattle.of_caller.specs.Ends.{is_spent, ending_if_left, ending_at, AreAnswers}
 use Rattle.of_caller.specs.Left.{moment_after, IsLeftBy}
 use Rattle.of_play.specs.Play.{begins_call, next_begin, with_begin}
-use Rattle.of_play.specs.Playing.{EventsMayFollow}
+use Rattle.of_play.specs.ScheduleRun.{EventsMayFollow}
 use Rattle.of_play.proofs.PlaysMoments.{IsPlayable, idle_is, calls_here}
 use Rattle.of_play.proofs.PlaysUnspent.{last_at}
 use Rattle.of_play.proofs.PlaysSpent.{items_spent_last}

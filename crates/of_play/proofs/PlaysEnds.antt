@@ -23,9 +23,9 @@ use Rattle.of_caller.specs.Tables.{plan_setup, opening_for, operation_of}
 use Rattle.of_caller.specs.Ends.{AreAnswers, ending_if_left, ending_at}
 use Rattle.of_caller.specs.Left.{moment_after}
 use Rattle.of_play.specs.Play.{item_events, plan_events, events_from}
-use Rattle.of_play.specs.Playing.{spent_at, standing_of, idle_standing, answers_in, EventsMayFollow, StandsAfter, MakesMoves, CallerEndsAs, RunLeaves}
-use Rattle.of_play.specs.declared.playing.Playing.{Playing}
-use Rattle.of_play.specs.declared.playing.Standing.{Standing}
+use Rattle.of_play.specs.ScheduleRun.{spent_at, standing_of, idle_standing, answers_in, EventsMayFollow, StandsAfter, MakesMoves, CallerEndsAs, RunLeaves}
+use Rattle.of_play.specs.declared.schedule_run.ScheduleRun.{ScheduleRun}
+use Rattle.of_play.specs.declared.schedule_run.CallerStanding.{CallerStanding}
 use Rattle.of_play.proofs.PlaysMoments.{IsPlayable, zero_ticket}
 use Rattle.of_play.proofs.PlaysEvents.{events_append}
 use Rattle.of_play.proofs.PlaysStand.{standing_at}
@@ -33,7 +33,7 @@ use Rattle.of_play.proofs.PlaysStand.{standing_at}
 -- before the first event nobody has begun a call
 idle_standings : (S : Setup) (i n : ℕ) → replicate n idle_standing ≡ map standing_of (idle_machines S (start_ticket S (zero_start S)) i n)
 idle_standings S i zero = refl
-idle_standings S i (suc n) = ap (λ (ts : List Standing). idle_standing ∷ ts) (idle_standings S (suc i) n)
+idle_standings S i (suc n) = ap (λ (ts : List CallerStanding). idle_standing ∷ ts) (idle_standings S (suc i) n)
 
 none_made : (S : Setup) (i n c : ℕ) → (get_or (idle_machines S (start_ticket S (zero_start S)) i n) c no_machine).made ≡ 0
 none_made S i zero c = refl
@@ -54,7 +54,7 @@ starts p = record {
   begun = λ c h. sym (ap (map operation_of) (take_none _ (scripts_of p c) (none_made (plan_setup p) 0 p.callers c)));
 }
 
-pub start_stands : (p : Plan) (s : Playing) → s.bank.callers ≡ p.callers → bank_setup scripts_meaning s.bank ≡ plan_setup p
+pub start_stands : (p : Plan) (s : ScheduleRun) → s.bank.callers ≡ p.callers → bank_setup scripts_meaning s.bank ≡ plan_setup p
     → s.bank.words ≡ (opening_moment (bank_setup scripts_meaning s.bank) (zero_start (bank_setup scripts_meaning s.bank)) (table_word_count (bank_setup scripts_meaning s.bank))).words
     → s.bank.machines ≡ (opening_moment (bank_setup scripts_meaning s.bank) (zero_start (bank_setup scripts_meaning s.bank)) (table_word_count (bank_setup scripts_meaning s.bank))).machines
     → s.standings.items ≡ replicate p.callers idle_standing → length s.answers.items ≡ p.callers → ((c : ℕ) → answers_in s c ≡ []) → StandsAfter p [] s
@@ -91,22 +91,22 @@ halts_open None k e = refl
 halts_open (Some (Answered q announced raw steps)) k e = refl
 halts_open (Some (Spent q)) k e = cc
 
-module _ (p : Plan) (plan : IsPlayable p) (c : ℕ) (h : c < p.callers) (s : Playing) where
+module _ (p : Plan) (plan : IsPlayable p) (c : ℕ) (h : c < p.callers) (s : ScheduleRun) where
   module _ (said scripts : ℕ) (told : said ≡ length (answers_in s c)) (all : scripts ≡ length (scripts_of p c)) where
-    module _ (not_done : said ≡ scripts → ⊥) (t : Standing) (read : t ≡ get_or s.standings.items c t) where
+    module _ (not_done : said ≡ scripts → ⊥) (t : CallerStanding) (read : t ≡ get_or s.standings.items c t) where
       pub ends_as_spent : (q : ℕ) → t.spent ≡ Some q → CallerEndsAs p c s (Ran_out q)
       ends_as_spent q e es st =
           let m = machine_in (moment_after p es) c in
-          let same = ap (λ (x : Standing). x.spent) (read ∙ standing_at p plan es s st c t h) in
+          let same = ap (λ (x : CallerStanding). x.spent) (read ∙ standing_at p plan es s st c t h) in
           halts_spent m.answer m.steps q (sym same ∙ e) ∙ ends_halted m _ _ (λ q. not_done (told ∙ q ∙ sym all))
 
       pub ends_as_stopped : t.spent ≡ None → CallerEndsAs p c s (Stopped (t.steps + 1))
       ends_as_stopped e es st =
           let m = machine_in (moment_after p es) c in
           let same = read ∙ standing_at p plan es s st c t h in
-          ap (λ (x : Standing). Stopped (x.steps + 1)) same ∙ halts_open m.answer m.steps (sym (ap (λ (x : Standing). x.spent) same) ∙ e) ∙ ends_halted m _ _ (λ q. not_done (told ∙ q ∙ sym all))
+          ap (λ (x : CallerStanding). Stopped (x.steps + 1)) same ∙ halts_open m.answer m.steps (sym (ap (λ (x : CallerStanding). x.spent) same) ∙ e) ∙ ends_halted m _ _ (λ q. not_done (told ∙ q ∙ sym all))
 
-pub leaves_as : (p : Plan) (s : Playing) (e : Ended) → e.answers ≡ map (λ v. v.items) s.answers.items → e.words ≡ s.bank.words → length e.endings ≡ p.callers → ((c : ℕ) → c < p.callers → CallerEndsAs p c s (ending_of e c)) → RunLeaves p s e
+pub leaves_as : (p : Plan) (s : ScheduleRun) (e : Ended) → e.answers ≡ map (λ v. v.items) s.answers.items → e.words ≡ s.bank.words → length e.endings ≡ p.callers → ((c : ℕ) → c < p.callers → CallerEndsAs p c s (ending_of e c)) → RunLeaves p s e
 leaves_as p s e answers words endings each es st = record {
   answers = ap length answers ∙ length-map s.answers.items (λ v. v.items) ∙ st.answers;
   endings = endings;
@@ -119,7 +119,7 @@ leaves_as p s e answers words endings each es st = record {
     here c = ap (λ (xs : List (List Answer)). get_or xs c []) answers
 
 -- the items so far
-pub items_more : (p : Plan) (items : List Item) → items ≡ p.schedule → (k : ℕ) (d : Item) (s t : Playing) → k < length items → MakesMoves p (item_events (get_or items k d)) s t
+pub items_more : (p : Plan) (items : List Item) → items ≡ p.schedule → (k : ℕ) (d : Item) (s t : ScheduleRun) → k < length items → MakesMoves p (item_events (get_or items k d)) s t
     → StandsAfter p (events_from p (opening_for p) (flat_map item_events (take k p.schedule))) s → StandsAfter p (events_from p (opening_for p) (flat_map item_events (take (k + 1) p.schedule))) t
 items_more p items same k d s t l f st =
     let ms = flat_map item_events (take k p.schedule) in

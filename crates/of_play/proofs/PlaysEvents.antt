@@ -5,7 +5,7 @@ use Rattle.std.proofs.lemmas.List.{append_assoc}
 use Rattle.of_core.specs.declared.place.Outcome.{Outcome}
 use Rattle.of_core.specs.declared.place.Outcome.TheVariants.{Answered, Spent}
 use Rattle.of_core.specs.Table.{Setup}
-use Rattle.of_core.specs.World.{Moment}
+use Rattle.of_core.specs.TableMoment.{Moment}
 use Rattle.of_core.specs.Events.{Event, after_event, after_events, IsSchedule, turn_count}
 use Rattle.of_core.specs.Calls.{operations_begun, operation_begun, outcomes, outcome_of_event, TurnsFindOpenCalls}
 use Rattle.of_plan.specs.declared.answer.Answer.{Answer}

@@ -13,14 +13,14 @@ use Rattle.of_plan.proofs.Lists.{all_at}
 use Rattle.of_core.specs.declared.place.Place.TheVariants.{Idle}
 use Rattle.of_core.specs.Table.{Setup, cell_count}
 use Rattle.of_core.specs.Machine.{CallState, is_idle, no_machine, begin_call}
-use Rattle.of_core.specs.World.{Moment}
+use Rattle.of_core.specs.TableMoment.{Moment}
 use Rattle.of_core.specs.Events.{Event, Begins, Turns, Loads, Evicts, Raises, machine_in, after_event, MayHappen}
 use Rattle.of_core.specs.Calls.{operation_begun, if_so}
 use Rattle.of_caller.specs.Tables.{plan_setup, opening_for, operation_of}
 use Rattle.of_caller.specs.Ends.{is_spent}
 use Rattle.of_caller.specs.Left.{moment_after}
 use Rattle.of_play.specs.Play.{begins_call}
-use Rattle.of_play.specs.Playing.{EventsMayFollow}
+use Rattle.of_play.specs.ScheduleRun.{EventsMayFollow}
 use Rattle.of_play.proofs.PlaysMoments.{IsPlayable, idle_is}
 use Rattle.of_play.proofs.PlaysEvents.{run_append, schedule_append, operations_append}
 use Rattle.of_play.proofs.PlaysGood.{IsGood, good_at, here, made_turned}

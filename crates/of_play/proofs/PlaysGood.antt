@@ -10,16 +10,16 @@ use Rattle.of_core.specs.declared.bank.Turn.{Turn}
 use Rattle.of_core.specs.Table.{Setup}
 use Rattle.of_core.specs.Machine.{CallState, IsOpen, is_idle, no_machine}
 use Rattle.of_core.specs.Steps.{take_word, take_word_at, with_step_counted, word_found}
-use Rattle.of_core.specs.World.{Moment, step_batches}
+use Rattle.of_core.specs.TableMoment.{Moment, step_batches}
 use Rattle.of_core.specs.Facts.{IsStep}
 use Rattle.of_core.specs.Invariant.{MeetsInvariant}
 use Rattle.of_core.specs.Claim.{IsSound}
-use Rattle.of_core.specs.Seen.{ended_outcome, ended_outcome_at}
+use Rattle.of_core.specs.MachineValue.{ended_outcome, ended_outcome_at}
 use Rattle.of_core.specs.Turn.{turn_of_outcome, turn_at, turn_of}
 use Rattle.of_core.specs.Events.{Event, Turns, machine_in, after_event, IsSchedule, zero_start}
 use Rattle.of_caller.specs.Tables.{plan_setup, IsLawfulFor, opening_for}
 use Rattle.of_caller.specs.Left.{moment_after}
-use Rattle.of_play.specs.Playing.{standing_of, standing_after, spent_at}
+use Rattle.of_play.specs.ScheduleRun.{standing_of, standing_after, spent_at}
 use Rattle.of_play.proofs.PlaysMoments.{IsPlayable, idle_is, good_moment}
 
 -- what a turn says of a machine that wasn't idle

@@ -11,14 +11,14 @@ use Rattle.of_core.specs.Events.{Event, Turns, Raises}
 use Rattle.of_caller.specs.Tables.{plan_setup, opening_for}
 use Rattle.of_caller.specs.Left.{moment_after}
 use Rattle.of_play.specs.Play.{item_events, events_from}
-use Rattle.of_play.specs.Playing.{StandsAfter, IsPlaying, MakesMoves}
-use Rattle.of_play.specs.declared.playing.Playing.{Playing}
+use Rattle.of_play.specs.ScheduleRun.{StandsAfter, IsPlaying, MakesMoves}
+use Rattle.of_play.specs.declared.schedule_run.ScheduleRun.{ScheduleRun}
 use Rattle.of_play.proofs.PlaysMoments.{IsPlayable}
 use Rattle.of_play.proofs.PlaysEvents.{run_append, events_append}
 use Rattle.of_play.proofs.PlaysStand.{raise_stands}
 
 -- moves after moves
-pub goes_further : (p : Plan) (ms ns : List Event) (r s t : Playing) → MakesMoves p ms r s → MakesMoves p ns s t → MakesMoves p (ms ++ ns) r t
+pub goes_further : (p : Plan) (ms ns : List Event) (r s t : ScheduleRun) → MakesMoves p ms r s → MakesMoves p ns s t → MakesMoves p (ms ++ ns) r t
 goes_further p ms ns r s t f g es st =
     let S = plan_setup p in
     let w = moment_after p es in
@@ -29,10 +29,10 @@ goes_further p ms ns r s t f g es st =
     ∙ ap (λ (gs : List Event). es ++ gs) (sym (events_append p w ms ns)))
     (g (es ++ fs) (f es st))
 
-pub goes_nowhere : (p : Plan) (s : Playing) → MakesMoves p [] s s
+pub goes_nowhere : (p : Plan) (s : ScheduleRun) → MakesMoves p [] s s
 goes_nowhere p s es st = subst (λ (gs : List Event). StandsAfter p gs s) (sym (append-nil es)) st
 
-pub plays_on : (p : Plan) (ms : List Event) (s t : Playing) → IsPlaying p s → MakesMoves p ms s t → IsPlaying p t
+pub plays_on : (p : Plan) (ms : List Event) (s t : ScheduleRun) → IsPlaying p s → MakesMoves p ms s t → IsPlaying p t
 plays_on p ms s t r f = record { plan = r.plan; events = r.events ++ events_from p (moment_after p r.events) ms; stands = f r.events r.stands }
 
 -- one turn more
@@ -43,11 +43,11 @@ replicate_more n e = all n ∙ ap (λ (k : ℕ). replicate k e) (sym (add-one n)
     all zero = refl
     all (suc n) = ap (λ (es : List Event). e ∷ es) (all n)
 
-pub one_turn_more : (p : Plan) (c n : ℕ) (r s t : Playing) → MakesMoves p (replicate n (Turns c)) r s → MakesMoves p (Turns c ∷ []) s t → MakesMoves p (replicate (n + 1) (Turns c)) r t
+pub one_turn_more : (p : Plan) (c n : ℕ) (r s t : ScheduleRun) → MakesMoves p (replicate n (Turns c)) r s → MakesMoves p (Turns c ∷ []) s t → MakesMoves p (replicate (n + 1) (Turns c)) r t
 one_turn_more p c n r s t f g = subst (λ (ms : List Event). MakesMoves p ms r t) (replicate_more n (Turns c)) (goes_further p (replicate n (Turns c)) (Turns c ∷ []) r s t f g)
 
 -- an eviction
-pub evict_goes_on : (p : Plan) → IsPlayable p → (item : Item) (a : ℕ) → item ≡ Evict a → IsScheduleItem p item → (s : Playing) (x : Bank Scripts) → x ≡ bank_after scripts_meaning (Raises a ∷ []) s.bank → MakesMoves p (item_events item) s (record s { bank = x })
+pub evict_goes_on : (p : Plan) → IsPlayable p → (item : Item) (a : ℕ) → item ≡ Evict a → IsScheduleItem p item → (s : ScheduleRun) (x : Bank Scripts) → x ≡ bank_after scripts_meaning (Raises a ∷ []) s.bank → MakesMoves p (item_events item) s (record s { bank = x })
 evict_goes_on p plan item a is within s x leaves =
     let h : a < durable_cells_of p = subst (IsScheduleItem p) is within in
     subst (λ (y : Item). MakesMoves p (item_events y) s (record s { bank = x })) (sym is) (λ es st. raise_stands p plan es s st a h x leaves)

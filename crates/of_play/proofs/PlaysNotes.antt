@@ -8,14 +8,14 @@ use Rattle.of_core.specs.declared.place.Outcome.{Outcome}
 use Rattle.of_core.specs.declared.place.Outcome.TheVariants.{Spent}
 use Rattle.of_core.specs.Calls.{outcome_of_turn}
 use Rattle.of_caller.specs.Ends.{TellsAnswer, AreAnswers}
-use Rattle.of_play.specs.Playing.{standing_after, spent_at, answers_in, NotesTurn}
-use Rattle.of_play.specs.declared.playing.Playing.{Playing}
-use Rattle.of_play.specs.declared.playing.Standing.{Standing}
+use Rattle.of_play.specs.ScheduleRun.{standing_after, spent_at, answers_in, NotesTurn}
+use Rattle.of_play.specs.declared.schedule_run.ScheduleRun.{ScheduleRun}
+use Rattle.of_play.specs.declared.schedule_run.CallerStanding.{CallerStanding}
 use Rattle.of_play.proofs.PlaysEvents.{answers_spent, answers_more}
 
-module _ (c : ℕ) (turn : Turn) (s t : Playing) (bank : t.bank ≡ s.bank) where
+module _ (c : ℕ) (turn : Turn) (s t : ScheduleRun) (bank : t.bank ≡ s.bank) where
   module _ (o : Outcome) (ends : turn ≡ Ended o) (standings : t.standings.items ≡ set s.standings.items c (record { spent = spent_at (Some o); steps = 0 })) where
-    stand : (d : Standing) → t.standings.items ≡ set s.standings.items c (standing_after turn (get_or s.standings.items c d))
+    stand : (d : CallerStanding) → t.standings.items ≡ set s.standings.items c (standing_after turn (get_or s.standings.items c d))
     stand d = standings ∙ ap (λ (r : Turn). set s.standings.items c (standing_after r (get_or s.standings.items c d))) (sym ends)
 
     -- with an answer more

@@ -17,8 +17,8 @@ use Rattle.of_caller.specs.Tables.{plan_setup, opening_for}
 use Rattle.of_caller.specs.Ends.{OutcomeHoldsReply}
 use Rattle.of_caller.specs.Left.{IsOfPlan, moment_after}
 use Rattle.of_caller.specs.Runs.{RepliesAreHeld}
-use Rattle.of_play.specs.Playing.{EventsMayFollow, StandsAfter, IsReplied}
-use Rattle.of_play.specs.declared.playing.Playing.{Playing}
+use Rattle.of_play.specs.ScheduleRun.{EventsMayFollow, StandsAfter, IsReplied}
+use Rattle.of_play.specs.declared.schedule_run.ScheduleRun.{ScheduleRun}
 use Rattle.of_play.proofs.PlaysMoments.{IsPlayable}
 use Rattle.of_play.proofs.PlaysStart.{moment_here}
 use Rattle.of_play.proofs.PlaysFollow.{turn_follows}
@@ -28,7 +28,7 @@ use Rattle.of_play.proofs.PlaysStand.{turn_says, turn_ends}
 pub of_plan : (p : Plan) (es : List Event) → EventsMayFollow p es → IsOfPlan p es
 of_plan p es f c h = ((machine_in (moment_after p es) c).made, f.made c h, f.begun c h)
 
-module _ (p : Plan) (plan : IsPlayable p) (es : List Event) (s : Playing) (st : StandsAfter p es s) (c : ℕ) (h : c < p.callers) (replied : RepliesAreHeld) (x : Bank Scripts) (leaves : x ≡ bank_after scripts_meaning (Turns c ∷ []) s.bank) where
+module _ (p : Plan) (plan : IsPlayable p) (es : List Event) (s : ScheduleRun) (st : StandsAfter p es s) (c : ℕ) (h : c < p.callers) (replied : RepliesAreHeld) (x : Bank Scripts) (leaves : x ≡ bank_after scripts_meaning (Turns c ∷ []) s.bank) where
   -- what a turn says is a reply where it is an answer
   pub turn_replied : (r : Turn) → r ≡ turn_of (machine_of s.bank c) (machine_of x c) → IsReplied r
   turn_replied Idle says = tt

@@ -17,9 +17,9 @@ use Rattle.of_core.specs.Moment.{Bank, bank_setup, bank_after, machine_of}
 use Rattle.of_core.specs.Events.{Event, Turns, machine_in}
 use Rattle.of_caller.specs.Ends.{AreAnswers}
 use Rattle.of_caller.specs.Left.{moment_after}
-use Rattle.of_play.specs.Playing.{NotesTurn, MakesMoves, BeginsNext, answers_in}
-use Rattle.of_play.specs.declared.playing.Playing.{Playing}
-use Rattle.of_play.specs.declared.playing.Standing.{Standing}
+use Rattle.of_play.specs.ScheduleRun.{NotesTurn, MakesMoves, BeginsNext, answers_in}
+use Rattle.of_play.specs.declared.schedule_run.ScheduleRun.{ScheduleRun}
+use Rattle.of_play.specs.declared.schedule_run.CallerStanding.{CallerStanding}
 use Rattle.of_play.proofs.PlaysMoments.{IsPlayable}
 use Rattle.of_play.proofs.PlaysMoves.{one_turn_more}
 use Rattle.of_play.proofs.PlaysStand.{turn_goes_on}
@@ -44,7 +44,7 @@ idle_after b c idle =
 idle_turn : (m : CallState) (q : Place) → Idle ≡ q → NoCall ≡ turn_at q m
 idle_turn m q e = subst (λ (r : Place). NoCall ≡ turn_at r m) e refl
 
-no_notes : (c : ℕ) (s : Playing) → NotesTurn c NoCall (record s { bank = s.bank }) s
+no_notes : (c : ℕ) (s : ScheduleRun) → NotesTurn c NoCall (record s { bank = s.bank }) s
 no_notes c s = record {
   bank = refl;
   standings = λ d. sym (set-get_or s.standings.items c d);
@@ -54,18 +54,18 @@ no_notes c s = record {
 }
 
 -- a turn changes nothing
-pub rests : (p : Plan) → IsPlayable p → (c : ℕ) → c < p.callers → (s : Playing) → (machine_of s.bank c).place ≡ Idle → BeginsNext p c s s → MakesMoves p (Turns c ∷ []) s s
+pub rests : (p : Plan) → IsPlayable p → (c : ℕ) → c < p.callers → (s : ScheduleRun) → (machine_of s.bank c).place ≡ Idle → BeginsNext p c s s → MakesMoves p (Turns c ∷ []) s s
 rests p plan c h s idle begins =
     turn_goes_on p plan c h s s begins s.bank (idle_after s.bank c idle) NoCall (idle_turn (machine_of s.bank c) (machine_of s.bank c).place (sym idle)) s (no_notes c s)
 
-rests_more : (p : Plan) (c n k : ℕ) (first s : Playing) → MakesMoves p (replicate n (Turns c)) first s → MakesMoves p (Turns c ∷ []) s s → MakesMoves p (replicate (n + k) (Turns c)) first s
+rests_more : (p : Plan) (c n k : ℕ) (first s : ScheduleRun) → MakesMoves p (replicate n (Turns c)) first s → MakesMoves p (Turns c ∷ []) s s → MakesMoves p (replicate (n + k) (Turns c)) first s
 rests_more p c n zero first s far still = subst (λ (m : ℕ). MakesMoves p (replicate m (Turns c)) first s) (let e : n ≡ n + 0 = omega arith in e) far
 rests_more p c n (suc k) first s far still =
     subst (λ (m : ℕ). MakesMoves p (replicate m (Turns c)) first s) (let e : n + 1 + k ≡ n + suc k = omega arith in e)
     (rests_more p c (n + 1) k first s (one_turn_more p c n first s s far still) still)
 
 -- nor do all that are left
-pub rests_on : (p : Plan) (c n most : ℕ) (first s : Playing) → n ≤ most → MakesMoves p (replicate n (Turns c)) first s → MakesMoves p (Turns c ∷ []) s s → MakesMoves p (replicate most (Turns c)) first s
+pub rests_on : (p : Plan) (c n most : ℕ) (first s : ScheduleRun) → n ≤ most → MakesMoves p (replicate n (Turns c)) first s → MakesMoves p (Turns c ∷ []) s s → MakesMoves p (replicate most (Turns c)) first s
 rests_on p c n most first s le far still =
     let k : ℕ = most - n in
     subst (λ (m : ℕ). MakesMoves p (replicate m (Turns c)) first s) (let e : n + k ≡ most = omega arith in e) (rests_more p c n k first s far still)

@@ -10,12 +10,12 @@ use Rattle.of_plan.specs.declared.plan.Item.TheVariants.{Turns as Turns_of, Evic
 use Rattle.of_plan.specs.Plan.{Plan, IsScheduleItem, scripts_of}
 use Rattle.of_plan.specs.Allowance.{turns_in, turns_for}
 use Rattle.of_plan.proofs.HistoriesLists.{each_append}
-use Rattle.of_core.specs.World.{Moment}
+use Rattle.of_core.specs.TableMoment.{Moment}
 use Rattle.of_core.specs.Events.{Event, Begins, Turns, Loads, Evicts, Raises, machine_in, after_events, turn_count, one_if, IsSchedule}
 use Rattle.of_caller.specs.Tables.{plan_setup, opening_for}
 use Rattle.of_caller.specs.Left.{IsOfPlan, moment_after}
 use Rattle.of_play.specs.Play.{item_events, begins_call, next_begin, with_begin, events_from, play_events}
-use Rattle.of_play.specs.Playing.{EventsMayFollow}
+use Rattle.of_play.specs.ScheduleRun.{EventsMayFollow}
 use Rattle.of_play.proofs.PlaysMoments.{IsPlayable}
 use Rattle.of_play.proofs.PlaysEvents.{run_append, turns_append, events_of}
 use Rattle.of_play.proofs.PlaysFollow.{IsMove, begin_follows, turn_follows, raise_follows}

@@ -18,7 +18,7 @@ use Rattle.of_core.specs.declared.place.Outcome.TheVariants.{Answered, Spent}
 use Rattle.of_core.specs.Table.{Setup, cell_count}
 use Rattle.of_core.specs.declared.place.Place.TheVariants.{Idle}
 use Rattle.of_core.specs.Machine.{CallState, is_idle, no_machine, begin_call}
-use Rattle.of_core.specs.World.{Moment}
+use Rattle.of_core.specs.TableMoment.{Moment}
 use Rattle.of_core.specs.Turn.{turn_of}
 use Rattle.of_core.specs.Moment.{Bank, bank_setup, bank_after, machine_of}
 use Rattle.of_core.specs.Events.{Event, Begins, Turns, Loads, Evicts, Raises, machine_in, after_event}
@@ -27,9 +27,9 @@ use Rattle.of_caller.specs.Tables.{plan_setup, opening_for, operation_of}
 use Rattle.of_caller.specs.Ends.{is_spent, AreAnswers}
 use Rattle.of_caller.specs.Left.{moment_after}
 use Rattle.of_play.specs.Play.{begins_call, next_begin}
-use Rattle.of_play.specs.Playing.{EventsMayFollow, spent_at, standing_of, standing_after, answers_in, HasStepToCount, StandsAfter, NotesTurn, MakesMoves, BeginsNext}
-use Rattle.of_play.specs.declared.playing.Playing.{Playing}
-use Rattle.of_play.specs.declared.playing.Standing.{Standing}
+use Rattle.of_play.specs.ScheduleRun.{EventsMayFollow, spent_at, standing_of, standing_after, answers_in, HasStepToCount, StandsAfter, NotesTurn, MakesMoves, BeginsNext}
+use Rattle.of_play.specs.declared.schedule_run.ScheduleRun.{ScheduleRun}
+use Rattle.of_play.specs.declared.schedule_run.CallerStanding.{CallerStanding}
 use Rattle.of_play.proofs.PlaysMoments.{IsPlayable, idle_is}
 use Rattle.of_play.proofs.PlaysEvents.{run_append, outcomes_append}
 use Rattle.of_play.proofs.PlaysGood.{IsGood, good_at, sound_at, here, idle_steps, few_steps, turned, stands_turned}
@@ -64,7 +64,7 @@ unspent_at None e = refl
 unspent_at (Some (Answered s announced raw steps)) e = refl
 unspent_at (Some (Spent s)) e = cc
 
-module _ (p : Plan) (plan : IsPlayable p) (es : List Event) (s : Playing) (st : StandsAfter p es s) where
+module _ (p : Plan) (plan : IsPlayable p) (es : List Event) (s : ScheduleRun) (st : StandsAfter p es s) where
   abbrev S : Setup
   S = plan_setup p
 
@@ -80,8 +80,8 @@ module _ (p : Plan) (plan : IsPlayable p) (es : List Event) (s : Playing) (st : 
   pub machine_same : (c : ℕ) → machine_of s.bank c ≡ machine_in w c
   machine_same c = ap (λ (ms : List CallState). get_or ms c no_machine) st.machines
 
-  pub standing_at : (c : ℕ) (d : Standing) → c < p.callers → get_or s.standings.items c d ≡ standing_of (machine_in w c)
-  standing_at c d h = ap (λ (xs : List Standing). get_or xs c d) st.standings ∙ get_or-map standing_of w.machines c no_machine d (here p plan w good c h)
+  pub standing_at : (c : ℕ) (d : CallerStanding) → c < p.callers → get_or s.standings.items c d ≡ standing_of (machine_in w c)
+  standing_at c d h = ap (λ (xs : List CallerStanding). get_or xs c d) st.standings ∙ get_or-map standing_of w.machines c no_machine d (here p plan w good c h)
 
   pub time_left : (c : ℕ) → c < p.callers → (machine_in w c).steps + 1 < 18446744073709551616
   time_left c h = few_steps p plan w good c h
@@ -165,7 +165,7 @@ module _ (p : Plan) (plan : IsPlayable p) (es : List Event) (s : Playing) (st : 
         outcomes_append S (opening_for p) es (Turns c ∷ []) i ∙ ap (λ (os : List Outcome). outcomes S (opening_for p) es i ++ (os ++ [])) (only_other i c told n) ∙ append-nil _
 
     pub turn_stands : (x : Bank Scripts) → x ≡ bank_after scripts_meaning (Turns c ∷ []) s.bank → (r : Turn) → r ≡ turn_of (machine_of s.bank c) (machine_of x c)
-        → (t : Playing) → NotesTurn c r (record s { bank = x }) t → StandsAfter p (es ++ Turns c ∷ []) t
+        → (t : ScheduleRun) → NotesTurn c r (record s { bank = x }) t → StandsAfter p (es ++ Turns c ∷ []) t
     turn_stands x leaves r says t notes = record {
       follows = turn_follows p plan es st.follows c h;
       callers = ap (λ (b : Bank Scripts). b.callers) notes.bank ∙ bank_callers (Turns c) tt x leaves;
@@ -179,7 +179,7 @@ module _ (p : Plan) (plan : IsPlayable p) (es : List Event) (s : Playing) (st : 
       where
         stood : t.standings.items ≡ map standing_of (moment_after p (es ++ Turns c ∷ [])).machines
         stood =
-            let d : Standing = standing_of (machine_in w c) in
+            let d : CallerStanding = standing_of (machine_in w c) in
             notes.standings d ∙ (λ i. set (st.standings i) c (standing_after (turn_says x leaves r says i) (standing_at c d h i)))
             ∙ ap (set (map standing_of w.machines) c) (sym (stands_turned p plan w good c h) ∙ ap standing_of (turned p plan w good c h))
             ∙ sym (map-set standing_of w.machines c _) ∙ ap (λ (u : Moment). map standing_of u.machines) (sym turned_to)
@@ -197,7 +197,7 @@ next_none p c m e = ap (λ (b : Bool). if b then Begins c (operation_of (get_or 
 pub next_one : (p : Plan) (c : ℕ) (m : CallState) → begins_call m (length (scripts_of p c)) ≡ true → next_begin p c m ≡ Begins c (operation_of (get_or (scripts_of p c) m.made [])) ∷ []
 next_one p c m e = ap (λ (b : Bool). if b then Begins c (operation_of (get_or (scripts_of p c) m.made [])) ∷ [] else []) e
 
-pub stays_none : (p : Plan) (es : List Event) (s : Playing) (c : ℕ) (m : CallState) → begins_call m (length (scripts_of p c)) ≡ false → StandsAfter p es s → StandsAfter p (es ++ next_begin p c m) s
+pub stays_none : (p : Plan) (es : List Event) (s : ScheduleRun) (c : ℕ) (m : CallState) → begins_call m (length (scripts_of p c)) ≡ false → StandsAfter p es s → StandsAfter p (es ++ next_begin p c m) s
 stays_none p es s c m e st = subst (λ (fs : List Event). StandsAfter p (es ++ fs) s) (sym (next_none p c m e)) (subst (λ (fs : List Event). StandsAfter p fs s) (sym (append-nil es)) st)
 
 -- what the code keeps of a spent call
@@ -241,16 +241,16 @@ begins_is m n e f l =
 words_first : {A : Type 0} (n : ℕ) (xs ys : List A) → n ≡ length xs → take n (xs ++ ys) ≡ xs
 words_first n xs ys e = ap (λ (k : ℕ). take k (xs ++ ys)) e ∙ take-append_seam xs ys
 
-module _ (p : Plan) (plan : IsPlayable p) (es : List Event) (s : Playing) (st : StandsAfter p es s) (c : ℕ) (h : c < p.callers) where
+module _ (p : Plan) (plan : IsPlayable p) (es : List Event) (s : ScheduleRun) (st : StandsAfter p es s) (c : ℕ) (h : c < p.callers) where
   abbrev m : CallState
   m = machine_in (moment_after p es) c
 
   -- what the code keeps of the caller's machine is whether it is spent
-  pub spent_kept : (t : Standing) → t ≡ get_or s.standings.items c t → is_some t.spent ≡ is_spent m.answer
-  spent_kept t e = ap (λ (x : Standing). is_some x.spent) (e ∙ standing_at p plan es s st c t h) ∙ spent_told m.answer
+  pub spent_kept : (t : CallerStanding) → t ≡ get_or s.standings.items c t → is_some t.spent ≡ is_spent m.answer
+  spent_kept t e = ap (λ (x : CallerStanding). is_some x.spent) (e ∙ standing_at p plan es s st c t h) ∙ spent_told m.answer
 
   -- a spent caller begins none
-  pub spent_stands : (t : Standing) → t ≡ get_or s.standings.items c t → is_some t.spent ≡ true → StandsAfter p (es ++ next_begin p c m) s
+  pub spent_stands : (t : CallerStanding) → t ≡ get_or s.standings.items c t → is_some t.spent ≡ true → StandsAfter p (es ++ next_begin p c m) s
   spent_stands t e q = stays_none p es s c m (begins_not m (length (scripts_of p c)) (sym (spent_kept t e) ∙ q)) st
 
   -- nor does one with an open call
@@ -264,7 +264,7 @@ module _ (p : Plan) (plan : IsPlayable p) (es : List Event) (s : Playing) (st : 
       stays_none p es s c m (begins_done m (length (scripts_of p c)) (omega (arith, few, made_is, ap length all))) st
 
   -- a caller that is idle and unspent begins its next script, where it has one left
-  pub next_stands : (machine_of s.bank c).place ≡ Idle → (t : Standing) → t ≡ get_or s.standings.items c t → is_some t.spent ≡ false
+  pub next_stands : (machine_of s.bank c).place ≡ Idle → (t : CallerStanding) → t ≡ get_or s.standings.items c t → is_some t.spent ≡ false
       → (n : ℕ) → n ≡ (machine_of s.bank c).made → (scripts : List (List Instr)) → scripts ≡ scripts_of p c → n < length scripts → (script : List Instr) → script ≡ get_or scripts n script
       → (count : ℕ) → count ≡ length script → (out rest : List ℕ) → out ≡ operation_of script ++ rest → (x : Bank Scripts) → x ≡ bank_after scripts_meaning (Begins c (take count out) ∷ []) s.bank
       → StandsAfter p (es ++ next_begin p c m) (record s { bank = x })
@@ -279,15 +279,15 @@ module _ (p : Plan) (plan : IsPlayable p) (es : List Event) (s : Playing) (st : 
       subst (λ (fs : List Event). StandsAfter p (es ++ fs) (record s { bank = x })) (sym (next_one p c m begins))
       (begin_stands p plan es s st c h begins x (leaves ∙ ap (λ (o : List ℕ). bank_after scripts_meaning (Begins c o ∷ []) s.bank) op))
 
-pub has_time : (r : Turn) (t : Standing) → t.steps + 1 < 18446744073709551616 → HasStepToCount r t
+pub has_time : (r : Turn) (t : CallerStanding) → t.steps + 1 < 18446744073709551616 → HasStepToCount r t
 has_time NoCall t h = tt
 has_time Open t h = h
 has_time (Ended o) t h = tt
 
 -- a turn with the begin before it
-pub turn_goes_on : (p : Plan) (plan : IsPlayable p) (c : ℕ) → c < p.callers → (first begun : Playing) → BeginsNext p c first begun
+pub turn_goes_on : (p : Plan) (plan : IsPlayable p) (c : ℕ) → c < p.callers → (first begun : ScheduleRun) → BeginsNext p c first begun
     → (x : Bank Scripts) → x ≡ bank_after scripts_meaning (Turns c ∷ []) begun.bank → (r : Turn) → r ≡ turn_of (machine_of begun.bank c) (machine_of x c)
-    → (t : Playing) → NotesTurn c r (record begun { bank = x }) t → MakesMoves p (Turns c ∷ []) first t
+    → (t : ScheduleRun) → NotesTurn c r (record begun { bank = x }) t → MakesMoves p (Turns c ∷ []) first t
 turn_goes_on p plan c h first begun begins x leaves r says t notes es st =
     let fs = next_begin p c (machine_in (moment_after p es) c) in
     let stands = turn_stands p plan (es ++ fs) begun (begins es st) c h x leaves r says t notes in

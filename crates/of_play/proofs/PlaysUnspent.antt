@@ -8,7 +8,7 @@ use Rattle.of_core.specs.declared.place.Place.TheVariants.{Idle}
 use Rattle.of_core.specs.declared.place.Outcome.{Outcome}
 use Rattle.of_core.specs.declared.place.Outcome.TheVariants.{Spent}
 use Rattle.of_core.specs.Table.{Setup}
-use Rattle.of_core.specs.World.{Moment}
+use Rattle.of_core.specs.TableMoment.{Moment}
 use Rattle.of_core.specs.Invariant.{MeetsInvariant}
 use Rattle.of_core.specs.Events.{Event, Begins, Turns, Loads, Evicts, Raises, machine_in, after_event, MayHappen, IsSchedule, zero_start}
 use Rattle.of_core.specs.Calls.{operation_begun, operations_begun, outcome_of_event, outcomes, if_so, no_outcome, last_outcome_or, HasCalls}

@@ -4,12 +4,12 @@ use Rattle.std.specs.List.{flat_map}
 use Rattle.std.proofs.lemmas.Grind.{flat_map-append}
 use Rattle.std.proofs.lemmas.List.{append-nil, drop-append-le, drop_all, take-append-le, take_all, length-drop}
 use Rattle.of_plan.specs.Plan.{Plan}
-use Rattle.of_core.specs.World.{Moment}
+use Rattle.of_core.specs.TableMoment.{Moment}
 use Rattle.of_core.specs.Events.{Event, after_events}
 use Rattle.of_caller.specs.Tables.{plan_setup}
 use Rattle.of_play.specs.Play.{with_begin, events_from}
 use Rattle.of_play.specs.Trace.{lines_from}
-use Rattle.of_play.specs.Tracing.{shown_lines}
+use Rattle.of_play.specs.TraceRun.{shown_lines}
 use Rattle.of_play.proofs.PlaysEvents.{run_append}
 
 pub lines_length : (l : ℕ → Moment → Event → List ℕ) (p : Plan) (k : ℕ) (w : Moment) (ms : List Event) → length (lines_from l p k w ms) ≡ length ms

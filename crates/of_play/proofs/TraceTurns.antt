@@ -13,11 +13,11 @@ use Rattle.of_core.specs.declared.place.Outcome.{Outcome}
 use Rattle.of_cell.specs.Words.{pack, seq_of}
 use Rattle.of_core.specs.Table.{Setup, durable_at, committed_seq}
 use Rattle.of_core.specs.Machine.{Call, CallState, is_idle, no_machine, begin_call, first_place}
-use Rattle.of_core.specs.Seen.{ended_outcome}
+use Rattle.of_core.specs.MachineValue.{ended_outcome}
 use Rattle.of_core.specs.Helping.{helped_owner}
 use Rattle.of_core.specs.Turn.{turn_of_outcome, turn_of}
 use Rattle.of_core.specs.Steps.{want, want_at, word_of, word_found}
-use Rattle.of_core.specs.World.{Moment, step_batches, one_batch, step_batches_at}
+use Rattle.of_core.specs.TableMoment.{Moment, step_batches, one_batch, step_batches_at}
 use Rattle.of_core.specs.Moment.{bank_after, bank_setup, machine_of}
 use Rattle.of_core.specs.Events.{Event, Begins, Turns, Raises, machine_in, after_event}
 use Rattle.of_caller.specs.Tables.{plan_setup, opening_for, operation_of}
@@ -25,12 +25,12 @@ use Rattle.of_caller.specs.Left.{moment_after}
 use Rattle.of_caller.specs.Ends.{OutcomeHoldsReply}
 use Rattle.of_caller.specs.Runs.{RepliesAreHeld}
 use Rattle.of_play.specs.Play.{begins_call, next_begin}
-use Rattle.of_play.specs.Playing.{StandsAfter, MakesMoves, BeginsNext, IsReplied}
+use Rattle.of_play.specs.ScheduleRun.{StandsAfter, MakesMoves, BeginsNext, IsReplied}
 use Rattle.of_play.specs.TraceLine.{step_line, rest_line, evict_line}
 use Rattle.of_play.specs.Trace.{turn_line, moment_of_event, event_line_at, committed_at, batch_line}
 use Rattle.of_play.specs.Committing.{commits_by_step, commit_line}
-use Rattle.of_play.specs.declared.playing.Playing.{Playing}
-use Rattle.of_play.specs.declared.trace_line.Step.{Step}
+use Rattle.of_play.specs.declared.schedule_run.ScheduleRun.{ScheduleRun}
+use Rattle.of_play.specs.declared.trace_line.TraceStep.{TraceStep}
 use Rattle.of_play.proofs.PlaysMoments.{IsPlayable}
 use Rattle.of_play.proofs.PlaysEvents.{run_append}
 use Rattle.of_play.proofs.PlaysGood.{good_at, here, turn_open}
@@ -47,7 +47,7 @@ open_is Idle n = absurd (n refl)
 open_is q n = refl
 
 -- the step of caller c that its machine wants, which leads from one machine and words to the others
-abbrev pub read : (c : ℕ) → Setup → (m d : CallState) → (ws vs : List ℕ) → Step
+abbrev pub read : (c : ℕ) → Setup → (m d : CallState) → (ws vs : List ℕ) → TraceStep
 read c T m d ws vs = record {
   caller = c;
   index = m.made - 1;
@@ -61,7 +61,7 @@ read c T m d ws vs = record {
 -- it has been read part by part
 pub read_is : (c : ℕ) (T : Setup) (m d : CallState) (ws vs : List ℕ) (index : ℕ) (place : Place) (op : Op) (helps : Option ℕ) (pack found left : ℕ) (outcome : Option Outcome)
     → index ≡ m.made - 1 → place ≡ m.place → op ≡ want T m → helps ≡ helped_owner m → pack ≡ word_of op → found ≡ get_or ws pack 0 → left ≡ get_or vs pack 0 → outcome ≡ ended_outcome d
-    → ◌≡◌ {A = Step} (record { caller = c; index = index; place = place; op = op; helps = helps; change = record { word = pack; found = found; left = left }; outcome = outcome }) (read c T m d ws vs)
+    → ◌≡◌ {A = TraceStep} (record { caller = c; index = index; place = place; op = op; helps = helps; change = record { word = pack; found = found; left = left }; outcome = outcome }) (read c T m d ws vs)
 read_is c T m d ws vs index place op helps pack found left outcome is_index is_place is_op is_helps is_word is_found is_left is_outcome =
     let w : pack ≡ word_of (want T m) = is_word ∙ ap word_of is_op in
     let f : found ≡ get_or ws (word_of (want T m)) 0 = is_found ∙ ap (λ (x : ℕ). get_or ws x 0) w in
@@ -102,7 +102,7 @@ module _ (p : Plan) (plan : IsPlayable p) where
   S = plan_setup p
 
   -- a caller that has begun its next call, or has none, begins no other
-  module _ (es : List Event) (s : Playing) (st : StandsAfter p es s) (c : ℕ) (h : c < p.callers) where
+  module _ (es : List Event) (s : ScheduleRun) (st : StandsAfter p es s) (c : ℕ) (h : c < p.callers) where
     abbrev w : Moment
     w = moment_after p es
 
@@ -126,7 +126,7 @@ module _ (p : Plan) (plan : IsPlayable p) where
             next_none p c (machine_in v c) (begins_busy (machine_in v c) (length (scripts_of p c)) (λ idle. begun_open (S.meaning.reads_only op) (ap (λ (d : CallState). d.place) (sym opens) ∙ idle)))
 
   -- a call is begun, where one is to be, and a turn is made
-  module _ (c : ℕ) (h : c < p.callers) (s t u : Playing) (begins : BeginsNext p c s t) (turns : MakesMoves p (Turns c ∷ []) t u) where
+  module _ (c : ℕ) (h : c < p.callers) (s t u : ScheduleRun) (begins : BeginsNext p c s t) (turns : MakesMoves p (Turns c ∷ []) t u) where
     pub turned : (es : List Event) → StandsAfter p es s → StandsAfter p ((es ++ next_begin p c (machine_in (moment_after p es) c)) ++ Turns c ∷ []) u
     turned es st =
         let fs = next_begin p c (machine_in (moment_after p es) c) in
@@ -170,10 +170,10 @@ module _ (p : Plan) (plan : IsPlayable p) where
 
       -- else its step is what is read off the bank
       pub steps : ((machine_of t.bank c).place ≡ Idle → ⊥)
-          → step_line p.callers (data_cells p.callers p.blocks) k (read c (bank_setup scripts_meaning t.bank) (machine_of t.bank c) (machine_of u.bank c) t.bank.words u.bank.words) ≡ event_line_at p k (moment_after p es) (Turns c)
+          → step_line p k (read c (bank_setup scripts_meaning t.bank) (machine_of t.bank c) (machine_of u.bank c) t.bank.words u.bank.words) ≡ event_line_at p k (moment_after p es) (Turns c)
       steps busy =
           let e : is_idle (machine_in at c).place ≡ false = open_is (machine_in at c).place (λ i. busy (ap (λ (d : CallState). d.place) machine_at ∙ i)) in
-          (λ i. step_line p.callers (data_cells p.callers p.blocks) k (read c ((begins es st).table i) (machine_at i) (machine_after i) (words_at i) (words_after i)))
+          (λ i. step_line p k (read c ((begins es st).table i) (machine_at i) (machine_after i) (words_at i) (words_after i)))
           ∙ sym (ap (λ b. turn_line p k c b at (after_event S at (Turns c))) e)
 
       -- where the call has ended its reply is one
@@ -214,17 +214,17 @@ module _ (p : Plan) (plan : IsPlayable p) where
           ∙ sym committed
 
   -- an eviction is made
-  module _ (a : ℕ) (s u : Playing) (goes : MakesMoves p (Raises a ∷ []) s u) where
+  module _ (a : ℕ) (s u : ScheduleRun) (goes : MakesMoves p (Raises a ∷ []) s u) where
     pub evicts : (es : List Event) → StandsAfter p es s → (k : ℕ)
-        → evict_line p.callers (data_cells p.callers p.blocks) k (record { word = durable_at S a; found = get_or s.bank.words (durable_at S a) 0; left = get_or u.bank.words (durable_at S a) 0 }) ≡ event_line_at p k (moment_after p es) (Raises a)
+        → evict_line p k (record { word = durable_at S a; found = get_or s.bank.words (durable_at S a) 0; left = get_or u.bank.words (durable_at S a) 0 }) ≡ event_line_at p k (moment_after p es) (Raises a)
     evicts es st k =
         let bank_after = run_append S (opening_for p) es (Raises a ∷ []) in
         let now = (goes es st).words ∙ ap (λ (w : Moment). w.words) bank_after in
-        λ i. evict_line p.callers (data_cells p.callers p.blocks) k (record { word = durable_at S a; found = get_or (st.words i) (durable_at S a) 0; left = get_or (now i) (durable_at S a) 0 })
+        λ i. evict_line p k (record { word = durable_at S a; found = get_or (st.words i) (durable_at S a) 0; left = get_or (now i) (durable_at S a) 0 })
 
     -- and its line is what is read off the bank
     pub evict_read : (es : List Event) → StandsAfter p es s → (k pack found left : ℕ) → pack ≡ durable_at S a → found ≡ get_or s.bank.words pack 0 → left ≡ get_or u.bank.words pack 0
-        → evict_line p.callers (data_cells p.callers p.blocks) k (record { word = pack; found = found; left = left }) ≡ event_line_at p k (moment_after p es) (Raises a)
+        → evict_line p k (record { word = pack; found = found; left = left }) ≡ event_line_at p k (moment_after p es) (Raises a)
     evict_read es st k pack found left is_word is_found is_left =
-        (λ i. evict_line p.callers (data_cells p.callers p.blocks) k (record { word = is_word i; found = (is_found ∙ ap (λ (x : ℕ). get_or s.bank.words x 0) is_word) i; left = (is_left ∙ ap (λ (x : ℕ). get_or u.bank.words x 0) is_word) i }))
+        (λ i. evict_line p k (record { word = is_word i; found = (is_found ∙ ap (λ (x : ℕ). get_or s.bank.words x 0) is_word) i; left = (is_left ∙ ap (λ (x : ℕ). get_or u.bank.words x 0) is_word) i }))
         ∙ evicts es st k

@@ -9,20 +9,20 @@ use Rattle.of_plan.specs.Plan.{Plan}
 use Rattle.of_core.specs.Events.{Event, Turns, after_events}
 use Rattle.of_caller.specs.Tables.{plan_setup, opening_for}
 use Rattle.of_play.specs.Play.{item_events, plan_events, events_from}
-use Rattle.of_play.specs.Playing.{StandsAfter, IsPlaying, MakesMoves}
+use Rattle.of_play.specs.ScheduleRun.{StandsAfter, IsPlaying, MakesMoves}
 use Rattle.of_play.specs.Trace.{lines_from, trace_text, commits_text}
-use Rattle.of_play.specs.Tracing.{line_as, WritesLine, shown_lines, TracesAfter, IsTracing, TracesOn}
-use Rattle.of_play.specs.declared.playing.tracing.Form.TheVariants.{Events, Commits}
-use Rattle.of_play.specs.declared.playing.tracing.Tracing.{Tracing}
+use Rattle.of_play.specs.TraceRun.{line_as, WritesLine, shown_lines, TracesAfter, IsTracing, TracesOn}
+use Rattle.of_play.specs.declared.schedule_run.trace_run.Form.TheVariants.{Events, Commits}
+use Rattle.of_play.specs.declared.schedule_run.trace_run.TraceRun.{TraceRun}
 use Rattle.of_play.proofs.PlaysEvents.{events_append}
 use Rattle.of_play.proofs.TraceLines.{lines_length, lines_more, shown_none, shown_more, shown_over, shown_nothing}
 
 -- where it hasn't shown all it is at a run of the plan
-pub runs_on : (p : Plan) (t : Tracing) → IsTracing p t → t.number < t.end → IsPlaying p t.playing
+pub runs_on : (p : Plan) (t : TraceRun) → IsTracing p t → t.number < t.end → IsPlaying p t.playing
 runs_on p t r h = record { plan = r.plan; events = events_from p (opening_for p) r.moves; stands = r.stands.stands h }
 
 -- moves after moves, and none
-pub traces_further : (p : Plan) (ms ns : List Event) (r s t : Tracing) → TracesOn p ms r s → TracesOn p ns s t → TracesOn p (ms ++ ns) r t
+pub traces_further : (p : Plan) (ms ns : List Event) (r s t : TraceRun) → TracesOn p ms r s → TracesOn p ns s t → TracesOn p (ms ++ ns) r t
 traces_further p ms ns r s t f g = record {
   form = g.form ∙ f.form;
   first = g.first ∙ f.first;
@@ -30,14 +30,14 @@ traces_further p ms ns r s t f g = record {
   stands = λ os st. subst (λ (es : List Event). TracesAfter p es t) (append_assoc os ms ns) (g.stands (os ++ ms) (f.stands os st));
 }
 
-pub traces_nowhere : (p : Plan) (t : Tracing) → TracesOn p [] t t
+pub traces_nowhere : (p : Plan) (t : TraceRun) → TracesOn p [] t t
 traces_nowhere p t = record { form = refl; first = refl; end = refl; stands = λ ms st. subst (λ (es : List Event). TracesAfter p es t) (sym (append-nil ms)) st }
 
-pub traces_still : (p : Plan) (ms : List Event) (s t : Tracing) → IsTracing p s → TracesOn p ms s t → IsTracing p t
+pub traces_still : (p : Plan) (ms : List Event) (s t : TraceRun) → IsTracing p s → TracesOn p ms s t → IsTracing p t
 traces_still p ms s t r f = record { plan = r.plan; first = omega (arith, r.first, f.first, f.end); moves = r.moves ++ ms; stands = f.stands r.moves r.stands }
 
 -- one turn more
-pub trace_turn_more : (p : Plan) (c n : ℕ) (r s t : Tracing) → TracesOn p (replicate n (Turns c)) r s → TracesOn p (Turns c ∷ []) s t → TracesOn p (replicate (n + 1) (Turns c)) r t
+pub trace_turn_more : (p : Plan) (c n : ℕ) (r s t : TraceRun) → TracesOn p (replicate n (Turns c)) r s → TracesOn p (Turns c ∷ []) s t → TracesOn p (replicate (n + 1) (Turns c)) r t
 trace_turn_more p c n r s t f g = subst (λ (ms : List Event). TracesOn p ms r t) (more n) (traces_further p (replicate n (Turns c)) (Turns c ∷ []) r s t f g)
   where
     all : (n : ℕ) → replicate n (Turns c) ++ Turns c ∷ [] ≡ replicate (suc n) (Turns c)
@@ -47,7 +47,7 @@ trace_turn_more p c n r s t f g = subst (λ (ms : List Event). TracesOn p ms r t
     more : (n : ℕ) → replicate n (Turns c) ++ Turns c ∷ [] ≡ replicate (n + 1) (Turns c)
     more n = let e : suc n ≡ n + 1 = omega arith in all n ∙ ap (λ (k : ℕ). replicate k (Turns c)) e
 
-module _ (p : Plan) (e : Event) (t : Tracing) (r : IsTracing p t) where
+module _ (p : Plan) (e : Event) (t : TraceRun) (r : IsTracing p t) where
   -- where all is shown nothing is done
   pub trace_stays : t.number ≡ t.end → TracesOn p (e ∷ []) t t
   trace_stays h = record {
@@ -68,7 +68,7 @@ module _ (p : Plan) (e : Event) (t : Tracing) (r : IsTracing p t) where
   }
 
   -- an event is made, and a text is left that is that of one event more
-  module _ (h : t.number < t.end) (u : Tracing) (form : u.form ≡ t.form) (first : u.first ≡ t.first) (end : u.end ≡ t.end) (next : u.number ≡ t.number + 1) (goes : MakesMoves p (e ∷ []) t.playing u.playing) where
+  module _ (h : t.number < t.end) (u : TraceRun) (form : u.form ≡ t.form) (first : u.first ≡ t.first) (end : u.end ≡ t.end) (next : u.number ≡ t.number + 1) (goes : MakesMoves p (e ∷ []) t.playing u.playing) where
     goes_on : ((ms : List Event) → TracesAfter p ms t → string_bytes u.text ≡ shown_lines t.first (t.end - t.first) (lines_from (line_as t.form p) p 0 (opening_for p) (ms ++ e ∷ []))) → TracesOn p (e ∷ []) t u
     goes_on text = record {
       form = form;
@@ -95,7 +95,7 @@ module _ (p : Plan) (e : Event) (t : Tracing) (r : IsTracing p t) where
         (omega (arith, early, number, lines_length (line_as t.form p) p 0 (opening_for p) ms)) (omega (arith, early, number, more, lines_length (line_as t.form p) p 0 (opening_for p) (ms ++ e ∷ []))))
 
     -- and from there on
-    pub trace_shows : t.first ≤ t.number → WritesLine t.form p t.number e t.playing (string_bytes t.text) (string_bytes u.text) → TracesOn p (e ∷ []) t u
+    pub trace_shows : t.first ≤ t.number → WritesLine t.form p t.number e t.playing t.text u.text → TracesOn p (e ∷ []) t u
     trace_shows late writes = goes_on (λ ms st.
         let number : t.number ≡ length ms = st.number h in
         let place : t.number ≡ 0 + length ms = omega (arith, number) in
@@ -107,7 +107,7 @@ module _ (p : Plan) (e : Event) (t : Tracing) (r : IsTracing p t) where
         ∙ shown_more t.first (t.end - t.first) lines _ (omega (arith, late, number, lines_length (line_as t.form p) p 0 (opening_for p) ms)) (omega (arith, h, r.first, number, lines_length (line_as t.form p) p 0 (opening_for p) ms))))
 
 -- before anything has happened
-pub trace_begins : (p : Plan) (t : Tracing) → t.number ≡ 0 → StandsAfter p [] t.playing → string_bytes t.text ≡ [] → TracesAfter p [] t
+pub trace_begins : (p : Plan) (t : TraceRun) → t.number ≡ 0 → StandsAfter p [] t.playing → string_bytes t.text ≡ [] → TracesAfter p [] t
 trace_begins p t none st text = record {
   before_end = omega (arith, none);
   number = λ l. none;
@@ -126,18 +126,18 @@ moves_more p items same k d l =
     ∙ ap (λ (xs : List Item). flat_map item_events (take k p.schedule ++ get_or xs k d ∷ [])) same
     ∙ ap (flat_map item_events) (sym (take_more p.schedule k d (omega (arith, l, ap length same))))
 
-pub trace_items_more : (p : Plan) (items : List Item) → items ≡ p.schedule → (k : ℕ) (d : Item) (s t : Tracing) → k < length items → TracesOn p (item_events (get_or items k d)) s t
+pub trace_items_more : (p : Plan) (items : List Item) → items ≡ p.schedule → (k : ℕ) (d : Item) (s t : TraceRun) → k < length items → TracesOn p (item_events (get_or items k d)) s t
     → TracesAfter p (flat_map item_events (take k p.schedule)) s → TracesAfter p (flat_map item_events (take (k + 1) p.schedule)) t
 trace_items_more p items same k d s t l f st = subst (λ (ms : List Event). TracesAfter p ms t) (moves_more p items same k d l) (f.stands (flat_map item_events (take k p.schedule)) st)
 
 -- what was written where the schedule has ended
-pub trace_ends : (p : Plan) (f c : ℕ) (t : Tracing) (ms : List Event) → ms ≡ plan_events p → t.form ≡ Events → t.first ≡ f → t.end ≡ f + c → TracesAfter p ms t → string_bytes t.text ≡ trace_text p f c
+pub trace_ends : (p : Plan) (f c : ℕ) (t : TraceRun) (ms : List Event) → ms ≡ plan_events p → t.form ≡ Events → t.first ≡ f → t.end ≡ f + c → TracesAfter p ms t → string_bytes t.text ≡ trace_text p f c
 trace_ends p f c t ms all form first end st =
     let count : t.end - t.first ≡ c = omega (arith, first, end) in
     st.text ∙ (λ i. shown_lines (first i) (count i) (lines_from (line_as (form i) p) p 0 (opening_for p) (all i)))
 
 -- and so of commits
-pub commits_end : (p : Plan) (c : ℕ) (t : Tracing) (ms : List Event) → ms ≡ plan_events p → t.form ≡ Commits → t.first ≡ 0 → t.end ≡ c → TracesAfter p ms t → string_bytes t.text ≡ commits_text p c
+pub commits_end : (p : Plan) (c : ℕ) (t : TraceRun) (ms : List Event) → ms ≡ plan_events p → t.form ≡ Commits → t.first ≡ 0 → t.end ≡ c → TracesAfter p ms t → string_bytes t.text ≡ commits_text p c
 commits_end p c t ms all form first end st =
     let count : t.end - t.first ≡ c = omega (arith, first, end) in
     st.text ∙ (λ i. shown_lines (first i) (count i) (lines_from (line_as (form i) p) p 0 (opening_for p) (all i)))

@@ -3,31 +3,19 @@ use Rattle.std.proofs.Common.{◌≡◌, ℕ, ◌+◌, ◌-◌, ◌*◌, ◌/◌
 use Rattle.std.proofs.Math.Nat.{mod-lt}
 use Rattle.std.proofs.lemmas.Nat.{div-add-mod'}
 use Rattle.std.proofs.lemmas.Bool.Decides.{nat_tests}
+use Rattle.std.proofs.lemmas.Bool.{eqb-true as is_eq, eqb-false as not_eq, ltb-true as is_less, ltb-false as not_less}
 use Rattle.of_cell.specs.Cells.{data_cell, durable_cells, script_place, members_place}
 use Rattle.of_mem.specs.declared.work.TheConstants.{MOST_INSTRS}
 use Rattle.of_mem.specs.Places.{base_of, fresh_at, free_at, keys_at, head_at, length_at, block_at}
-use Rattle.of_play.specs.declared.names.Holding.{Holding}
-use Rattle.of_play.specs.declared.names.Cell.{Cell}
-use Rattle.of_play.specs.declared.names.Word.{Word}
-use Rattle.of_play.specs.Names.{address_of, shown_cell_number, shown_word_place, own_cell, queue_cell, store_cell, row_word, HoldingsAreNamed, CellsAreNamed, WordsAreNamed}
+use Rattle.of_play.specs.declared.names.CellUse.{CellUse}
+use Rattle.of_play.specs.declared.names.ShownCell.{ShownCell}
+use Rattle.of_play.specs.declared.names.ShownWord.{ShownWord}
+use Rattle.of_play.specs.Names.{address_of, shown_cell_number, shown_word_place, own_cell, queue_cell, store_cell, row_word, CellUsesAreNamed, CellsAreNamed, WordsAreNamed}
 
 -- what holds of either case holds of the choice
 either : {A : Type 0} (P : A → Type 0) (b : Bool) (x y : A) → (b ≡ true → P x) → (b ≡ false → P y) → P (if b then x else y)
 either P true x y f g = f refl
 either P false x y f g = g refl
-
--- what the tests of the layout say
-is_eq : (a b : ℕ) → (a == b) ≡ true → a ≡ b
-is_eq a b e = grind (arith, nat_tests)
-
-not_eq : (a b : ℕ) → (a == b) ≡ false → a ≡ b → ⊥
-not_eq a b e q = grind (arith, nat_tests)
-
-is_less : (a b : ℕ) → nat_lt a b ≡ true → a < b
-is_less a b e = grind (arith, nat_tests)
-
-not_less : (a b : ℕ) → nat_lt a b ≡ false → b ≤ a
-not_less a b e = grind (arith, nat_tests)
 
 own_named : (n i j : ℕ) → address_of n (own_cell i j) ≡ i * (MOST_INSTRS + 2) + j
 own_named n i j = either (λ h. address_of n h ≡ i * (MOST_INSTRS + 2) + j) (j == 0) _ _
@@ -52,7 +40,7 @@ queue_named n q j h = either (λ x. address_of n x ≡ head_at (base_of n MOST_I
 store_named : (n a : ℕ) → base_of n MOST_INSTRS ≤ a → address_of n (store_cell (base_of n MOST_INSTRS) a) ≡ a
 store_named n a h =
     let o = base_of n MOST_INSTRS in
-    let P : Holding → Type 0 = λ x. address_of n x ≡ a in
+    let P : CellUse → Type 0 = λ x. address_of n x ≡ a in
     either P (nat_lt a (fresh_at o)) _ _ (λ e. omega (arith, h))
     (λ e. either P (a == fresh_at o) _ _ (λ f. omega (arith, is_eq a (fresh_at o) f))
     (λ f. either P (a == free_at o) _ _ (λ g. omega (arith, is_eq a (free_at o) g))
@@ -63,8 +51,8 @@ store_named n a h =
     (λ m. let x = a - head_at o 0 in queue_named n (x / 3) (x % 3) (mod-lt x (omega arith)) ∙ (omega (arith, div-add-mod' x 3, not_less a (head_at o 0) l)))
     (λ m. let x = a - block_at o 0 0 in omega (arith, div-add-mod' x 3, not_less a (block_at o 0 0) m)))))))
 
-pub holdings_named : HoldingsAreNamed
-holdings_named n a = either (λ h. address_of n h ≡ a) (nat_lt a (base_of n MOST_INSTRS)) _ _
+pub cell_uses_named : CellUsesAreNamed
+cell_uses_named n a = either (λ h. address_of n h ≡ a) (nat_lt a (base_of n MOST_INSTRS)) _ _
     (λ e. own_named n (a / (MOST_INSTRS + 2)) (a % (MOST_INSTRS + 2)) ∙ div-add-mod' a (MOST_INSTRS + 2))
     (λ e. store_named n a (not_less a (base_of n MOST_INSTRS) e))
 
@@ -74,7 +62,7 @@ cells_named n m c = either P (c == 0) _ _ (λ e. sym (is_eq c 0 e))
     (λ f. either P (nat_lt c (data_cell n m)) _ _ (λ g. omega (arith, not_less c (data_cell n 0) f))
     (λ g. let x = c - data_cell n m in omega (arith, div-add-mod' x (2 * m + 1), not_less c (data_cell n m) g))))
   where
-    P : Cell → Type 0
+    P : ShownCell → Type 0
     P x = shown_cell_number n m x ≡ c
 
 row_named : (n m i x : ℕ) → shown_word_place n m (row_word i x) ≡ script_place n MOST_INSTRS m 0 0 + (i * (MOST_INSTRS + 1) + x)
@@ -86,7 +74,7 @@ pub words_named : WordsAreNamed
 words_named n m w h =
     let d = durable_cells n m in
     let r = script_place n MOST_INSTRS m 0 0 in
-    let P : Word → Type 0 = λ x. shown_word_place n m x ≡ w in
+    let P : ShownWord → Type 0 = λ x. shown_word_place n m x ≡ w in
     either P (nat_lt w d) _ _ (λ e. cells_named n m w)
     (λ e. either P (nat_lt w r) _ _ (λ f. omega (arith, cells_named n m (w - d), not_less w d e))
     (λ f. either P (nat_lt w (members_place n MOST_INSTRS m)) _ _

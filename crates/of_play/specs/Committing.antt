@@ -1,7 +1,10 @@
 -- How the code tells a step that commits, and writes its line.
-use Rattle.std.specs.Prelude.{ℕ, ◌==◌, Bool, true, false, List, []}
+use Rattle.std.specs.Prelude.{ℕ, ◌==◌, ◌+◌, Bool, true, false, List, [], map}
+use Rattle.of_cell.specs.Words.{seq_of}
 use Rattle.of_core.specs.Machine.{Call}
+use Rattle.of_core.specs.Inside.{call_value}
 use Rattle.of_play.specs.Trace.{batch_line}
+use Rattle.of_core.specs.declared.ran.RanCall.{RanCall}
 use Rattle.of_core.specs.declared.place.Place.{Place}
 use Rattle.of_core.specs.declared.place.Place.TheVariants.{ExchangeCurrent}
 use Rattle.of_core.specs.declared.place.Op.{Op}
@@ -22,3 +25,11 @@ commits_by_step place op found = false
 abbrev pub commit_line : (commits : Bool) → (k i s : ℕ) → List Call → List ℕ
 commit_line true k i s calls = batch_line k i s calls
 commit_line false k i s calls = []
+
+-- the same with the calls as the code has them, and with the sequence after that of the word that
+-- was found
+abbrev pub batch_line_after : (k i found : ℕ) → List RanCall → List ℕ
+batch_line_after k i found calls = batch_line k i (seq_of found + 1) (map call_value calls)
+
+abbrev pub commit_line_after : (commits : Bool) → (k i found : ℕ) → List RanCall → List ℕ
+commit_line_after b k i found calls = commit_line b k i (seq_of found + 1) (map call_value calls)

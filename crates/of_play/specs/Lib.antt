@@ -1,11 +1,11 @@
 pub mod Play
 pub mod Played
-pub mod Playing
+pub mod ScheduleRun
 pub mod Names
 pub mod TraceText
 pub mod TraceParts
 pub mod TraceLine
 pub mod Trace
 pub mod Committing
-pub mod Tracing
+pub mod TraceRun
 pub mod TraceLaws

@@ -4,14 +4,14 @@ use Rattle.std.specs.Prelude.{ℕ, ◌-◌, ◌+◌, List, [], ◌∷◌, ◌++�
 use Rattle.of_plan.specs.Plan.{Plan, data_cells}
 use Rattle.of_core.specs.Table.{durable_at, committed_seq}
 use Rattle.of_core.specs.Machine.{Call, is_idle}
-use Rattle.of_core.specs.Seen.{ended_outcome}
+use Rattle.of_core.specs.MachineValue.{ended_outcome}
 use Rattle.of_core.specs.Helping.{helped_owner}
 use Rattle.of_core.specs.Steps.{want, word_of}
-use Rattle.of_core.specs.World.{Moment, Batch}
+use Rattle.of_core.specs.TableMoment.{Moment, Batch}
 use Rattle.of_core.specs.Events.{Event, Turns, Raises, machine_in, after_event, after_events}
 use Rattle.of_caller.specs.Tables.{plan_setup, opening_for}
 use Rattle.of_play.specs.declared.trace_text.Change.{Change}
-use Rattle.of_play.specs.declared.trace_line.Step.{Step}
+use Rattle.of_play.specs.declared.trace_line.TraceStep.{TraceStep}
 use Rattle.of_play.specs.Play.{plan_events, next_begin, with_begin}
 use Rattle.of_play.specs.TraceLine.{step_line, rest_line, evict_line}
 
@@ -20,7 +20,7 @@ abbrev pub word_change : (word : ℕ) → (w v : Moment) → Change
 word_change c w v = record { word = c; found = get_or w.words c 0; left = get_or v.words c 0 }
 
 -- the step of caller i that leads from w to v
-abbrev pub step_of : Plan → (i : ℕ) → (w v : Moment) → Step
+abbrev pub step_of : Plan → (i : ℕ) → (w v : Moment) → TraceStep
 step_of p i w v = record {
   caller = i;
   index = (machine_in w i).made - 1;
@@ -34,12 +34,12 @@ step_of p i w v = record {
 -- where no call is open a turn does nothing
 abbrev pub turn_line : Plan → (k i : ℕ) → (idle : Bool) → (w v : Moment) → List ℕ
 turn_line p k i true w v = rest_line k i
-turn_line p k i false w v = step_line p.callers (data_cells p.callers p.blocks) k (step_of p i w v)
+turn_line p k i false w v = step_line p k (step_of p i w v)
 
 -- the line of event k, which leads from w to v
 abbrev pub event_line : Plan → (k : ℕ) → (w v : Moment) → Event → List ℕ
 event_line p k w v (Turns i) = turn_line p k i (is_idle (machine_in w i).place) w v
-event_line p k w v (Raises c) = evict_line p.callers (data_cells p.callers p.blocks) k (word_change (durable_at (plan_setup p) c) w v)
+event_line p k w v (Raises c) = evict_line p k (word_change (durable_at (plan_setup p) c) w v)
 event_line p k w v e = []
 
 -- the world in which an event happens: where a turn begins a call that has begun
@@ -47,12 +47,17 @@ abbrev pub moment_of_event : Plan → Moment → Event → Moment
 moment_of_event p w (Turns i) = after_events (plan_setup p) w (next_begin p i (machine_in w i))
 moment_of_event p w e = w
 
+-- and the world that it leaves
+abbrev pub moment_left_by : Plan → Moment → Event → Moment
+moment_left_by p w e = after_event (plan_setup p) (moment_of_event p w e) e
+
 -- the line of event k, where w is what the events before it leave
 abbrev pub event_line_at : Plan → (k : ℕ) → Moment → Event → List ℕ
-event_line_at p k w e = event_line p k (moment_of_event p w e) (after_event (plan_setup p) (moment_of_event p w e) e) e
+event_line_at p k w e = event_line p k (moment_of_event p w e) (moment_left_by p w e) e
 
 -- a line for each event, from number k on
-abbrev pub lines_from : (line : ℕ → Moment → Event → List ℕ) → Plan → (k : ℕ) → Moment → List Event → List (List ℕ)
+abbrev pub lines_from : (line : ℕ → Moment → Event → List ℕ) → Plan → (k : ℕ) → Moment → List Event
+    → List (List ℕ)
 lines_from line p k w [] = []
 lines_from line p k w (e ∷ es) =
     line k w e ∷ lines_from line p (k + 1) (after_events (plan_setup p) w (with_begin p w e)) es
@@ -81,17 +86,21 @@ batch_line k i s calls =
 abbrev pub added_by : (w v : Moment) → List Batch
 added_by w v = drop (length w.batches) v.batches
 
--- the line of each batch that event k has committed, which leads from w to v: its sequence is the one
--- after the last
+-- the line of each batch that event k has committed, which leads from w to v: its sequence is the
+-- one after the last
 abbrev pub committed_by : (k : ℕ) → (w v : Moment) → Event → List ℕ
-committed_by k w v (Turns i) = flat_map (λ b. batch_line k i (committed_seq w.words + 1) b.calls) (added_by w v)
+committed_by k w v (Turns i) =
+    flat_map (λ b. batch_line k i (committed_seq w.words + 1) b.calls) (added_by w v)
 committed_by k w v e = []
 
 -- what event k commits, where w is what the events before it leave
 abbrev pub committed_at : Plan → (k : ℕ) → Moment → Event → List ℕ
-committed_at p k w e = committed_by k (moment_of_event p w e) (after_event (plan_setup p) (moment_of_event p w e) e) e
+committed_at p k w e = committed_by k (moment_of_event p w e) (moment_left_by p w e) e
+
+-- of all events of a plan's schedule
+abbrev pub commit_lines : Plan → List (List ℕ)
+commit_lines p = lines_from (committed_at p) p 0 (opening_for p) (plan_events p)
 
 -- the lines of all commits among the first c events of a plan's schedule
 abbrev pub commits_text : Plan → (c : ℕ) → List ℕ
-commits_text p c =
-    flat_map (λ line. line) (take c (lines_from (committed_at p) p 0 (opening_for p) (plan_events p)))
+commits_text p c = flat_map (λ line. line) (take c (commit_lines p))

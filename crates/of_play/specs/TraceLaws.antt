@@ -7,7 +7,7 @@ use Rattle.of_store.specs.Replies.{reply_value_of}
 use Rattle.of_mem.specs.declared.work.RawReply.{RawReply}
 use Rattle.of_eval.specs.Shapes.{IsHeldBy}
 use Rattle.of_plan.specs.Plan.{Plan}
-use Rattle.of_core.specs.World.{Moment}
+use Rattle.of_core.specs.TableMoment.{Moment}
 use Rattle.of_core.specs.Events.{Event, Begins, Turns, Loads, Evicts, Raises, after_events}
 use Rattle.of_caller.specs.Tables.{plan_setup, opening_for}
 use Rattle.of_caller.specs.Left.{moment_after}
@@ -36,7 +36,8 @@ world_after p w (e ∷ es) = world_after p (after_events (plan_setup p) w (with_
 abbrev pub LinesAreOfMoves : Type 0
 LinesAreOfMoves = (p : Plan) (k : ℕ) (e : Event) → k < length (plan_events p)
     → get_or (trace_lines p) k []
-    ≡ event_line_at p k (world_after p (opening_for p) (take k (plan_events p))) (get_or (plan_events p) k e)
+    ≡ event_line_at p k (world_after p (opening_for p) (take k (plan_events p)))
+    (get_or (plan_events p) k e)
 
 -- and the world after the last one is what `play` ends in
 abbrev pub TracesEndAsPlays : Type 0

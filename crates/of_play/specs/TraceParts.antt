@@ -7,21 +7,21 @@ use Rattle.of_script.specs.declared.instr.Cause.{Cause}
 use Rattle.of_script.specs.declared.instr.Cause.TheVariants.{Overflow, Short, NoRoom, Differs, BadOp}
 use Rattle.of_script.specs.Text.{instr_text}
 use Rattle.of_script.specs.Reading.{instr_at}
-use Rattle.of_store.specs.State.{Reply, Answered as Values, Aborted}
+use Rattle.of_store.specs.Store.{Reply, Answered as Values, Aborted}
 use Rattle.of_eval.specs.Reading.{marked_in}
 use Rattle.of_report.specs.ReportText.{reply_text}
 use Rattle.of_core.specs.declared.place.Op.{Op}
 use Rattle.of_core.specs.declared.place.Op.TheVariants.{Load, Store, Exchange, Raise}
 use Rattle.of_core.specs.declared.place.Outcome.{Outcome}
 use Rattle.of_core.specs.declared.place.Outcome.TheVariants.{Answered, Spent}
-use Rattle.of_play.specs.declared.names.Holding.{Holding}
-use Rattle.of_play.specs.declared.names.Holding.TheVariants.{Ticket, Shape, Reply as ReplyHeld, Register, Taken, Free, Keys, Bucket, Front, Back, Length, Block}
-use Rattle.of_play.specs.declared.names.Cell.{Cell}
-use Rattle.of_play.specs.declared.names.Cell.TheVariants.{Current, Request, Data, Log}
-use Rattle.of_play.specs.declared.names.Word.{Word}
-use Rattle.of_play.specs.declared.names.Word.TheVariants.{Now, Durable, Script, Announcement, Members}
-use Rattle.of_play.specs.Names.{holding_at}
-use Rattle.of_play.specs.TraceText.{holding_text, pair_text}
+use Rattle.of_play.specs.declared.names.CellUse.{CellUse}
+use Rattle.of_play.specs.declared.names.CellUse.TheVariants.{Ticket, Shape, Reply as ReplyHeld, Register, Taken, Free, Keys, Bucket, Front, Back, Length, Block}
+use Rattle.of_play.specs.declared.names.ShownCell.{ShownCell}
+use Rattle.of_play.specs.declared.names.ShownCell.TheVariants.{Current, Request, Data, Log}
+use Rattle.of_play.specs.declared.names.ShownWord.{ShownWord}
+use Rattle.of_play.specs.declared.names.ShownWord.TheVariants.{Now, Durable, Script, Announcement, Members}
+use Rattle.of_play.specs.Names.{cell_use_at}
+use Rattle.of_play.specs.TraceText.{cell_use_text, pair_text}
 
 -- ---- whom the step helps, and what it did
 
@@ -33,7 +33,8 @@ helper_part (Some i) = codes "; helps " ++ decimal i
 -- an exchange has won, or another word than the expected one was there
 abbrev pub exchange_part : (won : Bool) → (old new : ℕ) → List ℕ
 exchange_part true old new = codes "; won"
-exchange_part false old new = codes "; lost, wanted " ++ pair_text old ++ codes " -> " ++ pair_text new
+exchange_part false old new =
+    codes "; lost, wanted " ++ pair_text old ++ codes " -> " ++ pair_text new
 
 -- a raise has found a word above the one to which it raises
 abbrev pub raise_part : (above : Bool) → (value : ℕ) → List ℕ
@@ -71,37 +72,40 @@ abbrev pub field_part : (field x : ℕ) → List ℕ
 field_part f x = if f == 2 then pointer_part x else []
 
 -- the number of a data cell that holds this, where it is more than a number
-abbrev pub holding_part : Holding → ℕ → List ℕ
-holding_part (Ticket i) x = []
-holding_part (Shape i) x = shape_part x
-holding_part (ReplyHeld i j) x = []
-holding_part (Register r) x = []
-holding_part Taken x = []
-holding_part Free x = pointer_part x
-holding_part Keys x = []
-holding_part (Bucket b) x = pointer_part x
-holding_part (Front q) x = pointer_part x
-holding_part (Back q) x = pointer_part x
-holding_part (Length q) x = []
-holding_part (Block b f) x = field_part f x
+abbrev pub cell_use_part : CellUse → ℕ → List ℕ
+cell_use_part (Ticket i) x = []
+cell_use_part (Shape i) x = shape_part x
+cell_use_part (ReplyHeld i j) x = []
+cell_use_part (Register r) x = []
+cell_use_part Taken x = []
+cell_use_part Free x = pointer_part x
+cell_use_part Keys x = []
+cell_use_part (Bucket b) x = pointer_part x
+cell_use_part (Front q) x = pointer_part x
+cell_use_part (Back q) x = pointer_part x
+cell_use_part (Length q) x = []
+cell_use_part (Block b f) x = field_part f x
 
--- a request: whether the transaction of this sequence is open
-abbrev pub request_part : (s x : ℕ) → List ℕ
-request_part s x = if s == 0 then [] else if x == 0 then codes "; open" else codes "; closed"
+-- a request: whether its transaction is open
+abbrev pub request_part : ℕ → List ℕ
+request_part v =
+    if seq_of v == 0 then []
+    else if payload_of v == 0 then codes "; open"
+    else codes "; closed"
 
 -- a word of a log: each other one, from word 1 on, is the address of a data cell
 abbrev pub log_part : (n at x : ℕ) → List ℕ
-log_part n at x = if at % 2 == 1 then codes "; " ++ holding_text (holding_at n x) else []
+log_part n at x = if at % 2 == 1 then codes "; " ++ cell_use_text (cell_use_at n x) else []
 
 -- the word of a cell, where there are n callers
-abbrev pub cell_part : (n : ℕ) → Cell → ℕ → List ℕ
+abbrev pub cell_part : (n : ℕ) → ShownCell → ℕ → List ℕ
 cell_part n Current v = []
-cell_part n (Request i) v = request_part (seq_of v) (payload_of v)
-cell_part n (Data a) v = holding_part (holding_at n a) (payload_of v)
+cell_part n (Request i) v = request_part v
+cell_part n (Data a) v = cell_use_part (cell_use_at n a) (payload_of v)
 cell_part n (Log i at) v = log_part n at (payload_of v)
 
 -- what a word of the table means
-abbrev pub word_part : (n : ℕ) → Word → ℕ → List ℕ
+abbrev pub word_part : (n : ℕ) → ShownWord → ℕ → List ℕ
 word_part n (Now c) v = cell_part n c v
 word_part n (Durable c) v = cell_part n c v
 word_part n (Script i x) v = instr_part (instr_at v)

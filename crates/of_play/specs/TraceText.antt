@@ -4,14 +4,15 @@ use Rattle.of_cell.specs.Words.{seq_of, payload_of}
 use Rattle.of_cell.specs.Cells.{data_cell}
 use Rattle.of_core.specs.declared.place.Place.{Place}
 use Rattle.of_core.specs.declared.place.Place.TheVariants.{Idle, TryCurrent, TryRequest, TryCell, StoreScript, StoreAnnouncement, LoadCurrent, LoadRequest, CopyLog, LookAgain, LoadOwnTicket, LoadShape, LoadReply, LoadAnnouncement, LoadTicket, LoadScript, LoadCell, RaiseOld, StoreLog, RaiseLog, StoreRequest, RaiseRequest, ExchangeCurrent, RaiseCurrent, LoadTarget, ExchangeTarget, ReloadTarget, RaiseTarget, CloseRequest, RaiseClosed}
-use Rattle.of_play.specs.declared.names.Holding.{Holding}
-use Rattle.of_play.specs.declared.names.Holding.TheVariants.{Ticket, Shape, Reply, Register, Taken, Free, Keys, Bucket, Front, Back, Length, Block}
-use Rattle.of_play.specs.declared.names.Cell.{Cell}
-use Rattle.of_play.specs.declared.names.Cell.TheVariants.{Current, Request, Data, Log}
-use Rattle.of_play.specs.declared.names.Word.{Word}
-use Rattle.of_play.specs.declared.names.Word.TheVariants.{Now, Durable, Script, Announcement, Members}
+use Rattle.of_plan.specs.Plan.{Plan, data_cells}
+use Rattle.of_play.specs.declared.names.CellUse.{CellUse}
+use Rattle.of_play.specs.declared.names.CellUse.TheVariants.{Ticket, Shape, Reply, Register, Taken, Free, Keys, Bucket, Front, Back, Length, Block}
+use Rattle.of_play.specs.declared.names.ShownCell.{ShownCell}
+use Rattle.of_play.specs.declared.names.ShownCell.TheVariants.{Current, Request, Data, Log}
+use Rattle.of_play.specs.declared.names.ShownWord.{ShownWord}
+use Rattle.of_play.specs.declared.names.ShownWord.TheVariants.{Now, Durable, Script, Announcement, Members}
 use Rattle.of_play.specs.declared.trace_text.Change.{Change}
-use Rattle.of_play.specs.Names.{holding_at, word_at_place}
+use Rattle.of_play.specs.Names.{cell_use_at, word_at_place}
 
 -- the plain name of the step that comes next at a place
 abbrev pub step_text : Place → List ℕ
@@ -47,29 +48,31 @@ step_text CloseRequest = codes "close request"
 step_text RaiseClosed = codes "raise closed"
 
 -- what a data cell holds
-abbrev pub holding_text : Holding → List ℕ
-holding_text (Ticket i) = codes "ticket of " ++ decimal i
-holding_text (Shape i) = codes "shape of " ++ decimal i
-holding_text (Reply i j) = codes "reply " ++ decimal j ++ codes " of " ++ decimal i
-holding_text (Register r) = codes "register " ++ decimal r
-holding_text Taken = codes "blocks taken"
-holding_text Free = codes "free list"
-holding_text Keys = codes "number of keys"
-holding_text (Bucket b) = codes "bucket " ++ decimal b
-holding_text (Front q) = codes "front of queue " ++ decimal q
-holding_text (Back q) = codes "back of queue " ++ decimal q
-holding_text (Length q) = codes "length of queue " ++ decimal q
-holding_text (Block b f) = codes "field " ++ decimal f ++ codes " of block " ++ decimal b
+abbrev pub cell_use_text : CellUse → List ℕ
+cell_use_text (Ticket i) = codes "ticket of " ++ decimal i
+cell_use_text (Shape i) = codes "shape of " ++ decimal i
+cell_use_text (Reply i j) = codes "reply " ++ decimal j ++ codes " of " ++ decimal i
+cell_use_text (Register r) = codes "register " ++ decimal r
+cell_use_text Taken = codes "blocks taken"
+cell_use_text Free = codes "free list"
+cell_use_text Keys = codes "number of keys"
+cell_use_text (Bucket b) = codes "bucket " ++ decimal b
+cell_use_text (Front q) = codes "front of queue " ++ decimal q
+cell_use_text (Back q) = codes "back of queue " ++ decimal q
+cell_use_text (Length q) = codes "length of queue " ++ decimal q
+cell_use_text (Block b f) = codes "field " ++ decimal f ++ codes " of block " ++ decimal b
 
 -- the name of a cell, where there are n callers; that of a data cell has its number
-abbrev pub cell_name_text : (n : ℕ) → Cell → List ℕ
+abbrev pub cell_name_text : (n : ℕ) → ShownCell → List ℕ
 cell_name_text n Current = codes "current"
 cell_name_text n (Request i) = codes "request " ++ decimal i
-cell_name_text n (Data a) = codes "cell " ++ decimal (data_cell n a) ++ codes " (" ++ holding_text (holding_at n a) ++ codes ")"
+cell_name_text n (Data a) =
+    codes "cell " ++ decimal (data_cell n a)
+    ++ codes " (" ++ cell_use_text (cell_use_at n a) ++ codes ")"
 cell_name_text n (Log i x) = codes "log " ++ decimal x ++ codes " of " ++ decimal i
 
 -- the name of a word
-abbrev pub word_text : (n : ℕ) → Word → List ℕ
+abbrev pub word_text : (n : ℕ) → ShownWord → List ℕ
 word_text n (Now c) = cell_name_text n c
 word_text n (Durable c) = codes "durable " ++ cell_name_text n c
 word_text n (Script i x) = codes "script word " ++ decimal x ++ codes " of " ++ decimal i
@@ -81,7 +84,7 @@ abbrev pub pair_text : ℕ → List ℕ
 pair_text v = codes "(" ++ decimal (seq_of v) ++ codes "," ++ decimal (payload_of v) ++ codes ")"
 
 -- what stands in a word: a script word is a number, and any other a pair
-abbrev pub word_value_text : Word → ℕ → List ℕ
+abbrev pub word_value_text : ShownWord → ℕ → List ℕ
 word_value_text (Now c) v = pair_text v
 word_value_text (Durable c) v = pair_text v
 word_value_text (Script i x) v = decimal v
@@ -89,9 +92,14 @@ word_value_text (Announcement i) v = pair_text v
 word_value_text Members v = decimal v
 
 -- a word by its name, what was found there, and what was left
-abbrev pub named_change : (n : ℕ) → Word → (found left : ℕ) → List ℕ
-named_change n w found left = word_text n w ++ codes ": " ++ word_value_text w found ++ codes " -> " ++ word_value_text w left
+abbrev pub named_change : (n : ℕ) → ShownWord → (found left : ℕ) → List ℕ
+named_change n w found left =
+    word_text n w ++ codes ": " ++ word_value_text w found ++ codes " -> " ++ word_value_text w left
 
--- the same of the word with a place, where there are n callers and m data cells
-abbrev pub change_text : (n m : ℕ) → Change → List ℕ
-change_text n m c = named_change n (word_at_place n m c.word) c.found c.left
+-- the word with this place in a plan's table
+abbrev pub plan_word : Plan → (place : ℕ) → ShownWord
+plan_word p w = word_at_place p.callers (data_cells p.callers p.blocks) w
+
+-- what has become of a word of a plan's table
+abbrev pub change_text : Plan → Change → List ℕ
+change_text p c = named_change p.callers (plan_word p c.word) c.found c.left

@@ -3,12 +3,12 @@
 ghost use Rattle.std.specs.Prelude.{◌≡◌, ◌+◌, map, flat_map, OnOk};
 ghost use Rattle.of_cell.specs.Words.{seq_of};
 ghost use Rattle.of_core.specs.Inside.{call_value};
-ghost use Rattle.of_play.specs.Trace.{call_part, batch_line};
-ghost use Rattle.of_play.specs.Committing.{commits_by_step, commit_line};
+ghost use Rattle.of_play.specs.Trace.{call_part};
+ghost use Rattle.of_play.specs.Committing.{commits_by_step, batch_line_after, commit_line_after};
 ghost use Rattle.of_script.specs.Appending.{AppendsText};
 
 use of_cell::seq_of;
-use of_core::{Op, Place, RanCall};
+use of_core::{Call, Op, Place};
 use std::alloc::AllocError;
 use std::fmt::Write;
 
@@ -23,7 +23,7 @@ fn is_commit(place: Place, op: Op, found: u64) -> bool
 }
 
 // Writes which script a call is, and whose.
-fn put_call(out: &mut String, call: &RanCall) -> Result<(), AllocError>
+fn put_call(out: &mut String, call: &Call) -> Result<(), AllocError>
     ensures { OnOk result (AppendsText out.old out.new (call_part (call_value call.now))) }
 {
     write!(
@@ -40,9 +40,10 @@ fn put_batch(
     number: u32,
     caller: u32,
     found: u64,
-    calls: &[RanCall],
+    calls: &[Call],
 ) -> Result<(), AllocError>
-    ensures { OnOk result (AppendsText out.old out.new (batch_line number caller (seq_of found + 1) (map call_value calls.now))) }
+    ensures { OnOk result
+        (AppendsText out.old out.new (batch_line_after number caller found calls.now)) }
 {
     let seq = u64::from(seq_of(found)) + 1;
     write!(out, "{number} {caller} commits {seq}")?;
@@ -60,9 +61,10 @@ pub fn put_commit(
     place: Place,
     op: Op,
     found: u64,
-    calls: &[RanCall],
+    calls: &[Call],
 ) -> Result<(), AllocError>
-    ensures { OnOk result (AppendsText out.old out.new (commit_line (commits_by_step place op found) number caller (seq_of found + 1) (map call_value calls.now))) }
+    ensures { OnOk result (AppendsText out.old out.new
+        (commit_line_after (commits_by_step place op found) number caller found calls.now)) }
 {
     if is_commit(place, op, found) {
         put_batch(out, number, caller, found, calls)

@@ -3,28 +3,30 @@
 ghost use Rattle.of_core.specs.Events.{IsSchedule};
 ghost use Rattle.of_caller.specs.Tables.{plan_setup, opening_for};
 ghost use Rattle.of_play.specs.Play.{play_events};
-ghost use Rattle.of_play.specs.Names.{HoldingsAreNamed, CellsAreNamed, WordsAreNamed};
+ghost use Rattle.of_play.specs.Names.{CellUsesAreNamed, CellsAreNamed, WordsAreNamed};
 ghost use Rattle.of_play.specs.TraceLaws.{AllAreShown, LinesAreOfMoves, TracesEndAsPlays, RepliesAreRead};
 
 use of_caller::laws::plan_keeps_laws;
 use of_plan::Plan;
 
-/// Each event of a plan's schedule may happen when it comes; so what they leave is a moment, with all that holds of every moment.
+/// Each event of a plan's schedule may happen when it comes; so what they leave is a moment, with
+/// all that holds of every moment.
 pub fn plans_have_schedules(plan: &Plan)
     ensures { IsSchedule (plan_setup plan.now) (opening_for plan.now) (play_events plan.now) }
 {
     plan_keeps_laws(plan);
 }
 
-/// The names that a trace prints are those of what stands there: of each data cell, each cell and each word of a table.
+/// The names that a trace prints are those of what stands there: of each data cell, each cell and
+/// each word of a table.
 pub fn words_are_named()
-    ensures holdings { HoldingsAreNamed }
+    ensures uses { CellUsesAreNamed }
     ensures cells { CellsAreNamed }
     ensures words { WordsAreNamed }
 {}
 
-/// A plan's schedule has turns and evictions alone. The trace has the line of each, in the world that those before it leave; the
-/// world after the last one is what `play` ends in.
+/// A plan's schedule has turns and evictions alone. The trace has the line of each, in the world
+/// that those before it leave; the world after the last one is what `play` ends in.
 pub fn traces_are_of_plays()
     ensures shown { AllAreShown }
     ensures lines { LinesAreOfMoves }

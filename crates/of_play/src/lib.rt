@@ -1,14 +1,15 @@
-//! What a plan's schedule does, step by step: the report of what it leaves, and a trace, a line for each event.
+//! What a plan's schedule does, step by step: the report of what it leaves, and a trace, a line for
+//! each event.
 #![tactic(auto)]
 
 mod commit_line;
 pub mod laws;
 mod names;
-mod played;
-mod playing;
+mod report;
+mod schedule_run;
 mod trace_line;
 mod trace_parts;
 mod trace_text;
 
-pub use played::play_report;
-pub use playing::{ALL_EVENTS, commits, play, trace};
+pub use report::play_report;
+pub use schedule_run::{ALL_EVENTS, commits, play, trace};

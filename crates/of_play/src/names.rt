@@ -9,7 +9,7 @@ use of_mem::{MOST_INSTRS, Plot, QUEUES};
 
 /// What a data cell holds.
 #[derive(Clone, Copy)]
-pub enum Holding {
+pub enum CellUse {
     /// The ticket of the last announced call of a caller that was run.
     Ticket(u32),
     /// The shape of the reply of that call.
@@ -38,7 +38,7 @@ pub enum Holding {
 
 /// A cell.
 #[derive(Clone, Copy)]
-pub enum Cell {
+pub enum ShownCell {
     /// The current-transaction word.
     Current,
     /// The request of a caller.
@@ -51,11 +51,11 @@ pub enum Cell {
 
 /// A word of the table.
 #[derive(Clone, Copy)]
-pub enum Word {
+pub enum ShownWord {
     /// The word of a cell.
-    Now(Cell),
+    Now(ShownCell),
     /// The durable word of a cell.
-    Durable(Cell),
+    Durable(ShownCell),
     /// A word of a caller's script.
     Script { caller: u32, at: u32 },
     /// The announcement of a caller.
@@ -71,33 +71,33 @@ const OWN_CELLS: u32 = MOST_INSTRS as u32 + 2;
 const ROW_WORDS: u32 = MOST_INSTRS as u32 + 1;
 
 /// What an own data cell of a caller holds.
-fn own_cell(caller: u32, at: u32) -> Holding
+fn own_cell(caller: u32, at: u32) -> CellUse
     ensures { result ≡ own_cell caller at }
 {
     match at {
-        0 => Holding::Ticket(caller),
-        1 => Holding::Shape(caller),
-        _ => Holding::Reply { caller, at: at - 2 },
+        0 => CellUse::Ticket(caller),
+        1 => CellUse::Shape(caller),
+        _ => CellUse::Reply { caller, at: at - 2 },
     }
 }
 
 /// What a cell of a queue holds.
-fn queue_cell(queue: u32, at: u32) -> Holding
+fn queue_cell(queue: u32, at: u32) -> CellUse
     ensures { result ≡ queue_cell queue at }
 {
     match at {
-        0 => Holding::Front(queue),
-        1 => Holding::Back(queue),
-        _ => Holding::Length(queue),
+        0 => CellUse::Front(queue),
+        1 => CellUse::Back(queue),
+        _ => CellUse::Length(queue),
     }
 }
 
-impl Holding {
-    ghost use Rattle.of_play.specs.Names.{holding_at, store_cell};
+impl CellUse {
+    ghost use Rattle.of_play.specs.Names.{cell_use_at, store_cell};
     ghost use Rattle.of_mem.specs.Places.{base_of};
 
     /// What a data cell behind those of the callers holds.
-    fn in_store(plot: &Plot, addr: u32) -> Holding
+    fn in_store(plot: &Plot, addr: u32) -> CellUse
         requires instrs { plot.now.instrs ≡ MOST_INSTRS }
         requires behind { base_of plot.now.callers MOST_INSTRS ≤ addr }
         ensures { result ≡ store_cell (base_of plot.now.callers MOST_INSTRS) addr }
@@ -105,19 +105,19 @@ impl Holding {
         let queues = plot.head(0);
         let blocks = queues + 3 * QUEUES;
         if addr < plot.fresh() {
-            Holding::Register(addr - plot.base())
+            CellUse::Register(addr - plot.base())
         } else if addr == plot.fresh() {
-            Holding::Taken
+            CellUse::Taken
         } else if addr == plot.free() {
-            Holding::Free
+            CellUse::Free
         } else if addr == plot.keys() {
-            Holding::Keys
+            CellUse::Keys
         } else if addr < queues {
-            Holding::Bucket(addr - plot.bucket(0))
+            CellUse::Bucket(addr - plot.bucket(0))
         } else if addr < blocks {
             queue_cell((addr - queues) / 3, (addr - queues) % 3)
         } else {
-            Holding::Block {
+            CellUse::Block {
                 block: (addr - blocks) / 3,
                 field: (addr - blocks) % 3,
             }
@@ -125,36 +125,36 @@ impl Holding {
     }
 
     /// What a data cell holds.
-    pub fn at(plot: &Plot, addr: u32) -> Holding
+    pub fn at(plot: &Plot, addr: u32) -> CellUse
         requires instrs { plot.now.instrs ≡ MOST_INSTRS }
-        ensures { result ≡ holding_at plot.now.callers addr }
+        ensures { result ≡ cell_use_at plot.now.callers addr }
     {
         if addr < plot.base() {
             own_cell(addr / OWN_CELLS, addr % OWN_CELLS)
         } else {
-            Holding::in_store(plot, addr)
+            CellUse::in_store(plot, addr)
         }
     }
 }
 
-impl Cell {
+impl ShownCell {
     ghost use Rattle.of_play.specs.Names.{cell_at};
 
     /// The cell with a number.
-    pub fn at(shape: &Shape, number: u32) -> Cell
+    pub fn at(shape: &Shape, number: u32) -> ShownCell
         ensures { result ≡ cell_at shape.now.callers shape.now.cells number }
     {
         let data = shape.callers + 1;
         let logs = data + shape.cells;
         if number == 0 {
-            Cell::Current
+            ShownCell::Current
         } else if number < data {
-            Cell::Request(number - 1)
+            ShownCell::Request(number - 1)
         } else if number < logs {
-            Cell::Data(number - data)
+            ShownCell::Data(number - data)
         } else {
             let log_words = 2 * shape.cells + 1;
-            Cell::Log {
+            ShownCell::Log {
                 caller: (number - logs) / log_words,
                 at: (number - logs) % log_words,
             }
@@ -162,35 +162,35 @@ impl Cell {
     }
 }
 
-impl Word {
+impl ShownWord {
     ghost use Rattle.of_play.specs.Names.{row_word, word_at_place};
 
     /// The word of the row of a caller.
-    fn in_row(caller: u32, at: u32) -> Word
+    fn in_row(caller: u32, at: u32) -> ShownWord
         ensures { result ≡ row_word caller at }
     {
         if at == MOST_INSTRS as u32 {
-            Word::Announcement(caller)
+            ShownWord::Announcement(caller)
         } else {
-            Word::Script { caller, at }
+            ShownWord::Script { caller, at }
         }
     }
 
     /// The word with a place.
-    pub fn at(shape: &Shape, place: u32) -> Word
+    pub fn at(shape: &Shape, place: u32) -> ShownWord
         requires { shape.now.instrs ≡ MOST_INSTRS }
         ensures { result ≡ word_at_place shape.now.callers shape.now.cells place }
     {
         let cells = shape.durable_cells();
         let rows = 2 * cells;
         if place < cells {
-            Word::Now(Cell::at(shape, place))
+            ShownWord::Now(ShownCell::at(shape, place))
         } else if place < rows {
-            Word::Durable(Cell::at(shape, place - cells))
+            ShownWord::Durable(ShownCell::at(shape, place - cells))
         } else if place < shape.members_word() {
-            Word::in_row((place - rows) / ROW_WORDS, (place - rows) % ROW_WORDS)
+            ShownWord::in_row((place - rows) / ROW_WORDS, (place - rows) % ROW_WORDS)
         } else {
-            Word::Members
+            ShownWord::Members
         }
     }
 }

@@ -1,12 +1,11 @@
 //! The lines of a trace.
 
 ghost use Rattle.std.specs.Prelude.{OnOk, IfSome};
-ghost use Rattle.of_plan.specs.Plan.{data_cells};
 ghost use Rattle.of_caller.specs.Ends.{OutcomeHoldsReply};
 ghost use Rattle.of_play.specs.TraceLine.{end_text, head_text, means_part, step_parts, step_line, rest_line, evict_line};
 ghost use Rattle.of_script.specs.Appending.{AppendsText};
 
-use crate::names::Word;
+use crate::names::ShownWord;
 use crate::trace_parts::{put_did, put_help, put_meaning, put_reply_part};
 use crate::trace_text::{Change, put_change, step_name};
 use of_core::{Op, Outcome, Place};
@@ -16,7 +15,7 @@ use std::fmt::Write;
 
 /// A step that a caller has made.
 #[derive(Clone, Copy)]
-pub struct Step {
+pub struct TraceStep {
     pub caller: u32,
     /// The index of its call's script.
     pub index: u32,
@@ -56,7 +55,7 @@ fn put_end(out: &mut String, outcome: Option<Outcome>) -> Result<(), AllocError>
 }
 
 // Writes who has made an event, for which script, and the step.
-fn put_head(out: &mut String, number: u32, step: &Step) -> Result<(), AllocError>
+fn put_head(out: &mut String, number: u32, step: &TraceStep) -> Result<(), AllocError>
     ensures { OnOk result (AppendsText out.old out.new (head_text number step.now)) }
 {
     let name = step_name(step.place);
@@ -66,15 +65,20 @@ fn put_head(out: &mut String, number: u32, step: &Step) -> Result<(), AllocError
 
 // Writes what the word that was left means.
 fn put_left(out: &mut String, plan: &Plan, change: &Change) -> Result<(), AllocError>
-    ensures { OnOk result (AppendsText out.old out.new (means_part plan.now.callers (data_cells plan.now.callers plan.now.blocks) change.now)) }
+    ensures { OnOk result (AppendsText out.old out.new (means_part plan.now change.now)) }
 {
-    put_meaning(out, plan, Word::at(&plan.shape(), change.word), change.left)
+    put_meaning(
+        out,
+        plan,
+        ShownWord::at(&plan.shape(), change.word),
+        change.left,
+    )
 }
 
 // Writes the parts after the change.
-fn put_parts(out: &mut String, plan: &Plan, step: &Step) -> Result<(), AllocError>
+fn put_parts(out: &mut String, plan: &Plan, step: &TraceStep) -> Result<(), AllocError>
     requires { IfSome step.now.outcome OutcomeHoldsReply }
-    ensures { OnOk result (AppendsText out.old out.new (step_parts plan.now.callers (data_cells plan.now.callers plan.now.blocks) step.now)) }
+    ensures { OnOk result (AppendsText out.old out.new (step_parts plan.now step.now)) }
 {
     put_help(out, step.helps)?;
     put_did(out, step.op, step.change.found)?;
@@ -83,9 +87,14 @@ fn put_parts(out: &mut String, plan: &Plan, step: &Step) -> Result<(), AllocErro
 }
 
 /// Writes the line of a turn that has made a step.
-pub fn put_step(out: &mut String, plan: &Plan, number: u32, step: &Step) -> Result<(), AllocError>
+pub fn put_step(
+    out: &mut String,
+    plan: &Plan,
+    number: u32,
+    step: &TraceStep,
+) -> Result<(), AllocError>
     requires { IfSome step.now.outcome OutcomeHoldsReply }
-    ensures { OnOk result (AppendsText out.old out.new (step_line plan.now.callers (data_cells plan.now.callers plan.now.blocks) number step.now)) }
+    ensures { OnOk result (AppendsText out.old out.new (step_line plan.now number step.now)) }
 {
     put_head(out, number, step)?;
     put_change(out, plan, &step.change)?;
@@ -108,7 +117,7 @@ pub fn put_evict(
     number: u32,
     change: &Change,
 ) -> Result<(), AllocError>
-    ensures { OnOk result (AppendsText out.old out.new (evict_line plan.now.callers (data_cells plan.now.callers plan.now.blocks) number change.now)) }
+    ensures { OnOk result (AppendsText out.old out.new (evict_line plan.now number change.now)) }
 {
     write!(out, "{number} evict, ")?;
     put_change(out, plan, change)?;

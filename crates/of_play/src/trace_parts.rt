@@ -7,11 +7,11 @@ ghost use Rattle.of_script.specs.declared.instr.Reply.{Reply};
 ghost use Rattle.of_script.specs.Reading.{instr_at};
 ghost use Rattle.of_eval.specs.Shapes.{IsHeldBy};
 ghost use Rattle.of_caller.specs.Ends.{OutcomeHoldsReply};
-ghost use Rattle.of_play.specs.TraceParts.{helper_part, exchange_part, raise_part, did_part, instr_part, pointer_part, shape_part, field_part, holding_part, request_part, log_part, cell_part, word_part, held_part, reply_part};
+ghost use Rattle.of_play.specs.TraceParts.{helper_part, exchange_part, raise_part, did_part, instr_part, pointer_part, shape_part, field_part, cell_use_part, request_part, log_part, cell_part, word_part, held_part, reply_part};
 ghost use Rattle.of_script.specs.Appending.{AppendsText};
 
-use crate::names::{Cell, Holding, Word};
-use crate::trace_text::{put_holding, put_pair};
+use crate::names::{CellUse, ShownCell, ShownWord};
+use crate::trace_text::{put_cell_use, put_pair};
 use of_cell::{payload_of, seq_of};
 use of_core::{Op, Outcome};
 use of_eval::reply_of;
@@ -109,33 +109,33 @@ fn put_shape(out: &mut String, shape: u32) -> Result<(), AllocError>
 }
 
 // Writes what the number of a data cell means.
-fn put_number(out: &mut String, holding: Holding, number: u32) -> Result<(), AllocError>
-    ensures { OnOk result (AppendsText out.old out.new (holding_part holding number)) }
+fn put_number(out: &mut String, cell_use: CellUse, number: u32) -> Result<(), AllocError>
+    ensures { OnOk result (AppendsText out.old out.new (cell_use_part cell_use number)) }
 {
-    match holding {
-        Holding::Shape(_) => put_shape(out, number),
-        Holding::Free | Holding::Bucket(_) | Holding::Front(_) | Holding::Back(_) => {
+    match cell_use {
+        CellUse::Shape(_) => put_shape(out, number),
+        CellUse::Free | CellUse::Bucket(_) | CellUse::Front(_) | CellUse::Back(_) => {
             put_pointer(out, number)
         }
-        Holding::Block { field, .. } => {
+        CellUse::Block { field, .. } => {
             if field == 2 {
                 put_pointer(out, number)
             } else {
                 Ok(())
             }
         }
-        Holding::Ticket(_)
-        | Holding::Reply { .. }
-        | Holding::Register(_)
-        | Holding::Taken
-        | Holding::Keys
-        | Holding::Length(_) => Ok(()),
+        CellUse::Ticket(_)
+        | CellUse::Reply { .. }
+        | CellUse::Register(_)
+        | CellUse::Taken
+        | CellUse::Keys
+        | CellUse::Length(_) => Ok(()),
     }
 }
 
 // Writes whether the transaction of a request is open.
 fn put_request(out: &mut String, value: u64) -> Result<(), AllocError>
-    ensures { OnOk result (AppendsText out.old out.new (request_part (seq_of value) (payload_of value))) }
+    ensures { OnOk result (AppendsText out.old out.new (request_part value)) }
 {
     if seq_of(value) == 0 {
         Ok(())
@@ -152,32 +152,46 @@ fn put_entry(out: &mut String, plan: &Plan, at: u32, addr: u32) -> Result<(), Al
 {
     if at % 2 == 1 {
         out.push_str("; ")?;
-        put_holding(out, Holding::at(&plan.plot(), addr))
+        put_cell_use(out, CellUse::at(&plan.plot(), addr))
     } else {
         Ok(())
     }
 }
 
 // Writes what the word of a cell means.
-fn put_cell_part(out: &mut String, plan: &Plan, cell: Cell, value: u64) -> Result<(), AllocError>
+fn put_cell_part(
+    out: &mut String,
+    plan: &Plan,
+    cell: ShownCell,
+    value: u64,
+) -> Result<(), AllocError>
     ensures { OnOk result (AppendsText out.old out.new (cell_part plan.now.callers cell value)) }
 {
     match cell {
-        Cell::Current => Ok(()),
-        Cell::Request(_) => put_request(out, value),
-        Cell::Data(addr) => put_number(out, Holding::at(&plan.plot(), addr), payload_of(value)),
-        Cell::Log { at, .. } => put_entry(out, plan, at, payload_of(value)),
+        ShownCell::Current => Ok(()),
+        ShownCell::Request(_) => put_request(out, value),
+        ShownCell::Data(addr) => put_number(
+            out,
+            CellUse::at(&plan.plot(), addr),
+            payload_of(value),
+        ),
+        ShownCell::Log { at, .. } => put_entry(out, plan, at, payload_of(value)),
     }
 }
 
 /// Writes what a word of the table means.
-pub fn put_meaning(out: &mut String, plan: &Plan, word: Word, value: u64) -> Result<(), AllocError>
+pub fn put_meaning(
+    out: &mut String,
+    plan: &Plan,
+    word: ShownWord,
+    value: u64,
+) -> Result<(), AllocError>
     ensures { OnOk result (AppendsText out.old out.new (word_part plan.now.callers word value)) }
 {
     match word {
-        Word::Now(cell) | Word::Durable(cell) => put_cell_part(out, plan, cell, value),
-        Word::Script { .. } => put_instr(out, value),
-        Word::Announcement(_) | Word::Members => Ok(()),
+        ShownWord::Now(cell) | ShownWord::Durable(cell) => put_cell_part(out, plan, cell, value),
+        ShownWord::Script { .. } => put_instr(out, value),
+        ShownWord::Announcement(_) | ShownWord::Members => Ok(()),
     }
 }
 

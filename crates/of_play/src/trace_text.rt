@@ -1,11 +1,10 @@
 //! The names that a trace prints, and what has become of a word.
 
 ghost use Rattle.std.specs.Prelude.{◌≡◌, ◌<◌, OnOk};
-ghost use Rattle.of_plan.specs.Plan.{data_cells};
-ghost use Rattle.of_play.specs.TraceText.{step_text, holding_text, cell_name_text, word_text, pair_text, word_value_text, named_change, change_text};
+ghost use Rattle.of_play.specs.TraceText.{step_text, cell_use_text, cell_name_text, word_text, pair_text, word_value_text, named_change, change_text};
 ghost use Rattle.of_script.specs.Appending.{AppendsText};
 
-use crate::names::{Cell, Holding, Word};
+use crate::names::{CellUse, ShownCell, ShownWord};
 use of_cell::{payload_of, seq_of};
 use of_core::Place;
 use of_plan::Plan;
@@ -62,54 +61,54 @@ pub fn step_name(place: Place) -> &'static str
 }
 
 /// Writes what a data cell holds.
-pub fn put_holding(out: &mut String, holding: Holding) -> Result<(), AllocError>
-    ensures { OnOk result (AppendsText out.old out.new (holding_text holding)) }
+pub fn put_cell_use(out: &mut String, cell_use: CellUse) -> Result<(), AllocError>
+    ensures { OnOk result (AppendsText out.old out.new (cell_use_text cell_use)) }
 {
-    match holding {
-        Holding::Ticket(caller) => write!(out, "ticket of {caller}"),
-        Holding::Shape(caller) => write!(out, "shape of {caller}"),
-        Holding::Reply { caller, at } => write!(out, "reply {at} of {caller}"),
-        Holding::Register(register) => write!(out, "register {register}"),
-        Holding::Taken => out.push_str("blocks taken"),
-        Holding::Free => out.push_str("free list"),
-        Holding::Keys => out.push_str("number of keys"),
-        Holding::Bucket(bucket) => write!(out, "bucket {bucket}"),
-        Holding::Front(queue) => write!(out, "front of queue {queue}"),
-        Holding::Back(queue) => write!(out, "back of queue {queue}"),
-        Holding::Length(queue) => write!(out, "length of queue {queue}"),
-        Holding::Block { block, field } => write!(out, "field {field} of block {block}"),
+    match cell_use {
+        CellUse::Ticket(caller) => write!(out, "ticket of {caller}"),
+        CellUse::Shape(caller) => write!(out, "shape of {caller}"),
+        CellUse::Reply { caller, at } => write!(out, "reply {at} of {caller}"),
+        CellUse::Register(register) => write!(out, "register {register}"),
+        CellUse::Taken => out.push_str("blocks taken"),
+        CellUse::Free => out.push_str("free list"),
+        CellUse::Keys => out.push_str("number of keys"),
+        CellUse::Bucket(bucket) => write!(out, "bucket {bucket}"),
+        CellUse::Front(queue) => write!(out, "front of queue {queue}"),
+        CellUse::Back(queue) => write!(out, "back of queue {queue}"),
+        CellUse::Length(queue) => write!(out, "length of queue {queue}"),
+        CellUse::Block { block, field } => write!(out, "field {field} of block {block}"),
     }
 }
 
 // Writes the name of a cell of a plan's table.
-fn put_cell(out: &mut String, plan: &Plan, cell: Cell) -> Result<(), AllocError>
+fn put_cell(out: &mut String, plan: &Plan, cell: ShownCell) -> Result<(), AllocError>
     ensures { OnOk result (AppendsText out.old out.new (cell_name_text plan.now.callers cell)) }
 {
     match cell {
-        Cell::Current => out.push_str("current"),
-        Cell::Request(caller) => write!(out, "request {caller}"),
-        Cell::Data(addr) => {
+        ShownCell::Current => out.push_str("current"),
+        ShownCell::Request(caller) => write!(out, "request {caller}"),
+        ShownCell::Data(addr) => {
             write!(out, "cell {} (", plan.callers() as u64 + 1 + addr as u64)?;
-            put_holding(out, Holding::at(&plan.plot(), addr))?;
+            put_cell_use(out, CellUse::at(&plan.plot(), addr))?;
             out.push_str(")")
         }
-        Cell::Log { caller, at } => write!(out, "log {at} of {caller}"),
+        ShownCell::Log { caller, at } => write!(out, "log {at} of {caller}"),
     }
 }
 
 // Writes the name of a word of a plan's table.
-fn put_word(out: &mut String, plan: &Plan, word: Word) -> Result<(), AllocError>
+fn put_word(out: &mut String, plan: &Plan, word: ShownWord) -> Result<(), AllocError>
     ensures { OnOk result (AppendsText out.old out.new (word_text plan.now.callers word)) }
 {
     match word {
-        Word::Now(cell) => put_cell(out, plan, cell),
-        Word::Durable(cell) => {
+        ShownWord::Now(cell) => put_cell(out, plan, cell),
+        ShownWord::Durable(cell) => {
             out.push_str("durable ")?;
             put_cell(out, plan, cell)
         }
-        Word::Script { caller, at } => write!(out, "script word {at} of {caller}"),
-        Word::Announcement(caller) => write!(out, "announcement {caller}"),
-        Word::Members => out.push_str("members"),
+        ShownWord::Script { caller, at } => write!(out, "script word {at} of {caller}"),
+        ShownWord::Announcement(caller) => write!(out, "announcement {caller}"),
+        ShownWord::Members => out.push_str("members"),
     }
 }
 
@@ -122,20 +121,22 @@ pub fn put_pair(out: &mut String, value: u64) -> Result<(), AllocError>
 }
 
 // Writes what stands in a word.
-fn put_value(out: &mut String, word: Word, value: u64) -> Result<(), AllocError>
+fn put_value(out: &mut String, word: ShownWord, value: u64) -> Result<(), AllocError>
     ensures { OnOk result (AppendsText out.old out.new (word_value_text word value)) }
 {
     match word {
-        Word::Script { .. } | Word::Members => write!(out, "{value}"),
-        Word::Now(_) | Word::Durable(_) | Word::Announcement(_) => put_pair(out, value),
+        ShownWord::Script { .. } | ShownWord::Members => write!(out, "{value}"),
+        ShownWord::Now(_) | ShownWord::Durable(_) | ShownWord::Announcement(_) => put_pair(
+            out, value,
+        ),
     }
 }
 
 /// Writes a word of a plan's table by its name, and what has become of it.
 pub fn put_change(out: &mut String, plan: &Plan, change: &Change) -> Result<(), AllocError>
-    ensures { OnOk result (AppendsText out.old out.new (change_text plan.now.callers (data_cells plan.now.callers plan.now.blocks) change.now)) }
+    ensures { OnOk result (AppendsText out.old out.new (change_text plan.now change.now)) }
 {
-    let word = Word::at(&plan.shape(), change.word);
+    let word = ShownWord::at(&plan.shape(), change.word);
     put_word(out, plan, word)?;
     out.push_str(": ")?;
     put_value(out, word, change.found)?;

@@ -2,7 +2,7 @@
 use Rattle.std.proofs.Common.{◌≡◌, ℕ, zero, suc, ◌+◌, ◌-◌, ◌<◌, ◌≢◌, refl, sym, ◌∙◌, ap, subst, arith, Option, Some, List, [], ◌∷◌, map, length, Ok}
 use Rattle.std.specs.List.{AllByRecursion as Each}
 use Rattle.of_mem.specs.Places.{fresh_at, free_at, head_at, tail_at, length_at}
-use Rattle.of_mem.specs.Pad.{Part, newest_at, write}
+use Rattle.of_mem.specs.Part.{Part, newest_at, write}
 use Rattle.of_mem.specs.Programs.{memory_after, with_value}
 use Rattle.of_mem.specs.Stores.{IsChain, front_at, first_at, link_at}
 use Rattle.of_mem.specs.declared.plot.Plot.{Plot}

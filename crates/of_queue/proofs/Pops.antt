@@ -11,7 +11,7 @@ use Rattle.of_mem.proofs.Changes.{changed_same, changed_other, changed_cases, to
 use Rattle.of_mem.proofs.Heaps.{fronts, front_head}
 use Rattle.of_mem.proofs.Moves.{heap_changed, heap_unlink}
 use Rattle.of_mem.proofs.Frames.{SameBlocks, value_same, bucket_same, queue_same, items_same}
-use Rattle.of_mem.specs.Pad.{Part, write}
+use Rattle.of_mem.specs.Part.{Part, write}
 use Rattle.of_mem.proofs.Counts.{blocks_below, length_small}
 use Rattle.of_mem.proofs.Heaps.{pointer_small}
 use Rattle.of_mem.proofs.Runs.{part_wrote}

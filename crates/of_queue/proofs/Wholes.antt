@@ -3,7 +3,7 @@ use Rattle.std.proofs.Common.{◌≡◌, ℕ, suc, ◌+◌, ◌<◌, ◌≤◌, 
 use Rattle.of_mem.specs.declared.plot.TheConstants.{MOST_BLOCKS}
 use Rattle.std.specs.Prelude.{Result}
 use Rattle.of_mem.specs.Places.{head_at, cells_at}
-use Rattle.of_mem.specs.Pad.{Part}
+use Rattle.of_mem.specs.Part.{Part}
 use Rattle.of_mem.specs.Programs.{program_answer, memory_after, StaysBetween}
 use Rattle.of_mem.specs.Numbers.{IsNumber}
 use Rattle.of_mem.specs.Stores.{CellStore, StandsForStore, IsChain, front_at, first_at}

@@ -5,7 +5,7 @@ use Rattle.of_mem.specs.declared.plot.TheConstants.{QUEUES}
 use Rattle.of_mem.specs.Numbers.{FitsCell}
 use Rattle.of_mem.specs.Places.{tail_at, length_at}
 use Rattle.of_mem.specs.Plots.{base, data_cell_count}
-use Rattle.of_mem.specs.Pad.{Part, newest_at}
+use Rattle.of_mem.specs.Part.{Part, newest_at}
 use Rattle.of_mem.specs.Programs.{IsPartOf}
 use Rattle.of_mem.specs.Stores.{CellStore}
 use Rattle.of_mem.specs.Calls.{PlotStandsForStore}

@@ -5,7 +5,7 @@ use Rattle.of_mem.specs.declared.part.Need.{Need}
 use Rattle.of_mem.specs.declared.plot.Plot.{Plot}
 use Rattle.of_mem.specs.declared.plot.TheConstants.{QUEUES}
 use Rattle.of_mem.specs.Numbers.{IsNumber}
-use Rattle.of_mem.specs.Pad.{Part}
+use Rattle.of_mem.specs.Part.{Part}
 use Rattle.of_mem.specs.Stores.{CellStore, thing_count}
 use Rattle.of_mem.specs.Calls.{ActsOnStore}
 
@@ -29,8 +29,10 @@ abbrev pub after_push : ℕ → ℕ → ℕ → CellStore → CellStore
 after_push blocks q v s = push_store s q v (has_room blocks s)
 
 -- the call put the item behind this queue, or found no room, and then it wrote nothing
-pub record PushesItem (plot : Plot) (before after : Part) (q v : ℕ) (result : Result Bool Need) : Type 0 where
-  pub acts : ActsOnStore plot before after result (has_room plot.blocks) (after_push plot.blocks q v)
+pub record PushesItem (plot : Plot) (before after : Part) (q v : ℕ) (result : Result Bool Need)
+    : Type 0 where
+  pub acts : ActsOnStore plot before after result
+      (has_room plot.blocks) (after_push plot.blocks q v)
   pub full : IfOk result (λ r. r ≡ false → after ≡ before)
 
 abbrev pub front_of : List ℕ → Option ℕ

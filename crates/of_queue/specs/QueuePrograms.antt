@@ -25,7 +25,8 @@ with_tail o q b tail = Write (last_cell o q tail) (b + 1) (new_tail o q b)
 
 abbrev pub push_new : ℕ → ℕ → ℕ → Option ℕ → Program Bool
 push_new o q v None = Done false
-push_new o q v (Some b) = Write (first_at o b) v (Write (link_at o b) 0 (Read (tail_at o q) (with_tail o q b)))
+push_new o q v (Some b) =
+    Write (first_at o b) v (Write (link_at o b) 0 (Read (tail_at o q) (with_tail o q b)))
 
 abbrev pub push_program : ℕ → ℕ → ℕ → ℕ → Program Bool
 push_program o blocks q v = then_do (take_program o blocks) (push_new o q v)

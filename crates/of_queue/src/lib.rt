@@ -5,7 +5,7 @@ ghost use Rattle.std.specs.Prelude.{◌≡◌, ◌<◌, ◌≤◌, ℕ, Some, fa
 ghost use Rattle.of_mem.specs.declared.plot.TheConstants.{QUEUES};
 ghost use Rattle.of_mem.specs.Plots.{base, data_cell_count};
 ghost use Rattle.of_mem.specs.Places.{length_at};
-ghost use Rattle.of_mem.specs.Pad.{newest_at};
+ghost use Rattle.of_mem.specs.Part.{newest_at};
 ghost use Rattle.of_mem.specs.Calls.{RunsProgram, HasStore, AnswersOfStore, ActsOnStore};
 ghost use Rattle.of_queue.specs.QueuePrograms.{last_cell as last_cell_of, push, append, pop, pop_front, close, give_item_back, count_item_down, len};
 ghost use Rattle.of_queue.specs.Fronts.{CanAppend, CanCount, IsFront, IsPopped};
@@ -28,7 +28,7 @@ pub fn push(plot: &Plot, part: &mut Part, queue: u32, value: u32) -> Result<bool
     }
 }
 
-/// Makes a block that was taken the last of its queue.
+// Makes a block that was taken the last of its queue.
 fn append(plot: &Plot, part: &mut Part, queue: u32, value: u32, block: u32) -> Result<bool, Need>
     requires { CanAppend plot.now part.old queue block }
     ensures runs { RunsProgram (append plot.now queue value block) part.old part.new result }
@@ -44,7 +44,7 @@ fn append(plot: &Plot, part: &mut Part, queue: u32, value: u32, block: u32) -> R
     Ok(true)
 }
 
-/// The pointer cell behind a queue's last block: its link, or the head of an empty queue.
+// The pointer cell behind a queue's last block: its link, or the head of an empty queue.
 fn last_cell(plot: &Plot, queue: u32, tail: u32) -> u32
     requires queue { queue < QUEUES }
     requires tail { tail ≤ plot.now.blocks }
@@ -64,7 +64,8 @@ pub fn pop(plot: &Plot, part: &mut Part, queue: u32) -> Result<Option<u32>, Need
     requires stands { HasStore plot.now part.old }
     requires queue { queue < QUEUES }
     ensures runs { RunsProgram (pop plot.now queue) part.old part.new result }
-    ensures acts { ActsOnStore plot.now part.old part.new result (front_item queue) (after_pop queue) }
+    ensures acts { ActsOnStore plot.now part.old part.new result
+        (front_item queue) (after_pop queue) }
 {
     let head = part.read(plot.head(queue))?;
     if head == 0 {
@@ -73,7 +74,7 @@ pub fn pop(plot: &Plot, part: &mut Part, queue: u32) -> Result<Option<u32>, Need
     pop_front(plot, part, queue, head - 1)
 }
 
-/// Takes a queue's front block out of it.
+// Takes a queue's front block out of it.
 fn pop_front(plot: &Plot, part: &mut Part, queue: u32, block: u32) -> Result<Option<u32>, Need>
     requires { IsFront plot.now part.old queue block }
     ensures { RunsProgram (pop_front plot.now queue block) part.old part.new result }
@@ -84,7 +85,7 @@ fn pop_front(plot: &Plot, part: &mut Part, queue: u32, block: u32) -> Result<Opt
     close(plot, part, queue, block, item, link)
 }
 
-/// Clears the tail where nothing is left behind the block that leaves, and gives the block back.
+// Clears the tail where nothing is left behind the block that leaves, and gives the block back.
 fn close(
     plot: &Plot,
     part: &mut Part,
@@ -103,7 +104,7 @@ fn close(
     give_back(plot, part, queue, block, item)
 }
 
-/// Gives back a block that is in no queue any more, and counts one item less.
+// Gives back a block that is in no queue any more, and counts one item less.
 #[tactic(auto, using(of_mem::proofs::Runs::run_then_needs))]
 fn give_back(
     plot: &Plot,
@@ -119,7 +120,7 @@ fn give_back(
     count_down(plot, part, queue, item)
 }
 
-/// Counts one item less.
+// Counts one item less.
 fn count_down(plot: &Plot, part: &mut Part, queue: u32, item: u32) -> Result<Option<u32>, Need>
     requires { CanCount plot.now part.old queue }
     ensures { RunsProgram (count_item_down plot.now queue item) part.old part.new result }

@@ -6,6 +6,7 @@ use Rattle.std.proofs.lemmas.Bool.{cases_eq, cases_lt}
 use Rattle.std.proofs.lemmas.List.{take_all, get_or-set_same, get_or-set_other}
 use Rattle.std.proofs.lemmas.List.FromFn.{length-map-range_with_len, take-map-range_with_len, map-range_with_len_more}
 use Rattle.std.proofs.lemmas.List.Sums.{fold-append}
+use Rattle.std.proofs.lemmas.Bool.{ne_eqb as differs, ltb-true as below}
 use Rattle.of_cell.specs.Words.{pack, seq_of, payload_of}
 use Rattle.of_cell.specs.Cells.{data_cell, request_cell}
 use Rattle.of_cell.proofs.Order.{seq_word, pay_word, pay_small, seq_zero}
@@ -86,14 +87,8 @@ module _ (N M : ℕ) (ws : List ℕ) where
 
 -- ---- what is left midway
 
-differs : (a b : ℕ) → (a ≡ b → ⊥) → (a == b) ≡ false
-differs a b e = grind (arith, nat_tests)
-
 at_least : (a b : ℕ) → nat_le a b ≡ true → a ≤ b
 at_least a b e = grind (arith, nat_tests)
-
-below : (a b : ℕ) → nat_lt a b ≡ true → a < b
-below a b e = grind (arith, nat_tests)
 
 module _ (N M : ℕ) (ws vs : List ℕ) (k : ℕ) (size : IsDurableRow N M ws) (closed : is_open N (λ c. get_or ws c 0) ≡ false) (l : k ≤ length ws) (h : LastAnew N M ws k vs) where
   -- before the last write the current transaction is what it was, and behind it there is none

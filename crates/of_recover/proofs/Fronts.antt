@@ -8,6 +8,7 @@ use Rattle.std.proofs.lemmas.Grind.{same_number_lists, flat_map-append}
 use Rattle.std.proofs.lemmas.List.{append-nil, take_all, take-append-le}
 use Rattle.std.proofs.Math.Seq.{take-nil}
 use Rattle.std.proofs.lemmas.List.Sums.{fold-append}
+use Rattle.std.proofs.lemmas.Bool.{ltb-true as below}
 use Rattle.of_cell.specs.Words.{pack, seq_of, payload_of}
 use Rattle.of_cell.specs.Cells.{data_cell, request_cell, log_cell}
 use Rattle.of_cell.proofs.Order.{seq_word, pay_small}
@@ -32,9 +33,6 @@ map_ext f g e (Some x) = ap Some (e x)
 
 not_less : (a b : ℕ) → a ≡ b → nat_lt a b ≡ false
 not_less a b e = grind (arith, nat_tests)
-
-below : (a b : ℕ) → nat_lt a b ≡ true → a < b
-below a b e = grind (arith, nat_tests)
 
 -- a picked word is picked again
 picked_again : (older : Bool) (o : Option ℕ) (value : ℕ → ℕ) (own s : ℕ) → nat_lt (seq_of own) s ≡ older → ((k : ℕ) → seq_of (value k) ≡ s)

@@ -8,7 +8,8 @@ use Rattle.of_recover.specs.Recovered.{is_data, recovered_words}
 
 -- a data cell keeps its number, at sequence 0, and every other cell is 0
 abbrev pub renumbered_word : (callers cells : ℕ) → (ℕ → ℕ) → (c : ℕ) → ℕ
-renumbered_word callers cells row c = if is_data callers cells c then pack 0 (payload_of (row c)) else 0
+renumbered_word callers cells row c =
+    if is_data callers cells c then pack 0 (payload_of (row c)) else 0
 
 -- the whole row
 unfoldable pub renumbered_words : (callers cells : ℕ) → List ℕ → List ℕ

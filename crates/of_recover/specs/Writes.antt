@@ -20,7 +20,8 @@ entry_writes callers cells row j =
     let addr = entry_addr callers cells row j in
     let cell = data_cell callers addr in
     if entry_counts callers cells row j
-    && (is_none (first_naming callers cells row j addr) && nat_lt (seq_of (row cell)) (current_seq row))
+    && (is_none (first_naming callers cells row j addr)
+    && nat_lt (seq_of (row cell)) (current_seq row))
     then (cell, pack (current_seq row) (log_entry_value callers cells row j)) ∷ [] else []
 
 -- the writes of the first n entries, in the log's order

@@ -1,16 +1,16 @@
 //! Renumbering of a recovered row in place: its data cells keep their numbers, and its sequences
 //! begin anew.
 
-ghost use Rattle.std.specs.Prelude.{◌≡◌, false, slice_index};
+ghost use Rattle.std.specs.Prelude.{◌≡◌};
 ghost use Rattle.std.proofs.Common.{take};
-ghost use Rattle.of_recover.specs.Row.{IsDurableRow, is_open};
+ghost use Rattle.of_recover.specs.OfShape.{IsShapeRow, IsClosed, row_after_renumbering, renumbering_writes_of};
 ghost use Rattle.of_recover.specs.Recovered.{is_data};
-ghost use Rattle.of_recover.specs.Renumbered.{renumbered_words, renumbered_word, renumbering_writes};
+ghost use Rattle.of_recover.specs.Renumbered.{renumbered_word};
 ghost use Rattle.of_recover.specs.Writes.{words_after_writes};
 
 use of_cell::{Shape, pack, payload_of};
 
-/// Whether a cell is a data cell.
+// Whether a cell is a data cell.
 fn is_data(shape: &Shape, cell: usize) -> bool
     ensures { result ≡ is_data shape.now.callers shape.now.cells cell }
 {
@@ -18,7 +18,7 @@ fn is_data(shape: &Shape, cell: usize) -> bool
     callers < cell && cell < callers + 1 + shape.cells as usize
 }
 
-/// The word of a cell when the sequences have begun anew.
+// The word of a cell when the sequences have begun anew.
 fn renumbered_word(shape: &Shape, cell: usize, word: u64) -> u64
     ensures { result ≡ renumbered_word shape.now.callers shape.now.cells (λ c. word) cell }
 {
@@ -33,9 +33,9 @@ fn renumbered_word(shape: &Shape, cell: usize, word: u64) -> u64
 /// and the current transaction, the requests and the logs are those of a table on which nothing has
 /// happened.
 pub fn renumber(shape: &Shape, durable: &mut [u64])
-    requires row { IsDurableRow shape.now.callers shape.now.cells durable.old }
-    requires closed { is_open shape.now.callers (slice_index durable.old) ≡ false }
-    ensures { durable.new ≡ renumbered_words shape.now.callers shape.now.cells durable.old }
+    requires row { IsShapeRow shape.now durable.old }
+    requires closed { IsClosed shape.now durable.old }
+    ensures { durable.new ≡ row_after_renumbering shape.now durable.old }
 {
     let cells = durable.len();
     renumber_partly(shape, durable, cells);
@@ -45,8 +45,8 @@ pub fn renumber(shape: &Shape, durable: &mut [u64])
 /// current transaction comes last, because no data cell may be newer than it. So what is left has
 /// the same numbers, and may be renumbered again (`laws::renumbered_midway`).
 pub fn renumber_partly(shape: &Shape, durable: &mut [u64], most: usize)
-    requires { IsDurableRow shape.now.callers shape.now.cells durable.old }
-    ensures { let writes = renumbering_writes shape.now.callers shape.now.cells durable.old in
+    requires { IsShapeRow shape.now durable.old }
+    ensures { let writes = renumbering_writes_of shape.now durable.old in
         durable.new ≡ words_after_writes (take most writes) durable.old }
 {
     let cells = durable.len();

@@ -7,7 +7,7 @@ use Rattle.std.specs.Str.Parse.{digits_value}
 use Rattle.std.proofs.lemmas.Fmt.{decimal_is_IsNumeral}
 use Rattle.of_script.specs.declared.instr.Cause.{Cause}
 use Rattle.of_script.specs.declared.instr.Cause.TheVariants.{Overflow, Short, NoRoom, Differs, BadOp}
-use Rattle.of_store.specs.State.{Reply, Answered, Aborted}
+use Rattle.of_store.specs.Store.{Reply, Answered, Aborted}
 use Rattle.of_plan.specs.Report.{Entry, EndState, done, stopped, spent, Line, Report}
 use Rattle.of_report.specs.StoreText.{store_text}
 use Rattle.of_report.specs.ReportText.{reply_value_text, cause_text, reply_text, kind_text, entry_line, state_text, caller_line_text, seq_line, report_text}

@@ -10,7 +10,7 @@ use Rattle.std.proofs.lemmas.List.FromFn.{get_or-range_with_len}
 use Rattle.std.proofs.lemmas.List.Sorted.{All-permutation, length_permutation}
 use Rattle.std.proofs.lemmas.List.Sums.{get_or-le-sum_by}
 use Rattle.of_script.specs.declared.instr.Instr.{Instr}
-use Rattle.of_store.specs.State.{replies_in_order, last_store}
+use Rattle.of_store.specs.Store.{replies_in_order, last_store}
 use Rattle.of_plan.specs.Plan.{Plan, IsPlan, scripts_of}
 use Rattle.of_plan.specs.Report.{Entry, Line, EndState, done, stopped, spent, Report, Start, entries_of, caller_line, no_line, finished_of}
 use Rattle.of_plan.specs.Legal.{IsLegal, StandsBefore, HasEndState, scripts_left, script_of_entry}

@@ -1,17 +1,19 @@
--- What an image holds: a recovered row, what recovery found, and the store for which the row stands.
+-- What an image holds: a recovered row, what recovery found, and the store for which the row
+-- stands.
 use Rattle.std.specs.Prelude.{◌≡◌, ℕ, ◌+◌, Bool, map, slice_index, slice_range}
 use Rattle.std.specs.List.{range_with_len}
 use Rattle.of_cell.specs.Words.{payload_of}
 use Rattle.of_cell.specs.Cells.{data_cell, durable_cells}
 use Rattle.of_mem.specs.Places.{ticket_cell_at}
+use Rattle.of_mem.specs.ProgramWork.{memory_of}
 use Rattle.of_script.specs.declared.instr.TheConstants.{MOST_INSTRS}
 use Rattle.of_recover.specs.Row.{current_seq, is_open}
-use Rattle.of_store.specs.State.{Store}
+use Rattle.of_store.specs.Store.{Store}
 use Rattle.of_plan.specs.Plan.{Plan, data_cells}
 use Rattle.of_plan.specs.Report.{Start}
 use Rattle.of_plan.specs.Ended.{Ended}
 use Rattle.of_report.specs.declared.image.Image.{Image as Held}
-use Rattle.of_report.specs.ImageRow.{DurableRow, IsRow, recovered_row}
+use Rattle.of_report.specs.ImageRow.{DurableRow, IsRow, recovered_row, data_numbers_in}
 use Rattle.of_report.specs.ImageLaw.{IsLawfulRow}
 
 -- the recovered row, its sequence, whether a transaction was brought to its end, and the store
@@ -23,9 +25,15 @@ pub record Image : Type 0 where
 
 -- what contracts see of an image that is held
 abbrev pub image_value : Held → Image
-image_value i = record { row = record { callers = i.callers; blocks = i.blocks; words = i.durable.items }; seq = i.recovered.seq; replayed = i.recovered.replayed; store = i.store }
+image_value i = record {
+  row = record { callers = i.callers; blocks = i.blocks; words = i.durable.items };
+  seq = i.recovered.seq;
+  replayed = i.recovered.replayed;
+  store = i.store;
+}
 
--- an image as reading answers it: its words are in range and recovered, its sequence is theirs, and they are lawful with its store
+-- an image as reading answers it: its words are in range and recovered, its sequence is theirs, and
+-- they are lawful with its store
 pub record IsImage (instrs : ℕ) (i : Image) : Type 0 where
   pub row : IsRow instrs i.row
   pub settled : recovered_row instrs i.row ≡ i.row
@@ -39,16 +47,29 @@ pub record IsRestored (instrs : ℕ) (raw : DurableRow) (i : Image) : Type 0 whe
   pub replayed : i.replayed ≡ is_open raw.callers (slice_index raw.words)
   pub lawful : IsLawfulRow instrs i.row i.store
 
+-- the number in a data cell of an image
+abbrev pub image_number : Image → (cell : ℕ) → ℕ
+image_number i = memory_of (data_numbers_in MOST_INSTRS i.row)
+
 -- a caller's ticket: how many of its calls the store has seen
 abbrev pub image_ticket : Image → (caller : ℕ) → ℕ
-image_ticket i c = payload_of (slice_index i.row.words (data_cell i.row.callers (ticket_cell_at MOST_INSTRS c)))
+image_ticket i c =
+    payload_of (slice_index i.row.words (data_cell i.row.callers (ticket_cell_at MOST_INSTRS c)))
 
 -- where a run from the image starts: so many scripts of a caller are done as its ticket says
 abbrev pub start_of_image : Image → Start
-start_of_image i = record { store = i.store; seq = i.seq; finished = map (image_ticket i) (range_with_len 0 i.row.callers) }
+start_of_image i = record {
+  store = i.store;
+  seq = i.seq;
+  finished = map (image_ticket i) (range_with_len 0 i.row.callers);
+}
 
 -- the durable words that a run leaves
 abbrev pub durable_row : Plan → Ended → DurableRow
 durable_row p e =
     let cells = durable_cells p.callers (data_cells p.callers p.blocks) in
-    record { callers = p.callers; blocks = p.blocks; words = slice_range e.words cells (cells + cells) }
+    record {
+      callers = p.callers;
+      blocks = p.blocks;
+      words = slice_range e.words cells (cells + cells);
+    }

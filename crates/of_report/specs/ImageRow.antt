@@ -1,4 +1,5 @@
--- The durable words of a table for so many callers and blocks. How many data cells there are depends on how many instructions a script has at most.
+-- The durable words of a table for so many callers and blocks. How many data cells there are
+-- depends on how many instructions a script has at most.
 use Rattle.std.specs.Prelude.{ℕ, ◌^◌, ◌≤◌, ◌<◌, List, map, slice_index}
 use Rattle.std.specs.List.{range_with_len}
 use Rattle.of_cell.specs.declared.shape.TheConstants.{MOST_CALLERS}
@@ -29,9 +30,12 @@ row_cell_count instrs r = data_cell_count_for instrs r.callers r.blocks
 
 -- the numbers of the data cells, in order
 abbrev pub data_numbers_in : (instrs : ℕ) → DurableRow → List ℕ
-data_numbers_in instrs r = map (λ a. payload_of (slice_index r.words (data_cell r.callers a))) (range_with_len 0 (row_cell_count instrs r))
+data_numbers_in instrs r =
+    map (λ a. payload_of (slice_index r.words (data_cell r.callers a)))
+    (range_with_len 0 (row_cell_count instrs r))
 
--- the ranges of a row, where scripts have at most so many instructions: a word of 64 bits for each cell
+-- the ranges of a row, where scripts have at most so many instructions: a word of 64 bits for each
+-- cell
 pub record IsRow (instrs : ℕ) (r : DurableRow) : Type 0 where
   pub some_callers : 1 ≤ r.callers
   pub few_callers : r.callers ≤ MOST_CALLERS
@@ -41,4 +45,6 @@ pub record IsRow (instrs : ℕ) (r : DurableRow) : Type 0 where
 
 -- what recovery makes of a row
 abbrev pub recovered_row : (instrs : ℕ) → DurableRow → DurableRow
-recovered_row instrs r = record r { words = recovered_words r.callers (row_cell_count instrs r) r.words }
+recovered_row instrs r = record r {
+  words = recovered_words r.callers (row_cell_count instrs r) r.words;
+}

@@ -4,6 +4,7 @@ pub mod ReportText
 pub mod LoadText
 pub mod Examples
 pub mod Found
+pub mod Made
 pub mod Order
 pub mod ImageRow
 pub mod ImageLaw

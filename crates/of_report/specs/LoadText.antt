@@ -1,7 +1,7 @@
 -- The text of the report of a load: its size and the store, summed up.
 use Rattle.std.specs.Prelude.{ℕ, List, ◌++◌, length, sum_by, codes, decimal}
 use Rattle.std.specs.FinMap as fm
-use Rattle.of_store.specs.State.{Store}
+use Rattle.of_store.specs.Store.{Store}
 use Rattle.of_plan.specs.Report.{Report}
 use Rattle.of_report.specs.StoreText.{register_lines}
 
@@ -11,7 +11,9 @@ sum_of_values s = sum_by (λ e. e.1) (fm.entries s.keys)
 
 -- how many keys there are, and that sum
 abbrev pub sum_lines : Store → List ℕ
-sum_lines s = (codes "keys " ++ decimal (fm.len s.keys) ++ codes "\n") ++ codes "values " ++ decimal (sum_of_values s) ++ codes "\n"
+sum_lines s =
+    (codes "keys " ++ decimal (fm.len s.keys) ++ codes "\n") ++ codes "values "
+    ++ decimal (sum_of_values s) ++ codes "\n"
 
 -- how many callers and entries there are, the registers that aren't 0, and the keys summed up
 abbrev pub load_text : Report → List ℕ

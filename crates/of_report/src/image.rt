@@ -1,12 +1,17 @@
 //! Images: what recovery finds in the durable words of a table.
 
-ghost use Rattle.std.specs.Prelude.{◌≡◌, ◌<◌};
+ghost use Rattle.std.specs.Prelude.{◌≡◌, ◌<◌, ◌+◌, IfOk, slice_range};
+ghost use Rattle.of_cell.specs.Cells.{data_cell};
 ghost use Rattle.of_mem.specs.declared.work.TheConstants.{MOST_INSTRS};
+ghost use Rattle.of_eval.specs.Lawful.{reply_in};
+ghost use Rattle.of_report.specs.ImageRow.{row_cell_count};
 
+use crate::data_cells;
 use of_cell::payload_of;
-use of_mem::MOST_INSTRS;
+use of_mem::{MOST_INSTRS, Plot, RawReply};
 use of_recover::Recovered;
 use of_store::Store;
+use std::alloc::{AllocError, Global};
 
 /// What recovery finds in the durable words of a table. A call that takes an image asks that it is as
 /// reading a text answers one: `IsImage MOST_INSTRS`.
@@ -25,7 +30,33 @@ pub struct Image {
 }
 
 impl Image {
-    ghost use Rattle.of_report.specs.Image.{IsImage, image_value, image_ticket};
+    ghost use Rattle.of_report.specs.Image.{IsImage, image_value, image_number, image_ticket, start_of_image};
+
+    /// Where its data cells stand.
+    pub fn plot(&self) -> Plot
+        requires { IsImage MOST_INSTRS (image_value self.now) }
+        ensures callers { result.callers ≡ self.now.callers }
+        ensures instrs { result.instrs ≡ MOST_INSTRS }
+        ensures blocks { result.blocks ≡ self.now.blocks }
+    {
+        Plot {
+            callers: self.callers,
+            instrs: MOST_INSTRS as u32,
+            blocks: self.blocks,
+        }
+    }
+
+    /// The words of its data cells.
+    fn data_words(&self) -> &[u64]
+        requires { IsImage MOST_INSTRS (image_value self.now) }
+        ensures { let first = data_cell self.now.callers 0 in result.now ≡ slice_range
+            self.now.durable.items first
+            (first + row_cell_count MOST_INSTRS (image_value self.now).row) }
+    {
+        let first = (self.callers + 1) as usize;
+        let cells = self.plot().cells() as usize;
+        &self.durable[first..first + cells]
+    }
 
     /// The ticket of a caller: how many of its calls the store has seen.
     pub fn ticket(&self, caller: u32) -> u32
@@ -33,7 +64,29 @@ impl Image {
         requires caller { caller < self.now.callers }
         ensures { result ≡ image_ticket (image_value self.now) caller }
     {
-        let first = 1 + self.callers + caller * (MOST_INSTRS as u32 + 2);
-        payload_of(self.durable[first as usize])
+        let cell = self.callers + 1 + self.plot().ticket(caller);
+        payload_of(self.durable[cell as usize])
+    }
+
+    /// The tickets, caller by caller. The error is out of memory.
+    pub fn tickets(&self, alloc: Global) -> Result<Vec<u32>, AllocError>
+        requires { IsImage MOST_INSTRS (image_value self.now) }
+        ensures { IfOk result (λ tickets.
+            tickets.items ≡ (start_of_image (image_value self.now)).finished) }
+    {
+        let mut tickets = Vec::new(alloc);
+        for caller in 0..self.callers {
+            tickets.push(self.ticket(caller))?;
+        }
+        Ok(tickets)
+    }
+
+    /// The reply in a caller's own cells.
+    pub fn reply(&self, caller: u32) -> RawReply
+        requires image { IsImage MOST_INSTRS (image_value self.now) }
+        requires caller { caller < self.now.callers }
+        ensures { result ≡ reply_in MOST_INSTRS (image_number (image_value self.now)) caller }
+    {
+        data_cells::reply(&self.plot(), self.data_words(), caller)
     }
 }

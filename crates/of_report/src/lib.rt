@@ -1,12 +1,13 @@
 //! Reports of runs and their texts, and images.
 #![tactic(auto)]
 
-mod found;
+mod data_cells;
 mod image;
 pub mod laws;
 mod load;
 mod make;
 mod printing;
+mod recovered_table;
 mod report;
 pub mod store;
 

@@ -1,10 +1,9 @@
 //! Texts of reports.
 
-ghost use Rattle.std.specs.Prelude.{◌≡◌, IfOk, OnOk, flat_map, map, take};
-ghost use Rattle.std.specs.List.{enumerate_from};
+ghost use Rattle.std.specs.Prelude.{◌≡◌, IfOk, OnOk, map, take};
 ghost use Rattle.of_store.specs.Replies.{reply_value_of};
 ghost use Rattle.of_report.specs.Report.{entry_value, line_value, report_value, end_state_value};
-ghost use Rattle.of_report.specs.ReportText.{reply_value_text, cause_text, reply_text, kind_text, entry_line, state_text, caller_line_text, seq_line, report_text};
+ghost use Rattle.of_report.specs.ReportText.{reply_value_text, cause_text, reply_text, kind_text, entry_line, entry_lines, state_text, caller_line_text, caller_lines, seq_line, report_text};
 ghost use Rattle.of_script.specs.Appending.{AppendsText};
 
 use crate::report::{EndState, Entry, Line, Report};
@@ -37,7 +36,7 @@ fn put_value(out: &mut String, value: Option<u32>) -> Result<(), AllocError>
 }
 
 // The values of the instructions that were run.
-fn answered(reply: &Reply) -> &[Option<u32>]
+fn answered_values(reply: &Reply) -> &[Option<u32>]
     ensures { result.now ≡ take reply.now.len reply.now.values }
 {
     let values = reply.values.as_slice();
@@ -55,7 +54,7 @@ pub fn put_reply(out: &mut String, reply: &Reply) -> Result<(), AllocError>
             write!(out, " abort {place} {cause}")
         }
         None => {
-            for value in answered(reply) {
+            for value in answered_values(reply) {
                 put_value(out, *value)?;
             }
             Ok(())
@@ -94,7 +93,8 @@ fn state_name(state: EndState) -> &'static str
 
 // Writes the line of a caller.
 fn put_caller(out: &mut String, caller: usize, line: &Line) -> Result<(), AllocError>
-    ensures { OnOk result (AppendsText out.old out.new (caller_line_text (caller, line_value line.now))) }
+    ensures { OnOk result
+        (AppendsText out.old out.new (caller_line_text (caller, line_value line.now))) }
 {
     let state = state_name(line.state);
     write!(out, "caller {caller} {state}")?;
@@ -111,7 +111,7 @@ fn put_seq(out: &mut String, seq: u32) -> Result<(), AllocError>
 
 // Writes the lines of the entries.
 fn put_entries(out: &mut String, entries: &[Entry]) -> Result<(), AllocError>
-    ensures { OnOk result (AppendsText out.old out.new (flat_map entry_line (map entry_value entries.now))) }
+    ensures { OnOk result (AppendsText out.old out.new (entry_lines (map entry_value entries.now))) }
 {
     for entry in entries {
         put_entry(out, entry)?;
@@ -121,7 +121,7 @@ fn put_entries(out: &mut String, entries: &[Entry]) -> Result<(), AllocError>
 
 // Writes the lines of the callers.
 fn put_callers(out: &mut String, callers: &[Line]) -> Result<(), AllocError>
-    ensures { OnOk result (AppendsText out.old out.new (flat_map caller_line_text (enumerate_from 0 (map line_value callers.now)))) }
+    ensures { OnOk result (AppendsText out.old out.new (caller_lines (map line_value callers.now))) }
 {
     for (caller, line) in callers.iter().enumerate() {
         put_caller(out, caller, line)?;

@@ -13,14 +13,14 @@ use Rattle.of_core.specs.declared.place.Op.TheVariants.{Load, Store, Exchange, R
 use Rattle.of_core.specs.Table.{Setup, cell_count, words_before_members, durable_at, durable_word}
 use Rattle.of_core.specs.Machine.{CallState, IsOpen, no_machine, begin_call}
 use Rattle.of_core.specs.Steps.{want, take_word, word_of, word_left, words_after, word_found, IsFoundBy}
-use Rattle.of_core.specs.World.{Moment, TableStart, step_batches, step_reads, one_batch, step_batches_at, after_step}
+use Rattle.of_core.specs.TableMoment.{Moment, TableStart, step_batches, step_reads, one_batch, step_batches_at, after_step}
 use Rattle.of_core.specs.Invariant.{MeetsInvariant}
 use Rattle.of_core.specs.Events.{Event, Begins, Turns, Loads, Evicts, Raises, machine_in, after_event, after_events, IsSchedule, MayHappen, turn_count, turns_in_event}
 use Rattle.of_core.specs.Calls.{if_so, operations_begun, outcomes, operation_begun, outcome_of_event, outcome_of_step, TurnsFindOpenCalls}
 use Rattle.of_core.specs.Laws.{IsRaise, GoesBlindly}
 use Rattle.of_core.proofs.Parts.{run_append, operations_append, outcomes_append}
 use Rattle.of_row.specs.Views.{seen_batch, Each}
-use Rattle.of_core.specs.Shared.{MayStart}
+use Rattle.of_core.specs.WordsMatch.{MayStart}
 use Rattle.of_row.specs.Trail.{first_of, whole_of, at_once, TurnIsNext, IsPrompt, AreSteps, evictions}
 use Rattle.of_row.specs.RowLaws.{RowLaws}
 use Rattle.of_row.proofs.Frames.{found_as}

@@ -6,9 +6,9 @@ use Rattle.std.proofs.lemmas.List.{length-append, length-map, get_or-map, get_or
 use Rattle.of_core.specs.declared.place.Outcome.{Outcome}
 use Rattle.of_core.specs.Table.{Setup, words_before_members}
 use Rattle.of_core.specs.Machine.{Call, CallState, is_idle, no_call}
-use Rattle.of_core.specs.World.{Moment, TableStart, Batch}
+use Rattle.of_core.specs.TableMoment.{Moment, TableStart, Batch}
 use Rattle.of_core.specs.History.{batch_at}
-use Rattle.of_core.specs.Shared.{MayStart}
+use Rattle.of_core.specs.WordsMatch.{MayStart}
 use Rattle.of_core.specs.Events.{Event, IsSchedule, machine_in, start_ticket}
 use Rattle.of_core.specs.Calls.{HasCalls, WasBegun, IsNotBefore, no_outcome, outcome_seq}
 use Rattle.of_core.specs.Laws.{EveryCallStands}

@@ -10,7 +10,7 @@ use Rattle.of_core.specs.declared.place.Op.{Op}
 use Rattle.of_core.specs.declared.place.Op.TheVariants.{Load, Store, Exchange, Raise}
 use Rattle.of_core.specs.Table.{Setup, cell_count, durable_word}
 use Rattle.of_core.specs.Steps.{word_of, word_left, words_after, IsFoundBy}
-use Rattle.of_core.specs.World.{TableStart, Batch}
+use Rattle.of_core.specs.TableMoment.{TableStart, Batch}
 use Rattle.of_core.specs.Events.{Event}
 use Rattle.of_row.specs.Views.{KnownCaller, View, IsSeenPrefix, seen_seq, Each}
 use Rattle.of_row.specs.Trail.{IsRunBy}

@@ -1,5 +1,5 @@
 -- Any moment of a row: the events that came lead to its words, and recovery of them finds all that was answered.
-use Rattle.std.proofs.Common.{◌≡◌, ℕ, ◌+◌, ◌≤◌, ◌<◌, inl, inr, ⊎_elim, List, [], length, map, get_or, false, sym, ◌∙◌, ap, subst, arith}
+use Rattle.std.proofs.Common.{◌≡◌, ℕ, ◌+◌, ◌≤◌, ◌<◌, inl, inr, ⊎_elim, List, [], length, map, get_or, false, refl, sym, ◌∙◌, ap, subst, arith}
 use Rattle.std.specs.List.{All}
 use Rattle.std.proofs.lemmas.List.{length-map, get_or-map, get_or_append_left}
 use Rattle.atomic_table.specs.Table.{State}
@@ -8,7 +8,7 @@ use Rattle.of_recover.proofs.Agreeing.{recovered_data-same}
 use Rattle.of_core.specs.declared.place.Outcome.{Outcome}
 use Rattle.of_core.specs.Table.{Setup, cell_count, words_before_members, durable_at, durable_word, ticket_cell, shape_cell, reply_cell}
 use Rattle.of_core.specs.Machine.{Call, no_call}
-use Rattle.of_core.specs.World.{Moment, TableStart}
+use Rattle.of_core.specs.TableMoment.{Moment, TableStart}
 use Rattle.of_core.specs.Starts.{IsDurable}
 use Rattle.of_core.specs.Invariant.{MeetsInvariant}
 use Rattle.of_core.specs.Grounds.{HasGrounds}
@@ -18,10 +18,10 @@ use Rattle.of_core.specs.Laws.{EveryOrder, RecoveredRowsMayStart}
 use Rattle.of_core.specs.Linear.{ExplainsOutcome, Linearizes, recovered_number, FindsCall, Detects, IsRecovered, IsDurablyLinearizable}
 use Rattle.of_core.proofs.Logs.{room_for}
 use Rattle.of_row.specs.Views.{EndedCall, KnownCaller, View, no_ended, Each}
-use Rattle.of_row.specs.Rule.{members_of, ticket_at, ended_operation_at, outcome_at, IsAtHome, ViewFits, MeetsRule, ViewMeetsRule}
+use Rattle.of_row.specs.Rule.{members_of, ticket_at, ended_operation_at, outcome_at, IsAtHome, ViewFits, MeetsRule, ViewMeetsRule, EachFree}
 use Rattle.of_row.specs.Trail.{first_of, moment, IsToldBy, IsRunBy, EachView}
 use Rattle.of_row.specs.RowLaws.{RowLaws}
-use Rattle.of_row.specs.Moments.{IsReachedBy, ExplainsEndedCalls, words_alone, LosesNothing, HoldsCalls}
+use Rattle.of_row.specs.Moments.{IsReachedBy, ExplainsEndedCalls, HasNoneOf, words_alone, LosesNothing, HoldsCalls}
 use Rattle.of_row.proofs.RowLaws.{good_of, word_at}
 use Rattle.of_row.proofs.Fronts.{each_both}
 
@@ -40,6 +40,7 @@ module _ (S : Setup) (L : List ℕ → Type 0) (B : TableStart) (s : State (Unit
     pasts = λ j v at live. (r.each j v at live).past;
     raised = λ j v at live. (r.each j v at live).raised;
     callers = λ j v at live. (r.each j v at live).runs;
+    free = r.free;
   }
 
   -- ---- recovery of the words as they are
@@ -119,6 +120,14 @@ module _ (S : Setup) (L : List ℕ → Type 0) (B : TableStart) (s : State (Unit
           restarts = λ row is. (restarts B W good row record { long = is.long; each = λ c low. is.each c low ∙ durable_same c low }).0;
         }
 
+-- the order has no call of a number that isn't taken
+none_of_free : (S : Setup) (L : List ℕ → Type 0) (B : TableStart) (s : State (Unit {0}) View) (h : LosesNothing S L B s) → EachFree S s.words (HasNoneOf h.order)
+none_of_free S L B s h n low unset p d l = λ is.
+    let k = (h.linearizes.begun p d l).1 refl in
+    let nothing : operations_begun h.events (get_or h.order p d).caller ≡ [] = ap (operations_begun h.events) is ∙ (h.reached.free n low unset).0 in
+    let none : length (operations_begun h.events (get_or h.order p d).caller) ≡ 0 = ap length nothing in
+    omega (arith, k.0, k.1, none)
+
 -- a closed row stops at its last moment
 pub closed_holds : (S : Setup) (L : List ℕ → Type 0) → RowLaws S L → EveryOrder S L → RecoveredRowsMayStart S L → (B : TableStart) (ws : List ℕ) (v : View) → ViewMeetsRule S L B ws v → v.spent ≡ false → HoldsCalls S L B ws v
 closed_holds S L laws orders restarts B ws v m live =
@@ -126,6 +135,7 @@ closed_holds S L laws orders restarts B ws v m live =
     record {
       order = h.order;
       explained = h.explained m.seat v m.view live;
+      free = subst (λ (z : List ℕ). EachFree S z (HasNoneOf h.order)) m.words (none_of_free S L B m.state h);
       recovered_so = subst (λ (z : List ℕ). IsRecovered S B (words_alone z) h.order) m.words h.recovered_so;
       restarts = λ row is. h.restarts row (subst (λ (z : List ℕ). IsDurable S z row) (sym m.words) is);
     }

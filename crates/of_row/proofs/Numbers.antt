@@ -3,7 +3,7 @@ use Rattle.std.proofs.Common.{ℕ, ◌<◌, ◌==◌, Bool, true, false, List, [
 use Rattle.std.specs.Int.{bit_at}
 use Rattle.of_core.specs.Table.{Setup}
 use Rattle.of_core.specs.Machine.{CallState}
-use Rattle.of_core.specs.World.{TableStart}
+use Rattle.of_core.specs.TableMoment.{TableStart}
 use Rattle.of_row.specs.Views.{KnownCaller, View, Each}
 use Rattle.of_row.specs.Turned.{AsksForNumber, IsMember, MakesStep, after_enrol, head_as_list, rest_of}
 use Rattle.of_row.proofs.Members.{caller_is}

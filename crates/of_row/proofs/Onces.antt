@@ -9,7 +9,7 @@ use Rattle.of_core.specs.declared.place.Outcome.TheVariants.{Answered, Spent}
 use Rattle.of_core.specs.Table.{Setup}
 use Rattle.of_core.specs.Machine.{Call, no_call}
 use Rattle.of_cell.specs.Words.{payload_of}
-use Rattle.of_core.specs.World.{Moment, Batch, TableStart}
+use Rattle.of_core.specs.TableMoment.{Moment, Batch, TableStart}
 use Rattle.of_core.specs.History.{batch_at, EachBatch, CallersRise}
 use Rattle.of_core.specs.Claim.{IsNewerCall, IsSound}
 use Rattle.of_row.specs.Views.{SeenBatch, KnownCaller, View, IsSeenPrefix, KnowsBothJoined, batch_of_seen, seen_history, seen_seq}

@@ -4,7 +4,7 @@ use Rattle.std.specs.Int.{bit_at}
 use Rattle.std.proofs.lemmas.List.{append-nil}
 use Rattle.of_core.specs.Table.{Setup, words_before_members, durable_at, durable_word}
 use Rattle.of_core.specs.Machine.{CallState, no_machine}
-use Rattle.of_core.specs.World.{Moment, TableStart}
+use Rattle.of_core.specs.TableMoment.{Moment, TableStart}
 use Rattle.of_core.specs.Events.{Event}
 use Rattle.of_core.specs.Claim.{IsSound}
 use Rattle.of_core.specs.Laws.{EveryMomentIsSound, EveryOrder}

@@ -4,8 +4,8 @@ use Rattle.std.proofs.lemmas.Bool.Decides.{nat_tests}
 use Rattle.std.proofs.lemmas.List.{take-append-drop, drop-drop, length-append, get_or_append_left, get_or-set_same, get_or_push}
 use Rattle.std.proofs.Math.Seq.{take-add}
 use Rattle.of_core.specs.Table.{Setup, cell_count, words_before_members, durable_at, durable_word}
-use Rattle.of_core.specs.World.{Moment, TableStart}
-use Rattle.of_core.specs.Shared.{MayStart}
+use Rattle.of_core.specs.TableMoment.{Moment, TableStart}
+use Rattle.of_core.specs.WordsMatch.{MayStart}
 use Rattle.of_core.specs.Invariant.{MeetsInvariant}
 use Rattle.of_core.specs.Events.{Event, Loads, Evicts, after_event, after_raise, after_events, one_if, IsSchedule}
 use Rattle.of_core.specs.Raised.{goes_round, lower_changes, is_pending, pending_among, EvictionsAreShort, RaisesUndisturbed, EvictionsUndisturbed}

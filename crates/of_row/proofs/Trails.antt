@@ -6,7 +6,7 @@ use Rattle.of_core.specs.declared.place.Outcome.{Outcome}
 use Rattle.of_core.specs.Table.{Setup}
 use Rattle.of_core.specs.Machine.{CallState, IsOpen, MayReplace, is_idle, no_machine, begin_call}
 use Rattle.of_core.specs.Steps.{want, take_word, IsFoundBy}
-use Rattle.of_core.specs.World.{Moment, TableStart, after_step}
+use Rattle.of_core.specs.TableMoment.{Moment, TableStart, after_step}
 use Rattle.of_core.specs.Events.{Event, Begins, Turns, machine_in, after_event, after_events, IsSchedule, turn_count, one_if}
 use Rattle.of_core.specs.Calls.{if_so, operations_begun, outcomes, outcome_of_step, TurnsFindOpenCalls}
 use Rattle.of_core.specs.Laws.{TurnsAreSteps}

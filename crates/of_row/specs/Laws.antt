@@ -3,17 +3,18 @@ use Rattle.std.specs.Prelude.{◌≡◌, ◌≤◌, ◌<◌, ◌+◌, ℕ, List,
 use Rattle.of_cell.specs.declared.word.TheConstants.{PAYLOADS}
 use Rattle.of_mem.specs.Meaning.{Meaning}
 use Rattle.of_core.specs.Table.{Setup}
-use Rattle.of_core.specs.World.{TableStart}
+use Rattle.of_core.specs.TableMoment.{TableStart}
 use Rattle.of_core.specs.Machine.{CallState, idle_machine, begin_call}
 use Rattle.of_core.specs.declared.place.Place.TheVariants.{Idle}
-use Rattle.of_core.specs.Seen.{Machine, machine_setup}
+use Rattle.of_core.specs.MachineValue.{Machine, machine_setup}
 use Rattle.of_row.specs.declared.member.Member.{Member}
 use Rattle.of_row.specs.declared.member.Pass.{Pass}
 use Rattle.of_row.specs.declared.row.Row.{Row}
 use Rattle.of_row.specs.Views.{View, seen_batch, Each}
 use Rattle.of_row.specs.Trail.{moment}
 use Rattle.of_row.specs.Rule.{KeepsOwn, IsLegalFront, IsRaised, ViewMeetsRule, KeepsAll}
-use Rattle.of_row.specs.Rows.{key_of, IsSeatOf, RunsOnRow, IsMemberOf, HasNoCall}
+use Rattle.of_row.specs.Rows.{key_of, IsRowMember, RunsOnRow, IsMemberOf, HasNoCall}
+use Rattle.of_row.specs.Rows.{number_of_member, calls_of_member}
 use Rattle.of_row.specs.Passes.{HasEnrolled}
 
 -- a view that keeps every number that is taken has seen the whole history
@@ -22,8 +23,8 @@ SeesWholeHistory Lawful S =
     (B : TableStart) (ws : List ℕ) (v : View) (m : ViewMeetsRule S Lawful B ws v)
     → v.spent ≡ false → KeepsAll S ws v → v.seen ≡ map seen_batch (moment S B m.rule.events).batches
 
--- of each caller that a view keeps, its calls as far as was seen are just those that it made, and they have
--- ended as their outcomes say
+-- of each caller that a view keeps, its calls as far as was seen are just those that it made, and
+-- they have ended as their outcomes say
 abbrev pub SeesOwnCalls : (List ℕ → Type 0) → Setup → Type 0
 SeesOwnCalls Lawful S =
     (B : TableStart) (ws : List ℕ) (v : View) → ViewMeetsRule S Lawful B ws v
@@ -35,30 +36,33 @@ SeesLegal Lawful S =
     (B : TableStart) (ws : List ℕ) (v : View) → ViewMeetsRule S Lawful B ws v
     → v.spent ≡ false → IsLegalFront S B v.seen
 
--- each eviction that a view has made has raised the durable word of its cell, at least to the word that
--- it loaded
+-- each eviction that a view has made has raised the durable word of its cell, at least to the word
+-- that it loaded
 abbrev pub EvictionsAreRaised : (List ℕ → Type 0) → Type 0
 EvictionsAreRaised Lawful =
     (S : Setup) (B : TableStart) (ws : List ℕ) (v : View) → ViewMeetsRule S Lawful B ws v
     → v.spent ≡ false → Each (IsRaised S ws) v.evicted
 
--- a member that has no open call stands for a fresh machine of its number, with as many calls behind
--- it
+-- a member that has no open call stands for a fresh machine of its number, with as many calls
+-- behind it
 abbrev pub MembersStandForFresh : {X : Type 0} → (X → Meaning) → Type 0
 MembersStandForFresh {X} meaning =
     (member : Member) (m : Machine X) → HasNoCall member
-    → m.call ≡ idle_machine (machine_setup meaning m) member.number member.made → IsMemberOf meaning member m
+    → m.call ≡ idle_machine (machine_setup meaning m) (number_of_member member)
+    (calls_of_member member)
+    → IsMemberOf meaning member m
 
 -- and one that stands for an idle machine has none open, and has begun as many
 abbrev pub IdleMembersHaveNoCall : {X : Type 0} → (X → Meaning) → Type 0
 IdleMembersHaveNoCall {X} meaning =
     (member : Member) (m : Machine X) → IsMemberOf meaning member m → m.call.place ≡ Idle
-    → HasNoCall member × (member.made ≡ m.call.made)
+    → HasNoCall member × (calls_of_member member ≡ m.call.made)
 
 -- its number is that of one of the row's callers
 abbrev pub MemberInRange : {X : Type 0} → X → Type 0
 MemberInRange {X} work =
-    (row : Row X) (member : Member) → IsSeatOf row member.seat → member.number < (key_of row).callers
+    (row : Row X) (member : Member) → IsRowMember row member
+    → number_of_member member < (key_of row).callers
 
 -- one that has just enrolled has none
 abbrev pub NewMembersHaveNoCall : {X : Type 0} → (X → Meaning) → X → Type 0
@@ -69,9 +73,11 @@ NewMembersHaveNoCall {X} meaning work =
 -- a member goes on standing for a machine that has begun a call
 abbrev pub BegunMembersStand : {X : Type 0} → (X → Meaning) → X → Type 0
 BegunMembersStand {X} meaning work =
-    (member : Member) (m now : Machine X) (op : List ℕ) → IsMemberOf meaning member m → m.call.place ≡ Idle
+    (member : Member) (m now : Machine X) (op : List ℕ) → IsMemberOf meaning member m
+    → m.call.place ≡ Idle
     → 1 ≤ length op → length op ≤ (machine_setup meaning m).instrs → m.call.made + 1 < PAYLOADS
-    → now ≡ record m { call = begin_call (machine_setup meaning m) m.call op } → IsMemberOf meaning member now
+    → now ≡ record m { call = begin_call (machine_setup meaning m) m.call op }
+    → IsMemberOf meaning member now
 
 -- a machine with the row's work and sizes runs on the row
 abbrev pub NewMachinesRun : {X : Type 0} → X → Type 0
@@ -82,4 +88,5 @@ NewMachinesRun {X} work =
 -- and goes on doing so, whatever call it holds
 abbrev pub MachinesKeepRunning : {X : Type 0} → X → Type 0
 MachinesKeepRunning {X} work =
-    (row : Row X) (m now : Machine X) (d : CallState) → RunsOnRow row m → now ≡ record m { call = d } → RunsOnRow row now
+    (row : Row X) (m now : Machine X) (d : CallState) → RunsOnRow row m
+    → now ≡ record m { call = d } → RunsOnRow row now

@@ -1,46 +1,58 @@
 -- Any moment of a row: a schedule has led to its words, and a row that stops there loses no call
 -- that was answered.
-use Rattle.std.specs.Prelude.{◌≡◌, ℕ, ◌<◌, List, [], length, false}
+use Rattle.std.specs.Prelude.{◌≡◌, ◌≢◌, ℕ, ◌<◌, List, [], length, false}
+use Rattle.std.specs.List.{All}
 use Rattle.std.proofs.Common.{get_or}
 use Rattle.atomic_table.specs.Table.{State}
 use Rattle.of_recover.specs.Recovered.{recovered_words}
 use Rattle.of_core.specs.Table.{Setup, words_before_members}
 use Rattle.of_core.specs.Machine.{Call}
-use Rattle.of_core.specs.World.{Moment, TableStart}
+use Rattle.of_core.specs.TableMoment.{Moment, TableStart}
 use Rattle.of_core.specs.Starts.{IsDurable, IsStartRow}
 use Rattle.of_core.specs.Events.{Event, IsSchedule}
 use Rattle.of_core.specs.Linear.{ExplainsOutcome, Linearizes, IsRecovered}
 use Rattle.of_row.specs.Views.{KnownCaller, View, IsSeenPrefix, Each}
-use Rattle.of_row.specs.Rule.{IsRaised, MeetsRule, ViewMeetsRule, ticket_at, ended_operation_at, outcome_at}
-use Rattle.of_row.specs.Trail.{first_of, moment, HasPast, IsRunBy, EachView}
+use Rattle.of_row.specs.Rule.{IsRaised, MeetsRule, ViewMeetsRule, EachFree}
+use Rattle.of_row.specs.Rule.{ticket_at, ended_operation_at, outcome_at}
+use Rattle.of_row.specs.Trail.{first_of, moment, HasPast, IsRunBy, HasDoneNothing, EachView}
 
--- The events lead from the row's start to this moment. A step of a member is a turn of its caller; a
--- call begins right before its first turn; an eviction is a load and, later, a raise.
-pub record IsReachedBy (S : Setup) (B : TableStart) (s : State (Unit {0}) View) (es : List Event) : Type 0 where
+-- The events lead from the row's start to this moment. A step of a member is a turn of its caller;
+-- a call begins right before its first turn; an eviction is a load and, later, a raise.
+pub record IsReachedBy (S : Setup) (B : TableStart) (s : State (Unit {0}) View) (es : List Event)
+    : Type 0 where
   pub schedule : IsSchedule S (first_of S B) es
   -- the table's own words are those that the events leave
-  pub words : (c : ℕ) → c < words_before_members S → get_or s.words c 0 ≡ get_or (moment S B es).words c 0
+  pub words : (c : ℕ) → c < words_before_members S
+      → get_or s.words c 0 ≡ get_or (moment S B es).words c 0
   -- what a pass or a member has seen is how the history begins
   pub seen : EachView (λ v. IsSeenPrefix v.seen (moment S B es).batches) s.views
   -- its past is how the events begin
   pub pasts : EachView (HasPast es) s.views
   -- each eviction that it has made has raised the durable word of its cell
   pub raised : EachView (λ v. Each (IsRaised S s.words) v.evicted) s.views
-  -- each caller that it keeps has had as many turns as it has made steps, and its calls began and ended so
+  -- each caller that it keeps has had as many turns as it has made steps, and its calls began and
+  -- ended so
   pub callers : EachView (λ v. Each (IsRunBy S B es) v.kept) s.views
+  -- a number that isn't taken has done nothing
+  pub free : EachFree S s.words (HasDoneNothing es)
 
 -- the order has each call of the caller that was answered, with its reply, and none that was spent
 abbrev pub ExplainsEndedCalls : Setup → TableStart → (order : List Call) → KnownCaller → Type 0
 ExplainsEndedCalls S B order x =
     (y : ℕ) → y < length x.ended
-    → ExplainsOutcome S order x.machine.caller (ticket_at S B x y) (ended_operation_at x.ended y) (outcome_at x.ended y)
+    → ExplainsOutcome S order x.machine.caller (ticket_at S B x y)
+    (ended_operation_at x.ended y) (outcome_at x.ended y)
+
+-- no call of the order is this caller's
+abbrev pub HasNoneOf : List Call → (caller : ℕ) → Type 0
+HasNoneOf order i = All (λ (c : Call). c.caller ≢ i) order
 
 -- a world with these words, and nothing else
 abbrev pub words_alone : List ℕ → Moment
 words_alone ws = record { words = ws; machines = []; batches = []; reads = []; loaded = [] }
 
--- What a row leaves that stops at this moment: one serial order of calls explains how all calls have
--- ended, and recovery of the row's words as they are finds what that order leads to.
+-- What a row leaves that stops at this moment: one serial order of calls explains how all calls
+-- have ended, and recovery of the row's words as they are finds what that order leads to.
 pub record LosesNothing (S : Setup) (Lawful : List ℕ → Type 0) (B : TableStart)
     (s : State (Unit {0}) View) : Type 0 where
   pub events : List Event
@@ -58,15 +70,18 @@ pub record LosesNothing (S : Setup) (Lawful : List ℕ → Type 0) (B : TableSta
 -- at each moment that meets the row's rule, as each does between any two steps on it
 abbrev pub StopsLoseNothing : (List ℕ → Type 0) → Setup → Type 0
 StopsLoseNothing Lawful S =
-    (B : TableStart) (s : State (Unit {0}) View) → MeetsRule S Lawful B s → LosesNothing S Lawful B s
+    (B : TableStart) (s : State (Unit {0}) View) → MeetsRule S Lawful B s
+    → LosesNothing S Lawful B s
 
--- What the words of a closed row hold of the calls of a pass with this view: one serial order has them
--- as they ended, recovery of the words finds what that order leads to, and from the row that it makes
--- a table may start.
-pub record HoldsCalls (S : Setup) (Lawful : List ℕ → Type 0) (B : TableStart) (ws : List ℕ) (v : View)
-    : Type 0 where
+-- What the words of a closed row hold of the calls of a pass with this view: one serial order has
+-- them as they ended, recovery of the words finds what that order leads to, and from the row that
+-- it makes a table may start.
+pub record HoldsCalls (S : Setup) (Lawful : List ℕ → Type 0) (B : TableStart) (ws : List ℕ)
+    (v : View) : Type 0 where
   pub order : List Call
   pub explained : Each (ExplainsEndedCalls S B order) v.kept
+  -- none of its calls is of a number that isn't taken
+  pub free : EachFree S ws (HasNoneOf order)
   pub recovered_so : IsRecovered S B (words_alone ws) order
   pub restarts : (row : List ℕ) → IsDurable S ws row
       → IsStartRow S Lawful (recovered_words S.callers S.cells row)

@@ -7,9 +7,9 @@ use Rattle.of_mem.specs.Meaning.{Meaning}
 use Rattle.of_core.specs.declared.place.Op.{Op}
 use Rattle.of_core.specs.declared.place.Op.TheVariants.{Load, Store, Exchange, Raise}
 use Rattle.of_core.specs.Steps.{word_of, word_left}
-use Rattle.of_core.specs.World.{TableStart}
-use Rattle.of_core.specs.Seen.{Machine}
-use Rattle.of_row.specs.declared.view.Key.{Key}
+use Rattle.of_core.specs.TableMoment.{TableStart}
+use Rattle.of_core.specs.MachineValue.{Machine}
+use Rattle.of_row.specs.declared.view.RowKey.{RowKey}
 use Rattle.of_row.specs.declared.view.View.{View}
 use Rattle.of_row.specs.Rule.{MeetsRule}
 use Rattle.of_row.specs.Keys.{FitsWork, key_setup, key_start}
@@ -25,7 +25,7 @@ number_given (Raise c v) n = n
 -- the seat is at this table, the word is there, and the rule allows the step on it: whatever the
 -- words are, it keeps the rule with a view that is turned as the machine is
 abbrev pub Takes : {W : Type 0} → (many size : W → ℕ) → (W → Meaning) → (W → List ℕ → Type 0)
-    → TableStart → Option (Machine W) → Key W → TableId → Seat (Unit {0}) View → Op → Type 0
+    → TableStart → Option (Machine W) → RowKey W → TableId → Seat (Unit {0}) View → Op → Type 0
 Takes many size meaning lawful B m key table seat op =
     (seat.table_id ≡ table) × (word_of op < table.words)
     × Allows (λ s. FitsWork many size key

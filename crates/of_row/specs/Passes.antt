@@ -1,4 +1,5 @@
--- What passes are told: of a number that they asked for, of a cell that they evicted, and at the end.
+-- What passes are told: of a number that they asked for, of a cell that they evicted, and at the
+-- end.
 use Rattle.std.specs.Prelude.{◌≡◌, ℕ, List}
 use Rattle.std.specs.Int.{bit_at}
 use Rattle.of_mem.specs.Meaning.{Meaning}
@@ -7,45 +8,53 @@ use Rattle.of_row.specs.declared.member.Pass.{Pass}
 use Rattle.of_row.specs.declared.member.Taken.{Taken}
 use Rattle.of_row.specs.declared.row.Row.{Row}
 use Rattle.of_row.specs.Views.{KnownCaller, first_view, seen_seq}
-use Rattle.of_row.specs.Rule.{HasOwn, IsLegalFront, IsAsked, ViewMeetsRule, done_before}
+use Rattle.of_row.specs.Rule.{HasOwn, IsAsked, ViewMeetsRule, done_before}
 use Rattle.of_row.specs.Turned.{after_ask, after_number_given, new_known_caller, last_alone, after_fetch, after_evict}
-use Rattle.of_row.specs.Rows.{key_of, setup_at, row_start, IsSeatOf}
+use Rattle.of_row.specs.Rows.{key_of, setup_at, row_start, view_of_pass, view_of_member}
+use Rattle.of_row.specs.Rows.{number_of_member, calls_of_member, IsRowPass, IsRowMember, HasSeenLegal}
 
 -- whoever has the number n now has made no call on this row, and has seen what this pass had
 abbrev pub enrolled_caller : {W : Type 0} → (W → Meaning) → Row W → ℕ → Pass → KnownCaller
 enrolled_caller meaning r n p =
-    new_known_caller (setup_at meaning r) (row_start meaning r) n (seen_seq (row_start meaning r) p.seat.me.0.seen)
+    new_known_caller (setup_at meaning r) (row_start meaning r) n
+    (seen_seq (row_start meaning r) (view_of_pass p).seen)
 
 -- the pass is the row's first one, which has made no step
 abbrev pub IsFirst : {W : Type 0} → Row W → Pass → Type 0
-IsFirst r p = IsSeatOf r p.seat × (p.seat.me.0 ≡ first_view)
+IsFirst r p = IsRowPass r p × (view_of_pass p ≡ first_view)
 
--- The number n is taken: the word found has its bit. This pass had asked for it already, and has the word
--- in its list.
+-- The number n is taken: the word found has its bit. This pass had asked for it already, and has
+-- the word in its list.
 abbrev pub NumberIsRefused : {W : Type 0} → Row W → ℕ → (before now : Pass) → Taken → Type 0
 NumberIsRefused r n before now taken =
-    IsSeatOf r now.seat × (bit_at taken.members n ≡ 1) × IsAsked n before.seat.me.0.asked
-    × (now.seat.me.0 ≡ after_ask n taken.members before.seat.me.0)
+    IsRowPass r now × (bit_at taken.members n ≡ 1) × IsAsked n (view_of_pass before).asked
+    × (view_of_pass now ≡ after_ask n taken.members (view_of_pass before))
 
--- The number n was free in the word found, and now a member has it that has seen what the pass has, and
--- has made no call on this row.
-pub record HasEnrolled {W : Type 0} (meaning : W → Meaning) (r : Row W) (n : ℕ) (before : Pass) (member : Member) (now : Pass) : Type 0 where
-  pub at_row : IsSeatOf r member.seat × IsSeatOf r now.seat
-  pub number : member.number ≡ n
-  pub made : member.made ≡ done_before (setup_at meaning r) (row_start meaning r) n
+-- The number n was free in the word found, and now a member has it that has seen what the pass has,
+-- and has made no call on this row.
+pub record HasEnrolled {W : Type 0} (meaning : W → Meaning) (r : Row W) (n : ℕ) (before : Pass)
+    (member : Member) (now : Pass) : Type 0 where
+  pub at_row : IsRowMember r member × IsRowPass r now
+  pub number : number_of_member member ≡ n
+  pub made : calls_of_member member ≡ done_before (setup_at meaning r) (row_start meaning r) n
   pub found : ℕ
   pub free : bit_at found n ≡ 0
-  pub member_is : member.seat.me.0
-      ≡ last_alone (after_number_given (setup_at meaning r) (row_start meaning r) n found before.seat.me.0)
-  pub pass_is : now.seat.me.0 ≡ after_ask n found before.seat.me.0
-  pub own : HasOwn (setup_at meaning r) (row_start meaning r) before.seat.me.0.seen (enrolled_caller meaning r n before)
-  pub legal : IsLegalFront (setup_at meaning r) (row_start meaning r) before.seat.me.0.seen
+  pub member_is : view_of_member member
+      ≡ last_alone (after_number_given (setup_at meaning r) (row_start meaning r) n found
+      (view_of_pass before))
+  pub pass_is : view_of_pass now ≡ after_ask n found (view_of_pass before)
+  pub own : HasOwn (setup_at meaning r) (row_start meaning r) (view_of_pass before).seen
+      (enrolled_caller meaning r n before)
+  pub legal : HasSeenLegal meaning r (view_of_pass before)
 
 -- the pass has evicted the cell: it loaded it, and raised its durable word to what it loaded
 abbrev pub HasEvicted : ℕ → (before now : Pass) → Type 0
-HasEvicted cell before now = (n : ℕ) × (now.seat.me.0 ≡ after_evict (after_fetch cell n before.seat.me.0))
+HasEvicted cell before now =
+    (n : ℕ) × (view_of_pass now ≡ after_evict (after_fetch cell n (view_of_pass before)))
 
 -- the words meet the row's rule, and so does what the pass knew
-abbrev pub ClosesWith : {W : Type 0} → (W → Meaning) → (W → List ℕ → Type 0) → Row W → Pass → List ℕ → Type 0
+abbrev pub ClosesWith : {W : Type 0} → (W → Meaning) → (W → List ℕ → Type 0) → Row W → Pass → List ℕ
+    → Type 0
 ClosesWith meaning lawful r p ws =
-    ViewMeetsRule (setup_at meaning r) (lawful (key_of r).work) (row_start meaning r) ws p.seat.me.0
+    ViewMeetsRule (setup_at meaning r) (lawful (key_of r).work) (row_start meaning r) ws
+    (view_of_pass p)

@@ -1,12 +1,13 @@
 -- The raises of a run are short. While something is about to raise a durable word, no event puts a
--- lower word there. So the loop that makes the raise, of a load and an exchange, fails at most once.
+-- lower word there. So the loop that makes the raise, of a load and an exchange, fails at most
+-- once.
 use Rattle.std.specs.Prelude.{◌≡◌, ◌≢◌, ℕ, ◌≤◌, ◌<◌, List, length}
 use Rattle.std.proofs.Common.{get_or, take, drop}
 use Rattle.atomic_table.specs.Table.{State}
 use Rattle.of_core.specs.declared.place.Op.TheVariants.{Raise}
 use Rattle.of_core.specs.Table.{Setup, cell_count, durable_at, durable_word}
 use Rattle.of_core.specs.Steps.{want}
-use Rattle.of_core.specs.World.{Moment, TableStart}
+use Rattle.of_core.specs.TableMoment.{Moment, TableStart}
 use Rattle.of_core.specs.Events.{Event, machine_in}
 use Rattle.of_core.specs.Raised.{lower_changes}
 use Rattle.of_row.specs.Views.{View}

@@ -6,7 +6,8 @@ ghost use Rattle.of_core.specs.Laws.{setup_for};
 ghost use Rattle.of_row.specs.Runs.{RunsAreSchedules, RunsAreLinearizable};
 ghost use Rattle.of_row.specs.Moments.{StopsLoseNothing, ClosedHoldsCalls};
 ghost use Rattle.of_row.specs.ShortRaises.{MomentsHaveShortRaises, RunsHaveShortRaises};
-ghost use Rattle.of_row.specs.Laws.{MembersStandForFresh, IdleMembersHaveNoCall, MemberInRange, NewMembersHaveNoCall, BegunMembersStand};
+ghost use Rattle.of_row.specs.Laws.{MembersStandForFresh, IdleMembersHaveNoCall, MemberInRange};
+ghost use Rattle.of_row.specs.Laws.{NewMembersHaveNoCall, BegunMembersStand};
 
 use crate::protocol::protocol;
 use of_core::laws::{every_moment, every_order, starts, step_kept};
@@ -34,8 +35,8 @@ pub fn evictions_are_raised<W: Work>(work: W)
     ensures { EvictionsAreRaised (W.lawful work) }
 {}
 
-/// When a member stands for a machine: while it has no open call, as at first, for a fresh one of its
-/// number, and on from the begin of a call.
+/// When a member stands for a machine: while it has no open call, as at first, for a fresh one of
+/// its number, and on from the begin of a call.
 pub fn members<W: Work>(work: W)
     ensures fresh { MembersStandForFresh W.meaning }
     ensures range { MemberInRange work }
@@ -55,8 +56,8 @@ pub fn machines<W: Work>(work: W)
     ensures begun { MachinesKeepRunning work }
 {}
 
-/// A run of threads is a schedule: the words of a closed row, and what its first pass keeps if it keeps
-/// every number that is taken, are what the events of some schedule leave.
+/// A run of threads is a schedule: the words of a closed row, and what its first pass keeps if it
+/// keeps every number that is taken, are what the events of some schedule leave.
 pub fn runs_are_schedules<W: Work>(limit: u32, work: W)
     ensures { RunsAreSchedules (W.lawful work) (setup_for W.many W.size W.meaning limit work) }
 {
@@ -73,10 +74,10 @@ pub fn runs_are_linearizable<W: Work>(limit: u32, work: W)
     every_order(limit, work);
 }
 
-/// A row that stops between any two steps loses no call that was answered: a schedule leaves its words
-/// as they are then, one serial order of calls explains how all calls have ended, and recovery of the
-/// words finds what that order leads to. So it is of the words of a closed row, for all calls that its
-/// pass keeps.
+/// A row that stops between any two steps loses no call that was answered: a schedule leaves its
+/// words as they are then, one serial order of calls explains how all calls have ended, and
+/// recovery of the words finds what that order leads to. So it is of the words of a closed row, for
+/// all calls that its pass keeps.
 pub fn stops_lose_nothing<W: Work>(limit: u32, work: W)
     ensures stops { StopsLoseNothing (W.lawful work)
         (setup_for W.many W.size W.meaning limit work) }
@@ -88,10 +89,10 @@ pub fn stops_lose_nothing<W: Work>(limit: u32, work: W)
     starts(limit, work);
 }
 
-/// The raises of a run are short. While a caller or an eviction is about to raise a durable word, no
-/// event puts a lower word there. So the loop of a load and an exchange that makes the raise fails at
-/// most once. It is so up to each moment between two steps on a row, with evictions as they came, and
-/// in the schedule that the run of a closed row is, with evictions made at once.
+/// The raises of a run are short. While a caller or an eviction is about to raise a durable word,
+/// no event puts a lower word there. So the loop of a load and an exchange that makes the raise
+/// fails at most once. It is so up to each moment between two steps on a row, with evictions as
+/// they came, and in the schedule that the run of a closed row is, with evictions made at once.
 pub fn raises_are_short<W: Work>(limit: u32, work: W)
     ensures moments { MomentsHaveShortRaises (W.lawful work)
         (setup_for W.many W.size W.meaning limit work) }

@@ -25,16 +25,18 @@ pub struct Member {
 }
 
 impl Member {
+    ghost use Rattle.of_row.specs.Rows.{number_of_member, calls_of_member};
+
     /// The caller's number.
     pub fn number(&self) -> u32
-        ensures { result ≡ self.now.number }
+        ensures { result ≡ number_of_member self.now }
     {
         self.number
     }
 
     /// How many calls of its number have made a step, those before the start with them.
     pub fn made(&self) -> u32
-        ensures { result ≡ self.now.made }
+        ensures { result ≡ calls_of_member self.now }
     {
         self.made
     }

@@ -2,8 +2,8 @@
 
 ghost use Rattle.of_row.specs.OnTable.{Takes, TurnsSeat};
 
-use crate::plays::{Law, Told, Turn};
-use crate::view::{Key, View};
+use crate::rule_steps::{RowRule, StepArgs, StepPlay};
+use crate::view::{RowKey, View};
 use atomic_table::{Seat, Shared};
 use of_core::Performer;
 use of_mem::Work;
@@ -12,11 +12,11 @@ use std::marker::PhantomData;
 /// Makes the steps of the machine that is told on the table.
 #[derive(Drop)]
 pub(crate) struct OnTable<'a, W: Work, O> {
-    pub(crate) shared: &'a Shared<(), View, Key<W>, Law<W>>,
+    pub(crate) shared: &'a Shared<(), View, RowKey<W>, RowRule<W>>,
     pub(crate) told: PhantomData<O>,
 }
 
-impl<'a, W: Work, O: Told<W>> Performer for OnTable<'a, W, O> {
+impl<'a, W: Work, O: StepArgs<W>> Performer for OnTable<'a, W, O> {
     type Given = u64;
 
     type Hand = Seat<(), View>;
@@ -29,24 +29,25 @@ impl<'a, W: Work, O: Told<W>> Performer for OnTable<'a, W, O> {
 
     #[inline(always)]
     fn load(&self, hand: &mut Seat<(), View>, word: u32) -> u64 {
-        self.shared.load::<Turn<W, O>>(hand, word as usize)
+        self.shared.load::<StepPlay<W, O>>(hand, word as usize)
     }
 
     #[inline(always)]
     fn store(&self, hand: &mut Seat<(), View>, word: u32, value: u64) -> u64 {
-        self.shared.store::<Turn<W, O>>(hand, word as usize, value);
+        self.shared
+            .store::<StepPlay<W, O>>(hand, word as usize, value);
         value
     }
 
     #[inline(always)]
     fn exchange(&self, hand: &mut Seat<(), View>, word: u32, old: u64, new: u64) -> u64 {
         self.shared
-            .compare_exchange::<Turn<W, O>>(hand, word as usize, old, new)
+            .compare_exchange::<StepPlay<W, O>>(hand, word as usize, old, new)
     }
 
     #[inline(always)]
     fn raise(&self, hand: &mut Seat<(), View>, word: u32, value: u64) -> u64 {
         self.shared
-            .fetch_max::<Turn<W, O>>(hand, word as usize, value)
+            .fetch_max::<StepPlay<W, O>>(hand, word as usize, value)
     }
 }

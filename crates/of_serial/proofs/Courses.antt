@@ -1,22 +1,22 @@
 -- Calls that run one after another: one more call, and the calls of one more caller up to the limit.
-use Rattle.std.proofs.Common.{◌≡◌, ℕ, zero, suc, ◌+◌, ◌-◌, ◌<◌, ◌≤◌, ◌⊎◌, inl, inr, min, cond, eqb, List, [], ◌∷◌, ◌++◌, length, get_or, map, take, refl, sym, ap, ◌∙◌, arith, add-zero, zero-add, add-one, append_assoc, length-append}
+use Rattle.std.proofs.Common.{◌≡◌, ℕ, zero, suc, ◌+◌, ◌-◌, ◌<◌, ◌≤◌, ◌⊎◌, inl, inr, min, cond, eqb, Bool, List, [], ◌∷◌, ◌++◌, length, get_or, map, take, refl, sym, ap, ◌∙◌, arith, add-zero, zero-add, add-one, append_assoc, length-append}
 use Rattle.std.specs.List.{enumerate_from, zip, flat_map, range_with_len}
 use Rattle.std.proofs.lemmas.List.{length-map, map-append, append-nil, get_or-take, get_or_default, take_all}
 use Rattle.std.proofs.lemmas.Grind.{flat_map-append}
 use Rattle.std.proofs.lemmas.List.FromFn.{map-range_with_len_more, take-map-range_with_len, length-map-range_with_len}
 use Rattle.of_script.specs.declared.instr.Instr.{Instr}
-use Rattle.of_store.specs.State.{Store, Reply, run, empty_store, replies_in_order, last_store}
+use Rattle.of_store.specs.Store.{Store, Reply, run, empty_store, replies_in_order, last_store}
 use Rattle.of_plan.specs.Plan.{Plan, scripts_of}
-use Rattle.of_plan.specs.Report.{Entry}
+use Rattle.of_plan.specs.Report.{Entry, Line}
 use Rattle.of_plan.specs.Serial.{CallId, called_script, calls_of, serial_calls, serial_entry, serial_line, serial_report}
 use Rattle.of_plan.proofs.SerialEntries.{length-replies}
-use Rattle.of_serial.specs.Replay.{HasComeTo, after_call, course_after}
-use Rattle.of_serial.specs.declared.replay.Replay.{Replay}
-use Rattle.of_report.specs.declared.report.Entry.{Entry as RustEntry}
+use Rattle.of_serial.specs.SerialRun.{HasComeTo, after_call, course_after, calls_within}
+use Rattle.of_serial.specs.declared.serial_run.SerialRun.{SerialRun as RustSerialRun}
 use Rattle.of_report.specs.declared.report.Report.{Report}
 use Rattle.of_report.specs.Report.{entry_value, line_value, report_value}
 use Rattle.std.specs.Prelude.{count_by}
-use Rattle.std.proofs.lemmas.List.Sums.{sum_by-cons}
+use Rattle.std.proofs.lemmas.List.Sums.{sum_by-append, sum_by-cons}
+use Rattle.std.proofs.lemmas.Bool.{eq-eqb, ne_eqb}
 
 entries_more : (n : ℕ) (calls : List CallId) (rs : List Reply) (call : CallId) (r : Reply) → length rs ≡ length calls
     → map serial_entry (enumerate_from n (zip (calls ++ call ∷ []) (rs ++ r ∷ []))) ≡ map serial_entry (enumerate_from n (zip calls rs)) ++ serial_entry (n + length calls, (call, r)) ∷ []
@@ -112,48 +112,91 @@ take_at_most xs n i e = elim (le_or_more n (length xs)) [
 pub length-calls_of : (p : Plan) (c : ℕ) → length (calls_of p c) ≡ length (scripts_of p c)
 length-calls_of p c = length-map-range_with_len (λ j. (c, j)) 0 (length (scripts_of p c))
 
-entries_length : (n : ℕ) (calls : List CallId) (rs : List Reply) → length rs ≡ length calls → length (map serial_entry (enumerate_from n (zip calls rs))) ≡ length calls
-entries_length n [] [] same = refl
-entries_length n [] (r ∷ rs) same = absurd (omega arith)
-entries_length n (c ∷ cs) [] same = absurd (omega arith)
-entries_length n (c ∷ cs) (r ∷ rs) same = ap suc (entries_length (n + 1) cs rs (omega arith))
+-- ---- the lines of the callers
 
-reply_each : (p : Plan) (calls : List CallId) → length (replies_in_order (empty_store p.blocks) (map (called_script p) calls)) ≡ length calls
-reply_each p calls = length-replies (empty_store p.blocks) (map (called_script p) calls) ∙ length-map calls (called_script p)
+-- the calls of the first callers that are within the limit
+abbrev pub run_below : Plan → ℕ → List CallId
+run_below p n = take p.limit (calls_below p n)
 
--- each call has an entry
-pub entry_each : (p : Plan) (calls : List CallId) (replay : Replay) → HasComeTo replay (course_after p calls) → length replay.entries.items ≡ replay.seq
-entry_each p calls replay has =
-    sym (length-map replay.entries.items entry_value) ∙ ap length has.entries ∙ entries_length 1 calls _ (reply_each p calls) ∙ sym has.seq
+-- how many of some calls are a caller's
+abbrev calls_by : ℕ → List CallId → ℕ
+calls_by c calls = count_by (λ (call : CallId). eqb call.0 c) calls
 
-counted_entries : (c : ℕ) (es : List RustEntry) → count_by (λ (e : RustEntry). eqb e.caller c) es ≡ count_by (λ (e : Entry). eqb e.caller c) (map entry_value es)
-counted_entries c [] = refl
-counted_entries c (e ∷ es) =
-    sum_by-cons (λ (e : RustEntry). cond (eqb e.caller c) 1 0) e es ∙ ap (λ (n : ℕ). cond (eqb e.caller c) 1 0 + n) (counted_entries c es)
-    ∙ sym (sum_by-cons (λ (e : Entry). cond (eqb e.caller c) 1 0) (entry_value e) (map entry_value es))
+calls_by_append : (c : ℕ) (xs ys : List CallId) → calls_by c (xs ++ ys) ≡ calls_by c xs + calls_by c ys
+calls_by_append c xs ys = sum_by-append (λ (call : CallId). cond (eqb call.0 c) 1 0) xs ys
 
-counted_calls : (c n : ℕ) (calls : List CallId) (rs : List Reply) → length rs ≡ length calls
-    → count_by (λ (e : Entry). eqb e.caller c) (map serial_entry (enumerate_from n (zip calls rs))) ≡ count_by (λ (call : CallId). eqb call.0 c) calls
-counted_calls c n [] [] same = refl
-counted_calls c n [] (r ∷ rs) same = absurd (omega arith)
-counted_calls c n (call ∷ cs) [] same = absurd (omega arith)
-counted_calls c n (call ∷ cs) (r ∷ rs) same =
-    sum_by-cons (λ (e : Entry). cond (eqb e.caller c) 1 0) (serial_entry (n, (call, r))) (map serial_entry (enumerate_from (n + 1) (zip cs rs)))
-    ∙ ap (λ (m : ℕ). cond (eqb call.0 c) 1 0 + m) (counted_calls c (n + 1) cs rs (omega arith))
-    ∙ sym (sum_by-cons (λ (call : CallId). cond (eqb call.0 c) 1 0) call cs)
+-- the calls of a caller with these numbers
+abbrev calls_from : ℕ → List ℕ → List CallId
+calls_from c is = map (λ i. (c, i)) is
 
--- a caller has as many entries as calls
-pub entries_of_caller : (p : Plan) (calls : List CallId) (replay : Replay) (c : ℕ) → HasComeTo replay (course_after p calls)
-    → count_by (λ (e : RustEntry). eqb e.caller c) replay.entries.items ≡ count_by (λ (call : CallId). eqb call.0 c) calls
-entries_of_caller p calls replay c has =
-    counted_entries c replay.entries.items ∙ ap (count_by (λ (e : Entry). eqb e.caller c)) has.entries ∙ counted_calls c 1 calls _ (reply_each p calls)
+-- all of its own
+own_calls : (c m : ℕ) (is : List ℕ) → calls_by c (take m (calls_from c is)) ≡ length (take m (calls_from c is))
+own_calls c zero [] = refl
+own_calls c (suc m) [] = refl
+own_calls c zero (i ∷ is) = refl
+own_calls c (suc m) (i ∷ is) =
+    let rest : List CallId = take m (calls_from c is) in
+    omega (arith, sum_by-cons (λ (call : CallId). cond (eqb call.0 c) 1 0) (c, i) rest, ap {B = ℕ} (λ (b : Bool). cond b 1 0) (eq-eqb c c refl), own_calls c m is)
+
+-- and none of another's
+other_calls : (c d m : ℕ) (is : List ℕ) → (d ≡ c → ⊥) → calls_by c (take m (calls_from d is)) ≡ 0
+other_calls c d zero [] n = refl
+other_calls c d (suc m) [] n = refl
+other_calls c d zero (i ∷ is) n = refl
+other_calls c d (suc m) (i ∷ is) n =
+    let rest : List CallId = take m (calls_from d is) in
+    omega (arith, sum_by-cons (λ (call : CallId). cond (eqb call.0 c) 1 0) (d, i) rest, ap {B = ℕ} (λ (b : Bool). cond b 1 0) (ne_eqb d c n), other_calls c d m is n)
+
+-- so none of those of the callers before it
+calls_before : (p : Plan) (c m k : ℕ) → k ≤ c → calls_by c (take m (calls_below p k)) ≡ 0
+calls_before p c zero zero le = refl
+calls_before p c (suc m) zero le = refl
+calls_before p c m (suc k) le =
+    let old : List CallId = take m (calls_below p k) in
+    let new : List CallId = take (m - length old) (calls_of p k) in
+    let both : take m (calls_below p (suc k)) ≡ old ++ new =
+    ap (λ (n : ℕ). take m (calls_below p n)) (sym (add-one k)) ∙ ap (take m) (calls_more p k) ∙ take_of_two m (calls_below p k) (calls_of p k) in
+    let none : calls_by c new ≡ 0 = other_calls c k (m - length old) (range_with_len 0 (length (scripts_of p k))) (λ same. absurd (omega (arith, same, le))) in
+    omega (arith, ap (calls_by c) both, calls_by_append c old new, calls_before p c m k (omega (arith, le)), none)
+
+-- the line of a caller, after some calls
+abbrev line_after : Plan → List CallId → ℕ → Line
+line_after p calls c = serial_line (calls_by c calls) (length (scripts_of p c))
+
+-- the lines of the first callers
+abbrev pub lines_below : Plan → ℕ → List Line
+lines_below p n = map (line_after p (run_below p n)) (range_with_len 0 n)
+
+same_in_range : (f g : ℕ → Line) (a n : ℕ) → ((d : ℕ) → d < a + n → f d ≡ g d) → map f (range_with_len a n) ≡ map g (range_with_len a n)
+same_in_range f g a zero same = refl
+same_in_range f g a (suc n) same =
+    let first : f a ≡ g a = same a (omega arith) in
+    let rest = same_in_range f g (a + 1) n (λ d l. same d (omega (arith, l))) in
+    λ i. first i ∷ rest i
+
+-- one caller more, which has run so many scripts
+pub lines_more : (p : Plan) (n : ℕ) → lines_below p (n + 1) ≡ lines_below p n ++ serial_line (length (calls_within p (length (run_below p n)) n)) (length (scripts_of p n)) ∷ []
+lines_more p n =
+    let old : List CallId = run_below p n in
+    let left : ℕ = p.limit - length old in
+    let new : List CallId = take left (calls_of p n) in
+    let all : List CallId = run_below p (n + 1) in
+    let both : all ≡ old ++ new = sym (one_more_caller p n) in
+    let numbers : List ℕ = range_with_len 0 (length (scripts_of p n)) in
+    let before : (d : ℕ) → d < 0 + n → line_after p all d ≡ line_after p old d = λ d l.
+    let none : calls_by d new ≡ 0 = other_calls d n left numbers (λ same. absurd (omega (arith, same, l))) in
+    let count : calls_by d all ≡ calls_by d old = omega (arith, ap (calls_by d) both, calls_by_append d old new, none) in
+    ap (λ (m : ℕ). serial_line m (length (scripts_of p d))) count in
+    let own : calls_by n all ≡ length new =
+    omega (arith, ap (calls_by n) both, calls_by_append n old new, calls_before p n p.limit n (omega arith), own_calls n left numbers) in
+    map-range_with_len_more (line_after p all) 0 n n (zero-add n)
+    ∙ (λ i. same_in_range (line_after p all) (line_after p old) 0 n before i ++ serial_line (own i) (length (scripts_of p n)) ∷ [])
 
 -- what was made caller by caller is the report
-pub report_made : (p : Plan) (replay : Replay) (report : Report) → HasComeTo replay (course_after p (serial_calls p))
-    → map line_value report.callers.items ≡ map (λ c. serial_line (count_by (λ (e : RustEntry). eqb e.caller c) replay.entries.items) (length (scripts_of p c))) (range_with_len 0 p.callers)
-    → report.entries.items ≡ replay.entries.items → report.seq ≡ replay.seq → report.store ≡ (course_after p (serial_calls p)).store → report_value report ≡ serial_report p
-report_made p replay report has lines same_entries same_seq store =
+pub report_made : (p : Plan) (run : RustSerialRun) (report : Report) → HasComeTo run (course_after p (serial_calls p))
+    → map line_value report.callers.items ≡ lines_below p p.callers
+    → report.entries.items ≡ run.entries.items → report.seq ≡ run.seq → report.store ≡ (course_after p (serial_calls p)).store → report_value report ≡ serial_report p
+report_made p run report has lines same_entries same_seq store =
     let entries = ap (map entry_value) same_entries ∙ has.entries in
-    let callers = lines ∙ (λ i. map (λ c. serial_line (entries_of_caller p (serial_calls p) replay c has i) (length (scripts_of p c))) (range_with_len 0 p.callers)) in
     let seq = same_seq ∙ has.seq in
-    λ i. record { entries = entries i; callers = callers i; seq = seq i; store = store i }
+    λ i. record { entries = entries i; callers = lines i; seq = seq i; store = store i }

@@ -5,8 +5,8 @@ use Rattle.std.proofs.lemmas.Option.{none-some}
 use Rattle.std.proofs.Math.Seq.{take-append_seam}
 use Rattle.std.proofs.lemmas.List.{set-set, set_comm, map-set, map-append, length-map, length-replicate, get_or-set_other, take_all, take_more}
 use Rattle.of_mem.specs.declared.work.RawReply.{RawReply}
-use Rattle.of_mem.specs.Pairs.{value_for, put_pair, put_all}
-use Rattle.of_mem.specs.Pad.{Part, newest_at, newer_of, overlaid}
+use Rattle.of_mem.specs.CellMap.{value_for, put_pair, put_all}
+use Rattle.of_mem.specs.Part.{Part, newest_at, newer_of, overlaid}
 use Rattle.of_mem.specs.Places.{ticket_cell_at, shape_at}
 use Rattle.of_mem.specs.Meaning.{WalkEnd, Needs, Gives, Agrees, WalkFits, IsFinishedWalk, with_writes_in}
 use Rattle.of_mem.specs.ProgramWork.{memory_of}
@@ -16,7 +16,7 @@ use Rattle.of_script.specs.declared.instr.Instr.{Instr}
 use Rattle.of_script.specs.declared.instr.Reply.{Reply as RustReply}
 use Rattle.of_script.specs.declared.instr.TheConstants.{MOST_INSTRS}
 use Rattle.of_script.specs.Language.{IsScript, instr_word}
-use Rattle.of_store.specs.State.{Store, Reply, empty_store, run}
+use Rattle.of_store.specs.Store.{Store, Reply, empty_store, run}
 use Rattle.of_store.specs.Replies.{reply_value_of}
 use Rattle.of_eval.specs.declared.scripts.Scripts.{Scripts}
 use Rattle.of_eval.specs.Stored.{IsStored}
@@ -27,8 +27,8 @@ use Rattle.of_eval.specs.SoundScripts.{scripts_sound, empty_is_stored}
 use Rattle.of_eval.specs.Means.{DoesOperation}
 use Rattle.of_eval.specs.Lawful.{OwnCellsAreSound, DataCellsStandFor}
 use Rattle.of_eval.proofs.Meanings.{means_words, words_mean_script}
-use Rattle.of_serial.specs.declared.replay.cells.Cells.{Cells}
-use Rattle.of_serial.specs.Replay.{CellsHoldStore}
+use Rattle.of_serial.specs.declared.serial_run.cells.Cells.{Cells}
+use Rattle.of_serial.specs.SerialRun.{CellsHoldStore}
 use Rattle.of_serial.proofs.HeldReplies.{held_reply, said_reply}
 
 -- the batch's last write counts

@@ -1,6 +1,6 @@
 //! The serial report of a plan: its scripts one after another, over known cells.
 #![tactic(auto)]
 
-mod replay;
+mod serial_run;
 
-pub use replay::serial;
+pub use serial_run::serial;

@@ -16,7 +16,7 @@ use Rattle.of_script.specs.Language.{IsInstrInRange, greatest}
 use Rattle.of_script.specs.declared.instr.Reply.{Reply}
 use Rattle.of_script.specs.declared.instr.Abort.{Abort}
 use Rattle.of_store.specs.Replies.{response_with, reply_value_of}
-use Rattle.of_store.specs.State.{Store, IsState, InstrEffect, ScriptOutcome, instr_effect, outcome_of_script, run, run_result, pop_effect, queue, register, with_register, with_key, with_queue}
+use Rattle.of_store.specs.Store.{Store, IsState, InstrEffect, ScriptOutcome, instr_effect, outcome_of_script, run, run_result, pop_effect, queue, register, with_register, with_key, with_queue}
 use Rattle.of_store.proofs.Keeps.{nat_same}
 use Rattle.of_store.specs.declared.change.Change.{Change}
 use Rattle.of_store.specs.declared.change.Change.TheVariants.{Nothing, Register, Key, Pushed}

@@ -9,7 +9,7 @@ use Rattle.std.proofs.lemmas.Bool.Decides.{leb_tells}
 use Rattle.of_script.specs.Language.{greatest}
 use Rattle.of_script.specs.declared.instr.Instr.TheVariants.{Put, Del, DropBelow}
 use Rattle.of_script.specs.declared.instr.Cause.TheVariants.{NoRoom}
-use Rattle.of_store.specs.State.{Store, InstrEffect, instr_effect, stored_count, keys_from}
+use Rattle.of_store.specs.Store.{Store, InstrEffect, instr_effect, stored_count, keys_from}
 
 pub put_full : (s : Store) (k v : ℕ) → fm.get s.keys k ≡ None → s.room ≤ stored_count s → instr_effect s (Put k v) ≡ Err NoRoom
 put_full s k v e full = rw (e, le-leb _ _ full) refl

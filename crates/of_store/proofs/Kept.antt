@@ -7,7 +7,7 @@ use Rattle.std.specs.Ordering.{nat_cmp}
 use Rattle.std.specs.Cmp.{nat_cmp_total}
 use Rattle.std.specs.Option.{option_to_list}
 use Rattle.std.proofs.lemmas.List.Sums.{sum_by-set}
-use Rattle.of_store.specs.State.{Store, queue, stored_count, with_key, without_key, with_queue, empty_store}
+use Rattle.of_store.specs.Store.{Store, queue, stored_count, with_key, without_key, with_queue, empty_store}
 
 -- how many things more, or fewer
 abbrev pub grown : Option ℕ → ℕ

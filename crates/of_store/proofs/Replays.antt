@@ -6,7 +6,7 @@ use Rattle.of_script.specs.declared.instr.Instr.{Instr}
 use Rattle.of_script.specs.declared.instr.Instr.TheVariants.{Load, Store as StoreInstr, Add, Sub, Get, Put, Del, Need, Push, Pop, Len, Count, First, Next, DropBelow}
 use Rattle.of_script.specs.declared.instr.Cause.{Cause}
 use Rattle.of_script.specs.Language.{reads_only}
-use Rattle.of_store.specs.State.{Store, Reply, InstrEffect, ScriptOutcome, instr_effect, outcome_of_script, then_outcome, with_answer_first, run_result, run, replies_in_order, last_store}
+use Rattle.of_store.specs.Store.{Store, Reply, InstrEffect, ScriptOutcome, instr_effect, outcome_of_script, then_outcome, with_answer_first, run_result, run, replies_in_order, last_store}
 
 pub replies-append : (s : Store) (xs ys : List (List Instr)) → replies_in_order s (xs ++ ys) ≡ replies_in_order s xs ++ replies_in_order (last_store s xs) ys
 replies-append s [] ys = refl

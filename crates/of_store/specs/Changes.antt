@@ -8,7 +8,7 @@ use Rattle.of_script.specs.declared.instr.Instr.TheVariants.{Load, Store as Stor
 use Rattle.of_script.specs.declared.instr.TheConstants.{REGISTERS, QUEUES}
 use Rattle.of_script.specs.declared.instr.Reply.{Reply}
 use Rattle.of_script.specs.Language.{greatest}
-use Rattle.of_store.specs.State.{Store, register, queue, with_register, with_key, without_key, with_queue}
+use Rattle.of_store.specs.Store.{Store, register, queue, with_register, with_key, without_key, with_queue}
 use Rattle.of_store.specs.declared.change.Change.{Change}
 use Rattle.of_store.specs.declared.change.Change.TheVariants.{Nothing, Register, Key, Pushed}
 

@@ -8,20 +8,20 @@ ghost use Rattle.of_store.specs.Changes.{change_of, without, undone, IsChange, A
 use crate::store::Store;
 use of_script::{Instr, MOST_INSTRS};
 
-/// What takes an instruction back.
+// What takes an instruction back.
 #[derive(Clone, Copy)]
 pub(crate) enum Change {
-    /// Nothing has to be taken back, or it is never asked for.
+    // Nothing has to be taken back, or it is never asked for.
     Nothing,
-    /// A register had this number.
+    // A register had this number.
     Register { reg: u8, before: u32 },
-    /// A key had this number, or was absent.
+    // A key had this number, or was absent.
     Key { key: u32, before: Option<u32> },
-    /// A queue has one item more at its back.
+    // A queue has one item more at its back.
     Pushed { queue: u8 },
 }
 
-/// The changes of a script so far, in order: the first `count` of the list.
+// The changes of a script so far, in order: the first `count` of the list.
 #[derive(Drop)]
 pub(crate) struct Changes {
     pub(crate) list: [Change; MOST_INSTRS],
@@ -29,7 +29,7 @@ pub(crate) struct Changes {
 }
 
 impl Changes {
-    /// No change.
+    // No change.
     pub(crate) fn new() -> Changes
         ensures count { result.count ≡ 0 }
         ensures room { length result.list ≡ MOST_INSTRS }
@@ -42,7 +42,7 @@ impl Changes {
 }
 
 impl Store {
-    /// What will take an instruction back once it has run.
+    // What will take an instruction back once it has run.
     pub(crate) fn change_of(&self, instr: Instr) -> Change
         requires { IsInstrInRange instr }
         ensures { result ≡ change_of self.now instr }
@@ -63,7 +63,7 @@ impl Store {
         }
     }
 
-    /// Takes a change back.
+    // Takes a change back.
     fn undo(&mut self, change: Change)
         requires { IsChange change self.old }
         ensures { self.new ≡ without change self.old }
@@ -82,7 +82,7 @@ impl Store {
         }
     }
 
-    /// Takes all changes back, the last one first.
+    // Takes all changes back, the last one first.
     pub(crate) fn take_back(&mut self, changes: &Changes)
         requires few { changes.now.count ≤ MOST_INSTRS }
         requires there { AreThere changes.now.list changes.now.count self.old }

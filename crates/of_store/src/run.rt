@@ -3,7 +3,7 @@
 ghost use Rattle.std.specs.Prelude.{◌≡◌, ◌≤◌, IfOk, OnOk, OnErr, IsTrue, IsFalse, IsNone, true, length};
 ghost use Rattle.of_script.specs.declared.instr.TheConstants.{MOST_INSTRS};
 ghost use Rattle.of_script.specs.Language.{IsInstrInRange};
-ghost use Rattle.of_store.specs.State.{run, instr_effect, IsEffect};
+ghost use Rattle.of_store.specs.Store.{run, instr_effect, IsEffect};
 ghost use Rattle.of_store.specs.Replies.{reply_value_of, IsReplyOfScript};
 ghost use Rattle.of_store.specs.Changes.{takes_out, may_fail, FailsFirst, HasFailed, HasRunToEnd, ChangesLead};
 

@@ -13,7 +13,7 @@ use Rattle.of_row.specs.declared.member.Pass.{Pass}
 use Rattle.of_tool.specs.declared.command.Command.{Command}
 use Rattle.of_tool.specs.declared.command.Command.TheVariants.{Serial, Play, Trace, Commits, Run, Load, Check, CheckLife, Part, Image, Recover, Renumber, Migrate, Continue, Help, Version}
 use Rattle.of_tool.specs.declared.status.TheConstants.{DONE}
-use Rattle.of_tool.specs.declared.top.Answer.{Answer}
+use Rattle.of_tool.specs.declared.commands.Output.{Output}
 use Rattle.of_tool.specs.Commands.{command_words, IsLoad, IsPlain, AreWordsOf, IsNoCommand, AreWordsOfTeam}
 use Rattle.of_caller.specs.Allowances.{KeepsStopAsAllowance, KeepAllowances}
 use Rattle.of_tool.specs.Ran.{AllBrakesTell, IsRunReport, IsSomeRuns}
@@ -37,7 +37,7 @@ plain_is_not_continue c plain e = subst IsPlain e plain
 plain_is_not_load : (c : Command) (n m : ℕ) → IsPlain c → c ≡ Load n m → ⊥
 plain_is_not_load c n m plain e = subst IsPlain e plain
 
-module _ {A : Type 0} (left : A → Option (Option ℕ)) (brakes : List A) (words : List (List ℕ)) (source : Change) (answer : Answer) where
+module _ {A : Type 0} (left : A → Option (Option ℕ)) (brakes : List A) (words : List (List ℕ)) (source : Change) (answer : Output) where
   pub carries_none : (c : Command) → IsPlain c → AreWordsOf words c → Carries left brakes words source (answer, None)
   carries_none c plain is = record {
     run = λ h. absurd (plain_is_not_run c plain (words_of_injective c Run is.0 tt (sym is.1 ∙ h)));
@@ -156,7 +156,7 @@ load_answers left brakes words source n m (answer, Some r) is h =
 
 -- ---- where there is a record
 
-module _ {A : Type 0} (left : A → Option (Option ℕ)) (brakes : List A) (source : Change) (answer : Answer) where
+module _ {A : Type 0} (left : A → Option (Option ℕ)) (brakes : List A) (source : Change) (answer : Output) where
   module _ (words : List (List ℕ)) (ran : Option (Ended × Pass)) (h : Carries left brakes words source (answer, ran)) where
     plain_none : (c : Command) → AreWordsOf words c → IsPlain c → ran ≡ None
     plain_none c is plain = h.none (λ team. team.team (subst IsPlain (same_command words c team.command is team.are) plain))
@@ -226,7 +226,7 @@ module _ {A : Type 0} (left : A → Option (Option ℕ)) (brakes : List A) (seen
     real = h.writes.life.real;
   }
 
-  module _ (answer : Answer) where
+  module _ (answer : Output) where
     pub load_told : (n m : ℕ) (ran : Option (Ended × Pass)) → CarriesLoad left brakes n m (answer, ran) → IsWritten seen answer.text.items
         → RecordHolds ran (λ e w. LoadsPlan left brakes n m seen e)
     load_told n m None h w = h

@@ -8,15 +8,15 @@ use Rattle.of_plan.specs.Grammar.{SpellsPlan}
 use Rattle.of_plan.specs.Parts.{AreParts}
 use Rattle.of_plan.specs.Plan.{Plan}
 use Rattle.of_tool.specs.declared.command.Command.TheVariants.{Check}
-use Rattle.of_tool.specs.declared.top.Answer.{Answer}
-use Rattle.of_tool.specs.declared.top.TheConstants.{MOST_WITH_REPORT}
+use Rattle.of_tool.specs.declared.commands.Output.{Output}
+use Rattle.of_tool.specs.declared.commands.TheConstants.{MOST_WITH_REPORT}
 use Rattle.of_tool.specs.Answer.{TellsVerdict}
 use Rattle.of_tool.specs.Seen.{Change, ReadsAll}
 use Rattle.of_tool.specs.Inputs.{PlanAndReport}
 use Rattle.of_tool.specs.Refusals.{Illegal as IsIllegalOne}
 use Rattle.of_tool.specs.Statuses.{IsAnswerTo, Done, Refused}
 
-pub found : (source : Change) (bytes first report : List ℕ) (p : Plan) (v : CheckVerdict) (a : Answer) → ReadsAll MOST_WITH_REPORT source bytes → AreParts bytes first report → SpellsPlan first p → IsVerdict p report v → TellsVerdict v a
+pub found : (source : Change) (bytes first report : List ℕ) (p : Plan) (v : CheckVerdict) (a : Output) → ReadsAll MOST_WITH_REPORT source bytes → AreParts bytes first report → SpellsPlan first p → IsVerdict p report v → TellsVerdict v a
     → IsAnswerTo Check source a.status a.text.items
 found source bytes first report p Legal a read are spelled says judges =
     Done judges.0 (record { legal = record { plan = p; report = report; read = record { bytes = bytes; first = first; read = read; parts = are; spelled = spelled }; legal = says }; text_is = judges.1 })
@@ -28,6 +28,6 @@ found source bytes first report p Illegal a read are spelled says judges =
       text_is = judges.1;
     })
 
-pub answered_so : {E : Type 0} (r : Result Answer E) (P Q : Answer → Type 0) → ((a : Answer) → P a → Q a) → IfOk r P → IfOk r Q
+pub answered_so : {E : Type 0} (r : Result Output E) (P Q : Output → Type 0) → ((a : Output) → P a → Q a) → IfOk r P → IfOk r Q
 answered_so (Ok a) P Q h made = h a made
 answered_so (Err e) P Q h made = tt

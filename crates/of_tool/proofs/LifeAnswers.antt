@@ -15,8 +15,8 @@ use Rattle.of_check.specs.declared.verdict.Verdict.{Verdict as CheckVerdict}
 use Rattle.of_check.specs.declared.verdict.Verdict.TheVariants.{Legal, Illegal}
 use Rattle.of_lives.specs.Images.{PlanFitsImage}
 use Rattle.of_tool.specs.declared.command.Command.TheVariants.{CheckLife}
-use Rattle.of_tool.specs.declared.top.Answer.{Answer}
-use Rattle.of_tool.specs.declared.top.TheConstants.{MOST_WITH_REPORT}
+use Rattle.of_tool.specs.declared.commands.Output.{Output}
+use Rattle.of_tool.specs.declared.commands.TheConstants.{MOST_WITH_REPORT}
 use Rattle.of_tool.specs.Answer.{TellsRefusal, JudgesLife}
 use Rattle.of_tool.specs.Lives.{IsLifeVerdict}
 use Rattle.of_tool.specs.declared.status.TheConstants.{BAD_PLAN, DOES_NOT_FIT}
@@ -40,7 +40,7 @@ module _ (source : Change) (bytes first behind second others : List ℕ) (read :
     four Is h = record { bytes = bytes; first = first; behind = behind; second = second; others = others; read = read; parts = parts; second_parts = second_parts; last_parts = last_parts; is = h; spelled = spelled }
 
     -- the first part has no image
-    pub life_refused : (err : ImageErr) (answer : Answer) → ImageIsRefused Two first err → TellsRefusal err answer → IsAnswerTo CheckLife source answer.status answer.text.items
+    pub life_refused : (err : ImageErr) (answer : Output) → ImageIsRefused Two first err → TellsRefusal err answer → IsAnswerTo CheckLife source answer.status answer.text.items
     life_refused Memory answer h t = absurd t
     life_refused (Bad line) answer h t =
         refused source answer.status answer.text.items (BadImage line) (record { plan = plan; told = told; left = left; read = four (λ text. HasBadLine (IsImageText Two) text line) h }) t.0 t.1
@@ -54,7 +54,7 @@ module _ (source : Change) (bytes first behind second others : List ℕ) (read :
           refused source DOES_NOT_FIT text DoesNotFit (record { image = image; plan = plan; told = told; left = left; read = four (λ text. ReadsImage Two text image) reads; misfit = misfit }) refl text_is
 
       -- the life was judged
-      pub life_found : PlanFitsImage image plan → (v : CheckVerdict) (answer : Answer) → IsLifeVerdict image plan told left v → JudgesLife v answer → IsAnswerTo CheckLife source answer.status answer.text.items
+      pub life_found : PlanFitsImage image plan → (v : CheckVerdict) (answer : Output) → IsLifeVerdict image plan told left v → JudgesLife v answer → IsAnswerTo CheckLife source answer.status answer.text.items
       life_found fits Legal answer says judges =
           Done judges.0 (record {
             legal = record { image = image; plan = plan; told = told; left = left; read = four (λ text. ReadsImage Two text image) reads; fits = fits; legal = says };

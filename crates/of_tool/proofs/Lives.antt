@@ -19,8 +19,8 @@ use Rattle.of_check.specs.Causes.{IsCauseFrom}
 use Rattle.of_check.specs.declared.ends.LeftRule.{LeftRule}
 use Rattle.of_check.specs.declared.ends.LeftRule.TheVariants.{Callers, Blocks, Sequence, Ticket, Store}
 use Rattle.of_check.specs.Ends.{EndsAt, BreaksLeft}
-use Rattle.of_tool.specs.declared.lived.LeftFault.{LeftFault}
-use Rattle.of_tool.specs.declared.lived.LeftFault.TheVariants.{Bad, Unlawful, NotPrinted}
+use Rattle.of_tool.specs.declared.legal_life.LeftFault.{LeftFault}
+use Rattle.of_tool.specs.declared.legal_life.LeftFault.TheVariants.{Bad, Unlawful, NotPrinted}
 use Rattle.of_tool.specs.Lives.{IsPrinted, IsLeft, IsLeftFault, IsLegalLife, EndsElsewhere}
 
 -- the sequence of a word of 64 bits has 32

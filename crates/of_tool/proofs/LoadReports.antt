@@ -7,7 +7,7 @@ use Rattle.std.proofs.lemmas.List.{get_or-replicate}
 use Rattle.std.proofs.lemmas.List.Elements.{recursion_from_All}
 use Rattle.std.proofs.lemmas.List.FromFn.{get_or-map-range_with_len, length-map-range_with_len}
 use Rattle.of_script.specs.declared.instr.Instr.{Instr}
-use Rattle.of_store.specs.State.{Store, run, last_store, empty_store}
+use Rattle.of_store.specs.Store.{Store, run, last_store, empty_store}
 use Rattle.of_plan.specs.Plan.{Plan, IsPlan, scripts_of}
 use Rattle.of_plan.specs.Report.{Entry, EndState, done, stopped, spent, Line, Report, no_line, empty_start, caller_line, finished_of}
 use Rattle.of_plan.specs.Legal.{script_of_entry, scripts_left, HasOpenCall, HasEndState, IsLegal}

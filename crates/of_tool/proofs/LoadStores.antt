@@ -12,7 +12,7 @@ use Rattle.std.proofs.lemmas.Bool.Decides.{eqb_tells, leb_tells}
 use Rattle.std.proofs.lemmas.Grind.{get_or-set_at}
 use Rattle.of_script.specs.declared.instr.Instr.{Instr}
 use Rattle.of_script.specs.declared.instr.Instr.TheVariants.{Add, Put}
-use Rattle.of_store.specs.State.{Store, register, stored_count, instr_effect, run, empty_store, with_register, with_key}
+use Rattle.of_store.specs.Store.{Store, register, stored_count, instr_effect, run, empty_store, with_register, with_key}
 use Rattle.of_plan.specs.Generated.{load_script}
 
 is_equal : (r : Ordering) → is_eq r ≡ true → r ≡ Equal

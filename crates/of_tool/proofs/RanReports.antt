@@ -20,7 +20,7 @@ use Rattle.of_eval.specs.Shapes.{IsHeldBy}
 use Rattle.of_eval.specs.Record.{IsLawfulRecord, plan_data_cells, durable_of, recovered_data_word, record_number, OpenCall, BeyondAnswers}
 use Rattle.of_eval.specs.Reported.{ReportsRun}
 use Rattle.of_core.specs.Table.{words_before_members}
-use Rattle.of_core.specs.World.{TableStart}
+use Rattle.of_core.specs.TableMoment.{TableStart}
 use Rattle.of_core.specs.Events.{Event, zero_start, machine_in, after_events, IsSchedule}
 use Rattle.of_row.specs.Views.{View}
 use Rattle.of_caller.specs.Starts.{StartsAtPlan, ZerosAreEmpty}

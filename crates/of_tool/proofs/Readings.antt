@@ -5,7 +5,7 @@ use Rattle.of_io.specs.Faults.{TakesMoreThan, TakesAtMost}
 use Rattle.of_plan.specs.Plan.{Plan}
 use Rattle.of_plan.specs.Grammar.{SpellsPlan}
 use Rattle.of_plan.specs.Parts.{AreParts, HasOneCut}
-use Rattle.of_tool.specs.declared.top.TheConstants.{MOST_INPUT}
+use Rattle.of_tool.specs.declared.commands.TheConstants.{MOST_INPUT}
 use Rattle.of_tool.specs.Seen.{Change, ReadsAll}
 use Rattle.of_tool.specs.Inputs.{ReadsPlan, ReadsNoPlan, ReadsBoth, ReadsNoFirst, ReadsOne, ReadsBehind, ReadsNoSecond, ReadsFour, ReadsNoLifePlan}
 

@@ -15,7 +15,7 @@ use Rattle.of_plan.specs.Ended.{Ended, answers_of, ending_of}
 use Rattle.of_plan.specs.Allowance.{KeepsAllowance}
 use Rattle.of_eval.specs.Record.{IsLawfulRecord, OpenCall, BeyondAnswers, record_number}
 use Rattle.of_eval.specs.Reported.{MakeLeastSteps, ReportsRun}
-use Rattle.of_core.specs.World.{Moment}
+use Rattle.of_core.specs.TableMoment.{Moment}
 use Rattle.of_core.specs.Events.{Event, Begins, Turns, Loads, Evicts, Raises, after_event, after_events}
 use Rattle.of_caller.specs.Tables.{plan_setup, opening_for}
 use Rattle.of_caller.specs.Left.{IsLeftBy}

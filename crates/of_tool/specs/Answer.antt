@@ -16,7 +16,7 @@ use Rattle.of_image.specs.declared.error.ImageErr.TheVariants.{Memory, Bad, Unla
 use Rattle.of_check.specs.declared.verdict.Verdict.{Verdict}
 use Rattle.of_check.specs.declared.verdict.Verdict.TheVariants.{Legal, Illegal}
 use Rattle.of_tool.specs.declared.status.TheConstants.{DONE, BAD_IMAGE, ILLEGAL}
-use Rattle.of_tool.specs.declared.top.Answer.{Answer}
+use Rattle.of_tool.specs.declared.commands.Output.{Output}
 use Rattle.of_tool.specs.declared.command.Command.{Command}
 use Rattle.of_tool.specs.declared.command.Command.TheVariants.{Run, Load, Continue}
 use Rattle.of_tool.specs.Commands.{command_words, AreWordsOf, AreWordsOfTeam}
@@ -29,20 +29,20 @@ use Rattle.of_tool.specs.Statuses.{IsAnswerTo}
 use Rattle.of_tool.specs.Headline.{IsWholeLoad}
 
 -- it is one of the command
-abbrev pub IsOutputFor : Command → Change → Answer → Type 0
+abbrev pub IsOutputFor : Command → Change → Output → Type 0
 IsOutputFor command source answer = IsAnswerTo command source answer.status answer.text.items
 
 -- it refuses an input of this kind
-abbrev pub Refuses : Input → Change → Answer → Type 0
+abbrev pub Refuses : Input → Change → Output → Type 0
 Refuses input source answer = IsRefusal input source answer.status answer.text.items
 
 -- it refuses an input of each kind that has so many bytes at most
-abbrev pub RefusesUpTo : (most : ℕ) → Change → Answer → Type 0
+abbrev pub RefusesUpTo : (most : ℕ) → Change → Output → Type 0
 RefusesUpTo most source answer =
     (input : Input) → most_of input ≡ most → Refuses input source answer
 
 -- it tells why a text has no image
-abbrev pub TellsRefusal : ImageErr → Answer → Type 0
+abbrev pub TellsRefusal : ImageErr → Output → Type 0
 TellsRefusal Memory answer = ⊥
 TellsRefusal (Bad line) answer =
     (answer.status ≡ BAD_IMAGE)
@@ -52,13 +52,13 @@ TellsRefusal (Unlawful cell) answer =
     × (answer.text.items ≡ codes "error: unlawful image, cell " ++ decimal cell ++ codes "\n")
 
 -- the answer of `check`
-abbrev pub TellsVerdict : Verdict → Answer → Type 0
+abbrev pub TellsVerdict : Verdict → Output → Type 0
 TellsVerdict Legal answer = (answer.status ≡ DONE) × (answer.text.items ≡ codes "legal report\n")
 TellsVerdict Illegal answer =
     (answer.status ≡ ILLEGAL) × (answer.text.items ≡ codes "error: not a legal report\n")
 
 -- the answer of `check-life`
-abbrev pub JudgesLife : Verdict → Answer → Type 0
+abbrev pub JudgesLife : Verdict → Output → Type 0
 JudgesLife Legal answer = (answer.status ≡ DONE) × (answer.text.items ≡ codes "legal life\n")
 JudgesLife Illegal answer =
     (answer.status ≡ ILLEGAL) × (answer.text.items ≡ codes "error: not a legal life\n")
@@ -93,7 +93,7 @@ pub record HoldsLife {A : Type 0} (left : A → Option (Option ℕ)) (brakes : L
 
 -- an answer with the record and the pass that a run has left, if it has
 abbrev pub Found : Type 0
-Found = Answer × Option (Ended × Pass)
+Found = Output × Option (Ended × Pass)
 
 -- beside an answer that is done stands a record of which this holds, and beside no other one
 abbrev pub HasBeside : (List ℕ → Record → View → Type 0) → Found → Type 0

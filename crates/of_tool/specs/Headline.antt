@@ -117,5 +117,6 @@ abbrev pub LeavesTable : {A : Type 0} → (A → Option (Option ℕ)) → List A
 LeavesTable left brakes Run seen ran = RecordHolds ran (λ e w. RunsOnTable left brakes seen e w)
 LeavesTable left brakes (Load callers scripts) seen ran =
     RecordHolds ran (λ e w. LoadsOnTable left brakes callers scripts seen e w)
-LeavesTable left brakes Continue seen ran = RecordHolds ran (λ e w. ContinuesOnTable left brakes seen e w)
+LeavesTable left brakes Continue seen ran =
+    RecordHolds ran (λ e w. ContinuesOnTable left brakes seen e w)
 LeavesTable left brakes command seen ran = ran ≡ None

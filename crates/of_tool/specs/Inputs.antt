@@ -14,7 +14,7 @@ use Rattle.of_image.specs.MovedRow.{Migrates}
 use Rattle.of_lives.specs.Images.{PlanFitsImage}
 use Rattle.of_tool.specs.declared.command.Command.{Command}
 use Rattle.of_tool.specs.declared.command.Command.TheVariants.{Serial, Play, Trace, Commits, Run, Load, Check, CheckLife, Part, Image, Recover, Renumber, Migrate, Continue, Help, Version}
-use Rattle.of_tool.specs.declared.top.TheConstants.{MOST_INPUT, MOST_WITH_REPORT, MOST_IMAGE}
+use Rattle.of_tool.specs.declared.commands.TheConstants.{MOST_INPUT, MOST_WITH_REPORT, MOST_IMAGE}
 use Rattle.of_tool.specs.Commands.{AreWordsOf}
 use Rattle.of_tool.specs.Cutting.{IsPart}
 use Rattle.of_tool.specs.Lives.{IsLegalLife}

@@ -16,10 +16,10 @@ use Rattle.of_check.specs.declared.verdict.Verdict.TheVariants.{Legal, Illegal}
 use Rattle.of_check.specs.Verdict.{IsTextOf, IsLegalFrom}
 use Rattle.of_check.specs.Causes.{IsCauseFrom}
 use Rattle.of_check.specs.Ends.{EndsAt, BreaksLeft}
-use Rattle.of_tool.specs.declared.lived.LeftFault.{LeftFault}
-use Rattle.of_tool.specs.declared.lived.LeftFault.TheVariants.{Bad, Unlawful, NotPrinted}
-use Rattle.of_tool.specs.declared.lived.LifeCause.{LifeCause}
-use Rattle.of_tool.specs.declared.lived.LifeCause.TheVariants.{Told, Left, Ends}
+use Rattle.of_tool.specs.declared.legal_life.LeftFault.{LeftFault}
+use Rattle.of_tool.specs.declared.legal_life.LeftFault.TheVariants.{Bad, Unlawful, NotPrinted}
+use Rattle.of_tool.specs.declared.legal_life.LifeCause.{LifeCause}
+use Rattle.of_tool.specs.declared.legal_life.LifeCause.TheVariants.{Told, Left, Ends}
 
 -- the text is the printed one of a row
 pub record IsPrinted (text : List ℕ) : Type 0 where

@@ -12,7 +12,7 @@ use Rattle.of_image.specs.declared.version.Version.TheVariants.{Two}
 use Rattle.of_image.specs.RecoveredText.{recovered_text}
 use Rattle.of_image.specs.RenumberedImage.{Renumbers}
 use Rattle.of_play.specs.Played.{IsPlayedReport}
-use Rattle.of_play.specs.declared.playing.tracing.TheConstants.{ALL_EVENTS}
+use Rattle.of_play.specs.declared.schedule_run.trace_run.TheConstants.{ALL_EVENTS}
 use Rattle.of_play.specs.Trace.{trace_text, commits_text}
 use Rattle.of_tool.specs.declared.command.Command.{Command}
 use Rattle.of_tool.specs.declared.command.Command.TheVariants.{Serial, Play, Trace, Commits, Run, Load, Check, CheckLife, Part, Image, Recover, Renumber, Migrate, Continue, Help, Version}

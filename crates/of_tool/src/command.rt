@@ -160,7 +160,9 @@ impl Command {
     /// The command that the words are, where they are one. Numbers are spelled by digits alone,
     /// with no 0 in front of others.
     pub fn from_words(words: &[String]) -> Option<Command>
-        ensures { MatchOption result (IsNoCommand (word_bytes words.now)) (AreWordsOf (word_bytes words.now)) }
+        ensures { MatchOption result
+            (IsNoCommand (word_bytes words.now))
+            (AreWordsOf (word_bytes words.now)) }
     {
         match words {
             [word] => Command::plain(word.as_str()),

@@ -7,8 +7,8 @@ ghost use Rattle.of_tool.specs.Cutting.{IsPart};
 ghost use Rattle.of_tool.specs.Seen.{bytes_change};
 ghost use Rattle.of_tool.specs.Answer.{IsOutputFor};
 
+use crate::commands::{MOST_WITH_REPORT, Output, read_input};
 use crate::status;
-use crate::top::{Answer, MOST_WITH_REPORT, read_input};
 use of_io::Source;
 use of_plan::parts;
 use std::alloc::{AllocError, Global};
@@ -31,13 +31,13 @@ pub(crate) fn part_answer<S: Source>(
     alloc: Global,
     source: &mut S,
     number: u32,
-) -> Result<Answer, AllocError>
+) -> Result<Output, AllocError>
     requires { IsPartNumber number }
     ensures { IfOk result (IsOutputFor (Part number)
         (bytes_change S.remaining S.faults source.old source.new)) }
 {
     match read_input(alloc, source, MOST_WITH_REPORT)? {
-        Ok(bytes) => Ok(Answer {
+        Ok(bytes) => Ok(Output {
             status: status::DONE,
             text: Vec::from_slice(alloc, part(&bytes, number))?,
         }),

@@ -10,8 +10,8 @@ ghost use Rattle.of_tool.specs.Seen.{bytes_change};
 ghost use Rattle.of_tool.specs.Inputs.{ImageAlone, ReadsImageOf};
 ghost use Rattle.of_tool.specs.Answer.{IsOutputFor, Refuses, TellsRefusal};
 
+use crate::commands::{MOST_IMAGE, Output, read_input, read_plan};
 use crate::status;
-use crate::top::{Answer, MOST_IMAGE, read_input, read_plan};
 use of_caller::laws::{plan_keeps_laws, reports_respect_time, runs_are_lawful};
 use of_core::laws::starts;
 use of_eval::Scripts;
@@ -28,10 +28,7 @@ use std::alloc::{AllocError, Global};
 fn play_image(alloc: Global, plan: &Plan) -> Result<Vec<u8>, AllocError>
     ensures { IfOk result (λ text. IsPlayedImage plan.now text.items) }
 {
-    let scripts = Scripts {
-        callers: plan.callers(),
-        blocks: plan.blocks(),
-    };
+    let scripts = Scripts::of_plan(plan);
     plan_keeps_laws(plan);
     runs_are_lawful();
     reports_respect_time(plan);
@@ -44,21 +41,21 @@ fn play_image(alloc: Global, plan: &Plan) -> Result<Vec<u8>, AllocError>
 }
 
 /// The answer to a text that has no image.
-pub(crate) fn refused(alloc: Global, err: ImageErr) -> Result<Answer, AllocError>
+pub(crate) fn image_refusal(alloc: Global, err: ImageErr) -> Result<Output, AllocError>
     ensures { IfOk result (TellsRefusal err) }
 {
     if err == ImageErr::Memory {
         return Err(AllocError);
     }
     let text = format!(in alloc; "error: {err}\n")?;
-    Ok(Answer {
+    Ok(Output {
         status: status::BAD_IMAGE,
         text: text.into_bytes(),
     })
 }
 
 // The image that the whole input has, or the answer that says why there is none.
-fn read_image<S: Source>(alloc: Global, source: &mut S) -> Result<Result<Image, Answer>, AllocError>
+fn read_image<S: Source>(alloc: Global, source: &mut S) -> Result<Result<Image, Output>, AllocError>
     ensures read { IfOk result (λ read. MatchResult read
         (λ image. ReadsImageOf Two (bytes_change S.remaining S.faults source.old source.new)
         (image_value image))
@@ -72,17 +69,17 @@ fn read_image<S: Source>(alloc: Global, source: &mut S) -> Result<Result<Image, 
     };
     match image_parse(alloc, &bytes) {
         Ok(image) => Ok(Ok(image)),
-        Err(err) => Ok(Err(refused(alloc, err)?)),
+        Err(err) => Ok(Err(image_refusal(alloc, err)?)),
     }
 }
 
 /// What `image` answers.
-pub(crate) fn image_answer<S: Source>(alloc: Global, source: &mut S) -> Result<Answer, AllocError>
+pub(crate) fn image_answer<S: Source>(alloc: Global, source: &mut S) -> Result<Output, AllocError>
     ensures { IfOk result (IsOutputFor TheImage
         (bytes_change S.remaining S.faults source.old source.new)) }
 {
     match read_plan(alloc, source)? {
-        Ok(plan) => Ok(Answer {
+        Ok(plan) => Ok(Output {
             status: status::DONE,
             text: play_image(alloc, &plan)?,
         }),
@@ -91,12 +88,12 @@ pub(crate) fn image_answer<S: Source>(alloc: Global, source: &mut S) -> Result<A
 }
 
 /// What `recover` answers.
-pub(crate) fn recover_answer<S: Source>(alloc: Global, source: &mut S) -> Result<Answer, AllocError>
+pub(crate) fn recover_answer<S: Source>(alloc: Global, source: &mut S) -> Result<Output, AllocError>
     ensures { IfOk result (IsOutputFor Recover
         (bytes_change S.remaining S.faults source.old source.new)) }
 {
     match read_image(alloc, source)? {
-        Ok(image) => Ok(Answer {
+        Ok(image) => Ok(Output {
             status: status::DONE,
             text: recovered_print(alloc, &image)?,
         }),
@@ -108,12 +105,12 @@ pub(crate) fn recover_answer<S: Source>(alloc: Global, source: &mut S) -> Result
 pub(crate) fn renumber_answer<S: Source>(
     alloc: Global,
     source: &mut S,
-) -> Result<Answer, AllocError>
+) -> Result<Output, AllocError>
     ensures { IfOk result (IsOutputFor Renumber
         (bytes_change S.remaining S.faults source.old source.new)) }
 {
     match read_image(alloc, source)? {
-        Ok(image) => Ok(Answer {
+        Ok(image) => Ok(Output {
             status: status::DONE,
             text: renumbered_print(alloc, &image)?,
         }),
@@ -122,7 +119,7 @@ pub(crate) fn renumber_answer<S: Source>(
 }
 
 /// What `migrate` answers.
-pub(crate) fn migrate_answer<S: Source>(alloc: Global, source: &mut S) -> Result<Answer, AllocError>
+pub(crate) fn migrate_answer<S: Source>(alloc: Global, source: &mut S) -> Result<Output, AllocError>
     ensures { IfOk result (IsOutputFor Migrate
         (bytes_change S.remaining S.faults source.old source.new)) }
 {
@@ -131,10 +128,10 @@ pub(crate) fn migrate_answer<S: Source>(alloc: Global, source: &mut S) -> Result
         Err(answer) => return Ok(answer),
     };
     match migrate(alloc, &bytes) {
-        Ok(text) => Ok(Answer {
+        Ok(text) => Ok(Output {
             status: status::DONE,
             text,
         }),
-        Err(err) => refused(alloc, err),
+        Err(err) => image_refusal(alloc, err),
     }
 }

@@ -11,11 +11,11 @@ ghost use Rattle.of_tool.specs.PlayedImage.{ShowsEachPlay};
 ghost use Rattle.of_tool.specs.Statuses.{OneError, OneStatus};
 
 use crate::command::{HELP, VERSION};
+use crate::commands::{MOST_IMAGE, MOST_INPUT, MOST_WITH_REPORT};
 use crate::status::{
     BAD_IMAGE, BAD_PLAN, DOES_NOT_FIT, DONE, ILLEGAL, OUT_OF_MEMORY, READ_FAULT, TOO_LONG, USAGE,
     WRITE_FAULT,
 };
-use crate::top::{MOST_IMAGE, MOST_INPUT, MOST_WITH_REPORT};
 use of_caller::laws::plan_keeps_laws;
 use of_core::laws::starts;
 use of_eval::Scripts;
@@ -83,10 +83,7 @@ pub fn one_status()
 pub fn images_show_plays(plan: &Plan)
     ensures { ShowsEachPlay plan.now }
 {
-    let scripts = Scripts {
-        callers: plan.callers(),
-        blocks: plan.blocks(),
-    };
+    let scripts = Scripts::of_plan(plan);
     plan_keeps_laws(plan);
     starts(plan.limit(), scripts);
     records_have_images();

@@ -2,20 +2,20 @@
 #![tactic(auto)]
 
 mod command;
-mod continued;
+mod commands;
+mod continue_life;
 mod cutting;
 mod images;
 pub mod laws;
+mod legal_life;
 mod life_check;
-mod lived;
 mod run;
 pub mod status;
-mod top;
 
 pub use command::{Command, HELP, VERSION};
+pub use commands::{MOST_IMAGE, MOST_INPUT, MOST_WITH_REPORT, TeamRecord, tool};
 pub use cutting::part;
-pub use lived::{LeftFault, LifeCause, check_life, why_life};
+pub use legal_life::{LeftFault, LifeCause, check_life, why_life};
 pub use of_play::{commits, play_report, trace};
 pub use of_serial::serial;
 pub use run::run_report;
-pub use top::{MOST_IMAGE, MOST_INPUT, MOST_WITH_REPORT, Ran, tool};

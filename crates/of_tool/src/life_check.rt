@@ -5,10 +5,10 @@ ghost use Rattle.of_tool.specs.declared.command.Command.TheVariants.{CheckLife};
 ghost use Rattle.of_tool.specs.Seen.{bytes_change};
 ghost use Rattle.of_tool.specs.Answer.{IsOutputFor, JudgesLife};
 
-use crate::images::refused;
-use crate::lived::check_life;
+use crate::commands::{MOST_WITH_REPORT, Output, bad_plan, read_input};
+use crate::images::image_refusal;
+use crate::legal_life::check_life;
 use crate::status;
-use crate::top::{Answer, MOST_WITH_REPORT, bad_plan, read_input};
 use of_check::Verdict;
 use of_image::image_parse;
 use of_io::Source;
@@ -17,15 +17,15 @@ use of_plan::{PlanErr, parse, parts};
 use std::alloc::{AllocError, Global};
 
 // What is said of a life.
-fn judged(alloc: Global, verdict: Verdict) -> Result<Answer, AllocError>
+fn life_output(alloc: Global, verdict: Verdict) -> Result<Output, AllocError>
     ensures { IfOk result (JudgesLife verdict) }
 {
     match verdict {
-        Verdict::Legal => Ok(Answer {
+        Verdict::Legal => Ok(Output {
             status: status::DONE,
             text: Vec::from_slice(alloc, b"legal life\n")?,
         }),
-        Verdict::Illegal => Ok(Answer {
+        Verdict::Illegal => Ok(Output {
             status: status::ILLEGAL,
             text: Vec::from_slice(alloc, b"error: not a legal life\n")?,
         }),
@@ -33,7 +33,7 @@ fn judged(alloc: Global, verdict: Verdict) -> Result<Answer, AllocError>
 }
 
 /// What `check-life` answers.
-pub(crate) fn life_answer<S: Source>(alloc: Global, source: &mut S) -> Result<Answer, AllocError>
+pub(crate) fn life_answer<S: Source>(alloc: Global, source: &mut S) -> Result<Output, AllocError>
     ensures { IfOk result (IsOutputFor CheckLife
         (bytes_change S.remaining S.faults source.old source.new)) }
 {
@@ -48,7 +48,7 @@ pub(crate) fn life_answer<S: Source>(alloc: Global, source: &mut S) -> Result<An
         Ok(plan) => plan,
         Err(PlanErr::Memory) => return Err(AllocError),
         Err(PlanErr::Bad { line }) => {
-            return Ok(Answer {
+            return Ok(Output {
                 status: status::BAD_PLAN,
                 text: bad_plan(alloc, line)?,
             });
@@ -56,13 +56,13 @@ pub(crate) fn life_answer<S: Source>(alloc: Global, source: &mut S) -> Result<An
     };
     let image = match image_parse(alloc, first) {
         Ok(image) => image,
-        Err(err) => return refused(alloc, err),
+        Err(err) => return image_refusal(alloc, err),
     };
     if !fits(&image, &plan) {
-        return Ok(Answer {
+        return Ok(Output {
             status: status::DOES_NOT_FIT,
             text: Vec::from_slice(alloc, b"error: plan does not fit image\n")?,
         });
     }
-    judged(alloc, check_life(alloc, image, &plan, told, left)?)
+    life_output(alloc, check_life(alloc, image, &plan, told, left)?)
 }

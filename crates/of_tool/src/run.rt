@@ -8,7 +8,7 @@ ghost use Rattle.of_tool.specs.Seen.{view_of};
 
 use of_brake::Brake;
 use of_caller::laws::{plan_keeps_laws, reports_respect_time, runs_are_lawful, teams_are_lawful};
-use of_caller::{row_for, team};
+use of_caller::{team, zero_row_for};
 use of_plan::{Ended, Plan};
 use of_report::Report;
 use of_row::Pass;
@@ -32,7 +32,7 @@ pub fn run_report<R: Threads + Sync>(
     runs_are_lawful();
     teams_are_lawful(plan);
     reports_respect_time(plan);
-    let (row, pass) = row_for(alloc, plan)?;
+    let (row, pass) = zero_row_for(alloc, plan)?;
     let (ended, pass) = team(rt, alloc, row, pass, plan, brakes)?;
     let report = Report::make(alloc, plan, &ended)?;
     Ok((report, (ended, pass)))

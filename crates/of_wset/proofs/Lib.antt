@@ -1,4 +1,2 @@
-pub mod Walks
-pub mod Lookups
 pub mod Maps
-pub mod Writes
+pub mod Notes

@@ -1,3 +1,2 @@
-pub mod Pairs
-pub mod Walk
-pub mod Table
+pub mod WriteSet
+pub mod Index

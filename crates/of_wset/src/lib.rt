@@ -1,7 +1,6 @@
 //! A write-set: what a transaction has written so far, in order of first writing.
 #![tactic(auto)]
 
-mod table;
 mod wset;
 
 pub use wset::WriteSet;

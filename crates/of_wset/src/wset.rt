@@ -1,30 +1,35 @@
-ghost use Rattle.std.specs.Prelude.{◌≡◌, ◌<◌, ◌==◌, [], length, IfOk, slice_index_or};
-ghost use Rattle.of_wset.specs.Pairs.{value_at, put, IsMap};
+ghost use Rattle.std.specs.Prelude.{◌≡◌, ◌<◌, ◌≤◌, ◌==◌, [], length, IfOk, MatchOption, slice_index_or};
+ghost use Rattle.std.specs.Vec.{vec_capacity};
+ghost use Rattle.of_wset.specs.WriteSet.{value_at, put, IsMap};
+ghost use Rattle.of_wset.specs.Index.{IsEntryFor, IsUnwritten, NotesPlace};
 
-use crate::table::{Entry, Found, find, free};
 use std::alloc::{AllocError, Global};
 use std::marker::Model;
 
-/// A map from addresses to values, in order of first writing.
+/// A map from addresses to values, in order of first writing. Only `new` takes memory, and it fills
+/// none of it. The other calls take the same time, however many entries there are; but a write to
+/// an address above all earlier ones also fills the places up to it.
 #[derive(Drop)]
 pub struct WriteSet {
     room: u32,
-    entries: Vec<Entry>,
-    /// A taken place holds the number of an entry.
-    table: Vec<Option<u32>>,
+    entries: Vec<(u32, u32)>,
+    /// At each address that is there, the place of its entry. What stands at another address is
+    /// left over from earlier. No address past the end is there.
+    places: Vec<u32>,
 }
 
 impl Model for WriteSet {
-    ghost use Rattle.of_wset.specs.Pairs.{WriteSet};
+    ghost use Rattle.of_wset.specs.WriteSet.{WriteSet};
 
     ghost Value = { WriteSet };
 
     ghost use Rattle.std.specs.Vec.{vec_capacity};
-    ghost use Rattle.of_wset.specs.Table.{entry_pairs, IsWriteSet};
+    ghost use Rattle.of_wset.specs.Index.{IsIndexedSet};
 
-    ghost view = { λ w. record { room = w.room; entries = entry_pairs w.entries.items } };
+    ghost view = { λ w. record { room = w.room; entries = w.entries.items } };
 
-    ghost invariant = { λ w. IsWriteSet w.room w.entries.items w.table.items (vec_capacity w.entries) };
+    ghost invariant = { λ w. IsIndexedSet w.room w.entries.items w.places.items
+        (vec_capacity w.entries) (vec_capacity w.places) };
 }
 
 impl WriteSet {
@@ -32,11 +37,12 @@ impl WriteSet {
     pub fn new(alloc: Global, room: u32) -> Result<Self, AllocError>
         ensures { IfOk result (λ w. w ≡ record { room = room; entries = [] }) }
     {
-        let places = (2 * room as usize).next_power_of_two();
+        let entries = Vec::with_capacity(alloc, room as usize)?;
+        let places = Vec::with_capacity(alloc, room as usize)?;
         Ok(WriteSet {
             room,
-            entries: Vec::with_capacity(alloc, room as usize)?,
-            table: vec![in alloc; None; places]?,
+            entries,
+            places,
         })
     }
 
@@ -55,30 +61,36 @@ impl WriteSet {
         self.entries.is_empty()
     }
 
+    /// The place of an address among the entries.
+    fn find(&self, addr: u32) -> Option<usize>
+        ensures { MatchOption result (IsUnwritten self.now.entries addr)
+            (IsEntryFor self.now.entries addr) }
+    {
+        let place = *self.places.get(addr as usize)? as usize;
+        let (at, _) = *self.entries.get(place)?;
+        if at == addr { Some(place) } else { None }
+    }
+
     /// The value at an address, if it was written.
     pub fn get(&self, addr: u32) -> Option<u32>
         ensures { result ≡ value_at self.now.entries addr }
     {
-        match find(self.entries.as_slice(), self.table.as_slice(), addr) {
-            Found::Entry(at) => Some(self.entries[at].value),
-            Found::Free(_) => None,
-        }
+        let place = self.find(addr)?;
+        Some(self.entries[place].1)
     }
 
-    /// Writes a value: in its place where the address was written before, and else behind the others.
+    /// Writes a value: in its place where the address was written before, and else as the last
+    /// entry.
     pub fn put(&mut self, addr: u32, value: u32)
         requires { addr < self.old.room }
         ensures { self.new ≡ record self.old { entries = put self.old.entries addr value } }
     {
-        match find(self.entries.as_slice(), self.table.as_slice(), addr) {
-            Found::Entry(at) => self.entries[at].value = value,
-            Found::Free(place) => {
-                self.table[place] = Some(self.entries.len() as u32);
-                match self.entries.push(Entry { addr, value, place }) {
-                    Ok(()) => {}
-                    // there is room for each address below `room`
-                    Err(_) => unreachable!(),
-                }
+        match self.find(addr) {
+            Some(place) => self.entries[place].1 = value,
+            None => {
+                note(&mut self.places, addr, self.entries.len() as u32);
+                // there is room for each address below `room`
+                self.entries.push_reserved((addr, value));
             }
         }
     }
@@ -89,15 +101,29 @@ impl WriteSet {
         ensures value { result ≡ slice_index_or self.now.entries i (0, 0) }
         ensures below { result.0 < self.now.room }
     {
-        let entry = self.entries[i as usize];
-        (entry.addr, entry.value)
+        self.entries[i as usize]
     }
 
-    /// Empties it. The cost is that of the entries that were there.
+    /// Empties it.
     pub fn clear(&mut self)
         ensures { self.new ≡ record self.old { entries = [] } }
     {
-        free(self.entries.as_slice(), self.table.as_mut_slice());
         self.entries.clear();
     }
+}
+
+/// Notes a place at an address.
+fn note(places: &mut Vec<u32>, addr: u32, place: u32)
+    requires { addr < vec_capacity places.old }
+    ensures notes { NotesPlace places.old.items places.new.items addr place }
+    ensures capacity { vec_capacity places.old ≤ vec_capacity places.new }
+{
+    let at = addr as usize;
+    if places.len() <= at {
+        match places.resize(at + 1, 0) {
+            Ok(()) => {}
+            Err(_) => unreachable!(),
+        }
+    }
+    places[at] = place;
 }

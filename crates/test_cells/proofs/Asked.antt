@@ -2,7 +2,7 @@
 use Rattle.std.proofs.Common.{◌≡◌, ℕ, ◌*◌, ◌+◌, ◌<◌, arith, sym, ◌∙◌, ap, subst, None, List, [], get_or}
 use Rattle.of_mem.specs.declared.work.TheConstants.{MOST_INSTRS}
 use Rattle.of_mem.specs.Meaning.{Needs, WalkFits}
-use Rattle.of_mem.specs.Pad.{Part, overlaid}
+use Rattle.of_mem.specs.Part.{Part, overlaid}
 use Rattle.of_eval.specs.declared.scripts.Scripts.{Scripts}
 use Rattle.of_eval.specs.Scripts.{store_at, scripts_data_cells, scripts_meaning}
 use Rattle.of_eval.specs.SoundScripts.{scripts_sound}

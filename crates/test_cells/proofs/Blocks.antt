@@ -2,7 +2,7 @@
 use Rattle.std.proofs.Common.{◌≡◌, ◌≢◌, ℕ, List, [], ◌∷◌, Option, Some, None, refl, ◌∙◌, ap, subst, arith, length, Ok}
 use Rattle.of_mem.specs.declared.plot.Plot.{Plot}
 use Rattle.of_mem.specs.Plots.{base, data_cell_count}
-use Rattle.of_mem.specs.Pad.{Part}
+use Rattle.of_mem.specs.Part.{Part}
 use Rattle.of_mem.specs.Programs.{IsPartOf, with_writes}
 use Rattle.of_mem.specs.Calls.{RunsProgram}
 use Rattle.of_alloc.specs.Blocks.{IsFreeList, IsOut, TakesBlock, TakesFromMemory, GivesToMemory, HasFreeList, HasOut}

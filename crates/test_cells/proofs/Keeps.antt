@@ -1,8 +1,8 @@
 -- A memory stays what it was where the batch takes over what the script wrote.
 use Rattle.std.proofs.Common.{◌≡◌, ℕ, suc, ◌==◌, Bool, true, false, if◌then◌else◌, Option, Some, None, List, [], ◌∷◌, get_or, refl, sym, ◌∙◌, ap, subst, arith}
 use Rattle.std.proofs.lemmas.Bool.Decides.{nat_tests}
-use Rattle.of_mem.specs.Pairs.{value_for, put_pair, put_all, IsAbsent}
-use Rattle.of_mem.specs.Pad.{Part, newest_at, write, newer_of, keep}
+use Rattle.of_mem.specs.CellMap.{value_for, put_pair, put_all, IsAbsent}
+use Rattle.of_mem.specs.Part.{Part, newest_at, write, newer_of, keep}
 use Rattle.of_mem.specs.Meaning.{HasDistinctCells}
 use Rattle.of_mem.specs.Programs.{Program, Done, Read, Write, RunEnd, Lacks, Ends, with_number, run_program}
 use Rattle.of_mem.specs.declared.plot.Plot.{Plot}

@@ -2,7 +2,7 @@
 use Rattle.std.proofs.Common.{◌≡◌, ℕ, refl, ◌∙◌, ap, length, Ok}
 use Rattle.of_mem.specs.declared.plot.Plot.{Plot}
 use Rattle.of_mem.specs.Plots.{base, data_cell_count}
-use Rattle.of_mem.specs.Pad.{Part}
+use Rattle.of_mem.specs.Part.{Part}
 use Rattle.of_mem.specs.Programs.{Program, IsPartOf}
 use Rattle.of_mem.specs.Stores.{CellStore}
 use Rattle.of_mem.specs.Calls.{RunsProgram, HasStore, ActsOnStore}

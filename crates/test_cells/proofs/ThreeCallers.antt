@@ -4,7 +4,7 @@ use Rattle.of_cell.specs.Words.{pack, seq_of, payload_of}
 use Rattle.of_mem.specs.Meaning.{is_marked}
 use Rattle.of_core.specs.Table.{Setup}
 use Rattle.of_core.specs.Steps.{want, take_word}
-use Rattle.of_core.specs.World.{Moment, step_batches, step_reads}
+use Rattle.of_core.specs.TableMoment.{Moment, step_batches, step_reads}
 use Rattle.of_core.specs.Events.{Event, Begins, Turns, after_event, after_events, IsSchedule}
 use Rattle.of_core.specs.Calls.{operations_begun, outcomes}
 use Rattle.of_core.specs.Starts.{first_cells, first_words}

@@ -2,7 +2,7 @@
 use Rattle.std.proofs.Common.{◌≡◌, ℕ, ◌<◌, List, [], ◌∷◌, length, None, true, false, get_or, refl, ◌∙◌, arith}
 use Rattle.std.proofs.lemmas.Bool.Decides.{nat_tests}
 use Rattle.of_cell.specs.Words.{seq_of}
-use Rattle.of_mem.specs.Pad.{Part, newest_at, write, overlaid}
+use Rattle.of_mem.specs.Part.{Part, newest_at, write, overlaid}
 use Rattle.of_mem.proofs.Overlaid.{over_at}
 use Rattle.test_cells.specs.Register.{reads_only}
 

@@ -4,11 +4,11 @@ use Rattle.std.proofs.lemmas.Bool.{cases_eq, cases_lt}
 use Rattle.std.proofs.lemmas.Option.{none-some}
 use Rattle.std.proofs.lemmas.List.{length-replicate, get_or-replicate, get_or_past, get_or-set_same, get_or-set_other}
 use Rattle.of_mem.specs.declared.plot.TheConstants.{MOST_BLOCKS}
-use Rattle.of_mem.specs.Pad.{Part, overlaid}
+use Rattle.of_mem.specs.Part.{Part, overlaid}
 use Rattle.of_mem.specs.Places.{cells_at}
 use Rattle.of_mem.specs.Meaning.{Agrees}
 use Rattle.of_mem.specs.ProgramWork.{memory_of}
-use Rattle.of_store.specs.State.{empty_store}
+use Rattle.of_store.specs.Store.{empty_store}
 use Rattle.of_eval.specs.Scripts.{StandsForSome}
 use Rattle.of_eval.specs.SoundScripts.{empty_is_stored}
 

@@ -4,7 +4,7 @@ use Rattle.std.proofs.Common.{take, replicate}
 use Rattle.of_core.specs.declared.place.Outcome.{Outcome}
 use Rattle.of_core.specs.declared.place.Outcome.TheVariants.{Answered}
 use Rattle.of_core.specs.Table.{Setup, words_before_members}
-use Rattle.of_core.specs.World.{Moment}
+use Rattle.of_core.specs.TableMoment.{Moment}
 use Rattle.of_core.specs.Events.{Event, Begins, Turns, IsSchedule, opening_moment, zero_start}
 use Rattle.of_core.specs.Calls.{operations_begun, outcomes}
 use Rattle.of_core.specs.Linear.{CallEndsBefore}

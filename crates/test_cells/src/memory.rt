@@ -1,7 +1,7 @@
 //! Partial memory, what a work keeps over it, and the places of the data cells.
 
 use of_eval::Scripts;
-use of_mem::{Kept, Need, Part, Plot, Workspace};
+use of_mem::{Need, Part, Plot, SuspendedRun, Workspace};
 use std::test::Fail;
 
 #[test]
@@ -95,7 +95,7 @@ fn a_workspace_is_a_memory(rt: HostRuntime) -> Result<(), Fail> {
 fn what_is_kept_says_whose_it_is(rt: HostRuntime) -> Result<(), Fail> {
     let words = [5, 6];
     let mut part = Part::new(rt.alloc(), 100)?;
-    let mut kept = Kept::new(rt.alloc(), 100)?;
+    let mut kept = SuspendedRun::new(rt.alloc(), 100)?;
     part.write(7, 3);
     kept.begin(1, 2, words.as_slice());
     kept.advance(Some(4), &part);

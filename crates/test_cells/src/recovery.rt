@@ -121,8 +121,8 @@ fn renumbers(rt: HostRuntime) {
     assert_eq!(rt; durable, [0, 0, 5, 7, 0, 0, 0, 0, 0]);
 }
 
-// What a renumbering leaves that stops after each of its writes, and the next one. The cells are the
-// same.
+// What a renumbering leaves that stops after each of its writes, and the next one. The cells are
+// the same.
 #[test]
 fn renumbers_midway(rt: HostRuntime) {
     let shape = Shape::new(1, 8, 2).expect(&rt, "in range");

@@ -8,7 +8,7 @@ ghost use Rattle.test_cells.specs.Register.{meaning_of, reply_of, reads_only};
 ghost use Rattle.test_cells.specs.Sound.{register_sound, register_fits};
 
 use of_cell::{payload_of, seq_of};
-use of_mem::{Keeps, Kept, MOST_INSTRS, Need, Part, RawReply, Work};
+use of_mem::{MOST_INSTRS, MaySuspend, Need, Part, RawReply, SuspendedRun, Work};
 
 /// How many cells belong to each caller.
 const OWN_CELLS: u32 = MOST_INSTRS as u32 + 2;
@@ -41,7 +41,7 @@ fn reply(value: u32) -> RawReply
 }
 
 /// It keeps nothing: whatever is there is so.
-impl Keeps for Register {
+impl MaySuspend for Register {
     ghost holds = { λ k p. Unit {0} };
 
     ghost nothing = { λ k p e. tt };
@@ -69,7 +69,7 @@ impl Work for Register {
     fn run_on(
         &self,
         part: &mut Part,
-        _kept: &mut Kept,
+        _kept: &mut SuspendedRun,
         op: &[u64],
         out: &mut RawReply,
     ) -> Result<(), Need> {

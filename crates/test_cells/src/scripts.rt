@@ -4,7 +4,7 @@ ghost use Rattle.std.specs.Prelude.{◌≤◌};
 ghost use Rattle.of_eval.specs.Words.{IsOperation};
 
 use of_eval::{Scripts, reply_cells, reply_of};
-use of_mem::{Kept, Need, Part, RawReply, Work, Workspace};
+use of_mem::{Need, Part, RawReply, SuspendedRun, Work, Workspace};
 use of_script::{Abort, Cause, MOST_INSTRS, Reply, parse, to_words};
 use std::alloc::Global;
 use std::test::Fail;
@@ -117,7 +117,7 @@ fn asked(alloc: Global, op: &[u64]) -> Result<Vec<(u32, usize)>, Fail>
     requires { IsOperation op.now }
 {
     let mut part = Part::new(alloc, CELLS)?;
-    let mut kept = Kept::new(alloc, CELLS)?;
+    let mut kept = SuspendedRun::new(alloc, CELLS)?;
     let mut out = NO_REPLY;
     let mut seen = Vec::new(alloc);
     for _asked in 0..=CELLS {

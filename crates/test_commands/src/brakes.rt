@@ -7,7 +7,7 @@ use crate::tests::expect;
 use of_brake::{Brake, Fuel, Pattern, hold_pair};
 use of_io::{MemSink, MemSource};
 use of_plan::Ending;
-use of_tool::{Ran, status, tool};
+use of_tool::{TeamRecord, status, tool};
 use std::alloc::{AllocError, Global};
 use std::process::Abort;
 use std::test::Fail;
@@ -89,7 +89,7 @@ fn run_under<R: Threads + Sync + AllocGlobal>(
     let input = Vec::from_slice(alloc, plan.as_bytes())?;
     let mut source = MemSource::new(input, usize::MAX, Vec::new(alloc));
     let mut sink = MemSink::new(alloc, 100_000, usize::MAX, Vec::new(alloc))?;
-    let mut ran: Ran = None;
+    let mut ran: TeamRecord = None;
     let words = words.as_slice();
     if tool(rt, alloc, words, &mut source, &mut sink, brakes, &mut ran) != status::DONE {
         return Ok(None);
@@ -162,8 +162,8 @@ fn pairs(
     Ok(brakes)
 }
 
-/// The brakes of two callers, of which each denies the asks of its list; a caller with an empty list
-/// has one that tells its steps left.
+/// The brakes of two callers, of which each denies the asks of its list; a caller with an empty
+/// list has one that tells its steps left.
 fn patterns(alloc: Global, denied: [&[u64]; 2]) -> Result<Vec<Box<dyn Brake + Send>>, AllocError> {
     let mut brakes: Vec<Box<dyn Brake + Send>> = Vec::new(alloc);
     for asks in denied {

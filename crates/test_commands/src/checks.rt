@@ -12,31 +12,89 @@ const ILLEGAL: &str = "error: not a legal report\n";
 const CHECKS: [(&str, &str, u8, &str); 8] = [
     (
         "check_legal",
-        "onefile plan 1\ncallers 1\nblocks 0\nscript 0 store 3 7; add 3 1\nend\nonefile report 1\nentry 1 0 0 run none 8\ncaller 0 done 1 1 0\nseq 1\nregister 3 8\nend\n",
+        "\
+onefile plan 1
+callers 1
+blocks 0
+script 0 store 3 7; add 3 1
+end
+onefile report 1
+entry 1 0 0 run none 8
+caller 0 done 1 1 0
+seq 1
+register 3 8
+end
+",
         0,
         LEGAL,
     ),
     (
         "check_wrong_reply",
-        "onefile plan 1\ncallers 1\nblocks 0\nscript 0 store 3 7; add 3 1\nend\nonefile report 1\nentry 1 0 0 run none 9\ncaller 0 done 1 1 0\nseq 1\nregister 3 8\nend\n",
+        "\
+onefile plan 1
+callers 1
+blocks 0
+script 0 store 3 7; add 3 1
+end
+onefile report 1
+entry 1 0 0 run none 9
+caller 0 done 1 1 0
+seq 1
+register 3 8
+end
+",
         8,
         ILLEGAL,
     ),
     (
         "check_extra_newline",
-        "onefile plan 1\ncallers 1\nblocks 0\nscript 0 store 3 7; add 3 1\nend\nonefile report 1\nentry 1 0 0 run none 8\ncaller 0 done 1 1 0\nseq 1\nregister 3 8\nend\n\n",
+        "\
+onefile plan 1
+callers 1
+blocks 0
+script 0 store 3 7; add 3 1
+end
+onefile report 1
+entry 1 0 0 run none 8
+caller 0 done 1 1 0
+seq 1
+register 3 8
+end
+
+",
         8,
         ILLEGAL,
     ),
     (
         "check_without_seq",
-        "onefile plan 1\ncallers 1\nblocks 0\nscript 0 store 3 7; add 3 1\nend\nonefile report 1\nentry 1 0 0 run none 8\ncaller 0 done 1 1 0\nregister 3 8\nend\n",
+        "\
+onefile plan 1
+callers 1
+blocks 0
+script 0 store 3 7; add 3 1
+end
+onefile report 1
+entry 1 0 0 run none 8
+caller 0 done 1 1 0
+register 3 8
+end
+",
         8,
         ILLEGAL,
     ),
     (
         "a skipped line before the report",
-        "onefile plan 1\ncallers 1\nblocks 0\nend\n# nothing has run\nonefile report 1\ncaller 0 done 0 0 0\nseq 0\nend\n",
+        "\
+onefile plan 1
+callers 1
+blocks 0
+end
+# nothing has run
+onefile report 1
+caller 0 done 0 0 0
+seq 0
+end
+",
         8,
         ILLEGAL,
     ),
@@ -54,7 +112,16 @@ const CHECKS: [(&str, &str, u8, &str); 8] = [
     ),
     (
         "an end line with a mark",
-        "onefile plan 1\ncallers 1\nblocks 0\nend ;\nonefile report 1\ncaller 0 done 0 0 0\nseq 0\nend\n",
+        "\
+onefile plan 1
+callers 1
+blocks 0
+end ;
+onefile report 1
+caller 0 done 0 0 0
+seq 0
+end
+",
         5,
         "error: bad plan, line 4\n",
     ),

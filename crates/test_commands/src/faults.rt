@@ -46,7 +46,8 @@ const PIECE: usize = 16;
 // More reads and writes than any of these calls makes.
 const MOST_CALLS: u64 = 1000;
 
-// The status of the words over this input, and what was written, where the source and the sink fail at calls of these numbers.
+// The status of the words over this input, and what was written, where the source and the sink fail
+// at calls of these numbers.
 fn told<R: Threads + Sync + AllocGlobal>(
     rt: &R,
     words: &[&str],

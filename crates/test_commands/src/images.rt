@@ -4,7 +4,8 @@ use crate::tests::expect;
 use of_tool::{MOST_IMAGE, MOST_INPUT, status};
 use std::test::Fail;
 
-// What each input gives: the name of its case, the command, the input, the status and what is printed.
+// What each input gives: the name of its case, the command, the input, the status and what is
+// printed.
 const IMAGES: [(&str, &str, &str, u8, &str); 21] = [
     (
         "image_of_an_open_transaction",
@@ -94,7 +95,22 @@ end
     (
         "image_end_cut_off",
         "recover",
-        "onefile image 2\ncallers 1\nblocks 0\ncell 0 1 0\ncell 1 1 0\ncell 83 1 4\ncell 84 1 21\ncell 85 1 7\ncell 86 1 2\ncell 87 1 0\ncell 88 1 1\ncell 89 1 65536\ncell 90 1 0\ncell 91 1 1\nen",
+        "\
+onefile image 2
+callers 1
+blocks 0
+cell 0 1 0
+cell 1 1 0
+cell 83 1 4
+cell 84 1 21
+cell 85 1 7
+cell 86 1 2
+cell 87 1 0
+cell 88 1 1
+cell 89 1 65536
+cell 90 1 0
+cell 91 1 1
+en",
         status::BAD_IMAGE,
         "error: bad image, line 15\n",
     ),

@@ -8,7 +8,8 @@ use std::process::Abort;
 use std::test::Fail;
 use std::thread::Threads;
 
-// What each image and the plan behind it give: the name of the case, the input, and what is printed, or the report that it begins with.
+// What each image and the plan behind it give: the name of the case, the input, and what is
+// printed, or the report that it begins with.
 const LIVES: [(&str, &str, &str); 7] = [
     (
         "one_call_in_48_steps",
@@ -374,7 +375,8 @@ end
     ),
 ];
 
-// Two lives: what the first reads and the report that it prints, and the plan of the second and its report.
+// Two lives: what the first reads and the report that it prints, and the plan of the second and its
+// report.
 const FIRST: &str = "\
 onefile image 2
 callers 1
@@ -458,7 +460,8 @@ fn refused_lives(rt: HostRuntime) -> Result<(), Fail> {
     Ok(())
 }
 
-// The case `continue_twice`: the call that was stopped in the first life was announced, so the second goes on behind it.
+// The case `continue_twice`: the call that was stopped in the first life was announced, so the
+// second goes on behind it.
 #[test]
 fn second_life(rt: HostRuntime) -> Result<(), Fail> {
     let first = Vec::from_slice(rt.alloc(), FIRST.as_bytes())?;

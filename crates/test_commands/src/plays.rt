@@ -463,7 +463,8 @@ fn plays(rt: HostRuntime) -> Result<(), Fail> {
     Ok(())
 }
 
-// A plan of one call, without its schedule, and what is printed where the call is not in the history and where it is.
+// A plan of one call, without its schedule, and what is printed where the call is not in the
+// history and where it is.
 const ONE_CALL: &str = "\
 onefile plan 1
 callers 1
@@ -487,8 +488,9 @@ register 3 7
 end
 ";
 
-// The call exchanges the current-transaction word at the 29th of its 48 steps. It is stopped after each of them, and that
-// word is written back then: the call is in the history from its exchange on.
+// The call exchanges the current-transaction word at the 29th of its 48 steps. It is stopped after
+// each of them, and that word is written back then: the call is in the history from its exchange
+// on.
 #[test]
 fn stopped_after_each_step(rt: HostRuntime) -> Result<(), Fail> {
     for turns in 1..48 {

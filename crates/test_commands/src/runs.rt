@@ -5,7 +5,8 @@ use of_io::{MemSink, MemSource};
 use of_tool::status;
 use std::test::Fail;
 
-// What each plan of `run` gives that has one report: the name of its case, the plan, the status and what is printed.
+// What each plan of `run` gives that has one report: the name of its case, the plan, the status and
+// what is printed.
 const RUNS: [(&str, &str, u8, &str); 5] = [
     (
         "no_scripts_run",
@@ -275,8 +276,8 @@ fn runs(rt: HostRuntime) -> Result<(), Fail> {
     Ok(())
 }
 
-// The call exchanges the current-transaction word at the 29th of its 48 steps, and writes it back at the next: from then on it is in
-// the history.
+// The call exchanges the current-transaction word at the 29th of its 48 steps, and writes it back
+// at the next: from then on it is in the history.
 #[test]
 fn stopped_at_each_step(rt: HostRuntime) -> Result<(), Fail> {
     for stop in 0..49 {

@@ -1,4 +1,5 @@
-//! The scripts of a serial report on the plain store: the same replies, and the same store at the end.
+//! The scripts of a serial report on the plain store: the same replies, and the same store at the
+//! end.
 
 use of_plan::parse as parse_plan;
 use of_report::Report;
@@ -18,7 +19,8 @@ fn same(left: &Store, right: &Store) -> bool {
         && left.room() == right.room()
 }
 
-// The serial report of these scripts, a line each and all of caller 0, where it says what the plain store does.
+// The serial report of these scripts, a line each and all of caller 0, where it says what the plain
+// store does.
 fn compared<R: Abort + AllocGlobal>(rt: &R, blocks: u8, scripts: &str) -> Result<Report, Fail> {
     let alloc: Global = rt.alloc();
     let mut text = format!(in alloc; "onefile plan 1\ncallers 2\nblocks {blocks}\n")?;
@@ -65,7 +67,8 @@ drop-below 2147483647; first; next 0; count; put 3 1; put 2 1
     Ok(())
 }
 
-// An instruction on one of three registers, of six keys, which lie in two buckets, or of two queues.
+// An instruction on one of three registers, of six keys, which lie in two buckets, or of two
+// queues.
 fn instr(alloc: Global, pick: u32) -> Result<String, AllocError> {
     let (reg, key, queue) = (pick / 15 % 3, pick / 15 % 6 * 16 + 1, pick / 15 % 2);
     let value = pick / 90 % 4;

@@ -294,7 +294,8 @@ end
 onefile plan 1
 callers 1
 blocks 0
-script 0 add 0 1; add 0 1; add 0 1; add 0 1; add 0 1; add 0 1; add 0 1; add 0 1; add 0 1; add 0 1; add 0 1; add 0 1; add 0 1; add 0 1; add 0 1; add 0 1
+script 0 add 0 1; add 0 1; add 0 1; add 0 1; add 0 1; add 0 1; add 0 1; add 0 1; add 0 1; add 0 \
+1; add 0 1; add 0 1; add 0 1; add 0 1; add 0 1; add 0 1
 end
 ",
         status::DONE,
@@ -313,7 +314,8 @@ end
 onefile plan 1
 callers 1
 blocks 0
-script 0 add 0 1; add 0 1; add 0 1; add 0 1; add 0 1; add 0 1; add 0 1; add 0 1; add 0 1; add 0 1; add 0 1; add 0 1; add 0 1; add 0 1; add 0 1; add 0 1; add 0 1
+script 0 add 0 1; add 0 1; add 0 1; add 0 1; add 0 1; add 0 1; add 0 1; add 0 1; add 0 1; add 0 \
+1; add 0 1; add 0 1; add 0 1; add 0 1; add 0 1; add 0 1; add 0 1
 end
 ",
         status::BAD_PLAN,
@@ -324,7 +326,8 @@ end
 // How many brakes the top call takes.
 const BRAKES: u32 = 16;
 
-// The status of the top call with these words over this source and sink, with brakes that deny no step but that behind a stop.
+// The status of the top call with these words over this source and sink, with brakes that deny no
+// step but that behind a stop.
 pub fn answer<R: Threads + Sync + AllocGlobal>(
     rt: &R,
     words: &[&str],
@@ -345,7 +348,8 @@ pub fn answer<R: Threads + Sync + AllocGlobal>(
     Ok(tool(rt, alloc, words, source, sink, brakes, &mut None))
 }
 
-// Runs the top call over a source of whole reads and a sink of 16 bytes a write, and compares its status and its text.
+// Runs the top call over a source of whole reads and a sink of 16 bytes a write, and compares its
+// status and its text.
 pub fn expect<R: Abort + Threads + Sync + AllocGlobal>(
     rt: &R,
     case: &str,

@@ -15,19 +15,38 @@ fn traced(alloc: Global, lines: &str, first: u16, count: u16) -> Result<String, 
 
 #[test]
 fn events_of_a_schedule(rt: HostRuntime) -> Result<(), Fail> {
-    let plan =
-        "script 0 store 3 7\nscript 0 load 3\nscript 1 put 2 9\nturns 0 31\nevict 0\nturns 1 9\nturns 0 40\nturns 1 60\n";
+    let plan = "\
+script 0 store 3 7
+script 0 load 3
+script 1 put 2 9
+turns 0 31
+evict 0
+turns 1 9
+turns 0 40
+turns 1 60
+";
     // the first event that is shown, how many, and their lines
     let rows = [
         (
             30,
             3,
-            "30 0 0 exchange current, current: (0,0) -> (1,0); won\n31 evict, durable current: (0,0) -> (1,0)\n32 1 0 store script, script word 0 of 1: 0 -> 4611686022722355209; put 2 9\n",
+            "\
+30 0 0 exchange current, current: (0,0) -> (1,0); won
+31 evict, durable current: (0,0) -> (1,0)
+32 1 0 store script, script word 0 of 1: 0 -> 4611686022722355209; put 2 9
+",
         ),
         (
             59,
             5,
-            "59 0 0 raise closed, durable request 0: (1,0) -> (1,1), answered at 1 in 50 steps; closed; reply none\n60 0 1 try current, current: (1,0) -> (1,0)\n61 0 1 try request, request 0: (1,1) -> (1,1); closed\n62 0 1 try cell, cell 42 (register 3): (1,7) -> (1,7), read at 1 in 3 steps; reply 7\n63 0 nothing\n",
+            "\
+59 0 0 raise closed, durable request 0: (1,0) -> (1,1), answered at 1 in 50 steps; closed; reply \
+none
+60 0 1 try current, current: (1,0) -> (1,0)
+61 0 1 try request, request 0: (1,1) -> (1,1); closed
+62 0 1 try cell, cell 42 (register 3): (1,7) -> (1,7), read at 1 in 3 steps; reply 7
+63 0 nothing
+",
         ),
         (
             140,
@@ -44,8 +63,21 @@ fn events_of_a_schedule(rt: HostRuntime) -> Result<(), Fail> {
 
 #[test]
 fn commits_of_a_schedule(rt: HostRuntime) -> Result<(), Fail> {
-    let text =
-        "onefile plan 1\ncallers 2\nblocks 1\nlimit 2\nscript 0 store 3 7\nscript 0 load 3\nscript 1 put 2 9\nturns 0 31\nevict 0\nturns 1 9\nturns 0 40\nturns 1 60\nend\n";
+    let text = "\
+onefile plan 1
+callers 2
+blocks 1
+limit 2
+script 0 store 3 7
+script 0 load 3
+script 1 put 2 9
+turns 0 31
+evict 0
+turns 1 9
+turns 0 40
+turns 1 60
+end
+";
     let plan = parse(rt.alloc(), text.as_bytes())?;
     let rows = [
         (30, ""),

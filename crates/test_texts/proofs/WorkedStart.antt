@@ -11,7 +11,7 @@ use Rattle.of_script.specs.declared.instr.Instr.TheVariants.{Store}
 use Rattle.of_script.specs.declared.instr.TheConstants.{MOST_INSTRS}
 use Rattle.of_recover.specs.Recovered.{recovered_words}
 use Rattle.of_store.proofs.Keeps.{empty_is, last_store_keeps}
-use Rattle.of_store.specs.State.{IsState, empty_store}
+use Rattle.of_store.specs.Store.{IsState, empty_store}
 use Rattle.of_plan.specs.Report.{Start}
 use Rattle.of_eval.specs.Shapes.{IsHeldBy}
 use Rattle.of_eval.specs.Lawful.{reply_in, OwnCellsAreSound, DataCellsStandFor}

@@ -1,4 +1,5 @@
-//! Images that are read, recovered, printed, begun anew and moved from version 1, and texts that are refused.
+//! Images that are read, recovered, printed, begun anew and moved from version 1, and texts that
+//! are refused.
 
 use of_image::{ImageErr, image_parse, image_print, migrate, recovered_print, renumbered_print};
 use of_mem::{MOST_INSTRS, Plot};

@@ -1,7 +1,8 @@
-//! Plans that are read and printed, the lines at which texts are refused, the two parts of an input, and plans of loads.
+//! Plans that are read and printed, the lines at which texts are refused, the two parts of an
+//! input, and plans of loads.
 
 ghost use Rattle.std.specs.Prelude.{◌≡◌, IfOk, MatchResult};
-ghost use Rattle.of_plan.specs.declared.parsing.PlanErr.TheVariants.{Memory};
+ghost use Rattle.of_plan.specs.declared.parser.PlanErr.TheVariants.{Memory};
 
 use of_plan::{GREATEST_LIMIT, Item, Plan, PlanErr, generate, parse, parts, print};
 use std::alloc::{AllocError, Global};
@@ -76,15 +77,48 @@ fn prints_what_it_reads(rt: HostRuntime) -> Result<(), Fail> {
     for (text, printed) in [
         (
             "onefile plan 1\ncallers 1\nblocks 0\nscript 0 store 3 7; add 3 1\nend\n",
-            "onefile plan 1\ncallers 1\nblocks 0\nlimit 4294967294\nscript 0 store 3 7; add 3 1\nend\n",
+            "\
+onefile plan 1
+callers 1
+blocks 0
+limit 4294967294
+script 0 store 3 7; add 3 1
+end
+",
         ),
         (
             "onefile plan 1\ncallers 1\nblocks 0\nevict 245\nend\n",
             "onefile plan 1\ncallers 1\nblocks 0\nlimit 4294967294\nevict 245\nend\n",
         ),
         (
-            "# two callers\n onefile  plan 1 \n\ncallers 2\nblocks 3\nlimit 9\nturns 1 5\nscript 1 count\nstop 1 30\nscript 0 put 1 2;need 1 2\nevict 0\nscript 1 load 4\nend\n\n# done",
-            "onefile plan 1\ncallers 2\nblocks 3\nlimit 9\nscript 0 put 1 2; need 1 2\nscript 1 count\nscript 1 load 4\nstop 1 30\nturns 1 5\nevict 0\nend\n",
+            "\
+# two callers
+ onefile  plan 1 \n\n\
+callers 2
+blocks 3
+limit 9
+turns 1 5
+script 1 count
+stop 1 30
+script 0 put 1 2;need 1 2
+evict 0
+script 1 load 4
+end
+
+# done",
+            "\
+onefile plan 1
+callers 2
+blocks 3
+limit 9
+script 0 put 1 2; need 1 2
+script 1 count
+script 1 load 4
+stop 1 30
+turns 1 5
+evict 0
+end
+",
         ),
     ] {
         let plan = parse(rt.alloc(), text.as_bytes())?;
@@ -99,8 +133,15 @@ fn prints_what_it_reads(rt: HostRuntime) -> Result<(), Fail> {
 
 #[test]
 fn shows_what_it_holds(rt: HostRuntime) -> Result<(), Fail> {
-    let text =
-        "onefile plan 1\ncallers 2\nblocks 7\nscript 1 count\nscript 1 load 4\nstop 0 30\nturns 1 5\nend";
+    let text = "\
+onefile plan 1
+callers 2
+blocks 7
+script 1 count
+script 1 load 4
+stop 0 30
+turns 1 5
+end";
     let plan = parse(rt.alloc(), text.as_bytes())?;
     assert_eq!(rt; plan.blocks(), 7);
     assert_eq!(rt; plan.limit(), GREATEST_LIMIT);
@@ -139,7 +180,17 @@ fn plans_of_loads(rt: HostRuntime) -> Result<(), Fail> {
         (
             2,
             2,
-            "onefile plan 1\ncallers 2\nblocks 512\nlimit 4294967294\nscript 0 add 0 1; put 0 0\nscript 0 add 1 1; put 1 1\nscript 1 add 0 1; put 31 0\nscript 1 add 1 1; put 32 1\nend\n",
+            "\
+onefile plan 1
+callers 2
+blocks 512
+limit 4294967294
+script 0 add 0 1; put 0 0
+script 0 add 1 1; put 1 1
+script 1 add 0 1; put 31 0
+script 1 add 1 1; put 32 1
+end
+",
         ),
         (
             1,

@@ -59,7 +59,9 @@ fn names_the_first_bad_piece(rt: HostRuntime) -> Result<(), Fail> {
         ("Count", 0),
         ("count\n", 0),
         (
-            "count;count;count;count;count;count;count;count;count;count;count;count;count;count;count;count;count",
+            "\
+count;count;count;count;count;count;count;count;count;count;count;count;count;count;count;count;\
+count",
             16,
         ),
     ] {

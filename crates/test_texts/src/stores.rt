@@ -1,4 +1,5 @@
-//! What scripts answer on the plain store, and that it is unchanged after an abort and without memory.
+//! What scripts answer on the plain store, and that it is unchanged after an abort and without
+//! memory.
 
 use of_script::{Abort, Cause, Reply, parse};
 use of_store::Store;
@@ -49,12 +50,16 @@ fn answers_by_the_table(rt: HostRuntime) -> Result<(), Fail> {
         ),
         (
             4,
-            "put 1001 5; push 0 1001; add 0 1\npop 0; need 1001 5; put 1001 4; sub 0 1; count; len 0",
+            "\
+put 1001 5; push 0 1001; add 0 1
+pop 0; need 1001 5; put 1001 4; sub 0 1; count; len 0",
             "none none 1 \n1001 none 5 0 1 0 \n",
         ),
         (
             4,
-            "put 40 1; put 7 2; put 9 3; first; next 7; next 40\ndrop-below 9; count; first; drop-below 9",
+            "\
+put 40 1; put 7 2; put 9 3; first; next 7; next 40
+drop-below 9; count; first; drop-below 9",
             "none none none 7 9 none \n1 2 9 0 \n",
         ),
         (0, "first; next 5; drop-below 2147483647", "none none 0 \n"),

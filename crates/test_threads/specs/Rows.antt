@@ -4,7 +4,7 @@ use Rattle.of_eval.specs.declared.scripts.Scripts.{Scripts}
 use Rattle.of_eval.specs.Scripts.{scripts_data_cells, scripts_meaning, LawfulCells}
 use Rattle.of_core.specs.Table.{setup_of}
 use Rattle.of_core.specs.Events.{zero_start}
-use Rattle.of_core.specs.Seen.{Machine}
+use Rattle.of_core.specs.MachineValue.{Machine}
 use Rattle.of_row.specs.Views.{View}
 use Rattle.of_row.specs.Rule.{ViewMeetsRule}
 use Rattle.of_row.specs.declared.member.Member.{Member}

@@ -10,13 +10,23 @@ use Rattle.of_eval.specs.Scripts.{scripts_data_cells, scripts_meaning, LawfulCel
 
 -- one caller without blocks
 abbrev pub alone : Scripts
-alone = record { callers = 1; blocks = 0; some_callers = lit≤ tt; few_callers = lit≤ tt; few_blocks = lit≤ tt }
+alone = record {
+  callers = 1;
+  blocks = 0;
+  some_callers = lit≤ tt;
+  few_callers = lit≤ tt;
+  few_blocks = lit≤ tt;
+}
 
 -- its first call has left 7 in register 3, all words have this sequence, and this is its request
 abbrev pub stored_row : (seq request : ℕ) → List ℕ
-stored_row s request = pack s 0 ∷ request ∷ pack s 1 ∷ pack s 65536 ∷ pack s 0 ∷ (replicate 18 0 ++ (pack s 7 ∷ replicate 222 0))
+stored_row s request =
+    pack s 0 ∷ request ∷ pack s 1 ∷ pack s 65536 ∷ pack s 0
+    ∷ (replicate 18 0 ++ (pack s 7 ∷ replicate 222 0))
 
 -- a table of these scripts may start from the row
 abbrev pub MayStartFrom : Scripts → (limit : ℕ) → List ℕ → Type 0
 MayStartFrom scripts limit row =
-    IsStartRow (setup_of scripts.callers (scripts_data_cells scripts) limit (scripts_meaning scripts)) (LawfulCells scripts) row
+    IsStartRow
+    (setup_of scripts.callers (scripts_data_cells scripts) limit (scripts_meaning scripts))
+    (LawfulCells scripts) row

@@ -1,5 +1,6 @@
 //! Two days at the bank that follow one another.
 
+ghost use Rattle.std.specs.Prelude.{IfOk};
 ghost use Rattle.example_bank.specs.Books.{AreBooks};
 
 use example_bank::{BankErr, Books, CLERKS, Day, End, Job, Jobs, Tally, Transfer, working_day};
@@ -22,8 +23,8 @@ fn job(
     })
 }
 
-/// A day on which clerk 0 places an order that clerk 1 fills in the evening, after a transfer of more
-/// than there is, and clerk 2 is stopped.
+/// A day on which clerk 0 places an order that clerk 1 fills in the evening, after a transfer of
+/// more than there is, and clerk 2 is stopped.
 fn first_jobs(alloc: Global) -> Result<Jobs, AllocError> {
     let order = [Transfer::order(7, 4)];
     let too_much = [Transfer::new(0, 1, 11), Transfer::fill(7, 4, 0, 15)];
@@ -67,16 +68,31 @@ fn seen(alloc: Global, day: &Day) -> Result<Seen, BankErr>
     Ok((numbers, [day.tallies[1], day.tallies[2], day.tallies[3]]))
 }
 
+/// A day on these books: what is seen in the evening, and the books of the day after.
+fn day_on<R: Threads + Sync>(
+    rt: &R,
+    alloc: Global,
+    books: &Books,
+    jobs: Jobs,
+) -> Result<(Seen, Books), BankErr>
+    requires { AreBooks books.now }
+    ensures { IfOk result (λ r. AreBooks r.1) }
+{
+    let day = working_day(rt, alloc, books, jobs)?;
+    let told = seen(alloc, &day)?;
+    Ok((told, day.books))
+}
+
 /// What is seen in the evenings of both days.
 fn two_days<R: Threads + Sync>(rt: &R, alloc: Global) -> Result<(Seen, Seen), BankErr> {
     let scripts = Scripts {
         callers: CLERKS,
         blocks: 2,
     };
-    let books = Books::found(alloc, scripts, 10)?;
-    let first = working_day(rt, alloc, &books, first_jobs(alloc)?)?;
-    let second = working_day(rt, alloc, &first.books, second_jobs(alloc)?)?;
-    Ok((seen(alloc, &first)?, seen(alloc, &second)?))
+    let books = Books::with_amount(alloc, scripts, 10)?;
+    let (first, books) = day_on(rt, alloc, &books, first_jobs(alloc)?)?;
+    let (second, _books) = day_on(rt, alloc, &books, second_jobs(alloc)?)?;
+    Ok((first, second))
 }
 
 /// A tally with nothing pending.

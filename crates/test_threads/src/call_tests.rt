@@ -1,7 +1,9 @@
 //! Callers under brakes of each kind, and newcomers.
 
+ghost use Rattle.std.specs.Prelude.{◌≤◌};
+
 use crate::call_threads::run_two;
-use crate::calls::{End, alone, call, go_on, renewed};
+use crate::calls::{Act, End, act, alone, call, go_on, renewed};
 use crate::doors::{relieved, relieved_beside};
 use of_brake::{Brake, Fuel, Pattern};
 use of_cell::payload_of;
@@ -52,41 +54,45 @@ fn a_number_is_taken_once(rt: HostRuntime) -> Result<(), Fail> {
     Ok(())
 }
 
-/// A call of `store 3 7` under fuel of 3 steps, another one while it is open, and its going on
-/// under fuel of 45.
-fn fueled(alloc: Global) -> Result<[End; 3], AllocError> {
-    let (row, mut caller, _pass) = alone(alloc, 10)?;
-    let mut brake = fuel(alloc, Some(3))?;
-    let stopped = call(&row, &mut caller, STORE_3_7, &mut brake);
-    let still_open = call(&row, &mut caller, STORE_3_7, &mut brake);
-    brake.arm(Some(45));
-    let answered = go_on(&row, &mut caller, &mut brake);
-    Ok([stopped, still_open, answered])
+/// How each of three acts of one caller ends, each under so much fuel.
+fn three(alloc: Global, limit: u32, acts: [(Option<u64>, Act); 3]) -> Result<[End; 3], AllocError>
+    requires { limit ≤ 4294967294 }
+{
+    let (row, mut caller, _pass) = alone(alloc, limit)?;
+    let mut brake = fuel(alloc, None)?;
+    let mut ends = [End::Unfit; 3];
+    for at in 0..3 {
+        let (stop, what) = acts[at];
+        ends[at] = act(&row, &mut caller, &mut brake, stop, what);
+    }
+    Ok(ends)
 }
 
+// A call of `store 3 7`, another one while it is open, and its going on.
 #[test]
 fn fuel_stops_and_lets_go_on(rt: HostRuntime) -> Result<(), Fail> {
+    let acts = [
+        (Some(3), Act::Call(STORE_3_7)),
+        (Some(3), Act::Call(STORE_3_7)),
+        (Some(45), Act::GoOn),
+    ];
     let wanted = [End::Stopped(4), End::Unfit, End::Answered(1, NONE, 0, 48)];
-    assert_eq!(rt; fueled(rt.alloc())?, wanted);
+    assert_eq!(rt; three(rt.alloc(), 10, acts)?, wanted);
     Ok(())
-}
-
-/// Calls of `store 3 7`, `add 3 1` and `load 3` at a limit of 1.
-fn limited(alloc: Global) -> Result<[End; 3], AllocError> {
-    let (row, mut caller, _pass) = alone(alloc, 1)?;
-    let mut brake = fuel(alloc, None)?;
-    let first = call(&row, &mut caller, STORE_3_7, &mut brake);
-    let second = call(&row, &mut caller, ADD_3_1, &mut brake);
-    Ok([first, second, call(&row, &mut caller, LOAD_3, &mut brake)])
 }
 
 // A read is answered at the limit: it loads the current-transaction word, its owner's request and
 // one cell.
 #[test]
 fn spent_at_the_limit(rt: HostRuntime) -> Result<(), Fail> {
+    let acts = [
+        (None, Act::Call(STORE_3_7)),
+        (None, Act::Call(ADD_3_1)),
+        (None, Act::Call(LOAD_3)),
+    ];
     let read = End::Answered(1, NUMBER, 7, 3);
     assert_eq!(rt;
-        limited(rt.alloc())?,
+        three(rt.alloc(), 1, acts)?,
         [End::Answered(1, NONE, 0, 48), End::Spent(1), read]
     );
     Ok(())

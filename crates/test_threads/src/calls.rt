@@ -149,6 +149,33 @@ fn counted_call<L: Ledger>(
     end_of(caller.call(row, op.as_slice(), brake, &mut steps))
 }
 
+/// What is done with a caller.
+#[derive(Clone, Copy)]
+pub enum Act {
+    /// A call of one instruction.
+    Call(u64),
+    /// Its open call goes on.
+    GoOn,
+}
+
+/// Does that under a brake with so many steps, or without end.
+pub fn act(
+    row: &Row<Scripts>,
+    caller: &mut Caller<Scripts>,
+    brake: &mut Box<dyn Brake + Send>,
+    stop: Option<u64>,
+    act: Act,
+) -> End
+    requires { IsCaller scripts_meaning row.now caller.old }
+    ensures { IsCaller scripts_meaning row.now caller.new }
+{
+    brake.arm(stop);
+    match act {
+        Act::Call(word) => call(row, caller, word, brake),
+        Act::GoOn => go_on(row, caller, brake),
+    }
+}
+
 /// Goes on with the open call, where one is open.
 pub fn go_on(
     row: &Row<Scripts>,

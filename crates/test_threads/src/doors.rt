@@ -59,6 +59,26 @@ fn leave(
     }
 }
 
+/// A call of caller 0, which then leaves through its door: how the call ended, and the pass.
+fn call_and_leave(
+    alloc: Global,
+    row: &Row<Scripts>,
+    door: &Door<Scripts>,
+    hand: &mut Hand,
+    leaves: (Caller<Scripts>, u64),
+) -> (End, Option<Pass>)
+    requires row { row_of_door door.now ≡ row.now }
+    requires number { number_of_door door.now ≡ 0 }
+    requires hand { IsHandOf door.now hand.old }
+    requires caller { IsCaller scripts_meaning row.now leaves.0 }
+    ensures hand { IsHandOf door.now hand.new }
+    ensures pass { IfSome result.1 (λ p. IsSeatOf row.now p.seat × (p.seat.me.0.kept ≡ [])) }
+{
+    let (mut caller, word) = leaves;
+    let end = free_call(alloc, row, &mut caller, word);
+    (end, leave(row, door, hand, caller))
+}
+
 /// Somebody comes with a pass: the newcomer's caller, and how many calls it had begun.
 fn come(
     alloc: Global,
@@ -86,14 +106,13 @@ fn come(
 /// What became of one caller: the word that was found before it left, its call, how many calls the
 /// newcomer found begun, and the newcomer's call.
 pub fn relieved(alloc: Global, calls: [u64; 2]) -> Result<(u64, End, u32, End), AllocError> {
-    let (row, mut caller, pass) = alone(alloc, LIMIT)?;
+    let (row, caller, pass) = alone(alloc, LIMIT)?;
     let (door, mut hand) = Door::new(alloc, &row, 0)?;
     let Err((_pass, before)) = door.come(&row, &mut hand, pass) else {
         return Err(AllocError);
     };
     let [its, theirs] = calls;
-    let first = free_call(alloc, &row, &mut caller, its);
-    let Some(pass) = leave(&row, &door, &mut hand, caller) else {
+    let (first, Some(pass)) = call_and_leave(alloc, &row, &door, &mut hand, (caller, its)) else {
         return Err(AllocError);
     };
     let Some((mut caller, made)) = come(alloc, &row, &door, &mut hand, pass) else {
@@ -180,10 +199,8 @@ fn left_beside<R: Threads + Sync>(
     requires stays { IsCaller scripts_meaning row.now stays.0 }
 {
     let theirs = door.split(&mut hand);
-    let (mut first, its) = leaves;
     let (second, word) = stays;
-    let _ = free_call(alloc, row, &mut first, its);
-    match leave(row, door, &mut hand, first) {
+    match call_and_leave(alloc, row, door, &mut hand, leaves).1 {
         Some(pass) => Ok(beside(rt, alloc, row, door, (theirs, pass), second, word)),
         None => Err(AllocError),
     }

@@ -115,21 +115,44 @@ const STOPS: [(&str, &str, &str, &str); 3] = [
     (
         "stop 0 79\n",
         "",
-        "onefile report 1\nentry 1 0 0 run none\nentry 2 0 1 run 8\ncaller 0 stopped 1 2 48\nseq 2\nregister 3 8\nend\n",
+        "\
+onefile report 1
+entry 1 0 0 run none
+entry 2 0 1 run 8
+caller 0 stopped 1 2 48
+seq 2
+register 3 8
+end
+",
         "onefile report 1\ncaller 0 done 0 0 0\nseq 2\nregister 3 8\nend\n",
     ),
     // It is stopped one step earlier, so the next life makes it.
     (
         "stop 0 78\n",
         "",
-        "onefile report 1\nentry 1 0 0 run none\ncaller 0 stopped 1 1 48\nseq 1\nregister 3 7\nend\n",
+        "\
+onefile report 1
+entry 1 0 0 run none
+caller 0 stopped 1 1 48
+seq 1
+register 3 7
+end
+",
         "onefile report 1\nentry 2 0 1 run 8\ncaller 0 done 1 1 49\nseq 2\nregister 3 8\nend\n",
     ),
     // Nothing is left to do.
     (
         "",
         "",
-        "onefile report 1\nentry 1 0 0 run none\nentry 2 0 1 run 8\ncaller 0 done 2 2 49\nseq 2\nregister 3 8\nend\n",
+        "\
+onefile report 1
+entry 1 0 0 run none
+entry 2 0 1 run 8
+caller 0 done 2 2 49
+seq 2
+register 3 8
+end
+",
         "onefile report 1\ncaller 0 done 0 0 0\nseq 2\nregister 3 8\nend\n",
     ),
 ];

@@ -95,6 +95,27 @@ pub fn row_after(
     Ok((row.close(pass).0, last))
 }
 
+/// What so many turns of caller 0 tell.
+fn turns_of_first(
+    alloc: Global,
+    row: &Row<Scripts>,
+    pass: Pass,
+    scripts: Scripts,
+    limit: u32,
+    calls: &[u64],
+    count: u32,
+) -> Result<Option<Outcome>, AllocError>
+    requires row { IsRowOf row.now scripts limit }
+    requires limit { limit ≤ 4294967294 }
+    requires pass { MayEvict row.now pass }
+{
+    let mut brake: Box<dyn Brake + Send> = Box::new(alloc, Fuel::new())?;
+    let (mut caller, pass) = enrolled(alloc, row, pass, 0, scripts, limit)?;
+    let last = turns(row, &mut caller, calls, count, &mut brake);
+    let _ = row.join(pass, caller.member);
+    Ok(last)
+}
+
 /// What so many turns of one caller tell, on a row that starts behind the first of these calls.
 pub fn told_from(
     alloc: Global,
@@ -110,12 +131,8 @@ pub fn told_from(
         callers: 1,
         blocks: 0,
     };
-    let mut brake: Box<dyn Brake + Send> = Box::new(alloc, Fuel::new())?;
     let (row, pass) = row_from(alloc, scripts, limit, durable)?;
-    let (mut caller, pass) = enrolled(alloc, &row, pass, 0, scripts, limit)?;
-    let last = turns(&row, &mut caller, calls, count, &mut brake);
-    let _ = row.join(pass, caller.member);
-    Ok(last)
+    turns_of_first(alloc, &row, pass, scripts, limit, calls, count)
 }
 
 /// Caller 1, where there are two.

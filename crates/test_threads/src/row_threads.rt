@@ -81,7 +81,8 @@ fn both<R: Threads + Sync>(
         { driven(alloc, row, first, own) },
         || -> (Stepper, Pass)
             requires { IsStepperOf row.now other.member other.machine × MayEvict row.now pass }
-            ensures { IsStepperOf row.entry.now result.0.member result.0.machine × MayEvict row.entry.now result.1 }
+            ensures { IsStepperOf row.entry.now result.0.member result.0.machine
+                × MayEvict row.entry.now result.1 }
         { driven_evicting(alloc, row, other, pass, theirs) },
     );
     (one, other, pass)
@@ -98,7 +99,8 @@ pub fn run_two<R: Threads + Sync>(
 ) -> Result<(Vec<u64>, Pass), AllocError>
     requires callers { 2 ≤ scripts.callers }
     requires limit { limit ≤ 4294967294 }
-    ensures { IfOk result (λ r. (v : View) × (r.1.seat.me.0 ≡ copied_view v) × MeetsRule scripts limit r.0.items v) }
+    ensures { IfOk result (λ r. (v : View)
+        × (r.1.seat.me.0 ≡ copied_view v) × MeetsRule scripts limit r.0.items v) }
 {
     let (row, pass) = row_of(alloc, scripts, limit)?;
     let (first, pass) = enrolled(alloc, &row, pass, 0, scripts, limit)?;

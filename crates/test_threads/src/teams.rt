@@ -4,7 +4,7 @@ ghost use Rattle.std.specs.Prelude.{◌<◌, ◌≤◌};
 ghost use Rattle.of_mem.specs.declared.plot.TheConstants.{REGISTERS};
 
 use of_brake::{Brake, Fuel, hold_pair};
-use of_caller::{row_for, team};
+use of_caller::{team, zero_row_for};
 use of_cell::payload_of;
 use of_plan::{Ended, parse};
 use std::alloc::{AllocError, Global};
@@ -30,7 +30,7 @@ fn run_plan<R: Threads + Sync>(
     if brakes.len() < plan.callers() as usize {
         return Ok(None);
     }
-    let (row, pass) = row_for(alloc, &plan)?;
+    let (row, pass) = zero_row_for(alloc, &plan)?;
     let (ended, _pass) = team(rt, alloc, row, pass, &plan, brakes)?;
     let cell = 1 + plan.callers() + plan.plot().register(register);
     let number = match ended.words.get(cell as usize) {
@@ -58,6 +58,29 @@ pub fn run_fuels<R: Threads + Sync>(
     run_plan(rt, alloc, text, brakes, register)
 }
 
+/// Makes the brakes of a pair of callers, and puts one behind the brakes and one behind those of
+/// the partners.
+fn push_pair(
+    alloc: Global,
+    at: u64,
+    exchanged: bool,
+    brakes: &mut Vec<Box<dyn Brake + Send>>,
+    partners: &mut Vec<Box<dyn Brake + Send>>,
+) -> Result<(), AllocError>
+    requires { 1 ≤ at }
+{
+    let (holder, teller) = hold_pair(alloc, at, TURNS)?;
+    let holder: Box<dyn Brake + Send> = Box::new(alloc, holder)?;
+    let teller: Box<dyn Brake + Send> = Box::new(alloc, teller)?;
+    let (one, other) = if exchanged {
+        (teller, holder)
+    } else {
+        (holder, teller)
+    };
+    brakes.push(one)?;
+    partners.push(other)
+}
+
 /// What a team of so many pairs of callers leaves, the first with the last, and so on inwards: of
 /// each pair one is held at its ask `at` until the other's call is answered, the first one, or the
 /// second where they are exchanged.
@@ -76,16 +99,7 @@ pub fn run_pairs<R: Threads + Sync>(
     let mut brakes: Vec<Box<dyn Brake + Send>> = Vec::new(alloc);
     let mut partners: Vec<Box<dyn Brake + Send>> = Vec::new(alloc);
     for _ in 0..pairs {
-        let (holder, teller) = hold_pair(alloc, at, TURNS)?;
-        let holder: Box<dyn Brake + Send> = Box::new(alloc, holder)?;
-        let teller: Box<dyn Brake + Send> = Box::new(alloc, teller)?;
-        if exchanged {
-            brakes.push(teller)?;
-            partners.push(holder)?;
-        } else {
-            brakes.push(holder)?;
-            partners.push(teller)?;
-        }
+        push_pair(alloc, at, exchanged, &mut brakes, &mut partners)?;
     }
     for _ in 0..pairs {
         if let Some(partner) = partners.pop() {

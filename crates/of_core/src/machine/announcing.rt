@@ -1,7 +1,7 @@
 //! How a machine goes on at the steps that announce its call.
 
 ghost use Rattle.std.specs.Prelude.{◌≡◌, ◌<◌, ◌+◌};
-ghost use Rattle.of_core.specs.Seen.{step_from};
+ghost use Rattle.of_core.specs.MachineValue.{step_from};
 ghost use Rattle.of_core.specs.declared.place.Place.TheVariants.{StoreScript};
 
 use crate::machine::Machine;

@@ -1,19 +1,21 @@
-//! How a machine goes on at the steps that read its own cells: a call that is in the history is answered from them.
+//! How a machine goes on at the steps that read its own cells: a call that is in the history is
+//! answered from them.
 
 ghost use Rattle.std.specs.Prelude.{◌≡◌, ◌<◌, ◌≤◌, ◌+◌, IfSome, Option, ℕ};
 ghost use Rattle.of_mem.specs.declared.work.TheConstants.{MOST_INSTRS};
 ghost use Rattle.of_core.specs.Steps.{next_reply_place};
-ghost use Rattle.of_core.specs.Seen.{machine_setup, step_from};
+ghost use Rattle.of_core.specs.MachineValue.{machine_setup, step_from};
 ghost use Rattle.of_core.specs.declared.place.Place.TheVariants.{LoadReply};
 
-use crate::machine::fill::first_mark;
+use crate::machine::logs::first_mark;
 use crate::machine::{Machine, OWN_CELLS};
 use crate::place::{Outcome, Place};
 use of_cell::{payload_of, seq_of};
 use of_mem::{MOST_INSTRS, RawReply, Work};
 
 impl<W: Work> Machine<W> {
-    /// From the load of one's own ticket: the call is there, or it is spent at the limit, or the scan begins.
+    /// From the load of one's own ticket: the call is there, or it is spent at the limit, or the
+    /// scan begins.
     pub(super) fn after_own_ticket(&mut self, found: u64)
         requires at { self.old.call.place ≡ Place.LoadOwnTicket }
         ensures { self.new ≡ step_from W.meaning Place.LoadOwnTicket found self.old }

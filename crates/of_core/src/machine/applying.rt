@@ -1,7 +1,7 @@
 //! How a machine goes on at the steps that apply a transaction, its own or one that it helps with.
 
 ghost use Rattle.std.specs.Prelude.{◌≡◌, ◌≤◌, ◌<◌, ◌+◌, length, IsTrue};
-ghost use Rattle.of_core.specs.Seen.{step_from};
+ghost use Rattle.of_core.specs.MachineValue.{step_from};
 ghost use Rattle.of_core.specs.declared.place.Place.TheVariants.{LoadTarget, ExchangeTarget, ReloadTarget, RaiseTarget};
 
 use crate::machine::Machine;

@@ -1,7 +1,8 @@
-//! How a machine goes on at the steps of its own transaction: the log, the request, and the exchange that commits.
+//! How a machine goes on at the steps of its own transaction: the log, the request, and the
+//! exchange that commits.
 
 ghost use Rattle.std.specs.Prelude.{◌≡◌, ◌<◌, ◌+◌};
-ghost use Rattle.of_core.specs.Seen.{step_from};
+ghost use Rattle.of_core.specs.MachineValue.{step_from};
 ghost use Rattle.of_core.specs.declared.place.Place.TheVariants.{StoreLog, RaiseLog};
 
 use crate::machine::Machine;

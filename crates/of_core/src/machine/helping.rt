@@ -1,16 +1,16 @@
-//! How a machine goes on at the steps by which it looks at another's transaction and copies its log.
+//! How a machine goes on at the steps by which it looks at another's transaction and copies its
+//! log.
 
-ghost use Rattle.std.specs.Prelude.{◌≡◌, ◌<◌, ◌≤◌, ◌+◌, ◌*◌, ◌==◌, ℕ, List, length, true};
+ghost use Rattle.std.specs.Prelude.{◌≡◌, ◌<◌, ◌≤◌, ◌+◌, ◌*◌, ◌==◌, length, true};
 ghost use Rattle.std.proofs.Common.{get_or};
 ghost use Rattle.of_cell.specs.Words.{pack, seq_of, payload_of};
-ghost use Rattle.of_core.specs.Machine.{log_words};
-ghost use Rattle.of_core.specs.Shared.{IsLog};
+ghost use Rattle.of_core.specs.WordsMatch.{AreLogWords};
 ghost use Rattle.of_core.specs.Steps.{after_load_request, with_log_word_copied, enter, resume};
-ghost use Rattle.of_core.specs.Seen.{machine_setup, step_from};
+ghost use Rattle.of_core.specs.MachineValue.{machine_setup, machine_after, step_from};
 ghost use Rattle.of_core.specs.declared.place.Place.TheVariants.{CopyLog};
 
 use crate::machine::Machine;
-use crate::machine::fill::put_copy;
+use crate::machine::logs::put_copy;
 use crate::place::Place;
 use of_cell::{pack, payload_of, seq_of};
 use of_mem::Work;
@@ -47,7 +47,7 @@ impl<W: Work> Machine<W> {
 
     /// Begins to copy the log of the open transaction.
     pub(super) fn help(&mut self)
-        ensures { self.new ≡ record self.old { call = after_load_request (machine_setup W.meaning self.old) self.old.call true } }
+        ensures { self.new ≡ machine_after W.meaning (λ S m. after_load_request S m true) self.old }
     {
         self.copy.clear();
         self.helps = true;
@@ -72,10 +72,12 @@ impl<W: Work> Machine<W> {
         };
     }
 
-    /// From the second look at the request: a copy that was made while the transaction was open is its log.
+    /// From the second look at the request: a copy that was made while the transaction was open is
+    /// its log.
     pub(super) fn after_look_again(&mut self, found: u64)
         requires some { 1 ≤ length self.old.call.op }
-        requires copied { found ≡ pack self.old.call.seq 0 → (es : List (ℕ × ℕ)) × (self.old.call.copy ≡ log_words es) × IsLog (machine_setup W.meaning self.old) es }
+        requires copied { found ≡ pack self.old.call.seq 0
+            → AreLogWords (machine_setup W.meaning self.old) self.old.call.copy }
         ensures { self.new ≡ step_from W.meaning Place.LookAgain found self.old }
     {
         if found == pack(self.seq, 0) {
@@ -90,7 +92,7 @@ impl<W: Work> Machine<W> {
     /// Goes on with the try or the round behind its help.
     pub(super) fn resume(&mut self)
         requires some { 1 ≤ length self.old.call.op }
-        ensures { self.new ≡ record self.old { call = resume (machine_setup W.meaning self.old) self.old.call (self.old.call.rounds == 0) } }
+        ensures { self.new ≡ machine_after W.meaning (λ S m. resume S m (m.rounds == 0)) self.old }
     {
         if self.rounds == 0 {
             self.begin_reading();
@@ -101,7 +103,7 @@ impl<W: Work> Machine<W> {
 
     /// Begins to read the state of a round, behind the look at the request or the help.
     pub(super) fn enter(&mut self)
-        ensures { self.new ≡ record self.old { call = enter (machine_setup W.meaning self.old) self.old.call } }
+        ensures { self.new ≡ machine_after W.meaning enter self.old }
     {
         self.part.clear();
         self.log.clear();

@@ -1,22 +1,20 @@
-//! How a machine goes on at the steps of a scan: of each caller in turn the announced call is run, where its ticket is new.
+//! How a machine goes on at the steps of a scan: of each caller in turn the announced call is run,
+//! where its ticket is new.
 
-ghost use Rattle.std.specs.Prelude.{◌≡◌, ◌<◌, ◌≤◌, ◌+◌, ℕ, List, None, length, true, IsTrue};
+ghost use Rattle.std.specs.Prelude.{◌≡◌, ◌<◌, ◌≤◌, ◌+◌, length, true, IsTrue};
 ghost use Rattle.of_cell.specs.Words.{seq_of, payload_of};
 ghost use Rattle.of_mem.specs.declared.work.TheConstants.{MOST_INSTRS};
-ghost use Rattle.of_mem.specs.Meaning.{Agrees};
-ghost use Rattle.of_mem.specs.Pairs.{value_for};
-ghost use Rattle.of_mem.specs.Pad.{overlaid};
-ghost use Rattle.of_core.specs.Table.{ticket_cell};
+ghost use Rattle.of_mem.specs.Part.{overlaid};
 ghost use Rattle.of_core.specs.Machine.{with_cell_known};
 ghost use Rattle.of_core.specs.Steps.{own_reply_or, place_behind, run_script, weigh};
-ghost use Rattle.of_core.specs.Fit.{IsScanning, is_scanning};
-ghost use Rattle.of_core.specs.Seen.{machine_setup, step_from};
+ghost use Rattle.of_core.specs.Fit.{IsScanning, LeavesTicket, is_scanning};
+ghost use Rattle.of_core.specs.MachineValue.{machine_setup, machine_after, step_from, KnowsState};
 ghost use Rattle.of_core.specs.declared.place.Place.TheVariants.{LoadScript, LoadCell};
 
-use crate::machine::fill::{collect, put_own, words_of};
+use crate::call::Call;
+use crate::machine::logs::{hand_to_log, padded_words, put_own};
 use crate::machine::{Machine, OWN_CELLS};
 use crate::place::Place;
-use crate::ran::RanCall;
 use of_cell::{payload_of, seq_of};
 use of_mem::{MOST_INSTRS, RawReply, Work};
 
@@ -39,12 +37,13 @@ fn newer_raw(own: bool, new: &RawReply, old: &RawReply) -> RawReply
 }
 
 impl<W: Work> Machine<W> {
-    /// From the load of an announcement: its ticket is weighed against the caller's ticket cell, which is loaded where it isn't known.
+    /// From the load of an announcement: its ticket is weighed against the caller's ticket cell,
+    /// which is loaded where it isn't known.
     pub(super) fn after_load_announcement(&mut self, found: u64)
         requires at { self.old.call.place ≡ Place.LoadAnnouncement }
         requires small { payload_of found ≤ MOST_INSTRS }
         requires some { 0 < seq_of found → 1 ≤ payload_of found }
-        requires unnamed { value_for self.old.call.log (ticket_cell (machine_setup W.meaning self.old) self.old.call.scan) ≡ None }
+        requires unnamed { LeavesTicket (machine_setup W.meaning self.old) self.old.call }
         ensures { self.new ≡ step_from W.meaning Place.LoadAnnouncement found self.old }
     {
         self.heard = found;
@@ -77,7 +76,7 @@ impl<W: Work> Machine<W> {
         requires scan { IsScanning (machine_setup W.meaning self.old) self.old.call }
         requires small { payload_of self.old.call.heard ≤ MOST_INSTRS }
         requires some { IsTrue new → 0 < payload_of self.old.call.heard }
-        ensures { self.new ≡ record self.old { call = weigh (machine_setup W.meaning self.old) self.old.call new } }
+        ensures { self.new ≡ machine_after W.meaning (λ S m. weigh S m new) self.old }
     {
         if new {
             self.script.clear();
@@ -92,7 +91,8 @@ impl<W: Work> Machine<W> {
     pub(super) fn after_load_script(&mut self, at: u32, found: u64)
         requires at { self.old.call.place ≡ LoadScript at }
         requires many { length self.old.call.script ≡ at }
-        requires agrees { (xs : List ℕ) × (length xs ≡ self.old.cells) × W.lawful self.old.work xs × Agrees (overlaid self.old.call.known self.old.call.log) xs }
+        requires agrees { let m = self.old.call in
+            KnowsState W.lawful self.old (overlaid m.known m.log) }
         ensures { self.new ≡ step_from W.meaning (LoadScript at) found self.old }
     {
         match self.script.push(found) {
@@ -111,7 +111,9 @@ impl<W: Work> Machine<W> {
     pub(super) fn after_load_cell(&mut self, addr: u32, found: u64)
         requires at { self.old.call.place ≡ LoadCell addr }
         requires some { 1 ≤ length self.old.call.script }
-        requires agrees { seq_of found ≤ self.old.call.seq → (xs : List ℕ) × (length xs ≡ self.old.cells) × W.lawful self.old.work xs × Agrees (overlaid (with_cell_known (machine_setup W.meaning self.old) self.old.call addr found) self.old.call.log) xs }
+        requires agrees { let S = machine_setup W.meaning self.old in let m = self.old.call in
+            seq_of found ≤ m.seq
+            → KnowsState W.lawful self.old (overlaid (with_cell_known S m addr found) m.log) }
         ensures { self.new ≡ step_from W.meaning (LoadCell addr) found self.old }
     {
         if self.seq < seq_of(found) {
@@ -127,8 +129,9 @@ impl<W: Work> Machine<W> {
         requires scanning { is_scanning self.old.call.place ≡ true }
         requires scan { IsScanning (machine_setup W.meaning self.old) self.old.call }
         requires some { 1 ≤ length self.old.call.script }
-        requires agrees { (xs : List ℕ) × (length xs ≡ self.old.cells) × W.lawful self.old.work xs × Agrees (overlaid self.old.call.known self.old.call.log) xs }
-        ensures { self.new ≡ record self.old { call = run_script (machine_setup W.meaning self.old) self.old.call } }
+        requires agrees { let m = self.old.call in
+            KnowsState W.lawful self.old (overlaid m.known m.log) }
+        ensures { self.new ≡ machine_after W.meaning run_script self.old }
     {
         let work = self.work;
         let mut raw = RawReply {
@@ -146,15 +149,15 @@ impl<W: Work> Machine<W> {
                     words as u32,
                     &raw,
                 );
-                collect(&mut self.part, &mut self.log);
-                let ran = RanCall {
+                hand_to_log(&mut self.part, &mut self.log);
+                let call = Call {
                     caller: self.scan,
                     ticket,
                     words,
-                    op: words_of(self.script.as_slice()),
+                    op: padded_words(self.script.as_slice()),
                     raw,
                 };
-                match self.calls.push(ran) {
+                match self.calls.push(call) {
                     Ok(()) => {}
                     // there is room for a call of each caller
                     Err(_) => unreachable!(),

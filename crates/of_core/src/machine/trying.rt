@@ -1,12 +1,12 @@
-//! How a machine goes on at the steps of a try: a read runs on the last committed state, and is answered unannounced.
+//! How a machine goes on at the steps of a try: a read runs on the last committed state, and is
+//! answered unannounced.
 
-ghost use Rattle.std.specs.Prelude.{◌≡◌, ◌<◌, ◌≤◌, ◌+◌, ℕ, List, length, true, nat_lt};
+ghost use Rattle.std.specs.Prelude.{◌≡◌, ◌<◌, ◌≤◌, ◌+◌, length, true, nat_lt};
 ghost use Rattle.of_cell.specs.Words.{seq_of, payload_of};
-ghost use Rattle.of_mem.specs.Meaning.{Agrees};
 ghost use Rattle.of_core.specs.Machine.{with_cell_known};
 ghost use Rattle.of_core.specs.Steps.{end_try, read_on, begin_reading};
 ghost use Rattle.of_core.specs.Fit.{is_reading};
-ghost use Rattle.of_core.specs.Seen.{machine_setup, step_from};
+ghost use Rattle.of_core.specs.MachineValue.{machine_setup, machine_after, step_from, KnowsState};
 ghost use Rattle.of_core.specs.declared.place.Place.TheVariants.{TryCell};
 
 use crate::machine::Machine;
@@ -47,7 +47,8 @@ impl<W: Work> Machine<W> {
     pub(super) fn after_try_cell(&mut self, addr: u32, found: u64)
         requires at { self.old.call.place ≡ TryCell addr }
         requires some { 1 ≤ length self.old.call.op }
-        requires agrees { seq_of found ≤ self.old.call.seq → (xs : List ℕ) × (length xs ≡ self.old.cells) × W.lawful self.old.work xs × Agrees (with_cell_known (machine_setup W.meaning self.old) self.old.call addr found) xs }
+        requires agrees { let S = machine_setup W.meaning self.old in let m = self.old.call in
+            seq_of found ≤ m.seq → KnowsState W.lawful self.old (with_cell_known S m addr found) }
         ensures { self.new ≡ step_from W.meaning (TryCell addr) found self.old }
     {
         if self.seq < seq_of(found) {
@@ -61,7 +62,8 @@ impl<W: Work> Machine<W> {
     /// Tries once more, or announces the call.
     fn end_try(&mut self)
         requires some { 1 ≤ length self.old.call.op }
-        ensures { self.new ≡ record self.old { call = end_try self.old.call (nat_lt self.old.call.tries MOST_TRIES) } }
+        ensures { self.new ≡ machine_after W.meaning
+            (λ S m. end_try m (nat_lt m.tries MOST_TRIES)) self.old }
     {
         self.place = if self.tries < MOST_TRIES {
             Place::TryCurrent
@@ -73,7 +75,7 @@ impl<W: Work> Machine<W> {
     /// Begins the run of a try, behind the look at the request or the help.
     pub(super) fn begin_reading(&mut self)
         requires some { 1 ≤ length self.old.call.op }
-        ensures { self.new ≡ record self.old { call = begin_reading (machine_setup W.meaning self.old) self.old.call } }
+        ensures { self.new ≡ machine_after W.meaning begin_reading self.old }
     {
         self.part.clear();
         self.helps = false;
@@ -86,8 +88,8 @@ impl<W: Work> Machine<W> {
     fn read_on(&mut self)
         requires reading { is_reading self.old.call.place ≡ true }
         requires some { 1 ≤ length self.old.call.op }
-        requires agrees { (xs : List ℕ) × (length xs ≡ self.old.cells) × W.lawful self.old.work xs × Agrees self.old.call.known xs }
-        ensures { self.new ≡ record self.old { call = read_on (machine_setup W.meaning self.old) self.old.call } }
+        requires agrees { KnowsState W.lawful self.old self.old.call.known }
+        ensures { self.new ≡ machine_after W.meaning read_on self.old }
     {
         let work = self.work;
         let mut raw = RawReply {

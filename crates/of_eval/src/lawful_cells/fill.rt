@@ -3,12 +3,10 @@
 ghost use Rattle.std.specs.Prelude.{◌≡◌, ◌≤◌, ◌<◌, None, [], ◌∷◌, ◌++◌, length, IfOk, OnOk};
 ghost use Rattle.std.specs.FinMap as fm;
 ghost use Rattle.of_mem.specs.declared.plot.TheConstants.{QUEUES};
-ghost use Rattle.of_mem.specs.Plots.{base, data_cell_count};
-ghost use Rattle.of_mem.specs.ProgramWork.{memory_of};
+ghost use Rattle.of_mem.specs.Plots.{data_cell_count};
 ghost use Rattle.of_script.specs.Language.{IsInstrInRange, greatest};
-ghost use Rattle.of_store.specs.State.{run, stored_count, queue, with_key, with_queue};
-ghost use Rattle.of_eval.specs.Faults.{AreNumbers};
-ghost use Rattle.of_eval.specs.Walking.{HasRegisters};
+ghost use Rattle.of_store.specs.Store.{run, stored_count, queue, with_key, with_queue};
+ghost use Rattle.of_eval.specs.Walking.{HasRegisters, RegistersAreNumbers};
 
 use of_mem::Plot;
 use of_script::{Instr, REGISTERS, Script};
@@ -54,7 +52,7 @@ pub(crate) fn push(store: &mut Store, q: u32, item: u32) -> Result<(), AllocErro
 /// The store with these registers and nothing else.
 pub(crate) fn begun_store(alloc: Global, plot: &Plot, cells: &[u32]) -> Result<Store, AllocError>
     requires sized { length cells.now ≡ data_cell_count plot.now }
-    requires numbers { AreNumbers (base plot.now) (memory_of cells.now) REGISTERS }
+    requires numbers { RegistersAreNumbers plot.now cells.now }
     ensures { IfOk result (HasRegisters plot.now cells.now REGISTERS) }
 {
     let mut store = Store::new(alloc, plot.blocks)?;

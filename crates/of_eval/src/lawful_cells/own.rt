@@ -4,9 +4,8 @@ ghost use Rattle.std.specs.Prelude.{◌≡◌, ◌≢◌, ◌<◌, length, IfErr
 ghost use Rattle.of_mem.specs.Plots.{data_cell_count};
 ghost use Rattle.of_mem.specs.Places.{ticket_cell_at, shape_at};
 ghost use Rattle.of_mem.specs.ProgramWork.{memory_of};
-ghost use Rattle.of_eval.specs.Lawful.{OwnCellsAreSound};
-ghost use Rattle.of_eval.specs.Faults.{AllOwnCellsAreSound, IsShapeOf, OwnFault, NamesCellWith};
-ghost use Rattle.of_eval.specs.Walking.{NamesFault};
+ghost use Rattle.of_eval.specs.Faults.{IsShapeOf};
+ghost use Rattle.of_eval.specs.Walking.{NamesFault, NamesOwnFault, CallerIsSound, CallersAreSound};
 
 use crate::lawful_cells::LawErr;
 use crate::reply::reply_of;
@@ -16,7 +15,7 @@ use of_script::{GREATEST, MOST_INSTRS, Reply};
 /// Looks at the own cells of all callers, in order.
 pub(crate) fn callers(plot: &Plot, cells: &[u32]) -> Result<(), LawErr>
     requires { length cells.now ≡ data_cell_count plot.now }
-    ensures ok { OnOk result (AllOwnCellsAreSound plot.now.instrs (memory_of cells.now) plot.now.callers) }
+    ensures ok { OnOk result (CallersAreSound plot.now cells.now) }
     ensures err { IfErr result (NamesFault plot.now cells.now) }
 {
     for caller in 0..plot.callers {
@@ -29,8 +28,8 @@ pub(crate) fn callers(plot: &Plot, cells: &[u32]) -> Result<(), LawErr>
 fn own(plot: &Plot, cells: &[u32], caller: u32) -> Result<(), LawErr>
     requires sized { length cells.now ≡ data_cell_count plot.now }
     requires caller { caller < plot.now.callers }
-    ensures ok { OnOk result (OwnCellsAreSound plot.now.instrs (memory_of cells.now) caller) }
-    ensures err { IfErr result (NamesCellWith (OwnFault plot.now.instrs (memory_of cells.now) caller)) }
+    ensures ok { OnOk result (CallerIsSound plot.now cells.now caller) }
+    ensures err { IfErr result (NamesOwnFault plot.now cells.now caller) }
 {
     let ticket = cells[plot.ticket(caller) as usize];
     let cell = plot.shape(caller);
@@ -61,8 +60,8 @@ fn numbers(plot: &Plot, cells: &[u32], caller: u32, reply: &Reply) -> Result<(),
     requires called { memory_of cells.now (ticket_cell_at plot.now.instrs caller) ≢ 0 }
     requires shape { IsShapeOf plot.now.instrs
         (memory_of cells.now (shape_at plot.now.instrs caller)) reply.now }
-    ensures ok { OnOk result (OwnCellsAreSound plot.now.instrs (memory_of cells.now) caller) }
-    ensures err { IfErr result (NamesCellWith (OwnFault plot.now.instrs (memory_of cells.now) caller)) }
+    ensures ok { OnOk result (CallerIsSound plot.now cells.now caller) }
+    ensures err { IfErr result (NamesOwnFault plot.now cells.now caller) }
 {
     for j in 0..u32::from(reply.len) {
         let cell = plot.reply(caller, j);

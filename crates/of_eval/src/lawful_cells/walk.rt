@@ -5,8 +5,7 @@ ghost use Rattle.of_mem.specs.declared.plot.TheConstants.{BUCKETS, QUEUES};
 ghost use Rattle.of_mem.specs.Plots.{base, data_cell_count};
 ghost use Rattle.of_mem.specs.Places.{fresh_at};
 ghost use Rattle.of_mem.specs.ProgramWork.{memory_of};
-ghost use Rattle.of_eval.specs.Faults.{AllOwnCellsAreSound, AreNumbers};
-ghost use Rattle.of_eval.specs.Walking.{NamesFault, HasBegun, HasWalkedFreeList, IsBeforeChain, LinkLeadsOn, LinkIsAtFault, KeysAreCounted, KeysAreMiscounted, AllAreMet, SomeAreUnmet};
+ghost use Rattle.of_eval.specs.Walking.{NamesFault, CallersAreSound, RegistersAreNumbers, HasBegun, HasWalkedFreeList, IsBeforeChain, LinkLeadsOn, LinkIsAtFault, KeysAreCounted, KeysAreMiscounted, AllAreMet, SomeAreUnmet};
 
 use crate::lawful_cells::LawErr;
 use crate::lawful_cells::fill::{push, put};
@@ -24,8 +23,8 @@ const FIRST_QUEUE_CHAIN: u8 = FIRST_BUCKET_CHAIN + BUCKETS as u8;
 /// Looks at the registers.
 pub(crate) fn registers(plot: &Plot, cells: &[u32]) -> Result<(), LawErr>
     requires sized { length cells.now ≡ data_cell_count plot.now }
-    requires own { AllOwnCellsAreSound plot.now.instrs (memory_of cells.now) plot.now.callers }
-    ensures ok { OnOk result (AreNumbers (base plot.now) (memory_of cells.now) REGISTERS) }
+    requires own { CallersAreSound plot.now cells.now }
+    ensures ok { OnOk result (RegistersAreNumbers plot.now cells.now) }
     ensures err { IfErr result (NamesFault plot.now cells.now) }
 {
     for r in 0..REGISTERS {
@@ -40,8 +39,8 @@ pub(crate) fn registers(plot: &Plot, cells: &[u32]) -> Result<(), LawErr>
 /// How many blocks were taken.
 pub(crate) fn fresh(plot: &Plot, cells: &[u32]) -> Result<u32, LawErr>
     requires sized { length cells.now ≡ data_cell_count plot.now }
-    requires own { AllOwnCellsAreSound plot.now.instrs (memory_of cells.now) plot.now.callers }
-    requires registers { AreNumbers (base plot.now) (memory_of cells.now) REGISTERS }
+    requires own { CallersAreSound plot.now cells.now }
+    requires registers { RegistersAreNumbers plot.now cells.now }
     ensures begun { OnOk result (HasBegun plot.now cells.now) }
     ensures value { IfOk result (λ n. n ≡ memory_of cells.now (fresh_at (base plot.now))) }
     ensures err { IfErr result (NamesFault plot.now cells.now) }
@@ -150,7 +149,8 @@ pub(crate) fn queue(
     requires sized { length cells.now ≡ data_cell_count plot.now }
     requires q { q < QUEUES }
     requires before { IsBeforeChain plot.now cells.now (33 + q) (33 + q) owners.old store.old }
-    ensures ok { OnOk result (IsBeforeChain plot.now cells.now (34 + q) (34 + q) owners.new store.new) }
+    ensures ok { OnOk result
+        (IsBeforeChain plot.now cells.now (34 + q) (34 + q) owners.new store.new) }
     ensures err { IfErr result (NamesFault plot.now cells.now) }
 {
     let mut cell = plot.head(q);

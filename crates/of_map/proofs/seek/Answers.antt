@@ -1,5 +1,5 @@
 use Rattle.std.proofs.Common.{◌≡◌, ℕ, suc, ◌+◌, refl, subst, arith}
-use Rattle.of_mem.specs.Pad.{Part}
+use Rattle.of_mem.specs.Part.{Part}
 use Rattle.of_mem.specs.Plots.{base}
 use Rattle.of_mem.specs.Programs.{NeedsAt}
 use Rattle.of_mem.proofs.Walks.{passes_on}

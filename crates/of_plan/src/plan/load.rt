@@ -5,7 +5,8 @@ ghost use Rattle.of_cell.specs.declared.shape.TheConstants.{MOST_CALLERS};
 ghost use Rattle.of_plan.specs.declared.plan.TheConstants.{MOST_SCRIPTS};
 ghost use Rattle.of_plan.specs.Generated.{load_script, load_scripts, generated_plan};
 
-use crate::plan::{GREATEST_LIMIT, Plan};
+use crate::plan::Plan;
+use of_cell::GREATEST_LIMIT;
 use of_script::{Instr, REGISTERS, Script};
 use of_store::MOST_BLOCKS;
 use std::alloc::{AllocError, Global};
@@ -44,8 +45,9 @@ fn load_scripts(alloc: Global, caller: u32, count: u32) -> Result<Vec<Script>, A
     Ok(scripts)
 }
 
-/// The plan of a load: 1 to `MOST_CALLERS` callers with so many scripts each, at most `MOST_SCRIPTS` together, on `MOST_BLOCKS` blocks,
-/// without a stop and a schedule. All callers add to the same registers, and each puts at keys of its own.
+/// The plan of a load: 1 to `MOST_CALLERS` callers with so many scripts each, at most
+/// `MOST_SCRIPTS` together, on `MOST_BLOCKS` blocks, without a stop and a schedule. All callers add
+/// to the same registers, and each puts at keys of its own.
 pub fn generate(alloc: Global, callers: u32, scripts: u32) -> Result<Plan, AllocError>
     requires some { 1 ≤ callers }
     requires few { callers ≤ MOST_CALLERS }

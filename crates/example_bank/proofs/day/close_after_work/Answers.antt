@@ -1,6 +1,6 @@
 use Rattle.std.proofs.Common.{sym, subst}
-use Rattle.of_core.specs.World.{TableStart}
-use Rattle.of_core.specs.Shared.{MayStart}
+use Rattle.of_core.specs.TableMoment.{TableStart}
+use Rattle.of_core.specs.WordsMatch.{MayStart}
 use Rattle.of_eval.specs.Scripts.{LawfulCells}
 use Rattle.example_bank.specs.declared.books.TheConstants.{LIMIT}
 use Rattle.example_bank.specs.Closed.{setup_with}

@@ -3,7 +3,7 @@ use Rattle.std.specs.FinMap.{FinMap, from_entries}
 use Rattle.std.specs.Ordering.{nat_cmp}
 use Rattle.std.proofs.lemmas.Map.Lookups.{btree_map_eq-Decides}
 use Rattle.std.proofs.lemmas.Bool.Decides.{Decides-eqb}
-use Rattle.of_store.specs.State.{Store}
+use Rattle.of_store.specs.Store.{Store}
 use Rattle.of_check.proofs.Verdicts.{same_bytes}
 use Rattle.of_check.proofs.Stores.{apart, together, same_entries, same_state}
 use Rattle.of_check.proofs.ends.same_store.Goals as goal

@@ -1,5 +1,5 @@
 use Rattle.std.proofs.Common.{◌≡◌, ℕ, ◌<◌}
-use Rattle.of_store.specs.State.{queue}
+use Rattle.of_store.specs.Store.{queue}
 use Rattle.of_check.proofs.ends.same_store.Given as goal
 
 -- the queues so far are the same

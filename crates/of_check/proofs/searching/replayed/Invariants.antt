@@ -1,6 +1,6 @@
 use Rattle.std.proofs.Common.{take}
 use Rattle.of_check.specs.Starts.{start_of}
-use Rattle.of_check.specs.Course.{HasRunCalls}
+use Rattle.of_check.specs.Replay.{HasRunCalls}
 use Rattle.of_check.proofs.searching.replayed.Given as goal
 
 -- these calls have run

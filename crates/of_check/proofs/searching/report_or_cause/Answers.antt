@@ -2,7 +2,7 @@ use Rattle.std.proofs.Common.{◌≡◌, List, ℕ, map, sym, ap, subst, ◌∙�
 use Rattle.of_report.specs.Report.{line_value}
 use Rattle.of_check.specs.declared.claims.CallClaim.{CallClaim}
 use Rattle.of_check.specs.Starts.{start_of}
-use Rattle.of_check.specs.Course.{HasRunCalls}
+use Rattle.of_check.specs.Replay.{HasRunCalls}
 use Rattle.of_check.proofs.Causes.{differs_when}
 use Rattle.of_check.proofs.Verdicts.{counts_wide, is_claimed, lines_moved}
 use Rattle.of_check.proofs.searching.report_or_cause.Goals as goal

@@ -1,5 +1,5 @@
 use Rattle.std.proofs.Common.{◌≡◌, replicate, ◌∙◌, subst}
-use Rattle.of_store.specs.State.{empty_store}
+use Rattle.of_store.specs.Store.{empty_store}
 use Rattle.of_plan.specs.Report.{Start, empty_start}
 use Rattle.of_report.specs.Report.{report_value}
 use Rattle.of_check.specs.Starts.{start_where_done, start_of}

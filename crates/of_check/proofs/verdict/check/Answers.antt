@@ -1,7 +1,7 @@
 use Rattle.std.proofs.Common.{◌≡◌, List, length, replicate, sym, ap, ◌∙◌, subst}
 use Rattle.std.proofs.lemmas.List.{length-replicate}
 use Rattle.std.proofs.lemmas.Result.{IfOk-weaker}
-use Rattle.of_store.specs.State.{empty_store}
+use Rattle.of_store.specs.Store.{empty_store}
 use Rattle.of_plan.specs.Report.{Start, empty_start}
 use Rattle.of_check.specs.Starts.{start_where_done, start_of}
 use Rattle.of_check.specs.Verdict.{IsVerdictFrom}

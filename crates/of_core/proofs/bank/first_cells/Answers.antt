@@ -1,6 +1,6 @@
 use Rattle.std.proofs.Common.{◌≡◌, ℕ, List, get_or, set, replicate, take, drop, ◌+◌, ◌-◌, ◌++◌, ◌∷◌, ◌∙◌, ap}
 use Rattle.of_cell.specs.Words.{pack, seq_of, payload_of}
-use Rattle.of_core.specs.World.{TableStart}
+use Rattle.of_core.specs.TableMoment.{TableStart}
 use Rattle.of_core.specs.Starts.{closed_request, start_from_durable}
 use Rattle.of_core.proofs.Starts.{heads_are, cells_filled}
 use Rattle.of_core.proofs.bank.first_cells.Goals as goal

@@ -1,5 +1,5 @@
 use Rattle.std.proofs.Common.{◌≡◌, ℕ, List, ◌++◌, ◌∙◌, ap, arith}
-use Rattle.of_core.specs.World.{TableStart}
+use Rattle.of_core.specs.TableMoment.{TableStart}
 use Rattle.of_core.specs.Starts.{first_words, start_from_durable}
 use Rattle.of_core.proofs.Starts.{cells_count, words_filled}
 use Rattle.of_core.proofs.bank.first_words.Goals as goal

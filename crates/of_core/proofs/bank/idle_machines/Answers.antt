@@ -1,7 +1,7 @@
 use Rattle.std.proofs.Common.{◌≡◌, ℕ, length, arith, ap, ◌∙◌, length-append}
 use Rattle.of_core.specs.Table.{Setup, setup_of}
-use Rattle.of_core.specs.World.{TableStart}
-use Rattle.of_core.specs.Seen.{machine_setup}
+use Rattle.of_core.specs.TableMoment.{TableStart}
+use Rattle.of_core.specs.MachineValue.{machine_setup}
 use Rattle.of_core.specs.Machine.{idle_machine}
 use Rattle.of_core.specs.Moment.{RunSameWork}
 use Rattle.of_core.specs.Events.{idle_machines, start_ticket}

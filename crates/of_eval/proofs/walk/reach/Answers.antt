@@ -1,8 +1,8 @@
 use Rattle.std.proofs.Common.{sym, ◌∙◌}
 use Rattle.std.proofs.lemmas.Result.{MatchResult-weaker}
 use Rattle.of_mem.specs.Plots.{base}
-use Rattle.of_mem.specs.Remains.{IsSuspensionOf}
-use Rattle.of_eval.specs.Stopped.{MayResume}
+use Rattle.of_mem.specs.SuspendedRun.{IsSuspensionOf}
+use Rattle.of_eval.specs.Resuming.{MayResume}
 use Rattle.of_eval.proofs.Resumed.{goes_there, has_store, reaches}
 use Rattle.of_eval.proofs.walk.reach.Goals as goal
 

@@ -1,15 +1,15 @@
 use Rattle.std.proofs.Common.{◌≡◌, ℕ, ◌<◌, ◌≤◌, arith, ap, sym, refl, ◌∙◌, ◌+◌, length, get_or, set, length-set, Ok}
 use Rattle.std.proofs.lemmas.Result.{err_from_is_err_and}
-use Rattle.of_mem.specs.Pad.{Part}
+use Rattle.of_mem.specs.Part.{Part}
 use Rattle.of_mem.specs.Plots.{base}
 use Rattle.of_mem.specs.Programs.{Ends, run_program}
 use Rattle.of_mem.specs.Calls.{RunsProgram}
-use Rattle.of_mem.specs.Remains.{IsSuspensionOf, begin_run}
+use Rattle.of_mem.specs.SuspendedRun.{IsSuspensionOf, begin_run}
 use Rattle.of_script.specs.declared.instr.TheConstants.{MOST_INSTRS}
 use Rattle.of_store.proofs.Values.{small_values, none_left}
 use Rattle.of_eval.specs.ScriptPrograms.{InstrResult}
 use Rattle.of_eval.specs.Calls.{run_word}
-use Rattle.of_eval.specs.Stopped.{part_with, MayResume}
+use Rattle.of_eval.specs.Resuming.{part_with, MayResume}
 use Rattle.of_eval.proofs.Walks.{ran_aborts, ran_lacks, ran_more, ran_ends}
 use Rattle.of_eval.proofs.Resumed.{begun_goes, after_word, goes_more, ran_so, of_store, has_store, goes_there, holds_so}
 use Rattle.of_eval.proofs.walk.run_words.Goals as goal
@@ -60,7 +60,7 @@ pub returns-in_err-cause-clause-holds : goal.returns-in_err-cause-clause-holds
 returns-in_err-cause-clause-holds c = holds_so c.args.plot.now c.loop-i.kept c.args.part.now c.args.op.now c.loop-i.invariant.of c.requires.instrs c.loop-i.invariant.goes
 
 pub returns-in-Err-clause-runs : goal.returns-in-Err-clause-runs
-returns-in-Err-clause-runs c = rw c.aborted.ensures (record {
+returns-in-Err-clause-runs c = rw c.aborted_reply.ensures (record {
   walk = ran_so (base c.args.plot.now) c.args.plot.now.blocks c.args.plot.now.few_blocks c.loop-i.kept c.args.part.now c.loop-i.invariant.goes c.requires.empty c.args.op.now c.loop-i.invariant.of.words c.requires.words.few c.loop-i.i c.loop-i.invariant.done c.loop-i.part c.loop-i.invariant.part
       ∙ ran_aborts (base c.args.plot.now) c.args.plot.now.blocks (length c.args.op.now) c.args.op.now c.loop-i.i c.loop-i-test.true c.loop-i.kept.values c.loop-i.part c.run_word.new.part c.in-Err.cause
       (omega (arith, c.loop-i.invariant.goes.width, c.requires.words.few, c.loop-i-test.true)) (c.in_ok-cause.ensures.walk ∙ ap (λ (x : InstrResult). Ends x c.run_word.new.part) c.in-Err.is);
@@ -99,7 +99,7 @@ returns-in-Ok-clause-runs c =
     let end : length c.args.op.now ≡ c.loop-i.i + 1 = omega (arith, h.below, c.if-i-last.true) in
     let room : c.loop-i.i < length c.loop-i.kept.values = omega (arith, h.goes.width, h.below, c.requires.words.few) in
     let runs : RunsProgram (run_word c.args.plot.now (get_or c.args.op.now c.loop-i.i 0)) c.loop-i.part c.run_word.new.part (Ok (Ok c.in-Ok.value)) = rw (← c.in-Ok.is) c.in_ok-cause.ensures in
-    rw (c.answered.ensures, c.values.ensures, ← c.if-i-last.true) (record {
+    rw (c.answered_reply.ensures, c.values.ensures, ← c.if-i-last.true) (record {
       walk = ran_so (base c.args.plot.now) c.args.plot.now.blocks c.args.plot.now.few_blocks c.loop-i.kept c.args.part.now h.goes c.requires.empty c.args.op.now h.of.words c.requires.words.few c.loop-i.i h.done c.loop-i.part h.part
           ∙ ran_more (base c.args.plot.now) c.args.plot.now.blocks (length c.args.op.now) c.args.op.now c.loop-i.i h.below c.loop-i.kept.values c.loop-i.part c.run_word.new.part c.in-Ok.value room runs.walk
           ∙ ran_ends (base c.args.plot.now) c.args.plot.now.blocks (length c.args.op.now) c.args.op.now (c.loop-i.i + 1) (set c.loop-i.kept.values c.loop-i.i c.in-Ok.value) c.run_word.new.part
@@ -120,7 +120,7 @@ returns-in-Ok-clause-whole c =
     let batch : c.run_word.new.part.batch ≡ c.args.part.now.batch = runs.batch ∙ ap (λ (x : Part). x.batch) here in
     let walk : run_program (run_word c.args.plot.now (get_or c.loop-i.kept.words c.loop-i.kept.done 0)) (part_with c.args.part.now.known c.args.part.now.batch c.loop-i.kept.writes) ≡ Ends (Ok c.in-Ok.value) c.run_word.new.part = rw (words, done, ← here) runs.walk in
     let small = after_word (base c.args.plot.now) c.args.plot.now.blocks c.args.plot.now.few_blocks c.loop-i.kept c.args.part.now h.goes c.run_word.new.part c.in-Ok.value walk batch c.args.part.now.known (λ a w x. x) (of_store c.args.plot.now c.args.part.now c.requires.stands c.requires.empty) in
-    rw (c.answered.ensures, c.values.ensures, ← c.if-i-last.true) (record {
+    rw (c.answered_reply.ensures, c.values.ensures, ← c.if-i-last.true) (record {
       some = c.requires.words.some;
       few = c.requires.words.few;
       width = length-set c.loop-i.kept.values c.loop-i.i c.in-Ok.value ∙ h.goes.width;

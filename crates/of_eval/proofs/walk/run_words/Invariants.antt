@@ -1,7 +1,7 @@
 use Rattle.std.proofs.Common.{◌≡◌, ◌<◌, length}
 use Rattle.of_mem.specs.Plots.{base}
-use Rattle.of_mem.specs.Remains.{IsSuspensionOf}
-use Rattle.of_eval.specs.Stopped.{part_with, MayResume}
+use Rattle.of_mem.specs.SuspendedRun.{IsSuspensionOf}
+use Rattle.of_eval.specs.Resuming.{part_with, MayResume}
 use Rattle.of_eval.proofs.walk.run_words.Given as goal
 
 abbrev pub invariant-loop-i : goal.invariant-loop-i

@@ -1,9 +1,6 @@
-use Rattle.std.proofs.Common.{◌≡◌, ℕ, ◌<◌, ◌∷◌, [], List, inl, inr, None, Some, refl, sym, ap, ◌∙◌, subst, arith}
-use Rattle.std.proofs.Math.Nat.{eq-or-lt_of_le}
-use Rattle.of_script.specs.Text.{text_words}
+use Rattle.std.proofs.Common.{sym, ◌∙◌, arith}
 use Rattle.of_plan.specs.Lines.{text_lines}
-use Rattle.of_plan.specs.Above.{said, line_at}
-use Rattle.of_plan.proofs.LinesAt.{next_at, after_next, past_last, nothing_says, none_more}
+use Rattle.of_plan.proofs.LinesAt.{after_next, nothing_says, none_more}
 use Rattle.of_plan.proofs.above.find.Goals as goal
 
 pub returns-in-None : goal.returns-in-None

@@ -2,7 +2,7 @@ use Rattle.std.proofs.Common.{◌≡◌, ℕ, ◌+◌, true, List, [], ◌∷◌
 use Rattle.std.specs.Prelude.{◌==◌}
 use Rattle.std.proofs.lemmas.List.Elements.{All-head, All-tail}
 use Rattle.std.proofs.lemmas.List.Folds.{list_any-from_Any}
-use Rattle.of_store.specs.State.{Store, Reply, Answered, register}
+use Rattle.of_store.specs.Store.{Store, Reply, Answered, register}
 use Rattle.of_plan.specs.Plan.{bound_of}
 use Rattle.of_plan.specs.Report.{Entry}
 use Rattle.of_plan.specs.Legal.{LineIsWithinBound}

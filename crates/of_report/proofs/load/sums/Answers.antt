@@ -1,5 +1,5 @@
-use Rattle.std.proofs.Common.{rules, ◌≡◌, ◌+◌, ◌*◌, ◌<◌, ◌++◌, ℕ, List, [], ◌∷◌, Some, length, map, codes, sym, ap, subst, ◌∙◌, string_bytes, arith}
-use Rattle.std.specs.Prelude.{decimal, sum_by, OnOk}
+use Rattle.std.proofs.Common.{rules, ◌≡◌, ◌<◌, ℕ, List, Some, length, map, sym, ap, ◌∙◌, arith}
+use Rattle.std.specs.Prelude.{sum_by}
 use Rattle.std.specs.List.{slice_get}
 use Rattle.std.specs.FinMap.{FinMap, entries, len, len-entries}
 use Rattle.std.specs.Ordering.{nat_cmp}

@@ -17,10 +17,10 @@ returns-in-Ok-migrate g c = Done refl (record {
 
 pub returns : goal.returns
 returns g c =
-    IfOk-weaker c.refused.result _ _
+    IfOk-weaker c.image_refusal.result _ _
     (λ answer told. Refused (ImageAlone One) refl (refusal_told One _ c.in-Ok.bytes.items (rw c.in-Ok.is at c.in_ok-bytes.ensures) c.in-Err-migrate.err answer
     (subst (λ (b : List ℕ). ImageIsRefused One b c.in-Err-migrate.err) c.deref.ensures.value c.in-Err-migrate.ensures.err) told))
-    c.refused.ensures
+    c.image_refusal.ensures
 
 pub returns-in-Err : goal.returns-in-Err
 returns-in-Err g c = Refused (ImageAlone One) refl ((rw c.in-Err.is at c.in_ok-bytes.ensures) (ImageAlone One) refl)

@@ -21,10 +21,10 @@ returns-in-Err-Bad g c =
 pub returns-in-Err-image_parse : goal.returns-in-Err-image_parse
 returns-in-Err-image_parse g c =
     let are = subst (λ (b : List ℕ). AreParts b c.parts.result.0.now c.parts.result.1.now) c.deref.ensures.value c.parts.ensures in
-    IfOk-weaker c.refused.result _ _
+    IfOk-weaker c.image_refusal.result _ _
     (λ answer told. life_refused _ c.in-Ok.bytes.items c.parts.result.0.now c.parts.result.1.now c.parts-2.result.0.now c.parts-2.result.1.now (rw c.in-Ok.is at c.in_ok-bytes.ensures) are c.parts-2.ensures
     c.parts-3.result.0.now c.parts-3.result.1.now c.parts-3.ensures c.in-Ok-parse.plan c.in-Ok-parse.ensures.ok c.in-Err-image_parse.err answer c.in-Err-image_parse.ensures.err told)
-    c.refused.ensures
+    c.image_refusal.ensures
 
 pub returns-then-not-fits : goal.returns-then-not-fits
 returns-then-not-fits g c =
@@ -36,8 +36,8 @@ returns-then-not-fits g c =
 pub returns : goal.returns
 returns g c =
     let are = subst (λ (b : List ℕ). AreParts b c.parts.result.0.now c.parts.result.1.now) c.deref.ensures.value c.parts.ensures in
-    IfOk-weaker c.judged.result _ _
+    IfOk-weaker c.life_output.result _ _
     (λ answer judges. life_found _ c.in-Ok.bytes.items c.parts.result.0.now c.parts.result.1.now c.parts-2.result.0.now c.parts-2.result.1.now (rw c.in-Ok.is at c.in_ok-bytes.ensures) are c.parts-2.ensures
     c.parts-3.result.0.now c.parts-3.result.1.now c.parts-3.ensures c.in-Ok-parse.plan c.in-Ok-parse.ensures.ok (image_value c.in-Ok-image_parse.image) c.in-Ok-image_parse.ensures.ok
     (c.fits.ensures.0 (let no = c.if-not-fits.false in cc)) c.in_ok-check_life.field-0 answer c.in_ok-check_life.ensures judges)
-    c.judged.ensures
+    c.life_output.ensures

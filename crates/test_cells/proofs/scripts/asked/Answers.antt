@@ -1,7 +1,7 @@
 use Rattle.std.proofs.Common.{◌≡◌, ℕ, List, arith, ap, sym, subst, ◌∙◌, length, ◌<◌}
-use Rattle.of_mem.specs.Pad.{Part, learn}
-use Rattle.of_mem.specs.Remains.{SuspendedRun}
-use Rattle.of_eval.specs.Stopped.{HoldsScript, holds_nothing, holds_learnt}
+use Rattle.of_mem.specs.Part.{Part, learn}
+use Rattle.of_mem.specs.SuspendedRun.{SuspendedRun}
+use Rattle.of_eval.specs.Resuming.{HoldsScript, holds_nothing, holds_learnt}
 use Rattle.test_cells.proofs.Zeros.{zeros_none, zeros_agree, zeros_learn}
 use Rattle.test_cells.proofs.Asked.{asks_unknown, some_scripts}
 use Rattle.test_cells.proofs.scripts.asked.Goals as goal

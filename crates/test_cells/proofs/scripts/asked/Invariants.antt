@@ -1,5 +1,5 @@
 use Rattle.std.proofs.Common.{◌≡◌}
-use Rattle.of_eval.specs.Stopped.{HoldsScript}
+use Rattle.of_eval.specs.Resuming.{HoldsScript}
 use Rattle.test_cells.proofs.Zeros.{KnowsZeros}
 use Rattle.test_cells.proofs.scripts.asked.Given as goal
 

@@ -1,5 +1,5 @@
 use Rattle.std.proofs.Common.{◌≡◌, arith, ap, length, ◌<◌}
-use Rattle.of_mem.specs.Pad.{Part}
+use Rattle.of_mem.specs.Part.{Part}
 use Rattle.test_cells.proofs.Zeros.{zeros_none, zeros_agree, zeros_learn}
 use Rattle.test_cells.proofs.Asked.{asks_unknown, zeros_left, some_scripts}
 use Rattle.test_cells.proofs.scripts.over_zeros.Goals as goal

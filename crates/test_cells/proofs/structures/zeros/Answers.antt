@@ -1,6 +1,6 @@
 use Rattle.std.proofs.Common.{ℕ, ◌<◌, length, Some, refl, sym, ◌∙◌, ap, subst, arith, length-set}
 use Rattle.std.proofs.lemmas.List.{length-replicate}
-use Rattle.of_mem.specs.Pad.{Part}
+use Rattle.of_mem.specs.Part.{Part}
 use Rattle.of_mem.specs.Programs.{IsPartOf}
 use Rattle.of_mem.proofs.Runs.{part_of_nothing, part_learned}
 use Rattle.test_cells.proofs.structures.zeros.Goals as goal

@@ -47,15 +47,15 @@ loop-asked-smaller g c =
 pub returns-in-Some-clause-left : goal.returns-in-Some-clause-left
 returns-in-Some-clause-left g c =
     let inv = c.loop-asked.invariant in
-    (c.loop-asked.asked, inv.steps, gave_same _ _ _ _ inv.uses c.tell.ensures.left)
+    (c.loop-asked.asked, inv.steps, gave_same _ _ _ _ inv.uses c.tell_answer.ensures.left)
 
 pub returns-in-Some-clause-answers : goal.returns-in-Some-clause-answers
-returns-in-Some-clause-answers g c = heard_from _ _ _ c.loop-asked.invariant.answers c.tell.ensures.answers
+returns-in-Some-clause-answers g c = heard_from _ _ _ c.loop-asked.invariant.answers c.tell_answer.ensures.answers
 
 pub returns-in-Some-clause-asks : goal.returns-in-Some-clause-asks
 returns-in-Some-clause-asks g c =
     let inv = c.loop-asked.invariant in
-    (c.loop-asked.asked, inv.steps, asked_same _ _ _ _ inv.asks c.tell.ensures.asks)
+    (c.loop-asked.asked, inv.steps, asked_same _ _ _ _ inv.asks c.tell_answer.ensures.asks)
 
 pub returns-in_default-clause-asks : goal.returns-in_default-clause-asks
 returns-in_default-clause-asks g c = asked_more _ _ _ _ c.loop-asked.invariant.asks c.step.ensures.asks

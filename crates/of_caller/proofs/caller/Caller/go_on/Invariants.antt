@@ -1,5 +1,5 @@
 use Rattle.std.proofs.Common.{◌≡◌, ◌+◌, ◌≤◌}
-use Rattle.of_core.specs.Seen.{machine_setup}
+use Rattle.of_core.specs.MachineValue.{machine_setup}
 use Rattle.of_row.specs.Rows.{key_of, setup_at, row_start}
 use Rattle.of_caller.specs.Callers.{IsCaller, caller_call, sight_of}
 use Rattle.of_caller.specs.Brakes.{TakesSteps, AskedFor}

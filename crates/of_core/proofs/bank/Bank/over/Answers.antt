@@ -1,6 +1,6 @@
 use Rattle.std.proofs.Common.{◌≡◌, ℕ, length, arith, ap, subst, ◌∙◌, sym}
 use Rattle.of_core.specs.Table.{Setup, setup_of}
-use Rattle.of_core.specs.World.{TableStart}
+use Rattle.of_core.specs.TableMoment.{TableStart}
 use Rattle.of_core.specs.Moment.{IsReached, call_states, table_word_count}
 use Rattle.of_core.specs.Events.{idle_machines, start_ticket}
 use Rattle.of_core.specs.Starts.{first_words, start_from_durable}

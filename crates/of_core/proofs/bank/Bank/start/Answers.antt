@@ -1,8 +1,8 @@
 use Rattle.std.proofs.Common.{◌≡◌, ℕ, arith, ap, subst, ◌∙◌, sym}
 use Rattle.of_cell.specs.Cells.{table_words as cell_words}
 use Rattle.of_core.specs.Table.{Setup, setup_of}
-use Rattle.of_core.specs.World.{TableStart}
-use Rattle.of_core.specs.Shared.{MayStart}
+use Rattle.of_core.specs.TableMoment.{TableStart}
+use Rattle.of_core.specs.WordsMatch.{MayStart}
 use Rattle.of_core.specs.Moment.{bank_setup, table_word_count}
 use Rattle.of_core.specs.Events.{idle_machines, start_ticket}
 use Rattle.of_core.specs.Starts.{first_words, start_from_durable}

@@ -1,6 +1,6 @@
 use Rattle.std.proofs.Common.{◌≡◌, ℕ, ◌<◌, ◌≤◌, List, [], ◌∷◌, length, get_or, set, arith, ap, subst, ◌∙◌, sym, refl, length-set}
 use Rattle.of_core.specs.Table.{Setup, setup_of, first_operation_cell, words_before_members}
-use Rattle.of_core.specs.Seen.{Machine, machine_setup}
+use Rattle.of_core.specs.MachineValue.{Machine, machine_setup}
 use Rattle.of_core.specs.Machine.{CallState}
 use Rattle.of_core.specs.Bank.{bank_value}
 use Rattle.of_core.specs.Moment.{Bank, call_states}
@@ -24,8 +24,8 @@ returns-then-is_idle-clause-after g c =
 pub returns-then-is_idle-clause-turn : goal.returns-then-is_idle-clause-turn
 returns-then-is_idle-clause-turn g c = rw (c.if-is_idle.ensures.0 refl) refl
 
-pub want_by-found-requires-clause-takes : goal.want_by-found-requires-clause-takes
-want_by-found-requires-clause-takes g c κs within =
+pub perform-found-requires-clause-takes : goal.perform-found-requires-clause-takes
+perform-found-requires-clause-takes g c κs within =
     let b = c.self.inside in
     let inv = c.self.invariant in
     let M = g.W.Work.meaning in
@@ -67,9 +67,9 @@ take_at-requires-clause-good g c =
     let p : Place = c.place-place.result in
     let at : p ≡ s.call.place = c.place-place.ensures in
     let ws : List ℕ = b.words.items in
-    let n : ℕ = c.want_by-found.result in
+    let n : ℕ = c.perform-found.result in
     let op : want_at (machine_setup M s) s.call p ≡ want S s.call = rw same (asks_here S s.call p at) in
-    let found : n ≡ word_found S ws s.call = c.want_by-found.ensures.made.0 ∙ ap (λ (o : Op). get_or ws (word_of o) 0) op in
+    let found : n ≡ word_found S ws s.call = c.perform-found.ensures.made.0 ∙ ap (λ (o : Op). get_or ws (word_of o) 0) op in
     let laws = g.met.W.Work g.world.𝓛 g.world.𝓜 g.world.𝓡 ((λ s x. x), (λ x. x), (λ x. x), λ x. x) in
     let fits = laws.fits b.work in
     let sound : IsSoundMeaning (M b.work) (g.W.Work.lawful b.work) (first_operation_cell S) S.cells = sound_at S (M b.work) (g.W.Work.lawful b.work) _ _ inv.callers inv.cells refl (laws.sound b.work) in
@@ -93,11 +93,11 @@ invariant_of-self g c =
     let p : Place = c.place-place.result in
     let at : p ≡ s.call.place = c.place-place.ensures in
     let ws : List ℕ = b.words.items in
-    let n : ℕ = c.want_by-found.result in
+    let n : ℕ = c.perform-found.result in
     let op : want_at (machine_setup M s) s.call p ≡ want S s.call = rw same (asks_here S s.call p at) in
-    let found : n ≡ word_found S ws s.call = c.want_by-found.ensures.made.0 ∙ ap (λ (o : Op). get_or ws (word_of o) 0) op in
+    let found : n ≡ word_found S ws s.call = c.perform-found.ensures.made.0 ∙ ap (λ (o : Op). get_or ws (word_of o) 0) op in
     let count : length (words_after (want_at (machine_setup M s) s.call p) ws) ≡ b.words.len = length-set ws _ _ ∙ sym b.words.ok.0 in
-    let table : c.want_by-found.new.hand.items ≡ words_after (want S s.call) ws = rw c.want_by-found.ensures.made.1 (with_items_is b.words (words_after (want_at (machine_setup M s) s.call p) ws) count ∙ ap (λ (o : Op). words_after o ws) op) in
+    let table : c.perform-found.new.hand.items ≡ words_after (want S s.call) ws = rw c.perform-found.ensures.made.1 (with_items_is b.words (words_after (want_at (machine_setup M s) s.call p) ws) count ∙ ap (λ (o : Op). words_after o ws) op) in
     let t = c.take_at.new.self in
     let d : CallState = take_word S s.call (word_found S ws s.call) in
     let went : take_word_at (machine_setup M s) (with_step_counted p s.call) n p ≡ d = rw (same, goes_on S s.call n p at) (ap (take_word S s.call) found) in
@@ -129,11 +129,11 @@ returns-clause-after g c =
     let p : Place = c.place-place.result in
     let at : p ≡ s.call.place = c.place-place.ensures in
     let ws : List ℕ = b.words.items in
-    let n : ℕ = c.want_by-found.result in
+    let n : ℕ = c.perform-found.result in
     let op : want_at (machine_setup M s) s.call p ≡ want S s.call = rw same (asks_here S s.call p at) in
-    let found : n ≡ word_found S ws s.call = c.want_by-found.ensures.made.0 ∙ ap (λ (o : Op). get_or ws (word_of o) 0) op in
+    let found : n ≡ word_found S ws s.call = c.perform-found.ensures.made.0 ∙ ap (λ (o : Op). get_or ws (word_of o) 0) op in
     let count : length (words_after (want_at (machine_setup M s) s.call p) ws) ≡ b.words.len = length-set ws _ _ ∙ sym b.words.ok.0 in
-    let table : c.want_by-found.new.hand.items ≡ words_after (want S s.call) ws = rw c.want_by-found.ensures.made.1 (with_items_is b.words (words_after (want_at (machine_setup M s) s.call p) ws) count ∙ ap (λ (o : Op). words_after o ws) op) in
+    let table : c.perform-found.new.hand.items ≡ words_after (want S s.call) ws = rw c.perform-found.ensures.made.1 (with_items_is b.words (words_after (want_at (machine_setup M s) s.call p) ws) count ∙ ap (λ (o : Op). words_after o ws) op) in
     let t = c.take_at.new.self in
     let d : CallState = take_word S s.call (word_found S ws s.call) in
     let went : take_word_at (machine_setup M s) (with_step_counted p s.call) n p ≡ d = rw (same, goes_on S s.call n p at) (ap (take_word S s.call) found) in
@@ -159,4 +159,4 @@ returns-clause-turn g c =
     let t = c.take_at.new.self in
     let now = held_now b.work b.shape.callers b.shape.cells b.limit b.machines.items i t here in
     let was_open : s.call.place ≡ Idle → ⊥ = λ q. let e = c.if-is_idle.ensures.1 (rw (← c.self.view_is, seen.1) q) in cc in
-    rw (← c.self.view_is, seen.1, now) (turn_is s.call.place t.call c.answer.result c.turn_to.result was_open c.turn_to.ensures c.answer.ensures)
+    rw (← c.self.view_is, seen.1, now) (turn_is s.call.place t.call c.answer.result c.turn_of_answer.result was_open c.turn_of_answer.ensures c.answer.ensures)

@@ -1,6 +1,6 @@
 use Rattle.std.proofs.Common.{◌+◌, ◌≡◌, ◌*◌, Some, None, get_or, ◌∙◌, sym, refl}
 use Rattle.of_mem.specs.declared.work.TheConstants.{MOST_INSTRS}
-use Rattle.of_mem.specs.Pairs.{value_for}
+use Rattle.of_mem.specs.CellMap.{value_for}
 use Rattle.of_core.specs.declared.place.Place.TheVariants.{LoadAnnouncement}
 use Rattle.of_core.proofs.Puts.{newest_known}
 use Rattle.of_core.proofs.machine.Machine.after_load_announcement.Goals as goal

@@ -1,5 +1,5 @@
 use Rattle.std.proofs.Common.{◌≡◌, ◌<◌, [], ap, ◌∙◌, sym, refl}
-use Rattle.of_mem.specs.Pad.{Part}
+use Rattle.of_mem.specs.Part.{Part}
 use Rattle.of_mem.specs.Meaning.{IsSoundMeaning, Needs}
 use Rattle.of_core.specs.Table.{Setup, setup_of, first_operation_cell}
 use Rattle.of_core.proofs.Puts.{sound_at, needs_cell, no_case}

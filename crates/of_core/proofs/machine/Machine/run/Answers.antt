@@ -3,11 +3,11 @@ use Rattle.std.proofs.lemmas.List.{map-append}
 use Rattle.of_cell.specs.declared.word.TheConstants.{PAYLOADS}
 use Rattle.of_cell.specs.Words.{seq_of}
 use Rattle.of_mem.specs.declared.work.TheConstants.{MOST_INSTRS}
-use Rattle.of_mem.specs.Pairs.{put_all}
-use Rattle.of_mem.specs.Pad.{Part, overlaid}
+use Rattle.of_mem.specs.CellMap.{put_all}
+use Rattle.of_mem.specs.Part.{Part, overlaid}
 use Rattle.of_mem.specs.Meaning.{IsSoundMeaning, Needs, Gives}
 use Rattle.of_mem.specs.declared.work.RawReply.{RawReply}
-use Rattle.of_wset.specs.Pairs.{WriteSet}
+use Rattle.of_wset.specs.WriteSet.{WriteSet}
 use Rattle.of_core.specs.Table.{Setup, setup_of, first_operation_cell, ticket_cell}
 use Rattle.of_core.specs.Machine.{Call, own_cells}
 use Rattle.of_core.specs.Inside.{call_value}
@@ -89,10 +89,10 @@ returns-in-Ok-push g c =
     c.put_own.ensures.script ∙ ap (λ (t : ℕ). put_all es (own_cells (scan * (MOST_INSTRS + 2)) t c.len-words.result r)) number ∙ ap (λ (n : ℕ). put_all es (own_cells (scan * (MOST_INSTRS + 2)) ticket n r)) words
     ∙ own_behind S L sound (overlaid known log) script a.0 a.1 a.2 a.3 scan ticket es r s.scan i.fit.script small i.fit.own_in walked
     in
-    let entries : c.collect.new.log.entries ≡ put_all log (es ++ own_cells (ticket_cell S scan) ticket (length script) r) = ap (λ (p : WriteSet). p.entries) c.collect.ensures.log ∙ ap (put_all log) own in
-    let same : c.collect.new.part.known ≡ known = ap (λ (p : Part). p.known) c.collect.ensures.part ∙ c.put_own.ensures.known ∙ ap (λ (p : Part). p.known) c.run.ensures.part in
-    let op : take c.len-words.result c.words_of.result ≡ script = rw (words, ← c.as_slice-in-Ok.ensures.value) c.words_of.ensures in
-    let call : call_value (record { caller = scan; ticket = c.seq_of-ticket.result; words = c.len-words.result; op = c.words_of.result; raw = r }) ≡ record { caller = scan; ticket = ticket; op = script; raw = r } = rw (op, number) refl in
+    let entries : c.hand_to_log.new.log.entries ≡ put_all log (es ++ own_cells (ticket_cell S scan) ticket (length script) r) = ap (λ (p : WriteSet). p.entries) c.hand_to_log.ensures.log ∙ ap (put_all log) own in
+    let same : c.hand_to_log.new.part.known ≡ known = ap (λ (p : Part). p.known) c.hand_to_log.ensures.part ∙ c.put_own.ensures.known ∙ ap (λ (p : Part). p.known) c.run.ensures.part in
+    let op : take c.len-words.result c.padded_words.result ≡ script = rw (words, ← c.as_slice-in-Ok.ensures.value) c.padded_words.ensures in
+    let call : call_value (record { caller = scan; ticket = c.seq_of-ticket.result; words = c.len-words.result; op = c.padded_words.result; raw = r }) ≡ record { caller = scan; ticket = ticket; op = script; raw = r } = rw (op, number) refl in
     let calls : map call_value c.push.new.self.items ≡ map call_value c.self.inside.calls.items ++ record { caller = scan; ticket = ticket; op = script; raw = r } ∷ [] =
     ap (map call_value) c.in-Ok-push.ensures.items ∙ map-append call_value c.self.inside.calls.items _ ∙ ap (λ (x : Call). map call_value c.self.inside.calls.items ++ x ∷ []) call
     in

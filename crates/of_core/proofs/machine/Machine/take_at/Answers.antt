@@ -2,7 +2,7 @@ use Rattle.std.proofs.Common.{◌≡◌, ◌+◌, ◌<◌, refl, sym, ◌∙◌,
 use Rattle.of_mem.specs.Meaning.{IsSoundMeaning}
 use Rattle.of_core.specs.declared.place.Place.TheVariants.{TryCurrent, TryRequest, TryCell, LoadCurrent, CopyLog, LookAgain, LoadAnnouncement, LoadScript, LoadCell, RaiseClosed}
 use Rattle.of_core.specs.Table.{Setup, setup_of, first_operation_cell}
-use Rattle.of_core.specs.Seen.{machine_setup}
+use Rattle.of_core.specs.MachineValue.{machine_setup}
 use Rattle.of_core.proofs.Puts.{sound_at}
 use Rattle.of_core.proofs.Allows.{few_steps, request_words, cell_words, try_current_owner, try_current_upto, try_agrees, load_current_owner, load_current_upto, copy_count, look_words, look_log, announced_small, announced_some, ticket_unnamed, script_agrees, cell_agrees, closed_words}
 use Rattle.of_core.proofs.machine.Machine.take_at.Goals as goal

@@ -1,6 +1,6 @@
 use Rattle.std.proofs.Common.{List, ◌∙◌, ap}
 use Rattle.of_script.specs.declared.instr.Instr.{Instr}
-use Rattle.of_store.specs.State.{run}
+use Rattle.of_store.specs.Store.{run}
 use Rattle.of_eval.proofs.FillSteps.{one}
 use Rattle.of_eval.proofs.lawful_cells.fill.apply.Goals as goal
 

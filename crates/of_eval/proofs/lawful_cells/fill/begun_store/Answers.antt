@@ -1,7 +1,7 @@
 use Rattle.std.proofs.Common.{ℕ, ◌≡◌, ◌<◌, ◌+◌, get_or, sym, arith, ap, subst}
 use Rattle.of_mem.specs.ProgramWork.{memory_of}
 use Rattle.of_mem.specs.Numbers.{IsNumber}
-use Rattle.of_store.specs.State.{Store}
+use Rattle.of_store.specs.Store.{Store}
 use Rattle.of_eval.specs.Walking.{HasRegisters}
 use Rattle.of_eval.proofs.FillSteps.{registers_none, registers_more}
 use Rattle.of_eval.proofs.lawful_cells.fill.begun_store.Goals as goal

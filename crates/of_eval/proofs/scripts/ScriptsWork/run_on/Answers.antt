@@ -1,5 +1,5 @@
 use Rattle.std.proofs.Common.{◌∙◌, refl, sym, ap}
-use Rattle.of_mem.specs.Pad.{Part}
+use Rattle.of_mem.specs.Part.{Part}
 use Rattle.of_mem.specs.Places.{base_of}
 use Rattle.of_mem.specs.Plots.{base}
 use Rattle.of_eval.specs.Scripts.{store_at}

@@ -1,5 +1,5 @@
 use Rattle.std.proofs.Common.{ℕ, ◌<◌, List, length, get_or, ◌∙◌, ap, refl, arith}
-use Rattle.of_mem.specs.Pairs.{put_pair}
+use Rattle.of_mem.specs.CellMap.{put_pair}
 use Rattle.of_mem.proofs.Writes.{put_next}
 use Rattle.of_mem.proofs.cell_map.CellMap.copy_from.Goals as goal
 

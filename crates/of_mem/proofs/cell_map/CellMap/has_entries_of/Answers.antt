@@ -19,4 +19,4 @@ same_entry a b = (
 )
 
 pub returns : goal.returns
-returns c = rw (← c.self.view_is, ← c.other.view_is, ← c.deref.ensures.value, ← c.deref-2.ensures.value) (slice_eq-Decides same_entry _ _ c.eq.result c.eq.ensures)
+returns c = rw (← c.self.view_is, ← c.other.view_is, ← c.as_slice.ensures.value, ← c.as_slice-2.ensures.value) (slice_eq-Decides same_entry _ _ c.eq.result c.eq.ensures)

@@ -1,6 +1,6 @@
 use Rattle.std.proofs.Common.{◌≡◌, ◌∙◌, ap, ℕ, ◌<◌, ◌+◌, List, length, get_or, take, arith}
-use Rattle.of_mem.specs.Pairs.{put_pair, put_all}
-use Rattle.of_mem.specs.Pad.{Part}
+use Rattle.of_mem.specs.CellMap.{put_pair, put_all}
+use Rattle.of_mem.specs.Part.{Part}
 use Rattle.of_mem.proofs.Cells.{put_all_take}
 use Rattle.std.proofs.lemmas.List.{take_all}
 use Rattle.of_mem.proofs.Newest.{newest_kept}

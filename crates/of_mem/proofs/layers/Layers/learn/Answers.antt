@@ -1,5 +1,5 @@
 use Rattle.std.proofs.Common.{◌≡◌, ◌<◌, length, Some, length-set, sym, ◌∙◌, rules}
-use Rattle.of_mem.specs.Pad.{Part}
+use Rattle.of_mem.specs.Part.{Part}
 use Rattle.of_mem.proofs.Newest.{newest_learnt}
 use Rattle.of_mem.proofs.layers.Layers.learn.Goals as goal
 

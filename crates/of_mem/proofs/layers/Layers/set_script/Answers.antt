@@ -1,5 +1,5 @@
 use Rattle.std.proofs.Common.{ℕ, ◌<◌, List, length, get_or, ◌∙◌, ap, refl, arith}
-use Rattle.of_mem.specs.Pad.{Part, write}
+use Rattle.of_mem.specs.Part.{Part, write}
 use Rattle.of_mem.proofs.Writes.{put_next}
 use Rattle.of_mem.proofs.layers.Layers.set_script.Goals as goal
 

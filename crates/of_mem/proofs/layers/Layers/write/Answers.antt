@@ -1,5 +1,5 @@
 use Rattle.std.proofs.Common.{◌<◌, length, ◌∙◌, rules}
-use Rattle.of_mem.specs.Pad.{Part, write}
+use Rattle.of_mem.specs.Part.{Part, write}
 use Rattle.of_mem.proofs.Newest.{newest_wrote}
 use Rattle.of_mem.proofs.layers.Layers.write.Goals as goal
 

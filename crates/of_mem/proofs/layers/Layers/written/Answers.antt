@@ -1,5 +1,5 @@
 use Rattle.std.proofs.Common.{◌<◌, length, sym, ◌∙◌, rules}
-use Rattle.of_mem.specs.Pad.{Part}
+use Rattle.of_mem.specs.Part.{Part}
 use Rattle.of_mem.proofs.Newest.{none_written}
 use Rattle.of_mem.proofs.layers.Layers.written.Goals as goal
 

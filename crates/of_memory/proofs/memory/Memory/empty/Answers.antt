@@ -1,10 +1,11 @@
 use Rattle.std.proofs.Common.{sym, ap, subst, ◌∙◌}
-use Rattle.of_store.specs.State.{empty_store}
+use Rattle.of_store.specs.Store.{empty_store}
 use Rattle.of_eval.specs.declared.scripts.Scripts.{Scripts}
 use Rattle.of_row.specs.declared.row.Row.{Row}
 use Rattle.of_row.specs.Rows.{key_of}
 use Rattle.of_memory.specs.Laws.{StandsAt}
-use Rattle.of_memory.specs.Serving.{start_of_row, made_before}
+use Rattle.of_caller.specs.PlanRows.{start_of_row}
+use Rattle.of_memory.specs.Serving.{made_before}
 use Rattle.of_memory.proofs.Starting.{empty_row, empty_start, none_before}
 use Rattle.of_memory.proofs.memory.Memory.empty.Goals as goal
 

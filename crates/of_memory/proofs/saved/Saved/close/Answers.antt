@@ -1,14 +1,14 @@
 use Rattle.std.proofs.Common.{ℕ, ◌+◌, ◌≤◌, List, ap, subst, sym, ◌∙◌}
 use Rattle.std.specs.Prelude.{slice_range}
-use Rattle.of_store.specs.State.{Store}
-use Rattle.of_plan.specs.declared.plan.TheConstants.{GREATEST_LIMIT}
+use Rattle.of_store.specs.Store.{Store}
+use Rattle.of_cell.specs.declared.word.TheConstants.{GREATEST_LIMIT}
 use Rattle.of_eval.specs.declared.scripts.Scripts.{Scripts}
 use Rattle.of_eval.specs.Scripts.{LawfulCells}
 use Rattle.of_core.specs.Starts.{IsStartRow}
 use Rattle.of_row.specs.Rows.{key_of}
 use Rattle.of_memory.specs.History.{HistoryEntry}
 use Rattle.of_memory.specs.Laws.{setup_with, StandsAt, HoldsHistory, HistoryLeads}
-use Rattle.of_memory.specs.Serving.{start_of_row}
+use Rattle.of_caller.specs.PlanRows.{start_of_row}
 use Rattle.of_memory.proofs.Closing.{closed}
 use Rattle.of_memory.proofs.saved.Saved.close.Goals as goal
 

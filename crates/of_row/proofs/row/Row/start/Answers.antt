@@ -1,5 +1,5 @@
 use Rattle.std.proofs.Common.{◌∙◌}
-use Rattle.of_core.specs.World.{TableStart}
+use Rattle.of_core.specs.TableMoment.{TableStart}
 use Rattle.of_core.specs.Starts.{start_from_durable}
 use Rattle.of_row.proofs.Opens.{bank_start}
 use Rattle.of_row.proofs.row.Row.start.Goals as goal

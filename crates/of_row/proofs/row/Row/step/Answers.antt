@@ -1,6 +1,6 @@
 use Rattle.std.proofs.Common.{◌∙◌, ap}
 use Rattle.of_core.specs.Machine.{CallState}
-use Rattle.of_core.specs.Seen.{Machine, machine_setup}
+use Rattle.of_core.specs.MachineValue.{Machine, machine_setup}
 use Rattle.of_row.specs.Rows.{key_of, row_start}
 use Rattle.of_row.proofs.Members.{stepped_member, sole_of}
 use Rattle.of_row.proofs.Numbers.{turned_in}
@@ -10,7 +10,7 @@ use Rattle.of_row.proofs.row.Row.step.Goals as goal
 pub invariant_of-member : goal.invariant_of-member
 invariant_of-member g c =
     let h = c.requires.member in
-    let t = c.turn-found in
+    let t = c.make_step-found in
     let d : Machine _ = c.args.machine.now in
     let took = c.take_at.ensures ∙ ap (λ (it : CallState). record d { call = it }) (goes_on (machine_setup g.W.Work.meaning d) d.call t.result c.place-place.result c.place-place.ensures) in
     let m = stepped_member g.W.Work.meaning g.W.Work.lawful (row_start g.W.Work.meaning c.args.self.now) d c.take_at.new.self c.args.member.now.seat.me.0 t.new.seat.me.0 t.result c.args.member.now.number c.made-member.result h.0 h.1 h.2 h.3 t.ensures.step took c.made-member.ensures in
@@ -19,7 +19,7 @@ invariant_of-member g c =
 pub returns-clause-row : goal.returns-clause-row
 returns-clause-row g c =
     let h = c.requires.member in
-    let t = c.turn-found in (
+    let t = c.make_step-found in (
       t.ensures.at.0 ∙ c.requires.row.0,
       t.ensures.at.1,
       t.ensures.step.spent ∙ c.requires.row.2,
@@ -29,13 +29,13 @@ returns-clause-row g c =
 pub returns-clause-member : goal.returns-clause-member
 returns-clause-member g c =
     let h = c.requires.member in
-    let t = c.turn-found in
+    let t = c.make_step-found in
     let d : Machine _ = c.args.machine.now in
     let took = c.take_at.ensures ∙ ap (λ (it : CallState). record d { call = it }) (goes_on (machine_setup g.W.Work.meaning d) d.call t.result c.place-place.result c.place-place.ensures) in
     stepped_member g.W.Work.meaning g.W.Work.lawful (row_start g.W.Work.meaning c.args.self.now) d c.take_at.new.self c.args.member.now.seat.me.0 t.new.seat.me.0 t.result c.args.member.now.number c.made-member.result h.0 h.1 h.2 h.3 t.ensures.step took c.made-member.ensures
 
 pub returns-clause-step : goal.returns-clause-step
 returns-clause-step g c =
-    let t = c.turn-found in
+    let t = c.make_step-found in
     let d : Machine _ = c.args.machine.now in
     (t.result, t.ensures.step, c.take_at.ensures ∙ ap (λ (it : CallState). record d { call = it }) (goes_on (machine_setup g.W.Work.meaning d) d.call t.result c.place-place.result c.place-place.ensures))

@@ -1,6 +1,6 @@
 use Rattle.std.proofs.Common.{◌-◌, sym, ap, ◌∙◌, arith}
 use Rattle.of_script.specs.declared.instr.Instr.TheVariants.{DropBelow}
-use Rattle.of_store.specs.State.{Store, instr_effect}
+use Rattle.of_store.specs.Store.{Store, instr_effect}
 use Rattle.of_store.specs.Inside.{store_value}
 use Rattle.of_store.proofs.Maps.{len_is}
 use Rattle.of_store.proofs.Ordered.{entries_left}

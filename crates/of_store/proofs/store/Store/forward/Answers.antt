@@ -1,6 +1,6 @@
 use Rattle.std.proofs.Common.{◌≡◌, ◌+◌, ◌<◌, ℕ, List, Option, take, length, refl, sym, ap, subst, ◌∙◌, arith}
 use Rattle.std.proofs.lemmas.List.{take_more_set, length-set}
-use Rattle.of_store.specs.State.{ScriptOutcome, Answered, run_result}
+use Rattle.of_store.specs.Store.{ScriptOutcome, Answered, run_result}
 use Rattle.of_store.specs.Replies.{IsSmall}
 use Rattle.of_store.specs.Changes.{ChangesLead}
 use Rattle.of_store.proofs.Keeps.{effect_keeps}

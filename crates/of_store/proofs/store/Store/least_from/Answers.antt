@@ -1,5 +1,5 @@
 use Rattle.std.proofs.Common.{sym, ap, ◌∙◌}
-use Rattle.of_store.specs.State.{Store, least_from}
+use Rattle.of_store.specs.Store.{Store, least_from}
 use Rattle.of_store.proofs.Ordered.{least_first, least_none}
 use Rattle.of_store.proofs.store.Store.least_from.Goals as goal
 

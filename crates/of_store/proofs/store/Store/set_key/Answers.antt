@@ -1,6 +1,6 @@
 use Rattle.std.proofs.Common.{refl, sym, ap, ◌∙◌, arith, is_some}
 use Rattle.std.specs.FinMap as fm
-use Rattle.of_store.specs.State.{Store, with_key}
+use Rattle.of_store.specs.Store.{Store, with_key}
 use Rattle.of_store.specs.Inside.{store_value}
 use Rattle.of_store.proofs.Maps.{get_is, one_put}
 use Rattle.of_store.proofs.Kept.{some_grown}

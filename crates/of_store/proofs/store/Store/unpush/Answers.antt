@@ -1,6 +1,6 @@
 use Rattle.std.proofs.Common.{◌-◌, ◌<◌, ◌≡◌, ℕ, List, length, get_or, set, take, sym, ap, ◌∙◌, arith}
 use Rattle.std.proofs.lemmas.List.{length-map, map-set, length-take-le}
-use Rattle.of_store.specs.State.{Store, queue}
+use Rattle.of_store.specs.Store.{Store, queue}
 use Rattle.of_store.specs.Inside.{store_value}
 use Rattle.of_store.proofs.Copies.{at_queue}
 use Rattle.of_store.proofs.Keeps.{queue_stored}

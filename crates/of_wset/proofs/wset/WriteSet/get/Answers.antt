@@ -1,17 +1,15 @@
-use Rattle.std.proofs.Common.{Some, ap, sym, ◌∙◌}
-use Rattle.of_wset.specs.declared.table.Entry.{Entry}
+use Rattle.std.proofs.Common.{ℕ, Some, ap, sym, ◌∙◌}
+use Rattle.std.proofs.lemmas.List.{get_or_default}
+use Rattle.of_wset.specs.Index.{IsEntryFor}
 use Rattle.of_wset.proofs.wset.WriteSet.get.Goals as goal
-use Rattle.of_wset.proofs.Maps.{value_at-found, value_at-absent}
-use Rattle.of_wset.proofs.Writes.{read_entry}
+use Rattle.of_wset.proofs.Maps.{value_at-absent, value_at-found}
 
-pub returns-in-Entry : goal.returns-in-Entry
-returns-in-Entry c =
-    let found = rw c.as_slice.ensures.value at c.in-Entry.ensures in
+pub returns-in_err-place : goal.returns-in_err-place
+returns-in_err-place c = rw c.from_residual.ensures (sym (value_at-absent _ _ c.in_err-place.ensures))
+
+pub returns : goal.returns
+returns c =
+    let f : IsEntryFor c.self.inside.entries.items c.args.addr c.in_ok-place.place = rw (← c.self.view_is) at c.in_ok-place.ensures in
     rw (← c.self.view_is)
-    (ap (λ (e : Entry). Some e.value) (read_entry c.self.inside.entries.items c.in-Entry.at c.index.result.now c.index.ensures found.0)
-    ∙ sym (value_at-found c.self.inside.room c.self.inside.entries.items c.self.invariant.below c.self.invariant.once c.args.addr c.in-Entry.at found.0 found.1))
-
-pub returns-in-Free : goal.returns-in-Free
-returns-in-Free c =
-    let absent = rw c.as_slice.ensures.value at c.in-Free.ensures.absent in
-    rw (← c.self.view_is) (sym (value_at-absent c.self.inside.entries.items c.args.addr absent))
+    (ap (λ (e : ℕ × ℕ). Some e.1) (c.index.ensures ∙ get_or_default c.self.inside.entries.items c.in_ok-place.place c.index.result.now (0, 0) f.0)
+    ∙ sym (value_at-found _ _ _ _ _ c.self.invariant _ _ f))

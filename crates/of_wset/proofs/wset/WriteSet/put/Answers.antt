@@ -1,48 +1,38 @@
-use Rattle.std.proofs.Common.{◌≡◌, ◌<◌, ◌≤◌, ℕ, ◌∷◌, [], length, ap, sym, ◌∙◌, arith}
-use Rattle.std.proofs.lemmas.List.{map-append}
-use Rattle.of_wset.specs.declared.table.Entry.{Entry}
-use Rattle.of_wset.specs.Pairs.{WriteSet}
-use Rattle.of_wset.specs.Table.{entry_pair, IsFree}
+use Rattle.std.proofs.Common.{◌<◌, ◌≤◌, ℕ, List, length, ap, sym, ◌∙◌, arith}
+use Rattle.std.proofs.lemmas.List.{get_or_default}
+use Rattle.of_wset.specs.WriteSet.{WriteSet}
+use Rattle.of_wset.specs.Index.{IsEntryFor, IsUnwritten, NotesPlace}
 use Rattle.of_wset.proofs.wset.WriteSet.put.Goals as goal
-use Rattle.of_wset.proofs.Maps.{few, put-found, put-absent, seen}
-use Rattle.of_wset.proofs.Writes.{value_written, pair_written, room_left, read_entry, more_capacity}
-
-pub invariant_of-self : goal.invariant_of-self
-invariant_of-self c =
-    let found = rw c.as_slice.ensures.value at c.in-Entry.ensures in
-    let read = read_entry c.self.inside.entries.items c.in-Entry.at c.index_mut.result.now c.index_mut.ensures.value found.0 in
-    value_written c.self.inside.room c.self.inside.entries.items c.self.inside.table.items _ c.in-Entry.at _ c.self.invariant found.0 (ap (λ (e : Entry). e.addr) read) (ap (λ (e : Entry). e.place) read)
+use Rattle.of_wset.proofs.Maps.{few, put-found, put-absent}
+use Rattle.of_wset.proofs.Notes.{pair_written, room_left}
 
 pub overflow_cast-len : goal.overflow_cast-len
-overflow_cast-len c = let h : length c.self.inside.entries.items ≤ c.self.inside.room = few _ _ c.self.invariant.below c.self.invariant.once in search arith
+overflow_cast-len c = let h : length c.self.inside.entries.items ≤ c.self.inside.room = few _ _ _ _ _ c.self.invariant in search arith
 
-pub invariant_of-self-in-Ok : goal.invariant_of-self-in-Ok
-invariant_of-self-in-Ok c =
-    let free : IsFree c.self.inside.entries.items c.self.inside.table.items c.args.addr c.in-Free.place = rw (c.as_slice.ensures.value, c.as_slice-2.ensures.value) at c.in-Free.ensures in
+pub push_reserved-requires : goal.push_reserved-requires
+push_reserved-requires c =
+    let absent : IsUnwritten c.self.inside.entries.items c.args.addr = rw (← c.self.view_is) at c.in-None.ensures in
     let inside : c.args.addr < c.self.inside.room = omega (arith, ap (λ (p : WriteSet). p.room) c.self.view_is, c.requires) in
-    let many : c.len.result ≡ length c.self.inside.entries.items = c.len.ensures ∙ c.self.inside.entries.ok.0 in
-    rw (c.in-Ok.ensures.items, many)
-    (more_capacity _ _ _ _ _ (pair_written c.self.inside.room c.self.inside.entries.items c.self.inside.table.items _ (record { addr = c.args.addr; value = c.args.value; place = c.in-Free.place }) c.self.invariant free inside) c.in-Ok.ensures.capacity)
+    let noted : NotesPlace c.self.inside.places.items c.note.new.places.items c.args.addr (length c.self.inside.entries.items) = rw (c.len.ensures, c.self.inside.entries.ok.0) at c.note.ensures.notes in
+    omega (arith, room_left _ _ _ _ _ _ _ c.args.value c.self.invariant absent inside noted, c.self.invariant.spare, c.self.inside.entries.ok.0)
 
-pub unreachable-requires : goal.unreachable-requires
-unreachable-requires c =
-    let free : IsFree c.self.inside.entries.items c.self.inside.table.items c.args.addr c.in-Free.place = rw (c.as_slice.ensures.value, c.as_slice-2.ensures.value) at c.in-Free.ensures in
+pub invariant_of-self-in-None : goal.invariant_of-self-in-None
+invariant_of-self-in-None c =
+    let absent : IsUnwritten c.self.inside.entries.items c.args.addr = rw (← c.self.view_is) at c.in-None.ensures in
     let inside : c.args.addr < c.self.inside.room = omega (arith, ap (λ (p : WriteSet). p.room) c.self.view_is, c.requires) in
-    let left : length c.self.inside.entries.items < c.self.inside.room
-    = room_left c.self.inside.room c.self.inside.entries.items c.self.inside.table.items _ (record { addr = c.args.addr; value = c.args.value; place = c.in-Free.place }) c.self.invariant free inside in
-    omega (arith, c.self.invariant.spare, c.self.inside.entries.ok.0, c.in-Err.ensures.full)
+    let noted : NotesPlace c.self.inside.places.items c.note.new.places.items c.args.addr (length c.self.inside.entries.items) = rw (c.len.ensures, c.self.inside.entries.ok.0) at c.note.ensures.notes in
+    rw c.push_reserved.ensures.items
+    (pair_written _ _ _ _ _ _ _ c.args.value c.self.invariant absent inside noted _ _ (omega (arith, c.push_reserved.ensures.capacity)) c.note.ensures.capacity)
 
-pub returns-in-Entry : goal.returns-in-Entry
-returns-in-Entry c =
-    let found = rw c.as_slice.ensures.value at c.in-Entry.ensures in
-    let read = read_entry c.self.inside.entries.items c.in-Entry.at c.index_mut.result.now c.index_mut.ensures.value found.0 in
-    rw (← c.self.view_is)
-    (ap (seen c.self.inside.room) (sym (put-found c.self.inside.room c.self.inside.entries.items c.self.invariant.below c.self.invariant.once c.args.addr c.in-Entry.at found.0 found.1 c.args.value _
-    (ap (λ (a : ℕ). (a, c.args.value)) (ap (λ (e : Entry). e.addr) read ∙ found.1)))))
+pub returns-in-Some : goal.returns-in-Some
+returns-in-Some c =
+    let f : IsEntryFor c.self.inside.entries.items c.args.addr c.in-Some.place = rw (← c.self.view_is) at c.in-Some.ensures in
+    let same = ap (λ (e : ℕ × ℕ). e.0) (c.index_mut.ensures.value ∙ get_or_default c.self.inside.entries.items c.in-Some.place c.index_mut.result.now (0, 0) f.0) ∙ f.1 in
+    rw (← c.self.view_is, same)
+    (ap (λ (es : List (ℕ × ℕ)). record { room = c.self.inside.room; entries = es }) (sym (put-found _ _ _ _ _ c.self.invariant _ _ f c.args.value)))
 
-pub returns-in-Ok : goal.returns-in-Ok
-returns-in-Ok c =
-    let free : IsFree c.self.inside.entries.items c.self.inside.table.items c.args.addr c.in-Free.place = rw (c.as_slice.ensures.value, c.as_slice-2.ensures.value) at c.in-Free.ensures in
-    let entry : Entry = record { addr = c.args.addr; value = c.args.value; place = c.in-Free.place } in
-    rw (← c.self.view_is, c.in-Ok.ensures.items)
-    (ap (seen c.self.inside.room) (map-append entry_pair c.self.inside.entries.items (entry ∷ []) ∙ sym (put-absent c.self.inside.entries.items c.args.addr c.args.value free.absent)))
+pub returns-in-None : goal.returns-in-None
+returns-in-None c =
+    let absent : IsUnwritten c.self.inside.entries.items c.args.addr = rw (← c.self.view_is) at c.in-None.ensures in
+    rw (← c.self.view_is, c.push_reserved.ensures.items)
+    (ap (λ (es : List (ℕ × ℕ)). record { room = c.self.inside.room; entries = es }) (sym (put-absent _ _ c.args.value absent)))

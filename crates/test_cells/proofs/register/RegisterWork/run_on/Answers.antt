@@ -1,7 +1,7 @@
 use Rattle.std.proofs.Common.{◌+◌, ◌≡◌, ℕ, ◌*◌, [], ◌∷◌, Some, None, true, false, get_or, refl, sym, ◌∙◌, ap, arith}
 use Rattle.of_cell.specs.Words.{seq_of}
 use Rattle.of_mem.specs.declared.work.TheConstants.{MOST_INSTRS}
-use Rattle.of_mem.specs.Pad.{Part, overlaid}
+use Rattle.of_mem.specs.Part.{Part, overlaid}
 use Rattle.test_cells.specs.Register.{reads_only}
 use Rattle.test_cells.proofs.Walks.{over_newest, wrote_first, is_read, is_write}
 use Rattle.test_cells.proofs.register.RegisterWork.run_on.Goals as goal

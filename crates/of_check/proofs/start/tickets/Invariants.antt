@@ -1,8 +1,0 @@
-use Rattle.std.proofs.Common.{◌≡◌, map}
-use Rattle.std.specs.List.{range_with_len}
-use Rattle.of_report.specs.Image.{image_value, image_ticket}
-use Rattle.of_check.proofs.start.tickets.Given as goal
-
--- the tickets so far
-abbrev pub invariant-loop-caller : goal.invariant-loop-caller
-invariant-loop-caller l = l.tickets.items ≡ map (image_ticket (image_value l.image)) (range_with_len 0 l.caller)

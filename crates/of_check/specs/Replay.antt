@@ -1,0 +1,106 @@
+-- How claimed calls run one after another on the store, and which claim may come next.
+use Rattle.std.specs.Prelude.{◌≡◌, ℕ, ◌+◌, ◌≤◌, ◌<◌, ◌⊎◌, Bool, true, false, IsTrue, List, [], ◌∷◌, ◌++◌, length, map, slice_index, slice_index_or, slice_set, All}
+use Rattle.of_script.specs.declared.instr.Instr.{Instr}
+use Rattle.of_script.specs.Language.{reads_only}
+use Rattle.of_store.specs.Store.{Store, run}
+use Rattle.of_plan.specs.Plan.{Plan, scripts_of}
+use Rattle.of_plan.specs.Report.{Entry, Start}
+use Rattle.of_report.specs.Report.{entry_value}
+use Rattle.of_check.specs.declared.claims.CallClaim.{CallClaim}
+use Rattle.of_check.specs.declared.replay.Replay.{Replay as RustReplay}
+
+-- how many calls of each caller have run, the claim of the last call, and the store that it left
+pub record Replay : Type 0 where
+  pub counts : List ℕ
+  pub last : CallClaim
+  pub store : Store
+
+-- at a start: what was done before has run, and only a read may come at the start's sequence
+abbrev pub replay_at_start : Start → Replay
+replay_at_start s = record {
+  counts = s.finished;
+  last = record { seq = s.seq; caller = 0; announced = false };
+  store = s.store;
+}
+
+-- how many calls of a claim's caller have run: the index of the claimed call
+abbrev pub index_for : Replay → CallClaim → ℕ
+index_for c q = slice_index c.counts q.caller
+
+-- the next script of its caller
+abbrev pub script_for : Plan → Replay → CallClaim → List Instr
+script_for p c q = slice_index_or (scripts_of p q.caller) (index_for c q) []
+
+-- the entry of a claimed call: the next script of its caller, with its reply
+abbrev pub entry_for : Plan → Replay → CallClaim → Entry
+entry_for p c q = record {
+  seq = q.seq;
+  caller = q.caller;
+  index = index_for c q;
+  announced = q.announced;
+  reply = (run c.store (script_for p c q)).1;
+}
+
+-- once it has run
+abbrev pub after_claimed_call : Plan → Replay → CallClaim → Replay
+after_claimed_call p c q = record {
+  counts = slice_set c.counts q.caller (index_for c q + 1);
+  last = q;
+  store = (run c.store (script_for p c q)).0;
+}
+
+-- the entries of claimed calls
+abbrev pub entries_from : Plan → Replay → List CallClaim → List Entry
+entries_from p c [] = []
+entries_from p c (q ∷ qs) = entry_for p c q ∷ entries_from p (after_claimed_call p c q) qs
+
+-- how things stand once they have run
+abbrev pub course_end : Plan → Replay → List CallClaim → Replay
+course_end p c [] = c
+course_end p c (q ∷ qs) = course_end p (after_claimed_call p c q) qs
+
+-- behind the last claim stands an announced call at the next sequence, or at the same one where the
+-- last is announced and of a lesser caller; or a read at the same sequence, where the last is
+-- announced or a read of no greater caller
+abbrev pub MayFollowWithin : (last_announced announced : Bool) → (last next : CallClaim) → Type 0
+MayFollowWithin true true last q =
+    (q.seq ≡ last.seq + 1) ⊎ ((q.seq ≡ last.seq) × (last.caller < q.caller))
+MayFollowWithin true false last q = q.seq ≡ last.seq
+MayFollowWithin false true last q = q.seq ≡ last.seq + 1
+MayFollowWithin false false last q = (q.seq ≡ last.seq) × (last.caller ≤ q.caller)
+
+-- the claimed call may come next: its caller has a script more, it stands where it may, and the
+-- script of a read only reads
+pub record MayFollow (p : Plan) (c : Replay) (q : CallClaim) : Type 0 where
+  pub caller : q.caller < p.callers
+  pub script : index_for c q < length (scripts_of p q.caller)
+  pub place : MayFollowWithin c.last.announced q.announced c.last q
+  pub reads : q.announced ≡ false → All (λ i. IsTrue (reads_only i)) (script_for p c q)
+
+-- each of them may come next
+abbrev pub AllFollow : Plan → Replay → List CallClaim → Type 0
+AllFollow p c [] = Unit {0}
+AllFollow p c (q ∷ qs) = MayFollow p c q × AllFollow p (after_claimed_call p c q) qs
+
+-- ---- the code's replay
+
+-- how far it has come
+abbrev pub replay_value : RustReplay → Replay
+replay_value r = record { counts = r.counts.items; last = r.last; store = r.store }
+
+-- the entries of the calls that have run
+abbrev pub entries_so_far : RustReplay → List Entry
+entries_so_far r = map entry_value r.entries.items
+
+-- one call more has run, and it was one that may come next
+pub record HasRunCall (p : Plan) (before now : RustReplay) (q : CallClaim) : Type 0 where
+  pub follows : MayFollow p (replay_value before) q
+  pub course : replay_value now ≡ after_claimed_call p (replay_value before) q
+  pub entries : entries_so_far now
+      ≡ entries_so_far before ++ entry_for p (replay_value before) q ∷ []
+
+-- all have run, from a start
+pub record HasRunCalls (p : Plan) (s : Start) (qs : List CallClaim) (r : RustReplay) : Type 0 where
+  pub follow : AllFollow p (replay_at_start s) qs
+  pub course : replay_value r ≡ course_end p (replay_at_start s) qs
+  pub entries : entries_so_far r ≡ entries_from p (replay_at_start s) qs

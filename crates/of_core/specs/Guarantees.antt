@@ -1,0 +1,77 @@
+-- What a step guarantees the other machines.
+use Rattle.std.specs.Prelude.{ℕ, ◌+◌, ◌*◌, List, length, ◌≡◌, ◌≤◌, ◌<◌, ◌⊎◌}
+use Rattle.std.proofs.Common.{get_or}
+use Rattle.of_cell.specs.Words.{pack, seq_of}
+use Rattle.std.specs.List.{All}
+use Rattle.of_core.specs.Table.{Setup, cell_count, request_of, data_word, log_word_of, durable_word, script_word, announcement_of, committed_seq, committed_owner}
+use Rattle.of_core.specs.Machine.{Call}
+use Rattle.of_core.specs.TableMoment.{Batch, Moment, TableStart}
+use Rattle.of_core.specs.History.{state_after, batch_at, last_ticket_by}
+use Rattle.of_core.specs.Rounds.{AnnouncesNothingNew}
+use Rattle.of_core.specs.Scan.{IsAnnouncedCall}
+use Rattle.of_core.specs.Invariant.{MeetsCore}
+
+-- What others may rely on where a step of machine i led from these words and batches to those: what
+-- stood stays, a new batch is i's and of calls that are announced, and a word of another machine
+-- changes only by closing the last batch's request.
+pub record Guarantees (S : Setup) (B : TableStart) (i : ℕ) (ws : List ℕ) (bs : List Batch)
+    (vs : List ℕ) (cs : List Batch) : Type 0 where
+  -- while the last sequence stays so does its owner
+  pub same : committed_seq vs ≡ committed_seq ws → committed_owner vs ≡ committed_owner ws
+  -- the states and batches that stood stand
+  pub states : (k : ℕ) → B.seq ≤ k → k ≤ committed_seq ws → state_after B cs k ≡ state_after B bs k
+  pub batches : (k : ℕ) → B.seq < k → k ≤ committed_seq ws → batch_at B cs k ≡ batch_at B bs k
+  -- nothing is committed above the limit
+  pub limit : committed_seq vs ≤ S.limit
+  -- each new call is one that its caller announces, and changes its caller's ticket cell alone
+  pub newer : (k : ℕ) → committed_seq ws < k → k ≤ committed_seq vs
+      → All (λ (c : Call). IsAnnouncedCall S ws c × (length c.op ≤ S.instrs))
+      (batch_at B cs k).calls
+  pub tickets : (k j : ℕ) → committed_seq ws < k → k ≤ committed_seq vs → j < S.callers
+      → (last_ticket_by S B cs k j ≡ last_ticket_by S B bs (committed_seq ws) j)
+      ⊎ ((last_ticket_by S B cs k j ≡ seq_of (announcement_of S ws j))
+      × (last_ticket_by S B bs (committed_seq ws) j < seq_of (announcement_of S ws j))
+      × (committed_seq ws < S.limit))
+  -- a new batch remembers the announcements that stood
+  pub snapshot : (k j : ℕ) → committed_seq ws < k → k ≤ committed_seq vs → j < S.callers
+      → (batch_at B cs k).announcements j ≡ announcement_of S ws j
+  -- script words and announcements are i's to store, where what it announced is done
+  pub script_of : (j x : ℕ) → j < S.callers → x < S.instrs + 1
+      → (script_word S vs j x ≡ script_word S ws j x) ⊎ ((j ≡ i) × AnnouncesNothingNew S B ws bs j)
+  -- and one that it changes has not stood at any batch
+  pub announcements : (j : ℕ) → j < S.callers
+      → (announcement_of S vs j ≡ announcement_of S ws j)
+      ⊎ ((j ≡ i)
+      × ((k : ℕ) → B.seq < k → k ≤ committed_seq ws
+      → (batch_at B bs k).announcements j ≡ announcement_of S vs j → ⊥))
+  -- a new batch is the stepper's
+  pub newer_owner : (k : ℕ) → committed_seq ws < k → k ≤ committed_seq vs
+      → (batch_at B cs k).owner ≡ i
+  -- another's request stays, or the last batch's is closed
+  pub requests : (j : ℕ) → j < S.callers → (j ≡ i → ⊥)
+      → (request_of vs j ≡ request_of ws j)
+      ⊎ ((B.seq < committed_seq ws) × ((batch_at B bs (committed_seq ws)).owner ≡ j)
+      × (request_of ws j ≡ pack (committed_seq ws) 0)
+      × (request_of vs j ≡ pack (committed_seq ws) 1))
+  -- a data cell stays, or gets a word of the last transaction at least
+  pub changes : (a : ℕ) → a < S.cells
+      → (data_word S vs a ≡ data_word S ws a) ⊎ (committed_seq ws ≤ seq_of (data_word S vs a))
+  -- another's log words stay
+  pub logs : (j : ℕ) → j < S.callers → (j ≡ i → ⊥) → (x : ℕ) → x < 2 * S.cells + 1
+      → log_word_of S vs j x ≡ log_word_of S ws j x
+  -- a log word stays or gets a higher sequence, and i's are of at most the new batch's
+  pub log_how : (j x : ℕ) → j < S.callers → x < 2 * S.cells + 1
+      → (log_word_of S vs j x ≡ log_word_of S ws j x)
+      ⊎ (seq_of (log_word_of S ws j x) < seq_of (log_word_of S vs j x))
+  pub newer_logs : (k x : ℕ) → committed_seq ws < k → k ≤ committed_seq vs → x < 2 * S.cells + 1
+      → seq_of (log_word_of S vs i x) ≤ k
+  -- cells and durable words only rise, and no durable word gets above its cell's
+  pub rise : (c : ℕ) → c < cell_count S → get_or ws c 0 ≤ get_or vs c 0
+  pub durs : (c : ℕ) → c < cell_count S → durable_word S ws c ≤ durable_word S vs c
+  pub low : (c : ℕ) → c < cell_count S → durable_word S vs c ≤ get_or vs c 0
+
+-- what a step of machine i from w to v keeps, and what it leaves true of the others
+pub record KeepsGuarantee (S : Setup) (Lawful : List ℕ → Type 0) (B : TableStart) (i : ℕ)
+    (w v : Moment) : Type 0 where
+  pub core : MeetsCore S Lawful B v
+  pub moves : Guarantees S B i w.words w.batches v.words v.batches

@@ -1,0 +1,60 @@
+//! Images from their texts.
+
+ghost use Rattle.std.specs.Prelude.{◌≡◌, ◌≤◌, IfOk, IfErr, MatchResult};
+ghost use Rattle.of_mem.specs.declared.work.TheConstants.{MOST_INSTRS};
+ghost use Rattle.of_image.specs.Version.{instrs_of};
+ghost use Rattle.of_report.specs.Image.{Image as PlainImage, IsImage, image_value};
+ghost use Rattle.of_image.specs.Parsed.{ReadsImage, ImageIsRefused};
+ghost use Rattle.of_image.specs.declared.version.Version.TheVariants.{Two};
+ghost use Rattle.of_image.specs.declared.error.ImageErr.TheVariants.{Memory};
+
+use crate::error::ImageErr;
+use crate::parse_row::read_row;
+use crate::restore::restore;
+use crate::version::Version;
+use of_cell::MOST_CALLERS;
+use of_mem::Plot;
+use of_report::Image;
+use of_store::MOST_BLOCKS;
+use std::alloc::Global;
+
+/// Where the data cells of an image stand.
+pub(crate) fn plot_of(version: Version, callers: u32, blocks: u32) -> Plot
+    requires some_callers { 1 ≤ callers }
+    requires few_callers { callers ≤ MOST_CALLERS }
+    requires few_blocks { blocks ≤ MOST_BLOCKS }
+    ensures callers { result.callers ≡ callers }
+    ensures instrs { result.instrs ≡ instrs_of version }
+    ensures blocks { result.blocks ≡ blocks }
+{
+    Plot {
+        callers,
+        instrs: version.instrs(),
+        blocks,
+    }
+}
+
+/// The image that a text of a version has.
+pub(crate) fn read_image(alloc: Global, version: Version, text: &[u8]) -> Result<Image, ImageErr>
+    ensures ok { IfOk result (λ image. ReadsImage version text.now (image_value image)) }
+    ensures err { IfErr result (ImageIsRefused version text.now) }
+{
+    let reading = read_row(alloc, version, text)?;
+    let plot = plot_of(version, reading.callers, reading.blocks);
+    Ok(restore(alloc, &plot, reading.words)?)
+}
+
+/// The image that a text has: what recovery finds in its durable words.
+pub fn image_parse(alloc: Global, text: &[u8]) -> Result<Image, ImageErr>
+    // What is answered is what recovery finds in the row that the text spells, and it is lawful.
+    ensures ok { IfOk result (λ image. ReadsImage Two text.now (image_value image)) }
+    ensures image { IfOk result (λ image. IsImage MOST_INSTRS (image_value image)) }
+    // A line that is named is the bad one of a text that is not in the grammar; a cell that is named is
+    // the first at fault.
+    ensures err { IfErr result (ImageIsRefused Two text.now) }
+    // A text that has an image is answered by it, unless memory runs out.
+    ensures only { (image : PlainImage) → ReadsImage Two text.now image →
+        MatchResult result (λ i. image_value i ≡ image) (λ e. e ≡ Memory) }
+{
+    read_image(alloc, Version::Two, text)
+}

@@ -1,0 +1,183 @@
+//! What a work keeps between two runs.
+
+ghost use Rattle.std.specs.Prelude.{◌≡◌, ◌≤◌, ◌<◌, ◌+◌, ◌↔◌, IsTrue, length, IfOk, None};
+ghost use Rattle.std.proofs.Common.{set};
+ghost use Rattle.of_mem.specs.declared.work.TheConstants.{MOST_INSTRS};
+ghost use Rattle.of_mem.specs.SuspendedRun.{nothing_suspended, begin_run, IsSuspensionOf};
+
+use crate::cell_map::CellMap;
+use crate::part::Part;
+use crate::work::MOST_INSTRS;
+use std::alloc::{AllocError, Global};
+use std::marker::Model;
+
+/// What a work keeps of an operation whose run lacked a cell: the work's own numbers, the
+/// operation's words, how many of the first words have run, what these answered and wrote, and the
+/// key that the next word looks for before all else, if it does.
+/// There are no words where nothing is kept. Only `new` takes memory.
+#[derive(Drop)]
+pub struct SuspendedRun {
+    callers: u32,
+    blocks: u32,
+    count: usize,
+    words: [u64; MOST_INSTRS],
+    done: u32,
+    values: [Option<u32>; MOST_INSTRS],
+    writes: CellMap,
+    sought: Option<u32>,
+}
+
+impl Model for SuspendedRun {
+    ghost use Rattle.of_mem.specs.SuspendedRun.{SuspendedRun};
+
+    ghost Value = { SuspendedRun };
+
+    ghost use Rattle.std.specs.Prelude.{◌≡◌, ◌≤◌, ◌-◌, ◌++◌, length, None};
+    ghost use Rattle.std.proofs.Common.{take, replicate};
+    ghost use Rattle.of_mem.specs.declared.work.TheConstants.{MOST_INSTRS};
+
+    ghost view = { λ k. record {
+      callers = k.callers;
+      blocks = k.blocks;
+      words = take k.count k.words;
+      done = k.done;
+      values = take k.done k.values ++ replicate (MOST_INSTRS - k.done) None;
+      writes = k.writes.entries;
+      room = k.writes.room;
+      sought = k.sought;
+    } };
+
+    ghost invariant = { λ k. (k.done ≤ k.count) × (k.count ≤ MOST_INSTRS)
+        × (length k.words ≡ MOST_INSTRS) × (length k.values ≡ MOST_INSTRS) };
+}
+
+impl SuspendedRun {
+    /// Nothing is kept, in room for the writes of cells below `cells`. The error is that there is
+    /// no memory.
+    pub fn new(alloc: Global, cells: u32) -> Result<Self, AllocError>
+        ensures { IfOk result (λ k. k ≡ nothing_suspended cells) }
+    {
+        let writes = CellMap::new(alloc, cells)?;
+        Ok(SuspendedRun {
+            callers: 0,
+            blocks: 0,
+            count: 0,
+            words: [0; MOST_INSTRS],
+            done: 0,
+            values: [None; MOST_INSTRS],
+            writes,
+            sought: None,
+        })
+    }
+
+    /// Keeps nothing.
+    pub fn forget(&mut self)
+        ensures { self.new ≡ nothing_suspended self.old.room }
+    {
+        self.callers = 0;
+        self.blocks = 0;
+        self.count = 0;
+        self.done = 0;
+        self.writes.clear();
+        self.sought = None;
+    }
+
+    /// Keeps an operation of at most `MOST_INSTRS` words of which nothing has run.
+    pub fn begin(&mut self, callers: u32, blocks: u32, words: &[u64])
+        requires { length words.now ≤ MOST_INSTRS }
+        ensures { self.new ≡ begin_run self.old.room callers blocks words.now }
+    {
+        self.callers = callers;
+        self.blocks = blocks;
+        self.count = words.len();
+        self.words[..words.len()].copy_from_slice(words);
+        self.done = 0;
+        self.writes.clear();
+        self.sought = None;
+    }
+
+    /// Whether it is kept of this operation, by the work with these numbers.
+    pub fn is_of(&self, callers: u32, blocks: u32, words: &[u64]) -> bool
+        ensures { IsTrue result ↔ IsSuspensionOf self.now callers blocks words.now }
+    {
+        self.callers == callers && self.blocks == blocks && self.words[..self.count] == words[..]
+    }
+
+    /// How many of the first words have run.
+    pub fn done(&self) -> usize
+        ensures value { result ≡ self.now.done }
+        ensures few { self.now.done ≤ length self.now.words }
+        ensures most { length self.now.words ≤ MOST_INSTRS }
+    {
+        self.done as usize
+    }
+
+    /// What the words answered that have run, each at its place, and none past them.
+    pub fn values(&self) -> [Option<u32>; MOST_INSTRS]
+        ensures { result ≡ self.now.values }
+    {
+        let mut values = [None; MOST_INSTRS];
+        for i in 0..self.done as usize {
+            values[i] = self.values[i];
+        }
+        values
+    }
+
+    /// One word more has run: it answered `value`, and the script has written what `part` says.
+    pub fn advance(&mut self, value: Option<u32>, part: &Part)
+        requires more { self.old.done < length self.old.words }
+        requires room { self.old.room ≡ length part.now.known }
+        ensures { self.new ≡ record self.old {
+          done = self.old.done + 1;
+          values = set self.old.values self.old.done value;
+          writes = part.now.script;
+          sought = None;
+        } }
+    {
+        self.values[self.done as usize] = value;
+        self.done += 1;
+        self.sought = None;
+        part.copy_script(&mut self.writes);
+    }
+
+    /// The key that the next word looks for before all else, where that was kept.
+    pub fn sought(&self) -> Option<u32>
+        ensures { result ≡ self.now.sought }
+    {
+        self.sought
+    }
+
+    /// Keeps the key that the next word looks for before all else, or that there is none.
+    pub fn seek(&mut self, key: Option<u32>)
+        ensures { self.new ≡ record self.old { sought = key } }
+    {
+        self.sought = key;
+    }
+
+    /// Lets the script have written what the words wrote that have run.
+    pub fn restore(&self, part: &mut Part)
+        requires { self.now.room ≡ length part.old.known }
+        ensures { part.new ≡ record part.old { script = self.now.writes } }
+    {
+        part.set_script(&self.writes);
+    }
+}
+
+/// What a work may keep between two runs. What is kept tells itself which work and which operation
+/// it is of.
+pub trait MaySuspend: Copy + Send + Sync {
+    ghost use Rattle.std.specs.Prelude.{◌≡◌, ℕ, [], None};
+    ghost use Rattle.std.proofs.Common.{get_or};
+    ghost use Rattle.of_mem.specs.SuspendedRun.{SuspendedRun};
+    ghost use Rattle.of_mem.specs.Part.{Part, learn};
+
+    /// What is kept is so of this partial memory, in which the script has written nothing.
+    ghost holds: { SuspendedRun → Part → Type 0 };
+
+    /// Where nothing is kept it is so of each.
+    ghost nothing: { (k : SuspendedRun) (p : Part) → k.words ≡ [] → holds k p };
+
+    /// Learning a cell that wasn't known leaves it so.
+    ghost learns: { (k : SuspendedRun) (p : Part) (a v : ℕ) → get_or p.known a None ≡ None →
+        holds k p → holds k (learn p a v) };
+}

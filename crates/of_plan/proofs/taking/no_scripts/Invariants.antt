@@ -1,5 +1,0 @@
-use Rattle.std.proofs.Common.{◌≡◌, [], map, replicate}
-use Rattle.of_plan.proofs.taking.no_scripts.Given as goal
-
-abbrev pub invariant-loop : goal.invariant-loop
-invariant-loop l = map (λ scripts. scripts.items) l.all.items ≡ replicate l.counter []

@@ -1,0 +1,197 @@
+//! One line of a plan.
+
+ghost use Rattle.std.specs.Prelude.{◌≡◌};
+ghost use Rattle.std.specs.Option.{option_map};
+ghost use Rattle.of_script.specs.Text.{text_words};
+ghost use Rattle.of_script.specs.Reading.{at_end_of_words};
+ghost use Rattle.of_plan.specs.LineReading.{line_of_scriptless, title_line};
+ghost use Rattle.of_plan.specs.LineTable as table;
+
+use crate::plan::{LATEST_STOP, MOST_TURNS};
+use of_cell::{GREATEST_LIMIT, MOST_CALLERS};
+use of_script::Script;
+use of_script::text::{slot, word};
+use of_store::MOST_BLOCKS;
+
+// The greatest number of a cell that a line may name, whatever the plan.
+pub(crate) const GREATEST_CELL: u32 = 4_294_967_295;
+
+// A line between the heading and the end.
+#[derive(Clone, Copy, Debug)]
+pub(crate) enum BodyLine {
+    Script { caller: u32, script: Script },
+    Stop { caller: u32, steps: u32 },
+    Turns { caller: u32, count: u32 },
+    Evict { cell: u32 },
+}
+
+// What a line says.
+#[derive(Clone, Copy, Debug)]
+pub(crate) enum PlanLine {
+    Title,
+    Callers { count: u32 },
+    Blocks { count: u32 },
+    Limit { most: u32 },
+    Body { entry: BodyLine },
+    End,
+}
+
+// A line without a script, as it is read. It is small, where a line has room for a script.
+#[derive(Clone, Copy, Debug)]
+pub(crate) enum ScriptlessLine {
+    Title,
+    Callers { count: u32 },
+    Blocks { count: u32 },
+    Limit { most: u32 },
+    Stop { caller: u32, steps: u32 },
+    Turns { caller: u32, count: u32 },
+    Evict { cell: u32 },
+    End,
+}
+
+// The line, where no word is left.
+fn end_of(line: ScriptlessLine, bytes: &[u8]) -> Option<ScriptlessLine>
+    ensures { option_map line_of_scriptless result
+        ≡ at_end_of_words (line_of_scriptless line) (text_words bytes.now) }
+{
+    match word(bytes) {
+        None => Some(line),
+        Some(_) => None,
+    }
+}
+
+// What a line with numbers alone says, without its numbers.
+#[derive(Clone, Copy, Debug, PartialEq, Eq)]
+pub(crate) enum LineForm {
+    Callers,
+    Blocks,
+    Limit,
+    Stop,
+    Turns,
+    Evict,
+    End,
+}
+
+// The first word of a line of this form.
+fn form_name(form: LineForm) -> &'static [u8]
+    ensures { result.now ≡ table.form_name form }
+{
+    match form {
+        LineForm::Callers => b"callers",
+        LineForm::Blocks => b"blocks",
+        LineForm::Limit => b"limit",
+        LineForm::Stop => b"stop",
+        LineForm::Turns => b"turns",
+        LineForm::Evict => b"evict",
+        LineForm::End => b"end",
+    }
+}
+
+// The form whose name begins and ends with these bytes.
+#[tactic(auto, unfolding(crate::specs::LineTable::line_form_between))]
+fn form_between(first: u8, last: u8) -> Option<LineForm>
+    ensures { result ≡ table.line_form_between first last }
+{
+    match (first, last) {
+        (b'c', b's') => Some(LineForm::Callers),
+        (b'b', b's') => Some(LineForm::Blocks),
+        (b'l', b't') => Some(LineForm::Limit),
+        (b's', b'p') => Some(LineForm::Stop),
+        (b't', b's') => Some(LineForm::Turns),
+        (b'e', b't') => Some(LineForm::Evict),
+        (b'e', b'd') => Some(LineForm::End),
+        _ => None,
+    }
+}
+
+// The form with that name.
+pub(crate) fn form_named(name: &[u8]) -> Option<LineForm>
+    ensures { result ≡ table.line_form_named name.now }
+{
+    if name.is_empty() {
+        return None;
+    }
+    let form = form_between(name[0], name[name.len() - 1])?;
+    if name == form_name(form) {
+        return Some(form);
+    }
+    None
+}
+
+// The most that its first number can be, and 0 where it has none.
+pub(crate) fn first_most(form: LineForm) -> u32
+    ensures { result ≡ table.line_first_most form }
+{
+    match form {
+        LineForm::Callers => MOST_CALLERS,
+        LineForm::Blocks => MOST_BLOCKS,
+        LineForm::Limit => GREATEST_LIMIT,
+        LineForm::Stop | LineForm::Turns => MOST_CALLERS - 1,
+        LineForm::Evict => GREATEST_CELL,
+        LineForm::End => 0,
+    }
+}
+
+pub(crate) fn second_most(form: LineForm) -> u32
+    ensures { result ≡ table.line_second_most form }
+{
+    match form {
+        LineForm::Stop => LATEST_STOP,
+        LineForm::Turns => MOST_TURNS,
+        _ => 0,
+    }
+}
+
+fn with_numbers(form: LineForm, first: u32, second: u32) -> ScriptlessLine
+    ensures { line_of_scriptless result ≡ table.line_with_numbers form first second }
+{
+    match form {
+        LineForm::Callers => ScriptlessLine::Callers { count: first },
+        LineForm::Blocks => ScriptlessLine::Blocks { count: first },
+        LineForm::Limit => ScriptlessLine::Limit { most: first },
+        LineForm::Stop => ScriptlessLine::Stop {
+            caller: first,
+            steps: second,
+        },
+        LineForm::Turns => ScriptlessLine::Turns {
+            caller: first,
+            count: second,
+        },
+        LineForm::Evict => ScriptlessLine::Evict { cell: first },
+        LineForm::End => ScriptlessLine::End,
+    }
+}
+
+fn title(bytes: &[u8]) -> Option<ScriptlessLine>
+    ensures { option_map line_of_scriptless result ≡ title_line (text_words bytes.now) }
+{
+    let (first, rest) = word(bytes)?;
+    let (second, rest) = word(rest)?;
+    if first == b"plan".as_slice() && second == b"1".as_slice() {
+        return end_of(ScriptlessLine::Title, rest);
+    }
+    None
+}
+
+// A line by the table.
+fn line_of_form(name: &[u8], rest: &[u8]) -> Option<ScriptlessLine>
+    ensures { option_map line_of_scriptless result
+        ≡ table.line_of_form name.now (text_words rest.now) }
+{
+    let form = form_named(name)?;
+    let (first, rest) = slot(rest, first_most(form))?;
+    let (second, rest) = slot(rest, second_most(form))?;
+    end_of(with_numbers(form, first, second), rest)
+}
+
+// A line without a script, by its first word and what stands behind it.
+#[tactic(auto, unfolding(crate::specs::LineTable::line_without_script))]
+pub(crate) fn read_scriptless(name: &[u8], rest: &[u8]) -> Option<ScriptlessLine>
+    ensures { option_map line_of_scriptless result
+        ≡ table.line_without_script name.now (text_words rest.now) }
+{
+    if name == b"onefile".as_slice() {
+        return title(rest);
+    }
+    line_of_form(name, rest)
+}

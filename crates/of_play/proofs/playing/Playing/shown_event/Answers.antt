@@ -1,7 +1,0 @@
-use Rattle.of_play.proofs.playing.Playing.shown_event.Goals as goal
-
-pub returns-in-Events-clause-line : goal.returns-in-Events-clause-line
-returns-in-Events-clause-line c = rw c.in-Events.is c.lined_event.ensures.line
-
-pub returns-in-Commits-clause-line : goal.returns-in-Commits-clause-line
-returns-in-Commits-clause-line c = rw c.in-Commits.is c.committed_event.ensures.line

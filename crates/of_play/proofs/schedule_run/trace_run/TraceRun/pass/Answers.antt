@@ -1,0 +1,10 @@
+use Rattle.std.proofs.Common.{refl}
+use Rattle.of_play.specs.TraceRun.{event_of}
+use Rattle.of_play.proofs.TracesFurther.{runs_on, trace_passes}
+use Rattle.of_play.proofs.schedule_run.trace_run.TraceRun.pass.Goals as goal
+
+pub event-requires-clause-playing : goal.event-requires-clause-playing
+event-requires-clause-playing c = runs_on c.args.plan.now c.args.self.now c.requires.tracing c.requires.open
+
+pub returns : goal.returns
+returns c = trace_passes c.args.plan.now (event_of c.args.event) c.args.self.now c.requires.tracing c.requires.open _ refl refl refl refl c.in_ok-event.ensures c.requires.early refl

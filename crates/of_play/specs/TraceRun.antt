@@ -1,0 +1,72 @@
+-- How the code that traces a plan stands between two events.
+use Rattle.std.specs.Prelude.{◌≡◌, ℕ, ◌-◌, ◌≤◌, ◌<◌, List, ◌++◌, length, take, drop, flat_map, String, string_bytes}
+use Rattle.of_script.specs.Appending.{AppendsText}
+use Rattle.of_plan.specs.Plan.{Plan, IsPlan}
+use Rattle.of_core.specs.Table.{cell_count}
+use Rattle.of_core.specs.TableMoment.{Moment}
+use Rattle.of_core.specs.Events.{Event, Turns, Raises}
+use Rattle.of_caller.specs.Tables.{plan_setup, opening_for}
+use Rattle.of_caller.specs.Left.{moment_after}
+use Rattle.of_play.specs.Play.{events_from}
+use Rattle.of_play.specs.ScheduleRun.{StandsAfter}
+use Rattle.of_play.specs.Trace.{event_line_at, committed_at, lines_from}
+use Rattle.of_play.specs.declared.schedule_run.ScheduleRun.{ScheduleRun}
+use Rattle.of_play.specs.declared.schedule_run.trace_run.TraceEvent.{TraceEvent}
+use Rattle.of_play.specs.declared.schedule_run.trace_run.TraceEvent.TheVariants.{Turn, Evict}
+use Rattle.of_play.specs.declared.schedule_run.trace_run.Form.{Form}
+use Rattle.of_play.specs.declared.schedule_run.trace_run.Form.TheVariants.{Events, Commits}
+use Rattle.of_play.specs.declared.schedule_run.trace_run.TraceRun.{TraceRun}
+
+-- the event of a schedule that this is
+abbrev pub event_of : TraceEvent → Event
+event_of (Turn c) = Turns c
+event_of (Evict a) = Raises a
+
+-- it is one of the plan's table
+abbrev pub IsEvent : Plan → TraceEvent → Type 0
+IsEvent p (Turn c) = c < p.callers
+IsEvent p (Evict a) = a < cell_count (plan_setup p)
+
+-- what a form writes of event k
+abbrev pub line_as : Form → Plan → (k : ℕ) → Moment → Event → List ℕ
+line_as Events p = event_line_at p
+line_as Commits p = committed_at p
+
+-- behind a text this was written of an event, with which the run went on from there
+abbrev pub WritesLine : {Z : Type 0} → Form → Plan → (k : ℕ) → Event → (before : ScheduleRun)
+    → (old new : String Z) → Type 0
+WritesLine f p k e before old new =
+    (es : List Event) → StandsAfter p es before
+    → AppendsText old new (line_as f p k (moment_after p es) e)
+
+-- the lines of some lines, of those that are asked for
+abbrev pub shown_lines : (first count : ℕ) → List (List ℕ) → List ℕ
+shown_lines f c lines = flat_map (λ line. line) (take c (drop f lines))
+
+-- what a form writes of these moves of a plan, a text for each
+abbrev pub lines_as : Form → Plan → List Event → List (List ℕ)
+lines_as f p ms = lines_from (line_as f p) p 0 (opening_for p) ms
+
+-- The code stands as these moves leave it. Where it has shown all that it is to show the run has
+-- ended.
+pub record TracesAfter (p : Plan) (ms : List Event) (t : TraceRun) : Type 0 where
+  pub before_end : t.number ≤ t.end
+  pub number : t.number < t.end → t.number ≡ length ms
+  pub stands : t.number < t.end → StandsAfter p (events_from p (opening_for p) ms) t.playing
+  pub over : t.end ≤ t.number → t.end ≤ length ms
+  pub text : string_bytes t.text
+      ≡ shown_lines t.first (t.end - t.first) (lines_as t.form p ms)
+
+-- it stands as some moves leave it
+pub record IsTracing (p : Plan) (t : TraceRun) : Type 0 where
+  pub plan : IsPlan p
+  pub first : t.first ≤ t.end
+  pub moves : List Event
+  pub stands : TracesAfter p moves t
+
+-- it has gone on by these moves
+pub record TracesOn (p : Plan) (moves : List Event) (before now : TraceRun) : Type 0 where
+  pub form : now.form ≡ before.form
+  pub first : now.first ≡ before.first
+  pub end : now.end ≡ before.end
+  pub stands : (ms : List Event) → TracesAfter p ms before → TracesAfter p (ms ++ moves) now

@@ -1,0 +1,24 @@
+//! The report of what a plan's schedule leaves.
+
+ghost use Rattle.std.specs.Prelude.{IfOk};
+ghost use Rattle.of_report.specs.Report.{report_value};
+ghost use Rattle.of_play.specs.Played.{IsPlayedReport};
+
+use crate::schedule_run::play;
+use of_caller::laws::{plan_keeps_laws, reports_respect_time, runs_are_lawful};
+use of_plan::Plan;
+use of_report::Report;
+use std::alloc::{AllocError, Global};
+
+/// The report of what a plan's schedule leaves: each turn and each eviction in its order on a bank,
+/// and what recovery finds in the table then. Each call comes after those that ended before it
+/// began.
+pub fn play_report(alloc: Global, plan: &Plan) -> Result<Report, AllocError>
+    ensures { IfOk result (λ report. IsPlayedReport plan.now (report_value report)) }
+{
+    plan_keeps_laws(plan);
+    runs_are_lawful();
+    reports_respect_time(plan);
+    let ended = play(alloc, plan)?;
+    Report::make(alloc, plan, &ended)
+}

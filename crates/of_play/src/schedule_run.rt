@@ -1,0 +1,264 @@
+//! A plan's schedule, run step by step on a bank.
+
+ghost use Rattle.std.specs.Prelude.{◌≡◌, IfOk};
+ghost use Rattle.of_plan.specs.Plan.{IsPlan};
+ghost use Rattle.of_plan.specs.Ended.{ended_value};
+ghost use Rattle.of_play.specs.Play.{IsPlayed};
+
+use of_caller::laws::{plan_keeps_laws, runs_are_lawful};
+use of_core::{Bank, Outcome, Turn};
+use of_eval::{Scripts, reply_of};
+use of_plan::{Answer, Ended, Ending, Item, Plan};
+use of_script::{MOST_INSTRS, to_words};
+use std::alloc::{AllocError, Global};
+
+mod trace_run;
+
+pub use trace_run::{ALL_EVENTS, commits, trace};
+
+/// How a caller stands between its turns.
+#[derive(Clone, Copy)]
+struct CallerStanding {
+    /// The sequence at which its last call was spent, where it was.
+    spent: Option<u32>,
+    /// How many steps its open call has made.
+    steps: u64,
+}
+
+/// The run of a plan's schedule so far.
+#[derive(Drop)]
+struct ScheduleRun {
+    bank: Bank<Scripts>,
+    answers: Vec<Vec<Answer>>,
+    standings: Vec<CallerStanding>,
+}
+
+impl ScheduleRun {
+    ghost use Rattle.std.specs.Prelude.{◌≡◌, ◌+◌, ◌<◌, [], ◌∷◌, length, slice_index_or, IfOk, OnOk, IsTrue, if◌then◌else◌};
+    ghost use Rattle.of_plan.specs.Plan.{IsPlan, IsScheduleItem, scripts_of};
+    ghost use Rattle.of_plan.specs.Ended.{ended_value};
+    ghost use Rattle.of_core.specs.Events.{Turns};
+    ghost use Rattle.of_play.specs.Play.{turns_by, item_events};
+    ghost use Rattle.of_caller.specs.Ends.{OutcomeHoldsReply};
+    ghost use Rattle.of_play.specs.ScheduleRun.{StandsAfter, IsPlaying, MakesMoves, BeginsNext, HasStepToCount, IsReplied, NotesTurn, NotesEnd, standing_in, CallerEndsAs, RunLeaves};
+
+    /// The run before the first step.
+    fn new(alloc: Global, plan: &Plan) -> Result<Self, AllocError>
+        ensures plan { IsPlan plan.now }
+        ensures stands { IfOk result (StandsAfter plan.now []) }
+    {
+        let scripts = Scripts::of_plan(plan);
+        let bank = Bank::new(alloc, plan.shape(), plan.limit(), scripts)?;
+        let mut answers = Vec::new(alloc);
+        let mut standings = Vec::new(alloc);
+        for _ in 0..plan.callers() {
+            answers.push(Vec::new(alloc))?;
+            standings.push(CallerStanding {
+                spent: None,
+                steps: 0,
+            })?;
+        }
+        Ok(ScheduleRun {
+            bank,
+            answers,
+            standings,
+        })
+    }
+
+    /// Begins a caller's next call where it has none open, isn't spent and has a script left.
+    #[inline(always)]
+    fn begin_next(&mut self, plan: &Plan, caller: u32)
+        requires caller { caller < plan.now.callers }
+        requires playing { IsPlaying plan.now self.old }
+        ensures { BeginsNext plan.now caller self.old self.new }
+    {
+        plan_keeps_laws(plan);
+        if !self.bank.is_idle(caller) {
+            return;
+        }
+        if self.standings[caller as usize].spent.is_some() {
+            return;
+        }
+        let scripts = plan.scripts(caller);
+        let made = self.bank.made(caller) as usize;
+        if made >= scripts.len() {
+            return;
+        }
+        let mut words = [0; MOST_INSTRS];
+        let count = to_words(&scripts[made], &mut words);
+        self.bank.begin(caller, &words[..count as usize]);
+    }
+
+    /// Notes how the call of a caller has ended. A spent call has no answer.
+    // out of line, so that the turn of an open call doesn't carry the reply's frame
+    #[inline(never)]
+    fn note_end(&mut self, caller: u32, outcome: Outcome) -> Result<(), AllocError>
+        requires answers { caller < length self.old.answers.items }
+        requires standings { caller < length self.old.standings.items }
+        requires reply { OutcomeHoldsReply outcome }
+        ensures { OnOk result (NotesEnd caller outcome self.old self.new) }
+    {
+        let place = caller as usize;
+        match outcome {
+            Outcome::Spent { seq } => {
+                self.standings[place] = CallerStanding {
+                    spent: Some(seq),
+                    steps: 0,
+                };
+                Ok(())
+            }
+            Outcome::Answered {
+                seq,
+                announced,
+                raw,
+                steps,
+            } => {
+                self.standings[place] = CallerStanding {
+                    spent: None,
+                    steps: 0,
+                };
+                let Some(reply) = reply_of(&raw) else {
+                    unreachable!()
+                };
+                self.answers[place].push(Answer {
+                    seq,
+                    announced,
+                    reply,
+                    steps,
+                })?;
+                Ok(())
+            }
+        }
+    }
+
+    /// Notes what a turn has said of its caller.
+    #[inline(always)]
+    fn note(&mut self, caller: u32, turn: Turn) -> Result<(), AllocError>
+        requires answers { caller < length self.old.answers.items }
+        requires standings { caller < length self.old.standings.items }
+        requires time { HasStepToCount turn (standing_in self.old caller) }
+        requires reply { IsReplied turn }
+        ensures { OnOk result (NotesTurn caller turn self.old self.new) }
+    {
+        match turn {
+            Turn::Idle => Ok(()),
+            Turn::Open => {
+                self.standings[caller as usize].steps += 1;
+                Ok(())
+            }
+            Turn::Ended(outcome) => self.note_end(caller, outcome),
+        }
+    }
+
+    /// Makes a turn of a caller: the step of its open call, or of the next one, which it begins.
+    // in line, since there are a million of them in a row, each of some sixty instructions
+    #[inline(always)]
+    fn turn(&mut self, plan: &Plan, caller: u32) -> Result<(), AllocError>
+        requires caller { caller < plan.now.callers }
+        requires playing { IsPlaying plan.now self.old }
+        ensures { OnOk result (MakesMoves plan.now (Turns caller ∷ []) self.old self.new) }
+    {
+        plan_keeps_laws(plan);
+        runs_are_lawful();
+        self.begin_next(plan, caller);
+        let turn = self.bank.turn(caller);
+        self.note(caller, turn)
+    }
+
+    /// Whether a caller has no call open and begins no other, so that its turns change nothing.
+    #[inline(always)]
+    fn rests(&self, plan: &Plan, caller: u32) -> bool
+        requires caller { caller < plan.now.callers }
+        requires playing { IsPlaying plan.now self.now }
+        ensures { IsTrue result → MakesMoves plan.now (Turns caller ∷ []) self.now self.now }
+    {
+        plan_keeps_laws(plan);
+        if !self.bank.is_idle(caller) {
+            return false;
+        }
+        if self.standings[caller as usize].spent.is_some() {
+            return true;
+        }
+        self.bank.made(caller) as usize >= plan.scripts(caller).len()
+    }
+
+    /// Makes that many turns of a caller.
+    fn turns(&mut self, plan: &Plan, caller: u32, count: u32) -> Result<(), AllocError>
+        requires caller { caller < plan.now.callers }
+        requires playing { IsPlaying plan.now self.old }
+        ensures { OnOk result (MakesMoves plan.now (turns_by caller count) self.old self.new) }
+    {
+        for _ in 0..count {
+            if self.rests(plan, caller) {
+                return Ok(());
+            }
+            self.turn(plan, caller)?;
+        }
+        Ok(())
+    }
+
+    /// Makes the moves of an item of the schedule.
+    fn item(&mut self, plan: &Plan, item: Item) -> Result<(), AllocError>
+        requires item { IsScheduleItem plan.now item }
+        requires playing { IsPlaying plan.now self.old }
+        ensures { OnOk result (MakesMoves plan.now (item_events item) self.old self.new) }
+    {
+        plan_keeps_laws(plan);
+        match item {
+            Item::Turns { caller, count } => self.turns(plan, caller, count),
+            Item::Evict { cell } => {
+                self.bank.evict(cell);
+                Ok(())
+            }
+        }
+    }
+
+    /// How a caller ends.
+    fn ending(&self, plan: &Plan, caller: u32) -> Ending
+        requires caller { caller < plan.now.callers }
+        requires playing { IsPlaying plan.now self.now }
+        ensures { CallerEndsAs plan.now caller self.now result }
+    {
+        plan_keeps_laws(plan);
+        if self.answers[caller as usize].len() == plan.scripts(caller).len() {
+            return Ending::Done;
+        }
+        let standing = self.standings[caller as usize];
+        match standing.spent {
+            Some(seq) => Ending::Spent { seq },
+            None => Ending::Stopped {
+                asked: standing.steps + 1,
+            },
+        }
+    }
+
+    /// What the run leaves.
+    fn end(self, alloc: Global, plan: &Plan) -> Result<Ended, AllocError>
+        requires { IsPlaying plan.now self }
+        ensures { IfOk result (λ ended. RunLeaves plan.now self (ended_value ended)) }
+    {
+        let mut endings = Vec::new(alloc);
+        for caller in 0..plan.callers() {
+            endings.push(self.ending(plan, caller))?;
+        }
+        Ok(Ended {
+            answers: self.answers,
+            endings,
+            words: self.bank.words(),
+        })
+    }
+}
+
+/// Runs a plan's schedule step by step on a bank: at each turn of a caller its open call makes a
+/// step, or it begins its next script and makes the first one. A caller that is done or spent makes
+/// none.
+pub fn play(alloc: Global, plan: &Plan) -> Result<Ended, AllocError>
+    ensures plan { IsPlan plan.now }
+    ensures played { IfOk result (λ ended. IsPlayed plan.now (ended_value ended)) }
+{
+    let mut playing = ScheduleRun::new(alloc, plan)?;
+    for item in plan.schedule() {
+        playing.item(plan, *item)?;
+    }
+    playing.end(alloc, plan)
+}

@@ -1,0 +1,36 @@
+use Rattle.std.proofs.Common.{refl}
+use Rattle.of_plan.specs.Ended.{ended_value}
+use Rattle.of_report.specs.Report.{report_value}
+use Rattle.of_tool.specs.Seen.{view_of}
+use Rattle.of_tool.specs.Inputs.{PlanAlone}
+use Rattle.of_tool.specs.Statuses.{Done, Refused}
+use Rattle.of_tool.proofs.Carried.{some_run}
+use Rattle.of_tool.proofs.Telling.{refusal_undone}
+use Rattle.of_tool.proofs.commands.run_answer.Goals as goal
+
+pub returns-clause-answered : goal.returns-clause-answered
+returns-clause-answered g c = Done refl (record {
+  plan = c.in-Ok.plan;
+  read = rw c.in-Ok.is at c.in_ok-plan.ensures;
+  report = report_value c.in_ok-report.report;
+  run = some_run c.in-Ok.plan (report_value c.in_ok-report.report) (ended_value c.in_ok-report.ran.0) (view_of c.in_ok-report.ran.1) c.in_ok-report.ensures;
+  text_is = c.in_ok-print.ensures;
+})
+
+pub returns-clause-carries : goal.returns-clause-carries
+returns-clause-carries g c = (
+  refl,
+  record {
+    plan = c.in-Ok.plan;
+    read = rw c.in-Ok.is at c.in_ok-plan.ensures;
+    report = report_value c.in_ok-report.report;
+    run = c.in_ok-report.ensures;
+    text_is = c.in_ok-print.ensures;
+  },
+)
+
+pub returns-in-Err-clause-answered : goal.returns-in-Err-clause-answered
+returns-in-Err-clause-answered g c = Refused PlanAlone refl (rw c.in-Err.is at c.in_ok-plan.ensures)
+
+pub returns-in-Err-clause-carries : goal.returns-in-Err-clause-carries
+returns-in-Err-clause-carries g c = refusal_undone _ _ _ _ (rw c.in-Err.is at c.in_ok-plan.ensures)

@@ -1,0 +1,45 @@
+use Rattle.std.proofs.Common.{refl}
+use Rattle.of_plan.specs.Ended.{ended_value}
+use Rattle.of_report.specs.Image.{image_value}
+use Rattle.of_tool.specs.Seen.{view_of}
+use Rattle.of_tool.specs.Inputs.{ImageAndPlan}
+use Rattle.of_tool.specs.Statuses.{Done, Refused}
+use Rattle.of_tool.proofs.Telling.{refusal_undone}
+use Rattle.of_tool.proofs.continue_life.continue_answer.Goals as goal
+
+pub returns-clause-answered : goal.returns-clause-answered
+returns-clause-answered g c =
+    let writes = c.in_ok-text.ensures in
+    Done refl (record {
+      image = image_value c.in-Ok.read.0;
+      plan = c.in-Ok.read.1;
+      read = rw c.in-Ok.is at c.in_ok-read.ensures.read;
+      life = record {
+        report = writes.report;
+        left = ended_value c.in_ok-text.ran.0;
+        seen = view_of c.in_ok-text.ran.1;
+        course = writes.life.course;
+        history = writes.life.promises.history;
+        goes_on = writes.life.goes_on;
+        real = writes.life.real;
+        table = writes.life.table;
+        text_is = writes.text_is;
+      };
+    })
+
+pub returns-clause-carries : goal.returns-clause-carries
+returns-clause-carries g c = (
+  refl,
+  record {
+    image = image_value c.in-Ok.read.0;
+    plan = c.in-Ok.read.1;
+    read = rw c.in-Ok.is at c.in_ok-read.ensures.read;
+    writes = c.in_ok-text.ensures;
+  },
+)
+
+pub returns-in-Err-clause-answered : goal.returns-in-Err-clause-answered
+returns-in-Err-clause-answered g c = Refused ImageAndPlan refl (rw c.in-Err.is at c.in_ok-read.ensures.read)
+
+pub returns-in-Err-clause-carries : goal.returns-in-Err-clause-carries
+returns-in-Err-clause-carries g c = refusal_undone _ _ _ _ (rw c.in-Err.is at c.in_ok-read.ensures.read)
