@@ -7,7 +7,7 @@ mod worker;
 ghost use Rattle.std.specs.Prelude.{IfOk};
 ghost use Rattle.of_memory.specs.Memories.{IsMemory};
 ghost use Rattle.of_memory.specs.Saving.{IsSaved};
-ghost use Rattle.example_queue.specs.Queue.{IsWorkedOff, IsWorkedOffLater, IsForWorkers};
+ghost use Rattle.example_queue.specs.Workers.{IsWorkedOff, IsWorkedOffLater, IsForWorkers};
 
 use crate::worker::{Worker, team};
 use anyhow::Result;
@@ -71,7 +71,7 @@ fn show(rt: &impl Print, alloc: Global, saved: &Saved) -> Result<()>
     let store = saved.store(alloc)?;
     let mut done = 0u64;
     for register in 0..4 {
-        done += u64::from(store.register(register));
+        done = done.saturating_add(u64::from(store.register(register)));
     }
     println!(rt; "{done} jobs are done, {} wait", store.queue(0).len())?;
     Ok(())

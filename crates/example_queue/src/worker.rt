@@ -2,7 +2,8 @@
 
 ghost use Rattle.std.specs.Prelude.{◌≡◌, ◌<◌};
 ghost use Rattle.of_memory.specs.Handles.{IsHandle, IsSame};
-ghost use Rattle.example_queue.specs.Queue.{TakesJob, OnlyTakes, job_script};
+ghost use Rattle.example_queue.specs.Jobs.{TakesJob, job_script};
+ghost use Rattle.example_queue.specs.Workers.{OnlyTakes};
 
 use of_memory::{Handle, Instr, Script, Task};
 use std::alloc::{AllocError, Global};

@@ -9,3 +9,4 @@ pub mod Holding
 pub mod Reading
 pub mod Joining
 pub mod Handing
+pub mod Still
