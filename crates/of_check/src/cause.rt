@@ -13,7 +13,8 @@ pub enum EntryRule {
     Writes,
 }
 
-/// What is wrong with the line of a caller; the entries and the lines of callers before it are right.
+/// What is wrong with the line of a caller; the entries and the lines of callers before it are
+/// right.
 #[derive(Clone, Copy, Debug, PartialEq, Eq)]
 pub enum EndRule {
     /// It has more entries than answered calls, or fewer, and no open call explains it.

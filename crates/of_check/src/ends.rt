@@ -95,8 +95,8 @@ fn wrong_ticket(plan: &Plan, done: &[u32], report: &Report, image: &Image) -> Op
     None
 }
 
-/// What is wrong with an image as where a report ends, which is from a start at which so many scripts
-/// of each caller are done; nothing exactly where the image is the report's end.
+/// What is wrong with an image as where a report ends, which is from a start at which so many
+/// scripts of each caller are done; nothing exactly where the image is the report's end.
 pub fn why_left(plan: &Plan, done: &[u32], report: &Report, image: &Image) -> Option<LeftRule>
     requires done { length done.now ≡ plan.now.callers }
     requires image { IsImage MOST_INSTRS (image_value image.now) }

@@ -59,12 +59,12 @@ fn report_of_claims(
     }))
 }
 
-/// The report that is legal for the plan from a start and has this text; None exactly where there is
-/// none. The error is want of memory.
+/// The report that is legal for the plan from a start and has this text; None exactly where there
+/// is none. The error is want of memory.
 ///
 /// Given the plan and the start, a legal report is determined by little of its text. These claims
-/// are read, the one report that they can be is made by running its calls, and the text must be that
-/// report's.
+/// are read, the one report that they can be is made by running its calls, and the text must be
+/// that report's.
 pub fn read_report(
     alloc: Global,
     plan: &Plan,

@@ -6,7 +6,7 @@ use Rattle.std.proofs.lemmas.Bool.{cases_lt}
 use Rattle.std.proofs.lemmas.List.{length-map, length-take-le, get_or-take, get_or-map, get_or-drop, get_or_past, take-take, take-append-drop}
 use Rattle.of_cell.specs.Words.{payload_of}
 use Rattle.of_mem.specs.Meaning.{Meaning, IsSoundMeaning, Agrees, WalkFits, WalkEnd, SameFrom}
-use Rattle.of_mem.specs.Meaning.Walked.{Needs, Gives}
+use Rattle.of_mem.specs.Meaning.WalkEnd.{Needs, Gives}
 use Rattle.of_mem.specs.declared.work.RawReply.{RawReply}
 use Rattle.of_core.specs.declared.place.Outcome.{Outcome}
 use Rattle.of_core.specs.declared.place.Outcome.TheVariants.{Answered, Spent}

@@ -1,5 +1,5 @@
 -- What is kept of a script whose run lacked a cell. The two lemmas at the end are laws of
--- `impl Keeps for Scripts`, which may cite specs/ alone.
+-- `impl MaySuspend for Scripts`, which may cite specs/ alone.
 use Rattle.std.specs.Prelude.{◌≡◌, ℕ, ◌≤◌, ◌<◌, List, [], length, take, drop, Option, Some, None}
 use Rattle.std.proofs.Common.{get_or, arith, ap}
 use Rattle.of_mem.specs.declared.work.TheConstants.{MOST_INSTRS}

@@ -39,8 +39,8 @@ pub fn first_fault_is_one()
     ensures { FirstFaultIsOne }
 {}
 
-/// A reply is held by the cells in which it is written; so `reply_of` of what `reply_cells` makes of
-/// it is that reply.
+/// A reply is held by the cells in which it is written; so `reply_of` of what `reply_cells` makes
+/// of it is that reply.
 pub fn replies_are_held()
     ensures { (r : Reply) → IsWhole r → IsHeldBy (reply_cells r) r }
 {}

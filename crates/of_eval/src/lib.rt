@@ -6,8 +6,10 @@ pub mod laws;
 mod reply;
 mod scripts;
 mod step;
+mod table;
 mod walk;
 
 pub use lawful_cells::{LawErr, lawful};
 pub use reply::{reply_cells, reply_of};
-pub use scripts::{Scripts, shape_of};
+pub use scripts::Scripts;
+pub use table::shape_of;

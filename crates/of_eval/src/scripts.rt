@@ -3,18 +3,16 @@
 ghost use Rattle.std.specs.Prelude.{◌≡◌, ◌≤◌};
 ghost use Rattle.of_mem.specs.declared.work.TheConstants.{MOST_CALLERS};
 ghost use Rattle.of_mem.specs.declared.plot.TheConstants.{MOST_BLOCKS};
-ghost use Rattle.of_eval.specs.Scripts.{scripts_data_cells};
 
 use crate::reply::reply_cells;
 use crate::step::word_reads;
 use crate::walk::{keep_sought, reach, run_words};
-use of_cell::Shape;
 use of_mem::{MOST_INSTRS, MaySuspend, Need, Part, Plot, RawReply, SuspendedRun, Work};
-use of_plan::{Plan, table_shape};
+use of_plan::Plan;
 
 /// What runs scripts on cells: so many callers, 1 to `MOST_CALLERS`, and room for so many keys and
-/// items, at most `MOST_BLOCKS`. An operation is the words of a script; a word that is no instruction
-/// aborts at its place.
+/// items, at most `MOST_BLOCKS`. An operation is the words of a script; a word that is no
+/// instruction aborts at its place.
 #[derive(Clone, Copy, Debug, PartialEq, Eq)]
 pub struct Scripts {
     pub callers: u32,
@@ -48,15 +46,6 @@ impl Scripts {
             blocks: self.blocks,
         }
     }
-}
-
-/// The shape of a table for these scripts.
-pub fn shape_of(scripts: Scripts) -> Shape
-    ensures callers { result.callers ≡ scripts.callers }
-    ensures instrs { result.instrs ≡ MOST_INSTRS }
-    ensures cells { result.cells ≡ scripts_data_cells scripts }
-{
-    table_shape(&scripts.plot())
 }
 
 impl MaySuspend for Scripts {

@@ -19,8 +19,8 @@ use of_mem::{Need, Part, Plot, SuspendedRun};
 use of_script::{Abort, Cause, MOST_INSTRS, Reply};
 
 /// Walks towards the key that the next word looks for, where `kept` is of these words and has one.
-/// The error names a cell that is read and isn't known. A run that lacks one cell after the other of
-/// a bucket so costs the walk alone.
+/// The error names a cell that is read and isn't known. A run that lacks one cell after the other
+/// of a bucket so costs the walk alone.
 pub(crate) fn reach(
     plot: &Plot,
     part: &mut Part,
@@ -49,8 +49,8 @@ pub(crate) fn reach(
     reached
 }
 
-/// Runs the words in order, to their end or to the first abort, from the first that hasn't run where
-/// `kept` is of them. The error names a cell that is read and isn't known.
+/// Runs the words in order, to their end or to the first abort, from the first that hasn't run
+/// where `kept` is of them. The error names a cell that is read and isn't known.
 // out of line: most runs end in `reach`
 #[inline(never)]
 pub(crate) fn run_words(

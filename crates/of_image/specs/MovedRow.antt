@@ -11,8 +11,8 @@ use Rattle.of_image.specs.ImageText.{image_text}
 use Rattle.of_report.specs.Image.{Image}
 use Rattle.of_image.specs.Parsed.{ReadsImage}
 
--- the own cell of a caller with the same meaning, where scripts have fewer instructions; a number of
--- a reply that there isn't one for has none
+-- the own cell of a caller with the same meaning, where scripts have fewer instructions; a number
+-- of a reply that there isn't one for has none
 abbrev pub earlier_own_address : (few many addr : ℕ) → Option ℕ
 earlier_own_address few many a =
     if nat_lt (a % (many + 2)) (few + 2) then Some (a / (many + 2) * (few + 2) + a % (many + 2))

@@ -91,19 +91,11 @@ fn moved_text(alloc: Global, image: &Image) -> Result<Vec<u8>, AllocError>
     print_row(alloc, Version::Two, &new, &words)
 }
 
-// The version 2 text of the image that a version 1 text has.
-fn migrated(alloc: Global, text: &[u8]) -> Result<Vec<u8>, ImageErr>
-    ensures ok { IfOk result (λ moved. Migrates text.now moved.items) }
-    ensures err { IfErr result (ImageIsRefused One text.now) }
-{
-    let image = read_image(alloc, Version::One, text)?;
-    Ok(moved_text(alloc, &image)?)
-}
-
-/// The version 2 text of a version 1 text: the recovered row in the layout of longer scripts, with the
-/// same sequence, store and tickets.
+/// The version 2 text of a version 1 text: the recovered row in the layout of longer scripts, with
+/// the same sequence, store and tickets.
 pub fn migrate(alloc: Global, text: &[u8]) -> Result<Vec<u8>, ImageErr>
-    // What is answered is the text of the moved row, which has the same sequence and the same store.
+    // What is answered is the text of the moved row, which has the same sequence and the same
+    // store.
     ensures ok { IfOk result (λ moved. Migrates text.now moved.items) }
     // A line or a cell that is named is that of the version 1 text.
     ensures err { IfErr result (ImageIsRefused One text.now) }
@@ -113,5 +105,6 @@ pub fn migrate(alloc: Global, text: &[u8]) -> Result<Vec<u8>, ImageErr>
         (λ moved. moved.items ≡ image_text Two (moved_row 8 MOST_INSTRS image.row))
         (λ e. e ≡ Memory) }
 {
-    migrated(alloc, text)
+    let image = read_image(alloc, Version::One, text)?;
+    Ok(moved_text(alloc, &image)?)
 }

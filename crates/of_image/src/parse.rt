@@ -49,8 +49,8 @@ pub fn image_parse(alloc: Global, text: &[u8]) -> Result<Image, ImageErr>
     // What is answered is what recovery finds in the row that the text spells, and it is lawful.
     ensures ok { IfOk result (λ image. ReadsImage Two text.now (image_value image)) }
     ensures image { IfOk result (λ image. IsImage MOST_INSTRS (image_value image)) }
-    // A line that is named is the bad one of a text that is not in the grammar; a cell that is named is
-    // the first at fault.
+    // A line that is named is the bad one of a text that is not in the grammar; a cell that is
+    // named is the first at fault.
     ensures err { IfErr result (ImageIsRefused Two text.now) }
     // A text that has an image is answered by it, unless memory runs out.
     ensures only { (image : PlainImage) → ReadsImage Two text.now image →

@@ -124,8 +124,8 @@ fn put_tickets(out: &mut String, image: &Image) -> Result<(), AllocError>
     Ok(())
 }
 
-/// The text of what recovery found: the sequence, the tickets that are not 0, and the store. The error
-/// is want of memory.
+/// The text of what recovery found: the sequence, the tickets that are not 0, and the store. The
+/// error is want of memory.
 pub fn recovered_print(alloc: Global, image: &Image) -> Result<Vec<u8>, AllocError>
     requires { IsImage MOST_INSTRS (image_value image.now) }
     ensures { IfOk result (λ text. text.items ≡ recovered_text (image_value image.now)) }

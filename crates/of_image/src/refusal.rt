@@ -20,8 +20,8 @@ use of_plan::above::line_at;
 use of_plan::point_out;
 use std::alloc::{AllocError, Global};
 
-/// What is wrong with a text that is not in the grammar: its bad line, counted from 1, the piece of it at fault,
-/// from the byte `start` to before `end`, and the reason.
+/// What is wrong with a text that is not in the grammar: its bad line, counted from 1, the piece of
+/// it at fault, from the byte `start` to before `end`, and the reason.
 #[derive(Clone, Copy, Debug, PartialEq, Eq)]
 pub struct BadPiece {
     pub line: u64,
@@ -35,14 +35,14 @@ pub struct BadPiece {
 pub enum ImageFault {
     /// The text isn't in the grammar.
     Line { piece: BadPiece },
-    /// The text is in the grammar, and this is the first cell at fault of what recovery finds in its
-    /// row, and the law that it breaks.
+    /// The text is in the grammar, and this is the first cell at fault of what recovery finds in
+    /// its row, and the law that it breaks.
     Cell { cell: u32, law: Law },
 }
 
 /// What is wrong with a text; nothing exactly where it has an image, so where `image_parse` or
-/// `migrate`, for its version, refuses it. The line or the cell is the one that they name. The error
-/// is want of memory.
+/// `migrate`, for its version, refuses it. The line or the cell is the one that they name. The
+/// error is want of memory.
 pub fn fault(alloc: Global, version: Version, text: &[u8]) -> Result<Option<ImageFault>, AllocError>
     ensures { IfOk result (λ found.
         MatchOption found (HasImage version text.now) (IsImageFaultOf version text.now)) }

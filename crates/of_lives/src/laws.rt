@@ -16,9 +16,9 @@ pub fn any_lives()
     ensures { LivesAreOneHistory }
 {}
 
-/// A life leaves where the next one begins: from what recovery makes of the durable words of its run
-/// a table may start, and it starts behind the life, at its sequence and its store and with each
-/// caller behind its last announced call.
+/// A life leaves where the next one begins: from what recovery makes of the durable words of its
+/// run a table may start, and it starts behind the life, at its sequence and its store and with
+/// each caller behind its last announced call.
 pub fn lives_restart()
     ensures { LivesRestart }
 {

@@ -33,9 +33,10 @@ pub struct Life {
     pub pass: Pass,
 }
 
-/// Goes on from an image: runs all callers of the plan at once, each with its scripts from behind its
-/// ticket on, over a table that starts from the image's row. No script that was announced before is
-/// run again. The brake of a caller is the one at its place; it is armed with the plan's stop.
+/// Goes on from an image: runs all callers of the plan at once, each with its scripts from behind
+/// its ticket on, over a table that starts from the image's row. No script that was announced
+/// before is run again. The brake of a caller is the one at its place; it is armed with the plan's
+/// stop.
 ///
 /// Recovery finds in the durable words that the life leaves an image from which the next one can go
 /// on. The error is that there is no memory.

@@ -1,5 +1,5 @@
-//! The start that an image is: which plans can go on from it, and what the last calls of its callers
-//! were answered.
+//! The start that an image is: which plans can go on from it, and what the last calls of its
+//! callers were answered.
 
 ghost use Rattle.std.specs.Prelude.{◌≡◌, ◌<◌, ◌≤◌, ◌↔◌, ℕ, length, IsTrue, IsNone, IfSome};
 ghost use Rattle.of_mem.specs.declared.work.TheConstants.{MOST_INSTRS};
@@ -41,8 +41,8 @@ pub fn fits(image: &Image, plan: &Plan) -> bool
 }
 
 /// The ticket of a caller's last announced call and the reply to it, also where the caller was
-/// stopped before it was answered: no later life runs it again. None where no call of the caller was
-/// announced.
+/// stopped before it was answered: no later life runs it again. None where no call of the caller
+/// was announced.
 pub fn last_reply(image: &Image, caller: u32) -> Option<(u32, Reply)>
     requires image { IsImage MOST_INSTRS (image_value image.now) }
     requires caller { caller < image.now.callers }

@@ -13,8 +13,8 @@ use of_recover::Recovered;
 use of_store::Store;
 use std::alloc::{AllocError, Global};
 
-/// What recovery finds in the durable words of a table. A call that takes an image asks that it is as
-/// reading a text answers one: `IsImage MOST_INSTRS`.
+/// What recovery finds in the durable words of a table. A call that takes an image asks that it is
+/// as reading a text answers one: `IsImage MOST_INSTRS`.
 #[derive(Drop)]
 pub struct Image {
     /// How many callers there are, 1 to 16.

@@ -111,7 +111,8 @@ fn put_seq(out: &mut String, seq: u32) -> Result<(), AllocError>
 
 // Writes the lines of the entries.
 fn put_entries(out: &mut String, entries: &[Entry]) -> Result<(), AllocError>
-    ensures { OnOk result (AppendsText out.old out.new (entry_lines (map entry_value entries.now))) }
+    ensures { OnOk result
+        (AppendsText out.old out.new (entry_lines (map entry_value entries.now))) }
 {
     for entry in entries {
         put_entry(out, entry)?;
@@ -121,7 +122,8 @@ fn put_entries(out: &mut String, entries: &[Entry]) -> Result<(), AllocError>
 
 // Writes the lines of the callers.
 fn put_callers(out: &mut String, callers: &[Line]) -> Result<(), AllocError>
-    ensures { OnOk result (AppendsText out.old out.new (caller_lines (map line_value callers.now))) }
+    ensures { OnOk result
+        (AppendsText out.old out.new (caller_lines (map line_value callers.now))) }
 {
     for (caller, line) in callers.iter().enumerate() {
         put_caller(out, caller, line)?;

@@ -17,6 +17,8 @@ use Rattle.of_check.specs.declared.verdict.Verdict.{Verdict}
 use Rattle.of_check.specs.declared.verdict.Verdict.TheVariants.{Legal, Illegal}
 use Rattle.of_tool.specs.declared.status.TheConstants.{DONE, BAD_IMAGE, ILLEGAL}
 use Rattle.of_tool.specs.declared.commands.Output.{Output}
+use Rattle.of_tool.specs.declared.commands.ReadInput.{ReadInput}
+use Rattle.of_tool.specs.declared.commands.ReadInput.TheVariants.{Read, Refused}
 use Rattle.of_tool.specs.declared.command.Command.{Command}
 use Rattle.of_tool.specs.declared.command.Command.TheVariants.{Run, Load, Continue}
 use Rattle.of_tool.specs.Commands.{command_words, AreWordsOf, AreWordsOfTeam}
@@ -31,6 +33,16 @@ use Rattle.of_tool.specs.Headline.{IsWholeLoad}
 -- it is one of the command
 abbrev pub IsOutputFor : Command → Change → Output → Type 0
 IsOutputFor command source answer = IsAnswerTo command source answer.status answer.text.items
+
+-- what an input has meets a fact, or else the output that refuses it another one
+abbrev pub MatchInput : {T : Type 0} → ReadInput T → (T → Type 0) → (Output → Type 0) → Type 0
+MatchInput (Read x) Has Refuse = Has x
+MatchInput (Refused output) Has Refuse = Refuse output
+
+-- what it has, if it isn't refused
+abbrev pub IfRead : {T : Type 0} → ReadInput T → (T → Type 0) → Type 0
+IfRead (Read x) Has = Has x
+IfRead (Refused output) Has = Unit {0}
 
 -- it refuses an input of this kind
 abbrev pub Refuses : Input → Change → Output → Type 0

@@ -1,6 +1,6 @@
 //! The top call.
 
-ghost use Rattle.std.specs.Prelude.{◌≡◌, ◌≤◌, ⊤, ℕ, IfOk, MatchResult, None, vec_len, codes, decimal, ◌++◌};
+ghost use Rattle.std.specs.Prelude.{◌≡◌, ◌≤◌, ⊤, ℕ, IfOk, None, vec_len, codes, decimal, ◌++◌};
 ghost use Rattle.of_io.specs.Faults.{HasRisen};
 ghost use Rattle.of_tool.specs.declared.command.Command.{Command};
 ghost use Rattle.of_tool.specs.declared.command.Command.TheVariants.{Serial, Play, Trace, Commits, Run, Load, Check, Continue};
@@ -12,7 +12,7 @@ ghost use Rattle.of_tool.specs.Refusals.{FindsWrong};
 ghost use Rattle.of_tool.specs.Makes.{Did};
 ghost use Rattle.of_tool.specs.Statuses.{IsAnswer, AnswersWords, Ends};
 ghost use Rattle.of_tool.specs.Headline.{RunsPlan, LoadsPlan, ContinuesImage, LeavesTable};
-ghost use Rattle.of_tool.specs.Answer.{IsOutputFor, Refuses, RefusesUpTo, TellsVerdict, CarriesRun, CarriesLoad, Carries};
+ghost use Rattle.of_tool.specs.Answer.{MatchInput, IsOutputFor, Refuses, RefusesUpTo, TellsVerdict, CarriesRun, CarriesLoad, Carries};
 
 use crate::command::{Command, HELP, VERSION};
 use crate::continue_life::continue_answer;
@@ -56,6 +56,15 @@ pub(crate) struct Output {
     pub(crate) text: Vec<u8>,
 }
 
+/// What the reading of an input gives.
+#[derive(Drop)]
+pub(crate) enum ReadInput<T> {
+    /// What the input has.
+    Read(T),
+    /// The output that says why it has none.
+    Refused(Output),
+}
+
 /// The text that names a bad line of a plan.
 pub(crate) fn bad_plan(alloc: Global, line: u64) -> Result<Vec<u8>, AllocError>
     ensures { IfOk result (λ text.
@@ -70,21 +79,21 @@ pub(crate) fn read_input<S: Source>(
     alloc: Global,
     source: &mut S,
     most: usize,
-) -> Result<Result<Vec<u8>, Output>, AllocError>
+) -> Result<ReadInput<Vec<u8>>, AllocError>
     requires { most ≤ MOST_WITH_REPORT }
-    ensures { IfOk result (λ read. MatchResult read
+    ensures { IfOk result (λ read. MatchInput read
         (λ bytes. ReadsAll most (bytes_change S.remaining S.faults source.old source.new)
         bytes.items)
         (RefusesUpTo most (bytes_change S.remaining S.faults source.old source.new))) }
 {
     match read_all(alloc, source, most) {
-        Ok(bytes) => Ok(Ok(bytes)),
+        Ok(bytes) => Ok(ReadInput::Read(bytes)),
         Err(ReadErr::Memory) => Err(AllocError),
-        Err(ReadErr::Fault) => Ok(Err(Output {
+        Err(ReadErr::Fault) => Ok(ReadInput::Refused(Output {
             status: status::READ_FAULT,
             text: Vec::from_slice(alloc, b"error: read fault\n")?,
         })),
-        Err(ReadErr::TooLong) => Ok(Err(Output {
+        Err(ReadErr::TooLong) => Ok(ReadInput::Refused(Output {
             status: status::TOO_LONG,
             text: Vec::from_slice(alloc, b"error: input too long\n")?,
         })),
@@ -95,19 +104,19 @@ pub(crate) fn read_input<S: Source>(
 pub(crate) fn read_plan<S: Source>(
     alloc: Global,
     source: &mut S,
-) -> Result<Result<Plan, Output>, AllocError>
-    ensures { IfOk result (λ read. MatchResult read
+) -> Result<ReadInput<Plan>, AllocError>
+    ensures { IfOk result (λ read. MatchInput read
         (ReadsPlan (bytes_change S.remaining S.faults source.old source.new))
         (Refuses PlanAlone (bytes_change S.remaining S.faults source.old source.new))) }
 {
     let bytes = match read_input(alloc, source, MOST_INPUT)? {
-        Ok(bytes) => bytes,
-        Err(answer) => return Ok(Err(answer)),
+        ReadInput::Read(bytes) => bytes,
+        ReadInput::Refused(answer) => return Ok(ReadInput::Refused(answer)),
     };
     match parse(alloc, &bytes) {
-        Ok(plan) => Ok(Ok(plan)),
+        Ok(plan) => Ok(ReadInput::Read(plan)),
         Err(PlanErr::Memory) => Err(AllocError),
-        Err(PlanErr::Bad { line }) => Ok(Err(Output {
+        Err(PlanErr::Bad { line }) => Ok(ReadInput::Refused(Output {
             status: status::BAD_PLAN,
             text: bad_plan(alloc, line)?,
         })),
@@ -120,11 +129,11 @@ fn serial_answer<S: Source>(alloc: Global, source: &mut S) -> Result<Output, All
         (bytes_change S.remaining S.faults source.old source.new)) }
 {
     match read_plan(alloc, source)? {
-        Ok(plan) => Ok(Output {
+        ReadInput::Read(plan) => Ok(Output {
             status: status::DONE,
             text: serial(alloc, &plan)?.print(alloc)?,
         }),
-        Err(answer) => Ok(answer),
+        ReadInput::Refused(answer) => Ok(answer),
     }
 }
 
@@ -134,11 +143,11 @@ fn play_answer<S: Source>(alloc: Global, source: &mut S) -> Result<Output, Alloc
         (bytes_change S.remaining S.faults source.old source.new)) }
 {
     match read_plan(alloc, source)? {
-        Ok(plan) => Ok(Output {
+        ReadInput::Read(plan) => Ok(Output {
             status: status::DONE,
             text: play_report(alloc, &plan)?.print(alloc)?,
         }),
-        Err(answer) => Ok(answer),
+        ReadInput::Refused(answer) => Ok(answer),
     }
 }
 
@@ -156,8 +165,8 @@ fn run_answer<R: Threads + Sync, S: Source>(
         (bytes_change S.remaining S.faults source.old source.new)) }
 {
     let plan = match read_plan(alloc, source)? {
-        Ok(plan) => plan,
-        Err(answer) => return Ok((answer, None)),
+        ReadInput::Read(plan) => plan,
+        ReadInput::Refused(answer) => return Ok((answer, None)),
     };
     let (report, ran) = run_report(rt, alloc, &plan, brakes)?;
     let answer = Output {
@@ -200,11 +209,11 @@ fn trace_answer<S: Source>(
         (bytes_change S.remaining S.faults source.old source.new)) }
 {
     match read_plan(alloc, source)? {
-        Ok(plan) => Ok(Output {
+        ReadInput::Read(plan) => Ok(Output {
             status: status::DONE,
             text: trace(alloc, &plan, first, count)?,
         }),
-        Err(answer) => Ok(answer),
+        ReadInput::Refused(answer) => Ok(answer),
     }
 }
 
@@ -214,11 +223,11 @@ fn commits_answer<S: Source>(alloc: Global, source: &mut S) -> Result<Output, Al
         (bytes_change S.remaining S.faults source.old source.new)) }
 {
     match read_plan(alloc, source)? {
-        Ok(plan) => Ok(Output {
+        ReadInput::Read(plan) => Ok(Output {
             status: status::DONE,
             text: commits(alloc, &plan, ALL_EVENTS)?,
         }),
-        Err(answer) => Ok(answer),
+        ReadInput::Refused(answer) => Ok(answer),
     }
 }
 
@@ -244,8 +253,8 @@ fn check_answer<S: Source>(alloc: Global, source: &mut S) -> Result<Output, Allo
         (bytes_change S.remaining S.faults source.old source.new)) }
 {
     let bytes = match read_input(alloc, source, MOST_WITH_REPORT)? {
-        Ok(bytes) => bytes,
-        Err(answer) => return Ok(answer),
+        ReadInput::Read(bytes) => bytes,
+        ReadInput::Refused(answer) => return Ok(answer),
     };
     let (first, second) = parts(&bytes);
     match parse(alloc, first) {

@@ -1,6 +1,6 @@
 //! What `continue` does: a life that goes on from an image, and its text.
 
-ghost use Rattle.std.specs.Prelude.{◌≡◌, ◌≤◌, IfOk, MatchResult, vec_len};
+ghost use Rattle.std.specs.Prelude.{◌≡◌, ◌≤◌, IfOk, vec_len};
 ghost use Rattle.of_mem.specs.declared.work.TheConstants.{MOST_INSTRS};
 ghost use Rattle.of_plan.specs.Ended.{ended_value};
 ghost use Rattle.of_report.specs.Image.{IsImage, image_value};
@@ -9,9 +9,9 @@ ghost use Rattle.of_tool.specs.declared.command.Command.TheVariants.{Continue};
 ghost use Rattle.of_tool.specs.Continued.{WritesLife};
 ghost use Rattle.of_tool.specs.Seen.{bytes_change, view_of};
 ghost use Rattle.of_tool.specs.Inputs.{ImageAndPlan, ReadsLife};
-ghost use Rattle.of_tool.specs.Answer.{IsOutputFor, Refuses, CarriesLife};
+ghost use Rattle.of_tool.specs.Answer.{MatchInput, IfRead, IsOutputFor, Refuses, CarriesLife};
 
-use crate::commands::{MOST_WITH_REPORT, Output, TeamRecord, bad_plan, read_input};
+use crate::commands::{MOST_WITH_REPORT, Output, ReadInput, TeamRecord, bad_plan, read_input};
 use crate::images::image_refusal;
 use crate::status;
 use of_brake::Brake;
@@ -57,24 +57,24 @@ fn run_life<R: Threads + Sync>(
 fn read_life<S: Source>(
     alloc: Global,
     source: &mut S,
-) -> Result<Result<(Image, Plan), Output>, AllocError>
-    ensures read { IfOk result (λ read. MatchResult read
+) -> Result<ReadInput<(Image, Plan)>, AllocError>
+    ensures read { IfOk result (λ read. MatchInput read
         (λ r. ReadsLife (bytes_change S.remaining S.faults source.old source.new)
         (image_value r.0) r.1)
         (Refuses ImageAndPlan (bytes_change S.remaining S.faults source.old source.new))) }
-    ensures image { IfOk result (λ read. IfOk read (λ r. IsImage MOST_INSTRS (image_value r.0))) }
-    ensures fits { IfOk result (λ read. IfOk read (λ r. PlanFitsImage (image_value r.0) r.1)) }
+    ensures image { IfOk result (λ read. IfRead read (λ r. IsImage MOST_INSTRS (image_value r.0))) }
+    ensures fits { IfOk result (λ read. IfRead read (λ r. PlanFitsImage (image_value r.0) r.1)) }
 {
     let bytes = match read_input(alloc, source, MOST_WITH_REPORT)? {
-        Ok(bytes) => bytes,
-        Err(answer) => return Ok(Err(answer)),
+        ReadInput::Read(bytes) => bytes,
+        ReadInput::Refused(answer) => return Ok(ReadInput::Refused(answer)),
     };
     let (first, second) = parts(&bytes);
     let plan = match parse(alloc, second) {
         Ok(plan) => plan,
         Err(PlanErr::Memory) => return Err(AllocError),
         Err(PlanErr::Bad { line }) => {
-            return Ok(Err(Output {
+            return Ok(ReadInput::Refused(Output {
                 status: status::BAD_PLAN,
                 text: bad_plan(alloc, line)?,
             }));
@@ -82,15 +82,15 @@ fn read_life<S: Source>(
     };
     let image = match image_parse(alloc, first) {
         Ok(image) => image,
-        Err(err) => return Ok(Err(image_refusal(alloc, err)?)),
+        Err(err) => return Ok(ReadInput::Refused(image_refusal(alloc, err)?)),
     };
     if !fits(&image, &plan) {
-        return Ok(Err(Output {
+        return Ok(ReadInput::Refused(Output {
             status: status::DOES_NOT_FIT,
             text: Vec::from_slice(alloc, b"error: plan does not fit image\n")?,
         }));
     }
-    Ok(Ok((image, plan)))
+    Ok(ReadInput::Read((image, plan)))
 }
 
 /// What `continue` answers, and beside it what the life has left.
@@ -107,8 +107,8 @@ pub(crate) fn continue_answer<R: Threads + Sync, S: Source>(
         (bytes_change S.remaining S.faults source.old source.new)) }
 {
     let (image, plan) = match read_life(alloc, source)? {
-        Ok(read) => read,
-        Err(answer) => return Ok((answer, None)),
+        ReadInput::Read(read) => read,
+        ReadInput::Refused(answer) => return Ok((answer, None)),
     };
     let (text, ran) = run_life(rt, alloc, &image, &plan, brakes)?;
     let answer = Output {

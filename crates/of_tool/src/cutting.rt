@@ -7,7 +7,7 @@ ghost use Rattle.of_tool.specs.Cutting.{IsPart};
 ghost use Rattle.of_tool.specs.Seen.{bytes_change};
 ghost use Rattle.of_tool.specs.Answer.{IsOutputFor};
 
-use crate::commands::{MOST_WITH_REPORT, Output, read_input};
+use crate::commands::{MOST_WITH_REPORT, Output, ReadInput, read_input};
 use crate::status;
 use of_io::Source;
 use of_plan::parts;
@@ -37,10 +37,10 @@ pub(crate) fn part_answer<S: Source>(
         (bytes_change S.remaining S.faults source.old source.new)) }
 {
     match read_input(alloc, source, MOST_WITH_REPORT)? {
-        Ok(bytes) => Ok(Output {
+        ReadInput::Read(bytes) => Ok(Output {
             status: status::DONE,
             text: Vec::from_slice(alloc, part(&bytes, number))?,
         }),
-        Err(answer) => Ok(answer),
+        ReadInput::Refused(answer) => Ok(answer),
     }
 }

@@ -1,6 +1,6 @@
 //! What the commands on images answer.
 
-ghost use Rattle.std.specs.Prelude.{IfOk, MatchResult};
+ghost use Rattle.std.specs.Prelude.{IfOk};
 ghost use Rattle.of_mem.specs.declared.work.TheConstants.{MOST_INSTRS};
 ghost use Rattle.of_report.specs.Image.{IsImage, image_value};
 ghost use Rattle.of_image.specs.declared.version.Version.TheVariants.{Two};
@@ -8,9 +8,9 @@ ghost use Rattle.of_tool.specs.declared.command.Command.TheVariants.{Image as Th
 ghost use Rattle.of_tool.specs.PlayedImage.{IsPlayedImage};
 ghost use Rattle.of_tool.specs.Seen.{bytes_change};
 ghost use Rattle.of_tool.specs.Inputs.{ImageAlone, ReadsImageOf};
-ghost use Rattle.of_tool.specs.Answer.{IsOutputFor, Refuses, TellsRefusal};
+ghost use Rattle.of_tool.specs.Answer.{MatchInput, IfRead, IsOutputFor, Refuses, TellsRefusal};
 
-use crate::commands::{MOST_IMAGE, Output, read_input, read_plan};
+use crate::commands::{MOST_IMAGE, Output, ReadInput, read_input, read_plan};
 use crate::status;
 use of_caller::laws::{plan_keeps_laws, reports_respect_time, runs_are_lawful};
 use of_core::laws::starts;
@@ -55,21 +55,21 @@ pub(crate) fn image_refusal(alloc: Global, err: ImageErr) -> Result<Output, Allo
 }
 
 // The image that the whole input has, or the answer that says why there is none.
-fn read_image<S: Source>(alloc: Global, source: &mut S) -> Result<Result<Image, Output>, AllocError>
-    ensures read { IfOk result (λ read. MatchResult read
+fn read_image<S: Source>(alloc: Global, source: &mut S) -> Result<ReadInput<Image>, AllocError>
+    ensures read { IfOk result (λ read. MatchInput read
         (λ image. ReadsImageOf Two (bytes_change S.remaining S.faults source.old source.new)
         (image_value image))
         (Refuses (ImageAlone Two) (bytes_change S.remaining S.faults source.old source.new))) }
     ensures image { IfOk result (λ read.
-        IfOk read (λ image. IsImage MOST_INSTRS (image_value image))) }
+        IfRead read (λ image. IsImage MOST_INSTRS (image_value image))) }
 {
     let bytes = match read_input(alloc, source, MOST_IMAGE)? {
-        Ok(bytes) => bytes,
-        Err(answer) => return Ok(Err(answer)),
+        ReadInput::Read(bytes) => bytes,
+        ReadInput::Refused(answer) => return Ok(ReadInput::Refused(answer)),
     };
     match image_parse(alloc, &bytes) {
-        Ok(image) => Ok(Ok(image)),
-        Err(err) => Ok(Err(image_refusal(alloc, err)?)),
+        Ok(image) => Ok(ReadInput::Read(image)),
+        Err(err) => Ok(ReadInput::Refused(image_refusal(alloc, err)?)),
     }
 }
 
@@ -79,11 +79,11 @@ pub(crate) fn image_answer<S: Source>(alloc: Global, source: &mut S) -> Result<O
         (bytes_change S.remaining S.faults source.old source.new)) }
 {
     match read_plan(alloc, source)? {
-        Ok(plan) => Ok(Output {
+        ReadInput::Read(plan) => Ok(Output {
             status: status::DONE,
             text: play_image(alloc, &plan)?,
         }),
-        Err(answer) => Ok(answer),
+        ReadInput::Refused(answer) => Ok(answer),
     }
 }
 
@@ -93,11 +93,11 @@ pub(crate) fn recover_answer<S: Source>(alloc: Global, source: &mut S) -> Result
         (bytes_change S.remaining S.faults source.old source.new)) }
 {
     match read_image(alloc, source)? {
-        Ok(image) => Ok(Output {
+        ReadInput::Read(image) => Ok(Output {
             status: status::DONE,
             text: recovered_print(alloc, &image)?,
         }),
-        Err(answer) => Ok(answer),
+        ReadInput::Refused(answer) => Ok(answer),
     }
 }
 
@@ -110,11 +110,11 @@ pub(crate) fn renumber_answer<S: Source>(
         (bytes_change S.remaining S.faults source.old source.new)) }
 {
     match read_image(alloc, source)? {
-        Ok(image) => Ok(Output {
+        ReadInput::Read(image) => Ok(Output {
             status: status::DONE,
             text: renumbered_print(alloc, &image)?,
         }),
-        Err(answer) => Ok(answer),
+        ReadInput::Refused(answer) => Ok(answer),
     }
 }
 
@@ -124,8 +124,8 @@ pub(crate) fn migrate_answer<S: Source>(alloc: Global, source: &mut S) -> Result
         (bytes_change S.remaining S.faults source.old source.new)) }
 {
     let bytes = match read_input(alloc, source, MOST_IMAGE)? {
-        Ok(bytes) => bytes,
-        Err(answer) => return Ok(answer),
+        ReadInput::Read(bytes) => bytes,
+        ReadInput::Refused(answer) => return Ok(answer),
     };
     match migrate(alloc, &bytes) {
         Ok(text) => Ok(Output {

@@ -5,7 +5,7 @@ ghost use Rattle.of_tool.specs.declared.command.Command.TheVariants.{CheckLife};
 ghost use Rattle.of_tool.specs.Seen.{bytes_change};
 ghost use Rattle.of_tool.specs.Answer.{IsOutputFor, JudgesLife};
 
-use crate::commands::{MOST_WITH_REPORT, Output, bad_plan, read_input};
+use crate::commands::{MOST_WITH_REPORT, Output, ReadInput, bad_plan, read_input};
 use crate::images::image_refusal;
 use crate::legal_life::check_life;
 use crate::status;
@@ -38,8 +38,8 @@ pub(crate) fn life_answer<S: Source>(alloc: Global, source: &mut S) -> Result<Ou
         (bytes_change S.remaining S.faults source.old source.new)) }
 {
     let bytes = match read_input(alloc, source, MOST_WITH_REPORT)? {
-        Ok(bytes) => bytes,
-        Err(answer) => return Ok(answer),
+        ReadInput::Read(bytes) => bytes,
+        ReadInput::Refused(answer) => return Ok(answer),
     };
     let (first, behind) = parts(&bytes);
     let (second, others) = parts(behind);

@@ -6,10 +6,10 @@ use Rattle.of_tool.specs.Statuses.{Refused}
 use Rattle.of_tool.proofs.Judged.{found, answered_so}
 use Rattle.of_tool.proofs.commands.check_answer.Goals as goal
 
-pub returns-in-Ok-parse : goal.returns-in-Ok-parse
-returns-in-Ok-parse g c =
+pub returns-in-Ok : goal.returns-in-Ok
+returns-in-Ok g c =
     let are = subst (λ (b : List ℕ). AreParts b c.parts.result.0.now c.parts.result.1.now) c.deref.ensures.value c.parts.ensures in
-    answered_so c.check_output.result _ _ (λ a judges. found _ c.in-Ok.bytes.items c.parts.result.0.now c.parts.result.1.now c.in-Ok-parse.plan c.in_ok-check-in-Ok-parse.field-0 a (rw c.in-Ok.is at c.in_ok-bytes.ensures) are c.in-Ok-parse.ensures.ok c.in_ok-check-in-Ok-parse.ensures judges) c.check_output.ensures
+    answered_so c.check_output.result _ _ (λ a judges. found _ c.in-Read.bytes.items c.parts.result.0.now c.parts.result.1.now c.in-Ok.plan c.in_ok-check-in-Ok.field-0 a (rw c.in-Read.is at c.in_ok-bytes.ensures) are c.in-Ok.ensures.ok c.in_ok-check-in-Ok.ensures judges) c.check_output.ensures
 
 pub returns : goal.returns
 returns g c =
@@ -17,10 +17,10 @@ returns g c =
     let gone = rw c.in-Err-Bad.field-0-is at c.in-Err-Bad.ensures.bad in
     Refused PlanAndReport refl (record {
       why = BadPlan c.in-Err-Bad.line;
-      cause = record { bytes = c.in-Ok.bytes.items; first = c.parts.result.0.now; report = c.parts.result.1.now; read = rw c.in-Ok.is at c.in_ok-bytes.ensures; parts = are; bad = gone };
+      cause = record { bytes = c.in-Read.bytes.items; first = c.parts.result.0.now; report = c.parts.result.1.now; read = rw c.in-Read.is at c.in_ok-bytes.ensures; parts = are; bad = gone };
       status_is = refl;
       text_is = (let number = c.in-Err-Bad.line-is in let text = c.in_ok-bad_plan-in-Err-Bad.ensures in cc);
     })
 
-pub returns-in-Err : goal.returns-in-Err
-returns-in-Err g c = Refused PlanAndReport refl ((rw c.in-Err.is at c.in_ok-bytes.ensures) PlanAndReport refl)
+pub returns-in-Refused : goal.returns-in-Refused
+returns-in-Refused g c = Refused PlanAndReport refl ((rw c.in-Refused.is at c.in_ok-bytes.ensures) PlanAndReport refl)

@@ -4,14 +4,14 @@ use Rattle.of_tool.specs.Inputs.{PlanAlone}
 use Rattle.of_tool.specs.Statuses.{Done, Refused}
 use Rattle.of_tool.proofs.commands.play_answer.Goals as goal
 
-pub returns-in_ok-print-in-Ok : goal.returns-in_ok-print-in-Ok
-returns-in_ok-print-in-Ok g c = Done refl (record {
-  plan = c.in-Ok.plan;
-  read = rw c.in-Ok.is at c.in_ok-plan.ensures;
-  report = report_value c.in_ok-play_report-in-Ok.field-0;
-  played = c.in_ok-play_report-in-Ok.ensures;
-  text_is = c.in_ok-print-in-Ok.ensures;
+pub returns-in_ok-print-in-Read : goal.returns-in_ok-print-in-Read
+returns-in_ok-print-in-Read g c = Done refl (record {
+  plan = c.in-Read.plan;
+  read = rw c.in-Read.is at c.in_ok-plan.ensures;
+  report = report_value c.in_ok-play_report-in-Read.field-0;
+  played = c.in_ok-play_report-in-Read.ensures;
+  text_is = c.in_ok-print-in-Read.ensures;
 })
 
-pub returns-in-Err : goal.returns-in-Err
-returns-in-Err g c = Refused PlanAlone refl (rw c.in-Err.is at c.in_ok-plan.ensures)
+pub returns-in-Refused : goal.returns-in-Refused
+returns-in-Refused g c = Refused PlanAlone refl (rw c.in-Refused.is at c.in_ok-plan.ensures)

@@ -10,10 +10,10 @@ use Rattle.of_tool.proofs.commands.run_answer.Goals as goal
 
 pub returns-clause-answered : goal.returns-clause-answered
 returns-clause-answered g c = Done refl (record {
-  plan = c.in-Ok.plan;
-  read = rw c.in-Ok.is at c.in_ok-plan.ensures;
+  plan = c.in-Read.plan;
+  read = rw c.in-Read.is at c.in_ok-plan.ensures;
   report = report_value c.in_ok-report.report;
-  run = some_run c.in-Ok.plan (report_value c.in_ok-report.report) (ended_value c.in_ok-report.ran.0) (view_of c.in_ok-report.ran.1) c.in_ok-report.ensures;
+  run = some_run c.in-Read.plan (report_value c.in_ok-report.report) (ended_value c.in_ok-report.ran.0) (view_of c.in_ok-report.ran.1) c.in_ok-report.ensures;
   text_is = c.in_ok-print.ensures;
 })
 
@@ -21,16 +21,16 @@ pub returns-clause-carries : goal.returns-clause-carries
 returns-clause-carries g c = (
   refl,
   record {
-    plan = c.in-Ok.plan;
-    read = rw c.in-Ok.is at c.in_ok-plan.ensures;
+    plan = c.in-Read.plan;
+    read = rw c.in-Read.is at c.in_ok-plan.ensures;
     report = report_value c.in_ok-report.report;
     run = c.in_ok-report.ensures;
     text_is = c.in_ok-print.ensures;
   },
 )
 
-pub returns-in-Err-clause-answered : goal.returns-in-Err-clause-answered
-returns-in-Err-clause-answered g c = Refused PlanAlone refl (rw c.in-Err.is at c.in_ok-plan.ensures)
+pub returns-in-Refused-clause-answered : goal.returns-in-Refused-clause-answered
+returns-in-Refused-clause-answered g c = Refused PlanAlone refl (rw c.in-Refused.is at c.in_ok-plan.ensures)
 
-pub returns-in-Err-clause-carries : goal.returns-in-Err-clause-carries
-returns-in-Err-clause-carries g c = refusal_undone _ _ _ _ (rw c.in-Err.is at c.in_ok-plan.ensures)
+pub returns-in-Refused-clause-carries : goal.returns-in-Refused-clause-carries
+returns-in-Refused-clause-carries g c = refusal_undone _ _ _ _ (rw c.in-Refused.is at c.in_ok-plan.ensures)

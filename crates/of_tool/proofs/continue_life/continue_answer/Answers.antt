@@ -11,9 +11,9 @@ pub returns-clause-answered : goal.returns-clause-answered
 returns-clause-answered g c =
     let writes = c.in_ok-text.ensures in
     Done refl (record {
-      image = image_value c.in-Ok.read.0;
-      plan = c.in-Ok.read.1;
-      read = rw c.in-Ok.is at c.in_ok-read.ensures.read;
+      image = image_value c.in-Read.read.0;
+      plan = c.in-Read.read.1;
+      read = rw c.in-Read.is at c.in_ok-read.ensures.read;
       life = record {
         report = writes.report;
         left = ended_value c.in_ok-text.ran.0;
@@ -31,15 +31,15 @@ pub returns-clause-carries : goal.returns-clause-carries
 returns-clause-carries g c = (
   refl,
   record {
-    image = image_value c.in-Ok.read.0;
-    plan = c.in-Ok.read.1;
-    read = rw c.in-Ok.is at c.in_ok-read.ensures.read;
+    image = image_value c.in-Read.read.0;
+    plan = c.in-Read.read.1;
+    read = rw c.in-Read.is at c.in_ok-read.ensures.read;
     writes = c.in_ok-text.ensures;
   },
 )
 
-pub returns-in-Err-clause-answered : goal.returns-in-Err-clause-answered
-returns-in-Err-clause-answered g c = Refused ImageAndPlan refl (rw c.in-Err.is at c.in_ok-read.ensures.read)
+pub returns-in-Refused-clause-answered : goal.returns-in-Refused-clause-answered
+returns-in-Refused-clause-answered g c = Refused ImageAndPlan refl (rw c.in-Refused.is at c.in_ok-read.ensures.read)
 
-pub returns-in-Err-clause-carries : goal.returns-in-Err-clause-carries
-returns-in-Err-clause-carries g c = refusal_undone _ _ _ _ (rw c.in-Err.is at c.in_ok-read.ensures.read)
+pub returns-in-Refused-clause-carries : goal.returns-in-Refused-clause-carries
+returns-in-Refused-clause-carries g c = refusal_undone _ _ _ _ (rw c.in-Refused.is at c.in_ok-read.ensures.read)

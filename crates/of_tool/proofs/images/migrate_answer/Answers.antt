@@ -8,19 +8,19 @@ use Rattle.of_tool.specs.Statuses.{Done, Refused}
 use Rattle.of_tool.proofs.ImageAnswers.{refusal_told}
 use Rattle.of_tool.proofs.images.migrate_answer.Goals as goal
 
-pub returns-in-Ok-migrate : goal.returns-in-Ok-migrate
-returns-in-Ok-migrate g c = Done refl (record {
-  bytes = c.in-Ok.bytes.items;
-  read = rw c.in-Ok.is at c.in_ok-bytes.ensures;
-  is = subst (λ (b : List ℕ). Migrates b c.in-Ok-migrate.text.items) c.deref.ensures.value c.in-Ok-migrate.ensures.ok;
+pub returns-in-Ok : goal.returns-in-Ok
+returns-in-Ok g c = Done refl (record {
+  bytes = c.in-Read.bytes.items;
+  read = rw c.in-Read.is at c.in_ok-bytes.ensures;
+  is = subst (λ (b : List ℕ). Migrates b c.in-Ok.text.items) c.deref.ensures.value c.in-Ok.ensures.ok;
 })
 
 pub returns : goal.returns
 returns g c =
     IfOk-weaker c.image_refusal.result _ _
-    (λ answer told. Refused (ImageAlone One) refl (refusal_told One _ c.in-Ok.bytes.items (rw c.in-Ok.is at c.in_ok-bytes.ensures) c.in-Err-migrate.err answer
-    (subst (λ (b : List ℕ). ImageIsRefused One b c.in-Err-migrate.err) c.deref.ensures.value c.in-Err-migrate.ensures.err) told))
+    (λ answer told. Refused (ImageAlone One) refl (refusal_told One _ c.in-Read.bytes.items (rw c.in-Read.is at c.in_ok-bytes.ensures) c.in-Err.err answer
+    (subst (λ (b : List ℕ). ImageIsRefused One b c.in-Err.err) c.deref.ensures.value c.in-Err.ensures.err) told))
     c.image_refusal.ensures
 
-pub returns-in-Err : goal.returns-in-Err
-returns-in-Err g c = Refused (ImageAlone One) refl ((rw c.in-Err.is at c.in_ok-bytes.ensures) (ImageAlone One) refl)
+pub returns-in-Refused : goal.returns-in-Refused
+returns-in-Refused g c = Refused (ImageAlone One) refl ((rw c.in-Refused.is at c.in_ok-bytes.ensures) (ImageAlone One) refl)

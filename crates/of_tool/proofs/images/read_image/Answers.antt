@@ -6,8 +6,8 @@ use Rattle.of_tool.proofs.ImageAnswers.{refusal_told}
 use Rattle.of_tool.proofs.images.read_image.Goals as goal
 
 pub returns-clause-read : goal.returns-clause-read
-returns-clause-read g c = refusal_told Two _ c.in-Ok.bytes.items (rw c.in-Ok.is at c.in_ok-bytes.ensures) c.in-Err-image_parse.err c.in_ok-image_refusal-in-Err-image_parse.field-0
-    (subst (λ (b : List ℕ). ImageIsRefused Two b c.in-Err-image_parse.err) c.deref.ensures.value c.in-Err-image_parse.ensures.err) c.in_ok-image_refusal-in-Err-image_parse.ensures
+returns-clause-read g c = refusal_told Two _ c.in-Read.bytes.items (rw c.in-Read.is at c.in_ok-bytes.ensures) c.in-Err.err c.in_ok-image_refusal-in-Err.field-0
+    (subst (λ (b : List ℕ). ImageIsRefused Two b c.in-Err.err) c.deref.ensures.value c.in-Err.ensures.err) c.in_ok-image_refusal-in-Err.ensures
 
-pub returns-in-Err-clause-read : goal.returns-in-Err-clause-read
-returns-in-Err-clause-read g c = (rw c.in-Err.is at c.in_ok-bytes.ensures) (ImageAlone Two) refl
+pub returns-in-Refused-clause-read : goal.returns-in-Refused-clause-read
+returns-in-Refused-clause-read g c = (rw c.in-Refused.is at c.in_ok-bytes.ensures) (ImageAlone Two) refl

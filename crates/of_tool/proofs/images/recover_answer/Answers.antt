@@ -5,8 +5,8 @@ use Rattle.of_tool.specs.Inputs.{ImageAlone}
 use Rattle.of_tool.specs.Statuses.{Done, Refused}
 use Rattle.of_tool.proofs.images.recover_answer.Goals as goal
 
-pub returns-in_ok-recovered_print-in-Ok : goal.returns-in_ok-recovered_print-in-Ok
-returns-in_ok-recovered_print-in-Ok g c = Done refl (record { image = image_value c.in-Ok.image; read = rw c.in-Ok.is at c.in_ok-image.ensures.read; text_is = c.in_ok-recovered_print-in-Ok.ensures })
+pub returns-in_ok-recovered_print-in-Read : goal.returns-in_ok-recovered_print-in-Read
+returns-in_ok-recovered_print-in-Read g c = Done refl (record { image = image_value c.in-Read.image; read = rw c.in-Read.is at c.in_ok-image.ensures.read; text_is = c.in_ok-recovered_print-in-Read.ensures })
 
-pub returns-in-Err : goal.returns-in-Err
-returns-in-Err g c = Refused (ImageAlone Two) refl (rw c.in-Err.is at c.in_ok-image.ensures.read)
+pub returns-in-Refused : goal.returns-in-Refused
+returns-in-Refused g c = Refused (ImageAlone Two) refl (rw c.in-Refused.is at c.in_ok-image.ensures.read)
