@@ -14,7 +14,7 @@ abbrev jobs_of : Store × Reply → List ℕ
 jobs_of r = job_in r.1 ++ waiting r.0
 
 -- the count of a job, behind these answers
-abbrev counted : (over : Bool) → Store → (register : ℕ) → (left job : Option ℕ) → ScriptOutcome
+abbrev pub counted : (over : Bool) → Store → (register : ℕ) → (left job : Option ℕ) → ScriptOutcome
 counted over u w left job =
     with_answer_first left (with_answer_first job (then_outcome (if over then Err Overflow else Ok (with_register u w (register u w + 1), Some (register u w + 1))) (λ (v : Store). Ok (v, []))))
 
@@ -24,11 +24,11 @@ count_loses_none s u w left job true e = refl
 count_loses_none s u w left job false e = e
 
 -- the front of the queue is taken
-front_leaves : (qs : List (List ℕ)) (front : ℕ) (others : List ℕ) → get_or qs 0 [] ≡ front ∷ others → get_or (set qs 0 others) 0 [] ≡ others
+pub front_leaves : (qs : List (List ℕ)) (front : ℕ) (others : List ℕ) → get_or qs 0 [] ≡ front ∷ others → get_or (set qs 0 others) 0 [] ≡ others
 front_leaves [] front others e = absurd cc
 front_leaves (q ∷ qs) front others e = refl
 
-abbrev popped : Store → (register : ℕ) → (left : Option ℕ) → List ℕ → ScriptOutcome
+abbrev pub popped : Store → (register : ℕ) → (left : Option ℕ) → List ℕ → ScriptOutcome
 popped t w left items =
     with_answer_first left (then_outcome (pop_effect t 0 items) (λ (u : Store). then_outcome (if nat_lt greatest (register u w + 1) then Err Overflow else Ok (with_register u w (register u w + 1), Some (register u w + 1))) (λ (v : Store). Ok (v, []))))
 
@@ -58,7 +58,7 @@ loses_none s (e ∷ h) serial all =
     ∙ script_loses_none s e.script takes
 
 -- two histories, the second of which goes on from the end of the first
-jobs_join : (h k : List HistoryEntry) → jobs_in (h ++ k) ≡ jobs_in h ++ jobs_in k
+pub jobs_join : (h k : List HistoryEntry) → jobs_in (h ++ k) ≡ jobs_in h ++ jobs_in k
 jobs_join [] k = refl
 jobs_join (e ∷ h) k = ap (λ (l : List ℕ). job_in e.reply ++ l) (jobs_join h k) ∙ sym (append_assoc (job_in e.reply) (jobs_in h) (jobs_in k))
 

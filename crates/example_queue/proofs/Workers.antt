@@ -14,7 +14,8 @@ use Rattle.of_memory.specs.Tasks.{TaskWork, HasWorkedAs, HaveWorked, KnowsRest}
 use Rattle.of_memory.proofs.Joining.{histories_join}
 use Rattle.example_queue.specs.Jobs.{TakesJob}
 use Rattle.example_queue.specs.Workers.{AllTake, HasTaken, OnlyTakes, HasTakenOf, IsForWorkers, LeadsWithoutLoss, IsWorkedOff, IsWorkedOffLater}
-use Rattle.example_queue.proofs.Jobs.{loses_none, losses_join}
+use Rattle.example_queue.proofs.Jobs.{loses_none, losses_join, jobs_join}
+use Rattle.example_queue.proofs.Counts.{counts_each, counts_join}
 
 -- ---- workers keep to jobs
 
@@ -73,17 +74,13 @@ pub worked_off : (m : Memory) (d : Saved) → IsForWorkers m → HasHistory m d 
 worked_off m d queue history s starts =
     let found = history s starts in
     let h = found.0 in
-    let leads = found.1 in (
-      h,
-      record {
-        serial = leads.serial;
-        ends = leads.ends;
-        jobs = loses_none s h leads.serial (λ i e lt.
-            let n = (get_or h i e).caller in
-            let t = queue n (leads.callers i e lt) in
-            entry_takes m n _ t (get_or h i e) (leads.only n t.made t.has i e lt refl));
-      },
-    )
+    let leads = found.1 in
+    let all : All (λ (e : HistoryEntry). TakesJob e.script) h =
+    λ i e lt.
+        let n = (get_or h i e).caller in
+        let t = queue n (leads.callers i e lt) in
+        entry_takes m n _ t (get_or h i e) (leads.only n t.made t.has i e lt refl) in
+    (h, record { serial = leads.serial; ends = leads.ends; jobs = loses_none s h leads.serial all; counts = counts_each s h leads.serial all })
 
 -- the history of one day and that of the next are one
 pub days_join : (s : Store) (noon evening : Saved) (h : List HistoryEntry) → LeadsWithoutLoss s noon h → IsWorkedOffLater noon evening → (k : List HistoryEntry) × LeadsWithoutLoss s evening k
@@ -96,5 +93,6 @@ days_join s noon evening h one later =
         serial = joined.0;
         ends = subst (SavedHolds evening) (sym joined.1) next.1.ends;
         jobs = losses_join s h k joined.1 one.jobs next.1.jobs;
+        counts = counts_join s h k joined.1 (jobs_join h k) one.counts next.1.counts;
       },
     )

@@ -1,9 +1,9 @@
 -- Jobs in a queue: the script that takes one, and what its replies give.
-use Rattle.std.specs.Prelude.{◌≡◌, ℕ, ◌+◌, ◌<◌, List, [], ◌∷◌, ◌++◌, Option, Some, None}
+use Rattle.std.specs.Prelude.{◌≡◌, ℕ, ◌+◌, ◌<◌, List, [], ◌∷◌, ◌++◌, length, Option, Some, None}
 use Rattle.std.specs.List.{All}
 use Rattle.of_script.specs.declared.instr.Instr.{Instr}
 use Rattle.of_script.specs.declared.instr.Instr.TheVariants.{Add, Sub, Pop}
-use Rattle.of_store.specs.Store.{Store, Reply, Answered, Aborted, queue}
+use Rattle.of_store.specs.Store.{Store, Reply, Answered, Aborted, queue, register}
 use Rattle.of_memory.specs.History.{HistoryEntry, IsSerial, store_after}
 
 -- the script that takes the first job, if one waits, and counts it in this register
@@ -35,3 +35,18 @@ jobs_in (e ∷ h) = job_in e.reply ++ jobs_in h
 -- and those that still wait are the jobs that waited at first.
 abbrev pub LosesNoJob : Store → List HistoryEntry → Type 0
 LosesNoJob s h = jobs_in h ++ waiting (store_after s h) ≡ waiting s
+
+-- how many jobs the four workers have counted
+abbrev pub done : Store → ℕ
+done s = register s 0 + register s 1 + register s 2 + register s 3
+
+-- register 15 says how many jobs wait
+pub record CountsJobs (s : Store) : Type 0 where
+  pub registers : 15 < length s.registers
+  pub count : register s 15 ≡ length (waiting s)
+
+-- if it says so at first, it does so afterwards, and each job that a reply gives was counted
+abbrev pub CountsEach : Store → List HistoryEntry → Type 0
+CountsEach s h =
+    CountsJobs s
+    → CountsJobs (store_after s h) × (done (store_after s h) ≡ done s + length (jobs_in h))

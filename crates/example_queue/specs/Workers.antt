@@ -10,14 +10,15 @@ use Rattle.of_memory.specs.History.{HistoryEntry, Made, IsSerial, store_after}
 use Rattle.of_memory.specs.Handles.{HasMade, HasOpen}
 use Rattle.of_memory.specs.Memories.{StartsWith, HasMadeOf, HasOpenOf, callers_of}
 use Rattle.of_memory.specs.Saving.{SavedHolds}
-use Rattle.example_queue.specs.Jobs.{TakesJob, LosesNoJob}
+use Rattle.example_queue.specs.Jobs.{TakesJob, LosesNoJob, CountsEach}
 
 -- A serial history leads from the store to the one that is saved. No job is lost in it, and none is
--- given twice.
+-- given twice; each that is given is counted.
 pub record LeadsWithoutLoss (s : Store) (d : Saved) (h : List HistoryEntry) : Type 0 where
   pub serial : IsSerial s h
   pub ends : SavedHolds d (store_after s h)
   pub jobs : LosesNoJob s h
+  pub counts : CountsEach s h
 
 -- so it is of the store that the memory was opened with
 abbrev pub IsWorkedOff : Memory → Saved → Type 0

@@ -58,7 +58,9 @@ fn day<R: Threads + Sync>(rt: &R, alloc: Global, saved: &Saved, steps: u64) -> R
 fn two_days<R: Threads + Sync>(rt: &R, alloc: Global, saved: &Saved) -> Result<(Saved, Saved)>
     requires { IsSaved saved.now }
     ensures saved { IfOk result (λ r. IsSaved r.0 × IsSaved r.1) }
-    ensures works { IfOk result (λ r. IsWorkedOffLater saved.now r.1) }
+    ensures noon { IfOk result (λ r. IsWorkedOffLater saved.now r.0) }
+    ensures evening { IfOk result (λ r. IsWorkedOffLater r.0 r.1) }
+    ensures both { IfOk result (λ r. IsWorkedOffLater saved.now r.1) }
 {
     let noon = day(rt, alloc, saved, 6)?;
     let evening = day(rt, alloc, &noon, u64::MAX)?;
