@@ -1,5 +1,5 @@
 -- Each job that is given is counted.
-use Rattle.std.proofs.Common.{◌≡◌, ◌≢◌, ℕ, zero, suc, ◌+◌, ◌-◌, ◌<◌, ◌≤◌, Bool, true, false, List, [], ◌∷◌, ◌++◌, length, get_or, set, Option, Some, None, Ok, Err, if◌then◌else◌, nat_lt, refl, sym, ap, subst, ◌∙◌, arith}
+use Rattle.std.proofs.Common.{◌≡◌, ◌≢◌, ℕ, zero, suc, ◌+◌, ◌-◌, ◌<◌, ◌≤◌, Bool, true, false, List, [], ◌∷◌, ◌++◌, length, set, Some, Ok, Err, if◌then◌else◌, nat_lt, refl, sym, ap, subst, ◌∙◌, arith}
 use Rattle.std.specs.List.{All}
 use Rattle.std.proofs.lemmas.Bool.Decides.{nat_tests}
 use Rattle.std.proofs.lemmas.List.{get_or-set_same, get_or-set_other, length-set, length-append}
@@ -7,9 +7,9 @@ use Rattle.std.proofs.lemmas.List.Elements.{All-head, All-tail}
 use Rattle.of_script.specs.declared.instr.Instr.{Instr}
 use Rattle.of_script.specs.declared.instr.Cause.TheVariants.{Overflow, Short}
 use Rattle.of_script.specs.Language.{greatest}
-use Rattle.of_store.specs.Store.{Store, Reply, Answered, ScriptOutcome, run, run_result, register, with_register, with_queue, pop_effect, then_outcome, with_answer_first}
+use Rattle.of_store.specs.Store.{Store, Reply, Answered, run, run_result, register, with_register, with_queue, pop_effect, then_outcome}
 use Rattle.of_memory.specs.History.{HistoryEntry, IsSerial, store_after}
-use Rattle.example_queue.specs.Jobs.{job_script, TakesJob, waiting, job_in, jobs_in, done, CountsJobs, CountsEach}
+use Rattle.example_queue.specs.Jobs.{TakesJob, waiting, job_in, jobs_in, done, CountsJobs, CountsEach}
 use Rattle.example_queue.proofs.Jobs.{counted, popped, front_leaves}
 
 -- the run counts the job that it gives

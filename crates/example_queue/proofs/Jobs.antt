@@ -1,5 +1,5 @@
 -- Scripts that take jobs lose none.
-use Rattle.std.proofs.Common.{◌≡◌, ℕ, ◌+◌, ◌-◌, Bool, true, false, List, [], ◌∷◌, ◌++◌, get_or, set, Option, Some, None, Result, Ok, Err, if◌then◌else◌, nat_lt, refl, sym, ap, subst, ◌∙◌, append_assoc}
+use Rattle.std.proofs.Common.{◌≡◌, ℕ, ◌+◌, ◌-◌, Bool, true, false, List, [], ◌∷◌, ◌++◌, get_or, set, Option, Some, None, Ok, Err, if◌then◌else◌, nat_lt, refl, sym, ap, subst, ◌∙◌, append_assoc}
 use Rattle.std.specs.List.{All}
 use Rattle.std.proofs.lemmas.List.Elements.{All-head, All-tail}
 use Rattle.of_script.specs.declared.instr.Instr.{Instr}
@@ -7,7 +7,7 @@ use Rattle.of_script.specs.declared.instr.Cause.TheVariants.{Overflow, Short}
 use Rattle.of_script.specs.Language.{greatest}
 use Rattle.of_store.specs.Store.{Store, Reply, Answered, ScriptOutcome, run, run_result, register, with_register, with_queue, pop_effect, then_outcome, with_answer_first}
 use Rattle.of_memory.specs.History.{HistoryEntry, IsSerial, store_after}
-use Rattle.example_queue.specs.Jobs.{job_script, TakesJob, waiting, job_in, jobs_in, LosesNoJob}
+use Rattle.example_queue.specs.Jobs.{TakesJob, waiting, job_in, jobs_in, LosesNoJob}
 
 -- the job that a run gives, and those that wait after it
 abbrev jobs_of : Store × Reply → List ℕ

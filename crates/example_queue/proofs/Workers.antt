@@ -1,14 +1,13 @@
 -- What workers leave of a memory.
-use Rattle.std.proofs.Common.{◌≡◌, ℕ, ◌+◌, ◌<◌, ◌≤◌, ◌⊎◌, inl, inr, List, [], ◌∷◌, ◌++◌, length, get_or, Result, Ok, Err, refl, sym, ap, subst, ◌∙◌, arith}
+use Rattle.std.proofs.Common.{◌≡◌, ℕ, ◌<◌, inl, inr, List, [], ◌∷◌, ◌++◌, length, get_or, refl, sym, subst, ◌∙◌, arith}
 use Rattle.std.specs.List.{All}
 use Rattle.std.proofs.lemmas.Bool.{cases_lt}
-use Rattle.of_script.specs.declared.instr.Instr.{Instr}
 use Rattle.of_store.specs.Store.{Store}
 use Rattle.of_memory.specs.declared.memory.Memory.{Memory}
 use Rattle.of_memory.specs.declared.handle.Handle.{Handle}
 use Rattle.of_memory.specs.declared.saved.Saved.{Saved}
-use Rattle.of_memory.specs.History.{HistoryEntry, Made, no_made, no_history_entry, IsSerial, store_after, IsOneOf}
-use Rattle.of_memory.specs.Memories.{StartsWith, HasMadeOf, HasOpenOf, HasNoneOpen, HasHistory, LeadsTo, IsStill, callers_of}
+use Rattle.of_memory.specs.History.{HistoryEntry, Made, no_made, store_after, IsOneOf}
+use Rattle.of_memory.specs.Memories.{HasMadeOf, HasOpenOf, HasNoneOpen, HasHistory, IsStill, callers_of}
 use Rattle.of_memory.specs.Saving.{SavedHolds}
 use Rattle.of_memory.specs.Tasks.{TaskWork, HasWorkedAs, HaveWorked, KnowsRest}
 use Rattle.of_memory.proofs.Joining.{histories_join}

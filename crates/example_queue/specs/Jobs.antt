@@ -1,10 +1,9 @@
 -- Jobs in a queue: the script that takes one, and what its replies give.
-use Rattle.std.specs.Prelude.{◌≡◌, ℕ, ◌+◌, ◌<◌, List, [], ◌∷◌, ◌++◌, length, Option, Some, None}
-use Rattle.std.specs.List.{All}
+use Rattle.std.specs.Prelude.{◌≡◌, ℕ, ◌+◌, ◌<◌, List, [], ◌∷◌, ◌++◌, length, Some, None}
 use Rattle.of_script.specs.declared.instr.Instr.{Instr}
 use Rattle.of_script.specs.declared.instr.Instr.TheVariants.{Add, Sub, Pop}
 use Rattle.of_store.specs.Store.{Store, Reply, Answered, Aborted, queue, register}
-use Rattle.of_memory.specs.History.{HistoryEntry, IsSerial, store_after}
+use Rattle.of_memory.specs.History.{HistoryEntry, store_after}
 
 -- the script that takes the first job, if one waits, and counts it in this register
 abbrev pub job_script : ℕ → List Instr
