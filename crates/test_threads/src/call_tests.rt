@@ -3,7 +3,7 @@
 ghost use Rattle.std.specs.Prelude.{◌≤◌};
 
 use crate::call_threads::run_two;
-use crate::calls::{Act, End, act, alone, call, go_on, renewed};
+use crate::calls::{Act, End, alone, call, go_on, make_act, renewed};
 use crate::doors::{relieved, relieved_beside};
 use of_brake::{Brake, Fuel, Pattern};
 use of_cell::payload_of;
@@ -63,7 +63,7 @@ fn three(alloc: Global, limit: u32, acts: [(Option<u64>, Act); 3]) -> Result<[En
     let mut ends = [End::Unfit; 3];
     for at in 0..3 {
         let (stop, what) = acts[at];
-        ends[at] = act(&row, &mut caller, &mut brake, stop, what);
+        ends[at] = make_act(&row, &mut caller, &mut brake, stop, what);
     }
     Ok(ends)
 }

@@ -159,7 +159,7 @@ pub enum Act {
 }
 
 /// Does that under a brake with so many steps, or without end.
-pub fn act(
+pub fn make_act(
     row: &Row<Scripts>,
     caller: &mut Caller<Scripts>,
     brake: &mut Box<dyn Brake + Send>,

@@ -78,7 +78,8 @@ fn push_pair(
         (holder, teller)
     };
     brakes.push(one)?;
-    partners.push(other)
+    partners.push(other)?;
+    Ok(())
 }
 
 /// What a team of so many pairs of callers leaves, the first with the last, and so on inwards: of
