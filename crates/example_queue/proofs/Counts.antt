@@ -29,11 +29,11 @@ one_of_four P a b c d (suc (suc (suc (suc n)))) lt = absurd (omega (arith, lt))
 
 one_counted : (f g : ℕ → ℕ) (w : ℕ) → w < 4 → f w ≡ g w + 1 → ((i : ℕ) → i ≢ w → i < 15 → f i ≡ g i) → f 0 + f 1 + f 2 + f 3 ≡ g 0 + g 1 + g 2 + g 3 + 1
 one_counted f g w lt = one_of_four (λ (v : ℕ). f v ≡ g v + 1 → ((i : ℕ) → i ≢ v → i < 15 → f i ≡ g i) → f 0 + f 1 + f 2 + f 3 ≡ g 0 + g 1 + g 2 + g 3 + 1)
-  (λ at other. omega (arith, at, other 1 (omega arith) (omega arith), other 2 (omega arith) (omega arith), other 3 (omega arith) (omega arith)))
-  (λ at other. omega (arith, at, other 0 (omega arith) (omega arith), other 2 (omega arith) (omega arith), other 3 (omega arith) (omega arith)))
-  (λ at other. omega (arith, at, other 0 (omega arith) (omega arith), other 1 (omega arith) (omega arith), other 3 (omega arith) (omega arith)))
-  (λ at other. omega (arith, at, other 0 (omega arith) (omega arith), other 1 (omega arith) (omega arith), other 2 (omega arith) (omega arith)))
-  w lt
+    (λ at other. omega (arith, at, other 1 (omega arith) (omega arith), other 2 (omega arith) (omega arith), other 3 (omega arith) (omega arith)))
+    (λ at other. omega (arith, at, other 0 (omega arith) (omega arith), other 2 (omega arith) (omega arith), other 3 (omega arith) (omega arith)))
+    (λ at other. omega (arith, at, other 0 (omega arith) (omega arith), other 1 (omega arith) (omega arith), other 3 (omega arith) (omega arith)))
+    (λ at other. omega (arith, at, other 0 (omega arith) (omega arith), other 1 (omega arith) (omega arith), other 2 (omega arith) (omega arith)))
+    w lt
 
 module _ (s : Store) (c : CountsJobs s) (w : ℕ) (lt : w < 4) where
   abbrev left : ℕ

@@ -76,9 +76,9 @@ worked_off m d queue history s starts =
     let leads = found.1 in
     let all : All (λ (e : HistoryEntry). TakesJob e.script) h =
     λ i e lt.
-        let n = (get_or h i e).caller in
-        let t = queue n (leads.callers i e lt) in
-        entry_takes m n _ t (get_or h i e) (leads.only n t.made t.has i e lt refl) in
+    let n = (get_or h i e).caller in
+    let t = queue n (leads.callers i e lt) in
+    entry_takes m n _ t (get_or h i e) (leads.only n t.made t.has i e lt refl) in
     (h, record { serial = leads.serial; ends = leads.ends; jobs = loses_none s h leads.serial all; counts = counts_each s h leads.serial all })
 
 -- the history of one day and that of the next are one

@@ -30,8 +30,8 @@ abbrev pub jobs_in : List HistoryEntry → List ℕ
 jobs_in [] = []
 jobs_in (e ∷ h) = job_in e.reply ++ jobs_in h
 
--- Of a serial history in which each script takes a job: the jobs that its replies give, in its order,
--- and those that still wait are the jobs that waited at first.
+-- Of a serial history in which each script takes a job: the jobs that its replies give, in its
+-- order, and those that still wait are the jobs that waited at first.
 abbrev pub LosesNoJob : Store → List HistoryEntry → Type 0
 LosesNoJob s h = jobs_in h ++ waiting (store_after s h) ≡ waiting s
 

@@ -1,5 +1,5 @@
-//! Workers take jobs from a queue in a memory, each in a thread of its own. One is stopped in a call,
-//! the memory is closed and opened again, and no job is lost or done twice.
+//! Workers take jobs from a queue in a memory, each in a thread of its own. One is stopped in a
+//! call, the memory is closed and opened again, and no job is lost or done twice.
 #![tactic(auto)]
 
 mod worker;
@@ -31,7 +31,8 @@ fn fill(alloc: Global) -> Result<Saved>
     Ok(memory.close()?)
 }
 
-/// The workers work at once, and then the first one alone: it finishes what a stopped one has begun.
+/// The workers work at once, and then the first one alone: it finishes what a stopped one has
+/// begun.
 fn work<R: Threads + Sync>(rt: &R, mut memory: Memory, workers: &mut Vec<Worker>) -> Result<Saved>
     requires memory { IsMemory memory }
     requires queue { IsForWorkers memory }

@@ -36,7 +36,10 @@ fn script_for(register: u8) -> Script
     Script::new(&[
         Instr::Sub { reg: 15, value: 1 },
         Instr::Pop { queue: 0 },
-        Instr::Add { reg: register, value: 1 },
+        Instr::Add {
+            reg: register,
+            value: 1,
+        },
     ])
 }
 

@@ -37,9 +37,10 @@ pub record HasWorked {J : Type 0} (Does : TaskWork J) (p q : Handle × J) : Type
   pub same : IsSame p.0 q.0
   pub done : Does p.1 p.0 q.1 q.0
 
--- a task has worked with the handle of this number, which knew what the memory knew of it before; the
--- memory knows what the handle knew when it left
-pub record HasWorkedAs {J : Type 0} (Does : TaskWork J) (n : ℕ) (m k : Memory) (x y : J) : Type 0 where
+-- a task has worked with the handle of this number, which knew what the memory knew of it before;
+-- the memory knows what the handle knew when it left
+pub record HasWorkedAs {J : Type 0} (Does : TaskWork J) (n : ℕ) (m k : Memory) (x y : J)
+    : Type 0 where
   pub begun : Handle
   pub number : begun.number ≡ n
   pub from : IsFrom m begun
@@ -50,11 +51,14 @@ pub record HasWorkedAs {J : Type 0} (Does : TaskWork J) (n : ℕ) (m k : Memory)
   pub knows : KnowsHandle k left
 
 -- each task has worked with the handle of the number that is its place
-pub record HaveWorked {J : Type 0} (Does : TaskWork J) (m k : Memory) (xs ys : List J) : Type 0 where
+pub record HaveWorked {J : Type 0} (Does : TaskWork J) (m k : Memory) (xs ys : List J)
+    : Type 0 where
   pub count : length ys ≡ length xs
-  pub each : (n : ℕ) (d : J) → n < length xs → HasWorkedAs Does n m k (get_or xs n d) (get_or ys n d)
+  pub each : (n : ℕ) (d : J) → n < length xs
+      → HasWorkedAs Does n m k (get_or xs n d) (get_or ys n d)
 
--- why no task has worked: there is no memory, or one of the numbers has no caller, or its handle is out
+-- why no task has worked: there is no memory, or one of the numbers has no caller, or its handle is
+-- out
 abbrev pub IsTaskCause : Memory → (count : ℕ) → EnrolErr → Type 0
 IsTaskCause m count (OutOfMemory e) = Unit {0}
 IsTaskCause m count (NoCaller n) = (n ≡ callers_of m) × (n < count)
@@ -62,8 +66,10 @@ IsTaskCause m count (Enrolled n) = (n < count) × (get_or m.callers.items n None
 
 -- ---- how handles are handed out and taken back
 
--- the handle of a pair was handed out for the task at the place of its number; the last ones come first
-pub record IsHandedOut {J : Type 0} (m : Memory) (xs : List J) (i : ℕ) (p : Handle × J) : Type 0 where
+-- the handle of a pair was handed out for the task at the place of its number; the last ones come
+-- first
+pub record IsHandedOut {J : Type 0} (m : Memory) (xs : List J) (i : ℕ) (p : Handle × J)
+    : Type 0 where
   pub place : p.0.number + i + 1 ≡ length xs
   pub task : (d : J) → get_or xs p.0.number d ≡ p.1
   pub handle : IsHandle p.0
@@ -71,7 +77,8 @@ pub record IsHandedOut {J : Type 0} (m : Memory) (xs : List J) (i : ℕ) (p : Ha
   pub was : get_or m.callers.items p.0.number None ≡ Some p.0.caller
 
 -- handles were handed out for the last of these tasks, and the first ones are left
-pub record HasHandedOut {J : Type 0} (m k : Memory) (xs left : List J) (ps : List (Handle × J)) : Type 0 where
+pub record HasHandedOut {J : Type 0} (m k : Memory) (xs left : List J) (ps : List (Handle × J))
+    : Type 0 where
   pub count : length left + length ps ≡ length xs
   pub first : (i : ℕ) (d : J) → i < length left → get_or left i d ≡ get_or xs i d
   pub pairs : (i : ℕ) (d : Handle × J) → i < length ps → IsHandedOut m xs i (get_or ps i d)
@@ -95,8 +102,8 @@ pub record HasLeft {J : Type 0} (k : Memory) (zs : List J) (p : Handle × J) : T
   pub known : get_or k.callers.items p.0.number None ≡ Some p.0.caller
 
 -- each handle from this place on has left, and its task is back behind these
-pub record HasTakenBack {J : Type 0} (m k : Memory) (xs zs : List J) (from : ℕ) (ps : List (Handle × J))
-    : Type 0 where
+pub record HasTakenBack {J : Type 0} (m k : Memory) (xs zs : List J) (from : ℕ)
+    (ps : List (Handle × J)) : Type 0 where
   pub count : length zs + from ≡ length xs + length ps
   pub low : from ≤ length ps
   pub first : (i : ℕ) (d : J) → i < length xs → get_or zs i d ≡ get_or xs i d

@@ -56,9 +56,12 @@ fn work_all<J: Task + Send, R: Threads + Sync>(rt: &R, pairs: &mut [(Handle, J)]
         → HasWorked J.does (slice_index_or pairs.old i d) (slice_index_or pairs.new i d) }
 {
     let threads = pairs.len().max(1);
-    for_each_mut(rt, pairs, threads, &|_, pair: &mut (Handle, J)| {
-        work_with(pair)
-    });
+    for_each_mut(
+        rt,
+        pairs,
+        threads,
+        &|_, pair: &mut (Handle, J)| { work_with(pair) },
+    );
 }
 
 impl Memory {
@@ -67,9 +70,9 @@ impl Memory {
     ghost use Rattle.of_memory.specs.Tasks.{HasHandedOut, MayAllLeave, HasTakenBack};
     ghost use Rattle.of_memory.specs.Tasks.{HaveWorked, KnowsRest, IsTaskCause};
 
-    /// Works at all tasks at once: each with the handle of the number that is its place, in a thread
-    /// of its own where one can be made. Then the handles leave. If one can't be enrolled, no task
-    /// is begun, and no number stays taken.
+    /// Works at all tasks at once: each with the handle of the number that is its place, in a
+    /// thread of its own where one can be made. Then the handles leave. If one can't be enrolled,
+    /// no task is begun, and no number stays taken.
     pub fn at_once<J: Task + Send + Drop, R: Threads + Sync>(
         &mut self,
         rt: &R,
@@ -118,7 +121,8 @@ impl Memory {
         requires room { vec_len tasks.old ≤ vec_capacity pairs.old }
         ensures memory { IsMemory self.new }
         ensures still { IsStill self.old self.new }
-        ensures out { HasHandedOut self.old self.new tasks.old.items tasks.new.items pairs.new.items }
+        ensures out { HasHandedOut self.old self.new
+            tasks.old.items tasks.new.items pairs.new.items }
         ensures all { OnOk result (tasks.new.items ≡ []) }
         ensures room { vec_capacity tasks.old ≤ vec_capacity tasks.new }
         ensures cause { IfErr result (IsTaskCause self.old (length tasks.old.items)) }
@@ -142,7 +146,8 @@ impl Memory {
         requires room { vec_len tasks.old + vec_len pairs ≤ vec_capacity tasks.old }
         ensures memory { IsMemory self.new }
         ensures still { IsStill self.old self.new }
-        ensures back { HasTakenBack self.old self.new tasks.old.items tasks.new.items 0 pairs.items }
+        ensures back { HasTakenBack self.old self.new
+            tasks.old.items tasks.new.items 0 pairs.items }
     {
         while let Some((handle, task)) = pairs.pop() {
             handle.leave(self);
