@@ -23,8 +23,11 @@ pub struct Scripts {
 }
 
 impl Scripts {
+    ghost use Rattle.of_plan.specs.Plan.{IsPlan};
+
     /// Those of a plan.
     pub fn of_plan(plan: &Plan) -> Scripts
+        ensures plan { IsPlan plan.now }
         ensures callers { result.callers ≡ plan.now.callers }
         ensures blocks { result.blocks ≡ plan.now.blocks }
     {

@@ -6,7 +6,7 @@ use Rattle.of_caller.proofs.laws.plan_keeps_laws.Goals as goal
 
 kept : (c : goal.After-machines) → KeepsLaws c.args.plan.now
 kept c =
-    at_plan c.args.plan.now c.callers.result c.blocks-2.result c.limit-limit.result c.callers.ensures.value c.blocks-2.ensures.value c.limit-limit.ensures.value HasTableLaws
+    at_plan c.args.plan.now c.of_plan-scripts.result.callers c.of_plan-scripts.result.blocks c.limit-limit.result c.of_plan-scripts.ensures.callers c.of_plan-scripts.ensures.blocks c.limit-limit.ensures.value HasTableLaws
     (record {
       starts = c.step_kept.ensures.start;
       events = c.every_moment.ensures.kept;
@@ -28,10 +28,10 @@ pub returns-clause-laws : goal.returns-clause-laws
 returns-clause-laws c = kept c
 
 pub returns-clause-moments : goal.returns-clause-moments
-returns-clause-moments c = schedules_are_moments c.args.plan.now c.callers.ensures.plan (kept c)
+returns-clause-moments c = schedules_are_moments c.args.plan.now c.of_plan-scripts.ensures.plan (kept c)
 
 pub returns-clause-starts : goal.returns-clause-starts
-returns-clause-starts c = starts_are_runs c.args.plan.now c.callers.ensures.plan (kept c)
+returns-clause-starts c = starts_are_runs c.args.plan.now c.of_plan-scripts.ensures.plan (kept c)
 
 pub returns-clause-zeros : goal.returns-clause-zeros
-returns-clause-zeros c = zeros_are_empty c.args.plan.now c.callers.ensures.plan
+returns-clause-zeros c = zeros_are_empty c.args.plan.now c.of_plan-scripts.ensures.plan

@@ -7,7 +7,7 @@ use Rattle.of_caller.proofs.Scheduled.{teams_are_scheduled}
 use Rattle.of_caller.proofs.laws.teams_are_lawful.Goals as goal
 
 runs : (c : goal.After-runs_are_schedules) → RunsAreSchedules (IsLawfulFor c.args.plan.now) (plan_setup c.args.plan.now)
-runs c = at_plan c.args.plan.now c.callers.result c.blocks-2.result c.limit-limit.result c.callers.ensures.value c.blocks-2.ensures.value c.limit-limit.ensures.value (λ S L. RunsAreSchedules L S) c.runs_are_schedules.ensures
+runs c = at_plan c.args.plan.now c.of_plan-scripts.result.callers c.of_plan-scripts.result.blocks c.limit-limit.result c.of_plan-scripts.ensures.callers c.of_plan-scripts.ensures.blocks c.limit-limit.ensures.value (λ S L. RunsAreSchedules L S) c.runs_are_schedules.ensures
 
 pub returns-clause-lawful : goal.returns-clause-lawful
 returns-clause-lawful c = teams_are_lawful c.args.plan.now c.plan_keeps_laws.ensures.laws (runs c)

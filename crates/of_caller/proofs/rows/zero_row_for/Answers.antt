@@ -10,6 +10,6 @@ returns-clause-start c =
       callers = sizes.0 ∙ c.shape.ensures.callers;
       cells = sizes.1 ∙ c.shape.ensures.cells;
       limit = sizes.2 ∙ c.limit.ensures.value;
-      work_callers = ap (λ w. w.callers) sizes.3 ∙ c.callers.ensures.value;
-      work_blocks = ap (λ w. w.blocks) sizes.3 ∙ c.blocks-2.ensures.value;
+      work_callers = ap (λ w. w.callers) sizes.3 ∙ c.of_plan-scripts.ensures.callers;
+      work_blocks = ap (λ w. w.blocks) sizes.3 ∙ c.of_plan-scripts.ensures.blocks;
     }) c.in_ok-row.ensures.start)

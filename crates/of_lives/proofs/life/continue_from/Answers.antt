@@ -13,7 +13,7 @@ pub start-requires-clause-row : goal.start-requires-clause-row
 start-requires-clause-row g c κs =
     let p = c.args.plan.now in
     let begins = image_begins (image_value c.args.image.now) p c.requires.image c.requires.fits in
-    row_at p c.deref.result.now c.shape.result.callers c.shape.result.cells c.limit.result c.callers.result c.blocks-2.result c.shape.ensures.callers c.shape.ensures.cells c.limit.ensures.value c.callers.ensures.value c.blocks-2.ensures.value
+    row_at p c.deref.result.now c.shape.result.callers c.shape.result.cells c.limit.result c.of_plan-work.result.callers c.of_plan-work.result.blocks c.shape.ensures.callers c.shape.ensures.cells c.limit.ensures.value c.of_plan-work.ensures.callers c.of_plan-work.ensures.blocks
     (subst (IsStartRow (plan_setup p) (IsLawfulFor p)) (sym c.deref.ensures.value) begins.row)
 
 pub team-requires-clause-start : goal.team-requires-clause-start

@@ -47,8 +47,8 @@ module _ (c : goal.After-deref) where
   restarts : RestartsAt c.args.plan.now.callers c.args.plan.now.blocks c.args.plan.now.limit
   restarts =
       subst (λ (k : ℕ). RestartsAt c.args.plan.now.callers c.args.plan.now.blocks k) c.limit.ensures.value
-      (subst (λ (k : ℕ). RestartsAt c.args.plan.now.callers k c.limit.result) c.blocks-2.ensures.value
-      (subst (λ (k : ℕ). RestartsAt k c.blocks-2.result c.limit.result) c.callers.ensures.value c.starts.ensures.restarts))
+      (subst (λ (k : ℕ). RestartsAt c.args.plan.now.callers k c.limit.result) c.of_plan-scripts.ensures.blocks
+      (subst (λ (k : ℕ). RestartsAt k c.of_plan-scripts.result.blocks c.limit.result) c.of_plan-scripts.ensures.callers c.starts.ensures.restarts))
 
 pub image_print-requires-clause-size : goal.image_print-requires-clause-size
 image_print-requires-clause-size c =

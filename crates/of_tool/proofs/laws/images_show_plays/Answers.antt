@@ -23,6 +23,6 @@ returns c =
     let play = playable p c.plan_keeps_laws.ensures.plan c.plan_keeps_laws.ensures.laws c.plan_keeps_laws.ensures.moments c.plan_keeps_laws.ensures.zeros in
     let restarts : RestartsAt p.callers p.blocks p.limit =
     subst (λ (k : ℕ). RestartsAt p.callers p.blocks k) c.limit.ensures.value
-    (subst (λ (k : ℕ). RestartsAt p.callers k c.limit.result) c.blocks-2.ensures.value
-    (subst (λ (k : ℕ). RestartsAt k c.blocks-2.result c.limit.result) c.callers.ensures.value c.starts.ensures.restarts)) in
+    (subst (λ (k : ℕ). RestartsAt p.callers k c.limit.result) c.of_plan-scripts.ensures.blocks
+    (subst (λ (k : ℕ). RestartsAt k c.of_plan-scripts.result.blocks c.limit.result) c.of_plan-scripts.ensures.callers c.starts.ensures.restarts)) in
     shows_each p play restarts c.records_have_images.ensures c.lives_restart.ensures c.one_image.ensures

@@ -36,8 +36,8 @@ pub returns-clause-stands : goal.returns-clause-stands
 returns-clause-stands c =
     let p = c.args.plan.now in
     let b = c.in_ok-bank in
-    let many = c.callers.ensures.value in
-    let room = c.blocks-2.ensures.value in
+    let many = c.of_plan-scripts.ensures.callers in
+    let room = c.of_plan-scripts.ensures.blocks in
     let callers : b.bank.callers ≡ p.callers = b.ensures.callers ∙ c.shape.ensures.callers in
     let cells : b.bank.cells ≡ data_cells p.callers p.blocks = b.ensures.cells ∙ c.shape.ensures.cells in
     let limit : b.bank.limit ≡ p.limit = b.ensures.limit ∙ c.limit.ensures.value in
