@@ -1,81 +1,31 @@
 //! Hands add to one sum in threads of their own; one of them is stopped in a call.
 #![tactic(auto)]
 
-ghost use Rattle.std.specs.Prelude.{◌≡◌, IfOk};
-ghost use Rattle.std.specs.Thread.{IsSync};
-ghost use Rattle.of_memory.specs.Handles.{IsHandle, home_of};
-ghost use Rattle.of_memory.specs.Memories.{IsMemory};
 ghost use Rattle.of_memory.specs.Saving.{IsSaved};
 
 use anyhow::Result;
-use of_memory::{GREATEST_LIMIT, Handle, Memory, Saved, Script, parse};
+use of_memory::{GREATEST_LIMIT, Handle, Memory, Saved, Script, Task, parse};
 use std::alloc::Global;
-use std::thread::{Threads, join};
 
-/// Adds to its own register and to the sum, for at most so many steps.
-fn add(mut hand: Handle, script: &Script, steps: u64) -> Handle
-    requires { IsHandle hand }
-    ensures hand { IsHandle result }
-    ensures home { home_of result ≡ home_of hand }
-{
-    let _answer = hand.run_within(script, steps);
-    hand
+/// Adds to a register of its own and to the sum, by a call of at most so many steps.
+#[derive(Drop)]
+struct Hand {
+    script: Script,
+    steps: u64,
 }
 
-/// Two hands at once. The second is stopped after six steps.
-fn both<R: Threads + Sync>(
-    rt: &R,
-    one: &Script,
-    other: &Script,
-    a: Handle,
-    b: Handle,
-) -> (Handle, Handle)
-    requires a { IsHandle a }
-    requires b { IsHandle b }
-    ensures a { IsHandle result.0 × (home_of result.0 ≡ home_of a) }
-    ensures b { IsHandle result.1 × (home_of result.1 ≡ home_of b) }
-{
-    join(
-        rt,
-        || -> Handle
-            requires { IsHandle a }
-            ensures { IsHandle result × (home_of result ≡ home_of a) }
-        { add(a, one, 1_000_000) },
-        || -> Handle
-            requires { IsHandle b }
-            ensures { IsHandle result × (home_of result ≡ home_of b) }
-        { add(b, other, 6) },
-    )
+impl Task for Hand {
+    fn work(&mut self, handle: &mut Handle) {
+        let _answer = handle.run_within(&self.script, self.steps);
+    }
 }
 
-/// Both add to the memory's sum, the first of them twice, and it is closed.
-fn first_day<R: Threads + Sync>(
-    rt: &R,
-    one: &Script,
-    other: &Script,
-    mut memory: Memory,
-) -> Result<Saved>
-    requires { IsMemory memory }
-    ensures { IfOk result IsSaved }
-{
-    let a = memory.enrol(0)?;
-    let b = memory.enrol(1)?;
-    let (a, b) = both(rt, one, other, a, b);
-    let a = add(a, one, 1_000_000);
-    a.leave(&mut memory);
-    b.leave(&mut memory);
-    Ok(memory.close()?)
-}
-
-/// The stopped hand adds again.
-fn second_day(script: &Script, mut memory: Memory) -> Result<Saved>
-    requires { IsMemory memory }
-    ensures { IfOk result IsSaved }
-{
-    let mut hand = memory.enrol(1)?;
-    hand.run(script)?;
-    hand.leave(&mut memory);
-    Ok(memory.close()?)
+fn new_hand(alloc: Global, number: u32, steps: u64) -> Result<Hand> {
+    let text = format!(in alloc; "add {number} 5; add 15 5")?;
+    Ok(Hand {
+        script: parse(text.as_bytes())?,
+        steps,
+    })
 }
 
 fn show(rt: &impl Print, alloc: Global, saved: &Saved) -> Result<()>
@@ -93,15 +43,24 @@ fn show(rt: &impl Print, alloc: Global, saved: &Saved) -> Result<()>
 
 fn main(rt: HostRuntime) -> Result<()> {
     let alloc: Global = rt.alloc();
-    let one = parse(b"add 0 5; add 15 5")?;
-    let other = parse(b"add 1 5; add 15 5")?;
-    let saved = first_day(
-        &rt,
-        &one,
-        &other,
-        Memory::open(alloc, 2, 8, GREATEST_LIMIT)?,
-    )?;
+    let mut hands = Vec::new(alloc);
+    for number in 0..4 {
+        // The third hand is stopped.
+        let steps = if number == 2 { 6 } else { u64::MAX };
+        hands.push(new_hand(alloc, number, steps)?)?;
+    }
+    let mut memory = Memory::open(alloc, 4, 8, GREATEST_LIMIT)?;
+    memory.at_once(&rt, &mut hands)?;
+    // The first hand adds again, and finishes the call that was stopped.
+    hands.truncate(1);
+    memory.at_once(&rt, &mut hands)?;
+    let saved = memory.close()?;
     show(&rt, alloc, &saved)?;
-    let saved = second_day(&other, Memory::reopen(alloc, &saved)?)?;
+
+    let mut memory = Memory::reopen(alloc, &saved)?;
+    let mut third = memory.enrol(2)?;
+    third.run(&new_hand(alloc, 2, u64::MAX)?.script)?;
+    third.leave(&mut memory);
+    let saved = memory.close()?;
     show(&rt, alloc, &saved)
 }

@@ -10,6 +10,7 @@ use Rattle.of_mem.specs.declared.work.RawReply.{RawReply}
 use Rattle.of_script.specs.declared.instr.Instr.{Instr}
 use Rattle.of_script.specs.declared.instr.TheConstants.{MOST_INSTRS}
 use Rattle.of_script.specs.Language.{IsScript, instr_word}
+use Rattle.of_script.proofs.WordLaws.{words_injective}
 use Rattle.of_store.specs.Replies.{reply_value_of}
 use Rattle.of_eval.specs.declared.scripts.Scripts.{Scripts}
 use Rattle.of_eval.specs.Scripts.{scripts_meaning}
@@ -46,7 +47,7 @@ use Rattle.of_memory.specs.Serving.{IsScriptsRow, Serves}
 use Rattle.of_memory.specs.declared.error.RunErr.{RunErr}
 use Rattle.of_memory.specs.declared.error.RunErr.TheVariants.{OutOfMemory, Stopped as Halted, Spent as RanOut, Open, NoTicket}
 use Rattle.of_memory.specs.declared.handle.Handle.{Handle}
-use Rattle.of_memory.specs.Called.{WasTried, LeavesAsItWas}
+use Rattle.of_memory.specs.Called.{WasTried, LeavesAsItWas, CallerOpensOnly, CallerOpensNone}
 use Rattle.of_memory.specs.Within.{KeepsToTold}
 use Rattle.of_memory.specs.Handles.{RefusesCall, RefusesToGoOn}
 use Rattle.of_memory.proofs.Plans.{plan_of, is_plan}
@@ -282,3 +283,14 @@ as_it_was f (Err (Halted asked)) x y h = tt
 as_it_was f (Err (RanOut seq)) x y h = tt
 as_it_was f (Err Open) x y h = ap f h
 as_it_was f (Err NoTicket) x y h = ap f h
+
+-- ---- what is open after a call
+
+pub opens_only : (script : List Instr) (c d : Caller Scripts) → IsScript script → (caller_call d).op ≡ map instr_word script → CallerOpensOnly script c d
+opens_only script c d is words s opened = inl (words_injective s script opened.is.in_range is.in_range (sym opened.words ∙ words))
+
+pub opens_none : (c d : Caller Scripts) → IsOpen (caller_call c).place → (caller_call d).op ≡ (caller_call c).op → CallerOpensNone c d
+opens_none c d is_open same s opened = record { open_call = is_open; is = opened.is; words = sym same ∙ opened.words }
+
+pub only_same : (script : List Instr) (c : Caller Scripts) → CallerOpensOnly script c c
+only_same script c s opened = inr opened

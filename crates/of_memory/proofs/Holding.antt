@@ -1,5 +1,5 @@
 -- What a memory knows of its callers, and the history that its close leaves.
-use Rattle.std.proofs.Common.{◌≡◌, ℕ, ◌<◌, inl, inr, List, [], ◌∷◌, length, get_or, set, Option, Some, None, Result, Ok, Err, IfOk, sym, ap, subst, ◌∙◌, arith}
+use Rattle.std.proofs.Common.{◌≡◌, ℕ, ◌<◌, inl, inr, true≢false, List, [], ◌∷◌, length, get_or, set, Option, Some, None, Result, Ok, Err, IfOk, sym, ap, subst, ◌∙◌, arith}
 use Rattle.std.specs.List.{All}
 use Rattle.std.proofs.lemmas.Bool.{cases_lt}
 use Rattle.std.proofs.lemmas.List.{get_or-set_same, get_or-set_other, get_or_past}
@@ -8,7 +8,8 @@ use Rattle.of_store.specs.Store.{Store}
 use Rattle.of_eval.specs.declared.scripts.Scripts.{Scripts}
 use Rattle.of_eval.specs.Scripts.{scripts_data_cells}
 use Rattle.of_core.specs.Table.{Setup}
-use Rattle.of_core.specs.Machine.{CallState, IsOpen}
+use Rattle.of_core.specs.Machine.{CallState, IsOpen, is_idle}
+use Rattle.of_core.specs.Turn.{IsIdle}
 use Rattle.of_core.specs.TableMoment.{TableStart}
 use Rattle.of_core.specs.Starts.{start_from_durable}
 use Rattle.of_row.specs.declared.row.Row.{Row}
@@ -18,14 +19,16 @@ use Rattle.of_row.specs.Views.{EndedCall, KnownCaller, View, Each}
 use Rattle.of_caller.specs.declared.caller.Caller.{Caller}
 use Rattle.of_caller.specs.Callers.{caller_call}
 use Rattle.of_memory.specs.declared.memory.Memory.{Memory}
+use Rattle.of_memory.specs.declared.handle.Handle.{Handle}
 use Rattle.of_memory.specs.declared.saved.Saved.{Saved}
 use Rattle.of_memory.specs.History.{HistoryEntry, Made, store_after, ExplainsAll, IsOneOf, HasOnly, IsUpTo}
 use Rattle.of_memory.specs.Calls.{AreMade, RunsScripts}
 use Rattle.of_memory.specs.Called.{IsOpenAt}
 use Rattle.of_memory.specs.Laws.{setup_with, StandsAt, KeepsSo, ExplainsKept, HasOpenScript, HasOnlyKept, TellsLast, HistoryLeads}
 use Rattle.of_caller.specs.PlanRows.{start_of_row}
-use Rattle.of_memory.specs.Serving.{Serves, AllHere, IsKeptOf, KeepsThose, ended_of}
-use Rattle.of_memory.specs.Memories.{IsMemory, HasMadeOf, HasOpenOf, KnowsOthers, OthersStayOpen, HasHistory, row_of, callers_of}
+use Rattle.of_memory.specs.Serving.{Serves, IsNew, AllStand, AllHere, IsKeptOf, KeepsThose, ended_of}
+use Rattle.of_memory.specs.Handles.{IsHandle}
+use Rattle.of_memory.specs.Memories.{IsMemory, IsFrom, HasMadeOf, HasOpenOf, HasNoneOpen, KnowsOthers, OthersStayOpen, HasHistory, row_of, callers_of}
 use Rattle.of_memory.proofs.Seats.{number_below, keeps_as, same_caller}
 
 -- ---- a caller is taken out of its place, or put into it
@@ -57,6 +60,9 @@ same_open m i c script here h = subst (IsOpenAt script) (same_caller h.caller c 
 pub low_number : (m : Memory) (i : ℕ) (c : Caller Scripts) → IsMemory m → Serves (row_of m) i c → i < length m.callers.items
 low_number m i c h s = let low = number_below (row_of m) i c s in omega (arith, low, h.each)
 
+pub low_handle : (m : Memory) (h : Handle) → IsMemory m → IsHandle h → IsFrom m h → h.number < length m.callers.items
+low_handle m h is handle from = low_number m h.number h.caller is (subst (λ (r : Row Scripts). Serves r h.number h.caller) from handle.serves)
+
 pub made_here : (k : Memory) (cs : List (Option (Caller Scripts))) (i : ℕ) (c : Caller Scripts) → k.callers.items ≡ set cs i (Some c) → i < length cs → (ms : List Made) → AreMade (ended_of c) ms → HasMadeOf k i ms
 made_here k cs i c is lt ms made = record {
   caller = c;
@@ -75,6 +81,15 @@ is_within cs n c here = elim (cases_lt n (length cs)) [
   | inl low ↦ low
   | inr high ↦ let none : get_or cs n None ≡ None = get_or_past cs n None high in absurd (cc (none, here))
 ]
+
+-- callers that are new have no open call
+pub none_open : (m : Memory) (r : Row Scripts) (k : ℕ) → length m.callers.items ≡ k → AllStand (IsNew r) k m.callers.items → HasNoneOpen m
+none_open m r k long all n script h =
+    let low = is_within m.callers.items n h.caller h.here in
+    let one = all n (omega (arith, low, long)) in
+    let same : one.0 ≡ h.caller = same_caller one.0 h.caller (get_or m.callers.items n None) one.1 h.here in
+    let idle : IsIdle (caller_call h.caller) = subst (λ (x : Caller Scripts). IsIdle (caller_call x)) same one.2.idle in
+    absurd (true≢false (sym (ap is_idle idle) ∙ h.opened.open_call))
 
 from_kept : (S : Setup) (B : TableStart) (h : List HistoryEntry) (n : ℕ) (c : Caller Scripts) (xs : List KnownCaller) → KeepsSo n (IsKeptOf c) xs → Each (ExplainsKept S B h) xs → (ms : List Made) → AreMade (ended_of c) ms → ExplainsAll h n (done_before S B n) ms
 from_kept S B h n c [] k all ms made = absurd k

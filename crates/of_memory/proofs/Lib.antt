@@ -8,3 +8,5 @@ pub mod Closing
 pub mod Holding
 pub mod Reading
 pub mod Joining
+pub mod Handing
+pub mod Still

@@ -68,6 +68,7 @@ new_caller r n before member now c e is same rest = record {
     begun = λ is_open. absurd (true≢false (sym (ap is_idle rest) ∙ is_open));
   };
   none = ap (λ (x : KnownCaller). x.ended) kept;
+  idle = rest;
 }
   where
     kept : last_caller (sight_of c).kept ≡ new_known_caller (setup_at scripts_meaning r) (row_start scripts_meaning r) n (seen_seq (row_start scripts_meaning r) before.seat.me.0.seen)

@@ -1,5 +1,5 @@
 -- What a call of a script comes to.
-use Rattle.std.specs.Prelude.{◌≡◌, List, [], ◌∷◌, ◌++◌, map, Result, Ok, Err}
+use Rattle.std.specs.Prelude.{◌≡◌, List, [], ◌∷◌, ◌++◌, map, Result, Ok, Err, ◌+◌, ◌<◌, ◌⊎◌}
 use Rattle.of_script.specs.declared.instr.Instr.{Instr}
 use Rattle.of_script.specs.Language.{IsScript, instr_word}
 use Rattle.of_store.specs.Replies.{reply_value_of}
@@ -61,6 +61,14 @@ abbrev pub LeavesOpenCall : Result Answer RunErr → (before now : Caller Script
 LeavesOpenCall result c d =
     (script : List Instr) → IsScript script
     → (caller_call c).op ≡ map instr_word script → LeavesOpen script result d
+
+-- a call that is open now is one of this script, or was open before
+abbrev pub CallerOpensOnly : List Instr → (before now : Caller Scripts) → Type 0
+CallerOpensOnly script c d = (s : List Instr) → IsOpenAt s d → (s ≡ script) ⊎ IsOpenAt s c
+
+-- a call that is open now was open before
+abbrev pub CallerOpensNone : (before now : Caller Scripts) → Type 0
+CallerOpensNone c d = (s : List Instr) → IsOpenAt s d → IsOpenAt s c
 
 -- the call was begun, unless there was no memory
 abbrev pub WasTried : Result Answer RunErr → Type 0

@@ -12,7 +12,7 @@ use Rattle.of_memory.specs.declared.error.RunErr.TheVariants.{OutOfMemory, Stopp
 use Rattle.of_memory.specs.declared.handle.Handle.{Handle}
 use Rattle.of_memory.specs.History.{Made}
 use Rattle.of_memory.specs.Calls.{AreMade}
-use Rattle.of_memory.specs.Called.{IsOpenAt, IsInCall, LeavesOpen, made_with}
+use Rattle.of_memory.specs.Called.{IsOpenAt, IsInCall, LeavesOpen, made_with, CallerOpensOnly, CallerOpensNone}
 use Rattle.of_memory.specs.Serving.{IsScriptsRow, Serves, ended_of, row_step_bound}
 
 -- the memory that it is a handle of
@@ -76,6 +76,14 @@ step_bound_of h = row_step_bound (home_of h)
 -- its number has made all calls that it may make
 abbrev pub HasNoTicketLeft : Handle → Type 0
 HasNoTicketLeft h = calls_begun_by (caller_of h) + 1 < 4294967296 → ⊥
+
+-- a call that is open now is one of this script, or was open before
+abbrev pub OpensOnly : List Instr → (before now : Handle) → Type 0
+OpensOnly script h k = CallerOpensOnly script (caller_of h) (caller_of k)
+
+-- a call that is open now was open before
+abbrev pub OpensNone : (before now : Handle) → Type 0
+OpensNone h k = CallerOpensNone (caller_of h) (caller_of k)
 
 -- it refuses a call only if one is open, or its number has made all calls that it may make
 abbrev pub RefusesCall : Handle → Result Answer RunErr → Type 0

@@ -7,4 +7,5 @@ pub mod Within
 pub mod Saving
 pub mod Handles
 pub mod Memories
+pub mod Tasks
 pub mod Joining

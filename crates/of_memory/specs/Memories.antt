@@ -1,5 +1,5 @@
 -- A memory that a program has opened, and what its close leaves.
-use Rattle.std.specs.Prelude.{◌≡◌, ◌≢◌, ℕ, ◌<◌, ◌≤◌, ◌⊎◌, List, Some, None, length}
+use Rattle.std.specs.Prelude.{◌≡◌, ◌≢◌, ℕ, ◌<◌, ◌≤◌, ◌⊎◌, List, Some, None, length, slice_set}
 use Rattle.std.proofs.Common.{get_or}
 use Rattle.std.specs.Arc.{arc_value}
 use Rattle.std.specs.List.{All}
@@ -26,7 +26,7 @@ use Rattle.of_memory.specs.Called.{IsOpenAt}
 use Rattle.of_memory.specs.Laws.{StandsAt}
 use Rattle.of_memory.specs.Serving.{IsScriptsRow, ServeAll, AllHere, ended_of, made_before}
 use Rattle.of_memory.specs.Saving.{SavedHolds, HoldsReply, saved_ticket}
-use Rattle.of_memory.specs.Handles.{home_of}
+use Rattle.of_memory.specs.Handles.{home_of, number_of_handle, caller_of}
 
 abbrev pub row_of : Memory → Row Scripts
 row_of m = arc_value m.row
@@ -83,6 +83,27 @@ KnowsOthers n m k = (i : ℕ) (ms : List Made) → i ≢ n → HasMadeOf m i ms 
 abbrev pub OthersStayOpen : ℕ → (before now : Memory) → Type 0
 OthersStayOpen n m k =
     (i : ℕ) (script : List Instr) → i ≢ n → HasOpenOf m i script → HasOpenOf k i script
+
+-- no call is open
+abbrev pub HasNoneOpen : Memory → Type 0
+HasNoneOpen m = (n : ℕ) (script : List Instr) → HasOpenOf m n script → ⊥
+
+-- the handle's caller was in the memory, and is taken out of it
+pub record TakesOut (m k : Memory) (h : Handle) : Type 0 where
+  pub was : get_or m.callers.items (number_of_handle h) None ≡ Some (caller_of h)
+  pub now : k.callers.items ≡ slice_set m.callers.items (number_of_handle h) None
+
+-- no caller is taken out
+abbrev pub TakesNone : (before now : Memory) → Type 0
+TakesNone m k = k.callers.items ≡ m.callers.items
+
+-- the caller of this number is put into the memory
+abbrev pub PutsCaller : ℕ → Caller Scripts → (before now : Memory) → Type 0
+PutsCaller n c m k = k.callers.items ≡ slice_set m.callers.items n (Some c)
+
+-- the handle's caller is put back
+abbrev pub PutsBack : (before now : Memory) → Handle → Type 0
+PutsBack m k h = PutsCaller (number_of_handle h) (caller_of h) m k
 
 -- What is saved of the last call of caller n: there was none since the memory was opened, or it is
 -- one of the history, with its reply.

@@ -7,6 +7,7 @@ use Rattle.of_eval.specs.declared.scripts.Scripts.{Scripts}
 use Rattle.of_eval.specs.Scripts.{scripts_data_cells, scripts_meaning}
 use Rattle.of_core.specs.Machine.{IsOpen}
 use Rattle.of_core.specs.Bound.{bound}
+use Rattle.of_core.specs.Turn.{IsIdle}
 use Rattle.of_row.specs.declared.row.Row.{Row}
 use Rattle.of_row.specs.declared.member.Pass.{Pass}
 use Rattle.of_row.specs.Rows.{key_of, setup_at, view_of_pass, IsRowPass, IsFirstPass}
@@ -53,6 +54,7 @@ pub record Serves (r : Row Scripts) (n : ℕ) (c : Caller Scripts) : Type 0 wher
 pub record IsNew (r : Row Scripts) (n : ℕ) (c : Caller Scripts) : Type 0 where
   pub serves : Serves r n c
   pub none : ended_of c ≡ []
+  pub idle : IsIdle (caller_call c)
 
 -- the row's first pass, which has asked for numbers below the next one alone
 pub record Enrols (r : Row Scripts) (next : ℕ) (p : Pass) : Type 0 where

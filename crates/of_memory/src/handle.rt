@@ -31,7 +31,8 @@ impl Handle {
     ghost use Rattle.of_memory.specs.Handles.{step_bound_of};
     ghost use Rattle.of_memory.specs.Within.{EndsWithin, IsNeverStopped, KeepsWithin, KeepsToStop};
     ghost use Rattle.of_memory.specs.Memories.{IsMemory, IsFrom, IsStill, HasMadeOf, KnowsOthers};
-    ghost use Rattle.of_memory.specs.Memories.{HasOpenOf, OthersStayOpen};
+    ghost use Rattle.of_memory.specs.Memories.{HasOpenOf, OthersStayOpen, PutsBack};
+    ghost use Rattle.of_memory.specs.Handles.{OpensOnly, OpensNone};
 
     /// Its number.
     pub fn number(&self) -> u32
@@ -51,6 +52,7 @@ impl Handle {
         ensures unmade { LeavesAsItWas result self.old self.new }
         ensures bound { EndsWithin (step_bound_of self.old) result }
         ensures stopped { IsNeverStopped result }
+        ensures only { OpensOnly script.now self.old self.new }
     {
         self.begin(script, None)
     }
@@ -66,6 +68,7 @@ impl Handle {
         ensures unmade { LeavesAsItWas result self.old self.new }
         ensures bound { EndsWithin (step_bound_of self.old) result }
         ensures within { KeepsWithin 0 steps (steps_so_far self.new) result }
+        ensures only { OpensOnly script.now self.old self.new }
     {
         self.begin(script, Some(steps))
     }
@@ -80,6 +83,7 @@ impl Handle {
         ensures unmade { LeavesAsItWas result self.old self.new }
         ensures bound { EndsWithin (step_bound_of self.old) result }
         ensures stop { KeepsToStop 0 stop (steps_so_far self.new) result }
+        ensures only { OpensOnly script.now self.old self.new }
     {
         if !self.caller.is_idle() {
             return Err(RunErr::Open);
@@ -108,6 +112,7 @@ impl Handle {
         ensures unmade { LeavesAsItWas result self.old self.new }
         ensures bound { EndsWithin (step_bound_of self.old) result }
         ensures stopped { IsNeverStopped result }
+        ensures only { OpensNone self.old self.new }
     {
         self.resume(None)
     }
@@ -124,6 +129,7 @@ impl Handle {
         ensures bound { EndsWithin (step_bound_of self.old) result }
         ensures within { KeepsWithin (steps_so_far self.old) steps
             (steps_so_far self.new) result }
+        ensures only { OpensNone self.old self.new }
     {
         self.resume(Some(steps))
     }
@@ -139,6 +145,7 @@ impl Handle {
         ensures bound { EndsWithin (step_bound_of self.old) result }
         ensures stop { KeepsToStop (steps_so_far self.old) stop
             (steps_so_far self.new) result }
+        ensures only { OpensNone self.old self.new }
     {
         if self.caller.is_idle() {
             return Err(RunErr::Open);
@@ -160,6 +167,7 @@ impl Handle {
             → HasOpenOf memory.new (number_of_handle self) script }
         ensures others { KnowsOthers (number_of_handle self) memory.old memory.new }
         ensures others_open { OthersStayOpen (number_of_handle self) memory.old memory.new }
+        ensures back { PutsBack memory.old memory.new self }
     {
         let Handle {
             alloc: _,

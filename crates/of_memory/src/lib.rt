@@ -2,6 +2,7 @@
 //! opened again.
 #![tactic(auto)]
 
+mod at_once;
 mod calling;
 mod error;
 mod handle;
@@ -10,6 +11,7 @@ mod memory;
 mod saved;
 mod seating;
 
+pub use at_once::Task;
 pub use error::{EnrolErr, InUse, OpenErr, RunErr};
 pub use handle::Handle;
 pub use memory::Memory;

@@ -23,7 +23,7 @@ pub struct Memory {
 }
 
 impl Memory {
-    ghost use Rattle.std.specs.Prelude.{◌≡◌, ◌<◌, ◌≤◌, ℕ, List, [], IfOk, IfErr};
+    ghost use Rattle.std.specs.Prelude.{◌≡◌, ◌<◌, ◌≤◌, ℕ, List, [], IfOk, IfErr, OnErr};
     ghost use Rattle.of_store.specs.Store.{Store, empty_store};
     ghost use Rattle.of_row.specs.Rows.{key_of};
     ghost use Rattle.of_row.specs.Passes.{IsFirst};
@@ -38,6 +38,7 @@ impl Memory {
     ghost use Rattle.of_memory.specs.Memories.{IsOpenCause, IsEnrolCause, HasOpenOf};
     ghost use Rattle.of_memory.specs.Memories.{OthersStayOpen};
     ghost use Rattle.of_memory.specs.Memories.{HasNoHandleOut};
+    ghost use Rattle.of_memory.specs.Memories.{HasNoneOpen, TakesOut, TakesNone, PutsCaller};
     ghost use Rattle.of_script.specs.declared.instr.Instr.{Instr as TheInstr};
     ghost use Rattle.of_memory.specs.Called.{IsOpenAt};
 
@@ -51,6 +52,7 @@ impl Memory {
             (n : ℕ) → n < callers → tickets_before m n ≡ 0) }
         ensures none { IfOk result (λ m. (n : ℕ) → n < callers → HasMadeOf m n []) }
         ensures cause { IfErr result (IsOpenCause callers blocks limit) }
+        ensures idle { IfOk result HasNoneOpen }
     {
         if callers == 0 || callers > MOST_CALLERS {
             return Err(OpenErr::Callers { callers });
@@ -77,6 +79,7 @@ impl Memory {
         ensures tickets { IfOk result (λ m.
             (n : ℕ) → n < scripts.callers → tickets_before m n ≡ 0) }
         ensures none { IfOk result (λ m. (n : ℕ) → n < scripts.callers → HasMadeOf m n []) }
+        ensures idle { IfOk result HasNoneOpen }
     {
         let (row, pass) = Row::new(alloc, shape_of(scripts), limit, scripts)?;
         let memory = Memory::over(alloc, row, pass)?;
@@ -93,6 +96,7 @@ impl Memory {
             → tickets_before m n ≡ saved_ticket saved.now n) }
         ensures none { IfOk result (λ m.
             (n : ℕ) → n < saved_callers saved.now → HasMadeOf m n []) }
+        ensures idle { IfOk result HasNoneOpen }
     {
         let shape = shape_of(saved.scripts);
         let (row, pass) = Row::start(alloc, shape, saved.limit, saved.scripts, &saved.row)?;
@@ -106,6 +110,7 @@ impl Memory {
         ensures memory { IfOk result IsMemory }
         ensures row { IfOk result (λ m. row_of m ≡ row) }
         ensures none { IfOk result (λ m. (n : ℕ) → n < (key_of row).callers → HasMadeOf m n []) }
+        ensures idle { IfOk result HasNoneOpen }
     {
         let (callers, pass) = seat_all(alloc, &row, pass)?;
         let row = Arc::new(alloc, row)?;
@@ -139,6 +144,8 @@ impl Memory {
         ensures others { KnowsOthers number self.old self.new }
         ensures others_open { OthersStayOpen number self.old self.new }
         ensures cause { IfErr result (IsEnrolCause self.old number) }
+        ensures taken { IfOk result (TakesOut self.old self.new) }
+        ensures refused { OnErr result (TakesNone self.old self.new) }
     {
         if number >= self.callers() {
             return Err(EnrolErr::NoCaller { number });
@@ -169,6 +176,7 @@ impl Memory {
             → HasOpenOf self.new number script }
         ensures others { KnowsOthers number self.old self.new }
         ensures others_open { OthersStayOpen number self.old self.new }
+        ensures back { PutsCaller number caller self.old self.new }
     {
         put_at(&mut self.callers, number as usize, caller);
     }
@@ -216,5 +224,10 @@ impl Memory {
                 callers,
             })),
         }
+    }
+
+    // Where it takes its memory from.
+    pub(crate) fn alloc(&self) -> Global {
+        self.alloc
     }
 }

@@ -1,5 +1,5 @@
 use Rattle.std.proofs.Common.{◌∙◌, ap, refl, Err}
-use Rattle.of_memory.proofs.Called.{words_are, held_of, serves_on, made_answered, made_spent, keeps_answered, keeps_stopped, keeps_over, none_open, answers_within, stops_within}
+use Rattle.of_memory.proofs.Called.{words_are, held_of, serves_on, made_answered, made_spent, keeps_answered, keeps_stopped, keeps_over, none_open, answers_within, stops_within, opens_only}
 use Rattle.of_memory.proofs.calling.call_counted.Goals as goal
 
 pub answer_of-requires : goal.answer_of-requires
@@ -60,3 +60,18 @@ returns-in-Ok-clause-bound g c =
 pub returns-in-Err-Stopped-clause-bound : goal.returns-in-Err-Stopped-clause-bound
 returns-in-Err-Stopped-clause-bound g c =
     stops_within _ _ _ _ _ _ _ _ _ _ c.call.ensures.told c.in-Err-Stopped.asked (c.in-Err-Stopped.is ∙ ap (λ e. Err e) c.in-Err-Stopped.field-0-is)
+
+pub returns-in-Ok-clause-only : goal.returns-in-Ok-clause-only
+returns-in-Ok-clause-only g c =
+    let words = words_are c.args.script.now c.len-len.result c.len-len.ensures.len c.to_words.new.out _ c.to_words.ensures.words in
+    opens_only c.args.script.now c.args.caller.now c.call.new.self c.len-len.ensures.fits (c.in-Ok.ensures.told.op ∙ words)
+
+pub returns-in-Err-Stopped-clause-only : goal.returns-in-Err-Stopped-clause-only
+returns-in-Err-Stopped-clause-only g c =
+    let words = words_are c.args.script.now c.len-len.result c.len-len.ensures.len c.to_words.new.out _ c.to_words.ensures.words in
+    opens_only c.args.script.now c.args.caller.now c.call.new.self c.len-len.ensures.fits (c.call.ensures.told.op ∙ words)
+
+pub returns-clause-only : goal.returns-clause-only
+returns-clause-only g c =
+    let words = words_are c.args.script.now c.len-len.result c.len-len.ensures.len c.to_words.new.out _ c.to_words.ensures.words in
+    opens_only c.args.script.now c.args.caller.now c.call.new.self c.len-len.ensures.fits (c.call.ensures.told.op ∙ words)

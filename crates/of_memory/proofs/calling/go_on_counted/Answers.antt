@@ -1,5 +1,5 @@
 use Rattle.std.proofs.Common.{◌∙◌, ap, refl, Err}
-use Rattle.of_memory.proofs.Called.{held_of, serves_on, made_answered, made_spent, keeps_answered, keeps_stopped, keeps_over, none_open, answers_within, stops_within}
+use Rattle.of_memory.proofs.Called.{held_of, serves_on, made_answered, made_spent, keeps_answered, keeps_stopped, keeps_over, none_open, answers_within, stops_within, opens_none}
 use Rattle.of_memory.proofs.calling.go_on_counted.Goals as goal
 
 pub answer_of-requires : goal.answer_of-requires
@@ -54,3 +54,12 @@ returns-in-Ok-clause-bound g c =
 pub returns-in-Err-Stopped-clause-bound : goal.returns-in-Err-Stopped-clause-bound
 returns-in-Err-Stopped-clause-bound g c =
     stops_within _ _ _ _ _ _ _ _ _ _ c.go_on.ensures.told c.in-Err-Stopped.asked (c.in-Err-Stopped.is ∙ ap (λ e. Err e) c.in-Err-Stopped.field-0-is)
+
+pub returns-in-Ok-clause-only : goal.returns-in-Ok-clause-only
+returns-in-Ok-clause-only g c = opens_none c.args.caller.now c.go_on.new.self c.requires.open_call c.in-Ok.ensures.told.op
+
+pub returns-in-Err-Stopped-clause-only : goal.returns-in-Err-Stopped-clause-only
+returns-in-Err-Stopped-clause-only g c = opens_none c.args.caller.now c.go_on.new.self c.requires.open_call c.go_on.ensures.told.op
+
+pub returns-clause-only : goal.returns-clause-only
+returns-clause-only g c = opens_none c.args.caller.now c.go_on.new.self c.requires.open_call c.go_on.ensures.told.op

@@ -1,5 +1,5 @@
-use Rattle.std.proofs.Common.{sym, ap, subst, ◌∙◌, length, None, arith, ◌<◌}
-use Rattle.std.proofs.lemmas.List.{length-set}
+use Rattle.std.proofs.Common.{sym, ap, subst, ◌∙◌, length, set, None, arith, ◌<◌}
+use Rattle.std.proofs.lemmas.List.{length-set, set-get_or}
 use Rattle.of_eval.specs.declared.scripts.Scripts.{Scripts}
 use Rattle.of_row.specs.declared.row.Row.{Row}
 use Rattle.of_memory.specs.Serving.{IsScriptsRow, Serves, ServeAll}
@@ -57,3 +57,11 @@ returns-in-Some-clause-others_open c = opens_set c.args.self.now _ c.args.number
 
 pub returns-in-None-clause-others_open : goal.returns-in-None-clause-others_open
 returns-in-None-clause-others_open c = opens_set c.args.self.now _ c.args.number None c.take_at.ensures.items
+
+pub returns-in-Some-clause-taken : goal.returns-in-Some-clause-taken
+returns-in-Some-clause-taken c = record { was = sym c.in-Some.ensures.caller; now = c.take_at.ensures.items }
+
+pub returns-in-None-clause-refused : goal.returns-in-None-clause-refused
+returns-in-None-clause-refused c =
+    let cs = c.args.self.now.callers.items in
+    c.take_at.ensures.items ∙ ap (set cs c.args.number) (sym c.in-None.is ∙ c.take_at.ensures.caller) ∙ set-get_or cs c.args.number None

@@ -1,0 +1,3 @@
+pub mod Jobs
+pub mod Counts
+pub mod Workers

@@ -1,0 +1,16 @@
+use Rattle.std.proofs.Common.{◌∙◌}
+use Rattle.of_memory.proofs.Still.{still_callers, still_starts}
+use Rattle.example_queue.specs.Workers.{OnlyTakes}
+use Rattle.example_queue.proofs.Workers.{still_queue, worked_off}
+use Rattle.example_queue.proofs.work.Goals as goal
+
+pub returns-clause-works : goal.returns-clause-works
+returns-clause-works g c =
+    let m = c.args.memory in
+    let k = c.at_once.new.self in
+    let n = c.at_once-2.new.self in
+    let one = c.in_ok-at_once.ensures in
+    let two = c.in_ok-at_once-2.ensures in
+    let noon = still_queue (λ x h y j. OnlyTakes h j) (λ x y h j takes. takes) m k one.still c.requires.queue _ _ one.worked one.rest (still_callers m k one.still) in
+    let evening = still_queue (λ x h y j. OnlyTakes h j) (λ x y h j takes. takes) k n two.still noon _ _ two.worked two.rest (still_callers k n two.still) in
+    λ s starts. worked_off n c.in_ok-close.field-0 evening c.in_ok-close.ensures.history s (still_starts m n s (two.still ∙ one.still) starts)

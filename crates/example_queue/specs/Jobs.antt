@@ -1,0 +1,51 @@
+-- Jobs in a queue: the script that takes one, and what its replies give.
+use Rattle.std.specs.Prelude.{◌≡◌, ℕ, ◌+◌, ◌<◌, List, [], ◌∷◌, ◌++◌, length, Some, None}
+use Rattle.of_script.specs.declared.instr.Instr.{Instr}
+use Rattle.of_script.specs.declared.instr.Instr.TheVariants.{Add, Sub, Pop}
+use Rattle.of_store.specs.Store.{Store, Reply, Answered, Aborted, queue, register}
+use Rattle.of_memory.specs.History.{HistoryEntry, store_after}
+
+-- the script that takes the first job, if one waits, and counts it in this register
+abbrev pub job_script : ℕ → List Instr
+job_script register = Sub 15 1 ∷ Pop 0 ∷ Add register 1 ∷ []
+
+-- one of the four workers takes a job
+abbrev pub TakesJob : List Instr → Type 0
+TakesJob script = (register : ℕ) × (register < 4) × (script ≡ job_script register)
+
+-- the jobs that wait
+abbrev pub waiting : Store → List ℕ
+waiting s = queue s 0
+
+-- the job that a reply gives to the worker
+abbrev pub job_in : Reply → List ℕ
+job_in (Answered []) = []
+job_in (Answered (left ∷ [])) = []
+job_in (Answered (left ∷ None ∷ vs)) = []
+job_in (Answered (left ∷ Some job ∷ vs)) = job ∷ []
+job_in (Aborted place cause) = []
+
+-- the jobs that the replies of a history give, in its order
+abbrev pub jobs_in : List HistoryEntry → List ℕ
+jobs_in [] = []
+jobs_in (e ∷ h) = job_in e.reply ++ jobs_in h
+
+-- Of a serial history in which each script takes a job: the jobs that its replies give, in its
+-- order, and those that still wait are the jobs that waited at first.
+abbrev pub LosesNoJob : Store → List HistoryEntry → Type 0
+LosesNoJob s h = jobs_in h ++ waiting (store_after s h) ≡ waiting s
+
+-- how many jobs the four workers have counted
+abbrev pub done : Store → ℕ
+done s = register s 0 + register s 1 + register s 2 + register s 3
+
+-- register 15 says how many jobs wait
+pub record CountsJobs (s : Store) : Type 0 where
+  pub registers : 15 < length s.registers
+  pub count : register s 15 ≡ length (waiting s)
+
+-- if it says so at first, it does so afterwards, and each job that a reply gives was counted
+abbrev pub CountsEach : Store → List HistoryEntry → Type 0
+CountsEach s h =
+    CountsJobs s
+    → CountsJobs (store_after s h) × (done (store_after s h) ≡ done s + length (jobs_in h))

@@ -1,0 +1,58 @@
+-- A memory in which workers take jobs, and what is saved of it.
+use Rattle.std.specs.Prelude.{ℕ, ◌<◌, List}
+use Rattle.std.specs.List.{All}
+use Rattle.of_script.specs.declared.instr.Instr.{Instr}
+use Rattle.of_store.specs.Store.{Store}
+use Rattle.of_memory.specs.declared.memory.Memory.{Memory}
+use Rattle.of_memory.specs.declared.handle.Handle.{Handle}
+use Rattle.of_memory.specs.declared.saved.Saved.{Saved}
+use Rattle.of_memory.specs.History.{HistoryEntry, Made, IsSerial, store_after}
+use Rattle.of_memory.specs.Handles.{HasMade, HasOpen}
+use Rattle.of_memory.specs.Memories.{StartsWith, HasMadeOf, HasOpenOf, callers_of}
+use Rattle.of_memory.specs.Saving.{SavedHolds}
+use Rattle.example_queue.specs.Jobs.{TakesJob, LosesNoJob, CountsEach}
+
+-- A serial history leads from the store to the one that is saved. No job is lost in it, and none is
+-- given twice; each that is given is counted.
+pub record LeadsWithoutLoss (s : Store) (d : Saved) (h : List HistoryEntry) : Type 0 where
+  pub serial : IsSerial s h
+  pub ends : SavedHolds d (store_after s h)
+  pub jobs : LosesNoJob s h
+  pub counts : CountsEach s h
+
+-- so it is of the store that the memory was opened with
+abbrev pub IsWorkedOff : Memory → Saved → Type 0
+IsWorkedOff m d = (s : Store) → StartsWith m s → (h : List HistoryEntry) × LeadsWithoutLoss s d h
+
+-- and of the one that was saved before
+abbrev pub IsWorkedOffLater : (before now : Saved) → Type 0
+IsWorkedOffLater c d =
+    (s : Store) → SavedHolds c s → (h : List HistoryEntry) × LeadsWithoutLoss s d h
+
+-- ---- the calls of workers
+
+-- each call takes a job
+abbrev pub AllTake : List Made → Type 0
+AllTake ms = All (λ (m : Made). TakesJob m.script) ms
+
+-- the handle has made only such calls
+pub record HasTaken (h : Handle) : Type 0 where
+  pub made : List Made
+  pub has : HasMade h made
+  pub all : AllTake made
+  pub open_call : (script : List Instr) → HasOpen h script → TakesJob script
+
+-- if it had made only such calls before, it has so now
+abbrev pub OnlyTakes : (before now : Handle) → Type 0
+OnlyTakes h k = HasTaken h → HasTaken k
+
+-- so it is of this number of a memory
+pub record HasTakenOf (m : Memory) (n : ℕ) : Type 0 where
+  pub made : List Made
+  pub has : HasMadeOf m n made
+  pub all : AllTake made
+  pub open_call : (script : List Instr) → HasOpenOf m n script → TakesJob script
+
+-- and of each number
+abbrev pub IsForWorkers : Memory → Type 0
+IsForWorkers m = (n : ℕ) → n < callers_of m → HasTakenOf m n

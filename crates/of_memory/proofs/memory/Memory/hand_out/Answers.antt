@@ -1,0 +1,28 @@
+use Rattle.std.proofs.Common.{◌≡◌, length, vec_len, sym, subst, ◌∙◌, ◌++◌, ◌∷◌, [], List, arith, rules}
+use Rattle.of_memory.specs.declared.handle.Handle.{Handle}
+use Rattle.of_memory.specs.Tasks.{HasHandedOut}
+use Rattle.of_memory.proofs.Handing.{out_more}
+use Rattle.of_memory.proofs.memory.Memory.hand_out.Goals as goal
+
+pub overflow_cast-len : goal.overflow_cast-len
+overflow_cast-len g c = search rules
+
+pub loop-task-preserved : goal.loop-task-preserved
+loop-task-preserved g c =
+    let inv = c.loop-task.invariant in
+    let m = c.args.self.now in
+    let xs = c.args.tasks.now.items in
+    let ps = c.loop-task.pairs.items in
+    let h = c.in-Ok.handle in
+    let t = c.in-Some.task in
+    let long : vec_len c.pop.new.self ≡ length c.pop.new.self.items = search rules in
+    let number : h.number ≡ length c.pop.new.self.items = omega (arith, c.in-Ok.ensures.number, c.len.ensures, long) in
+    record {
+      memory = c.enrol.ensures.memory;
+      still = c.enrol.ensures.still ∙ inv.still;
+      out = subst (HasHandedOut m c.enrol.new.self xs c.pop.new.self.items) (sym c.put.ensures.items)
+          (out_more m c.loop-task.self xs c.loop-task.tasks.items ps inv.out c.enrol.new.self c.pop.new.self.items t h c.in-Some.ensures.items number c.in-Ok.ensures.handle (c.in-Ok.ensures.from ∙ c.enrol.ensures.still ∙ inv.still) c.in-Ok.ensures.taken);
+      count = omega (arith, inv.count, c.put.ensures.len, c.in-Some.ensures.cases);
+      pairs_room = omega (arith, inv.pairs_room, c.put.ensures.capacity);
+      tasks_room = omega (arith, inv.tasks_room, c.pop.ensures.capacity);
+    }
