@@ -68,7 +68,7 @@ pub struct Saved {
 
 impl Saved {
     ghost use Rattle.of_row.specs.Rows.{key_of, setup_at, view_of_pass, IsRowPass};
-    ghost use Rattle.of_store.specs.Store.{Reply};
+    ghost use Rattle.of_store.specs.Store.{Reply as ReplyValue};
     ghost use Rattle.of_store.specs.Replies.{reply_value_of};
     ghost use Rattle.of_eval.specs.Scripts.{scripts_meaning};
     ghost use Rattle.of_memory.specs.Laws.{KeepScripts};
@@ -170,7 +170,7 @@ impl Saved {
         requires number { number < saved_callers self.now }
         ensures ticket { IfSome result (λ r. r.0 ≡ saved_ticket self.now number) }
         ensures reply { IfSome result (λ r. HoldsReply self.now number (reply_value_of r.1)) }
-        ensures some { (r : Reply) → HoldsReply self.now number r
+        ensures some { (r : ReplyValue) → HoldsReply self.now number r
             → 0 < saved_ticket self.now number → IsSome result }
     {
         let ticket = self.ticket(number);
