@@ -1,5 +1,5 @@
 -- What a call of a script makes of a caller of a row of scripts.
-use Rattle.std.proofs.Common.{◌≡◌, ℕ, zero, suc, ◌+◌, ◌≤◌, ◌<◌, ◌⊎◌, inl, inr, Bool, List, [], ◌∷◌, ◌++◌, length, map, take, Option, Some, None, Result, Ok, Err, refl, sym, ap, subst, ◌∙◌, arith, length-append}
+use Rattle.std.proofs.Common.{◌≡◌, ℕ, zero, suc, ◌+◌, ◌≤◌, ◌<◌, ◌⊎◌, inl, inr, Bool, true, false, List, [], ◌∷◌, ◌++◌, length, map, take, Option, Some, None, Result, Ok, Err, refl, sym, ap, subst, ◌∙◌, arith, length-append}
 use mathlib.Core.Bool.{true≢false}
 use Rattle.std.specs.List.{All}
 use Rattle.std.proofs.Math.Seq.{take-append_seam}
@@ -19,6 +19,7 @@ use Rattle.of_plan.specs.Plan.{Plan, IsPlan}
 use Rattle.of_core.specs.declared.place.Outcome.{Outcome}
 use Rattle.of_core.specs.declared.place.Outcome.TheVariants.{Answered, Spent as Over}
 use Rattle.of_core.specs.Table.{Setup}
+use Rattle.of_core.specs.declared.place.Place.{Place}
 use Rattle.of_core.specs.Machine.{CallState, is_idle, IsOpen, MayReplace}
 use Rattle.of_core.specs.Turn.{IsIdle}
 use Rattle.of_core.specs.Bound.{bound}
@@ -27,13 +28,13 @@ use Rattle.of_core.specs.History.{IsLegalHistory}
 use Rattle.of_core.specs.Calls.{IsAnswered}
 use Rattle.of_row.specs.declared.row.Row.{Row}
 use Rattle.of_row.specs.Rows.{key_of, setup_at}
-use Rattle.of_row.specs.Rule.{CallHasEnded}
+use Rattle.of_row.specs.Rule.{CallHasEnded, open_call_count}
 use Rattle.of_row.specs.Turned.{IsMeantReply, StandsForMachine}
 use Rattle.of_row.specs.Views.{EndedCall, KnownCaller, View, last_caller, seen_seq, seen_history}
 use Rattle.of_caller.specs.declared.caller.Caller.{Caller}
 use Rattle.of_caller.specs.declared.caller.CallErr.{CallErr}
 use Rattle.of_caller.specs.declared.caller.CallErr.TheVariants.{Stopped, Spent as NoneLeft}
-use Rattle.of_caller.specs.Callers.{IsCaller, caller_call, sight_of}
+use Rattle.of_caller.specs.Callers.{IsCaller, caller_call, calls_begun_by, sight_of}
 use Rattle.of_caller.specs.Brakes.{StopsAt, UsesCountedSteps}
 use Rattle.of_caller.specs.CallsTold.{HasEndedWith, IsStillOpen, TellsResult, TellsCall}
 use Rattle.of_caller.specs.Ends.{TellsAnswer}
@@ -43,13 +44,13 @@ use Rattle.of_caller.proofs.RawReplies.{IsFine, answer_holds}
 use Rattle.of_memory.specs.History.{End, Replied, Spent, Made}
 use Rattle.of_memory.specs.Calls.{IsScriptOperation, EndsAs, IsMade, AreMade, RunsScripts}
 use Rattle.of_caller.specs.PlanRows.{start_of_row}
-use Rattle.of_memory.specs.Serving.{IsScriptsRow, Serves}
+use Rattle.of_memory.specs.Serving.{IsScriptsRow, Serves, ended_of, made_before}
 use Rattle.of_memory.specs.declared.error.RunErr.{RunErr}
 use Rattle.of_memory.specs.declared.error.RunErr.TheVariants.{OutOfMemory, Stopped as Halted, Spent as RanOut, Open, NoTicket}
 use Rattle.of_memory.specs.declared.handle.Handle.{Handle}
 use Rattle.of_memory.specs.Called.{WasTried, LeavesAsItWas, CallerOpensOnly, CallerOpensNone}
 use Rattle.of_memory.specs.Within.{KeepsToTold}
-use Rattle.of_memory.specs.Handles.{RefusesCall, RefusesToGoOn}
+use Rattle.of_memory.specs.Handles.{home_of, CallsAreCounted, RefusesCall, RefusesToGoOn}
 use Rattle.of_memory.proofs.Plans.{plan_of, is_plan}
 
 -- ---- calls that are kept, as calls of scripts
@@ -177,6 +178,28 @@ module _ (S : Setup) (L : List ℕ → Type 0) (B : TableStart) (m : CallState) 
   pub legal_now : (o : Outcome) → HasEndedWith S L B m v told.before told.steps d w told.kept o → IsLegalHistory S.meaning (map payload_of B.cells) (seen_history w.seen)
   legal_now o closes = (told.some (ended_some o closes)).legal.replies
 
+  -- ---- how many calls were begun
+
+  done_count : (base : ℕ) → m.made ≡ base + length before.ended + 1 → (o : Outcome) → HasEndedWith S L B m v told.before told.steps d w told.kept o
+      → d.made ≡ base + length now.ended + open_call_count (is_idle d.place)
+  done_count base made o closes =
+      let more = ap length (one_more o closes) in
+      let long = length-append before.ended (record { op = m.op; outcome = o } ∷ []) in
+      let none : open_call_count (is_idle d.place) ≡ 0 = ap (λ (p : Place). open_call_count (is_idle p)) closes.idle in
+      omega (arith, told.made, made, more, long, none)
+
+  count_now : (base : ℕ) → m.made ≡ base + length before.ended + 1 → (z : Result Outcome CallErr) → Told z → d.made ≡ base + length now.ended + open_call_count (is_idle d.place)
+  count_now base made (Ok o) h = done_count base made o h.1
+  count_now base made (Err (Stopped asked)) h =
+      let same = ap length (none_more h.0) in
+      let one : open_call_count (is_idle d.place) ≡ 1 = ap open_call_count h.0.open_call in
+      omega (arith, told.made, made, same, one)
+  count_now base made (Err (NoneLeft seq)) h = done_count base made (Over seq) h
+
+  -- the calls that were begun are those that have ended, and the open one
+  pub counts_on : (base : ℕ) → m.made ≡ base + length before.ended + 1 → d.made ≡ base + length now.ended + open_call_count (is_idle d.place)
+  counts_on base made = count_now base made r told.result
+
   -- ---- no call is open after one that has ended
 
   pub none_after_answer : (o : Outcome) → Told (Ok o) → IsOpen d.place → ⊥
@@ -258,13 +281,46 @@ module _ (r : Row Scripts) (row : IsScriptsRow r) where
 
   -- the caller serves on
   pub serves_on : (L : List ℕ → Type 0) (n : ℕ) (c k : Caller Scripts) (m : CallState) (a b : ℕ) (z : Result Outcome CallErr) → Serves r n c → m.caller ≡ (caller_call c).caller → IsScriptOperation m.op
+      → m.made ≡ made_before r n + length (ended_of c) + 1
       → TellsCall (setup_at scripts_meaning r) L (start_of_row r) m (sight_of c) a (caller_call k) (sight_of k) b z → IsCaller scripts_meaning r k → Serves r n k
-  serves_on L n c k m a b z s same op told is = record {
+  serves_on L n c k m a b z s same op made told is = record {
     caller = is;
     number = told.caller ∙ same ∙ s.number;
     runs = runs_on (setup_at scripts_meaning r) L (start_of_row r) m (sight_of c) a (caller_call k) (sight_of k) b z told op s.runs;
     begun = λ is_open. subst IsScriptOperation (sym told.op) op;
+    counts = counts_on (setup_at scripts_meaning r) L (start_of_row r) m (sight_of c) a (caller_call k) (sight_of k) b z told (made_before r n) made;
   }
+
+-- ---- the call that a caller begins or goes on with is the next one
+
+pub idle_counts : (r : Row Scripts) (n : ℕ) (c : Caller Scripts) → Serves r n c → is_idle (caller_call c).place ≡ true → calls_begun_by c ≡ made_before r n + length (ended_of c)
+idle_counts r n c s idle =
+    let none : open_call_count (is_idle (caller_call c).place) ≡ 0 = ap open_call_count idle in
+    omega (arith, s.counts, none)
+
+pub begin_counts : (r : Row Scripts) (n : ℕ) (c : Caller Scripts) → Serves r n c → IsIdle (caller_call c) → calls_begun_by c + 1 ≡ made_before r n + length (ended_of c) + 1
+begin_counts r n c s idle = ap (λ (k : ℕ). k + 1) (idle_counts r n c s (ap is_idle idle))
+
+pub open_counts : (r : Row Scripts) (n : ℕ) (c : Caller Scripts) → Serves r n c → IsOpen (caller_call c).place → calls_begun_by c ≡ made_before r n + length (ended_of c) + 1
+open_counts r n c s is_open =
+    let one : open_call_count (is_idle (caller_call c).place) ≡ 1 = ap open_call_count is_open in
+    omega (arith, s.counts, one)
+
+made_many : (es : List EndedCall) (ms : List Made) → AreMade es ms → length ms ≡ length es
+made_many [] [] h = refl
+made_many [] (m ∷ ms) h = absurd h
+made_many (e ∷ es) [] h = absurd h
+made_many (e ∷ es) (m ∷ ms) h = let r : length ms ≡ length es = made_many es ms h.1 in omega (arith, r)
+
+not_open : (b : Bool) → (b ≡ false → ⊥) → b ≡ true
+not_open true h = refl
+not_open false h = absurd (h refl)
+
+pub calls_counted : CallsAreCounted
+calls_counted h ms is none made =
+    let count = idle_counts (home_of h) h.number h.caller is.serves (not_open (is_idle (caller_call h.caller).place) none) in
+    let many = made_many (ended_of h.caller) ms made in
+    omega (arith, count, many)
 
 -- ---- a handle
 

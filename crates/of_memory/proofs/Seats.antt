@@ -12,15 +12,16 @@ use Rattle.of_row.specs.declared.member.Pass.{Pass}
 use Rattle.of_row.specs.declared.row.Row.{Row}
 use Rattle.of_row.specs.Passes.{HasEnrolled, IsFirst}
 use Rattle.of_row.specs.Rows.{key_of, setup_at, row_start}
-use Rattle.of_row.specs.Rule.{IsAsked}
+use Rattle.of_row.specs.Rule.{IsAsked, open_call_count}
 use Rattle.of_row.specs.Views.{KnownCaller, View, Each, last_caller, seen_seq}
 use Rattle.of_row.specs.Turned.{new_known_caller, StandsForMachine}
 use Rattle.of_core.specs.Table.{Setup}
+use Rattle.of_core.specs.declared.place.Place.{Place}
 use Rattle.of_core.specs.Machine.{CallState, IsOpen, is_idle}
 use Rattle.of_core.specs.Turn.{IsIdle}
 use Rattle.of_core.specs.MachineValue.{machine_setup}
 use Rattle.of_caller.specs.declared.caller.Caller.{Caller}
-use Rattle.of_caller.specs.Callers.{IsCaller, caller_call, sight_of}
+use Rattle.of_caller.specs.Callers.{IsCaller, caller_call, calls_begun_by, sight_of}
 use Rattle.of_memory.specs.Calls.{RunsScripts}
 use Rattle.of_memory.specs.Laws.{KeepsSo}
 use Rattle.of_memory.specs.Serving.{IsNew, Serves, ServeAll, Enrols, AllStand, AllHere, IsKeptOf, KeepsThose}
@@ -59,13 +60,17 @@ enrols_next r n before member now h e = record {
 -- ---- a caller that has just been seated
 
 pub new_caller : (r : Row Scripts) (n : ℕ) (before : Pass) (member : Member) (now : Pass) (c : Caller Scripts) → HasEnrolled scripts_meaning r n before member now
-    → IsCaller scripts_meaning r c → c.member ≡ member → IsIdle (caller_call c) → IsNew r n c
-new_caller r n before member now c e is same rest = record {
+    → IsCaller scripts_meaning r c → c.member ≡ member → IsIdle (caller_call c) → calls_begun_by c ≡ member.made → IsNew r n c
+new_caller r n before member now c e is same rest begun = record {
   serves = record {
     caller = is;
     number = stands_caller (machine_setup scripts_meaning c.machine) is.member.0 (caller_call c) is.member.2 ∙ sym is.member.3 ∙ ap (λ (m : Member). m.number) same ∙ e.number;
     runs = subst RunsScripts (sym kept) (record { ended = λ i d lt. absurd (omega (arith, lt)); open_call = λ is_open. absurd (true≢false is_open) });
     begun = λ is_open. absurd (true≢false (sym (ap is_idle rest) ∙ is_open));
+    counts =
+        let many : length (last_caller (sight_of c).kept).ended ≡ 0 = ap (λ (x : KnownCaller). length x.ended) kept in
+        let none : open_call_count (is_idle (caller_call c).place) ≡ 0 = ap (λ (p : Place). open_call_count (is_idle p)) rest in
+        omega (arith, begun, e.made, many, none);
   };
   none = ap (λ (x : KnownCaller). x.ended) kept;
   idle = rest;

@@ -1,5 +1,5 @@
 -- A handle: one caller of a memory.
-use Rattle.std.specs.Prelude.{◌≡◌, ℕ, ◌+◌, ◌<◌, List, Result, Ok, Err}
+use Rattle.std.specs.Prelude.{◌≡◌, ℕ, ◌+◌, ◌<◌, List, length, Result, Ok, Err}
 use Rattle.std.specs.Arc.{arc_value}
 use Rattle.of_script.specs.declared.instr.Instr.{Instr}
 use Rattle.of_plan.specs.declared.answer.Answer.{Answer}
@@ -13,7 +13,7 @@ use Rattle.of_memory.specs.declared.handle.Handle.{Handle}
 use Rattle.of_memory.specs.History.{Made}
 use Rattle.of_memory.specs.Calls.{AreMade}
 use Rattle.of_memory.specs.Called.{IsOpenAt, IsInCall, LeavesOpen, made_with, CallerOpensOnly, CallerOpensNone}
-use Rattle.of_memory.specs.Serving.{IsScriptsRow, Serves, ended_of, row_step_bound}
+use Rattle.of_memory.specs.Serving.{IsScriptsRow, Serves, ended_of, made_before, row_step_bound}
 
 -- the memory that it is a handle of
 abbrev pub home_of : Handle → Row Scripts
@@ -73,9 +73,24 @@ steps_so_far h = (caller_call (caller_of h)).steps
 abbrev pub step_bound_of : Handle → ℕ
 step_bound_of h = row_step_bound (home_of h)
 
+-- how many calls of its number were begun, those before its memory was opened with them
+abbrev pub calls_begun : Handle → ℕ
+calls_begun h = calls_begun_by (caller_of h)
+
+-- how many calls of its number its memory was opened with
+abbrev pub tickets_behind : Handle → ℕ
+tickets_behind h = made_before (home_of h) (number_of_handle h)
+
 -- its number has made all calls that it may make
 abbrev pub HasNoTicketLeft : Handle → Type 0
-HasNoTicketLeft h = calls_begun_by (caller_of h) + 1 < 4294967296 → ⊥
+HasNoTicketLeft h = calls_begun h + 1 < 4294967296 → ⊥
+
+-- the calls of a handle that has none open are those with which its memory was opened, and those
+-- that it has made since
+abbrev pub CallsAreCounted : Type 0
+CallsAreCounted =
+    (h : Handle) (ms : List Made) → IsHandle h → (HasCallOpen h → ⊥) → HasMade h ms
+    → calls_begun h ≡ tickets_behind h + length ms
 
 -- a call that is open now is one of this script, or was open before
 abbrev pub OpensOnly : List Instr → (before now : Handle) → Type 0

@@ -1,20 +1,20 @@
 -- A row of scripts, and its callers.
-use Rattle.std.specs.Prelude.{◌≡◌, ℕ, ◌≤◌, ◌<◌, List, [], length, Option, Some, None}
+use Rattle.std.specs.Prelude.{◌≡◌, ℕ, ◌+◌, ◌≤◌, ◌<◌, List, [], length, Option, Some, None}
 use Rattle.std.proofs.Common.{get_or}
 use Rattle.of_store.specs.Store.{Store}
 use Rattle.of_cell.specs.declared.word.TheConstants.{GREATEST_LIMIT}
 use Rattle.of_eval.specs.declared.scripts.Scripts.{Scripts}
 use Rattle.of_eval.specs.Scripts.{scripts_data_cells, scripts_meaning}
-use Rattle.of_core.specs.Machine.{IsOpen}
+use Rattle.of_core.specs.Machine.{IsOpen, is_idle}
 use Rattle.of_core.specs.Bound.{bound}
 use Rattle.of_core.specs.Turn.{IsIdle}
 use Rattle.of_row.specs.declared.row.Row.{Row}
 use Rattle.of_row.specs.declared.member.Pass.{Pass}
 use Rattle.of_row.specs.Rows.{key_of, setup_at, view_of_pass, IsRowPass, IsFirstPass}
-use Rattle.of_row.specs.Rule.{IsAsked, done_before}
+use Rattle.of_row.specs.Rule.{IsAsked, done_before, open_call_count}
 use Rattle.of_row.specs.Views.{KnownCaller, EndedCall, last_caller}
 use Rattle.of_caller.specs.declared.caller.Caller.{Caller}
-use Rattle.of_caller.specs.Callers.{IsCaller, caller_call, sight_of}
+use Rattle.of_caller.specs.Callers.{IsCaller, caller_call, calls_begun_by, sight_of}
 use Rattle.of_caller.specs.PlanRows.{start_of_row}
 use Rattle.of_memory.specs.Calls.{IsScriptOperation, RunsScripts}
 use Rattle.of_memory.specs.Laws.{StandsAt, HoldsLastReplies, KeepsSo}
@@ -43,12 +43,20 @@ pub record IsScriptsRow (r : Row Scripts) : Type 0 where
 abbrev pub ended_of : Caller Scripts → List EndedCall
 ended_of c = (last_caller (sight_of c).kept).ended
 
+-- the calls of its number that were begun are those before the row's start, those that have ended
+-- since, and the open one
+abbrev pub CountsCalls : Row Scripts → ℕ → Caller Scripts → Type 0
+CountsCalls r n c =
+    calls_begun_by c
+    ≡ made_before r n + length (ended_of c) + open_call_count (is_idle (caller_call c).place)
+
 -- a caller of the row with this number, which has run scripts alone
 pub record Serves (r : Row Scripts) (n : ℕ) (c : Caller Scripts) : Type 0 where
   pub caller : IsCaller scripts_meaning r c
   pub number : (caller_call c).caller ≡ n
   pub runs : RunsScripts (last_caller (sight_of c).kept)
   pub begun : IsOpen (caller_call c).place → IsScriptOperation (caller_call c).op
+  pub counts : CountsCalls r n c
 
 -- it has made no call on this row
 pub record IsNew (r : Row Scripts) (n : ℕ) (c : Caller Scripts) : Type 0 where

@@ -1,5 +1,6 @@
 //! What a closed memory holds: functions that do nothing, whose contracts are the theorems.
 
+ghost use Rattle.of_memory.specs.Handles.{CallsAreCounted};
 ghost use Rattle.of_memory.specs.Joining.{HistoriesJoin, InvariantsHold};
 ghost use Rattle.of_memory.specs.Laws.{HoldsHistory};
 
@@ -17,6 +18,12 @@ pub fn history_is_held(work: Scripts, limit: u32)
     starts(limit, work);
     stops_lose_nothing(limit, work);
 }
+
+/// A handle that has no open call has begun as many calls as its memory was opened with, and those
+/// that it has made since.
+pub fn calls_are_counted()
+    ensures { CallsAreCounted }
+{}
 
 /// The history of a memory and that of the one that goes on from what it has left are one history.
 pub fn histories_join()

@@ -1,5 +1,5 @@
 use Rattle.std.proofs.Common.{◌∙◌, ap, refl, Err}
-use Rattle.of_memory.proofs.Called.{words_are, held_of, serves_on, made_answered, made_spent, keeps_answered, keeps_stopped, keeps_over, none_after_answer, none_after_spent, answers_within, stops_within, opens_only}
+use Rattle.of_memory.proofs.Called.{words_are, held_of, serves_on, made_answered, made_spent, keeps_answered, keeps_stopped, keeps_over, none_after_answer, none_after_spent, answers_within, stops_within, begin_counts, opens_only}
 use Rattle.of_memory.proofs.calling.call_counted.Goals as goal
 
 pub answer_of-requires : goal.answer_of-requires
@@ -11,7 +11,7 @@ answer_of-requires g c =
 pub returns-in-Ok-clause-serves : goal.returns-in-Ok-clause-serves
 returns-in-Ok-clause-serves g c =
     let words = words_are c.args.script.now c.len-len.result c.len-len.ensures.len c.to_words.new.out _ c.to_words.ensures.words in
-    serves_on c.args.row.now c.requires.row _ c.args.number c.args.caller.now c.call.new.self _ _ _ _ c.requires.serves refl (c.args.script.now, c.len-len.ensures.fits, words) c.in-Ok.ensures.told c.in-Ok.ensures.caller
+    serves_on c.args.row.now c.requires.row _ c.args.number c.args.caller.now c.call.new.self _ _ _ _ c.requires.serves refl (c.args.script.now, c.len-len.ensures.fits, words) (begin_counts c.args.row.now c.args.number c.args.caller.now c.requires.serves c.requires.idle) c.in-Ok.ensures.told c.in-Ok.ensures.caller
 
 pub returns-in-Ok-clause-made : goal.returns-in-Ok-clause-made
 returns-in-Ok-clause-made g c ms made =
@@ -22,12 +22,12 @@ returns-in-Ok-clause-made g c ms made =
 pub returns-in-Err-Stopped-clause-serves : goal.returns-in-Err-Stopped-clause-serves
 returns-in-Err-Stopped-clause-serves g c =
     let words = words_are c.args.script.now c.len-len.result c.len-len.ensures.len c.to_words.new.out _ c.to_words.ensures.words in
-    serves_on c.args.row.now c.requires.row _ c.args.number c.args.caller.now c.call.new.self _ _ _ _ c.requires.serves refl (c.args.script.now, c.len-len.ensures.fits, words) c.call.ensures.told c.call.ensures.caller
+    serves_on c.args.row.now c.requires.row _ c.args.number c.args.caller.now c.call.new.self _ _ _ _ c.requires.serves refl (c.args.script.now, c.len-len.ensures.fits, words) (begin_counts c.args.row.now c.args.number c.args.caller.now c.requires.serves c.requires.idle) c.call.ensures.told c.call.ensures.caller
 
 pub returns-clause-serves : goal.returns-clause-serves
 returns-clause-serves g c =
     let words = words_are c.args.script.now c.len-len.result c.len-len.ensures.len c.to_words.new.out _ c.to_words.ensures.words in
-    serves_on c.args.row.now c.requires.row _ c.args.number c.args.caller.now c.call.new.self _ _ _ _ c.requires.serves refl (c.args.script.now, c.len-len.ensures.fits, words) c.call.ensures.told c.call.ensures.caller
+    serves_on c.args.row.now c.requires.row _ c.args.number c.args.caller.now c.call.new.self _ _ _ _ c.requires.serves refl (c.args.script.now, c.len-len.ensures.fits, words) (begin_counts c.args.row.now c.args.number c.args.caller.now c.requires.serves c.requires.idle) c.call.ensures.told c.call.ensures.caller
 
 pub returns-clause-made : goal.returns-clause-made
 returns-clause-made g c ms made =

@@ -1,5 +1,5 @@
 use Rattle.std.proofs.Common.{◌∙◌, ap, refl, Err}
-use Rattle.of_memory.proofs.Called.{held_of, serves_on, made_answered, made_spent, keeps_answered, keeps_stopped, keeps_over, none_after_answer, none_after_spent, answers_within, stops_within, opens_none}
+use Rattle.of_memory.proofs.Called.{held_of, serves_on, made_answered, made_spent, keeps_answered, keeps_stopped, keeps_over, none_after_answer, none_after_spent, answers_within, stops_within, open_counts, opens_none}
 use Rattle.of_memory.proofs.calling.go_on_counted.Goals as goal
 
 pub answer_of-requires : goal.answer_of-requires
@@ -9,7 +9,7 @@ answer_of-requires g c =
 
 pub returns-in-Ok-clause-serves : goal.returns-in-Ok-clause-serves
 returns-in-Ok-clause-serves g c =
-    serves_on c.args.row.now c.requires.row _ c.args.number c.args.caller.now c.go_on.new.self _ _ _ _ c.requires.serves refl (c.requires.serves.begun c.requires.open_call) c.in-Ok.ensures.told c.in-Ok.ensures.caller
+    serves_on c.args.row.now c.requires.row _ c.args.number c.args.caller.now c.go_on.new.self _ _ _ _ c.requires.serves refl (c.requires.serves.begun c.requires.open_call) (open_counts c.args.row.now c.args.number c.args.caller.now c.requires.serves c.requires.open_call) c.in-Ok.ensures.told c.in-Ok.ensures.caller
 
 pub returns-in-Ok-clause-made : goal.returns-in-Ok-clause-made
 returns-in-Ok-clause-made g c script ms is words made =
@@ -18,11 +18,11 @@ returns-in-Ok-clause-made g c script ms is words made =
 
 pub returns-in-Err-Stopped-clause-serves : goal.returns-in-Err-Stopped-clause-serves
 returns-in-Err-Stopped-clause-serves g c =
-    serves_on c.args.row.now c.requires.row _ c.args.number c.args.caller.now c.go_on.new.self _ _ _ _ c.requires.serves refl (c.requires.serves.begun c.requires.open_call) c.go_on.ensures.told c.go_on.ensures.caller
+    serves_on c.args.row.now c.requires.row _ c.args.number c.args.caller.now c.go_on.new.self _ _ _ _ c.requires.serves refl (c.requires.serves.begun c.requires.open_call) (open_counts c.args.row.now c.args.number c.args.caller.now c.requires.serves c.requires.open_call) c.go_on.ensures.told c.go_on.ensures.caller
 
 pub returns-clause-serves : goal.returns-clause-serves
 returns-clause-serves g c =
-    serves_on c.args.row.now c.requires.row _ c.args.number c.args.caller.now c.go_on.new.self _ _ _ _ c.requires.serves refl (c.requires.serves.begun c.requires.open_call) c.go_on.ensures.told c.go_on.ensures.caller
+    serves_on c.args.row.now c.requires.row _ c.args.number c.args.caller.now c.go_on.new.self _ _ _ _ c.requires.serves refl (c.requires.serves.begun c.requires.open_call) (open_counts c.args.row.now c.args.number c.args.caller.now c.requires.serves c.requires.open_call) c.go_on.ensures.told c.go_on.ensures.caller
 
 pub returns-clause-made : goal.returns-clause-made
 returns-clause-made g c script ms is words made =

@@ -7,7 +7,7 @@ unreachable-requires c = let b = c.requires.pass.below c.args.number c.in_defaul
 
 pub returns-in-Ok-new-clause-caller : goal.returns-in-Ok-new-clause-caller
 returns-in-Ok-new-clause-caller c =
-    new_caller c.args.row.now c.args.number c.args.pass c.in-Ok.member c.in-Ok.pass c.in-Ok-new.caller c.in-Ok.ensures.enrolled c.in-Ok-new.ensures.caller c.in-Ok-new.ensures.member c.in-Ok-new.ensures.idle
+    new_caller c.args.row.now c.args.number c.args.pass c.in-Ok.member c.in-Ok.pass c.in-Ok-new.caller c.in-Ok.ensures.enrolled c.in-Ok-new.ensures.caller c.in-Ok-new.ensures.member c.in-Ok-new.ensures.idle c.in-Ok-new.ensures.made
 
 pub returns-in-Ok-new-clause-pass : goal.returns-in-Ok-new-clause-pass
 returns-in-Ok-new-clause-pass c = enrols_next c.args.row.now c.args.number c.args.pass c.in-Ok.member c.in-Ok.pass c.requires.pass c.in-Ok.ensures.enrolled
