@@ -14,7 +14,8 @@ IsNeverStopped (Err Open) = Unit {0}
 IsNeverStopped (Err NoTicket) = Unit {0}
 
 -- A call that had made some steps before is given more, and has made so many by now. An answer
--- tells no more than both together; a call is stopped only if it has made them all, at the next ask.
+-- tells no more than both together. A call is stopped only if it has made them all, at the next
+-- ask.
 abbrev pub KeepsWithin : (before more now : ℕ) → Result Answer RunErr → Type 0
 KeepsWithin before more now (Ok a) = a.steps ≤ before + more
 KeepsWithin before more now (Err OutOfMemory) = Unit {0}
