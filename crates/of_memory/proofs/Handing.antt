@@ -195,14 +195,30 @@ module _ {J : Type 0} where
         rest = others_at;
       }
 
+  -- the last pair of those that are left may leave
+  pub next_leaves : (m : Memory) (first : ℕ) (ps now front : List (Handle × J)) (h : Handle) (t : J) → MayAllLeave m first ps → now ≡ front ++ (h, t) ∷ [] → length now ≤ length ps
+      → ((i : ℕ) (d : Handle × J) → i < length now → get_or now i d ≡ get_or ps i d) → MayLeave m (first + length ps) (length front) (h, t)
+  next_leaves m first ps now front h t may is few same =
+      let next : length now ≡ length front + 1 = longer front now (h, t) is in
+      let low : length front < length now = omega (arith, next) in
+      let at : get_or ps (length front) (h, t) ≡ (h, t) =
+      sym (same (length front) (h, t) low) ∙ ap (λ (l : List (Handle × J)). get_or l (length front) (h, t)) is ∙ get_or-append_seam front (h, t) [] (h, t) in
+      subst (MayLeave m (first + length ps) (length front)) at (may (length front) (h, t) (omega (arith, low, few)))
+
+  -- handles that were handed out may leave again
+  pub may_leave_again : (m k : Memory) (xs left : List J) (ps : List (Handle × J)) → HasHandedOut m k xs left ps → IsStill m k → MayAllLeave k (length left) ps
+  may_leave_again m k xs left ps out still i d lt =
+      let o = out.pairs i d lt in
+      record { place = omega (arith, o.place, out.count); handle = o.handle; from = o.from ∙ sym still }
+
+  pub handles_out : (m k : Memory) (xs left : List J) (ps slice : List (Handle × J)) → HasHandedOut m k xs left ps → slice ≡ ps
+      → (i : ℕ) (p : Handle × J) → i < length slice → p ≡ get_or slice i p → IsHandle p.0
+  handles_out m k xs left ps slice out same i p lt is =
+      subst (λ (q : Handle × J). IsHandle q.0) (sym (is ∙ ap (λ (l : List (Handle × J)). get_or l i p) same)) (out.pairs i p (omega (arith, lt, ap length same))).handle
+
   -- ---- no task has worked
 
   module _ (m k n : Memory) (xs left zs : List J) (ps : List (Handle × J)) (out : HasHandedOut m k xs left ps) (back : HasTakenBack k n left zs 0 ps) where
-    pub may_leave_again : IsStill m k → MayAllLeave k (length left) ps
-    may_leave_again still i d lt =
-        let o = out.pairs i d lt in
-        record { place = omega (arith, o.place, out.count); handle = o.handle; from = o.from ∙ sym still }
-
     -- a place behind the tasks that were left is that of a pair
     pair_of : (i : ℕ) → length left ≤ i → i < length xs → (p : Handle × J) × (p.0.number ≡ i) × IsHandedOut m xs (length xs - 1 - i) p × HasLeft n zs p
     pair_of i high lt =
