@@ -4,7 +4,7 @@ use Rattle.of_cell.specs.Words.{seq_of}
 use Rattle.of_core.specs.Machine.{Call}
 use Rattle.of_core.specs.Inside.{call_value}
 use Rattle.of_play.specs.Trace.{batch_line}
-use Rattle.of_core.specs.declared.ran.RanCall.{RanCall}
+use Rattle.of_core.specs.declared.call.Call.{Call as RustCall}
 use Rattle.of_core.specs.declared.place.Place.{Place}
 use Rattle.of_core.specs.declared.place.Place.TheVariants.{ExchangeCurrent}
 use Rattle.of_core.specs.declared.place.Op.{Op}
@@ -28,8 +28,8 @@ commit_line false k i s calls = []
 
 -- the same with the calls as the code has them, and with the sequence after that of the word that
 -- was found
-abbrev pub batch_line_after : (k i found : ℕ) → List RanCall → List ℕ
+abbrev pub batch_line_after : (k i found : ℕ) → List RustCall → List ℕ
 batch_line_after k i found calls = batch_line k i (seq_of found + 1) (map call_value calls)
 
-abbrev pub commit_line_after : (commits : Bool) → (k i found : ℕ) → List RanCall → List ℕ
+abbrev pub commit_line_after : (commits : Bool) → (k i found : ℕ) → List RustCall → List ℕ
 commit_line_after b k i found calls = commit_line b k i (seq_of found + 1) (map call_value calls)
