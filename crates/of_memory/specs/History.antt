@@ -4,7 +4,7 @@ use Rattle.std.specs.List.{All}
 use Rattle.std.proofs.Common.{get_or}
 use Rattle.of_script.specs.declared.instr.Instr.{Instr}
 use Rattle.of_script.specs.Language.{reads_only}
-use Rattle.of_store.specs.Store.{Store, Reply, Answered as Replied, run}
+use Rattle.of_store.specs.Store.{Store, Reply, Answered, run}
 
 -- a call in the history: a script of a caller, the number that the call has among its caller's
 -- calls, and its reply
@@ -15,7 +15,7 @@ pub record HistoryEntry : Type 0 where
   pub reply : Reply
 
 abbrev pub no_history_entry : HistoryEntry
-no_history_entry = record { caller = 0; ticket = 0; script = []; reply = Replied [] }
+no_history_entry = record { caller = 0; ticket = 0; script = []; reply = Answered [] }
 
 -- the scripts run one after the other from this store, and each has the reply that it meets
 abbrev pub IsSerial : Store → List HistoryEntry → Type 0

@@ -67,7 +67,7 @@ pub struct Saved {
 
 impl Saved {
     ghost use Rattle.of_row.specs.Rows.{key_of, setup_at, view_of_pass, IsRowPass};
-    ghost use Rattle.of_store.specs.Store.{Reply};
+    ghost use Rattle.of_store.specs.Store.{Reply as TheReply};
     ghost use Rattle.of_store.specs.Replies.{reply_value_of};
     ghost use Rattle.of_eval.specs.Scripts.{scripts_meaning};
     ghost use Rattle.of_memory.specs.Laws.{KeepScripts};
@@ -175,7 +175,7 @@ impl Saved {
         ensures ticket { IfSome result (λ r. r.0 ≡ saved_ticket self.now number) }
         ensures reply { IfSome result (λ r. HoldsReply self.now number (reply_value_of r.1)) }
         // No other reply is held.
-        ensures only { (r : Reply) → HoldsReply self.now number r
+        ensures only { (r : TheReply) → HoldsReply self.now number r
             → IfSome result (λ given. reply_value_of given.1 ≡ r) }
     {
         let ticket = self.ticket(number);
