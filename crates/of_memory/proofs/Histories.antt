@@ -32,7 +32,7 @@ use Rattle.of_eval.specs.Stored.{cell_store}
 use Rattle.of_core.specs.Table.{Setup, cell_count, words_before_members, durable_at, durable_word, durable_seq, ticket_cell, shape_cell, reply_cell}
 use Rattle.of_core.specs.Machine.{Call, CallState, no_call, is_idle, IsOpen}
 use Rattle.of_core.specs.TableMoment.{Moment, TableStart}
-use Rattle.of_core.specs.History.{numbers_after_calls, state_after, data_word_after, last_ticket_by, batch_at, IsCellOfCaller, OwnCellsShowLast, IsNewestCall, SameReply}
+use Rattle.of_core.specs.History.{numbers_after_calls, data_word_after, last_ticket_by, batch_at, IsCellOfCaller, IsNewestCall, SameReply}
 use Rattle.of_core.specs.Events.{Event, start_ticket}
 use Rattle.of_core.specs.Calls.{operations_begun}
 use Rattle.of_core.specs.Starts.{IsDurable, IsStartRow, start_from_durable, recovered_start}
