@@ -1,5 +1,5 @@
 -- What a call of a script makes of a caller of a row of scripts.
-use Rattle.std.proofs.Common.{◌≡◌, ℕ, zero, suc, ◌≤◌, ◌<◌, ◌⊎◌, inl, inr, Bool, List, [], ◌∷◌, ◌++◌, length, map, take, Option, Some, None, Result, Ok, Err, refl, sym, ap, subst, ◌∙◌, arith, length-append}
+use Rattle.std.proofs.Common.{◌≡◌, ℕ, zero, suc, ◌+◌, ◌≤◌, ◌<◌, ◌⊎◌, inl, inr, Bool, List, [], ◌∷◌, ◌++◌, length, map, take, Option, Some, None, Result, Ok, Err, refl, sym, ap, subst, ◌∙◌, arith, length-append}
 use mathlib.Core.Bool.{true≢false}
 use Rattle.std.specs.List.{All}
 use Rattle.std.proofs.Math.Seq.{take-append_seam}
@@ -176,6 +176,14 @@ module _ (S : Setup) (L : List ℕ → Type 0) (B : TableStart) (m : CallState) 
 
   pub legal_now : (o : Outcome) → HasEndedWith S L B m v told.before told.steps d w told.kept o → IsLegalHistory S.meaning (map payload_of B.cells) (seen_history w.seen)
   legal_now o closes = (told.some (ended_some o closes)).legal.replies
+
+  -- ---- no call is open after one that has ended
+
+  pub none_after_answer : (o : Outcome) → Told (Ok o) → IsOpen d.place → ⊥
+  none_after_answer o h = none_open d h.1.idle
+
+  pub none_after_spent : (seq : ℕ) → r ≡ Err (NoneLeft seq) → IsOpen d.place → ⊥
+  none_after_spent seq is = let h : Told (Err (NoneLeft seq)) = subst Told is told.result in none_open d h.idle
 
   -- ---- how many steps it has made
 

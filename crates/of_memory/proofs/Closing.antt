@@ -66,7 +66,7 @@ module _ (r : Row Scripts) (row : IsScriptsRow r) (p : Pass) (ws : List ℕ) (m 
 
   -- what recovery leaves: a row from which a table may start, with the last replies, and a history
   pub record IsLeft (found : List ℕ) : Type 0 where
-    pub row : IsStartRow S (LawfulCells W) found
+    pub starts : IsStartRow S (LawfulCells W) found
     pub replies : HoldsLastReplies W (start_from_durable W.callers (scripts_data_cells W) found)
     pub leads : (s : Store) → StandsAt W (start_of_row r) s → (h : List HistoryEntry) × HistoryLeads W limit (start_of_row r) p.seat.me.0 s found h
 
@@ -80,4 +80,4 @@ module _ (r : Row Scripts) (row : IsScriptsRow r) (p : Pass) (ws : List ℕ) (m 
       let there : durable ≡ slice_range ws (cell_count S) (cell_count S + cell_count S) = part ∙ ap (λ (n : ℕ). slice_range ws n (n + n)) (λ i. durable_cells (e i) (f i)) in
       let every : KeepScripts S p.seat.me.0 = λ n lt. keeps n (subst (λ (k : ℕ). n < k) (sym row.callers) lt) in
       let found = law (start_of_row r) ws p.seat.me.0 meets of.2 every durable (durable_row S ws durable room there) in
-      subst IsLeft (λ i. recovered_words (sym e i) (sym f i) durable) (record { row = found.0; replies = found.1 row.replies; leads = found.2 })
+      subst IsLeft (λ i. recovered_words (sym e i) (sym f i) durable) (record { starts = found.0; replies = found.1 row.replies; leads = found.2 })

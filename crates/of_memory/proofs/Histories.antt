@@ -32,7 +32,7 @@ use Rattle.of_eval.specs.Stored.{cell_store}
 use Rattle.of_core.specs.Table.{Setup, cell_count, words_before_members, durable_at, durable_word, durable_seq, ticket_cell, shape_cell, reply_cell}
 use Rattle.of_core.specs.Machine.{Call, CallState, no_call, is_idle, IsOpen}
 use Rattle.of_core.specs.TableMoment.{Moment, TableStart}
-use Rattle.of_core.specs.History.{numbers_after_calls, state_after, data_word_after, last_ticket_by, batch_at, IsCellOfCaller, OwnCellsShowLast, IsNewestCall, SameReply}
+use Rattle.of_core.specs.History.{numbers_after_calls, data_word_after, last_ticket_by, batch_at, IsCellOfCaller, IsNewestCall, SameReply}
 use Rattle.of_core.specs.Events.{Event, start_ticket}
 use Rattle.of_core.specs.Calls.{operations_begun}
 use Rattle.of_core.specs.Starts.{IsDurable, IsStartRow, start_from_durable, recovered_start}
@@ -298,34 +298,34 @@ module _ (w : Scripts) (limit : ℕ) (start : StartsMeetInvariant (setup_with w 
 
         -- ---- the caller's own cells
 
-        abbrev durable : ℕ
-        durable = durable_seq S u.words
+        abbrev last_seq : ℕ
+        last_seq = durable_seq S u.words
 
-        at_recovery : (a : ℕ) → get_or C.cells a 0 ≡ data_word_after B u.batches durable a
+        at_recovery : (a : ℕ) → get_or C.cells a 0 ≡ data_word_after B u.batches last_seq a
         at_recovery a = ap (λ (T : TableStart). get_or T.cells a 0) re.1
 
         at_start : (a : ℕ) → data_word_after B u.batches B.seq a ≡ get_or B.cells a 0
         at_start a = ap (λ (ws : List ℕ). get_or ws a 0) (state_start B u.batches)
 
         -- they are those of the start
-        same_own : ((a : ℕ) → IsCellOfCaller S n a → data_word_after B u.batches durable a ≡ data_word_after B u.batches B.seq a) → OwnCellsAreSound MOST_INSTRS (memory_of (map payload_of B.cells)) n → OwnCellsAreSound MOST_INSTRS (memory_of (map payload_of C.cells)) n
+        same_own : ((a : ℕ) → IsCellOfCaller S n a → data_word_after B u.batches last_seq a ≡ data_word_after B u.batches B.seq a) → OwnCellsAreSound MOST_INSTRS (memory_of (map payload_of B.cells)) n → OwnCellsAreSound MOST_INSTRS (memory_of (map payload_of C.cells)) n
         same_own same =
             stand_same (memory_of (map payload_of C.cells)) (memory_of (map payload_of B.cells)) n
             (λ a own. number_at C.cells a ∙ ap payload_of (at_recovery a ∙ same a own ∙ at_start a) ∙ sym (number_at B.cells a))
 
         -- a call in the batches has a later ticket than the start
-        later_ticket : IsNewestCall S B u.batches durable n → done_before S B n < done_before S C n
+        later_ticket : IsNewestCall S B u.batches last_seq n → done_before S B n < done_before S C n
         later_ticket q =
             let claim = sound B u good in
             let c : Call = get_or (batch_at B u.batches q.number).calls q.place no_call in
-            let few = ticket_upto S L B u.batches good.core.shared.stands q.number durable q.from q.upto claim.reaches q.place no_call q.among in
+            let few = ticket_upto S L B u.batches good.core.shared.stands q.number last_seq q.from q.upto claim.reaches q.place no_call q.among in
             let more = (claim.begun q.number q.from (omega (arith, q.upto, claim.reaches)) q.place no_call q.among).1 in
-            let now : last_ticket_by S B u.batches durable c.caller ≡ done_before S C n = ap (last_ticket_by S B u.batches durable) q.caller ∙ ap payload_of (sym (at_recovery (ticket_cell S n))) in
+            let now : last_ticket_by S B u.batches last_seq c.caller ≡ done_before S C n = ap (last_ticket_by S B u.batches last_seq) q.caller ∙ ap payload_of (sym (at_recovery (ticket_cell S n))) in
             let before : last_ticket_by S B u.batches B.seq c.caller ≡ done_before S B n = ap (last_ticket_by S B u.batches B.seq) q.caller ∙ ap payload_of (at_start (ticket_cell S n)) in
             omega (arith, few, more, now, before)
 
         -- or hold the reply to a later call
-        new_own : IsNewestCall S B u.batches durable n → TellsLast S B C h n → OwnCellsAreSound MOST_INSTRS (memory_of (map payload_of C.cells)) n
+        new_own : IsNewestCall S B u.batches last_seq n → TellsLast S B C h n → OwnCellsAreSound MOST_INSTRS (memory_of (map payload_of C.cells)) n
         new_own q (inl none) = let later = later_ticket q in absurd (omega (arith, later, none))
         new_own q (inr last) = record {
           none = λ zero. let later = later_ticket q in absurd (omega (arith, later, number_at C.cells (ticket_cell_at MOST_INSTRS n), zero));

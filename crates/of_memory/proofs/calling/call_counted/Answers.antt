@@ -1,5 +1,5 @@
 use Rattle.std.proofs.Common.{◌∙◌, ap, refl, Err}
-use Rattle.of_memory.proofs.Called.{words_are, held_of, serves_on, made_answered, made_spent, keeps_answered, keeps_stopped, keeps_over, none_open, answers_within, stops_within, opens_only}
+use Rattle.of_memory.proofs.Called.{words_are, held_of, serves_on, made_answered, made_spent, keeps_answered, keeps_stopped, keeps_over, none_after_answer, none_after_spent, answers_within, stops_within, opens_only}
 use Rattle.of_memory.proofs.calling.call_counted.Goals as goal
 
 pub answer_of-requires : goal.answer_of-requires
@@ -47,10 +47,13 @@ pub returns-clause-stop : goal.returns-clause-stop
 returns-clause-stop g c = keeps_over _ _ _ _ _ _ _ _ _ _ c.call.ensures.told _ _
 
 pub returns-in-Ok-clause-open_call : goal.returns-in-Ok-clause-open_call
-returns-in-Ok-clause-open_call g c = none_open _ c.in-Ok.ensures.told.result.1.idle
+returns-in-Ok-clause-open_call g c =
+    let told = c.in-Ok.ensures.told in
+    none_after_answer _ _ _ _ _ _ _ _ _ _ told c.in-Ok.outcome told.result
 
 pub returns-clause-open_call : goal.returns-clause-open_call
-returns-clause-open_call g c = none_open _ c.call.ensures.told.result.idle
+returns-clause-open_call g c =
+    none_after_spent _ _ _ _ _ _ _ _ _ _ c.call.ensures.told c.in-Err-Spent.seq (c.in-Err-Spent.is ∙ ap (λ e. Err e) c.in-Err-Spent.field-0-is)
 
 pub returns-in-Ok-clause-bound : goal.returns-in-Ok-clause-bound
 returns-in-Ok-clause-bound g c =

@@ -1,4 +1,3 @@
-use Rattle.of_memory.specs.declared.handle.Handle.{Handle}
 use Rattle.of_memory.proofs.Called.{tried_is, as_it_was}
 use Rattle.of_memory.proofs.handle.Handle.begin.Goals as goal
 

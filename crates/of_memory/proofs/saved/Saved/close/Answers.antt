@@ -23,7 +23,7 @@ returns-clause-saved c =
     let found = closed r c.requires.row c.args.pass _ c.close-words.ensures.words c.close-words.ensures.size shape.result.callers shape.result.cells c.keep_durable.new.words.items shape.ensures.callers shape.ensures.cells part law c.requires.pass c.requires.keeps in
     record {
       row = subst (λ (k : Scripts × ℕ). IsStartRow (setup_with k.0 k.1) (LawfulCells k.0) c.recover_words.new.words.items) (λ i. (sym w i, sym l i))
-          (subst (IsStartRow (setup_with (key_of r).work (key_of r).limit) (LawfulCells (key_of r).work)) (sym c.recover_words.ensures) found.row);
+          (subst (IsStartRow (setup_with (key_of r).work (key_of r).limit) (LawfulCells (key_of r).work)) (sym c.recover_words.ensures) found.starts);
       replies = subst (λ (k : Scripts). HoldsLastReplies k (start_from_durable k.callers (scripts_data_cells k) c.recover_words.new.words.items)) (sym w)
           (subst (λ (xs : List ℕ). HoldsLastReplies (key_of r).work (start_from_durable (key_of r).work.callers (scripts_data_cells (key_of r).work) xs)) (sym c.recover_words.ensures) found.replies);
       some_limit = subst (λ (n : ℕ). 1 ≤ n) (sym l) c.requires.row.some_limit;

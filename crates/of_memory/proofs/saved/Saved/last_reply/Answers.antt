@@ -1,10 +1,7 @@
-use Rattle.std.proofs.Common.{◌≡◌, Some, refl, sym, ap, subst, ◌∙◌, map}
-use Rattle.of_cell.specs.Words.{payload_of}
+use Rattle.std.proofs.Common.{◌≡◌, Some, refl, sym, ap, subst, ◌∙◌}
 use Rattle.of_mem.specs.declared.work.RawReply.{RawReply}
 use Rattle.of_mem.specs.Places.{ticket_cell_at}
-use Rattle.of_mem.specs.ProgramWork.{memory_of}
 use Rattle.of_script.specs.declared.instr.TheConstants.{MOST_INSTRS}
-use Rattle.of_store.specs.Store.{Reply}
 use Rattle.of_store.specs.Replies.{reply_value_of}
 use Rattle.of_eval.specs.Shapes.{IsHeldBy}
 use Rattle.of_caller.proofs.StoresReplay.{number_at}
