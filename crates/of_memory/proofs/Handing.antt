@@ -1,22 +1,19 @@
 -- How handles are handed out to tasks that work at once, and come back.
-use Rattle.std.proofs.Common.{◌≡◌, ◌≢◌, ℕ, ◌+◌, ◌-◌, ◌<◌, ◌≤◌, ◌⊎◌, inl, inr, List, [], ◌∷◌, ◌++◌, length, get_or, set, take, drop, Option, Some, None, refl, sym, ap, subst, ◌∙◌, arith}
+use Rattle.std.proofs.Common.{◌≡◌, ◌≢◌, ℕ, ◌+◌, ◌-◌, ◌<◌, ◌≤◌, ◌⊎◌, inl, inr, List, [], ◌∷◌, ◌++◌, length, get_or, take, drop, Option, Some, None, refl, sym, ap, subst, ◌∙◌, arith}
 use Rattle.std.proofs.lemmas.Bool.{cases_lt}
 use Rattle.std.proofs.lemmas.List.{get_or-set_same, get_or-set_other, get_or_append_left, get_or_default, length-append, same_lists}
 use Rattle.std.proofs.Math.Seq.{get_or-append_seam, take-append_seam}
-use Rattle.of_script.specs.declared.instr.Instr.{Instr}
 use Rattle.of_eval.specs.declared.scripts.Scripts.{Scripts}
-use Rattle.of_row.specs.declared.row.Row.{Row}
 use Rattle.of_caller.specs.declared.caller.Caller.{Caller}
 use Rattle.of_memory.specs.declared.error.EnrolErr.{EnrolErr}
 use Rattle.of_memory.specs.declared.error.EnrolErr.TheVariants.{OutOfMemory, NoCaller, Enrolled}
 use Rattle.of_memory.specs.declared.memory.Memory.{Memory}
 use Rattle.of_memory.specs.declared.handle.Handle.{Handle}
-use Rattle.of_memory.specs.History.{Made}
 use Rattle.of_memory.specs.Calls.{AreMade}
 use Rattle.of_memory.specs.Called.{IsOpenAt}
 use Rattle.of_memory.specs.Serving.{ended_of}
-use Rattle.of_memory.specs.Handles.{IsHandle, home_of}
-use Rattle.of_memory.specs.Memories.{IsMemory, IsFrom, IsStill, TakesOut, TakesNone, PutsBack, IsEnrolCause, row_of, callers_of}
+use Rattle.of_memory.specs.Handles.{IsHandle}
+use Rattle.of_memory.specs.Memories.{IsFrom, IsStill, TakesOut, TakesNone, PutsBack, IsEnrolCause, callers_of}
 use Rattle.of_memory.specs.Tasks.{KnowsHandle, KnowsSame, KnowsRest, TaskWork, HasWorked, HasWorkedAs, HaveWorked, IsTaskCause, IsHandedOut, HasHandedOut, MayLeave, MayAllLeave, HasLeft, HasTakenBack}
 
 -- ---- what a memory knows of a number

@@ -1,5 +1,4 @@
-use Rattle.std.proofs.Common.{◌≡◌, ◌<◌, length, vec_len, sym, subst, ◌∙◌, ◌++◌, ◌∷◌, [], List, arith, rules}
-use Rattle.of_memory.specs.declared.handle.Handle.{Handle}
+use Rattle.std.proofs.Common.{◌≡◌, ◌<◌, length, vec_len, sym, subst, ◌∙◌, arith, rules}
 use Rattle.of_memory.specs.Tasks.{HasHandedOut}
 use Rattle.of_memory.proofs.Still.{still_callers}
 use Rattle.of_memory.proofs.Handing.{out_more, cause_of}
