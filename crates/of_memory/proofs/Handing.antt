@@ -1,22 +1,19 @@
 -- How handles are handed out to tasks that work at once, and come back.
-use Rattle.std.proofs.Common.{◌≡◌, ◌≢◌, ℕ, ◌+◌, ◌-◌, ◌<◌, ◌≤◌, ◌⊎◌, inl, inr, List, [], ◌∷◌, ◌++◌, length, get_or, set, take, drop, Option, Some, None, refl, sym, ap, subst, ◌∙◌, arith}
+use Rattle.std.proofs.Common.{◌≡◌, ◌≢◌, ℕ, ◌+◌, ◌-◌, ◌<◌, ◌≤◌, ◌⊎◌, inl, inr, List, [], ◌∷◌, ◌++◌, length, get_or, take, drop, Option, Some, None, refl, sym, ap, subst, ◌∙◌, arith}
 use Rattle.std.proofs.lemmas.Bool.{cases_lt}
 use Rattle.std.proofs.lemmas.List.{get_or-set_same, get_or-set_other, get_or_append_left, get_or_default, length-append, same_lists}
 use Rattle.std.proofs.Math.Seq.{get_or-append_seam, take-append_seam}
-use Rattle.of_script.specs.declared.instr.Instr.{Instr}
 use Rattle.of_eval.specs.declared.scripts.Scripts.{Scripts}
-use Rattle.of_row.specs.declared.row.Row.{Row}
 use Rattle.of_caller.specs.declared.caller.Caller.{Caller}
 use Rattle.of_memory.specs.declared.error.EnrolErr.{EnrolErr}
 use Rattle.of_memory.specs.declared.error.EnrolErr.TheVariants.{OutOfMemory, NoCaller, Enrolled}
 use Rattle.of_memory.specs.declared.memory.Memory.{Memory}
 use Rattle.of_memory.specs.declared.handle.Handle.{Handle}
-use Rattle.of_memory.specs.History.{Made}
 use Rattle.of_memory.specs.Calls.{AreMade}
 use Rattle.of_memory.specs.Called.{IsOpenAt}
 use Rattle.of_memory.specs.Serving.{ended_of}
-use Rattle.of_memory.specs.Handles.{IsHandle, home_of}
-use Rattle.of_memory.specs.Memories.{IsMemory, IsFrom, IsStill, TakesOut, TakesNone, PutsBack, IsEnrolCause, row_of, callers_of}
+use Rattle.of_memory.specs.Handles.{IsHandle}
+use Rattle.of_memory.specs.Memories.{IsFrom, IsStill, TakesOut, TakesNone, PutsBack, IsEnrolCause, callers_of}
 use Rattle.of_memory.specs.Tasks.{KnowsHandle, KnowsSame, KnowsRest, TaskWork, HasWorked, HasWorkedAs, HaveWorked, IsTaskCause, IsHandedOut, HasHandedOut, MayLeave, MayAllLeave, HasLeft, HasTakenBack}
 
 -- ---- what a memory knows of a number
@@ -195,14 +192,30 @@ module _ {J : Type 0} where
         rest = others_at;
       }
 
+  -- the last pair of those that are left may leave
+  pub next_leaves : (m : Memory) (first : ℕ) (ps now front : List (Handle × J)) (h : Handle) (t : J) → MayAllLeave m first ps → now ≡ front ++ (h, t) ∷ [] → length now ≤ length ps
+      → ((i : ℕ) (d : Handle × J) → i < length now → get_or now i d ≡ get_or ps i d) → MayLeave m (first + length ps) (length front) (h, t)
+  next_leaves m first ps now front h t may is few same =
+      let next : length now ≡ length front + 1 = longer front now (h, t) is in
+      let low : length front < length now = omega (arith, next) in
+      let at : get_or ps (length front) (h, t) ≡ (h, t) =
+      sym (same (length front) (h, t) low) ∙ ap (λ (l : List (Handle × J)). get_or l (length front) (h, t)) is ∙ get_or-append_seam front (h, t) [] (h, t) in
+      subst (MayLeave m (first + length ps) (length front)) at (may (length front) (h, t) (omega (arith, low, few)))
+
+  -- handles that were handed out may leave again
+  pub may_leave_again : (m k : Memory) (xs left : List J) (ps : List (Handle × J)) → HasHandedOut m k xs left ps → IsStill m k → MayAllLeave k (length left) ps
+  may_leave_again m k xs left ps out still i d lt =
+      let o = out.pairs i d lt in
+      record { place = omega (arith, o.place, out.count); handle = o.handle; from = o.from ∙ sym still }
+
+  pub handles_out : (m k : Memory) (xs left : List J) (ps slice : List (Handle × J)) → HasHandedOut m k xs left ps → slice ≡ ps
+      → (i : ℕ) (p : Handle × J) → i < length slice → p ≡ get_or slice i p → IsHandle p.0
+  handles_out m k xs left ps slice out same i p lt is =
+      subst (λ (q : Handle × J). IsHandle q.0) (sym (is ∙ ap (λ (l : List (Handle × J)). get_or l i p) same)) (out.pairs i p (omega (arith, lt, ap length same))).handle
+
   -- ---- no task has worked
 
   module _ (m k n : Memory) (xs left zs : List J) (ps : List (Handle × J)) (out : HasHandedOut m k xs left ps) (back : HasTakenBack k n left zs 0 ps) where
-    pub may_leave_again : IsStill m k → MayAllLeave k (length left) ps
-    may_leave_again still i d lt =
-        let o = out.pairs i d lt in
-        record { place = omega (arith, o.place, out.count); handle = o.handle; from = o.from ∙ sym still }
-
     -- a place behind the tasks that were left is that of a pair
     pair_of : (i : ℕ) → length left ≤ i → i < length xs → (p : Handle × J) × (p.0.number ≡ i) × IsHandedOut m xs (length xs - 1 - i) p × HasLeft n zs p
     pair_of i high lt =

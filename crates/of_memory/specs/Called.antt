@@ -1,5 +1,5 @@
 -- What a call of a script comes to.
-use Rattle.std.specs.Prelude.{◌≡◌, List, [], ◌∷◌, ◌++◌, map, Result, Ok, Err, ◌+◌, ◌<◌, ◌⊎◌}
+use Rattle.std.specs.Prelude.{◌≡◌, List, [], ◌∷◌, ◌++◌, map, Result, Ok, Err, ◌⊎◌}
 use Rattle.of_script.specs.declared.instr.Instr.{Instr}
 use Rattle.of_script.specs.Language.{IsScript, instr_word}
 use Rattle.of_store.specs.Replies.{reply_value_of}

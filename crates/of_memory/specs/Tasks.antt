@@ -1,5 +1,5 @@
 -- Tasks that work at once, each with a handle of its own.
-use Rattle.std.specs.Prelude.{◌≡◌, ◌≢◌, ℕ, ◌+◌, ◌<◌, ◌≤◌, ◌⊎◌, List, None, Some, length, get_or}
+use Rattle.std.specs.Prelude.{◌≡◌, ℕ, ◌+◌, ◌<◌, ◌≤◌, ◌⊎◌, List, None, Some, length, get_or}
 use Rattle.of_script.specs.declared.instr.Instr.{Instr}
 use Rattle.of_memory.specs.declared.error.EnrolErr.{EnrolErr}
 use Rattle.of_memory.specs.declared.error.EnrolErr.TheVariants.{OutOfMemory, NoCaller, Enrolled}

@@ -1,5 +1,5 @@
-use Rattle.std.proofs.Common.{◌≡◌, length, ap, ◌∙◌, rules}
-use Rattle.of_memory.proofs.Handing.{written, may_after, all_worked, others_known, may_leave_again, tasks_back, all_back}
+use Rattle.std.proofs.Common.{◌≡◌, ◌≤◌, length, arith, ap, ◌∙◌, rules}
+use Rattle.of_memory.proofs.Handing.{written, may_after, all_worked, others_known, may_leave_again, handles_out, tasks_back, all_back}
 use Rattle.of_memory.proofs.memory.Memory.at_once.Goals as goal
 
 pub take_back-requires-clause-pairs : goal.take_back-requires-clause-pairs
@@ -47,3 +47,17 @@ pub returns-in-Err-clause-tasks : goal.returns-in-Err-clause-tasks
 returns-in-Err-clause-tasks g c =
     tasks_back c.args.self.now c.hand_out.new.self c.take_back-in-Err.new.self c.args.tasks.now.items c.hand_out.new.tasks.items c.take_back-in-Err.new.tasks.items c.hand_out.new.pairs.items
     c.in-Err.ensures.out c.take_back-in-Err.ensures.back
+
+pub work_all-requires-after_bounds : goal.work_all-requires-after_bounds
+work_all-requires-after_bounds g c κs within =
+    handles_out c.args.self.now c.hand_out.new.self c.args.tasks.now.items c.hand_out.new.tasks.items c.hand_out.new.pairs.items c.as_mut_slice.result.now c.in-Ok-hand_out.ensures.out c.as_mut_slice.ensures.value
+
+pub take_back-requires-in-Err-clause-pairs : goal.take_back-requires-in-Err-clause-pairs
+take_back-requires-in-Err-clause-pairs g c =
+    may_leave_again c.args.self.now c.hand_out.new.self c.args.tasks.now.items c.hand_out.new.tasks.items c.hand_out.new.pairs.items c.in-Err.ensures.out c.in-Err.ensures.still
+
+pub returns-in-Err-clause-rest : goal.returns-in-Err-clause-rest
+returns-in-Err-clause-rest g c n high =
+    let low : 0 ≤ n = omega arith in
+    all_back c.args.self.now c.hand_out.new.self c.take_back-in-Err.new.self c.args.tasks.now.items c.hand_out.new.tasks.items c.take_back-in-Err.new.tasks.items c.hand_out.new.pairs.items
+    c.in-Err.ensures.out c.take_back-in-Err.ensures.back n low

@@ -1,7 +1,7 @@
-use Rattle.std.proofs.Common.{◌≡◌, length, vec_len, sym, subst, ◌∙◌, ◌++◌, ◌∷◌, [], List, arith, rules}
-use Rattle.of_memory.specs.declared.handle.Handle.{Handle}
+use Rattle.std.proofs.Common.{◌≡◌, ◌<◌, length, vec_len, sym, subst, ◌∙◌, arith, rules}
 use Rattle.of_memory.specs.Tasks.{HasHandedOut}
-use Rattle.of_memory.proofs.Handing.{out_more}
+use Rattle.of_memory.proofs.Still.{still_callers}
+use Rattle.of_memory.proofs.Handing.{out_more, cause_of}
 use Rattle.of_memory.proofs.memory.Memory.hand_out.Goals as goal
 
 pub overflow_cast-len : goal.overflow_cast-len
@@ -26,3 +26,13 @@ loop-task-preserved g c =
       pairs_room = omega (arith, inv.pairs_room, c.put.ensures.capacity);
       tasks_room = omega (arith, inv.tasks_room, c.pop.ensures.capacity);
     }
+
+pub returns-in-Err-clause-cause : goal.returns-in-Err-clause-cause
+returns-in-Err-clause-cause g c =
+    let inv = c.loop-task.invariant in
+    let m = c.args.self.now in
+    let k = c.loop-task.self in
+    let left = c.loop-task.tasks.items in
+    let long : vec_len c.loop-task.tasks ≡ length left = search rules in
+    let low : c.len.result < length left = omega (arith, c.len.ensures, c.in-Some.ensures.cases, long) in
+    cause_of m k c.args.tasks.now.items left c.loop-task.pairs.items inv.out c.len.result c.in-Err.error low c.requires.few (still_callers m k inv.still) c.in-Err.ensures.cause

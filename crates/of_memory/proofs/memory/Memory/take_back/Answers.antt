@@ -1,10 +1,10 @@
-use Rattle.std.proofs.Common.{◌≡◌, ℕ, ◌+◌, ◌<◌, ◌++◌, ◌∷◌, [], List, length, get_or, sym, subst, ap, ◌∙◌, arith}
+use Rattle.std.proofs.Common.{◌≡◌, ◌+◌, ◌<◌, ◌∷◌, [], length, get_or, sym, subst, ap, ◌∙◌, arith}
 use Rattle.std.proofs.lemmas.List.{get_or_append_left, length-append}
 use Rattle.std.proofs.Math.Seq.{get_or-append_seam}
 use Rattle.of_memory.specs.declared.handle.Handle.{Handle}
 use Rattle.of_memory.specs.Tasks.{MayLeave, HasTakenBack}
 use Rattle.of_memory.proofs.Holding.{low_handle}
-use Rattle.of_memory.proofs.Handing.{back_more}
+use Rattle.of_memory.proofs.Handing.{back_more, next_leaves}
 use Rattle.of_memory.proofs.memory.Memory.take_back.Goals as goal
 
 pub loop-handle-preserved : goal.loop-handle-preserved
@@ -35,3 +35,15 @@ loop-handle-preserved g c =
       front = λ i d below. sym (get_or_append_left front ((h, t) ∷ []) d i below) ∙ ap (λ l. get_or l i d) (sym items) ∙ inv.front i d (omega (arith, below, next));
       room = omega (arith, inv.room, c.put.ensures.len, c.put.ensures.capacity, c.in-Some.ensures.cases);
     }
+
+pub leave-requires-clause-handle : goal.leave-requires-clause-handle
+leave-requires-clause-handle g c =
+    let inv = c.loop-handle.invariant in
+    let may = next_leaves c.args.self.now (length c.args.tasks.now.items) c.args.pairs.items c.loop-handle.pairs.items c.pop.new.self.items c.in-Some.handle c.in-Some.task c.requires.pairs c.in-Some.ensures.items inv.back.low inv.front in
+    may.handle
+
+pub leave-requires-clause-from : goal.leave-requires-clause-from
+leave-requires-clause-from g c =
+    let inv = c.loop-handle.invariant in
+    let may = next_leaves c.args.self.now (length c.args.tasks.now.items) c.args.pairs.items c.loop-handle.pairs.items c.pop.new.self.items c.in-Some.handle c.in-Some.task c.requires.pairs c.in-Some.ensures.items inv.back.low inv.front in
+    may.from ∙ sym inv.still
