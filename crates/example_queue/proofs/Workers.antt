@@ -1,12 +1,20 @@
 -- What workers leave of a memory.
-use Rattle.std.proofs.Common.{◌≡◌, ℕ, ◌<◌, inl, inr, List, [], ◌∷◌, ◌++◌, length, get_or, refl, sym, subst, ◌∙◌, arith}
+use Rattle.std.proofs.Common.{◌≡◌, ℕ, ◌<◌, ◌⊎◌, inl, inr, List, [], ◌∷◌, ◌++◌, length, get_or, Result, Ok, Err, refl, sym, subst, ◌∙◌, arith}
 use Rattle.std.specs.List.{All}
 use Rattle.std.proofs.lemmas.Bool.{cases_lt}
+use Rattle.std.proofs.lemmas.List.Elements.{All-push}
+use Rattle.of_script.specs.declared.instr.Instr.{Instr}
 use Rattle.of_store.specs.Store.{Store}
+use Rattle.of_store.specs.Replies.{reply_value_of}
+use Rattle.of_plan.specs.declared.answer.Answer.{Answer}
+use Rattle.of_memory.specs.declared.error.RunErr.{RunErr}
+use Rattle.of_memory.specs.declared.error.RunErr.TheVariants.{OutOfMemory, Stopped, Spent as NoneLeft, Open, NoTicket}
 use Rattle.of_memory.specs.declared.memory.Memory.{Memory}
 use Rattle.of_memory.specs.declared.handle.Handle.{Handle}
 use Rattle.of_memory.specs.declared.saved.Saved.{Saved}
-use Rattle.of_memory.specs.History.{HistoryEntry, Made, no_made, store_after, IsOneOf}
+use Rattle.of_memory.specs.History.{HistoryEntry, Made, no_made, Replied, Spent, store_after, IsOneOf}
+use Rattle.of_memory.specs.Called.{made_with}
+use Rattle.of_memory.specs.Handles.{HasOpen, MakesCall, OpensOnly}
 use Rattle.of_memory.specs.Memories.{HasMadeOf, HasOpenOf, HasNoneOpen, HasHistory, IsStill, callers_of}
 use Rattle.of_memory.specs.Saving.{SavedHolds}
 use Rattle.of_memory.specs.Tasks.{TaskWork, HasWorkedAs, HaveWorked, KnowsRest}
@@ -58,6 +66,28 @@ module _ {J : Type 0} (Does : TaskWork J) (does : (x y : J) (h k : Handle) → D
       worked_at : (xs ys : List J) → HaveWorked Does m k xs ys → (n : ℕ) → n < length xs → n < callers_of m → HasTakenOf k n
       worked_at [] ys worked n lt low = absurd (omega (arith, lt))
       worked_at (x ∷ xs) ys worked n lt low = taken_by n _ _ low (worked.each n x lt)
+
+-- ---- a call of a worker
+
+all_take : (script : List Instr) (r : Result Answer RunErr) (ms : List Made) → TakesJob script → AllTake ms → AllTake (made_with script r ms)
+all_take script (Ok a) ms takes all = All-push (λ (m : Made). TakesJob m.script) ms (record { script = script; ended = Replied (reply_value_of a.reply) }) all takes
+all_take script (Err OutOfMemory) ms takes all = all
+all_take script (Err (Stopped asked)) ms takes all = all
+all_take script (Err (NoneLeft seq)) ms takes all = All-push (λ (m : Made). TakesJob m.script) ms (record { script = script; ended = Spent }) all takes
+all_take script (Err Open) ms takes all = all
+all_take script (Err NoTicket) ms takes all = all
+
+open_takes : (h : Handle) (script s : List Instr) → TakesJob script → HasTaken h → (s ≡ script) ⊎ HasOpen h s → TakesJob s
+open_takes h script s takes taken (inl is) = subst TakesJob (sym is) takes
+open_takes h script s takes taken (inr before) = taken.open_call s before
+
+pub takes_on : (script : List Instr) (r : Result Answer RunErr) (h k : Handle) → TakesJob script → MakesCall script r h k → OpensOnly script h k → OnlyTakes h k
+takes_on script r h k takes makes only taken = record {
+  made = made_with script r taken.made;
+  has = makes taken.made taken.has;
+  all = all_take script r taken.made takes taken.all;
+  open_call = λ s opened. open_takes h script s takes taken (only s opened);
+}
 
 -- ---- what is saved
 
