@@ -58,30 +58,6 @@ pub fn run_fuels<R: Threads + Sync>(
     run_plan(rt, alloc, text, brakes, register)
 }
 
-/// Makes the brakes of a pair of callers, and puts one behind the brakes and one behind those of
-/// the partners.
-fn push_pair(
-    alloc: Global,
-    at: u64,
-    exchanged: bool,
-    brakes: &mut Vec<Box<dyn Brake + Send>>,
-    partners: &mut Vec<Box<dyn Brake + Send>>,
-) -> Result<(), AllocError>
-    requires { 1 ≤ at }
-{
-    let (holder, teller) = hold_pair(alloc, at, TURNS)?;
-    let holder: Box<dyn Brake + Send> = Box::new(alloc, holder)?;
-    let teller: Box<dyn Brake + Send> = Box::new(alloc, teller)?;
-    let (one, other) = if exchanged {
-        (teller, holder)
-    } else {
-        (holder, teller)
-    };
-    brakes.push(one)?;
-    partners.push(other)?;
-    Ok(())
-}
-
 /// What a team of so many pairs of callers leaves, the first with the last, and so on inwards: of
 /// each pair one is held at its ask `at` until the other's call is answered, the first one, or the
 /// second where they are exchanged.
@@ -100,7 +76,16 @@ pub fn run_pairs<R: Threads + Sync>(
     let mut brakes: Vec<Box<dyn Brake + Send>> = Vec::new(alloc);
     let mut partners: Vec<Box<dyn Brake + Send>> = Vec::new(alloc);
     for _ in 0..pairs {
-        push_pair(alloc, at, exchanged, &mut brakes, &mut partners)?;
+        let (holder, teller) = hold_pair(alloc, at, TURNS)?;
+        let holder: Box<dyn Brake + Send> = Box::new(alloc, holder)?;
+        let teller: Box<dyn Brake + Send> = Box::new(alloc, teller)?;
+        if exchanged {
+            brakes.push(teller)?;
+            partners.push(holder)?;
+        } else {
+            brakes.push(holder)?;
+            partners.push(teller)?;
+        }
     }
     for _ in 0..pairs {
         if let Some(partner) = partners.pop() {
