@@ -17,7 +17,7 @@ use Rattle.of_plan.specs.Plan.{Plan, IsPlan, data_cells}
 use Rattle.of_core.specs.declared.place.Outcome.TheVariants.{Answered}
 use Rattle.of_core.specs.Machine.{Call, no_call}
 use Rattle.of_core.specs.TableMoment.{Batch, TableStart}
-use Rattle.of_core.specs.History.{batch_at, no_batch, numbers_after_calls, CallsHaveReplies, numbers_after_batches, IsLegalHistory, SameReply, HasCall}
+use Rattle.of_core.specs.History.{batch_at, no_batch, numbers_after_calls, CallsHaveReplies, numbers_after_batches, IsLegalHistory, SameWhereMarked, HasCall}
 use Rattle.of_row.specs.Rule.{CallHasEnded}
 use Rattle.of_row.specs.Turned.{IsMeantReply}
 use Rattle.of_caller.specs.Tables.{meaning_for, plan_setup, IsLawfulFor}
@@ -46,13 +46,13 @@ module _ (p : Plan) (plan : IsPlan p) where
   fine_replay (b ∷ bs) xs h = fine_replay bs (numbers_after_calls M xs b.calls) (fine_calls b.calls xs h)
 
   -- what an operation replies on such cells is held
-  holds : (xs op : List ℕ) (raw : RawReply) → IsFine xs → 1 ≤ length op → length op ≤ MOST_INSTRS → SameReply (plan_setup p) raw (M.reply xs op) → (r : Reply) × IsHeldBy raw r
+  holds : (xs op : List ℕ) (raw : RawReply) → IsFine xs → 1 ≤ length op → length op ≤ MOST_INSTRS → SameWhereMarked (plan_setup p) raw (M.reply xs op) → (r : Reply) × IsHeldBy raw r
   holds xs op raw h some few same =
       let s : Store = h.lawful.0 in
       let does = means_words (work_of p plan) xs op s h.size few h.lawful.1 in
       let response = (run_words s op).1 in
       let fits : FitsIn (length op) response = settled_fits s op (words_outcome s op) (words_answer op s h.lawful.1.state) in
-      let has = has_reply p raw (length op) response some few fits (subst (SameReply (plan_setup p) raw) does.reply same) in
+      let has = has_reply p raw (length op) response some few fits (subst (SameWhereMarked (plan_setup p) raw) does.reply same) in
       (has.0, has.1)
 
   -- a call met its reply on such cells
@@ -76,11 +76,11 @@ module _ (p : Plan) (plan : IsPlan p) where
         let j : ℕ = k - B.seq - 1 in
         let replies = legal_at M (map payload_of B.cells) bs j legal (stands k has.place has.among) in
         let met = met_at (get_or bs j no_batch).calls has.place (numbers_after_batches M (map payload_of B.cells) (take j bs)) (fine_replay (take j bs) (map payload_of B.cells) start) replies has.among in
-        holds met.0 op raw met.1 some few (subst (λ (o : List ℕ). SameReply (plan_setup p) raw (M.reply met.0 o)) has.same (subst (SameReply (plan_setup p) raw) (sym met.2) has.reply))
+        holds met.0 op raw met.1 some few (subst (λ (o : List ℕ). SameWhereMarked (plan_setup p) raw (M.reply met.0 o)) has.same (subst (SameWhereMarked (plan_setup p) raw) (sym met.2) (has.reply.0, λ y l m. has.reply.1 y l)))
 
     -- so is that of each answer that a member keeps
     pub answer_holds : (k : ℕ) (announced : Bool) (raw : RawReply) (steps : ℕ) → CallHasEnded (plan_setup p) B bs r i t op (Answered k announced raw steps) → IsMeantReply (plan_setup p) B bs op (Answered k announced raw steps) → (q : Reply) × IsHeldBy raw q
     answer_holds k true raw steps ended meant = announced_holds k raw ended.3
     answer_holds k false raw steps ended meant =
         holds (numbers_after_batches M (map payload_of B.cells) (take (k - B.seq) bs)) op raw (fine_replay (take (k - B.seq) bs) (map payload_of B.cells) start) some few
-        (subst (SameReply (plan_setup p) raw) (sym meant) (refl, λ y l m. refl))
+        (subst (SameWhereMarked (plan_setup p) raw) (sym meant) (refl, λ y l m. refl))

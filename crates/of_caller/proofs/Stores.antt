@@ -29,7 +29,7 @@ use Rattle.of_core.specs.Table.{Setup, first_operation_cell, durable_seq}
 use Rattle.of_core.specs.Machine.{no_call, is_idle}
 use Rattle.of_core.specs.TableMoment.{Moment, Batch, Read, TableStart}
 use Rattle.of_core.specs.Order.{no_read}
-use Rattle.of_core.specs.History.{numbers_after, no_batch, numbers_after_calls, CallsHaveReplies, numbers_after_batches, SameReply}
+use Rattle.of_core.specs.History.{numbers_after, no_batch, numbers_after_calls, CallsHaveReplies, numbers_after_batches, SameWhereMarked}
 use Rattle.of_core.specs.Calls.{no_outcome}
 use Rattle.of_core.specs.Events.{machine_in}
 use Rattle.of_caller.specs.Tables.{plan_setup, operation_of}
@@ -187,7 +187,7 @@ module _ (p : Plan) (s : Start) (B : TableStart) (w : Moment) (ops : ℕ → Lis
         only = only_reads r.op (script_of_ticket p r.caller r.ticket) q.only operation.words operation.script;
         from = q.from;
         upto = q.upto;
-        reply = has_reply p r.raw (length r.op) (run (store_at_seq p B s.store w r.seq) (script_of_ticket p r.caller r.ticket)).1 ran.some ran.few ran.fits (subst (SameReply S r.raw) (sym q.reply ∙ ran.reply) (refl, λ y l m. refl));
+        reply = has_reply p r.raw (length r.op) (run (store_at_seq p B s.store w r.seq) (script_of_ticket p r.caller r.ticket)).1 ran.some ran.few ran.fits (subst (SameWhereMarked S r.raw) (sym q.reply ∙ ran.reply) (refl, λ y l m. refl));
       }
 
   module _ (i x k steps : ℕ) (raw : RawReply) (caller : i < p.callers) (among : x < length (outs i)) where
@@ -205,7 +205,7 @@ module _ (p : Plan) (s : Start) (B : TableStart) (w : Moment) (ops : ℕ → Lis
           among = call.among;
           caller = call.caller;
           ticket = call.ticket;
-          reply = has_reply p raw (length c.op) (get_or (replies_in_order (store_at_seq p B s.store w (k - 1)) (batch_scripts p B w k)) call.place no_response) has.some has.few has.fits (subst (SameReply S raw) has.raw call.reply);
+          reply = has_reply p raw (length c.op) (get_or (replies_in_order (store_at_seq p B s.store w (k - 1)) (batch_scripts p B w k)) call.place no_response) has.some has.few has.fits (subst (SameWhereMarked S raw) has.raw (call.reply.0, λ y l m. call.reply.1 y l));
         }
 
     -- a read that was not announced

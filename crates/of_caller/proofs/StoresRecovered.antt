@@ -29,7 +29,7 @@ use Rattle.of_core.specs.declared.place.Outcome.{Outcome}
 use Rattle.of_core.specs.Table.{Setup, durable_seq, ticket_cell, shape_cell, reply_cell}
 use Rattle.of_core.specs.Machine.{Call, no_call}
 use Rattle.of_core.specs.TableMoment.{Moment, TableStart}
-use Rattle.of_core.specs.History.{data_word_after, state_after, numbers_after, HasNoCallBetween, IsCellOfCaller, IsNewestCall, SameReply}
+use Rattle.of_core.specs.History.{data_word_after, state_after, numbers_after, HasNoCallBetween, IsCellOfCaller, IsNewestCall, SameWhereMarked}
 use Rattle.of_caller.specs.Tables.{plan_setup}
 use Rattle.of_caller.specs.Moments.{batch_calls, batch_scripts, store_at_seq}
 use Rattle.of_caller.specs.Starts.{start_number}
@@ -184,7 +184,7 @@ module _ (p : Plan) (s : Start) (B : TableStart) (w : Moment) (ops : ℕ → Lis
           absent = q.absent;
           word_is = ticket_word;
           ticket_is = ap payload_of ticket_word ∙ pay_word q.number call.ticket (omega (arith, ticket_small));
-          reply = has_reply p raw (length call.op) (get_or (replies_in_order (store_at_seq p B s.store w (q.number - 1)) (batch_scripts p B w q.number)) q.place no_response) has.some has.few has.fits (subst (SameReply S raw) has.raw (shape, number));
+          reply = has_reply p raw (length call.op) (get_or (replies_in_order (store_at_seq p B s.store w (q.number - 1)) (batch_scripts p B w q.number)) q.place no_response) has.some has.few has.fits (subst (SameWhereMarked S raw) has.raw (shape, number));
         }
 
   -- the recovered ticket is that of the caller's last call up to there, or the start's where there

@@ -189,7 +189,7 @@ module _ (S : Setup) (Lawful : List ℕ → Type 0) (B : TableStart) where
               caller = ap (λ (c : Call). c.caller) own_is.2;
               ticket = ap (λ (c : Call). c.ticket) own_is.2;
               same = ap (λ (c : Call). c.op) own_is.2;
-              reply = (ap (λ (c : Call). c.raw.shape) (sym own_is.2), λ y l k. ap (λ (c : Call). get_or c.raw.values y 0) (sym own_is.2));
+              reply = (ap (λ (c : Call). c.raw.shape) (sym own_is.2), λ y l. ap (λ (c : Call). get_or c.raw.values y 0) (sym own_is.2));
             }
 
             behind : (j x : ℕ) → script_word S vs j x ≡ script_word S w.words j x

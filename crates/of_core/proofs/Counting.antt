@@ -46,7 +46,7 @@ module _ (S : Setup) (Lawful : List ℕ → Type 0) (B : TableStart) (w : Moment
   found st p = record { heard = p.heard; there = p.there }
 
   read : (st : List ℕ) (j : ℕ) → HasReadReplyUpTo S st i m j → HasReadReplyUpTo S st i now j
-  read st j p = record { shape = p.shape; replies = p.replies; many = p.many }
+  read st j p = record { shape = p.shape; replies = p.replies; rest = p.rest; many = p.many }
 
   copies : (x : ℕ) → IsCopyingLog S B w.words w.batches i m x → IsCopyingLog S B w.words w.batches i now x
   copies x p = record { helper = helper p.helper; current_word = p.current_word; calm = p.calm; helps = p.helps; after = p.after; many = p.many; count = p.count; copied = p.copied }
@@ -77,7 +77,7 @@ module _ (S : Setup) (Lawful : List ℕ → Type 0) (B : TableStart) (w : Moment
   counted_stands LookAgain a = (copies (length m.copy) a.0, a.1)
   counted_stands LoadOwnTicket a = (looks a.0, a.1, a.2, a.3, a.4, a.5)
   counted_stands LoadShape a = (looks a.0, a.1, found (state_after B w.batches m.seq) a.2)
-  counted_stands (LoadReply j) a = (looks a.0, a.1, found (state_after B w.batches m.seq) a.2, read (state_after B w.batches m.seq) j a.3, a.4)
+  counted_stands (LoadReply j) a = (looks a.0, a.1, found (state_after B w.batches m.seq) a.2, read (state_after B w.batches m.seq) j a.3, a.4, a.5)
   counted_stands LoadAnnouncement a = (past a.0, a.1, a.2, a.3)
   counted_stands LoadTicket a = (past a.0, a.1, a.2, a.3, a.4, a.5)
   counted_stands (LoadScript j) a = (past a.0, a.1, a.2, a.3, a.4, a.5, a.6)

@@ -236,7 +236,7 @@ module _ (S : Setup) (Lawful : List ℕ → Type 0) (sound : IsSoundMeaning S.me
       go (Answered s false raw steps) e h =
           let r = h.1.2 in
           has (call_of (get_or w.reads h.1.0 no_read)) i t op raw (read_stands h.1.0 h.1.1) (ap (λ (q : Read). q.caller) r) (ap (λ (q : Read). q.ticket) r) (ap (λ (q : Read). q.op) r)
-          (subst (λ (q : Read). SameReply S raw q.raw) (sym r) (refl, λ y u m. refl))
+          (subst (λ (q : Read). SameReply S raw q.raw) (sym r) (refl, λ y u. refl))
       go (Spent s) e h = each_call (λ (c : Call). c.caller ≡ i → c.ticket ≡ t → ⊥) (λ k u v y d z a b. omega (arith, h.2 k u (omega (arith, v, claim.reaches)) y d z a, b)) of_reads
         where
           of_reads : (a : ℕ) → a < length w.reads → (get_or w.reads a no_read).caller ≡ i → (get_or w.reads a no_read).ticket ≡ t → ⊥

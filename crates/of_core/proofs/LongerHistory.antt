@@ -121,7 +121,7 @@ module _ (S : Setup) (Lawful : List ℕ → Type 0) (sound : IsSoundMeaning S.me
   at_as k a l = ap (λ (xs : List ℕ). get_or xs a 0) (states k l)
 
   shows_as : (k j : ℕ) (c : Call) → k ≤ n → ShowsCall S B bs k j c → ShowsCall S B cs k j c
-  shows_as k j c l h = record { ticket = at_as k (ticket_cell S c.caller) l ∙ h.ticket; shape = ap payload_of (at_as k (shape_cell S c.caller) l) ∙ h.shape; replies = λ y u m. ap payload_of (at_as k (reply_cell S c.caller y) l) ∙ h.replies y u m }
+  shows_as k j c l h = record { ticket = at_as k (ticket_cell S c.caller) l ∙ h.ticket; shape = ap payload_of (at_as k (shape_cell S c.caller) l) ∙ h.shape; replies = λ y u m. ap payload_of (at_as k (reply_cell S c.caller y) l) ∙ h.replies y u m; rest = h.rest }
 
   last_as : (k i : ℕ) → B.seq ≤ k → k ≤ n → OwnCellsShowLast S B bs k i → OwnCellsShowLast S B cs k i
   last_as k i f l (inl q) = inl (absent_as i B.seq k (omega arith) l q.0, λ a r. at_as k a l ∙ q.1 a r ∙ sym (at_as B.seq a from))
@@ -174,6 +174,7 @@ module _ (S : Setup) (Lawful : List ℕ → Type 0) (sound : IsSoundMeaning S.me
             ticket = named (ticket_cell S c.caller) c.ticket o.ticket;
             shape = ap payload_of (named (shape_cell S c.caller) c.raw.shape o.shape) ∙ pay_word (n + 1) c.raw.shape (small (shape_cell S c.caller) c.raw.shape o.shape);
             replies = λ y u m. let x = o.replies y u m in ap payload_of (named (reply_cell S c.caller y) (get_or c.raw.values y 0) x) ∙ pay_word (n + 1) (get_or c.raw.values y 0) (small (reply_cell S c.caller y) (get_or c.raw.values y 0) x);
+            rest = o.rest;
           }
       go (inr none) (inl q) = inl (absent_more B.seq (omega arith) none q.0, λ a r. row_stays i a l none r ∙ q.1 a r ∙ sym (at_as B.seq a from))
       go (inr none) (inr c) = let e = batches c.number c.from c.upto in inr record {
@@ -199,6 +200,7 @@ module _ (S : Setup) (Lawful : List ℕ → Type 0) (sound : IsSoundMeaning S.me
             ticket = stays (ticket_cell S d.caller) (omega arith, omega arith) ∙ c.shows.ticket;
             shape = ap payload_of (stays (shape_cell S d.caller) (omega arith, omega arith)) ∙ c.shows.shape;
             replies = λ y u m. ap payload_of (stays (reply_cell S d.caller y) (omega arith, omega arith)) ∙ c.shows.replies y u m;
+            rest = c.shows.rest;
           }
 
   -- the history with the new batch

@@ -185,11 +185,13 @@ put_names_all ds es a v o n = subst (λ (x : ℕ × ℕ). LogsCell (put_all ds e
 
 -- a call's own cells, by name
 own_names : (S : Setup) (i t : ℕ) (op : List ℕ) (r : RawReply) → S.instrs ≤ MOST_INSTRS → ((j : ℕ) → j < MOST_INSTRS → is_marked r.shape j ≡ true → (r.shape < LEAST_ABORT) × (j < length op) × (j < length r.values))
+    → ((j : ℕ) → j < MOST_INSTRS → is_marked r.shape j ≡ false → get_or r.values j 0 ≡ 0)
     → LogsOwnCells S (own_cells (ticket_cell S i) t (length op) r) (record { caller = i; ticket = t; op = op; raw = r })
-own_names S i t op r narrow marks = record {
+own_names S i t op r narrow marks rest = record {
   ticket = names_right (replies (nat_lt r.shape LEAST_ABORT)) two (ticket_cell S i) t (record { place = 1; among = omega arith; names = refl });
   shape = names_right (replies (nat_lt r.shape LEAST_ABORT)) two (shape_cell S i) r.shape (record { place = 0; among = omega arith; names = refl });
   replies = λ y l m. names_left (replies (nat_lt r.shape LEAST_ABORT)) two (reply_cell S i y) (get_or r.values y 0) (reply (nat_lt r.shape LEAST_ABORT) refl y (marks y (omega arith) m));
+  rest = λ y l. rest y (omega arith);
 }
   where
     replies : Bool → List (ℕ × ℕ)
@@ -306,16 +308,18 @@ module _ (S : Setup) (Lawful : List ℕ → Type 0) (sound : IsSoundMeaning S.me
           ticket = names_put_all ds all (ticket_cell S d.caller) d.ticket (away d.caller (ticket_cell S d.caller) less (omega arith, omega arith)) p.ticket;
           shape = names_put_all ds all (shape_cell S d.caller) d.raw.shape (away d.caller (shape_cell S d.caller) less (omega arith, omega arith)) p.shape;
           replies = λ y u m. names_put_all ds all (reply_cell S d.caller y) (get_or d.raw.values y 0) (away d.caller (reply_cell S d.caller y) less (omega arith, omega arith)) (p.replies y u m);
+          rest = p.rest;
         }
 
         named : LogsOwnCells S own call
-        named = own_names S c t op r narrow f.marks
+        named = own_names S c t op r narrow f.marks f.rest
 
         one : (k : ℕ) (d : Call) → k < 1 → LogsOwnCells S new (get_or (call ∷ []) k d)
         one zero d l = record {
           ticket = put_names_all ds all (ticket_cell S c) t w.once (names_right es own (ticket_cell S c) t named.ticket);
           shape = put_names_all ds all (shape_cell S c) r.shape w.once (names_right es own (shape_cell S c) r.shape named.shape);
           replies = λ y u m. put_names_all ds all (reply_cell S c y) (get_or r.values y 0) w.once (names_right es own (reply_cell S c y) (get_or r.values y 0) (named.replies y u m));
+          rest = named.rest;
         }
         one (suc k) d l = absurd (omega arith)
 

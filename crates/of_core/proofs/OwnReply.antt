@@ -2,7 +2,7 @@
 use Rattle.std.proofs.Common.{◌≡◌, ℕ, ◌+◌, ◌-◌, ◌<◌, ◌≤◌, ◌⊎◌, ◌==◌, inl, inr, List, [], get_or, set, refl, sym, ◌∙◌, ap, arith, length-set, Option, Some, None, Bool, true, false, nat_lt}
 use Rattle.std.proofs.lemmas.Bool.{cases_eq, cases_lt}
 use Rattle.std.proofs.lemmas.Bool.Decides.{nat_tests}
-use Rattle.std.proofs.lemmas.List.{length-replicate, get_or-set_same, get_or-set_other}
+use Rattle.std.proofs.lemmas.List.{length-replicate, get_or-replicate, get_or-set_same, get_or-set_other}
 use Rattle.of_cell.specs.declared.word.TheConstants.{PAYLOADS}
 use Rattle.of_cell.specs.Words.{pack, seq_of, payload_of}
 use Rattle.of_cell.proofs.Order.{pay_small, seq_word, pay_word}
@@ -42,8 +42,9 @@ module _ (S : Setup) (Lawful : List ℕ → Type 0) (B : TableStart) where
     -- the call is answered from the history, its replies read
     told_at : (n : CallState) → IsPastRequest S B w.words w.batches i n → HasNothingUnderWay S B w.words w.batches i n.seq → FindsOwnTicket S (state_after B w.batches n.seq) i n
         → n.raw.shape ≡ payload_of (data_word_after B w.batches n.seq (shape_cell S i)) → ((y : ℕ) → y < S.instrs → is_marked n.raw.shape y ≡ true → get_or n.raw.values y 0 ≡ payload_of (data_word_after B w.batches n.seq (reply_cell S i y)))
+        → ((y : ℕ) → y < S.instrs → is_marked n.raw.shape y ≡ false → get_or n.raw.values y 0 ≡ 0)
         → HoldsAtPlace S B w.words w.batches i (end_from_own_cells n) Idle
-    told_at n p o f shape replies = record {
+    told_at n p o f shape replies rest = record {
       caller = p.round.begun.caller;
       calm = calm_more S Lawful B w g i m h n.seq (committed_seq w.words) p.round.upto o;
       kept = p.round.begun.kept;
@@ -77,6 +78,10 @@ module _ (S : Setup) (Lawful : List ℕ → Type 0) (B : TableStart) where
         same_shape : n.raw.shape ≡ d.raw.shape
         same_shape = shape ∙ ap (λ (x : ℕ). payload_of (data_word_after B w.batches n.seq (shape_cell S x))) (sym c.caller) ∙ c.shows.shape
 
+        same_number : (y : ℕ) → y < S.instrs → (b : Bool) → is_marked n.raw.shape y ≡ b → get_or n.raw.values y 0 ≡ get_or d.raw.values y 0
+        same_number y l true k = replies y l k ∙ ap (λ (x : ℕ). payload_of (data_word_after B w.batches n.seq (reply_cell S x y))) (sym c.caller) ∙ c.shows.replies y l (sym (ap (λ (x : ℕ). is_marked x y) same_shape) ∙ k)
+        same_number y l false k = rest y l k ∙ sym (c.shows.rest y l (sym (ap (λ (x : ℕ). is_marked x y) same_shape) ∙ k))
+
         has : HasCall S (batch_at B w.batches c.number).calls i n.made n.op n.raw
         has = record {
           place = c.place;
@@ -84,13 +89,13 @@ module _ (S : Setup) (Lawful : List ℕ → Type 0) (B : TableStart) where
           caller = c.caller;
           ticket = ticket;
           same = p.round.begun.mine c.number c.from (omega (arith, c.upto, p.round.upto)) c.place no_call c.among c.caller ticket;
-          reply = (same_shape, λ y l k. replies y l k ∙ ap (λ (x : ℕ). payload_of (data_word_after B w.batches n.seq (reply_cell S x y))) (sym c.caller) ∙ c.shows.replies y l (sym (ap (λ (x : ℕ). is_marked x y) same_shape) ∙ k));
+          reply = (same_shape, λ y l. same_number y l (is_marked n.raw.shape y) refl);
         }
 
     -- the shape and the marked replies below j are read, and on it goes
     asks_at : (n : CallState) (j : ℕ) → j ≤ S.instrs → IsPastRequest S B w.words w.batches i n → HasNothingUnderWay S B w.words w.batches i n.seq → FindsOwnTicket S (state_after B w.batches n.seq) i n → HasReadReplyUpTo S (state_after B w.batches n.seq) i n j
         → (r : Option ℕ) → first_marked_place n.raw.shape j (S.instrs - j) ≡ r → HoldsAtPlace S B w.words w.batches i (next_reply_place n r) (next_reply_place n r).place
-    asks_at n j l p o f u None e = told_at n p o f u.shape (λ y v k. go y v k (cases_lt y j))
+    asks_at n j l p o f u None e = told_at n p o f u.shape (λ y v k. go y v k (cases_lt y j)) u.rest
       where
         go : (y : ℕ) → y < S.instrs → is_marked n.raw.shape y ≡ true → (y < j) ⊎ (j ≤ y) → get_or n.raw.values y 0 ≡ payload_of (data_word_after B w.batches n.seq (reply_cell S i y))
         go y v k (inl z) = u.replies y z k
@@ -100,8 +105,9 @@ module _ (S : Setup) (Lawful : List ℕ → Type 0) (B : TableStart) where
           looks_as S Lawful B w g i m h n _ p refl refl refl refl refl refl refl refl refl,
           o,
           record { heard = f.heard; there = f.there },
-          record { shape = u.shape; many = u.many; replies = λ y v k. go y v k (cases_lt y j) s.2 },
+          record { shape = u.shape; many = u.many; rest = u.rest; replies = λ y v k. go y v k (cases_lt y j) s.2 },
           omega (arith, s.1),
+          s.3,
         )
       where
         go : (y : ℕ) → y < x → is_marked n.raw.shape y ≡ true → (y < j) ⊎ (j ≤ y) → ((y : ℕ) → j ≤ y → y < x → is_marked n.raw.shape y ≡ true → ⊥) → get_or n.raw.values y 0 ≡ payload_of (data_word_after B w.batches n.seq (reply_cell S i y))
@@ -131,7 +137,7 @@ module _ (S : Setup) (Lawful : List ℕ → Type 0) (B : TableStart) where
         go true e = let z : m.seq < seq_of found = grind (arith, nat_tests) in absurd (omega (arith, fresh))
         go false e =
             asks_at (with_shape S m found) 0 (omega arith) (looks_as S Lawful B w g i m h m _ a.0 refl refl refl refl refl refl refl refl refl) a.1 (record { heard = a.2.heard; there = a.2.there })
-            (record { shape = ap payload_of is; replies = λ y l. absurd (omega arith); many = length-replicate S.instrs 0 }) (first_marked_place (payload_of found) 0 S.instrs) (ap (first_marked_place (payload_of found) 0) (omega arith))
+            (record { shape = ap payload_of is; replies = λ y l. absurd (omega arith); rest = λ y l k. get_or-replicate S.instrs y 0 0 l; many = length-replicate S.instrs 0 }) (first_marked_place (payload_of found) 0 S.instrs) (ap (first_marked_place (payload_of found) 0) (omega arith))
 
     pub load_reply_kept : (j : ℕ) → HoldsAtPlace S B w.words w.batches i m (LoadReply j) → KeepsGuarantee S Lawful B i w (after_counted_step S i m (LoadReply j) w)
     load_reply_kept j a = assemble_read S Lawful B w g i h _ _ (take_word_at S m (data_word S w.words (reply_cell S m.caller j)) (LoadReply j)) (same_words S Lawful B w g i m h (data_at S (reply_cell S m.caller j))) (same_batches S Lawful B w g i m h) (
@@ -156,11 +162,15 @@ module _ (S : Setup) (Lawful : List ℕ → Type 0) (B : TableStart) where
         go true e = let z : m.seq < seq_of found = grind (arith, nat_tests) in absurd (omega (arith, fresh))
         go false e =
             asks_at (with_reply m j found) (j + 1) (omega (arith, a.4)) (looks_as S Lawful B w g i m h m _ a.0 refl refl refl refl refl refl refl refl refl) a.1 (record { heard = a.2.heard; there = a.2.there })
-            (record { shape = a.3.shape; replies = λ y l k. read y l k (cases_eq y j); many = length-set m.raw.values j (payload_of found) ∙ a.3.many }) (first_marked_place m.raw.shape (j + 1) (S.instrs - j - 1)) (ap (first_marked_place m.raw.shape (j + 1)) (omega arith))
+            (record { shape = a.3.shape; replies = λ y l k. read y l k (cases_eq y j); rest = λ y l k. unread y l k (cases_eq y j); many = length-set m.raw.values j (payload_of found) ∙ a.3.many }) (first_marked_place m.raw.shape (j + 1) (S.instrs - j - 1)) (ap (first_marked_place m.raw.shape (j + 1)) (omega arith))
           where
             read : (y : ℕ) → y < j + 1 → is_marked m.raw.shape y ≡ true → (y ≡ j) ⊎ (y ≡ j → ⊥) → get_or (set m.raw.values j (payload_of found)) y 0 ≡ payload_of (data_word_after B w.batches m.seq (reply_cell S i y))
             read y l k (inl q) = rw q (get_or-set_same m.raw.values j (payload_of found) 0 (omega (arith, a.3.many, a.4)) ∙ ap payload_of is)
             read y l k (inr q) = get_or-set_other m.raw.values j y (payload_of found) 0 q ∙ a.3.replies y (omega arith) k
+
+            unread : (y : ℕ) → y < S.instrs → is_marked m.raw.shape y ≡ false → (y ≡ j) ⊎ (y ≡ j → ⊥) → get_or (set m.raw.values j (payload_of found)) y 0 ≡ 0
+            unread y l k (inl q) = let z : true ≡ false = sym a.5 ∙ ap (is_marked m.raw.shape) (sym q) ∙ k in cc
+            unread y l k (inr q) = get_or-set_other m.raw.values j y (payload_of found) 0 q ∙ a.3.rest y l k
 
     -- nothing is scanned yet
     over_none : (made : ℕ) (op : List ℕ) (raw : RawReply) (s : ℕ) (cs : List Call) (es : List (ℕ × ℕ)) (n : ℕ) → cs ≡ [] → es ≡ [] → n ≡ 0 → HasScannedUpTo S B w.words w.batches i s made op raw cs es n

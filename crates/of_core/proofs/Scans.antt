@@ -1,7 +1,7 @@
 -- All announcements are looked through, and the calls that are new are run.
 use Rattle.std.proofs.Common.{◌≡◌, ℕ, zero, suc, ◌+◌, ◌<◌, ◌≤◌, ◌⊎◌, ◌==◌, inl, inr, List, [], ◌∷◌, ◌++◌, length, get_or, refl, sym, ◌∙◌, ap, subst, arith, length-append, Option, Some, None, Bool, true, false, nat_lt}
 use Rattle.std.specs.List.{All}
-use Rattle.std.proofs.lemmas.Bool.{cases_eq, cases_lt}
+use Rattle.std.proofs.lemmas.Bool.{cases_eq, cases_lt, eqb-true}
 use Rattle.std.proofs.lemmas.Bool.Decides.{nat_tests}
 use Rattle.std.proofs.lemmas.List.{length-map, get_or_push, get_or_append_left}
 use Rattle.std.proofs.lemmas.List.Elements.{All-append}
@@ -191,7 +191,7 @@ module _ (S : Setup) (Lawful : List ℕ → Type 0) (B : TableStart) where
                   where
                     kept_raw : (b : Bool) → (n.scan == n.caller) ≡ b → own_reply_or r n.raw b ≡ n.raw
                     kept_raw false e = refl
-                    kept_raw true e = let z : n.scan ≡ n.caller = grind (arith, nat_tests) in absurd (ne (z ∙ p.looks.round.begun.caller))
+                    kept_raw true e = absurd (ne (eqb-true n.scan n.caller e ∙ p.looks.round.begun.caller))
                 own q u (inl e) = (length n.calls, rw length-append (omega arith), get_or_push n.calls call no_call (length n.calls) refl ∙ same)
                   where
                     begun : IsAnnounced S B w.words w.batches i n

@@ -524,7 +524,7 @@ module _ (S : Setup) (Lawful : List ℕ → Type 0) (B : TableStart) (i : ℕ) (
     at_stable m LookAgain h = (copies_stable m (length m.copy) h.0, λ q. rw (v.batches m.seq h.0.after h.0.current_word.upto) (h.1 (open_before m h.0.current_word h.0.after q)))
     at_stable m LoadOwnTicket h = (looks_stable m h.0, calm_stable m.seq m.seq (omega arith) h.1, h.2, h.3, h.4, h.5)
     at_stable m LoadShape h = (looks_stable m h.0, calm_stable m.seq m.seq (omega arith) h.1, rw (v.states m.seq h.0.round.from h.0.round.upto) h.2)
-    at_stable m (LoadReply y) h = (looks_stable m h.0, calm_stable m.seq m.seq (omega arith) h.1, rw (v.states m.seq h.0.round.from h.0.round.upto) h.2, rw (v.states m.seq h.0.round.from h.0.round.upto) h.3, h.4)
+    at_stable m (LoadReply y) h = (looks_stable m h.0, calm_stable m.seq m.seq (omega arith) h.1, rw (v.states m.seq h.0.round.from h.0.round.upto) h.2, rw (v.states m.seq h.0.round.from h.0.round.upto) h.3, h.4, h.5)
     at_stable m LoadAnnouncement h = (past_stable m h.0, calm_stable m.seq m.seq (omega arith) h.1, scans_stable m m.scan h.0 h.2, h.3)
     at_stable m LoadTicket h = (past_stable m h.0, calm_stable m.seq m.seq (omega arith) h.1, scans_stable m m.scan h.0 h.2, h.3, hear_stable m h.0 h.3 h.4, h.5)
     at_stable m (LoadScript x) h = (past_stable m h.0, calm_stable m.seq m.seq (omega arith) h.1, scans_stable m m.scan h.0 h.2, h.3, hear_stable m h.0 h.3 h.4, read_stable m x h.0 h.3 h.4 h.5, h.6)

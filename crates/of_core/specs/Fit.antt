@@ -1,5 +1,7 @@
 -- What a machine keeps of itself, so that its next step is a step on the table.
 use Rattle.std.specs.Prelude.{◌≡◌, ℕ, ◌+◌, ◌*◌, ◌<◌, ◌≤◌, List, [], Bool, true, false, None, length}
+use Rattle.std.specs.Vec.{vec_capacity}
+use Rattle.std.specs.declared.vec.Vec.{Vec}
 use Rattle.of_cell.specs.declared.word.TheConstants.{GREATEST_LIMIT}
 use Rattle.of_cell.specs.Words.{payload_of}
 use Rattle.of_core.specs.declared.place.Place.{Place}
@@ -81,6 +83,10 @@ is_scanning p = false
 abbrev pub is_reading : Place → Bool
 is_reading (TryCell a) = true
 is_reading p = false
+
+-- the list is empty and has room for so many
+abbrev pub IsEmptyWithRoom : {A G : Type 0} → ℕ → Vec A G → Type 0
+IsEmptyWithRoom n v = (v.items ≡ []) × (n ≤ vec_capacity v)
 
 -- the room that the machine's parts have, and what lies over the known cells
 pub record HasRoomInParts (S : Setup) (m : CallState) (logs words scripts copies runs : ℕ)

@@ -1,5 +1,5 @@
 -- The states that the batches lead through, and when a history is legal.
-use Rattle.std.specs.Prelude.{ℕ, ◌+◌, ◌-◌, List, [], ◌∷◌, length, true, ◌≡◌, ◌≤◌, ◌<◌, map, ◌⊎◌}
+use Rattle.std.specs.Prelude.{ℕ, ◌+◌, ◌-◌, List, [], ◌∷◌, length, true, false, ◌≡◌, ◌≤◌, ◌<◌, map, ◌⊎◌}
 use Rattle.std.proofs.Common.{get_or, set, take}
 use Rattle.of_cell.specs.Words.{pack, seq_of, payload_of}
 use Rattle.of_mem.specs.declared.work.RawReply.{RawReply}
@@ -92,6 +92,9 @@ pub record ShowsCall (S : Setup) (B : TableStart) (bs : List Batch) (k j : ℕ) 
   pub shape : payload_of (data_word_after B bs k (shape_cell S c.caller)) ≡ c.raw.shape
   pub replies : (y : ℕ) → y < S.instrs → is_marked c.raw.shape y ≡ true
       → payload_of (data_word_after B bs k (reply_cell S c.caller y)) ≡ get_or c.raw.values y 0
+  -- 0 stands where none is marked
+  pub rest : (y : ℕ) → y < S.instrs → is_marked c.raw.shape y ≡ false
+      → get_or c.raw.values y 0 ≡ 0
 
 -- caller i has no call in batches lo + 1 to hi
 abbrev pub HasNoCallBetween : TableStart → List Batch → ℕ → ℕ → ℕ → Type 0
@@ -123,11 +126,16 @@ abbrev pub CallersRise : List Call → Type 0
 CallersRise cs = (j k : ℕ) → j < k → k < length cs
     → (get_or cs j no_call).caller < (get_or cs k no_call).caller
 
--- the two replies are the same where they have numbers
-abbrev pub SameReply : Setup → RawReply → RawReply → Type 0
-SameReply S r q = (r.shape ≡ q.shape)
+-- the two replies have one shape, and the same numbers where it marks any
+abbrev pub SameWhereMarked : Setup → RawReply → RawReply → Type 0
+SameWhereMarked S r q = (r.shape ≡ q.shape)
     × ((y : ℕ) → y < S.instrs → is_marked r.shape y ≡ true
     → get_or r.values y 0 ≡ get_or q.values y 0)
+
+-- they have one shape, and the same numbers
+abbrev pub SameReply : Setup → RawReply → RawReply → Type 0
+SameReply S r q = (r.shape ≡ q.shape)
+    × ((y : ℕ) → y < S.instrs → get_or r.values y 0 ≡ get_or q.values y 0)
 
 -- the calls have this one, with this reply
 pub record HasCall (S : Setup) (cs : List Call) (i t : ℕ) (op : List ℕ) (r : RawReply)

@@ -1,6 +1,7 @@
 -- The protocol invariant.
 use Rattle.std.specs.Prelude.{ℕ, ◌+◌, ◌*◌, List, [], length, Option, Some, None, true, false, ◌≡◌, ◌≤◌, ◌<◌, ◌⊎◌}
 use Rattle.std.proofs.Common.{get_or, take}
+use Rattle.of_mem.specs.Meaning.{is_marked}
 use Rattle.of_core.specs.declared.machine.trying.TheConstants.{MOST_TRIES}
 use Rattle.of_cell.specs.Words.{pack, seq_of, payload_of}
 use Rattle.of_core.specs.declared.place.Place.{Place}
@@ -87,6 +88,7 @@ HoldsAtPlace S B ws bs i m (LoadReply j) =
     IsPastRequest S B ws bs i m × HasNothingUnderWay S B ws bs i m.seq
     × FindsOwnTicket S (state_after B bs m.seq) i m
     × HasReadReplyUpTo S (state_after B bs m.seq) i m j × (j < S.instrs)
+    × (is_marked m.raw.shape j ≡ true)
 HoldsAtPlace S B ws bs i m LoadAnnouncement =
     IsPastOwnTicket S B ws bs i m × HasNothingUnderWay S B ws bs i m.seq × IsInScan S B ws bs i m
     × (m.scan < S.callers)

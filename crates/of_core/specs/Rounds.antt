@@ -1,5 +1,5 @@
 -- What the invariant says of a call that is announced, tried or in a round.
-use Rattle.std.specs.Prelude.{ℕ, ◌+◌, ◌*◌, List, length, Option, true, ◌≡◌, ◌≤◌, ◌<◌, ◌⊎◌}
+use Rattle.std.specs.Prelude.{ℕ, ◌+◌, ◌*◌, List, length, Option, true, false, ◌≡◌, ◌≤◌, ◌<◌, ◌⊎◌}
 use Rattle.std.proofs.Common.{get_or}
 use Rattle.of_cell.specs.declared.word.TheConstants.{PAYLOADS}
 use Rattle.of_core.specs.declared.machine.trying.TheConstants.{MOST_TRIES}
@@ -167,4 +167,6 @@ pub record HasReadReplyUpTo (S : Setup) (st : List ℕ) (i : ℕ) (m : CallState
   pub shape : m.raw.shape ≡ payload_of (get_or st (shape_cell S i) 0)
   pub replies : (y : ℕ) → y < j → is_marked m.raw.shape y ≡ true
       → get_or m.raw.values y 0 ≡ payload_of (get_or st (reply_cell S i y) 0)
+  pub rest : (y : ℕ) → y < S.instrs → is_marked m.raw.shape y ≡ false
+      → get_or m.raw.values y 0 ≡ 0
   pub many : length m.raw.values ≡ S.instrs

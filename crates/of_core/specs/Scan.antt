@@ -1,6 +1,6 @@
 -- What the invariant says of a scan: the calls that were run are an overlay on the state of the
 -- round.
-use Rattle.std.specs.Prelude.{ℕ, List, length, true, ◌≡◌, ◌≤◌, ◌<◌, ◌⊎◌}
+use Rattle.std.specs.Prelude.{ℕ, List, length, true, false, ◌≡◌, ◌≤◌, ◌<◌, ◌⊎◌}
 use Rattle.std.proofs.Common.{get_or}
 use Rattle.of_cell.specs.declared.word.TheConstants.{PAYLOADS}
 use Rattle.of_cell.specs.Words.{pack, seq_of, payload_of}
@@ -25,6 +25,9 @@ pub record LogsOwnCells (S : Setup) (es : List (ℕ × ℕ)) (c : Call) : Type 0
   pub shape : LogsCell es (shape_cell S c.caller) c.raw.shape
   pub replies : (y : ℕ) → y < S.instrs → is_marked c.raw.shape y ≡ true
       → LogsCell es (reply_cell S c.caller y) (get_or c.raw.values y 0)
+  -- 0 stands where none is marked
+  pub rest : (y : ℕ) → y < S.instrs → is_marked c.raw.shape y ≡ false
+      → get_or c.raw.values y 0 ≡ 0
 
 -- the log is what the calls, in order, do to the list, with their own cells
 pub record IsOverlayOf (S : Setup) (xs : List ℕ) (cs : List Call) (es : List (ℕ × ℕ)) : Type 0 where

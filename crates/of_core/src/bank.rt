@@ -5,19 +5,20 @@ ghost use Rattle.std.specs.Prelude.{◌≡◌, ◌<◌, ◌≤◌, ◌+◌, ◌*
 ghost use Rattle.std.proofs.Common.{get_or};
 ghost use Rattle.of_mem.specs.declared.work.TheConstants.{MOST_INSTRS};
 ghost use Rattle.of_cell.specs.Words.{payload_of};
-ghost use Rattle.of_cell.specs.Cells.{durable_cells, table_words as cell_words};
+ghost use Rattle.of_cell.specs.Cells.{durable_cells};
 ghost use Rattle.of_cell.specs.declared.word.TheConstants.{PAYLOADS};
 ghost use Rattle.of_core.specs.Table.{cell_count, setup_on};
 ghost use Rattle.of_core.specs.Events.{Begins, Turns, Raises, zero_start, idle_machines, start_ticket};
 ghost use Rattle.of_core.specs.WordsMatch.{MayStart};
-ghost use Rattle.of_core.specs.Starts.{IsStartRow, closed_request, first_cells, first_words, start_on};
+ghost use Rattle.of_core.specs.Starts.{IsStartRow, first_words, start_on};
 ghost use Rattle.of_core.specs.Moment.{IsReached, RunSameWork, bank_after, bank_opening, call_states, machine_of, bank_setup, table_word_count};
 ghost use Rattle.of_core.specs.Turn.{turn_of, turn_of_outcome, IsIdle};
 
 use crate::machine::Machine;
+use crate::opening::first_words;
 use crate::performer::OnWords;
 use crate::place::Outcome;
-use of_cell::{GREATEST_LIMIT, Shape, pack, payload_of, seq_of};
+use of_cell::{GREATEST_LIMIT, Shape, payload_of};
 use of_mem::{MOST_INSTRS, Work};
 use std::alloc::{AllocError, Global};
 use std::marker::Model;
@@ -69,45 +70,6 @@ fn turn_of_answer(answer: Option<Outcome>) -> Turn
         Some(outcome) => Turn::Ended(outcome),
         None => Turn::Open,
     }
-}
-
-/// The request of a start's owner: closed, where there is a transaction behind the start.
-fn closed(seq: u32) -> u64
-    ensures { result ≡ closed_request seq }
-{
-    if seq == 0 { 0 } else { pack(seq, 1) }
-}
-
-/// The cells at the start that a durable row is.
-fn first_cells(alloc: Global, shape: &Shape, durable: &[u64]) -> Result<Vec<u64>, AllocError>
-    requires row { length durable.now ≡ durable_cells shape.now.callers shape.now.cells }
-    requires owner { payload_of (get_or durable.now 0 0) < shape.now.callers }
-    ensures { IfOk result (λ cells. cells.items
-        ≡ first_cells shape.now.callers shape.now.cells (start_on shape.now durable.now)) }
-{
-    let current = durable[shape.cur() as usize];
-    let first = shape.data_cell(0) as usize;
-    let mut cells = vec![in alloc; 0; shape.callers as usize + 1]?;
-    cells[0] = current;
-    cells[shape.request(payload_of(current)) as usize] = closed(seq_of(current));
-    cells.extend_from_slice(&durable[first..first + shape.cells as usize])?;
-    cells.resize(shape.durable_cells() as usize, 0)?;
-    Ok(cells)
-}
-
-/// The words at the start that a durable row is: its cells, their durable words, and 0 behind them.
-fn first_words(alloc: Global, shape: &Shape, durable: &[u64]) -> Result<Vec<u64>, AllocError>
-    requires row { length durable.now ≡ durable_cells shape.now.callers shape.now.cells }
-    requires owner { payload_of (get_or durable.now 0 0) < shape.now.callers }
-    ensures { IfOk result (λ words. words.items
-        ≡ first_words shape.now.callers shape.now.cells (start_on shape.now durable.now)
-        (cell_words shape.now.callers shape.now.instrs shape.now.cells)) }
-{
-    let cells = first_cells(alloc, shape, durable)?;
-    let mut words = Vec::from_slice(alloc, &cells)?;
-    words.extend_from_slice(&cells)?;
-    words.resize(shape.words() as usize, 0)?;
-    Ok(words)
 }
 
 /// How many calls a caller has behind it at the start that a row's first words are: the number of
@@ -261,6 +223,14 @@ impl<W: Work> Bank<W> {
         ensures { result ≡ (machine_of self.now caller).made }
     {
         self.machines[caller as usize].made()
+    }
+
+    /// How many steps a caller's open call has made; 0 where none is open.
+    pub fn steps(&self, caller: u32) -> u64
+        requires { caller < self.now.callers }
+        ensures { result ≡ (machine_of self.now caller).steps }
+    {
+        self.machines[caller as usize].steps()
     }
 
     /// Opens a call of 1 to `MOST_INSTRS` words.

@@ -17,11 +17,13 @@ mod applying;
 mod committing;
 mod helping;
 mod inspect;
+mod lists;
 mod logs;
 mod scanning;
 mod trying;
 
 use crate::call::Call;
+use crate::machine::lists::Lists;
 use crate::performer::{NameStep, Performer};
 use crate::place::{Op, Outcome, Place};
 use of_cell::{GREATEST_LIMIT, Shape, pack};
@@ -106,12 +108,14 @@ impl<W: Work> Machine<W> {
         ensures idle { IfOk result (λ m.
             m.call ≡ idle_machine (machine_setup W.meaning m) caller made) }
     {
-        let op = Vec::with_capacity(alloc, MOST_INSTRS)?;
-        let part = Workspace::new(alloc, shape.cells)?;
-        let log = WriteSet::new(alloc, shape.cells)?;
-        let copy = Vec::with_capacity(alloc, 2 * shape.cells as usize + 1)?;
-        let script = Vec::with_capacity(alloc, MOST_INSTRS)?;
-        let calls = Vec::with_capacity(alloc, shape.callers as usize)?;
+        let Lists {
+            op,
+            part,
+            log,
+            copy,
+            script,
+            calls,
+        } = Lists::new(alloc, shape)?;
         Ok(Machine {
             work,
             shape,

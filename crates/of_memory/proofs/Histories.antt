@@ -32,7 +32,7 @@ use Rattle.of_eval.specs.Stored.{cell_store}
 use Rattle.of_core.specs.Table.{Setup, cell_count, words_before_members, durable_at, durable_word, durable_seq, ticket_cell, shape_cell, reply_cell}
 use Rattle.of_core.specs.Machine.{Call, CallState, no_call, is_idle, IsOpen}
 use Rattle.of_core.specs.TableMoment.{Moment, TableStart}
-use Rattle.of_core.specs.History.{numbers_after_calls, data_word_after, last_ticket_by, batch_at, IsCellOfCaller, IsNewestCall, SameReply}
+use Rattle.of_core.specs.History.{numbers_after_calls, data_word_after, last_ticket_by, batch_at, IsCellOfCaller, IsNewestCall, SameWhereMarked}
 use Rattle.of_core.specs.Events.{Event, start_ticket}
 use Rattle.of_core.specs.Calls.{operations_begun}
 use Rattle.of_core.specs.Starts.{IsDurable, IsStartRow, start_from_durable, recovered_start}
@@ -273,7 +273,7 @@ module _ (w : Scripts) (limit : ℕ) (start : StartsMeetInvariant (setup_with w 
             let is = entry_of y l in
             let raw : RawReply = reply_in MOST_INSTRS (memory_of (map payload_of C.cells)) n in
             let shape : raw.shape ≡ c.raw.shape = number_found (shape_at MOST_INSTRS n) (omega (arith, low)) ∙ ap (λ (i : ℕ). recovered_number S (words_alone m.state.words) (shape_cell S i)) (sym mine) ∙ finds.shape in
-            let same : SameReply S raw c.raw = (
+            let same : SameWhereMarked S raw c.raw = (
               shape,
               λ j k mark.
                   get_or-map-range_with_len (reply_number MOST_INSTRS (memory_of (map payload_of C.cells)) n) 0 MOST_INSTRS j j 0 k (omega arith)
@@ -287,7 +287,7 @@ module _ (w : Scripts) (limit : ℕ) (start : StartsMeetInvariant (setup_with w 
               (y, l, refl),
               is.caller ∙ mine,
               is.ticket ∙ sym finds.ticket ∙ ap (λ (i : ℕ). recovered_number S (words_alone m.state.words) (ticket_cell S i)) mine ∙ recovered_at (ticket_cell_at MOST_INSTRS n) ticket_low,
-              has_reply (sizes w limit) raw (length c.op) (get_or h y no_history_entry).reply is.some is.few is.fits (subst (SameReply S raw) is.raw same),
+              has_reply (sizes w limit) raw (length c.op) (get_or h y no_history_entry).reply is.some is.few is.fits (subst (SameWhereMarked S raw) is.raw same),
             )
 
         tells_last : TellsLast S B C h n

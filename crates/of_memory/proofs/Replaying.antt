@@ -21,7 +21,7 @@ use Rattle.of_core.specs.declared.place.Outcome.{Outcome}
 use Rattle.of_core.specs.declared.place.Outcome.TheVariants.{Answered, Spent as Over}
 use Rattle.of_core.specs.Table.{Setup}
 use Rattle.of_core.specs.Machine.{Call, no_call}
-use Rattle.of_core.specs.History.{numbers_after_calls, CallsHaveReplies, SameReply}
+use Rattle.of_core.specs.History.{numbers_after_calls, CallsHaveReplies, SameWhereMarked}
 use Rattle.of_core.specs.Claim.{IsNewerCall}
 use Rattle.of_core.specs.Linear as core
 use Rattle.of_caller.specs.Moments.{raw_reply_of}
@@ -129,20 +129,20 @@ module _ (w : Scripts) where
         omega (arith, newer, a.ticket, b.ticket)
 
     has : (i t : ℕ) (op : List ℕ) (raw : RawReply) (script : List Instr) (response : Reply) → IsScript script → op ≡ map instr_word script → EndsAs (Answered 0 true raw 0) (Replied response)
-        → (place : ℕ) → place < length cs → (get_or cs place no_call).caller ≡ i → (get_or cs place no_call).ticket ≡ t → (get_or cs place no_call).op ≡ op → SameReply S raw (get_or cs place no_call).raw
+        → (place : ℕ) → place < length cs → (get_or cs place no_call).caller ≡ i → (get_or cs place no_call).ticket ≡ t → (get_or cs place no_call).op ≡ op → SameWhereMarked S raw (get_or cs place no_call).raw
         → HasEntry hs (record { caller = i; ticket = t; script = script; reply = response })
     has i t op raw script response is words held place among caller ticket same reply =
         let l : place < length hs = subst (λ (n : ℕ). place < n) (sym (long s cs k)) among in
         let e = at place l in
         let one : (get_or hs place no_history_entry).script ≡ script = words_injective (get_or hs place no_history_entry).script script e.script.in_range is.in_range (sym e.words ∙ same ∙ words) in
         let answer : (get_or hs place no_history_entry).reply ≡ response =
-        sym (held_response (sizes w limit) raw held.0 (length (get_or cs place no_call).op) (get_or hs place no_history_entry).reply e.some e.few e.fits (subst (SameReply S raw) e.raw reply) held.1) ∙ held.2 in
+        sym (held_response (sizes w limit) raw held.0 (length (get_or cs place no_call).op) (get_or hs place no_history_entry).reply e.some e.few e.fits (subst (SameWhereMarked S raw) e.raw reply) held.1) ∙ held.2 in
         (place, l, λ j. record { caller = (e.caller ∙ caller) j; ticket = (e.ticket ∙ ticket) j; script = one j; reply = answer j })
 
     -- how the order explains the end of a call, the history does
     pub explains : (o : Outcome) (end : End) (i t : ℕ) (op : List ℕ) (script : List Instr) → IsScript script → op ≡ map instr_word script → EndsAs o end → core.ExplainsOutcome S cs i t op o → ExplainsEnd hs i t script end
     explains (Answered n announced raw steps) (Replied response) i t op script is words held call =
-        has i t op raw script response is words held call.place call.among call.caller call.ticket call.same call.reply
+        has i t op raw script response is words held call.place call.among call.caller call.ticket call.same (call.reply.0, λ y l m. call.reply.1 y l)
     explains (Answered n announced raw steps) Spent i t op script is words held call = absurd held
     explains (Over n) (Replied response) i t op script is words held call = absurd held
     explains (Over n) Spent i t op script is words held none =

@@ -15,26 +15,22 @@ use Rattle.of_plan.specs.Ended.{Ended, answers_of, ending_of}
 use Rattle.of_core.specs.declared.place.Outcome.{Outcome}
 use Rattle.of_core.specs.declared.place.Outcome.TheVariants.{Answered, Spent}
 use Rattle.of_core.specs.Table.{Setup}
+use Rattle.of_core.specs.MachineValue.{ended_outcome}
 use Rattle.of_core.specs.Machine.{CallState, no_machine}
-use Rattle.of_core.specs.Moment.{bank_setup, table_word_count}
+use Rattle.of_core.specs.Moment.{bank_setup, machine_of, table_word_count}
 use Rattle.of_core.specs.Events.{Event, machine_in, opening_moment, idle_machines, start_ticket, zero_start}
 use Rattle.of_core.specs.Calls.{outcomes}
 use Rattle.of_caller.specs.Tables.{plan_setup, opening_for, operation_of}
-use Rattle.of_caller.specs.Ends.{AreAnswers, ending_if_left, ending_at}
+use Rattle.of_caller.specs.Ends.{is_spent, AreAnswers, ending_if_left, ending_at}
 use Rattle.of_caller.specs.Left.{moment_after}
 use Rattle.of_play.specs.Play.{item_events, plan_events, events_from}
-use Rattle.of_play.specs.ScheduleRun.{spent_at, standing_of, idle_standing, answers_in, EventsMayFollow, StandsAfter, MakesMoves, CallerEndsAs, RunLeaves}
+use Rattle.of_play.specs.ScheduleRun.{answers_in, EventsMayFollow, StandsAfter, MakesMoves, CallerEndsAs, RunLeaves}
 use Rattle.of_play.specs.declared.schedule_run.ScheduleRun.{ScheduleRun}
-use Rattle.of_play.specs.declared.schedule_run.CallerStanding.{CallerStanding}
 use Rattle.of_play.proofs.PlaysMoments.{IsPlayable, zero_ticket}
 use Rattle.of_play.proofs.PlaysEvents.{events_append}
-use Rattle.of_play.proofs.PlaysStand.{standing_at}
+use Rattle.of_play.proofs.PlaysStand.{machine_same, outcome_same}
 
 -- before the first event nobody has begun a call
-idle_standings : (S : Setup) (i n : ℕ) → replicate n idle_standing ≡ map standing_of (idle_machines S (start_ticket S (zero_start S)) i n)
-idle_standings S i zero = refl
-idle_standings S i (suc n) = ap (λ (ts : List CallerStanding). idle_standing ∷ ts) (idle_standings S (suc i) n)
-
 none_made : (S : Setup) (i n c : ℕ) → (get_or (idle_machines S (start_ticket S (zero_start S)) i n) c no_machine).made ≡ 0
 none_made S i zero c = refl
 none_made S i (suc n) zero = zero_ticket S i
@@ -57,14 +53,13 @@ starts p = record {
 pub start_stands : (p : Plan) (s : ScheduleRun) → s.bank.callers ≡ p.callers → bank_setup scripts_meaning s.bank ≡ plan_setup p
     → s.bank.words ≡ (opening_moment (bank_setup scripts_meaning s.bank) (zero_start (bank_setup scripts_meaning s.bank)) (table_word_count (bank_setup scripts_meaning s.bank))).words
     → s.bank.machines ≡ (opening_moment (bank_setup scripts_meaning s.bank) (zero_start (bank_setup scripts_meaning s.bank)) (table_word_count (bank_setup scripts_meaning s.bank))).machines
-    → s.standings.items ≡ replicate p.callers idle_standing → length s.answers.items ≡ p.callers → ((c : ℕ) → answers_in s c ≡ []) → StandsAfter p [] s
-start_stands p s callers same words machines standings answers none = record {
+    → length s.answers.items ≡ p.callers → ((c : ℕ) → answers_in s c ≡ []) → StandsAfter p [] s
+start_stands p s callers same words machines answers none = record {
   follows = starts p;
   callers = callers;
   table = same;
   words = words ∙ ap (λ (T : Setup). (opening_moment T (zero_start T) (table_word_count T)).words) same;
   machines = machines ∙ ap (λ (T : Setup). (opening_moment T (zero_start T) (table_word_count T)).machines) same;
-  standings = standings ∙ idle_standings (plan_setup p) 0 p.callers;
   answers = answers;
   told = λ c h. subst (AreAnswers []) (sym (none c)) tt;
 }
@@ -81,30 +76,24 @@ ends_halted m n a e = go (a == n) refl
     go true q = let z : a ≡ n = grind (arith, nat_tests) in absurd (e z)
     go false q = refl
 
-halts_spent : (o : Option Outcome) (k s : ℕ) → spent_at o ≡ Some s → Ran_out s ≡ ending_if_left o k
-halts_spent None k s e = cc
-halts_spent (Some (Answered q announced raw steps)) k s e = cc
-halts_spent (Some (Spent q)) k s e = cc
-
-halts_open : (o : Option Outcome) (k : ℕ) → spent_at o ≡ None → Stopped (k + 1) ≡ ending_if_left o k
+halts_open : (o : Option Outcome) (k : ℕ) → is_spent o ≡ false → Stopped (k + 1) ≡ ending_if_left o k
 halts_open None k e = refl
 halts_open (Some (Answered q announced raw steps)) k e = refl
 halts_open (Some (Spent q)) k e = cc
 
 module _ (p : Plan) (plan : IsPlayable p) (c : ℕ) (h : c < p.callers) (s : ScheduleRun) where
   module _ (said scripts : ℕ) (told : said ≡ length (answers_in s c)) (all : scripts ≡ length (scripts_of p c)) where
-    module _ (not_done : said ≡ scripts → ⊥) (t : CallerStanding) (read : t ≡ get_or s.standings.items c t) where
-      pub ends_as_spent : (q : ℕ) → t.spent ≡ Some q → CallerEndsAs p c s (Ran_out q)
+    module _ (not_done : said ≡ scripts → ⊥) where
+      pub ends_as_spent : (q : ℕ) → ended_outcome (machine_of s.bank c) ≡ Some (Spent q) → CallerEndsAs p c s (Ran_out q)
       ends_as_spent q e es st =
           let m = machine_in (moment_after p es) c in
-          let same = ap (λ (x : CallerStanding). x.spent) (read ∙ standing_at p plan es s st c t h) in
-          halts_spent m.answer m.steps q (sym same ∙ e) ∙ ends_halted m _ _ (λ q. not_done (told ∙ q ∙ sym all))
+          ap (λ (o : Option Outcome). ending_if_left o m.steps) (sym e ∙ outcome_same p plan es s st c h) ∙ ends_halted m _ _ (λ q. not_done (told ∙ q ∙ sym all))
 
-      pub ends_as_stopped : t.spent ≡ None → CallerEndsAs p c s (Stopped (t.steps + 1))
+      pub ends_as_stopped : is_spent (ended_outcome (machine_of s.bank c)) ≡ false → CallerEndsAs p c s (Stopped ((machine_of s.bank c).steps + 1))
       ends_as_stopped e es st =
           let m = machine_in (moment_after p es) c in
-          let same = read ∙ standing_at p plan es s st c t h in
-          ap (λ (x : CallerStanding). Stopped (x.steps + 1)) same ∙ halts_open m.answer m.steps (sym (ap (λ (x : CallerStanding). x.spent) same) ∙ e) ∙ ends_halted m _ _ (λ q. not_done (told ∙ q ∙ sym all))
+          let same = machine_same p plan es s st c in
+          ap (λ (x : CallState). Stopped (x.steps + 1)) same ∙ halts_open m.answer m.steps (ap is_spent (sym (outcome_same p plan es s st c h)) ∙ e) ∙ ends_halted m _ _ (λ q. not_done (told ∙ q ∙ sym all))
 
 pub leaves_as : (p : Plan) (s : ScheduleRun) (e : Ended) → e.answers ≡ map (λ v. v.items) s.answers.items → e.words ≡ s.bank.words → length e.endings ≡ p.callers → ((c : ℕ) → c < p.callers → CallerEndsAs p c s (ending_of e c)) → RunLeaves p s e
 leaves_as p s e answers words endings each es st = record {

@@ -19,17 +19,12 @@ use Rattle.of_core.specs.Turn.{turn_of_outcome, turn_at, turn_of}
 use Rattle.of_core.specs.Events.{Event, Turns, machine_in, after_event, IsSchedule, zero_start}
 use Rattle.of_caller.specs.Tables.{plan_setup, IsLawfulFor, opening_for}
 use Rattle.of_caller.specs.Left.{moment_after}
-use Rattle.of_play.specs.ScheduleRun.{standing_of, standing_after, spent_at}
 use Rattle.of_play.proofs.PlaysMoments.{IsPlayable, idle_is, good_moment}
 
 -- what a turn says of a machine that wasn't idle
 pub turn_open : (p : Place) (d : CallState) → is_idle p ≡ false → turn_at p d ≡ turn_of_outcome (ended_outcome d)
 turn_open Idle d e = cc
 turn_open p d e = refl
-
-pub none_ended : (d : CallState) (p : Place) → is_idle p ≡ false → ended_outcome_at p d ≡ None
-none_ended d Idle e = cc
-none_ended d p e = refl
 
 module _ (p : Plan) (play : IsPlayable p) where
   abbrev S : Setup
@@ -51,10 +46,6 @@ module _ (p : Plan) (play : IsPlayable p) where
 
     pub own : get_or w.machines c (machine_in w c) ≡ machine_in w c
     own = get_or_default w.machines c (machine_in w c) no_machine here
-
-    -- an idle machine has made no step of an open call
-    pub idle_steps : (machine_in w c).place ≡ Idle → (machine_in w c).steps ≡ 0
-    idle_steps e = (sound_at w g).at_rest c h e
 
     pub few_steps : (machine_in w c).steps + 1 < 18446744073709551616
     few_steps = omega (arith, (sound_at w g).within c h, play.plan.few_callers, play.plan.few_blocks)
@@ -81,30 +72,6 @@ module _ (p : Plan) (play : IsPlayable p) where
 
     pub turned_good : IsGood v
     turned_good = play.laws.events (zero_start S) w g (Turns c) h
-
-    no_steps : d.place ≡ Idle → d.steps ≡ 0
-    no_steps e = ap (λ (x : CallState). x.steps) (sym turned) ∙ idle_steps v turned_good c h (ap (λ (x : CallState). x.place) turned ∙ e)
-
-    -- how the caller stands after its turn
-    pub stands_turned : standing_of (machine_in v c) ≡ standing_after (turn_of m (machine_in v c)) (standing_of m)
-    stands_turned = ap standing_of turned ∙ by_place (is_idle m.place) refl ∙ sym (ap (λ (x : CallState). standing_after (turn_of m x) (standing_of m)) turned)
-      where
-        by_end : (b : Bool) → IsOpen m.place → is_idle d.place ≡ b → standing_of d ≡ standing_after (turn_of_outcome (ended_outcome d)) (standing_of m)
-        by_end true o e =
-            let q = idle_is d.place e in
-            let t = (taken o).ends q in
-            let now : ended_outcome d ≡ Some t.0 = ap (λ (x : Place). ended_outcome_at x d) q ∙ t.1 in
-            let none = no_steps q in
-            (λ i. record { spent = spent_at (t.1 i); steps = none i }) ∙ ap (λ (x : Option Outcome). standing_after (turn_of_outcome x) (standing_of m)) (sym now)
-        by_end false o e =
-            let t = (taken o).goes_on e in
-            (λ i. record { spent = spent_at (t.1 i); steps = t.0 i }) ∙ ap (λ (x : Option Outcome). standing_after (turn_of_outcome x) (standing_of m)) (sym (none_ended d d.place e))
-
-        by_place : (b : Bool) → is_idle m.place ≡ b → standing_of d ≡ standing_after (turn_of m d) (standing_of m)
-        by_place true e =
-            let q = idle_is m.place e in
-            ap standing_of (rests q) ∙ ap (λ (x : Place). standing_after (turn_at x d) (standing_of m)) (sym q)
-        by_place false e = by_end (is_idle d.place) e refl ∙ ap (λ (x : Turn). standing_after x (standing_of m)) (sym (turn_open m.place d e))
 
     pub made_turned : (machine_in v c).made ≡ m.made
     made_turned = ap (λ (x : CallState). x.made) turned ∙ go (is_idle m.place) refl

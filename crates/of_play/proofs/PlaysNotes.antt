@@ -8,32 +8,25 @@ use Rattle.of_core.specs.declared.place.Outcome.{Outcome}
 use Rattle.of_core.specs.declared.place.Outcome.TheVariants.{Spent}
 use Rattle.of_core.specs.Calls.{outcome_of_turn}
 use Rattle.of_caller.specs.Ends.{TellsAnswer, AreAnswers}
-use Rattle.of_play.specs.ScheduleRun.{standing_after, spent_at, answers_in, NotesTurn}
+use Rattle.of_play.specs.ScheduleRun.{answers_in, NotesTurn}
 use Rattle.of_play.specs.declared.schedule_run.ScheduleRun.{ScheduleRun}
-use Rattle.of_play.specs.declared.schedule_run.CallerStanding.{CallerStanding}
 use Rattle.of_play.proofs.PlaysEvents.{answers_spent, answers_more}
 
 module _ (c : ℕ) (turn : Turn) (s t : ScheduleRun) (bank : t.bank ≡ s.bank) where
-  module _ (o : Outcome) (ends : turn ≡ Ended o) (standings : t.standings.items ≡ set s.standings.items c (record { spent = spent_at (Some o); steps = 0 })) where
-    stand : (d : CallerStanding) → t.standings.items ≡ set s.standings.items c (standing_after turn (get_or s.standings.items c d))
-    stand d = standings ∙ ap (λ (r : Turn). set s.standings.items c (standing_after r (get_or s.standings.items c d))) (sym ends)
-
-    -- with an answer more
-    pub notes_more : (a : Answer) → TellsAnswer o a → c < length s.answers.items → map (λ v. v.items) t.answers.items ≡ set (map (λ v. v.items) s.answers.items) c (answers_in s c ++ a ∷ []) → NotesTurn c turn s t
-    notes_more a tells l more = record {
-      bank = bank;
-      standings = stand;
-      answers = sym (length-map t.answers.items (λ v. v.items)) ∙ ap length more ∙ length-set _ c _ ∙ length-map s.answers.items (λ v. v.items);
-      others = λ i n. ap (λ (xs : List (List Answer)). get_or xs i []) more ∙ get_or-set_other _ c i _ [] n;
-      told = λ os h. subst (AreAnswers (os ++ outcome_of_turn turn)) (sym (ap (λ (xs : List (List Answer)). get_or xs c []) more ∙ get_or-set_same _ c _ [] (omega (arith, l, length-map s.answers.items (λ v. v.items)))))
-          (subst (λ (r : Turn). AreAnswers (os ++ outcome_of_turn r) (answers_in s c ++ a ∷ [])) (sym ends) (answers_more os (answers_in s c) o a h tells));
-    }
+  -- with an answer more
+  pub notes_more : (o : Outcome) → turn ≡ Ended o → (a : Answer) → TellsAnswer o a → c < length s.answers.items → map (λ v. v.items) t.answers.items ≡ set (map (λ v. v.items) s.answers.items) c (answers_in s c ++ a ∷ []) → NotesTurn c turn s t
+  notes_more o ends a tells l more = record {
+    bank = bank;
+    answers = sym (length-map t.answers.items (λ v. v.items)) ∙ ap length more ∙ length-set _ c _ ∙ length-map s.answers.items (λ v. v.items);
+    others = λ i n. ap (λ (xs : List (List Answer)). get_or xs i []) more ∙ get_or-set_other _ c i _ [] n;
+    told = λ os h. subst (AreAnswers (os ++ outcome_of_turn turn)) (sym (ap (λ (xs : List (List Answer)). get_or xs c []) more ∙ get_or-set_same _ c _ [] (omega (arith, l, length-map s.answers.items (λ v. v.items)))))
+        (subst (λ (r : Turn). AreAnswers (os ++ outcome_of_turn r) (answers_in s c ++ a ∷ [])) (sym ends) (answers_more os (answers_in s c) o a h tells));
+  }
 
   -- with none
-  pub notes_spent : (q : ℕ) → turn ≡ Ended (Spent q) → t.standings.items ≡ set s.standings.items c (record { spent = Some q; steps = 0 }) → t.answers.items ≡ s.answers.items → NotesTurn c turn s t
-  notes_spent q ends standings same = record {
+  pub notes_spent : (q : ℕ) → turn ≡ Ended (Spent q) → t.answers.items ≡ s.answers.items → NotesTurn c turn s t
+  notes_spent q ends same = record {
     bank = bank;
-    standings = stand (Spent q) ends standings;
     answers = ap length same;
     others = λ i n. ap (λ (xs : List (List Answer)). get_or xs i []) (ap (map (λ v. v.items)) same);
     told = λ os h. subst (AreAnswers (os ++ outcome_of_turn turn)) (sym (ap (λ (xs : List (List Answer)). get_or xs c []) (ap (map (λ v. v.items)) same)))

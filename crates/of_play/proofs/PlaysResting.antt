@@ -19,7 +19,6 @@ use Rattle.of_caller.specs.Ends.{AreAnswers}
 use Rattle.of_caller.specs.Left.{moment_after}
 use Rattle.of_play.specs.ScheduleRun.{NotesTurn, MakesMoves, BeginsNext, answers_in}
 use Rattle.of_play.specs.declared.schedule_run.ScheduleRun.{ScheduleRun}
-use Rattle.of_play.specs.declared.schedule_run.CallerStanding.{CallerStanding}
 use Rattle.of_play.proofs.PlaysMoments.{IsPlayable}
 use Rattle.of_play.proofs.PlaysMoves.{one_turn_more}
 use Rattle.of_play.proofs.PlaysStand.{turn_goes_on}
@@ -47,7 +46,6 @@ idle_turn m q e = subst (λ (r : Place). NoCall ≡ turn_at r m) e refl
 no_notes : (c : ℕ) (s : ScheduleRun) → NotesTurn c NoCall (record s { bank = s.bank }) s
 no_notes c s = record {
   bank = refl;
-  standings = λ d. sym (set-get_or s.standings.items c d);
   answers = refl;
   others = λ i n. refl;
   told = λ os told. subst (λ (xs : List Outcome). AreAnswers xs (answers_in s c)) (sym (append-nil os)) told;

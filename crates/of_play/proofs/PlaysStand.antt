@@ -5,7 +5,6 @@ use Rattle.std.proofs.lemmas.Bool.{cases_eq}
 use Rattle.std.proofs.lemmas.Bool.Decides.{nat_tests}
 use Rattle.std.proofs.lemmas.List.{append_assoc, append-nil, length-map, map-set, set-get_or, get_or-map, get_or_default}
 use Rattle.std.proofs.Math.Seq.{take-append_seam}
-use Rattle.std.specs.Option.{is_some}
 use Rattle.of_script.specs.declared.instr.Instr.{Instr}
 use Rattle.of_script.specs.Language.{instr_word}
 use Rattle.of_eval.specs.declared.scripts.Scripts.{Scripts}
@@ -19,6 +18,7 @@ use Rattle.of_core.specs.Table.{Setup, cell_count}
 use Rattle.of_core.specs.declared.place.Place.TheVariants.{Idle}
 use Rattle.of_core.specs.Machine.{CallState, is_idle, no_machine, begin_call}
 use Rattle.of_core.specs.TableMoment.{Moment}
+use Rattle.of_core.specs.MachineValue.{ended_outcome}
 use Rattle.of_core.specs.Turn.{turn_of}
 use Rattle.of_core.specs.Moment.{Bank, bank_setup, bank_after, machine_of}
 use Rattle.of_core.specs.Events.{Event, Begins, Turns, Loads, Evicts, Raises, machine_in, after_event}
@@ -27,12 +27,11 @@ use Rattle.of_caller.specs.Tables.{plan_setup, opening_for, operation_of}
 use Rattle.of_caller.specs.Ends.{is_spent, AreAnswers}
 use Rattle.of_caller.specs.Left.{moment_after}
 use Rattle.of_play.specs.Play.{begins_call, next_begin}
-use Rattle.of_play.specs.ScheduleRun.{EventsMayFollow, spent_at, standing_of, standing_after, answers_in, HasStepToCount, StandsAfter, NotesTurn, MakesMoves, BeginsNext}
+use Rattle.of_play.specs.ScheduleRun.{EventsMayFollow, answers_in, StandsAfter, NotesTurn, MakesMoves, BeginsNext}
 use Rattle.of_play.specs.declared.schedule_run.ScheduleRun.{ScheduleRun}
-use Rattle.of_play.specs.declared.schedule_run.CallerStanding.{CallerStanding}
-use Rattle.of_play.proofs.PlaysMoments.{IsPlayable, idle_is}
+use Rattle.of_play.proofs.PlaysMoments.{IsPlayable, idle_is, outcome_is}
 use Rattle.of_play.proofs.PlaysEvents.{run_append, outcomes_append}
-use Rattle.of_play.proofs.PlaysGood.{IsGood, good_at, sound_at, here, idle_steps, few_steps, turned, stands_turned}
+use Rattle.of_play.proofs.PlaysGood.{IsGood, good_at, sound_at, few_steps}
 use Rattle.of_play.proofs.PlaysFollow.{only_same, only_other, begins_idle, begins_unspent, begin_follows, turn_follows, raise_follows}
 
 -- an event that a bank makes
@@ -58,12 +57,6 @@ same_machines S w v (Loads a) made p q = absurd made
 same_machines S w v (Evicts k) made p q = absurd made
 same_machines S w v (Raises a) made p q = q
 
--- an unspent outcome has no sequence
-unspent_at : (o : Option Outcome) → is_spent o ≡ false → spent_at o ≡ None
-unspent_at None e = refl
-unspent_at (Some (Answered s announced raw steps)) e = refl
-unspent_at (Some (Spent s)) e = cc
-
 module _ (p : Plan) (plan : IsPlayable p) (es : List Event) (s : ScheduleRun) (st : StandsAfter p es s) where
   abbrev S : Setup
   S = plan_setup p
@@ -74,14 +67,11 @@ module _ (p : Plan) (plan : IsPlayable p) (es : List Event) (s : ScheduleRun) (s
   good : IsGood p plan w
   good = good_at p plan es st.follows.schedule
 
-  pub length_standings : length s.standings.items ≡ p.callers
-  length_standings = ap length st.standings ∙ length-map w.machines standing_of ∙ (sound_at p plan w good).members
-
   pub machine_same : (c : ℕ) → machine_of s.bank c ≡ machine_in w c
   machine_same c = ap (λ (ms : List CallState). get_or ms c no_machine) st.machines
 
-  pub standing_at : (c : ℕ) (d : CallerStanding) → c < p.callers → get_or s.standings.items c d ≡ standing_of (machine_in w c)
-  standing_at c d h = ap (λ (xs : List CallerStanding). get_or xs c d) st.standings ∙ get_or-map standing_of w.machines c no_machine d (here p plan w good c h)
+  pub outcome_same : (c : ℕ) → c < p.callers → ended_outcome (machine_of s.bank c) ≡ (machine_in w c).answer
+  outcome_same c h = ap ended_outcome (machine_same c) ∙ outcome_is p plan es st.follows.schedule c h
 
   pub time_left : (c : ℕ) → c < p.callers → (machine_in w c).steps + 1 < 18446744073709551616
   time_left c h = few_steps p plan w good c h
@@ -110,39 +100,27 @@ module _ (p : Plan) (plan : IsPlayable p) (es : List Event) (s : ScheduleRun) (s
         ap (λ (b : Bank Scripts). b.machines) leaves ∙ ap (λ (T : Setup). (after_event T before e).machines) st.table
         ∙ same_machines S w before e made st.words st.machines ∙ ap (λ (v : Moment). v.machines) (sym now)
 
-    -- where the event ends no call and nobody stands otherwise after it
-    quiet : EventsMayFollow p (es ++ e ∷ []) → map standing_of w.machines ≡ map standing_of (after_event S w e).machines → ((c : ℕ) → outcome_of_event S w e c ≡ []) → StandsAfter p (es ++ e ∷ []) (record s { bank = x })
-    quiet f same none = record {
+    -- where the event ends no call
+    quiet : EventsMayFollow p (es ++ e ∷ []) → ((c : ℕ) → outcome_of_event S w e c ≡ []) → StandsAfter p (es ++ e ∷ []) (record s { bank = x })
+    quiet f none = record {
       follows = f;
       callers = bank_callers;
       table = bank_table;
       words = bank_words;
       machines = bank_machines;
-      standings = st.standings ∙ same ∙ ap (λ (v : Moment). map standing_of v.machines) (sym now);
       answers = st.answers;
       told = λ c h. subst (λ (os : List Outcome). AreAnswers os (answers_in s c))
           (sym (outcomes_append S (opening_for p) es (e ∷ []) c ∙ ap (λ (os : List Outcome). outcomes S (opening_for p) es c ++ (os ++ [])) (none c) ∙ append-nil _)) (st.told c h);
     }
 
   pub raise_stands : (a : ℕ) → a < cell_count S → (x : Bank Scripts) → x ≡ bank_after scripts_meaning (Raises a ∷ []) s.bank → StandsAfter p (es ++ Raises a ∷ []) (record s { bank = x })
-  raise_stands a h x leaves = quiet (Raises a) tt x leaves (raise_follows p plan es st.follows a h) refl (λ c. refl)
+  raise_stands a h x leaves = quiet (Raises a) tt x leaves (raise_follows p plan es st.follows a h) (λ c. refl)
 
   pub begin_stands : (c : ℕ) (h : c < p.callers) → begins_call (machine_in w c) (length (scripts_of p c)) ≡ true → (x : Bank Scripts)
       → x ≡ bank_after scripts_meaning (Begins c (operation_of (get_or (scripts_of p c) (machine_in w c).made [])) ∷ []) s.bank
       → StandsAfter p (es ++ Begins c (operation_of (get_or (scripts_of p c) (machine_in w c).made [])) ∷ []) (record s { bank = x })
   begin_stands c h begins x leaves =
-      quiet (Begins c op) tt x leaves (begin_follows p plan es st.follows c h begins)
-      (ap (map standing_of) (sym (set-get_or w.machines c no_machine)) ∙ map-set standing_of w.machines c (machine_in w c) ∙ ap (set (map standing_of w.machines) c) same ∙ sym (map-set standing_of w.machines c (begin_call S (machine_in w c) op)))
-      (λ i. refl)
-    where
-      op : List ℕ
-      op = operation_of (get_or (scripts_of p c) (machine_in w c).made [])
-
-      same : standing_of (machine_in w c) ≡ standing_of (begin_call S (machine_in w c) (operation_of (get_or (scripts_of p c) (machine_in w c).made [])))
-      same =
-          let spent = unspent_at (machine_in w c).answer (begins_unspent p plan es st.follows c h begins) in
-          let steps = idle_steps p plan w good c h (begins_idle p plan es st.follows c h begins) in
-          λ i. record { spent = spent i; steps = steps i }
+      quiet (Begins c (operation_of (get_or (scripts_of p c) (machine_in w c).made []))) tt x leaves (begin_follows p plan es st.follows c h begins) (λ i. refl)
 
   module _ (c : ℕ) (h : c < p.callers) where
     turned_to : moment_after p (es ++ Turns c ∷ []) ≡ after_event S w (Turns c)
@@ -172,18 +150,10 @@ module _ (p : Plan) (plan : IsPlayable p) (es : List Event) (s : ScheduleRun) (s
       table = ap (bank_setup scripts_meaning) notes.bank ∙ bank_table (Turns c) tt x leaves;
       words = ap (λ (b : Bank Scripts). b.words) notes.bank ∙ bank_words (Turns c) tt x leaves;
       machines = ap (λ (b : Bank Scripts). b.machines) notes.bank ∙ bank_machines (Turns c) tt x leaves;
-      standings = stood;
       answers = notes.answers ∙ st.answers;
       told = λ i l. answered i l (cases_eq i c);
     }
       where
-        stood : t.standings.items ≡ map standing_of (moment_after p (es ++ Turns c ∷ [])).machines
-        stood =
-            let d : CallerStanding = standing_of (machine_in w c) in
-            notes.standings d ∙ (λ i. set (st.standings i) c (standing_after (turn_says x leaves r says i) (standing_at c d h i)))
-            ∙ ap (set (map standing_of w.machines) c) (sym (stands_turned p plan w good c h) ∙ ap standing_of (turned p plan w good c h))
-            ∙ sym (map-set standing_of w.machines c _) ∙ ap (λ (u : Moment). map standing_of u.machines) (sym turned_to)
-
         answered : (i : ℕ) → i < p.callers → (i ≡ c) ⊎ (i ≡ c → ⊥) → AreAnswers (outcomes S (opening_for p) (es ++ Turns c ∷ []) i) (answers_in t i)
         answered i l (inr n) = subst (λ (os : List Outcome). AreAnswers os (answers_in t i)) (sym (turn_ends_not i n)) (subst (AreAnswers (outcomes S (opening_for p) es i)) (sym (notes.others i n)) (st.told i l))
         answered i l (inl q) = subst (λ (k : ℕ). AreAnswers (outcomes S (opening_for p) (es ++ Turns c ∷ []) k) (answers_in t k)) (sym q)
@@ -199,12 +169,6 @@ next_one p c m e = ap (λ (b : Bool). if b then Begins c (operation_of (get_or (
 
 pub stays_none : (p : Plan) (es : List Event) (s : ScheduleRun) (c : ℕ) (m : CallState) → begins_call m (length (scripts_of p c)) ≡ false → StandsAfter p es s → StandsAfter p (es ++ next_begin p c m) s
 stays_none p es s c m e st = subst (λ (fs : List Event). StandsAfter p (es ++ fs) s) (sym (next_none p c m e)) (subst (λ (fs : List Event). StandsAfter p fs s) (sym (append-nil es)) st)
-
--- what the code keeps of a spent call
-pub spent_told : (o : Option Outcome) → is_some (spent_at o) ≡ is_spent o
-spent_told None = refl
-spent_told (Some (Answered q announced raw steps)) = refl
-spent_told (Some (Spent q)) = refl
 
 -- a caller that isn't idle, is spent or has no script left begins none; any other does
 pub begins_not : (m : CallState) (n : ℕ) → is_spent m.answer ≡ true → begins_call m n ≡ false
@@ -245,13 +209,12 @@ module _ (p : Plan) (plan : IsPlayable p) (es : List Event) (s : ScheduleRun) (s
   abbrev m : CallState
   m = machine_in (moment_after p es) c
 
-  -- what the code keeps of the caller's machine is whether it is spent
-  pub spent_kept : (t : CallerStanding) → t ≡ get_or s.standings.items c t → is_some t.spent ≡ is_spent m.answer
-  spent_kept t e = ap (λ (x : CallerStanding). is_some x.spent) (e ∙ standing_at p plan es s st c t h) ∙ spent_told m.answer
+  spent_same : is_spent (ended_outcome (machine_of s.bank c)) ≡ is_spent m.answer
+  spent_same = ap is_spent (outcome_same p plan es s st c h)
 
   -- a spent caller begins none
-  pub spent_stands : (t : CallerStanding) → t ≡ get_or s.standings.items c t → is_some t.spent ≡ true → StandsAfter p (es ++ next_begin p c m) s
-  spent_stands t e q = stays_none p es s c m (begins_not m (length (scripts_of p c)) (sym (spent_kept t e) ∙ q)) st
+  pub spent_stands : is_spent (ended_outcome (machine_of s.bank c)) ≡ true → StandsAfter p (es ++ next_begin p c m) s
+  spent_stands q = stays_none p es s c m (begins_not m (length (scripts_of p c)) (sym spent_same ∙ q)) st
 
   -- nor does one with an open call
   pub busy_stands : ((machine_of s.bank c).place ≡ Idle → ⊥) → StandsAfter p (es ++ next_begin p c m) s
@@ -264,25 +227,20 @@ module _ (p : Plan) (plan : IsPlayable p) (es : List Event) (s : ScheduleRun) (s
       stays_none p es s c m (begins_done m (length (scripts_of p c)) (omega (arith, few, made_is, ap length all))) st
 
   -- a caller that is idle and unspent begins its next script, where it has one left
-  pub next_stands : (machine_of s.bank c).place ≡ Idle → (t : CallerStanding) → t ≡ get_or s.standings.items c t → is_some t.spent ≡ false
+  pub next_stands : (machine_of s.bank c).place ≡ Idle → is_spent (ended_outcome (machine_of s.bank c)) ≡ false
       → (n : ℕ) → n ≡ (machine_of s.bank c).made → (scripts : List (List Instr)) → scripts ≡ scripts_of p c → n < length scripts → (script : List Instr) → script ≡ get_or scripts n script
       → (count : ℕ) → count ≡ length script → (out rest : List ℕ) → out ≡ operation_of script ++ rest → (x : Bank Scripts) → x ≡ bank_after scripts_meaning (Begins c (take count out) ∷ []) s.bank
       → StandsAfter p (es ++ next_begin p c m) (record s { bank = x })
-  next_stands idle t e unspent n made scripts all left script read count cell_count out rest words x leaves =
+  next_stands idle unspent n made scripts all left script read count cell_count out rest words x leaves =
       let same = machine_same p plan es s st c in
       let made_is : n ≡ m.made = made ∙ ap (λ (d : CallState). d.made) same in
       let left_is : m.made < length (scripts_of p c) = omega (arith, left, made_is, ap length all) in
-      let begins = begins_is m (length (scripts_of p c)) (ap (λ (d : CallState). d.place) (sym same) ∙ idle) (sym (spent_kept t e) ∙ unspent) left_is in
+      let begins = begins_is m (length (scripts_of p c)) (ap (λ (d : CallState). d.place) (sym same) ∙ idle) (sym spent_same ∙ unspent) left_is in
       let first : script ≡ get_or (scripts_of p c) m.made [] = read ∙ get_or_default scripts n script [] left ∙ (λ i. get_or (all i) (made_is i) []) in
       let many : count ≡ length (operation_of script) = cell_count ∙ sym (length-map script instr_word) in
       let op : take count out ≡ operation_of (get_or (scripts_of p c) m.made []) = ap (take count) words ∙ words_first count (operation_of script) rest many ∙ ap operation_of first in
       subst (λ (fs : List Event). StandsAfter p (es ++ fs) (record s { bank = x })) (sym (next_one p c m begins))
       (begin_stands p plan es s st c h begins x (leaves ∙ ap (λ (o : List ℕ). bank_after scripts_meaning (Begins c o ∷ []) s.bank) op))
-
-pub has_time : (r : Turn) (t : CallerStanding) → t.steps + 1 < 18446744073709551616 → HasStepToCount r t
-has_time NoCall t h = tt
-has_time Open t h = h
-has_time (Ended o) t h = tt
 
 -- a turn with the begin before it
 pub turn_goes_on : (p : Plan) (plan : IsPlayable p) (c : ℕ) → c < p.callers → (first begun : ScheduleRun) → BeginsNext p c first begun

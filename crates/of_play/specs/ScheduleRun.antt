@@ -1,5 +1,5 @@
 -- How the code that plays a plan stands between two events.
-use Rattle.std.specs.Prelude.{◌≡◌, ◌≢◌, ℕ, ◌+◌, ◌≤◌, ◌<◌, List, [], ◌++◌, length, map, take, slice_index_or, slice_set, Option, Some, None}
+use Rattle.std.specs.Prelude.{◌≡◌, ◌≢◌, ℕ, ◌≤◌, ◌<◌, List, [], ◌++◌, length, map, take, slice_index_or}
 use Rattle.of_eval.specs.Scripts.{scripts_meaning}
 use Rattle.of_plan.specs.declared.answer.Answer.{Answer}
 use Rattle.of_plan.specs.declared.answer.Ending.{Ending}
@@ -8,7 +8,6 @@ use Rattle.of_plan.specs.Ended.{Ended}
 use Rattle.of_core.specs.declared.bank.Turn.{Turn}
 use Rattle.of_core.specs.declared.bank.Turn.TheVariants.{Idle, Open, Ended as EndedTurn}
 use Rattle.of_core.specs.declared.place.Outcome.{Outcome}
-use Rattle.of_core.specs.declared.place.Outcome.TheVariants.{Spent}
 use Rattle.of_core.specs.Machine.{CallState}
 use Rattle.of_core.specs.Moment.{bank_setup}
 use Rattle.of_core.specs.Events.{Event, machine_in, IsSchedule}
@@ -18,7 +17,6 @@ use Rattle.of_caller.specs.Ends.{OutcomeHoldsReply, AreAnswers, ending_at}
 use Rattle.of_caller.specs.Left.{IsLeftBy, moment_after}
 use Rattle.of_play.specs.Play.{events_from, next_begin}
 use Rattle.of_play.specs.declared.schedule_run.ScheduleRun.{ScheduleRun}
-use Rattle.of_play.specs.declared.schedule_run.CallerStanding.{CallerStanding}
 
 -- what these events leave of a caller's machine
 abbrev pub machine_left : Plan → List Event → ℕ → CallState
@@ -31,15 +29,6 @@ pub record EventsMayFollow (p : Plan) (es : List Event) : Type 0 where
   pub begun : (c : ℕ) → c < p.callers
       → operations_begun es c ≡ map operation_of (take (machine_left p es c).made (scripts_of p c))
 
--- the sequence at which a call was spent
-abbrev pub spent_at : Option Outcome → Option ℕ
-spent_at (Some (Spent s)) = Some s
-spent_at o = None
-
--- what the code keeps of a caller's machine
-abbrev pub standing_of : CallState → CallerStanding
-standing_of m = record { spent = spent_at m.answer; steps = m.steps }
-
 -- the answers of a caller so far
 abbrev pub answers_in : ScheduleRun → ℕ → List Answer
 answers_in s c = slice_index_or (map (λ v. v.items) s.answers.items) c []
@@ -51,7 +40,6 @@ pub record StandsAfter (p : Plan) (es : List Event) (s : ScheduleRun) : Type 0 w
   pub table : bank_setup scripts_meaning s.bank ≡ plan_setup p
   pub words : s.bank.words ≡ (moment_after p es).words
   pub machines : s.bank.machines ≡ (moment_after p es).machines
-  pub standings : s.standings.items ≡ map standing_of (moment_after p es).machines
   pub answers : length s.answers.items ≡ p.callers
   pub told : (c : ℕ) → c < p.callers
       → AreAnswers (outcomes (plan_setup p) (opening_for p) es c) (answers_in s c)
@@ -74,25 +62,6 @@ BeginsNext p c before now =
     (es : List Event) → StandsAfter p es before
     → StandsAfter p (es ++ next_begin p c (machine_left p es c)) now
 
--- how a caller stands after a turn
-abbrev pub standing_after : Turn → CallerStanding → CallerStanding
-standing_after Idle s = s
-standing_after Open s = record s { steps = s.steps + 1 }
-standing_after (EndedTurn o) s = record { spent = spent_at (Some o); steps = 0 }
-
--- before its first call
-abbrev pub idle_standing : CallerStanding
-idle_standing = record { spent = None; steps = 0 }
-
--- how a caller stands
-abbrev pub standing_in : ScheduleRun → ℕ → CallerStanding
-standing_in s c = slice_index_or s.standings.items c idle_standing
-
--- one step more of the open call is still counted
-abbrev pub HasStepToCount : Turn → CallerStanding → Type 0
-HasStepToCount Open s = s.steps + 1 < 18446744073709551616
-HasStepToCount r s = Unit {0}
-
 -- where a turn has ended a call, its reply is one
 abbrev pub IsReplied : Turn → Type 0
 IsReplied Idle = Unit {0}
@@ -102,9 +71,6 @@ IsReplied (EndedTurn o) = OutcomeHoldsReply o
 -- what a turn has said of a caller is noted
 pub record NotesTurn (c : ℕ) (turn : Turn) (before now : ScheduleRun) : Type 0 where
   pub bank : now.bank ≡ before.bank
-  pub standings : (d : CallerStanding) → now.standings.items
-      ≡ slice_set before.standings.items c
-      (standing_after turn (slice_index_or before.standings.items c d))
   pub answers : length now.answers.items ≡ length before.answers.items
   pub others : (i : ℕ) → i ≢ c → answers_in now i ≡ answers_in before i
   pub told : (os : List Outcome) → AreAnswers os (answers_in before c)

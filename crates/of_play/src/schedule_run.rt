@@ -16,31 +16,23 @@ mod trace_run;
 
 pub use trace_run::{ALL_EVENTS, commits, trace};
 
-/// How a caller stands between its turns.
-#[derive(Clone, Copy)]
-struct CallerStanding {
-    /// The sequence at which its last call was spent, where it was.
-    spent: Option<u32>,
-    /// How many steps its open call has made.
-    steps: u64,
-}
-
 /// The run of a plan's schedule so far.
 #[derive(Drop)]
 struct ScheduleRun {
     bank: Bank<Scripts>,
     answers: Vec<Vec<Answer>>,
-    standings: Vec<CallerStanding>,
 }
 
 impl ScheduleRun {
-    ghost use Rattle.std.specs.Prelude.{◌≡◌, ◌+◌, ◌<◌, [], ◌∷◌, length, slice_index_or, IfOk, OnOk, IsTrue, if◌then◌else◌};
+    ghost use Rattle.std.specs.Prelude.{◌≡◌, ◌<◌, [], ◌∷◌, length, IfOk, OnOk, IsTrue};
     ghost use Rattle.of_plan.specs.Plan.{IsPlan, IsScheduleItem, scripts_of};
     ghost use Rattle.of_plan.specs.Ended.{ended_value};
     ghost use Rattle.of_core.specs.Events.{Turns};
     ghost use Rattle.of_play.specs.Play.{turns_by, item_events};
-    ghost use Rattle.of_caller.specs.Ends.{OutcomeHoldsReply};
-    ghost use Rattle.of_play.specs.ScheduleRun.{StandsAfter, IsPlaying, MakesMoves, BeginsNext, HasStepToCount, IsReplied, NotesTurn, NotesEnd, standing_in, CallerEndsAs, RunLeaves};
+    ghost use Rattle.of_caller.specs.Ends.{OutcomeHoldsReply, is_spent};
+    ghost use Rattle.of_play.specs.ScheduleRun.{StandsAfter, IsPlaying, MakesMoves, BeginsNext, IsReplied, NotesTurn, NotesEnd, CallerEndsAs, RunLeaves};
+    ghost use Rattle.of_core.specs.Moment.{machine_of};
+    ghost use Rattle.of_core.specs.MachineValue.{ended_outcome};
 
     /// The run before the first step.
     fn new(alloc: Global, plan: &Plan) -> Result<Self, AllocError>
@@ -50,19 +42,18 @@ impl ScheduleRun {
         let scripts = Scripts::of_plan(plan);
         let bank = Bank::new(alloc, plan.shape(), plan.limit(), scripts)?;
         let mut answers = Vec::new(alloc);
-        let mut standings = Vec::new(alloc);
         for _ in 0..plan.callers() {
             answers.push(Vec::new(alloc))?;
-            standings.push(CallerStanding {
-                spent: None,
-                steps: 0,
-            })?;
         }
-        Ok(ScheduleRun {
-            bank,
-            answers,
-            standings,
-        })
+        Ok(ScheduleRun { bank, answers })
+    }
+
+    /// Whether a caller's last call was spent.
+    fn is_spent(&self, caller: u32) -> bool
+        requires { caller < self.now.bank.callers }
+        ensures { result ≡ is_spent (ended_outcome (machine_of self.now.bank caller)) }
+    {
+        matches!(self.bank.answer(caller), Some(Outcome::Spent { .. }))
     }
 
     /// Begins a caller's next call where it has none open, isn't spent and has a script left.
@@ -76,7 +67,7 @@ impl ScheduleRun {
         if !self.bank.is_idle(caller) {
             return;
         }
-        if self.standings[caller as usize].spent.is_some() {
+        if self.is_spent(caller) {
             return;
         }
         let scripts = plan.scripts(caller);
@@ -94,33 +85,21 @@ impl ScheduleRun {
     #[inline(never)]
     fn note_end(&mut self, caller: u32, outcome: Outcome) -> Result<(), AllocError>
         requires answers { caller < length self.old.answers.items }
-        requires standings { caller < length self.old.standings.items }
         requires reply { OutcomeHoldsReply outcome }
         ensures { OnOk result (NotesEnd caller outcome self.old self.new) }
     {
-        let place = caller as usize;
         match outcome {
-            Outcome::Spent { seq } => {
-                self.standings[place] = CallerStanding {
-                    spent: Some(seq),
-                    steps: 0,
-                };
-                Ok(())
-            }
+            Outcome::Spent { .. } => Ok(()),
             Outcome::Answered {
                 seq,
                 announced,
                 raw,
                 steps,
             } => {
-                self.standings[place] = CallerStanding {
-                    spent: None,
-                    steps: 0,
-                };
                 let Some(reply) = reply_of(&raw) else {
                     unreachable!()
                 };
-                self.answers[place].push(Answer {
+                self.answers[caller as usize].push(Answer {
                     seq,
                     announced,
                     reply,
@@ -135,17 +114,11 @@ impl ScheduleRun {
     #[inline(always)]
     fn note(&mut self, caller: u32, turn: Turn) -> Result<(), AllocError>
         requires answers { caller < length self.old.answers.items }
-        requires standings { caller < length self.old.standings.items }
-        requires time { HasStepToCount turn (standing_in self.old caller) }
         requires reply { IsReplied turn }
         ensures { OnOk result (NotesTurn caller turn self.old self.new) }
     {
         match turn {
-            Turn::Idle => Ok(()),
-            Turn::Open => {
-                self.standings[caller as usize].steps += 1;
-                Ok(())
-            }
+            Turn::Idle | Turn::Open => Ok(()),
             Turn::Ended(outcome) => self.note_end(caller, outcome),
         }
     }
@@ -176,7 +149,7 @@ impl ScheduleRun {
         if !self.bank.is_idle(caller) {
             return false;
         }
-        if self.standings[caller as usize].spent.is_some() {
+        if self.is_spent(caller) {
             return true;
         }
         self.bank.made(caller) as usize >= plan.scripts(caller).len()
@@ -223,11 +196,10 @@ impl ScheduleRun {
         if self.answers[caller as usize].len() == plan.scripts(caller).len() {
             return Ending::Done;
         }
-        let standing = self.standings[caller as usize];
-        match standing.spent {
-            Some(seq) => Ending::Spent { seq },
-            None => Ending::Stopped {
-                asked: standing.steps + 1,
+        match self.bank.answer(caller) {
+            Some(Outcome::Spent { seq }) => Ending::Spent { seq },
+            _ => Ending::Stopped {
+                asked: self.bank.steps(caller) + 1,
             },
         }
     }

@@ -23,17 +23,17 @@ invariant_of-result g c =
         upto = omega arith;
         words = search rules;
         script = search rules;
-        known = ap (λ (p : Part). length p.known) c.in_ok-part.ensures ∙ length-replicate c.args.shape.cells None;
+        known = ap (λ (p : Part). length p.known) c.in_ok-op.ensures.part ∙ length-replicate c.args.shape.cells None;
         place = tt;
       };
       room = record {
-        log = ap (λ (p : WriteSet). p.room) c.in_ok-log.ensures;
+        log = ap (λ (p : WriteSet). p.room) c.in_ok-op.ensures.log;
         op = search rules;
         scripts_in = search rules;
         copy = search rules;
         calls = search rules;
         scanning = search rules;
         reading = search rules;
-        empty = ap (λ (p : Part). p.script) c.in_ok-part.ensures;
+        empty = ap (λ (p : Part). p.script) c.in_ok-op.ensures.part;
       };
     }

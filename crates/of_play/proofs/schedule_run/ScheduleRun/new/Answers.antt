@@ -1,7 +1,5 @@
-use Rattle.std.proofs.Common.{◌≡◌, ℕ, zero, suc, List, [], ◌∷◌, ◌++◌, length, map, get_or, replicate, refl, arith, ap, ◌∙◌, length-append}
-use Rattle.std.proofs.lemmas.List.{replicate-append-replicate}
+use Rattle.std.proofs.Common.{◌≡◌, ℕ, zero, suc, List, [], ◌∷◌, ◌++◌, length, map, get_or, refl, arith, ap, ◌∙◌, length-append}
 use Rattle.of_plan.specs.declared.answer.Answer.{Answer}
-use Rattle.of_play.specs.declared.schedule_run.CallerStanding.{CallerStanding}
 use Rattle.of_mem.specs.declared.work.TheConstants.{MOST_INSTRS}
 use Rattle.of_mem.specs.Places.{base_of}
 use Rattle.of_mem.specs.ProgramWork.{meaning_of}
@@ -11,7 +9,6 @@ use Rattle.of_plan.specs.Plan.{data_cells}
 use Rattle.of_core.specs.Moment.{bank_setup}
 use Rattle.of_core.specs.Table.{setup_of}
 use Rattle.of_caller.specs.Tables.{plan_setup, meaning_for}
-use Rattle.of_play.specs.ScheduleRun.{idle_standing}
 use Rattle.of_play.proofs.PlaysEnds.{start_stands}
 use Rattle.of_play.proofs.schedule_run.ScheduleRun.new.Goals as goal
 
@@ -25,11 +22,9 @@ pub loop-preserved : goal.loop-preserved
 loop-preserved c =
     let inv = c.loop.invariant in
     let pushed = c.in_ok-push.ensures.items in
-    let stood = c.in_ok-push-2.ensures.items in
     record {
       answers = ap length pushed ∙ length-append c.loop.answers.items _ ∙ omega (arith, inv.answers);
       none = rw pushed (none_more (λ v. v.items) c.loop.answers.items _ c.new-in-loop.ensures.items inv.none);
-      standings = stood ∙ ap (λ (xs : List CallerStanding). xs ++ idle_standing ∷ []) inv.standings ∙ replicate-append-replicate c.loop.counter 1 idle_standing;
     }
 
 pub returns-clause-stands : goal.returns-clause-stands
@@ -44,4 +39,4 @@ returns-clause-stands c =
     let meaning : scripts_meaning b.bank.work ≡ meaning_for p = ap scripts_meaning b.ensures.work ∙ (λ i. meaning_of is_success script_reads (script_program (base_of (many i) MOST_INSTRS) (room i))) in
     let same : bank_setup scripts_meaning b.bank ≡ plan_setup p = λ i. setup_of (callers i) (cells i) (limit i) (meaning i) in
     let all : c.loop.counter ≡ p.callers = omega (arith, c.callers-end.ensures.value) in
-    start_stands p _ callers same b.ensures.words b.ensures.machines (c.loop.invariant.standings ∙ ap (λ (n : ℕ). replicate n idle_standing) all) (c.loop.invariant.answers ∙ all) c.loop.invariant.none
+    start_stands p _ callers same b.ensures.words b.ensures.machines (c.loop.invariant.answers ∙ all) c.loop.invariant.none

@@ -1,12 +1,10 @@
-use Rattle.std.proofs.Common.{◌++◌, arith, ap}
+use Rattle.std.proofs.Common.{◌++◌, arith}
 use Rattle.std.proofs.lemmas.Result.{on_ok_weaker}
 use Rattle.of_core.specs.Events.{machine_in}
 use Rattle.of_caller.specs.Left.{moment_after}
 use Rattle.of_play.specs.Play.{next_begin}
-use Rattle.of_play.specs.ScheduleRun.{idle_standing}
-use Rattle.of_play.specs.declared.schedule_run.CallerStanding.{CallerStanding}
 use Rattle.of_play.proofs.PlaysMoments.{playable}
-use Rattle.of_play.proofs.PlaysStand.{length_standings, standing_at, time_left, has_time, turn_goes_on}
+use Rattle.of_play.proofs.PlaysStand.{turn_goes_on}
 use Rattle.of_play.proofs.PlaysReplies.{turn_replied}
 use Rattle.of_play.proofs.schedule_run.ScheduleRun.turn.Goals as goal
 
@@ -20,8 +18,6 @@ note-requires c =
     let st = c.begin_next.ensures r.events r.stands in
     record {
       answers = omega (arith, st.answers, c.requires.caller);
-      standings = omega (arith, length_standings p play es s st, c.requires.caller);
-      time = has_time c.turn-turn.result _ (omega (arith, ap (λ (t : CallerStanding). t.steps) (standing_at p play es s st c.args.caller idle_standing c.requires.caller), time_left p play es s st c.args.caller c.requires.caller));
       reply = turn_replied p play es s st c.args.caller c.requires.caller c.runs_are_lawful.ensures.replies c.turn-turn.new.self c.turn-turn.ensures.after c.turn-turn.result c.turn-turn.ensures.turn;
     }
 

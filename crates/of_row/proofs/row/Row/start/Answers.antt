@@ -1,19 +1,21 @@
-use Rattle.std.proofs.Common.{◌∙◌}
-use Rattle.of_core.specs.TableMoment.{TableStart}
-use Rattle.of_core.specs.Starts.{start_from_durable}
-use Rattle.of_row.proofs.Opens.{bank_start}
+use Rattle.std.proofs.Common.{◌≡◌, ℕ, ap, ◌∙◌}
+use Rattle.of_cell.specs.Cells.{table_words}
+use Rattle.of_core.specs.Starts.{first_words, start_on}
 use Rattle.of_row.proofs.row.Row.start.Goals as goal
+
+pub first_words-requires-clause-owner : goal.first_words-requires-clause-owner
+first_words-requires-clause-owner g c = c.requires.row.may_start.start.owner_in
 
 pub open-requires-clause-words : goal.open-requires-clause-words
 open-requires-clause-words g c κs within =
     let a = c.args in
-    let b = c.in_ok-bank.ensures in
-    let B : TableStart = start_from_durable a.shape.callers a.shape.cells a.durable.now in
-    record { start = B; may_start = c.requires.row.may_start; words = c.words-words.ensures ∙ bank_start g.W.Work.meaning c.in_ok-bank.bank a.shape.callers a.shape.cells a.limit a.work b.callers b.cells b.limit b.work B b.words }
+    record {
+      start = start_on a.shape a.durable.now;
+      may_start = c.requires.row.may_start;
+      words = c.in_ok-words.ensures ∙ ap (λ (k : ℕ). first_words a.shape.callers a.shape.cells (start_on a.shape a.durable.now) (table_words a.shape.callers k a.shape.cells)) c.requires.instrs;
+    }
 
 pub returns-clause-start : goal.returns-clause-start
 returns-clause-start g c =
     let a = c.args in
-    let b = c.in_ok-bank.ensures in
-    let B : TableStart = start_from_durable a.shape.callers a.shape.cells a.durable.now in
-    c.in_ok-row.ensures.start B c.requires.row.may_start (c.words-words.ensures ∙ bank_start g.W.Work.meaning c.in_ok-bank.bank a.shape.callers a.shape.cells a.limit a.work b.callers b.cells b.limit b.work B b.words)
+    c.in_ok-row.ensures.start (start_on a.shape a.durable.now) c.requires.row.may_start (c.in_ok-words.ensures ∙ ap (λ (k : ℕ). first_words a.shape.callers a.shape.cells (start_on a.shape a.durable.now) (table_words a.shape.callers k a.shape.cells)) c.requires.instrs)

@@ -2,7 +2,7 @@ use Rattle.std.proofs.Common.{◌≡◌, ℕ, List, ◌++◌, ◌∙◌, ap, ari
 use Rattle.of_core.specs.TableMoment.{TableStart}
 use Rattle.of_core.specs.Starts.{first_words, start_from_durable}
 use Rattle.of_core.proofs.Starts.{cells_count, words_filled}
-use Rattle.of_core.proofs.bank.first_words.Goals as goal
+use Rattle.of_core.proofs.opening.first_words.Goals as goal
 
 pub returns : goal.returns
 returns c =

@@ -3,7 +3,7 @@ use Rattle.of_cell.specs.Words.{pack, seq_of, payload_of}
 use Rattle.of_core.specs.TableMoment.{TableStart}
 use Rattle.of_core.specs.Starts.{closed_request, start_from_durable}
 use Rattle.of_core.proofs.Starts.{heads_are, cells_filled}
-use Rattle.of_core.proofs.bank.first_cells.Goals as goal
+use Rattle.of_core.proofs.opening.first_cells.Goals as goal
 
 pub returns : goal.returns
 returns c =

@@ -1,0 +1,52 @@
+//! The words of a table at its start.
+
+ghost use Rattle.std.specs.Prelude.{◌≡◌, ◌<◌, length, IfOk};
+ghost use Rattle.std.proofs.Common.{get_or};
+ghost use Rattle.of_cell.specs.Words.{payload_of};
+ghost use Rattle.of_cell.specs.Cells.{durable_cells, table_words as cell_words};
+ghost use Rattle.of_core.specs.Starts.{closed_request, first_cells, first_words, start_on};
+
+use of_cell::{Shape, pack, payload_of, seq_of};
+use std::alloc::{AllocError, Global};
+
+// The request of a start's owner: closed, where there is a transaction behind the start.
+fn closed(seq: u32) -> u64
+    ensures { result ≡ closed_request seq }
+{
+    if seq == 0 { 0 } else { pack(seq, 1) }
+}
+
+// The cells at the start that a durable row is.
+fn first_cells(alloc: Global, shape: &Shape, durable: &[u64]) -> Result<Vec<u64>, AllocError>
+    requires row { length durable.now ≡ durable_cells shape.now.callers shape.now.cells }
+    requires owner { payload_of (get_or durable.now 0 0) < shape.now.callers }
+    ensures { IfOk result (λ cells. cells.items
+        ≡ first_cells shape.now.callers shape.now.cells (start_on shape.now durable.now)) }
+{
+    let current = durable[shape.cur() as usize];
+    let first = shape.data_cell(0) as usize;
+    let mut cells = vec![in alloc; 0; shape.callers as usize + 1]?;
+    cells[0] = current;
+    cells[shape.request(payload_of(current)) as usize] = closed(seq_of(current));
+    cells.extend_from_slice(&durable[first..first + shape.cells as usize])?;
+    cells.resize(shape.durable_cells() as usize, 0)?;
+    Ok(cells)
+}
+
+/// The words of a table that starts from a durable row: its cells, with the request of the owner
+/// closed, the cells' durable words, which are the same, and 0 behind them. The row has a word for
+/// each cell, and the owner that its first word names is a caller. The error is that there is no
+/// memory.
+pub fn first_words(alloc: Global, shape: &Shape, durable: &[u64]) -> Result<Vec<u64>, AllocError>
+    requires row { length durable.now ≡ durable_cells shape.now.callers shape.now.cells }
+    requires owner { payload_of (get_or durable.now 0 0) < shape.now.callers }
+    ensures { IfOk result (λ words. words.items
+        ≡ first_words shape.now.callers shape.now.cells (start_on shape.now durable.now)
+        (cell_words shape.now.callers shape.now.instrs shape.now.cells)) }
+{
+    let cells = first_cells(alloc, shape, durable)?;
+    let mut words = Vec::from_slice(alloc, &cells)?;
+    words.extend_from_slice(&cells)?;
+    words.resize(shape.words() as usize, 0)?;
+    Ok(words)
+}
