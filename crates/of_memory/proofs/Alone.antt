@@ -9,7 +9,7 @@ use Rattle.of_memory.specs.declared.saved.Saved.{Saved}
 use Rattle.of_memory.specs.History.{HistoryEntry, Made, End, Replied, Spent, no_history_entry, no_made, store_after, ExplainsEnd, IsOneOf}
 use Rattle.of_memory.specs.Memories.{HasOpenOf, LeadsTo, tickets_before}
 use Rattle.of_memory.specs.Saving.{SavedHolds}
-use Rattle.of_memory.specs.Joining.{IsReplied, HasMadeAlone, LoneCallsAreSaved}
+use Rattle.of_memory.specs.Joining.{EndsWithReply, HasMadeAlone, LoneCallsAreSaved}
 
 -- numbers that rise from 1 to n, each of which is among them
 module _ (f : ℕ → ℕ) (long n : ℕ) (rises : (p q : ℕ) → p < q → q < long → f p < f q) (some : (p : ℕ) → p < long → 1 ≤ f p) (few : (p : ℕ) → p < long → f p ≤ n) (place : ℕ → ℕ) (within : (y : ℕ) → y < n → place y < long) (is : (y : ℕ) → y < n → f (place y) ≡ y + 1) where
@@ -53,7 +53,7 @@ replays s (e ∷ h) = replays (run s e.script).0 h
 abbrev IsEntryOf : List HistoryEntry → (caller ticket : ℕ) → List Instr → Type 0
 IsEntryOf h c t script = (p : ℕ) × (p < length h) × ((get_or h p no_history_entry).ticket ≡ t) × ((get_or h p no_history_entry).script ≡ script)
 
-entry_of : (h : List HistoryEntry) (c t : ℕ) (script : List Instr) (end : End) → IsReplied end → ExplainsEnd h c t script end → IsEntryOf h c t script
+entry_of : (h : List HistoryEntry) (c t : ℕ) (script : List Instr) (end : End) → EndsWithReply end → ExplainsEnd h c t script end → IsEntryOf h c t script
 entry_of h c t script (Replied r) is has = (has.0, has.1, ap (λ (e : HistoryEntry). e.ticket) has.2, ap (λ (e : HistoryEntry). e.script) has.2)
 entry_of h c t script Spent is has = absurd is
 

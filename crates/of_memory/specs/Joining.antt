@@ -44,14 +44,14 @@ NoneStaysOpen =
     → (HasCallOpen g → ⊥) → PutsBack k l g → HasNoneOpen l
 
 -- the call was answered
-abbrev pub IsReplied : End → Type 0
-IsReplied (Replied r) = Unit {0}
-IsReplied Spent = ⊥
+abbrev pub EndsWithReply : End → Type 0
+EndsWithReply (Replied r) = Unit {0}
+EndsWithReply Spent = ⊥
 
 -- these calls of one caller were answered, and no other call was made or is open
 pub record HasMadeAlone (m : Memory) (n : ℕ) (ms : List Made) : Type 0 where
   pub made : HasMadeOf m n ms
-  pub replied : All (λ (x : Made). IsReplied x.ended) ms
+  pub replied : All (λ (x : Made). EndsWithReply x.ended) ms
   pub others : (i : ℕ) → i < callers_of m → i ≢ n → HasMadeOf m i []
   pub none_open : HasNoneOpen m
 

@@ -22,8 +22,8 @@ abbrev pub saved_row : Saved → DurableRow
 saved_row d = record { callers = d.scripts.callers; blocks = d.scripts.blocks; words = d.row.items }
 
 -- the text is the one that is printed for it
-abbrev pub IsPrinted : Saved → List ℕ → Type 0
-IsPrinted d text = text ≡ image_text Two (saved_row d)
+abbrev pub IsTextOfSaved : Saved → List ℕ → Type 0
+IsTextOfSaved d text = text ≡ image_text Two (saved_row d)
 
 -- the image has its words, its sequence, its store, and the tickets of its callers
 pub record IsImageOfSaved (i : Image) (d : Saved) : Type 0 where

@@ -36,14 +36,14 @@ impl Saved {
     ghost use Rattle.std.specs.Prelude.{MatchResult};
     ghost use Rattle.of_memory.specs.declared.saved.Saved.{Saved as AnySaved};
     ghost use Rattle.of_memory.specs.declared.error.ImageTextErr.TheVariants.{OutOfMemory};
-    ghost use Rattle.of_memory.specs.Texts.{IsPrinted, TextHolds, IsReadBack, IsTextCause};
+    ghost use Rattle.of_memory.specs.Texts.{IsTextOfSaved, TextHolds, IsReadBack, IsTextCause};
 
     /// The text of it, an image as the command line reads and writes them: the store, and the last
     /// ticket and reply of each caller. The limit is not in it. The error is that there is no
     /// memory.
     pub fn image_text(&self, alloc: Global) -> Result<Vec<u8>, AllocError>
         requires { IsSaved self.now }
-        ensures printed { IfOk result (λ text. IsPrinted self.now text.items) }
+        ensures printed { IfOk result (λ text. IsTextOfSaved self.now text.items) }
         ensures holds { IfOk result (λ text. TextHolds text.items self.now) }
     {
         let words = table_of(alloc, &shape_of(self.scripts), &self.row)?;
