@@ -57,6 +57,10 @@ fn main(rt: HostRuntime) -> Result<()> {
     let saved = memory.close()?;
     show(&rt, alloc, &saved)?;
 
+    // A program keeps this text in a file, from which another one goes on.
+    let text = saved.image_text(alloc)?;
+    let saved = Saved::from_image(alloc, &text)?;
+    let saved = saved.renumbered().with_limit(1_000)?;
     let mut memory = Memory::reopen(alloc, &saved)?;
     let mut third = memory.enrol(2)?;
     third.run(&new_hand(alloc, 2, u64::MAX)?.script)?;

@@ -1,3 +1,4 @@
 pub mod Jobs
 pub mod Counts
 pub mod Workers
+pub mod Filling

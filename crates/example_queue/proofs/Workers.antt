@@ -18,7 +18,7 @@ use Rattle.of_memory.specs.Handles.{HasOpen, MakesCall, OpensOnly}
 use Rattle.of_memory.specs.Memories.{HasMadeOf, HasOpenOf, HasNoneOpen, HasHistory, IsStill, callers_of}
 use Rattle.of_memory.specs.Saving.{SavedHolds}
 use Rattle.of_memory.specs.Tasks.{TaskWork, HasWorkedAs, HaveWorked, KnowsRest}
-use Rattle.of_memory.proofs.Joining.{histories_join}
+use Rattle.of_memory.specs.Joining.{HistoriesJoin}
 use Rattle.example_queue.specs.Jobs.{TakesJob}
 use Rattle.example_queue.specs.Workers.{AllTake, HasTaken, OnlyTakes, HasTakenOf, IsForWorkers, LeadsWithoutLoss, IsWorkedOff, IsWorkedOffLater}
 use Rattle.example_queue.proofs.Jobs.{loses_none, losses_join, jobs_join}
@@ -112,11 +112,11 @@ worked_off m d queue history s starts =
     (h, record { serial = leads.serial; ends = leads.ends; jobs = loses_none s h leads.serial all; counts = counts_each s h leads.serial all })
 
 -- the history of one day and that of the next are one
-pub days_join : (s : Store) (noon evening : Saved) (h : List HistoryEntry) → LeadsWithoutLoss s noon h → IsWorkedOffLater noon evening → (k : List HistoryEntry) × LeadsWithoutLoss s evening k
-days_join s noon evening h one later =
+pub days_join : HistoriesJoin → (s : Store) (noon evening : Saved) (h : List HistoryEntry) → LeadsWithoutLoss s noon h → IsWorkedOffLater noon evening → (k : List HistoryEntry) × LeadsWithoutLoss s evening k
+days_join joins s noon evening h one later =
     let next = later (store_after s h) one.ends in
     let k = next.0 in
-    let joined = histories_join s h k one.serial next.1.serial in (
+    let joined = joins s h k one.serial next.1.serial in (
       h ++ k,
       record {
         serial = joined.0;

@@ -1,7 +1,7 @@
 -- Jobs in a queue: the script that takes one, and what its replies give.
 use Rattle.std.specs.Prelude.{◌≡◌, ℕ, ◌+◌, ◌<◌, List, [], ◌∷◌, ◌++◌, length, Some, None}
 use Rattle.of_script.specs.declared.instr.Instr.{Instr}
-use Rattle.of_script.specs.declared.instr.Instr.TheVariants.{Add, Sub, Pop}
+use Rattle.of_script.specs.declared.instr.Instr.TheVariants.{Add, Sub, Push, Pop}
 use Rattle.of_store.specs.Store.{Store, Reply, Answered, Aborted, queue, register}
 use Rattle.of_memory.specs.History.{HistoryEntry, store_after}
 
@@ -12,6 +12,16 @@ job_script register = Sub 15 1 ∷ Pop 0 ∷ Add register 1 ∷ []
 -- one of the four workers takes a job
 abbrev pub TakesJob : List Instr → Type 0
 TakesJob script = (register : ℕ) × (register < 4) × (script ≡ job_script register)
+
+-- the script that adds six jobs, the numbers from this one on, and counts them in register 15
+abbrev pub six_jobs : (first : ℕ) → List Instr
+six_jobs first =
+    Add 15 6 ∷ Push 0 first ∷ Push 0 (first + 1) ∷ Push 0 (first + 2) ∷ Push 0 (first + 3)
+    ∷ Push 0 (first + 4) ∷ Push 0 (first + 5) ∷ []
+
+-- the jobs at first
+abbrev pub twelve_jobs : List ℕ
+twelve_jobs = 11 ∷ 12 ∷ 13 ∷ 14 ∷ 15 ∷ 16 ∷ 17 ∷ 18 ∷ 19 ∷ 20 ∷ 21 ∷ 22 ∷ []
 
 -- the jobs that wait
 abbrev pub waiting : Store → List ℕ

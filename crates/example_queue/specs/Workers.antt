@@ -1,5 +1,5 @@
 -- A memory in which workers take jobs, and what is saved of it.
-use Rattle.std.specs.Prelude.{ℕ, ◌<◌, List}
+use Rattle.std.specs.Prelude.{◌≡◌, ℕ, ◌<◌, List, ◌++◌, length}
 use Rattle.std.specs.List.{All}
 use Rattle.of_script.specs.declared.instr.Instr.{Instr}
 use Rattle.of_store.specs.Store.{Store}
@@ -10,7 +10,7 @@ use Rattle.of_memory.specs.History.{HistoryEntry, Made, IsSerial, store_after}
 use Rattle.of_memory.specs.Handles.{HasMade, HasOpen}
 use Rattle.of_memory.specs.Memories.{StartsWith, HasMadeOf, HasOpenOf, callers_of}
 use Rattle.of_memory.specs.Saving.{SavedHolds}
-use Rattle.example_queue.specs.Jobs.{TakesJob, LosesNoJob, CountsEach}
+use Rattle.example_queue.specs.Jobs.{TakesJob, twelve_jobs, waiting, jobs_in, done, LosesNoJob, CountsJobs, CountsEach}
 
 -- A serial history leads from the store to the one that is saved. No job is lost in it, and none is
 -- given twice; each that is given is counted.
@@ -28,6 +28,26 @@ IsWorkedOff m d = (s : Store) → StartsWith m s → (h : List HistoryEntry) × 
 abbrev pub IsWorkedOffLater : (before now : Saved) → Type 0
 IsWorkedOffLater c d =
     (s : Store) → SavedHolds c s → (h : List HistoryEntry) × LeadsWithoutLoss s d h
+
+-- it holds the twelve jobs, all of which wait
+pub record HoldsTwelveJobs (d : Saved) : Type 0 where
+  pub store : Store
+  pub holds : SavedHolds d store
+  pub jobs : waiting store ≡ twelve_jobs
+  pub counts : CountsJobs store
+  pub none_done : done store ≡ 0
+
+-- A serial history leads to what is saved from a store in which the twelve jobs wait. Those that
+-- its replies give, in its order, and those that still wait are the twelve. Each that was given is
+-- counted, and register 15 says how many wait.
+pub record LosesNoneOfTwelve (d : Saved) : Type 0 where
+  pub first : Store
+  pub history : List HistoryEntry
+  pub serial : IsSerial first history
+  pub ends : SavedHolds d (store_after first history)
+  pub jobs : jobs_in history ++ waiting (store_after first history) ≡ twelve_jobs
+  pub counts : CountsJobs (store_after first history)
+  pub done : done (store_after first history) ≡ length (jobs_in history)
 
 -- ---- the calls of workers
 

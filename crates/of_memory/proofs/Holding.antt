@@ -1,5 +1,5 @@
 -- What a memory knows of its callers, and the history that its close leaves.
-use Rattle.std.proofs.Common.{◌≡◌, ℕ, ◌<◌, inl, inr, true≢false, List, [], ◌∷◌, length, get_or, set, Option, Some, None, Result, Ok, Err, IfOk, sym, ap, subst, ◌∙◌, arith}
+use Rattle.std.proofs.Common.{◌≡◌, ℕ, ◌<◌, inl, inr, true≢false, List, [], ◌∷◌, length, get_or, set, Option, Some, None, sym, ap, subst, ◌∙◌, arith}
 use Rattle.std.specs.List.{All}
 use Rattle.std.proofs.lemmas.Bool.{cases_lt}
 use Rattle.std.proofs.lemmas.List.{get_or-set_same, get_or-set_other, get_or_past}
@@ -72,11 +72,7 @@ made_here k cs i c is lt ms made = record {
 
 -- ---- what a close leaves
 
-pub if_ok : {X E : Type 0} → (r : Result X E) (P Q : X → Type 0) → ((x : X) → P x → Q x) → IfOk r P → IfOk r Q
-if_ok (Ok x) P Q f h = f x h
-if_ok (Err e) P Q f h = h
-
-is_within : (cs : List (Option (Caller Scripts))) (n : ℕ) (c : Caller Scripts) → get_or cs n None ≡ Some c → n < length cs
+pub is_within : (cs : List (Option (Caller Scripts))) (n : ℕ) (c : Caller Scripts) → get_or cs n None ≡ Some c → n < length cs
 is_within cs n c here = elim (cases_lt n (length cs)) [
   | inl low ↦ low
   | inr high ↦ let none : get_or cs n None ≡ None = get_or_past cs n None high in absurd (cc (none, here))

@@ -10,3 +10,6 @@ pub mod Reading
 pub mod Joining
 pub mod Handing
 pub mod Still
+pub mod Texts
+pub mod Renumbering
+pub mod Alone

@@ -1,9 +1,15 @@
--- Laws of serial histories, for programs that reason about what is saved.
-use Rattle.std.specs.Prelude.{◌≡◌, ◌++◌, Bool, true, List}
+-- Laws of serial histories and of memories, for programs that reason about what is saved.
+use Rattle.std.specs.Prelude.{◌≡◌, ◌≢◌, ◌++◌, ℕ, ◌<◌, Bool, true, List, [], map}
 use Rattle.std.specs.List.{All}
 use Rattle.of_script.specs.declared.instr.Instr.{Instr}
-use Rattle.of_store.specs.Store.{Store, run}
-use Rattle.of_memory.specs.History.{HistoryEntry, IsSerial, store_after}
+use Rattle.of_store.specs.Store.{Store, run, last_store}
+use Rattle.of_memory.specs.declared.memory.Memory.{Memory}
+use Rattle.of_memory.specs.declared.handle.Handle.{Handle}
+use Rattle.of_memory.specs.declared.saved.Saved.{Saved}
+use Rattle.of_memory.specs.History.{HistoryEntry, Made, End, Replied, Spent, IsSerial, store_after}
+use Rattle.of_memory.specs.Handles.{IsSame, HasCallOpen}
+use Rattle.of_memory.specs.Memories.{IsStill, StartsWith, HasMadeOf, HasNoneOpen, HasHistory, TakesOut, PutsBack, callers_of, tickets_before}
+use Rattle.of_memory.specs.Saving.{SavedHolds}
 
 -- a history and one that goes on from its end are one history
 abbrev pub HistoriesJoin : Type 0
@@ -20,3 +26,37 @@ InvariantsHold =
     → (s : Store) (h : List HistoryEntry) → holds s ≡ true
     → All (λ (e : HistoryEntry). kind e.script ≡ true) h
     → holds (store_after s h) ≡ true
+
+-- it has as many callers, and was opened with the same store and the same calls
+pub record StaysAsOpened (before now : Memory) : Type 0 where
+  pub callers : callers_of now ≡ callers_of before
+  pub store : (s : Store) → StartsWith before s → StartsWith now s
+  pub tickets : (n : ℕ) → tickets_before now n ≡ tickets_before before n
+
+-- so it is while handles come and go
+abbrev pub MemoriesStay : Type 0
+MemoriesStay = (m k : Memory) → IsStill m k → StaysAsOpened m k
+
+-- if no call is open, a handle that comes, makes its calls and leaves with none open leaves it so
+abbrev pub NoneStaysOpen : Type 0
+NoneStaysOpen =
+    (m k l : Memory) (h g : Handle) → HasNoneOpen m → TakesOut m k h → IsSame h g
+    → (HasCallOpen g → ⊥) → PutsBack k l g → HasNoneOpen l
+
+-- the call was answered
+abbrev pub EndsWithReply : End → Type 0
+EndsWithReply (Replied r) = Unit {0}
+EndsWithReply Spent = ⊥
+
+-- these calls of one caller were answered, and no other call was made or is open
+pub record HasMadeAlone (m : Memory) (n : ℕ) (ms : List Made) : Type 0 where
+  pub made : HasMadeOf m n ms
+  pub replied : All (λ (x : Made). EndsWithReply x.ended) ms
+  pub others : (i : ℕ) → i < callers_of m → i ≢ n → HasMadeOf m i []
+  pub none_open : HasNoneOpen m
+
+-- then what is saved is the store after their scripts, one after the other
+abbrev pub LoneCallsAreSaved : Type 0
+LoneCallsAreSaved =
+    (m : Memory) (n : ℕ) (ms : List Made) (d : Saved) → HasMadeAlone m n ms → HasHistory m d
+    → (s : Store) → StartsWith m s → SavedHolds d (last_store s (map (λ (x : Made). x.script) ms))

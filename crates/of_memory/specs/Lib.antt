@@ -9,3 +9,4 @@ pub mod Handles
 pub mod Memories
 pub mod Tasks
 pub mod Joining
+pub mod Texts

@@ -1,6 +1,7 @@
 //! Why something can't be done.
 
 use crate::memory::Memory;
+use crate::saved::Saved;
 use std::alloc::AllocError;
 use std::error::Error as StdError;
 use std::fmt;
@@ -52,6 +53,41 @@ pub enum RunErr {
     #[error("no ticket is left")]
     NoTicket,
 }
+
+/// Why nothing that is saved is read from a text.
+#[derive(Clone, Copy, Debug, PartialEq, Eq, Error)]
+pub enum ImageTextErr {
+    #[error("out of memory")]
+    OutOfMemory,
+    /// The text is no image's, and this is its first line with which none begins, or its last if it
+    /// only stops too early. Lines count from 1.
+    #[error("bad image, line {line}")]
+    Bad { line: u64 },
+    /// The text is an image's, but no memory leaves such words: this is the first cell at fault.
+    #[error("unlawful image, cell {cell}")]
+    Unlawful { cell: u32 },
+    /// The text is an image's, but no limit is as high as its sequence.
+    #[error("sequence {seq} is above all limits")]
+    PastLimits { seq: u32 },
+}
+
+/// What is saved can't have this limit. It is handed back.
+#[derive(Drop)]
+pub struct LimitErr(pub Saved);
+
+impl fmt::Debug for LimitErr {
+    fn fmt<F: fmt::Write>(&self, f: &mut fmt::Formatter<F>) -> fmt::Result {
+        f.write_str("LimitErr")
+    }
+}
+
+impl fmt::Display for LimitErr {
+    fn fmt<F: fmt::Write>(&self, f: &mut fmt::Formatter<F>) -> fmt::Result {
+        f.write_str("the limit is none that this can have")
+    }
+}
+
+impl StdError for LimitErr {}
 
 /// A memory isn't closed while one of its handles is out. It is handed back.
 #[derive(Drop)]

@@ -1,7 +1,9 @@
-//! What a closed memory holds: functions that do nothing, whose contracts are the theorems.
+//! What memories and their histories hold: functions that do nothing, whose contracts are the
+//! theorems.
 
 ghost use Rattle.of_memory.specs.Handles.{CallsAreCounted};
 ghost use Rattle.of_memory.specs.Joining.{HistoriesJoin, InvariantsHold};
+ghost use Rattle.of_memory.specs.Joining.{MemoriesStay, NoneStaysOpen, LoneCallsAreSaved};
 ghost use Rattle.of_memory.specs.Laws.{HoldsHistory};
 
 use of_core::laws::{every_moment, starts, step_kept};
@@ -33,4 +35,21 @@ pub fn histories_join()
 /// What each script of a kind keeps of a store holds of the store after a history of such scripts.
 pub fn invariants_hold()
     ensures { InvariantsHold }
+{}
+
+/// A memory has the same callers, and was opened with the same store and tickets, while handles
+/// come and go.
+pub fn memories_stay()
+    ensures { MemoriesStay }
+{}
+
+/// A handle that comes and leaves with no call open leaves none open.
+pub fn none_stays_open()
+    ensures { NoneStaysOpen }
+{}
+
+/// If one caller has made all calls, and each was answered, what is saved is the store after their
+/// scripts.
+pub fn lone_calls_are_saved()
+    ensures { LoneCallsAreSaved }
 {}

@@ -6,13 +6,15 @@ mod at_once;
 mod calling;
 mod error;
 mod handle;
+mod image;
 pub mod laws;
+mod limits;
 mod memory;
 mod saved;
 mod seating;
 
 pub use at_once::Task;
-pub use error::{EnrolErr, InUse, OpenErr, RunErr};
+pub use error::{EnrolErr, ImageTextErr, InUse, LimitErr, OpenErr, RunErr};
 pub use handle::Handle;
 pub use memory::Memory;
 pub use of_plan::{Answer, GREATEST_LIMIT};

@@ -1,5 +1,5 @@
 use Rattle.std.proofs.Common.{ℕ, ◌<◌, subst}
-use Rattle.of_memory.proofs.Holding.{if_ok}
+use Rattle.std.proofs.lemmas.Result.{IfOk-weaker}
 use Rattle.example_queue.specs.Workers.{IsWorkedOff, IsWorkedOffLater}
 use Rattle.example_queue.proofs.Workers.{none_yet}
 use Rattle.example_queue.proofs.day.Goals as goal
@@ -11,4 +11,4 @@ work-requires-clause-queue g c κs within =
 
 pub returns-clause-works : goal.returns-clause-works
 returns-clause-works g c =
-    if_ok c.work.result (IsWorkedOff c.in_ok-memory.memory) (IsWorkedOffLater c.args.saved.now) (λ d off s holds. off s (c.in_ok-memory.ensures.goes_on s holds)) c.work.ensures.works
+    IfOk-weaker c.work.result (IsWorkedOff c.in_ok-memory.memory) (IsWorkedOffLater c.args.saved.now) (λ d off s holds. off s (c.in_ok-memory.ensures.goes_on s holds)) c.work.ensures.works

@@ -1,5 +1,4 @@
 use Rattle.std.proofs.Common.{◌∙◌}
-use Rattle.of_memory.proofs.Still.{still_callers, still_starts}
 use Rattle.example_queue.specs.Workers.{OnlyTakes}
 use Rattle.example_queue.proofs.Workers.{still_queue, worked_off}
 use Rattle.example_queue.proofs.work.Goals as goal
@@ -11,6 +10,6 @@ returns-clause-works g c =
     let n = c.at_once-2.new.self in
     let one = c.in_ok-at_once.ensures in
     let two = c.in_ok-at_once-2.ensures in
-    let noon = still_queue (λ x h y j. OnlyTakes h j) (λ x y h j takes. takes) m k one.still c.requires.queue _ _ one.worked one.rest (still_callers m k one.still) in
-    let evening = still_queue (λ x h y j. OnlyTakes h j) (λ x y h j takes. takes) k n two.still noon _ _ two.worked two.rest (still_callers k n two.still) in
-    λ s starts. worked_off n c.in_ok-close.field-0 evening c.in_ok-close.ensures.history s (still_starts m n s (two.still ∙ one.still) starts)
+    let noon = still_queue (λ x h y j. OnlyTakes h j) (λ x y h j takes. takes) m k one.still c.requires.queue _ _ one.worked one.rest (c.memories_stay.ensures m k one.still).callers in
+    let evening = still_queue (λ x h y j. OnlyTakes h j) (λ x y h j takes. takes) k n two.still noon _ _ two.worked two.rest (c.memories_stay.ensures k n two.still).callers in
+    λ s starts. worked_off n c.in_ok-close.field-0 evening c.in_ok-close.ensures.history s ((c.memories_stay.ensures m n (two.still ∙ one.still)).store s starts)

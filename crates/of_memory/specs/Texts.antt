@@ -1,0 +1,72 @@
+-- Texts of what is saved, and what is saved with other sequences.
+use Rattle.std.specs.Prelude.{◌≡◌, ◌⊎◌, ℕ, ◌<◌, List}
+use Rattle.of_cell.specs.declared.word.TheConstants.{GREATEST_LIMIT}
+use Rattle.of_plan.specs.BadLine.{HasBadLine}
+use Rattle.of_store.specs.Store.{Store, Reply}
+use Rattle.of_report.specs.ImageRow.{DurableRow}
+use Rattle.of_report.specs.Image.{Image, image_ticket}
+use Rattle.of_image.specs.declared.version.Version.TheVariants.{Two}
+use Rattle.of_image.specs.ImageText.{image_text, IsImageText}
+use Rattle.of_image.specs.Parsed.{ReadsImage, IsUnlawful}
+use Rattle.of_memory.specs.declared.saved.Saved.{Saved}
+use Rattle.of_memory.specs.declared.error.ImageTextErr.{ImageTextErr}
+use Rattle.of_memory.specs.declared.error.ImageTextErr.TheVariants.{OutOfMemory, Bad, Unlawful, PastLimits}
+use Rattle.of_memory.specs.Saving.{SavedHolds, HoldsReply, start_in, saved_callers, saved_ticket}
+
+-- the last sequence that was committed in it
+abbrev pub saved_seq : Saved → ℕ
+saved_seq d = (start_in d).seq
+
+-- the row of its durable words
+abbrev pub saved_row : Saved → DurableRow
+saved_row d = record { callers = d.scripts.callers; blocks = d.scripts.blocks; words = d.row.items }
+
+-- the text is the one that is printed for it
+abbrev pub IsTextOfSaved : Saved → List ℕ → Type 0
+IsTextOfSaved d text = text ≡ image_text Two (saved_row d)
+
+-- the image has its words, its sequence, its store, and the tickets of its callers
+pub record IsImageOfSaved (i : Image) (d : Saved) : Type 0 where
+  pub row : i.row ≡ saved_row d
+  pub seq : i.seq ≡ saved_seq d
+  pub store : SavedHolds d i.store
+  pub tickets : (n : ℕ) → n < saved_callers d → image_ticket i n ≡ saved_ticket d n
+
+-- the text has such an image
+abbrev pub TextHolds : List ℕ → Saved → Type 0
+TextHolds text d = (i : Image) × ReadsImage Two text i × IsImageOfSaved i d
+
+-- it holds the same store, and of each caller the same last ticket and reply
+pub record SavesSame (before now : Saved) : Type 0 where
+  pub callers : saved_callers now ≡ saved_callers before
+  pub store : (s : Store) → SavedHolds before s → SavedHolds now s
+  pub tickets : (n : ℕ) → saved_ticket now n ≡ saved_ticket before n
+  pub replies : (n : ℕ) (r : Reply) → HoldsReply before n r → HoldsReply now n r
+
+-- the limit is out of its range, or below the last sequence that was committed
+abbrev pub IsNoLimitOf : Saved → (limit : ℕ) → Type 0
+IsNoLimitOf d limit = (limit ≡ 0) ⊎ ((GREATEST_LIMIT < limit) ⊎ (limit < saved_seq d))
+
+-- the same words are saved, and so the same store, tickets and replies
+pub record IsReadBack (before now : Saved) : Type 0 where
+  pub row : saved_row now ≡ saved_row before
+  pub same : SavesSame before now
+
+-- no limit is as high as the sequence of the image
+pub record IsPastAll (i : Image) (e : ImageTextErr) : Type 0 where
+  pub is : e ≡ PastLimits i.seq
+  pub past : GREATEST_LIMIT < i.seq
+
+-- the text has an image of this sequence, and no limit is as high
+pub record IsPastLimits (text : List ℕ) (seq : ℕ) : Type 0 where
+  pub image : Image
+  pub reads : ReadsImage Two text image
+  pub seq_is : image.seq ≡ seq
+  pub past : GREATEST_LIMIT < seq
+
+-- why nothing is read from a text
+abbrev pub IsTextCause : List ℕ → ImageTextErr → Type 0
+IsTextCause text OutOfMemory = Unit {0}
+IsTextCause text (Bad line) = HasBadLine (IsImageText Two) text line
+IsTextCause text (Unlawful cell) = IsUnlawful Two text cell
+IsTextCause text (PastLimits seq) = IsPastLimits text seq

@@ -1,0 +1,94 @@
+//! The text of what is saved, and what is saved from its text.
+
+ghost use Rattle.std.specs.Prelude.{◌≡◌, ◌+◌, IfOk, IfErr, length, slice_range};
+ghost use Rattle.of_cell.specs.declared.word.TheConstants.{GREATEST_LIMIT};
+ghost use Rattle.of_cell.specs.Cells.{durable_cells, table_words};
+ghost use Rattle.of_mem.specs.declared.work.TheConstants.{MOST_INSTRS};
+ghost use Rattle.of_recover.specs.Row.{IsDurableRow};
+ghost use Rattle.of_report.specs.Image.{IsImage, image_value};
+ghost use Rattle.of_memory.specs.Saving.{IsSaved, saved_limit};
+ghost use Rattle.of_memory.specs.Texts.{IsImageOfSaved, IsPastAll};
+
+use crate::error::ImageTextErr;
+use crate::saved::Saved;
+use of_cell::Shape;
+use of_eval::{Scripts, shape_of};
+use of_image::{ImageErr, image_parse, image_print};
+use of_plan::GREATEST_LIMIT;
+use of_report::Image;
+use std::alloc::{AllocError, Global};
+
+// The words of a table that starts from a durable row.
+fn table_of(alloc: Global, shape: &Shape, row: &[u64]) -> Result<Vec<u64>, AllocError>
+    requires { IsDurableRow shape.now.callers shape.now.cells row.now }
+    ensures size { IfOk result (λ words. length words.items
+        ≡ table_words shape.now.callers shape.now.instrs shape.now.cells) }
+    ensures durable { let cells = durable_cells shape.now.callers shape.now.cells in
+        IfOk result (λ words. slice_range words.items cells (cells + cells) ≡ row.now) }
+{
+    let mut words = Vec::from_slice(alloc, row)?;
+    words.extend_from_slice(row)?;
+    words.resize(shape.words() as usize, 0)?;
+    Ok(words)
+}
+
+impl Saved {
+    ghost use Rattle.std.specs.Prelude.{MatchResult};
+    ghost use Rattle.of_memory.specs.declared.saved.Saved.{Saved as AnySaved};
+    ghost use Rattle.of_memory.specs.declared.error.ImageTextErr.TheVariants.{OutOfMemory};
+    ghost use Rattle.of_memory.specs.Texts.{IsTextOfSaved, TextHolds, IsReadBack, IsTextCause};
+
+    /// The text of it, an image as the command line reads and writes them: the store, and the last
+    /// ticket and reply of each caller. The limit is not in it. The error is that there is no
+    /// memory.
+    pub fn image_text(&self, alloc: Global) -> Result<Vec<u8>, AllocError>
+        requires { IsSaved self.now }
+        ensures printed { IfOk result (λ text. IsTextOfSaved self.now text.items) }
+        ensures holds { IfOk result (λ text. TextHolds text.items self.now) }
+    {
+        let words = table_of(alloc, &shape_of(self.scripts), &self.row)?;
+        image_print(alloc, &self.scripts.plot(), &words)
+    }
+
+    /// What a text holds, as `image_text` or the command line writes it; an open transaction is
+    /// brought to its end. Its limit is the greatest one.
+    pub fn from_image(alloc: Global, text: &[u8]) -> Result<Saved, ImageTextErr>
+        ensures saved { IfOk result IsSaved }
+        ensures holds { IfOk result (TextHolds text.now) }
+        ensures limit { IfOk result (λ d. saved_limit d ≡ GREATEST_LIMIT) }
+        ensures cause { IfErr result (IsTextCause text.now) }
+        // A text that was written for something saved is read, unless there is no memory.
+        ensures back { (d : AnySaved) → IsSaved d → TextHolds text.now d →
+            MatchResult result (IsReadBack d) (λ e. e ≡ OutOfMemory) }
+    {
+        match image_parse(alloc, text) {
+            Ok(image) => save_image(image),
+            Err(ImageErr::Memory) => Err(ImageTextErr::OutOfMemory),
+            Err(ImageErr::Bad { line }) => Err(ImageTextErr::Bad { line }),
+            Err(ImageErr::Unlawful { cell }) => Err(ImageTextErr::Unlawful { cell }),
+        }
+    }
+}
+
+// What an image holds, if its sequence is within the limits.
+fn save_image(image: Image) -> Result<Saved, ImageTextErr>
+    requires { IsImage MOST_INSTRS (image_value image) }
+    ensures saved { IfOk result IsSaved }
+    ensures image { IfOk result (IsImageOfSaved (image_value image)) }
+    ensures limit { IfOk result (λ d. saved_limit d ≡ GREATEST_LIMIT) }
+    ensures past { IfErr result (IsPastAll (image_value image)) }
+{
+    let seq = image.recovered.seq;
+    if seq > GREATEST_LIMIT {
+        return Err(ImageTextErr::PastLimits { seq });
+    }
+    let scripts = Scripts {
+        callers: image.callers,
+        blocks: image.blocks,
+    };
+    Ok(Saved {
+        scripts,
+        limit: GREATEST_LIMIT,
+        row: image.durable,
+    })
+}
