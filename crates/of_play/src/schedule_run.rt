@@ -196,11 +196,13 @@ impl ScheduleRun {
         if self.answers[caller as usize].len() == plan.scripts(caller).len() {
             return Ending::Done;
         }
-        match self.bank.answer(caller) {
-            Some(Outcome::Spent { seq }) => Ending::Spent { seq },
-            _ => Ending::Stopped {
-                asked: self.bank.steps(caller) + 1,
-            },
+        let asked = self.bank.steps(caller) + 1;
+        let Some(outcome) = self.bank.answer(caller) else {
+            return Ending::Stopped { asked };
+        };
+        match outcome {
+            Outcome::Spent { seq } => Ending::Spent { seq },
+            Outcome::Answered { .. } => Ending::Stopped { asked },
         }
     }
 

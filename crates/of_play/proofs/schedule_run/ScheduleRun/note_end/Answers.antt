@@ -12,4 +12,4 @@ returns-in_ok-push-in-Answered c =
     let w = c.in-Answered in
     notes_more c.args.caller (Ended c.args.outcome) c.args.self.now _ refl (Answered w.seq w.announced w.raw w.steps) (ap Ended w.is)
     (record { seq = w.seq; announced = w.announced; reply = c.in-Some.reply; steps = w.steps }) (refl, refl, c.in-Some.ensures.some, refl) c.requires.answers
-    (pushed_at (λ v. v.items) c.args.self.now.answers.items c.args.caller c.index_mut-in-Answered.result.now c.push.new.self _ c.requires.answers c.index_mut-in-Answered.ensures.value c.in_ok-push-in-Answered.ensures.items)
+    (pushed_at (λ v. v.items) c.args.self.now.answers.items c.args.caller c.index_mut.result.now c.push.new.self _ c.requires.answers c.index_mut.ensures.value c.in_ok-push-in-Answered.ensures.items)
