@@ -1,7 +1,8 @@
 //! A map from cells to numbers, in order of first writing.
 
-ghost use Rattle.std.specs.Prelude.{◌↔◌, IsTrue, ◌≡◌, ◌<◌, ◌≤◌, [], length, IfOk, MatchOption, slice_index_or};
+ghost use Rattle.std.specs.Prelude.{◌↔◌, IsTrue, ◌≡◌, ◌<◌, ◌≤◌, ◌-◌, [], ◌++◌, length, IfOk, MatchOption, slice_index_or};
 ghost use Rattle.std.specs.Vec.{vec_capacity};
+ghost use Rattle.std.proofs.Common.{replicate};
 ghost use Rattle.of_mem.specs.CellMap.{value_for, put_pair, IsCellMap};
 ghost use Rattle.of_mem.specs.Indexed.{FindsEntry, MissesEntry, SetsPlace};
 
@@ -137,10 +138,24 @@ fn set_place(places: &mut Vec<u32>, addr: u32, place: u32)
 {
     let at = addr as usize;
     if places.len() <= at {
-        match places.resize(at + 1, 0) {
-            Ok(()) => {}
-            Err(_) => unreachable!(),
-        }
+        lengthen(places, at + 1);
     }
     places[at] = place;
+}
+
+/// Fills the places up to a length.
+// out of line, so that what is called often is small
+#[cold]
+#[inline(never)]
+fn lengthen(places: &mut Vec<u32>, len: usize)
+    requires longer { length places.old.items ≤ len }
+    requires room { len ≤ vec_capacity places.old }
+    ensures places { places.new.items
+        ≡ places.old.items ++ replicate (len - length places.old.items) 0 }
+    ensures capacity { vec_capacity places.old ≤ vec_capacity places.new }
+{
+    match places.resize(len, 0) {
+        Ok(()) => {}
+        Err(_) => unreachable!(),
+    }
 }

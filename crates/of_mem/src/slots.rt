@@ -99,11 +99,23 @@ fn reach(slots: &mut Vec<(u32, u32)>, addr: u32)
     ensures slots { slots.new.items ≡ all_slots (addr + 1) slots.old.items }
     ensures capacity { vec_capacity slots.old ≤ vec_capacity slots.new }
 {
-    let at = addr as usize;
-    if slots.len() <= at {
-        match slots.resize(at + 1, (0, 0)) {
-            Ok(()) => {}
-            Err(_) => unreachable!(),
-        }
+    if slots.len() <= addr as usize {
+        lengthen(slots, addr as usize + 1);
+    }
+}
+
+/// Fills the slots up to a length.
+// out of line, so that what is called often is small
+#[cold]
+#[inline(never)]
+fn lengthen(slots: &mut Vec<(u32, u32)>, len: usize)
+    requires longer { length slots.old.items ≤ len }
+    requires room { len ≤ vec_capacity slots.old }
+    ensures slots { slots.new.items ≡ all_slots len slots.old.items }
+    ensures capacity { vec_capacity slots.old ≤ vec_capacity slots.new }
+{
+    match slots.resize(len, (0, 0)) {
+        Ok(()) => {}
+        Err(_) => unreachable!(),
     }
 }

@@ -1,6 +1,6 @@
 //! Texts of reports.
 
-ghost use Rattle.std.specs.Prelude.{◌≡◌, IfOk, OnOk, map, take};
+ghost use Rattle.std.specs.Prelude.{◌≡◌, ◌++◌, IfOk, OnOk, codes, decimal, map, take};
 ghost use Rattle.of_store.specs.Replies.{reply_value_of};
 ghost use Rattle.of_report.specs.Report.{entry_value, line_value, report_value, end_state_value};
 ghost use Rattle.of_report.specs.ReportText.{reply_value_text, cause_text, reply_text, kind_text, entry_line, entry_lines, state_text, caller_line_text, caller_lines, seq_line, report_text};
@@ -8,6 +8,7 @@ ghost use Rattle.of_script.specs.Appending.{AppendsText};
 
 use crate::report::{EndState, Entry, Line, Report};
 use crate::store::put_store;
+use itoa::Buffer;
 use of_script::{Cause, Reply};
 use std::alloc::{AllocError, Global};
 use std::fmt::Write;
@@ -25,12 +26,21 @@ fn cause_name(cause: Cause) -> &'static str
     }
 }
 
+/// Writes a number behind a space.
+pub(crate) fn put_number(out: &mut String, number: u32) -> Result<(), AllocError>
+    ensures { OnOk result (AppendsText out.old out.new (codes " " ++ decimal number)) }
+{
+    let mut buffer = Buffer::new();
+    out.push_str(" ")?;
+    out.push_str(buffer.format(number))
+}
+
 // Writes the value of an instruction behind a space.
 fn put_value(out: &mut String, value: Option<u32>) -> Result<(), AllocError>
     ensures { OnOk result (AppendsText out.old out.new (reply_value_text value)) }
 {
     match value {
-        Some(number) => write!(out, " {number}"),
+        Some(number) => put_number(out, number),
         None => out.push_str(" none"),
     }
 }
@@ -62,20 +72,22 @@ pub fn put_reply(out: &mut String, reply: &Reply) -> Result<(), AllocError>
     }
 }
 
-// The word of an entry's kind.
+// The word of an entry's kind, behind a space.
 fn kind_name(announced: bool) -> &'static str
-    ensures { result.now ≡ kind_text announced }
+    ensures { result.now ≡ codes " " ++ kind_text announced }
 {
-    if announced { "run" } else { "read" }
+    if announced { " run" } else { " read" }
 }
 
 // Writes the line of an entry.
 fn put_entry(out: &mut String, entry: &Entry) -> Result<(), AllocError>
     ensures { OnOk result (AppendsText out.old out.new (entry_line (entry_value entry.now))) }
 {
-    let kind = kind_name(entry.announced);
-    write!(out, "entry {} {}", entry.seq, entry.caller)?;
-    write!(out, " {} {kind}", entry.index)?;
+    out.push_str("entry")?;
+    put_number(out, entry.seq)?;
+    put_number(out, entry.caller)?;
+    put_number(out, entry.index)?;
+    out.push_str(kind_name(entry.announced))?;
     put_reply(out, &entry.reply)?;
     out.push_str("\n")
 }

@@ -1,5 +1,5 @@
 -- Pairs of address and value: what a look-up says of the value at an address and of a write, and how many pairs there are.
-use Rattle.std.proofs.Common.{◌≡◌, ◌≢◌, ℕ, zero, suc, ◌<◌, ◌≤◌, ◌==◌, eqb, true, false, List, [], ◌∷◌, ◌++◌, length, map, Some, None, get_or, set, refl, sym, ◌∙◌, ap, arith}
+use Rattle.std.proofs.Common.{◌≡◌, ◌≢◌, ℕ, zero, suc, ◌<◌, ◌≤◌, eqb, true, List, [], ◌∷◌, ◌++◌, length, map, Some, None, get_or, set, refl, sym, ◌∙◌, ap, arith}
 use Rattle.std.specs.List.{list_any, Any, AllPairs}
 use Rattle.std.proofs.lemmas.Map.Steps.{length-le_from_distinct_below}
 use Rattle.std.proofs.lemmas.Map.Made.{IsDistinct-from_AllPairs}

@@ -1,0 +1,13 @@
+use Rattle.std.proofs.Common.{refl, sym, ap, ◌∙◌, arith}
+use Rattle.of_script.specs.Text.{text_words}
+use Rattle.of_script.specs.Reading.{next_number}
+use Rattle.of_script.proofs.Words.{words-spaces}
+use Rattle.of_script.proofs.NumberWords.{number_first}
+use Rattle.of_script.proofs.text.plain_number.Goals as goal
+
+pub returns-clause-words : goal.returns-clause-words
+returns-clause-words c =
+    let read = c.in_ok-len.ensures in
+    let first = number_first c.args.most c.in_ok-len.len c.split_at.result.1.now (omega arith) read.within read.digits (λ more e. grind arith) (c.if-not-ends_word.ensures refl) (omega (arith, read.value, read.small)) in
+    ap (next_number c.args.most) (words-spaces _ _ c.spaces.ensures.before ∙ ap text_words (sym c.split_at.ensures.back))
+    ∙ first ∙ rw (read.value, c.split_at-2.ensures.back) refl
