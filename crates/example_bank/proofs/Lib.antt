@@ -1,10 +1,7 @@
-pub mod Balanced
 pub mod Own
-pub mod Lists
-pub mod Replays
-pub mod Ledgers
-pub mod Closing
+pub mod Money
+pub mod Counts
 pub mod Clerks
-pub mod Accounts
-pub mod Days
-pub mod Rows
+pub mod Evenings
+pub mod Together
+pub mod Settling

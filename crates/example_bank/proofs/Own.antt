@@ -1,123 +1,178 @@
--- One caller's calls in an order: they are as many as its tickets rose by, one after the other.
-use Rattle.std.proofs.Common.{◌≡◌, ℕ, ◌+◌, ◌-◌, zero, suc, ◌<◌, ◌≤◌, ◌==◌, ◌⊎◌, inl, inr, refl, ◌∙◌, ap, subst, arith, Bool, true, false, cond, List, [], ◌∷◌, length, map, get_or}
-use Rattle.std.specs.Prelude.{filter}
-use Rattle.std.specs.List.{All, range_with_len}
-use Rattle.std.proofs.lemmas.Bool.{eqb-true, eqb-false}
-use Rattle.std.proofs.lemmas.List.Elements.{All-head, All-tail}
+-- Of one caller a history has the calls that were answered, in their order.
+use Rattle.std.proofs.Common.{◌≡◌, ◌≢◌, ℕ, zero, suc, ◌+◌, ◌<◌, ◌≤◌, ◌⊎◌, inl, inr, Bool, true, false, ◌==◌, if◌then◌else◌, List, [], ◌∷◌, ◌++◌, length, get_or, refl, sym, ap, subst, ◌∙◌, arith}
+use Rattle.std.specs.List.{All, AllByRecursion as Each}
+use Rattle.std.proofs.lemmas.Bool.{cases_lt}
+use Rattle.std.proofs.lemmas.Bool.Decides.{nat_tests}
+use Rattle.of_script.specs.declared.instr.Instr.{Instr}
+use Rattle.of_store.specs.Store.{Reply}
+use Rattle.of_memory.specs.History.{HistoryEntry, no_history_entry, StandsInOrder, IsLater, HasEntry, End, Replied, Spent, Made, no_made, ExplainsEnd, ExplainsAll, IsOneOf, HasOnly}
+use Rattle.example_bank.specs.Calls.{Call, calls_of, with_end, replied_in}
 
-module _ {X : Type 0} (who ticket shape : X → ℕ) (i : ℕ) where
-  abbrev pub own : List X → List X
-  own xs = filter (λ x. who x == i) xs
+-- ---- entries of one caller
 
-  -- a call of this ticket and shape is the caller's
-  abbrev pub Has : (t k : ℕ) → List X → Type 0
-  Has t k [] = ⊥
-  Has t k (x ∷ xs) = ((who x ≡ i) × (ticket x ≡ t) × (shape x ≡ k)) ⊎ Has t k xs
+abbrev pub entries_of : ℕ → List HistoryEntry → List HistoryEntry
+entries_of n [] = []
+entries_of n (e ∷ h) = if e.caller == n then e ∷ entries_of n h else entries_of n h
 
-  pub has_at : (xs : List X) (p : ℕ) (d : X) (t k : ℕ) → p < length xs → who (get_or xs p d) ≡ i → ticket (get_or xs p d) ≡ t → shape (get_or xs p d) ≡ k → Has t k xs
-  has_at [] p d t k l a b c = absurd (omega arith)
-  has_at (x ∷ xs) zero d t k l a b c = inl (a, b, c)
-  has_at (x ∷ xs) (suc p) d t k l a b c = inr (has_at xs p d t k (omega arith) a b c)
+abbrev calls_in : List HistoryEntry → List Call
+calls_in [] = []
+calls_in (e ∷ es) = (e.script, e.reply) ∷ calls_in es
 
-  -- of two calls of the caller the later one is the newer
-  abbrev pub Rises : List X → Type 0
-  Rises [] = Unit {0}
-  Rises (x ∷ xs) = (who x ≡ i → All (λ y. who y ≡ i → ticket x < ticket y) xs) × Rises xs
+-- the entry is one of them
+abbrev In : List HistoryEntry → HistoryEntry → Type 0
+In [] e = ⊥
+In (x ∷ es) e = (x ≡ e) ⊎ In es e
 
-  -- its tickets are those after b, up to N of them
-  abbrev pub Within : (b N : ℕ) → List X → Type 0
-  Within b N xs = All (λ x. who x ≡ i → (b < ticket x) × (ticket x ≤ b + N)) xs
+-- their tickets rise, from above this one
+abbrev Rising : ℕ → List HistoryEntry → Type 0
+Rising t [] = Unit {0}
+Rising t (e ∷ es) = (t < e.ticket) × Rising e.ticket es
 
-  -- the first n tickets after b are there, with these shapes
-  abbrev pub HasFirst : (b n : ℕ) → (ℕ → ℕ) → List X → Type 0
-  HasFirst b n k xs = (y : ℕ) → y < n → Has (b + y + 1) (k y) xs
+rises : (t : ℕ) (es : List HistoryEntry) (e : HistoryEntry) → Rising t es → In es e → t < e.ticket
+rises t [] e rising is = absurd is
+rises t (x ∷ es) e rising (inl same) = subst (λ (f : HistoryEntry). t < f.ticket) same rising.0
+rises t (x ∷ es) e rising (inr is) = let low = rises x.ticket es e rising.1 is in omega (arith, low, rising.0)
 
-  -- its calls are those after b, n of them or one more
-  pub record IsRun (b n N : ℕ) (k : ℕ → ℕ) (ys : List X) : Type 0 where
-    pub tickets : map ticket ys ≡ range_with_len (b + 1) (length ys)
-    pub low : n ≤ length ys
-    pub high : length ys ≤ N
-    pub shapes : (y : ℕ) (d : X) → y < n → shape (get_or ys y d) ≡ k y
+-- the entries have the call that has ended so
+abbrev EndIn : List HistoryEntry → (caller ticket : ℕ) → List Instr → End → Type 0
+EndIn es n k script (Replied r) = In es (record { caller = n; ticket = k; script = script; reply = r })
+EndIn es n k script Spent = Each (λ (e : HistoryEntry). e.ticket ≡ k → ⊥) es
 
-  later : (t b k : ℕ) (xs : List X) → t ≤ b → Has t k xs → All (λ y. who y ≡ i → b < ticket y) xs → ⊥
-  later t b k [] l h a = h
-  later t b k (x ∷ xs) l (inl h) a = let low = All-head (λ y. who y ≡ i → b < ticket y) x xs a h.0 in omega (arith, low, h.1, l)
-  later t b k (x ∷ xs) l (inr h) a = later t b k xs l h (All-tail (λ y. who y ≡ i → b < ticket y) x xs a)
+-- no call is open
+abbrev pub NoneOpen : List Instr → Type 0
+NoneOpen script = ⊥
 
-  -- the others of the caller come later
-  narrower : (x : X) (b N : ℕ) (xs : List X) → ticket x ≡ b + 1 → All (λ y. who y ≡ i → ticket x < ticket y) xs → Within b N xs → Within (b + 1) (N - 1) xs
-  narrower x b N xs e up w j d l h = let a = up j d l h in let c = w j d l h in (omega (arith, a, e), omega (arith, a, c, e))
+module _ (n t : ℕ) (m : Made) (ms : List Made) where
+  -- of entries above the first ticket each is a later call
+  later_one : (e : HistoryEntry) → t + 1 < e.ticket → IsOneOf t (m ∷ ms) NoneOpen e → IsOneOf (t + 1) ms NoneOpen e
+  later_one e low (inl (zero, lt, at, is)) = absurd (omega (arith, low, at))
+  later_one e low (inl (suc y, lt, at, is)) = inl (y, omega (arith, lt), omega (arith, at), is)
+  later_one e low (inr one) = absurd one.1
 
-  is_first : (x : X) (b n N : ℕ) (k : ℕ → ℕ) (xs : List X) → who x ≡ i → All (λ y. who y ≡ i → ticket x < ticket y) xs → (b < ticket x) × (ticket x ≤ b + N) → HasFirst b n k (x ∷ xs) → N ≤ n + 1 → ticket x ≡ b + 1
-  is_first x b zero N k xs e up w has few = omega (arith, w.0, w.1, few)
-  is_first x b (suc n) N k xs e up w has few = go (has 0 (omega arith))
+  later_ones : (u : ℕ) (es : List HistoryEntry) → t + 1 ≤ u → Rising u es → Each (IsOneOf t (m ∷ ms) NoneOpen) es → Each (IsOneOf (t + 1) ms NoneOpen) es
+  later_ones u [] low rising only = tt
+  later_ones u (e ∷ es) low rising only = (later_one e (omega (arith, low, rising.0)) only.0, later_ones e.ticket es (omega (arith, low, rising.0)) rising.1 only.1)
+
+  later_end : (e : HistoryEntry) (es : List HistoryEntry) (y : ℕ) (script : List Instr) (end : End) → e.ticket ≡ t + 1 → EndIn (e ∷ es) n (t + suc y + 1) script end → EndIn es n (t + 1 + y + 1) script end
+  later_end e es y script (Replied r) at (inl same) = absurd (omega (arith, at, ap (λ (f : HistoryEntry). f.ticket) same))
+  later_end e es y script (Replied r) at (inr is) = subst (λ (k : ℕ). In es (record { caller = n; ticket = k; script = script; reply = r })) (omega arith) is
+  later_end e es y script Spent at none = subst (λ (k : ℕ). Each (λ (f : HistoryEntry). f.ticket ≡ k → ⊥) es) (omega arith) none.1
+
+  end_at : (es : List HistoryEntry) (y : ℕ) (script : List Instr) (end : End) → EndIn es n (t + suc y + 1) script end → EndIn es n (t + 1 + y + 1) script end
+  end_at es y script end is = subst (λ (k : ℕ). EndIn es n k script end) (omega arith) is
+
+-- the entry of the least ticket is the first
+first_is : (t : ℕ) (es : List HistoryEntry) (e : HistoryEntry) → Rising t es → In es e → e.ticket ≡ t + 1 → (others : List HistoryEntry) × (es ≡ e ∷ others)
+first_is t [] e rising is at = absurd is
+first_is t (x ∷ es) e rising (inl same) at = (es, ap (λ (f : HistoryEntry). f ∷ es) same)
+first_is t (x ∷ es) e rising (inr is) at = let low = rises x.ticket es e rising.1 is in absurd (omega (arith, low, rising.0, at))
+
+-- none has the least ticket
+past_spent : (t : ℕ) (es : List HistoryEntry) → Rising t es → Each (λ (e : HistoryEntry). e.ticket ≡ t + 1 → ⊥) es → Rising (t + 1) es
+past_spent t [] rising none = tt
+past_spent t (e ∷ es) rising none = (elim (cases_lt (t + 1) e.ticket) [ inl low ↦ low | inr high ↦ absurd (none.0 (omega (arith, high, rising.0))) ], rising.1)
+
+abbrev EndsIn : List HistoryEntry → (n t : ℕ) → List Made → Type 0
+EndsIn es n t ms = (y : ℕ) → y < length ms → EndIn es n (t + y + 1) (get_or ms y no_made).script (get_or ms y no_made).ended
+
+own_are : (n t : ℕ) (ms : List Made) (es : List HistoryEntry) → Rising t es → Each (IsOneOf t ms NoneOpen) es → EndsIn es n t ms → calls_in es ≡ replied_in ms
+own_are n t [] [] rising only ends = refl
+own_are n t [] (e ∷ es) rising (inl one, others) ends = absurd (omega (arith, one.1))
+own_are n t [] (e ∷ es) rising (inr one, others) ends = absurd one.1
+own_are n t (m ∷ ms) es rising only ends = go (λ others. own_are n (t + 1) ms others) m.ended refl
+  where
+    go : ((others : List HistoryEntry) → Rising (t + 1) others → Each (IsOneOf (t + 1) ms NoneOpen) others → EndsIn others n (t + 1) ms → calls_in others ≡ replied_in ms) → (end : End) → m.ended ≡ end → calls_in es ≡ with_end m.script m.ended (replied_in ms)
+    go others_are (Replied r) is =
+        let e : HistoryEntry = record { caller = n; ticket = t + 0 + 1; script = m.script; reply = r } in
+        let here : In es e = subst (EndIn es n (t + 0 + 1) m.script) is (ends 0 (omega arith)) in
+        let first = first_is t es e rising here (omega arith) in
+        let up = subst (Rising t) first.1 rising in
+        let all = subst (Each (IsOneOf t (m ∷ ms) NoneOpen)) first.1 only in
+        let others : calls_in first.0 ≡ replied_in ms = others_are first.0 (subst (λ (k : ℕ). Rising k first.0) (omega arith) up.1) (later_ones n t m ms (t + 0 + 1) first.0 (omega arith) up.1 all.1)
+        (λ y lt. later_end n t m ms e first.0 y (get_or ms y no_made).script (get_or ms y no_made).ended (omega arith) (subst (λ (l : List HistoryEntry). EndIn l n (t + suc y + 1) (get_or ms y no_made).script (get_or ms y no_made).ended) first.1 (ends (suc y) (omega (arith, lt))))) in
+        ap calls_in first.1 ∙ ap (λ (l : List Call). (m.script, r) ∷ l) others ∙ sym (ap (λ (x : End). with_end m.script x (replied_in ms)) is)
+    go others_are Spent is =
+        let none : Each (λ (e : HistoryEntry). e.ticket ≡ t + 0 + 1 → ⊥) es = subst (EndIn es n (t + 0 + 1) m.script) is (ends 0 (omega arith)) in
+        let up : Rising (t + 1) es = past_spent t es rising (subst (λ (k : ℕ). Each (λ (e : HistoryEntry). e.ticket ≡ k → ⊥) es) (omega arith) none) in
+        let others : calls_in es ≡ replied_in ms = others_are es up (later_ones n t m ms (t + 1) es (omega arith) up only)
+        (λ y lt. end_at n t m ms es y (get_or ms y no_made).script (get_or ms y no_made).ended (ends (suc y) (omega (arith, lt)))) in
+        others ∙ sym (ap (λ (x : End). with_end m.script x (replied_in ms)) is)
+
+-- ---- the entries of a caller in a history
+
+each_of : (P : HistoryEntry → Type 0) (h : List HistoryEntry) → ((i : ℕ) → i < length h → P (get_or h i no_history_entry)) → Each P h
+each_of P [] all = tt
+each_of P (e ∷ h) all = (all 0 (omega arith), each_of P h (λ i lt. all (suc i) (omega (arith, lt))))
+
+in_order : (e : HistoryEntry) (h : List HistoryEntry) → StandsInOrder (e ∷ h) → StandsInOrder h
+in_order e h order p q less lt = order (suc p) (suc q) (omega (arith, less)) (omega (arith, lt))
+
+later_than : (e : HistoryEntry) (h : List HistoryEntry) → StandsInOrder (e ∷ h) → Each (IsLater e) h
+later_than e h order = each_of (IsLater e) h (λ i lt. order 0 (suc i) (omega arith) (omega (arith, lt)))
+
+module _ (n : ℕ) where
+  abbrev above : (t : ℕ) (e : HistoryEntry) → Type 0
+  above t e = e.caller ≡ n → t < e.ticket
+
+  abbrev with_entry : Bool → HistoryEntry → List HistoryEntry → List HistoryEntry
+  with_entry b e es = if b then e ∷ es else es
+
+  is_later : (e : HistoryEntry) (h : List HistoryEntry) → e.caller ≡ n → Each (IsLater e) h → Each (above e.ticket) h
+  is_later e [] mine later = tt
+  is_later e (f ∷ h) mine later = ((λ at. later.0 (at ∙ sym mine)), is_later e h mine later.1)
+
+  rising_of : (t : ℕ) (h : List HistoryEntry) → StandsInOrder h → Each (above t) h → Rising t (entries_of n h)
+  rising_of t [] order up = tt
+  rising_of t (e ∷ h) order up = go (λ u. rising_of u h (in_order e h order)) (e.caller == n) refl
     where
-      go : ((who x ≡ i) × (ticket x ≡ b + 0 + 1) × (shape x ≡ k 0)) ⊎ Has (b + 0 + 1) (k 0) xs → ticket x ≡ b + 1
-      go (inl h) = omega (arith, h.1)
-      go (inr h) = absurd (later (b + 0 + 1) (ticket x) (k 0) xs (omega (arith, w.0)) h up)
+      go : ((u : ℕ) → Each (above u) h → Rising u (entries_of n h)) → (b : Bool) → (e.caller == n) ≡ b → Rising t (with_entry b e (entries_of n h))
+      go others true is = let mine : e.caller ≡ n = grind (arith, nat_tests) in (up.0 mine, others e.ticket (is_later e h mine (later_than e h order)))
+      go others false is = others t up.1
 
-  others_has : (x : X) (b n : ℕ) (k : ℕ → ℕ) (xs : List X) → ticket x ≡ b + 1 → HasFirst b n k (x ∷ xs) → HasFirst (b + 1) (n - 1) (λ y. k (y + 1)) xs
-  others_has x b n k xs e has y l = subst (λ t. Has t (k (y + 1)) xs) (omega arith) (go (has (y + 1) (omega (arith, l))))
+  each_own : (P : HistoryEntry → Type 0) (h : List HistoryEntry) → Each (λ (e : HistoryEntry). e.caller ≡ n → P e) h → Each P (entries_of n h)
+  each_own P [] all = tt
+  each_own P (e ∷ h) all = go (each_own P h all.1) (e.caller == n) refl
     where
-      go : ((who x ≡ i) × (ticket x ≡ b + (y + 1) + 1) × (shape x ≡ k (y + 1))) ⊎ Has (b + (y + 1) + 1) (k (y + 1)) xs → Has (b + (y + 1) + 1) (k (y + 1)) xs
-      go (inl h) = absurd (omega (arith, h.1, e))
-      go (inr h) = h
+      go : Each P (entries_of n h) → (b : Bool) → (e.caller == n) ≡ b → Each P (with_entry b e (entries_of n h))
+      go others true is = let mine : e.caller ≡ n = grind (arith, nat_tests) in (all.0 mine, others)
+      go others false is = others
 
-  skip_has : (x : X) (b n : ℕ) (k : ℕ → ℕ) (xs : List X) → (who x ≡ i → ⊥) → HasFirst b n k (x ∷ xs) → HasFirst b n k xs
-  skip_has x b n k xs not_his has y l = go (has y l)
+  in_own : (h : List HistoryEntry) (e : HistoryEntry) → e.caller ≡ n → (p : ℕ) → p < length h → get_or h p no_history_entry ≡ e → In (entries_of n h) e
+  in_own [] e mine p lt is = absurd (omega (arith, lt))
+  in_own (f ∷ h) e mine zero lt is = go (f.caller == n) refl
     where
-      go : ((who x ≡ i) × (ticket x ≡ b + y + 1) × (shape x ≡ k y)) ⊎ Has (b + y + 1) (k y) xs → Has (b + y + 1) (k y) xs
-      go (inl h) = absurd (not_his h.0)
-      go (inr h) = h
-
-  first_shape : (x : X) (b n : ℕ) (k : ℕ → ℕ) (xs : List X) → ticket x ≡ b + 1 → All (λ y. who y ≡ i → ticket x < ticket y) xs → HasFirst b n k (x ∷ xs) → 0 < n → shape x ≡ k 0
-  first_shape x b n k xs e up has l = go (has 0 l)
+      go : (b : Bool) → (f.caller == n) ≡ b → In (with_entry b f (entries_of n h)) e
+      go true at = inl is
+      go false at = let other : f.caller ≢ n = grind (arith, nat_tests) in absurd (other (ap (λ (x : HistoryEntry). x.caller) is ∙ mine))
+  in_own (f ∷ h) e mine (suc p) lt is = go (f.caller == n) (in_own h e mine p (omega (arith, lt)) is)
     where
-      go : ((who x ≡ i) × (ticket x ≡ b + 0 + 1) × (shape x ≡ k 0)) ⊎ Has (b + 0 + 1) (k 0) xs → shape x ≡ k 0
-      go (inl h) = h.2
-      go (inr h) = absurd (later (b + 0 + 1) (ticket x) (k 0) xs (omega (arith, e)) h up)
+      go : (b : Bool) → In (entries_of n h) e → In (with_entry b f (entries_of n h)) e
+      go true found = inr found
+      go false found = found
 
-  shapes_on : (x : X) (n : ℕ) (k : ℕ → ℕ) (ys : List X) → (0 < n → shape x ≡ k 0) → ((y : ℕ) (d : X) → y < n - 1 → shape (get_or ys y d) ≡ k (y + 1)) → (y : ℕ) (d : X) → y < n → shape (get_or (x ∷ ys) y d) ≡ k y
-  shapes_on x n k ys first rest zero d l = first l
-  shapes_on x n k ys first rest (suc y) d l = rest y d (omega (arith, l)) ∙ ap k (omega arith)
-
-  pub is_run : (b n N : ℕ) (k : ℕ → ℕ) (xs : List X) → Rises xs → Within b N xs → HasFirst b n k xs → N ≤ n + 1 → IsRun b n N k (own xs)
-  is_run b zero N k [] up w has few = record { tickets = refl; low = omega arith; high = omega arith; shapes = λ y d l. absurd (omega (arith, l)) }
-  is_run b (suc n) N k [] up w has few = absurd (has 0 (omega arith))
-  is_run b n N k (x ∷ xs) up w has few =
-      with_first (who x == i) refl
-      (λ first at here. is_run (b + 1) (n - 1) (N - 1) (λ y. k (y + 1)) xs up.1 (narrower x b N xs first (up.0 at) (rest w)) (others_has x b n k xs first has) (omega (arith, few, here.0, here.1)))
-      (λ not_his. is_run b n N k xs up.1 (rest w) (skip_has x b n k xs not_his has) few)
+  calls_are : (h : List HistoryEntry) → calls_of n h ≡ calls_in (entries_of n h)
+  calls_are [] = refl
+  calls_are (e ∷ h) = go (e.caller == n) (calls_are h)
     where
-      rest : Within b N (x ∷ xs) → Within b N xs
-      rest w = All-tail (λ y. who y ≡ i → (b < ticket y) × (ticket y ≤ b + N)) x xs w
+      go : (b : Bool) → calls_of n h ≡ calls_in (entries_of n h) → (if b then (e.script, e.reply) ∷ calls_of n h else calls_of n h) ≡ calls_in (with_entry b e (entries_of n h))
+      go true same = ap (λ (l : List Call). (e.script, e.reply) ∷ l) same
+      go false same = same
 
-      with_first : (c : Bool) → (who x == i) ≡ c
-          → (ticket x ≡ b + 1 → who x ≡ i → (b < ticket x) × (ticket x ≤ b + N) → IsRun (b + 1) (n - 1) (N - 1) (λ y. k (y + 1)) (own xs))
-          → ((who x ≡ i → ⊥) → IsRun b n N k (own xs)) → IsRun b n N k (cond c (x ∷ own xs) (own xs))
-      with_first true e on off =
-          let at : who x ≡ i = eqb-true (who x) i e in
-          let here = All-head (λ y. who y ≡ i → (b < ticket y) × (ticket y ≤ b + N)) x xs w at in
-          let first : ticket x ≡ b + 1 = is_first x b n N k xs at (up.0 at) here has few in
-          let r = on first at here in
-          record {
-            tickets = ap (λ t. t ∷ map ticket (own xs)) first ∙ ap (λ (l : List ℕ). (b + 1) ∷ l) r.tickets;
-            low = omega (arith, r.low);
-            high = omega (arith, r.high, here.0, here.1);
-            shapes = shapes_on x n k (own xs) (first_shape x b n k xs first (up.0 at) has) r.shapes;
-          }
-      with_first false e on off = off (eqb-false (who x) i e)
+  above_of : (t : ℕ) (ms : List Made) (e : HistoryEntry) → IsOneOf t ms NoneOpen e → t < e.ticket
+  above_of t ms e (inl one) = omega (arith, one.1)
+  above_of t ms e (inr one) = absurd one.1
 
-  -- a call of the caller is one of these
-  pub own_has : (xs : List X) (t k : ℕ) (d : X) → Has t k xs → (j : ℕ) × (j < length (own xs)) × (ticket (get_or (own xs) j d) ≡ t) × (shape (get_or (own xs) j d) ≡ k)
-  own_has [] t k d h = absurd h
-  own_has (x ∷ xs) t k d h = go (who x == i) refl (own_has xs t k d) h
-    where
-      go : (c : Bool) → (who x == i) ≡ c
-          → (Has t k xs → (j : ℕ) × (j < length (own xs)) × (ticket (get_or (own xs) j d) ≡ t) × (shape (get_or (own xs) j d) ≡ k))
-          → ((who x ≡ i) × (ticket x ≡ t) × (shape x ≡ k)) ⊎ Has t k xs
-          → (j : ℕ) × (j < length (cond c (x ∷ own xs) (own xs))) × (ticket (get_or (cond c (x ∷ own xs) (own xs)) j d) ≡ t) × (shape (get_or (cond c (x ∷ own xs) (own xs)) j d) ≡ k)
-      go true e rest (inl h) = (0, omega arith, h.1, h.2)
-      go true e rest (inr h) = let r = rest h in (suc r.0, omega (arith, r.1), r.2, r.3)
-      go false e rest (inl h) = absurd (eqb-false (who x) i e h.0)
-      go false e rest (inr h) = rest h
+  end_in : (h : List HistoryEntry) (k : ℕ) (script : List Instr) (end : End) → ExplainsEnd h n k script end → EndIn (entries_of n h) n k script end
+  end_in h k script (Replied r) found = in_own h _ refl found.0 found.1 found.2
+  end_in h k script Spent none = each_own (λ (e : HistoryEntry). e.ticket ≡ k → ⊥) h (each_of (λ (e : HistoryEntry). e.caller ≡ n → e.ticket ≡ k → ⊥) h (λ i lt. none i no_history_entry lt))
+
+  -- If a history has the calls of a caller as they have ended, and no other of it, then its calls
+  -- there are those that were answered, in their order.
+  pub own_calls : (t : ℕ) (ms : List Made) (h : List HistoryEntry) → StandsInOrder h → ExplainsAll h n t ms → HasOnly h n t ms NoneOpen → calls_of n h ≡ replied_in ms
+  own_calls t ms h order all only =
+      let one : HistoryEntry → Type 0 = λ e. e.caller ≡ n → IsOneOf t ms NoneOpen e in
+      let each : Each one h = each_of one h (λ i lt. only i no_history_entry lt) in
+      let up : Each (above t) h = each_of (above t) h (λ i lt mine. above_of t ms (get_or h i no_history_entry) (only i no_history_entry lt mine)) in
+      calls_are h
+      ∙ own_are n t ms (entries_of n h) (rising_of t h order up) (each_own (IsOneOf t ms NoneOpen) h each)
+      (λ y lt. end_in h (t + y + 1) (get_or ms y no_made).script (get_or ms y no_made).ended (all y lt))

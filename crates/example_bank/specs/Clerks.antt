@@ -1,130 +1,135 @@
--- Clerks of a row: callers at work on their transfers.
-use Rattle.std.specs.Prelude.{◌≡◌, ℕ, ◌+◌, ◌<◌, ◌≤◌, ◌^◌, List, [], ◌∷◌, length, map, not, Option, Some, None, slice_index_or, vec_len}
+-- A clerk, its job, and what it has made of it.
+use Rattle.std.specs.Prelude.{◌≡◌, ℕ, ◌+◌, ◌<◌, ◌≤◌, List, [], ◌∷◌, ◌++◌, length, map, take, Option, Some, None, true, false, vec_len, ◌⊎◌}
+use Rattle.std.proofs.Common.{get_or}
 use Rattle.of_script.specs.declared.instr.Instr.{Instr}
-use Rattle.of_eval.specs.declared.scripts.Scripts.{Scripts}
-use Rattle.of_eval.specs.Scripts.{scripts_meaning, scripts_data_cells}
-use Rattle.of_core.specs.declared.place.Outcome.{Outcome}
-use Rattle.of_core.specs.Turn.{IsIdle}
-use Rattle.of_row.specs.declared.member.Pass.{Pass}
-use Rattle.of_row.specs.declared.row.Row.{Row}
-use Rattle.of_row.specs.Rows.{key_of, view_of_pass, IsRowPass, IsFirstPass, KeepsNobody}
-use Rattle.of_row.specs.Rule.{IsAsked}
-use Rattle.of_row.specs.Views.{KnownCaller}
-use Rattle.of_caller.specs.declared.caller.Caller.{Caller}
-use Rattle.of_caller.specs.Callers.{IsCaller, caller_call, sight_of}
-use Rattle.example_bank.specs.declared.transfer.Transfer.{Transfer}
-use Rattle.example_bank.specs.declared.tally.Tally.{Tally}
-use Rattle.example_bank.specs.declared.tally.End.{End}
-use Rattle.example_bank.specs.declared.tally.End.TheVariants.{Done, Stopped, Spent}
+use Rattle.of_store.specs.Store.{Reply}
+use Rattle.of_memory.specs.declared.error.RunErr.{RunErr}
+use Rattle.of_memory.specs.declared.error.RunErr.TheVariants.{OutOfMemory, Stopped, Spent as NoneLeft, Open, NoTicket}
+use Rattle.of_memory.specs.declared.handle.Handle.{Handle}
+use Rattle.of_memory.specs.declared.saved.Saved.{Saved}
+use Rattle.of_memory.specs.History.{Made}
+use Rattle.of_memory.specs.Handles.{HasMade, HasOpen, HasCallOpen, tickets_behind}
+use Rattle.of_memory.specs.Saving.{HoldsReply, saved_ticket}
 use Rattle.example_bank.specs.declared.clerk.Clerk.{Clerk}
-use Rattle.example_bank.specs.declared.clerk.Job.{Job}
-use Rattle.example_bank.specs.Ledger.{calls_done}
-use Rattle.example_bank.specs.Worked.{aborts, HasWorked, KeepsOne}
+use Rattle.example_bank.specs.Transfers.{transfer_script}
+use Rattle.example_bank.specs.Calls.{Call, replied_in, scripts_in, made_in, aborted_in, was_made, was_aborted}
 
--- the scripts of these transfers, and those of a job
-abbrev pub scripts_of : List Transfer → List (List Instr)
-scripts_of ts = map (λ t. t.script) ts
+-- the scripts of its job
+abbrev pub scripts_of : Clerk → List (List Instr)
+scripts_of c = map (λ t. transfer_script t.from t.to t.amount) c.job.items
 
-abbrev pub to_do_of : Job → List (List Instr)
-to_do_of j = scripts_of j.to_do.items
+-- how many of them it has counted, as made or aborted: it goes on with the next
+abbrev pub counted : Clerk → ℕ
+counted c = c.made + c.aborted
 
--- of a stop so many steps are left once these were made
-abbrev pub StepsLeft : (stop : Option ℕ) → (left : Option (Option ℕ)) → (made : ℕ) → Type 0
-StepsLeft None left made = left ≡ Some None
-StepsLeft (Some most) left made = (rest : ℕ) × (left ≡ Some (Some rest)) × (made + rest ≡ most)
+abbrev pub next_script : Clerk → List Instr
+next_script c = get_or (scripts_of c) (counted c) []
 
--- a clerk that is stopped has made just as many steps as its stop
-abbrev pub StopsWith : End → (stop : Option ℕ) → (made : ℕ) → Type 0
-StopsWith Done stop made = Unit {0}
-StopsWith Stopped stop made = stop ≡ Some made
-StopsWith Spent stop made = Unit {0}
+-- The clerk has counted these calls more. They are the next ones of its job, in the job's order.
+pub record Counts (x y : Clerk) (cs : List Call) : Type 0 where
+  pub job : y.job ≡ x.job
+  pub front : take (counted x) (scripts_of x) ++ scripts_in cs ≡ take (counted y) (scripts_of x)
+  pub made : y.made ≡ x.made + made_in cs
+  pub aborted : y.aborted ≡ x.aborted + aborted_in cs
 
--- a caller of this number has worked at these scripts, under a stop of which so much is left
-pub record Works (stop : Option ℕ) (left : Option (Option ℕ)) (to_do : List (List Instr))
-    (number : ℕ) (t : Tally) (c : Caller Scripts) : Type 0 where
-  pub kept : KnownCaller
-  pub kept_is : (sight_of c).kept ≡ kept ∷ []
-  pub number_is : kept.machine.caller ≡ number
-  pub worked : HasWorked to_do t kept
-  pub steps : StepsLeft stop left kept.turns
-  pub stops : StopsWith t.end stop kept.turns
-  pub none_pending : t.pending ≡ 0
-  -- while its day has not ended it has no open call, and was answered to all that it has begun
-  pub free : t.end ≡ Done → IsIdle (caller_call c) × IsIdle kept.machine
-      × (worked.begun ≡ t.answered) × (worked.beyond ≡ [])
+-- ---- why it has made no more
 
--- a new caller, of this number, that has made no call
-pub record IsReady (number : ℕ) (c : Caller Scripts) : Type 0 where
-  pub idle : IsIdle (caller_call c)
-  pub kept : KnownCaller
-  pub kept_is : (sight_of c).kept ≡ kept ∷ []
-  pub number_is : kept.machine.caller ≡ number
-  pub at_rest : IsIdle kept.machine
-  pub none : kept.ended ≡ []
-  pub no_steps : kept.turns ≡ 0
+-- it was stopped in a call
+abbrev pub IsStopped : Option RunErr → Type 0
+IsStopped None = ⊥
+IsStopped (Some OutOfMemory) = ⊥
+IsStopped (Some (Stopped asked)) = Unit {0}
+IsStopped (Some (NoneLeft seq)) = ⊥
+IsStopped (Some Open) = ⊥
+IsStopped (Some NoTicket) = ⊥
 
--- what was answered was made or aborted, and one more can be counted
-abbrev pub CanCount : Tally → Type 0
-CanCount t = (t.made + t.aborted ≡ t.answered) × (t.answered < 2 ^ 63)
+-- each of its calls was answered or is open
+abbrev pub IsNotSpent : Option RunErr → Type 0
+IsNotSpent None = Unit {0}
+IsNotSpent (Some OutOfMemory) = Unit {0}
+IsNotSpent (Some (Stopped asked)) = Unit {0}
+IsNotSpent (Some (NoneLeft seq)) = ⊥
+IsNotSpent (Some Open) = Unit {0}
+IsNotSpent (Some NoTicket) = Unit {0}
 
--- the second tally counts a call more, with this outcome
-abbrev pub Counted : Outcome → Tally → Tally → Type 0
-Counted o t u = u ≡ record t {
-  answered = t.answered + 1;
-  made = t.made + calls_done (not (aborts o));
-  aborted = t.aborted + calls_done (aborts o);
-}
+-- it has ended early
+abbrev pub IsEarly : Option RunErr → Type 0
+IsEarly None = ⊥
+IsEarly (Some e) = Unit {0}
 
--- the caller has made the call of this script, where that is the next one
-abbrev pub MakesNext : List Instr → (left : Option (Option ℕ)) → Tally → Caller Scripts
-    → (left_now : Option (Option ℕ)) → Tally → Caller Scripts → Type 0
-MakesNext script l t c m u d =
-    (stop : Option ℕ) (to_do : List (List Instr)) (number : ℕ) → Works stop l to_do number t c
-    → t.answered < length to_do → slice_index_or to_do t.answered [] ≡ script
-    → Works stop m to_do number u d
+-- The cause of an early end: it was stopped when its call had made all its steps, or its number had
+-- made so many calls before the day and on it that no ticket is left.
+abbrev pub HasCause : (steps before answered : ℕ) → Option RunErr → Type 0
+HasCause steps before answered None = Unit {0}
+HasCause steps before answered (Some OutOfMemory) = Unit {0}
+HasCause steps before answered (Some (Stopped asked)) = asked ≡ steps + 1
+HasCause steps before answered (Some (NoneLeft seq)) = Unit {0}
+HasCause steps before answered (Some Open) = ⊥
+HasCause steps before answered (Some NoTicket) = before + answered + 1 < 4294967296 → ⊥
 
--- a call more is counted as answered, or the day has ended
-abbrev pub Advances : End → (before now : ℕ) → Type 0
-Advances Done before now = now ≡ before + 1
-Advances Stopped before now = now ≡ before
-Advances Spent before now = now ≡ before
+-- ---- a clerk with its handle
 
--- a clerk whose day has ended has something left to do
-abbrev pub Within : End → (answered len : ℕ) → Type 0
-Within Done n len = n ≤ len
-Within Stopped n len = n < len
-Within Spent n len = n < len
+-- The clerk has made these calls with its handle, on this day, and has counted those that were
+-- answered. If it was stopped, the next one is open.
+pub record HasWorked (x y : Clerk) (k : Handle) : Type 0 where
+  pub made : List Made
+  pub has : HasMade k made
+  pub counts : Counts x y (replied_in made)
+  pub answered : y.answered ≡ length (replied_in made)
+  pub whole : IsNotSpent y.end → y.answered ≡ length made
+  pub open_call : (script : List Instr) → HasOpen k script
+      → IsStopped y.end × (script ≡ next_script y)
+  pub left : IsEarly y.end → counted y < vec_len y.job
+  pub cause : HasCause x.steps (tickets_behind k) y.answered y.end
+  pub steps : y.steps ≡ x.steps
+  pub pending : y.pending ≡ false
 
-module _ {X : Type 0} {Y : X → Type 0} where
-  -- a clerk of the row, of whose steps so many are left
-  pub record IsClerk (left : Option (Option ℕ)) (r : Row Scripts) (c : Clerk X Y) : Type 0 where
-    pub caller : IsCaller scripts_meaning r c.caller
-    pub works : Works c.job.stop left (to_do_of c.job) c.number c.tally c.caller
-    pub counts : c.tally.made + c.tally.aborted ≡ c.tally.answered
-    pub few : Within c.tally.end c.tally.answered (vec_len c.job.to_do)
+-- it has made its whole job, unless it has ended early
+abbrev pub IsThrough : Clerk → Type 0
+IsThrough c = c.end ≡ None → counted c ≡ vec_len c.job
 
-  -- the second is the first clerk, later
-  abbrev pub IsSame : Clerk X Y → Clerk X Y → Type 0
-  IsSame a b = (b.number ≡ a.number) × (b.job ≡ a.job)
+-- so a clerk works with a handle that has made no call yet
+abbrev pub WorksOn : (before : Clerk) → Handle → (now : Clerk) → Handle → Type 0
+WorksOn x h y k = HasMade h [] → (HasCallOpen h → ⊥) → HasWorked x y k × IsThrough y
 
-  -- its day has ended, or it was answered to all that it was to do
-  abbrev pub IsThrough : Clerk X Y → Type 0
-  IsThrough c = c.tally.end ≡ Done → c.tally.answered ≡ vec_len c.job.to_do
+-- if it has worked so, it still has
+abbrev pub GoesOn : (before : Clerk) → Handle → (now : Clerk) → Handle → Type 0
+GoesOn y h z k = (x : Clerk) → HasWorked x y h → HasWorked x z k
 
--- the row is one of these scripts
-pub record IsRowOf (r : Row Scripts) (w : Scripts) (limit : ℕ) : Type 0 where
-  pub work : (key_of r).work ≡ w
-  pub callers : (key_of r).callers ≡ w.callers
-  pub cells : (key_of r).cells ≡ scripts_data_cells w
-  pub limit_is : (key_of r).limit ≡ limit
+-- ---- the transfer in which it was stopped
 
--- the row's first pass, which has asked for numbers below the next one alone and keeps nobody yet
-pub record MayHire (r : Row Scripts) (next : ℕ) (p : Pass) : Type 0 where
-  pub row : IsRowPass r p
-  pub first : IsFirstPass p
-  pub nobody : KeepsNobody p
-  pub below : (number : ℕ) → IsAsked number (view_of_pass p).asked → number < next
+-- a transfer with this reply was counted
+pub record CountsReply (r : Reply) (y z : Clerk) : Type 0 where
+  pub made : z.made ≡ y.made + was_made r
+  pub aborted : z.aborted ≡ y.aborted + was_aborted r
 
--- the pass keeps a clerk of this number, which has worked so at its job
-abbrev pub KeepsClerk : (number : ℕ) → Job → Tally → Pass → Type 0
-KeepsClerk number j t p = KeepsOne number (HasWorked (to_do_of j) t) (view_of_pass p).kept
+abbrev pub CountsNone : (before now : Clerk) → Type 0
+CountsNone y z = (z.made ≡ y.made) × (z.aborted ≡ y.aborted)
+
+-- what was saved last holds no call that the clerk doesn't know of
+pub record IsPending (n : ℕ) (c d : Saved) (y z : Clerk) : Type 0 where
+  pub ticket : saved_ticket d n ≤ saved_ticket c n + y.answered
+  pub none : CountsNone y z
+  pub pending : z.pending ≡ true
+
+-- it holds one more, which is counted by its reply
+pub record IsFinished (n : ℕ) (c d : Saved) (y z : Clerk) : Type 0 where
+  pub ticket : saved_ticket c n + y.answered < saved_ticket d n
+  pub one : (r : Reply) → HoldsReply d n r → CountsReply r y z
+  pub more : counted z ≡ counted y + 1
+  pub pending : z.pending ≡ y.pending
+
+abbrev pub SettlesEnd : ℕ → (before after : Saved) → Clerk → Clerk → Option RunErr → Type 0
+SettlesEnd n c d y z None = CountsNone y z × (z.pending ≡ y.pending)
+SettlesEnd n c d y z (Some OutOfMemory) = CountsNone y z × (z.pending ≡ y.pending)
+SettlesEnd n c d y z (Some (Stopped asked)) = IsPending n c d y z ⊎ IsFinished n c d y z
+SettlesEnd n c d y z (Some (NoneLeft seq)) = CountsNone y z × (z.pending ≡ y.pending)
+SettlesEnd n c d y z (Some Open) = CountsNone y z × (z.pending ≡ y.pending)
+SettlesEnd n c d y z (Some NoTicket) = CountsNone y z × (z.pending ≡ y.pending)
+
+-- the clerk of this number counts the transfer in which it was stopped, if it was finished
+pub record Settles (n : ℕ) (c d : Saved) (y z : Clerk) : Type 0 where
+  pub job : z.job ≡ y.job
+  pub answered : z.answered ≡ y.answered
+  pub end : z.end ≡ y.end
+  pub counts : SettlesEnd n c d y z y.end

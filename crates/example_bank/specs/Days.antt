@@ -1,72 +1,66 @@
--- A day at the bank.
-use Rattle.std.specs.Prelude.{◌≡◌, ℕ, ◌+◌, ◌<◌, ◌≤◌, List, length, take, IsSome, slice_index_or}
-use Rattle.std.proofs.Common.{zero, suc}
+-- Days at the bank.
+use Rattle.std.specs.Prelude.{◌≡◌, ℕ, ◌+◌, ◌<◌, ◌≤◌, List, length, Option, Some, None, Bool, true, false, vec_len}
+use Rattle.std.proofs.Common.{get_or}
 use Rattle.std.specs.List.{All}
-use Rattle.of_core.specs.TableMoment.{TableStart}
-use Rattle.example_bank.specs.declared.books.Books.{Books}
-use Rattle.example_bank.specs.declared.books.TheConstants.{CLERKS, LIMIT}
-use Rattle.example_bank.specs.declared.clerk.Job.{Job}
-use Rattle.example_bank.specs.declared.day.Jobs.{Jobs}
-use Rattle.example_bank.specs.declared.day.Day.{Day}
-use Rattle.example_bank.specs.declared.tally.Tally.{Tally}
-use Rattle.example_bank.specs.declared.tally.End.{End}
-use Rattle.example_bank.specs.declared.tally.End.TheVariants.{Done, Stopped, Spent}
-use Rattle.example_bank.specs.Tallies.{no_tally}
-use Rattle.example_bank.specs.Ledger.{Entry, scripts_in, entries_of, made_in, aborted_in, IsLedger, IsEntryOf, NoneLeft}
-use Rattle.example_bank.specs.Clerks.{to_do_of}
-use Rattle.example_bank.specs.Books.{start_in}
+use Rattle.of_store.specs.Store.{Store}
+use Rattle.of_memory.specs.declared.error.RunErr.{RunErr}
+use Rattle.of_memory.specs.declared.error.RunErr.TheVariants.{OutOfMemory, Stopped, Spent as NoneLeft, Open, NoTicket}
+use Rattle.of_memory.specs.declared.saved.Saved.{Saved}
+use Rattle.of_memory.specs.History.{HistoryEntry, IsSerial, store_after}
+use Rattle.of_memory.specs.Saving.{SavedHolds, saved_ticket}
+use Rattle.example_bank.specs.declared.clerk.Clerk.{Clerk}
+use Rattle.example_bank.specs.Calls.{calls_of}
+use Rattle.example_bank.specs.Clerks.{Counts, HasCause, IsThrough, IsStopped, counted, Settles}
 
--- the job of a clerk, by its number
-abbrev pub job_of : Jobs → ℕ → Job
-job_of j zero = j.two.0
-job_of j (suc zero) = j.two.1
-job_of j (suc (suc zero)) = j.others.0
-job_of j (suc (suc (suc i))) = j.others.1
+-- A serial history of the clerks' transfers leads from the store to the saved one. The calls of
+-- each clerk in it, in its order, are those by which the clerk went on with its job, and they were
+-- counted by their replies. It has no others.
+pub record LeadsBy (s : Store) (d : Saved) (xs ys : List Clerk) (h : List HistoryEntry)
+    : Type 0 where
+  pub serial : IsSerial s h
+  pub ends : SavedHolds d (store_after s h)
+  pub callers : All (λ (e : HistoryEntry). e.caller < length xs) h
+  pub each : (n : ℕ) (z : Clerk) → n < length xs
+      → Counts (get_or xs n z) (get_or ys n z) (calls_of n h)
 
--- what became of it
-abbrev pub tally_of : List Tally → ℕ → Tally
-tally_of ts i = slice_index_or ts i no_tally
+-- so it is of the store that was saved before
+abbrev pub GoOnWithJobs : (before now : Saved) → (xs ys : List Clerk) → Type 0
+GoOnWithJobs c d xs ys =
+    (s : Store) → SavedHolds c s → (h : List HistoryEntry) × LeadsBy s d xs ys h
 
--- why a clerk made no more of its transfers: there are no more; it was stopped, as its job says; or
--- no sequence, or no ticket of it, is left in the books
-abbrev pub EndsSo : (after : TableStart) → (clerk : ℕ) → Job → (answered : ℕ) → End → Type 0
-EndsSo C i j n Done = n ≡ length (to_do_of j)
-EndsSo C i j n Stopped = (n < length (to_do_of j)) × IsSome j.stop
-EndsSo C i j n Spent = (n < length (to_do_of j)) × NoneLeft LIMIT C i
+-- a call of the clerk was open in the evening
+abbrev pub open_in : Option RunErr → ℕ
+open_in None = 0
+open_in (Some OutOfMemory) = 0
+open_in (Some (Stopped asked)) = 1
+open_in (Some (NoneLeft seq)) = 0
+open_in (Some Open) = 0
+open_in (Some NoTicket) = 0
 
--- the transfer in which a clerk was stopped took effect, or is pending
-abbrev pub StoppedIn : End → ℕ
-StoppedIn Done = 0
-StoppedIn Stopped = 1
-StoppedIn Spent = 0
+abbrev pub one_if : Bool → ℕ
+one_if true = 1
+one_if false = 0
 
--- the tally tells what the ledger has of the clerk: the front of its job, and what became of each
-pub record IsTold (C : TableStart) (i : ℕ) (j : Job) (t : Tally) (own : List Entry) : Type 0 where
-  pub front : scripts_in own ≡ take (t.made + t.aborted) (to_do_of j)
-  pub few : t.made + t.aborted ≤ length (to_do_of j)
-  pub made : made_in own ≡ t.made
-  pub aborted : aborted_in own ≡ t.aborted
-  -- those that it was answered to, and the one in which it was stopped
-  pub all : t.answered ≤ t.made + t.aborted
-  pub pending_is : t.pending ≤ StoppedIn t.end
-  pub reached : t.end ≡ Stopped → t.made + t.aborted + t.pending ≡ t.answered + 1
-  pub end : EndsSo C i j t.answered t.end
+-- Why the clerk of this number has made no more on a day. What it has counted since the day before
+-- are the calls that were answered, and perhaps the one in which it was stopped. If that one took
+-- no effect, it is pending.
+pub record HasEnded (c : Saved) (n : ℕ) (x z : Clerk) : Type 0 where
+  pub through : IsThrough z
+  pub cause : HasCause x.steps (saved_ticket c n) z.answered z.end
+  pub pending : one_if z.pending ≤ open_in z.end
+  pub counts : counted z + one_if z.pending ≡ counted x + z.answered + open_in z.end
 
--- the day has led from these books to its own, by what its clerks have done of their jobs
-pub record IsDay (b : Books) (j : Jobs) (d : Day) : Type 0 where
-  pub entries : List Entry
-  pub ledger : IsLedger b.scripts (start_in b) (start_in d.books) entries
-  pub origin : All (IsEntryOf b.scripts (λ i. to_do_of (job_of j i))) entries
-  pub each : (i : ℕ) → i < CLERKS
-      → IsTold (start_in d.books) i (job_of j i) (tally_of d.tallies i) (entries_of i entries)
+abbrev pub HaveEnded : (before : Saved) → (xs zs : List Clerk) → Type 0
+HaveEnded c xs zs =
+    (n : ℕ) (d : Clerk) → n < length xs → HasEnded c n (get_or xs n d) (get_or zs n d)
 
--- so a clerk's day has ended, as far as itself can know
-abbrev pub Ends : Job → (answered : ℕ) → End → Type 0
-Ends j n Done = n ≡ length (to_do_of j)
-Ends j n Stopped = (n < length (to_do_of j)) × IsSome j.stop
-Ends j n Spent = n < length (to_do_of j)
+-- a clerk that was stopped has a transfer left
+abbrev pub CanSettle : List Clerk → Type 0
+CanSettle ys =
+    (n : ℕ) (x : Clerk) → n < length ys → IsStopped (get_or ys n x).end
+    → counted (get_or ys n x) < vec_len (get_or ys n x).job
 
-pub record HasEnded (j : Job) (t : Tally) : Type 0 where
-  pub ends : Ends j t.answered t.end
-  pub counts : t.made + t.aborted ≡ t.answered
-  pub none_pending : t.pending ≡ 0
+-- each clerk below this number has counted the transfer in which it was stopped
+pub record HaveSettled (upto : ℕ) (c d : Saved) (ys zs : List Clerk) : Type 0 where
+  pub count : length zs ≡ length ys
+  pub each : (n : ℕ) (x : Clerk) → n < upto → Settles n c d (get_or ys n x) (get_or zs n x)

@@ -1,9 +1,4 @@
-pub mod Money
-pub mod Tallies
-pub mod Ledger
-pub mod Worked
-pub mod Closed
+pub mod Transfers
+pub mod Calls
 pub mod Clerks
-pub mod Books
-pub mod Founding
 pub mod Days

@@ -1,4 +1,0 @@
-use Rattle.example_bank.proofs.clerk.Clerk.work.Given as goal
-
-abbrev pub ghosts-work_counted : goal.ghosts-work_counted
-ghosts-work_counted g a = record { name = a.blank.name; parts = 1 }

@@ -1,0 +1,44 @@
+-- The calls of one caller in a history, and what their replies say.
+use Rattle.std.specs.Prelude.{ℕ, ◌+◌, ◌==◌, List, [], ◌∷◌, map, if◌then◌else◌}
+use Rattle.of_script.specs.declared.instr.Instr.{Instr}
+use Rattle.of_store.specs.Store.{Reply, Answered, Aborted}
+use Rattle.of_memory.specs.History.{HistoryEntry, End, Replied, Spent, Made}
+
+-- a script, and its reply
+abbrev pub Call : Type 0
+Call = List Instr × Reply
+
+abbrev pub scripts_in : List Call → List (List Instr)
+scripts_in cs = map (λ c. c.0) cs
+
+-- the calls of this number, in the order of the history
+abbrev pub calls_of : ℕ → List HistoryEntry → List Call
+calls_of n [] = []
+calls_of n (e ∷ h) = if e.caller == n then (e.script, e.reply) ∷ calls_of n h else calls_of n h
+
+-- how many moved what they say
+abbrev pub was_made : Reply → ℕ
+was_made (Answered values) = 1
+was_made (Aborted place cause) = 0
+
+abbrev pub made_in : List Call → ℕ
+made_in [] = 0
+made_in (c ∷ cs) = was_made c.1 + made_in cs
+
+-- how many changed nothing
+abbrev pub was_aborted : Reply → ℕ
+was_aborted (Answered values) = 0
+was_aborted (Aborted place cause) = 1
+
+abbrev pub aborted_in : List Call → ℕ
+aborted_in [] = 0
+aborted_in (c ∷ cs) = was_aborted c.1 + aborted_in cs
+
+-- the calls that were answered, with their replies
+abbrev pub with_end : List Instr → End → List Call → List Call
+with_end script (Replied r) cs = (script, r) ∷ cs
+with_end script Spent cs = cs
+
+abbrev pub replied_in : List Made → List Call
+replied_in [] = []
+replied_in (m ∷ ms) = with_end m.script m.ended (replied_in ms)
