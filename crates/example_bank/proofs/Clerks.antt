@@ -1,5 +1,5 @@
 -- A clerk goes on with its job.
-use Rattle.std.proofs.Common.{◌≡◌, ℕ, ◌+◌, ◌<◌, ◌⊎◌, inl, inr, List, [], ◌∷◌, ◌++◌, length, get_or, take, map, Option, Some, None, Result, Ok, Err, false, vec_len, refl, sym, ap, subst, ◌∙◌, arith, append_assoc}
+use Rattle.std.proofs.Common.{◌≡◌, ℕ, ◌+◌, ◌<◌, ◌⊎◌, inl, inr, List, [], ◌∷◌, ◌++◌, length, get_or, take, map, Option, Some, None, Ok, Err, false, vec_len, refl, sym, ap, subst, ◌∙◌, arith, append_assoc}
 use Rattle.std.proofs.lemmas.List.{append-nil, length-append, length-map, get_or-map, take_more}
 use Rattle.of_script.specs.declared.instr.Instr.{Instr}
 use Rattle.of_store.specs.Store.{Reply}
@@ -9,13 +9,13 @@ use Rattle.of_memory.specs.declared.error.RunErr.{RunErr}
 use Rattle.of_memory.specs.declared.error.RunErr.TheVariants.{OutOfMemory, Stopped, Spent as NoneLeft, Open, NoTicket}
 use Rattle.of_memory.specs.declared.handle.Handle.{Handle}
 use Rattle.of_memory.specs.History.{Made, Replied, Spent}
-use Rattle.of_memory.specs.Called.{made_with, LeavesAsItWas}
+use Rattle.of_memory.specs.Called.{LeavesAsItWas}
 use Rattle.of_memory.specs.Handles.{IsHandle, HasMade, HasOpen, HasCallOpen, MakesCall, StaysOpenOnlyIfStopped, OpensOnly, RefusesCall, CallsAreCounted, tickets_behind, steps_so_far, IsSame}
 use Rattle.of_memory.specs.Within.{KeepsWithin}
 use Rattle.example_bank.specs.declared.transfer.Transfer.{Transfer}
 use Rattle.example_bank.specs.declared.clerk.Clerk.{Clerk}
 use Rattle.example_bank.specs.Transfers.{transfer_script}
-use Rattle.example_bank.specs.Calls.{Call, with_end, replied_in, scripts_in, made_in, aborted_in, was_made, was_aborted}
+use Rattle.example_bank.specs.Calls.{Call, with_end, replied_in, scripts_in}
 use Rattle.example_bank.specs.Clerks.{scripts_of, counted, next_script, Counts, CountsReply, CountsNone, IsStopped, IsNotSpent, IsEarly, HasCause, HasWorked, GoesOn}
 use Rattle.example_bank.proofs.Counts.{made_join, aborted_join, scripts_join, one_each}
 

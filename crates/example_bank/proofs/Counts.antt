@@ -1,5 +1,5 @@
 -- Counts of calls.
-use Rattle.std.proofs.Common.{◌≡◌, ℕ, ◌+◌, ◌==◌, Bool, true, false, if◌then◌else◌, List, [], ◌∷◌, ◌++◌, length, refl, sym, ap, ◌∙◌, arith, append_assoc}
+use Rattle.std.proofs.Common.{◌≡◌, ℕ, ◌+◌, ◌==◌, Bool, true, false, if◌then◌else◌, List, [], ◌∷◌, ◌++◌, length, refl, ap, arith}
 use Rattle.of_store.specs.Store.{Reply, Answered, Aborted}
 use Rattle.of_memory.specs.History.{HistoryEntry}
 use Rattle.example_bank.specs.Calls.{Call, calls_of, scripts_in, made_in, aborted_in, was_made, was_aborted}

@@ -1,28 +1,26 @@
 -- What a day leaves of the clerks' jobs.
-use Rattle.std.proofs.Common.{◌≡◌, ℕ, ◌+◌, ◌<◌, ◌≤◌, ◌⊎◌, inl, inr, List, [], ◌∷◌, ◌++◌, length, get_or, take, map, IsTrue, Option, Some, None, true, false, vec_len, refl, sym, ap, subst, ◌∙◌, arith}
+use Rattle.std.proofs.Common.{◌≡◌, ℕ, ◌+◌, ◌<◌, ◌≤◌, ◌⊎◌, inl, inr, List, [], ◌∷◌, ◌++◌, length, get_or, Option, Some, None, vec_len, refl, sym, ap, subst, ◌∙◌, arith}
 use Rattle.std.specs.List.{All}
 use Rattle.std.proofs.lemmas.Bool.{cases_lt, true≢false}
 use Rattle.std.proofs.lemmas.List.{append-nil, length-append, get_or_append_left, get_or-append-add, length-map}
 use Rattle.std.proofs.lemmas.List.Elements.{All-map}
 use Rattle.of_script.specs.declared.instr.Instr.{Instr}
 use Rattle.of_script.specs.declared.instr.Instr.TheVariants.{Count}
-use Rattle.of_script.specs.Language.{reads_only}
 use Rattle.of_store.specs.Store.{Store}
 use Rattle.of_memory.specs.declared.error.RunErr.{RunErr}
 use Rattle.of_memory.specs.declared.error.RunErr.TheVariants.{OutOfMemory, Stopped, Spent as NoneLeft, Open, NoTicket}
 use Rattle.of_memory.specs.declared.memory.Memory.{Memory}
-use Rattle.of_memory.specs.declared.handle.Handle.{Handle}
 use Rattle.of_memory.specs.declared.saved.Saved.{Saved}
-use Rattle.of_memory.specs.History.{HistoryEntry, no_history_entry, Made, no_made, Replied, IsOneOf, HasOnly, ExplainsAll, ExplainsEnd, HasEntry, ScriptOnlyReads}
+use Rattle.of_memory.specs.History.{HistoryEntry, no_history_entry, Made, no_made, Replied, IsOneOf, HasOnly, ExplainsAll, ExplainsEnd, ScriptOnlyReads}
 use Rattle.of_memory.specs.Serving.{made_before}
-use Rattle.of_memory.specs.Handles.{HasOpen, tickets_behind}
+use Rattle.of_memory.specs.Handles.{tickets_behind}
 use Rattle.of_memory.specs.Memories.{HasMadeOf, HasOpenOf, HasNoneOpen, IsStill, LeadsTo, TellsLastOf, callers_of, tickets_before}
 use Rattle.of_memory.specs.Saving.{saved_ticket, HoldsReply}
 use Rattle.of_memory.specs.Tasks.{TaskWork, HasWorkedAs}
 use Rattle.example_bank.specs.declared.transfer.Transfer.{Transfer}
 use Rattle.example_bank.specs.declared.clerk.Clerk.{Clerk}
 use Rattle.example_bank.specs.Transfers.{IsTransfer, transfer_script}
-use Rattle.example_bank.specs.Calls.{Call, replied_in, calls_of, made_in, aborted_in}
+use Rattle.example_bank.specs.Calls.{replied_in, calls_of}
 use Rattle.example_bank.specs.Clerks.{scripts_of, counted, next_script, Counts, CountsNone, IsStopped, IsEarly, IsNotSpent, HasCause, HasWorked, IsThrough, WorksOn, Settles, SettlesEnd, IsPending, IsFinished}
 use Rattle.example_bank.specs.Days.{HasEnded, open_in, one_if}
 use Rattle.example_bank.proofs.Own.{NoneOpen, own_calls}

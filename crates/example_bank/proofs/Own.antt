@@ -1,11 +1,10 @@
 -- Of one caller a history has the calls that were answered, in their order.
-use Rattle.std.proofs.Common.{◌≡◌, ◌≢◌, ℕ, zero, suc, ◌+◌, ◌<◌, ◌≤◌, ◌⊎◌, inl, inr, Bool, true, false, ◌==◌, if◌then◌else◌, List, [], ◌∷◌, ◌++◌, length, get_or, refl, sym, ap, subst, ◌∙◌, arith}
-use Rattle.std.specs.List.{All, AllByRecursion as Each}
+use Rattle.std.proofs.Common.{◌≡◌, ◌≢◌, ℕ, zero, suc, ◌+◌, ◌<◌, ◌≤◌, ◌⊎◌, inl, inr, Bool, true, false, ◌==◌, if◌then◌else◌, List, [], ◌∷◌, length, get_or, refl, sym, ap, subst, ◌∙◌, arith}
+use Rattle.std.specs.List.{AllByRecursion as Each}
 use Rattle.std.proofs.lemmas.Bool.{cases_lt}
 use Rattle.std.proofs.lemmas.Bool.Decides.{nat_tests}
 use Rattle.of_script.specs.declared.instr.Instr.{Instr}
-use Rattle.of_store.specs.Store.{Reply}
-use Rattle.of_memory.specs.History.{HistoryEntry, no_history_entry, StandsInOrder, IsLater, HasEntry, End, Replied, Spent, Made, no_made, ExplainsEnd, ExplainsAll, IsOneOf, HasOnly}
+use Rattle.of_memory.specs.History.{HistoryEntry, no_history_entry, StandsInOrder, IsLater, End, Replied, Spent, Made, no_made, ExplainsEnd, ExplainsAll, IsOneOf, HasOnly}
 use Rattle.example_bank.specs.Calls.{Call, calls_of, with_end, replied_in}
 
 -- ---- entries of one caller

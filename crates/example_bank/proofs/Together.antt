@@ -1,5 +1,5 @@
 -- All clerks together, one day and two.
-use Rattle.std.proofs.Common.{◌≡◌, ◌≢◌, ℕ, zero, suc, ◌+◌, ◌<◌, ◌≤◌, ◌⊎◌, inl, inr, ◌==◌, Bool, true, false, if◌then◌else◌, List, [], ◌∷◌, ◌++◌, length, get_or, take, map, Option, Some, None, vec_len, refl, sym, ap, subst, ◌∙◌, arith}
+use Rattle.std.proofs.Common.{◌≡◌, ℕ, zero, suc, ◌+◌, ◌<◌, ◌≤◌, inl, inr, ◌==◌, Bool, true, false, if◌then◌else◌, List, [], ◌∷◌, ◌++◌, length, get_or, take, Option, Some, None, refl, sym, ap, subst, ◌∙◌, arith}
 use Rattle.std.specs.List.{All}
 use Rattle.std.specs.Prelude.{sum}
 use Rattle.std.proofs.lemmas.Bool.{cases_lt, true≢false}
@@ -8,21 +8,20 @@ use Rattle.std.proofs.lemmas.List.{get_or-append-add, length-append, ext_get_or}
 use Rattle.std.proofs.lemmas.List.Elements.{All-append, All-take, All-head, All-tail}
 use Rattle.of_script.specs.declared.instr.Instr.{Instr}
 use Rattle.of_script.specs.declared.instr.TheConstants.{REGISTERS}
-use Rattle.of_store.specs.Store.{Store, run}
+use Rattle.of_store.specs.Store.{Store}
 use Rattle.of_memory.specs.declared.error.RunErr.{RunErr}
-use Rattle.of_memory.specs.declared.error.RunErr.TheVariants.{OutOfMemory, Stopped, Spent as NoneLeft, Open, NoTicket}
 use Rattle.of_memory.specs.declared.memory.Memory.{Memory}
 use Rattle.of_memory.specs.declared.saved.Saved.{Saved}
-use Rattle.of_memory.specs.History.{HistoryEntry, IsSerial, store_after, IsOneOf}
+use Rattle.of_memory.specs.History.{HistoryEntry, store_after, IsOneOf}
 use Rattle.of_memory.specs.Joining.{HistoriesJoin}
 use Rattle.of_memory.specs.Memories.{HasMadeOf, HasOpenOf, HasNoneOpen, HasHistory, IsStill, LeadsTo, StartsWith, callers_of, tickets_before}
 use Rattle.of_memory.specs.Saving.{SavedHolds, saved_ticket}
 use Rattle.of_memory.specs.Tasks.{HaveWorked, KnowsRest, KnowsSame}
 use Rattle.example_bank.specs.declared.clerk.Clerk.{Clerk}
-use Rattle.example_bank.specs.Transfers.{IsTransfer, KeepsMoney, money_of}
-use Rattle.example_bank.specs.Calls.{Call, calls_of, scripts_in}
-use Rattle.example_bank.specs.Clerks.{scripts_of, counted, Counts, IsStopped, IsEarly, Settles}
-use Rattle.example_bank.specs.Days.{LeadsBy, GoOnWithJobs, HaveEnded, HasEnded, CanSettle, HaveSettled}
+use Rattle.example_bank.specs.Transfers.{IsTransfer, KeepsMoney}
+use Rattle.example_bank.specs.Calls.{calls_of, scripts_in}
+use Rattle.example_bank.specs.Clerks.{scripts_of, counted, Counts, IsStopped, IsEarly}
+use Rattle.example_bank.specs.Days.{LeadsBy, GoOnWithJobs, HaveEnded, CanSettle, HaveSettled}
 use Rattle.example_bank.proofs.Counts.{calls_join}
 use Rattle.example_bank.proofs.Clerks.{counts_join}
 use Rattle.example_bank.proofs.Evenings.{Does, are_transfers, goes_on, has_ended, has_worked}

@@ -1,4 +1,4 @@
-use Rattle.std.proofs.Common.{◌≡◌, ℕ, ◌<◌, ◌≤◌, length, subst, ◌∙◌, arith}
+use Rattle.std.proofs.Common.{ℕ, ◌<◌, subst, ◌∙◌, arith}
 use Rattle.of_memory.specs.Memories.{callers_of}
 use Rattle.of_memory.specs.Saving.{saved_callers}
 use Rattle.of_memory.proofs.Still.{still_callers, still_starts}

@@ -1,4 +1,4 @@
-use Rattle.std.proofs.Common.{◌≡◌, ◌<◌, length, length-set, ◌∙◌, arith}
+use Rattle.std.proofs.Common.{◌<◌, length, length-set, ◌∙◌, arith}
 use Rattle.example_bank.proofs.Settling.{may_settle, settles_next, others_next}
 use Rattle.example_bank.proofs.days.settle_all.Goals as goal
 
