@@ -8,6 +8,7 @@ ghost use Rattle.example_bank.specs.Days.{CanSettle, GoOnWithJobs, HaveEnded, Ha
 use crate::clerk::Clerk;
 use anyhow::Result;
 use of_memory::laws::histories_join;
+use of_memory::laws::memories_stay;
 use of_memory::{Memory, Saved};
 use std::alloc::Global;
 use std::thread::Threads;
@@ -43,6 +44,7 @@ pub fn day<R: Threads + Sync>(
     ensures ended { IfOk result (λ r. HaveEnded saved.now clerks.items r.1.items) }
     ensures money { IfOk result (λ r. KeepsMoney saved.now r.0) }
 {
+    memories_stay();
     let mut clerks = clerks;
     let mut memory = Memory::reopen(alloc, saved)?;
     memory.at_once(rt, &mut clerks)?;
