@@ -24,8 +24,8 @@ fn limit_of(steps: u64) -> Option<u64>
     if steps == u64::MAX { None } else { Some(steps) }
 }
 
-// The code of what a call has come to, which the reply tells. `open_code` is the code if a call is open
-// that must not be, or none is.
+// The code of what a call has come to, which the reply tells. `open_code` is the code if a call is
+// open that must not be, or none is.
 fn code_of(ended: Result<Answer, RunErr>, open_code: u32, reply: &mut CReply) -> u32
     ensures { Tells open_code ended result reply.new }
 {

@@ -1,7 +1,7 @@
 //! A reply as C reads it.
 
 ghost use Rattle.std.specs.Prelude.{◌≡◌};
-ghost use Rattle.of_c.specs.Replies.{given_flag, given_number, cause_number, flag_number, ShowsEach};
+ghost use Rattle.of_c.specs.Replies.{given_flag, given_number, cause_number, ShowsEach};
 
 use of_memory::{Abort, Answer, Cause, Reply};
 use of_script::MOST_INSTRS;
