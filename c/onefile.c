@@ -1,0 +1,247 @@
+/* onefile.c: the C side of the library. It tests what the proved functions can't test: that no
+ * pointer is null, and that each slot is in one call at a time. A slot is taken by one atomic
+ * exchange, so nobody waits. The slots of a memory and of its callers are always those of one
+ * onefile_memory, and the memory's slot is filled and emptied only while all slots of its callers
+ * are taken and empty. So a caller that is held is one of the memory beside it. */
+#include "onefile.h"
+
+/* What of_c exports. An allocator takes no parameter in C, and a slice is a pointer and a length. */
+typedef struct pair {
+  onefile_slot memory;
+  onefile_slot caller;
+} pair;
+
+uint32_t of_c_open(uint32_t callers, uint32_t blocks, uint32_t limit, onefile_slot *memory);
+uint32_t of_c_reopen(onefile_slot *saved, onefile_slot *memory);
+uint32_t of_c_enrol(pair *both, uint32_t number);
+uint32_t of_c_leave(pair *both);
+uint32_t of_c_close(onefile_slot *memory, onefile_slot *saved);
+uint32_t of_c_free(onefile_slot *slot);
+uint32_t of_c_call(onefile_slot *caller, const uint64_t *words, size_t count, uint64_t steps,
+                   onefile_reply *reply);
+uint32_t of_c_call_text(onefile_slot *caller, const uint8_t *text, size_t length, uint64_t steps,
+                        onefile_reply *reply);
+uint32_t of_c_go_on(onefile_slot *caller, uint64_t steps, onefile_reply *reply);
+uint32_t of_c_register(onefile_slot *saved, uint32_t reg, uint32_t *value);
+uint32_t of_c_key(onefile_slot *saved, uint32_t key, uint32_t *value);
+uint32_t of_c_item(onefile_slot *saved, uint32_t queue, uint32_t at, uint32_t *value);
+uint32_t of_c_ticket(onefile_slot *saved, uint32_t number, uint32_t *ticket);
+uint32_t of_c_last_reply(onefile_slot *saved, uint32_t number, onefile_reply *reply);
+
+_Static_assert(sizeof(onefile_slot) == 16, "a slot is as of_c has it");
+_Static_assert(sizeof(onefile_reply) == 6 * 4 + 8 + 32 * 4, "a reply is as of_c has it");
+
+static int claim(onefile_guarded *one) {
+  return __atomic_exchange_n(&one->busy, 1, __ATOMIC_SEQ_CST) == 0;
+}
+
+static void release(onefile_guarded *one) { __atomic_store_n(&one->busy, 0, __ATOMIC_SEQ_CST); }
+
+/* Takes both, or none. */
+static int claim_both(onefile_guarded *one, onefile_guarded *other) {
+  if (!claim(one)) return 0;
+  if (claim(other)) return 1;
+  release(one);
+  return 0;
+}
+
+static void release_callers(onefile_memory *memory, size_t count) {
+  while (count > 0) release(&memory->caller[--count]);
+}
+
+/* Takes the memory with all its callers, or nothing. */
+static int claim_all(onefile_memory *memory) {
+  if (!claim(&memory->memory)) return 0;
+  for (size_t i = 0; i < ONEFILE_MOST_CALLERS; i++) {
+    if (!claim(&memory->caller[i])) {
+      release_callers(memory, i);
+      release(&memory->memory);
+      return 0;
+    }
+  }
+  return 1;
+}
+
+static void release_all(onefile_memory *memory) {
+  release_callers(memory, ONEFILE_MOST_CALLERS);
+  release(&memory->memory);
+}
+
+/* Whether a caller is enrolled, if all are taken. */
+static int has_caller(const onefile_memory *memory) {
+  for (size_t i = 0; i < ONEFILE_MOST_CALLERS; i++) {
+    if (memory->caller[i].slot.state != 0) return 1;
+  }
+  return 0;
+}
+
+const char *onefile_version(void) { return ONEFILE_VERSION; }
+
+const char *onefile_name(int answer) {
+  static const char *const names[] = {
+      "ONEFILE_DONE",      "ONEFILE_NULL",    "ONEFILE_BUSY",      "ONEFILE_EMPTY",
+      "ONEFILE_FULL",      "ONEFILE_NO_MEMORY", "ONEFILE_RANGE",   "ONEFILE_TAKEN",
+      "ONEFILE_CALL_OPEN", "ONEFILE_NO_CALL", "ONEFILE_STOPPED",   "ONEFILE_SPENT",
+      "ONEFILE_NO_TICKET", "ONEFILE_NO_SCRIPT", "ONEFILE_IN_USE",  "ONEFILE_ABSENT"};
+  return answer >= 0 && (size_t)answer < sizeof names / sizeof *names ? names[answer]
+                                                                      : "ONEFILE_?";
+}
+
+/* ---- Memories. */
+
+int onefile_open(onefile_memory *memory, uint32_t callers, uint32_t blocks, uint32_t limit) {
+  if (!memory) return ONEFILE_NULL;
+  if (!claim_all(memory)) return ONEFILE_BUSY;
+  uint32_t answer = ONEFILE_FULL;
+  if (!has_caller(memory)) answer = of_c_open(callers, blocks, limit, &memory->memory.slot);
+  release_all(memory);
+  return (int)answer;
+}
+
+int onefile_reopen(onefile_memory *memory, onefile_saved *saved) {
+  if (!memory || !saved) return ONEFILE_NULL;
+  if (!claim(&saved->saved)) return ONEFILE_BUSY;
+  uint32_t answer = ONEFILE_BUSY;
+  if (claim_all(memory)) {
+    answer = ONEFILE_FULL;
+    if (!has_caller(memory)) answer = of_c_reopen(&saved->saved.slot, &memory->memory.slot);
+    release_all(memory);
+  }
+  release(&saved->saved);
+  return (int)answer;
+}
+
+int onefile_enrol(onefile_memory *memory, uint32_t number) {
+  if (!memory) return ONEFILE_NULL;
+  if (number >= ONEFILE_MOST_CALLERS) return ONEFILE_RANGE;
+  onefile_guarded *caller = &memory->caller[number];
+  if (!claim_both(&memory->memory, caller)) return ONEFILE_BUSY;
+  pair both = {memory->memory.slot, caller->slot};
+  uint32_t answer = of_c_enrol(&both, number);
+  memory->memory.slot = both.memory;
+  caller->slot = both.caller;
+  release(caller);
+  release(&memory->memory);
+  return (int)answer;
+}
+
+int onefile_leave(onefile_memory *memory, uint32_t number) {
+  if (!memory) return ONEFILE_NULL;
+  if (number >= ONEFILE_MOST_CALLERS) return ONEFILE_RANGE;
+  onefile_guarded *caller = &memory->caller[number];
+  if (!claim_both(&memory->memory, caller)) return ONEFILE_BUSY;
+  pair both = {memory->memory.slot, caller->slot};
+  uint32_t answer = of_c_leave(&both);
+  memory->memory.slot = both.memory;
+  caller->slot = both.caller;
+  release(caller);
+  release(&memory->memory);
+  return (int)answer;
+}
+
+int onefile_close(onefile_memory *memory, onefile_saved *saved) {
+  if (!memory || !saved) return ONEFILE_NULL;
+  if (!claim(&saved->saved)) return ONEFILE_BUSY;
+  uint32_t answer = ONEFILE_BUSY;
+  if (claim_all(memory)) {
+    answer = ONEFILE_IN_USE;
+    if (!has_caller(memory)) answer = of_c_close(&memory->memory.slot, &saved->saved.slot);
+    release_all(memory);
+  }
+  release(&saved->saved);
+  return (int)answer;
+}
+
+int onefile_free(onefile_memory *memory) {
+  if (!memory) return ONEFILE_NULL;
+  if (!claim_all(memory)) return ONEFILE_BUSY;
+  for (size_t i = 0; i < ONEFILE_MOST_CALLERS; i++) of_c_free(&memory->caller[i].slot);
+  uint32_t answer = of_c_free(&memory->memory.slot);
+  release_all(memory);
+  return (int)answer;
+}
+
+/* ---- Calls. */
+
+/* A length of 0 needs no pointer. */
+static const uint64_t no_words[1];
+static const uint8_t no_text[1];
+
+int onefile_call_within(onefile_memory *memory, uint32_t number, const uint64_t *words, size_t count,
+                        uint64_t steps, onefile_reply *reply) {
+  if (!memory || (!words && count > 0) || !reply) return ONEFILE_NULL;
+  if (number >= ONEFILE_MOST_CALLERS) return ONEFILE_RANGE;
+  onefile_guarded *caller = &memory->caller[number];
+  if (!claim(caller)) return ONEFILE_BUSY;
+  uint32_t answer = of_c_call(&caller->slot, words ? words : no_words, count, steps, reply);
+  release(caller);
+  return (int)answer;
+}
+
+int onefile_call(onefile_memory *memory, uint32_t number, const uint64_t *words, size_t count,
+                 onefile_reply *reply) {
+  return onefile_call_within(memory, number, words, count, ONEFILE_NO_END, reply);
+}
+
+int onefile_call_text_within(onefile_memory *memory, uint32_t number, const char *text,
+                             size_t length, uint64_t steps, onefile_reply *reply) {
+  if (!memory || (!text && length > 0) || !reply) return ONEFILE_NULL;
+  if (number >= ONEFILE_MOST_CALLERS) return ONEFILE_RANGE;
+  onefile_guarded *caller = &memory->caller[number];
+  if (!claim(caller)) return ONEFILE_BUSY;
+  const uint8_t *bytes = text ? (const uint8_t *)text : no_text;
+  uint32_t answer = of_c_call_text(&caller->slot, bytes, length, steps, reply);
+  release(caller);
+  return (int)answer;
+}
+
+int onefile_call_text(onefile_memory *memory, uint32_t number, const char *text, size_t length,
+                      onefile_reply *reply) {
+  return onefile_call_text_within(memory, number, text, length, ONEFILE_NO_END, reply);
+}
+
+int onefile_go_on(onefile_memory *memory, uint32_t number, uint64_t steps, onefile_reply *reply) {
+  if (!memory || !reply) return ONEFILE_NULL;
+  if (number >= ONEFILE_MOST_CALLERS) return ONEFILE_RANGE;
+  onefile_guarded *caller = &memory->caller[number];
+  if (!claim(caller)) return ONEFILE_BUSY;
+  uint32_t answer = of_c_go_on(&caller->slot, steps, reply);
+  release(caller);
+  return (int)answer;
+}
+
+/* ---- What was saved. */
+
+/* The call of one function on what was saved. */
+#define ON(saved, given, call)                         \
+  do {                                                 \
+    if (!(saved) || !(given)) return ONEFILE_NULL;     \
+    if (!claim(&(saved)->saved)) return ONEFILE_BUSY;  \
+    uint32_t answer = (call);                          \
+    release(&(saved)->saved);                          \
+    return (int)answer;                                \
+  } while (0)
+
+int onefile_register(onefile_saved *saved, uint32_t reg, uint32_t *value) {
+  ON(saved, value, of_c_register(&saved->saved.slot, reg, value));
+}
+
+int onefile_key(onefile_saved *saved, uint32_t key, uint32_t *value) {
+  ON(saved, value, of_c_key(&saved->saved.slot, key, value));
+}
+
+int onefile_item(onefile_saved *saved, uint32_t queue, uint32_t at, uint32_t *value) {
+  ON(saved, value, of_c_item(&saved->saved.slot, queue, at, value));
+}
+
+int onefile_ticket(onefile_saved *saved, uint32_t number, uint32_t *ticket) {
+  ON(saved, ticket, of_c_ticket(&saved->saved.slot, number, ticket));
+}
+
+int onefile_last_reply(onefile_saved *saved, uint32_t number, onefile_reply *reply) {
+  ON(saved, reply, of_c_last_reply(&saved->saved.slot, number, reply));
+}
+
+int onefile_free_saved(onefile_saved *saved) {
+  ON(saved, saved, of_c_free(&saved->saved.slot));
+}

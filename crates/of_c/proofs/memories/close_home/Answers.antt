@@ -1,0 +1,15 @@
+use Rattle.std.proofs.Common.{refl, sym, subst}
+use Rattle.std.specs.Prelude.{Option}
+use Rattle.of_c.specs.declared.held.Held.{Held}
+use Rattle.of_c.specs.Slots.{HoldsSaved}
+use Rattle.of_c.proofs.memories.close_home.Goals as goal
+
+pub returns-in-Ok-clause-closed : goal.returns-in-Ok-clause-closed
+returns-in-Ok-clause-closed c done = record {
+  memory = c.args.home.memory;
+  was = refl;
+  left = c.in-Ok.left;
+  is = subst (λ (h : Option Held). HoldsSaved h c.in-Ok.left) (sym c.put.ensures) refl;
+  history = c.in-Ok.ensures.history;
+  count = c.in-Ok.ensures.callers;
+}

@@ -1,0 +1,10 @@
+use Rattle.std.proofs.Common.{◌∙◌, ap, sym, subst}
+use Rattle.std.specs.Prelude.{Option, Some}
+use Rattle.of_c.specs.declared.held.Held.{Held}
+use Rattle.of_c.specs.Lives.{HoldsClosed}
+use Rattle.of_c.proofs.memories.of_c_close.Goals as goal
+
+pub returns-clause-closed : goal.returns-clause-closed
+returns-clause-closed c done =
+    subst (λ (h : Option Held). HoldsClosed h c.close_home.new.saved.raw.held)
+    (ap Some c.in-Memory-into_inner.ensures ∙ sym c.in-Some.ensures.some) (c.close_home.ensures.closed done)

@@ -1,0 +1,119 @@
+-- What C is told of a call, and what the call has come to.
+use Rattle.std.specs.Prelude.{◌≡◌, ℕ, ◌==◌, if◌then◌else◌, List, map, Option, Some, None, Result, Ok, Err}
+use Rattle.of_script.specs.declared.instr.Instr.{Instr}
+use Rattle.of_script.specs.Language.{IsScript, instr_word}
+use Rattle.of_script.specs.Text.{SpellsScript}
+use Rattle.of_plan.specs.declared.answer.Answer.{Answer}
+use Rattle.of_memory.specs.declared.handle.Handle.{Handle}
+use Rattle.of_memory.specs.declared.error.RunErr.{RunErr}
+use Rattle.of_memory.specs.declared.error.RunErr.TheVariants.{OutOfMemory, Stopped, Spent, Open, NoTicket}
+use Rattle.of_memory.specs.Called.{LeavesAsItWas}
+use Rattle.of_memory.specs.Handles.{IsSame, MakesCall, StaysOpenOnlyIfStopped, RefusesCall, OpensOnly}
+use Rattle.of_memory.specs.Handles.{ResumesCall, OpenCallStays, RefusesToGoOn, OpensNone}
+use Rattle.of_memory.specs.Handles.{steps_so_far, step_bound_of}
+use Rattle.of_memory.specs.Within.{EndsWithin, KeepsToStop}
+use Rattle.of_c.specs.declared.codes.TheConstants.{DONE, EMPTY, NO_MEMORY, NO_TICKET, SPENT, STOPPED, CALL_OPEN}
+use Rattle.of_c.specs.declared.held.Held.{Held}
+use Rattle.of_c.specs.declared.held.Held.TheVariants.{Nothing, Memory, Caller, Saved}
+use Rattle.of_c.specs.declared.reply.CReply.{CReply}
+use Rattle.of_c.specs.Replies.{ShowsAnswer}
+use Rattle.of_c.specs.Slots.{HasHandle}
+
+-- how many steps C gives: the greatest number is no end
+abbrev pub step_limit : ℕ → Option ℕ
+step_limit steps = if steps == 18446744073709551615 then None else Some steps
+
+-- The code and the reply tell what a call has come to. The open code tells that a call is open that
+-- must not be, or that none is.
+abbrev pub Tells : (open_code : ℕ) → Result Answer RunErr → (code : ℕ) → CReply → Type 0
+Tells o (Ok a) code r = (code ≡ DONE) × ShowsAnswer a r
+Tells o (Err OutOfMemory) code r = code ≡ NO_MEMORY
+Tells o (Err (Stopped asked)) code r = (code ≡ STOPPED) × (r.steps ≡ asked)
+Tells o (Err (Spent seq)) code r = (code ≡ SPENT) × (r.seq ≡ seq)
+Tells o (Err Open) code r = code ≡ o
+Tells o (Err NoTicket) code r = code ≡ NO_TICKET
+
+-- a call of this script has come to this, and the handle to that
+pub record CallsScript (script : List Instr) (stop : Option ℕ) (h : Handle)
+    (a : Result Answer RunErr) (k : Handle) : Type 0 where
+  pub same : IsSame h k
+  pub made : MakesCall script a h k
+  pub open_call : StaysOpenOnlyIfStopped script a k
+  pub cause : RefusesCall h a
+  pub unmade : LeavesAsItWas a h k
+  pub bound : EndsWithin (step_bound_of h) a
+  pub within : KeepsToStop 0 stop (steps_so_far k) a
+  pub only : OpensOnly script h k
+
+-- so has the call that was open
+pub record GoesOn (stop : Option ℕ) (h : Handle) (a : Result Answer RunErr) (k : Handle)
+    : Type 0 where
+  pub same : IsSame h k
+  pub made : ResumesCall a h k
+  pub open_call : OpenCallStays a h k
+  pub cause : RefusesToGoOn h a
+  pub unmade : LeavesAsItWas a h k
+  pub bound : EndsWithin (step_bound_of h) a
+  pub within : KeepsToStop (steps_so_far h) stop (steps_so_far k) a
+  pub only : OpensNone h k
+
+-- what a call does with a handle
+abbrev pub CallWork : Type 1
+CallWork = Handle → Result Answer RunErr → Handle → Type 0
+
+-- the caller is held still, and the code and the reply tell what the call has come to
+pub record HasCalled (Does : CallWork) (open_code : ℕ) (h : Handle) (now : Held) (reply : CReply)
+    (code : ℕ) : Type 0 where
+  pub handle : Handle
+  pub held : HasHandle now handle
+  pub answer : Result Answer RunErr
+  pub tells : Tells open_code answer code reply
+  pub does : Does h answer handle
+
+-- nothing has changed, and the code tells that no caller is held
+pub record HasNoCaller (before now : Held) (code : ℕ) : Type 0 where
+  pub code_is : code ≡ EMPTY
+  pub same : now ≡ before
+
+-- a call of what is held, which may be no caller
+abbrev pub CallsHeld : CallWork → (open_code : ℕ) → (before now : Held) → CReply → (code : ℕ)
+    → Type 0
+CallsHeld Does o (Caller s) now reply code = HasCalled Does o s.handle now reply code
+CallsHeld Does o Nothing now reply code = HasNoCaller Nothing now code
+CallsHeld Does o (Memory m) now reply code = HasNoCaller (Memory m) now code
+CallsHeld Does o (Saved d) now reply code = HasNoCaller (Saved d) now code
+
+-- something is held still, and was called
+pub record CallsSome (Does : CallWork) (open_code : ℕ) (before : Held) (now : Option Held)
+    (reply : CReply) (code : ℕ) : Type 0 where
+  pub held : Held
+  pub is : now ≡ Some held
+  pub calls : CallsHeld Does open_code before held reply code
+
+-- a call of what a slot holds: if that is no caller, the code tells it and nothing has changed
+abbrev pub CallsSlot : CallWork → (open_code : ℕ) → (before now : Option Held) → CReply
+    → (code : ℕ) → Type 0
+CallsSlot Does o None now reply code = (code ≡ EMPTY) × (now ≡ None)
+CallsSlot Does o (Some before) now reply code = CallsSome Does o before now reply code
+
+-- a call of the script with these words, if they are one's
+abbrev pub CallsWords : List ℕ → (stop : Option ℕ) → (before now : Option Held) → CReply
+    → (code : ℕ) → Type 0
+CallsWords words stop before now reply code =
+    (script : List Instr) → IsScript script → map instr_word script ≡ words
+    → CallsSlot (CallsScript script stop) CALL_OPEN before now reply code
+
+-- these are no script's words
+abbrev pub AreNoScript : List ℕ → Type 0
+AreNoScript words = (script : List Instr) → IsScript script → map instr_word script ≡ words → ⊥
+
+-- a call of the script that this text spells, if it spells one
+abbrev pub CallsText : List ℕ → (stop : Option ℕ) → (before now : Option Held) → CReply
+    → (code : ℕ) → Type 0
+CallsText text stop before now reply code =
+    (script : List Instr) → SpellsScript text script
+    → CallsSlot (CallsScript script stop) CALL_OPEN before now reply code
+
+-- this text spells none
+abbrev pub IsNoText : List ℕ → Type 0
+IsNoText text = (script : List Instr) → SpellsScript text script → ⊥

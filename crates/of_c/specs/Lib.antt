@@ -1,0 +1,6 @@
+pub mod Holding
+pub mod Slots
+pub mod Replies
+pub mod Calls
+pub mod Lives
+pub mod States

@@ -1,0 +1,38 @@
+-- What is read of what a memory has left.
+use Rattle.std.specs.Prelude.{◌≡◌, ◌≢◌, ℕ, ◌<◌, Option}
+use Rattle.of_script.specs.declared.instr.Reply.{Reply}
+use Rattle.of_store.specs.Store.{Store}
+use Rattle.of_store.specs.Replies.{reply_value_of}
+use Rattle.of_memory.specs.declared.saved.Saved.{Saved}
+use Rattle.of_memory.specs.Saving.{SavedHolds, HoldsReply, saved_callers, saved_ticket}
+use Rattle.of_c.specs.declared.codes.TheConstants.{DONE, ABSENT}
+use Rattle.of_c.specs.declared.held.Held.{Held}
+use Rattle.of_c.specs.declared.reply.CReply.{CReply}
+use Rattle.of_c.specs.Replies.{ShowsReply}
+use Rattle.of_c.specs.Slots.{HoldsSaved}
+
+-- nothing is told
+abbrev pub TellsNothing : (code : ℕ) → Type 0
+TellsNothing code = (code ≢ DONE) × (code ≢ ABSENT)
+
+-- what is held holds a store of which this is so
+pub record HoldsStore (held : Option Held) (P : Store → Type 0) : Type 0 where
+  pub left : Saved
+  pub is : HoldsSaved held left
+  pub store : Store
+  pub holds : SavedHolds left store
+  pub so : P store
+
+-- what is held has a caller of this number, of which this is so
+pub record HasCallerWith (held : Option Held) (number : ℕ) (P : Saved → Type 0) : Type 0 where
+  pub left : Saved
+  pub is : HoldsSaved held left
+  pub there : number < saved_callers left
+  pub so : P left
+
+-- the reply shows the last call of the caller that is held, and its number
+pub record ShowsLast (number : ℕ) (r : CReply) (left : Saved) : Type 0 where
+  pub ticket : r.ticket ≡ saved_ticket left number
+  pub reply : Reply
+  pub held : HoldsReply left number (reply_value_of reply)
+  pub shows : ShowsReply reply r

@@ -1,0 +1,177 @@
+//! What C does with a caller: calls of scripts.
+
+ghost use Rattle.std.specs.Prelude.{◌≡◌};
+ghost use Rattle.of_script.specs.Text.{IsFault};
+ghost use Rattle.of_c.specs.declared.codes.TheConstants.{CALL_OPEN, NO_CALL, NO_SCRIPT};
+ghost use Rattle.of_c.specs.Calls.{step_limit, Tells, CallsScript, GoesOn, CallsHeld, CallsSlot};
+ghost use Rattle.of_c.specs.Calls.{CallsWords, AreNoScript, CallsText, IsNoText};
+
+use crate::codes::{
+    CALL_OPEN, DONE, EMPTY, NO_CALL, NO_MEMORY, NO_SCRIPT, NO_TICKET, SPENT, STOPPED,
+};
+use crate::held::{Held, Seat};
+use crate::reply::CReply;
+use crate::slot::Slot;
+use crate::truth::{OfHandle, surely};
+use of_memory::{Answer, Handle, RunErr, Script, ScriptErr, parse};
+use of_script::from_words;
+use std::alloc::Global;
+
+// As many steps as C says; the greatest number is no end.
+fn limit_of(steps: u64) -> Option<u64>
+    ensures { result ≡ step_limit steps }
+{
+    if steps == u64::MAX { None } else { Some(steps) }
+}
+
+// The code of what a call has come to, which the reply tells. `open_code` is the code if a call is
+// open that must not be, or none is.
+fn code_of(ended: Result<Answer, RunErr>, open_code: u32, reply: &mut CReply) -> u32
+    ensures { Tells open_code ended result reply.new }
+{
+    match ended {
+        Ok(answer) => {
+            reply.tell(&answer);
+            DONE
+        }
+        Err(RunErr::OutOfMemory) => NO_MEMORY,
+        Err(RunErr::Stopped { asked }) => {
+            reply.steps = asked;
+            STOPPED
+        }
+        Err(RunErr::Spent { seq }) => {
+            reply.seq = seq;
+            SPENT
+        }
+        Err(RunErr::Open) => open_code,
+        Err(RunErr::NoTicket) => NO_TICKET,
+    }
+}
+
+impl Seat {
+    // Runs a script, for at most so many steps.
+    fn run(&mut self, script: &Script, limit: Option<u64>) -> Result<Answer, RunErr>
+        ensures { CallsScript script.now limit self.old.handle result self.new.handle }
+    {
+        surely::<Handle, OfHandle>(&self.handle);
+        match limit {
+            Some(steps) => self.handle.run_within(script, steps),
+            None => self.handle.run(script),
+        }
+    }
+
+    // Goes on with the open call, for at most so many steps.
+    fn go_on(&mut self, limit: Option<u64>) -> Result<Answer, RunErr>
+        ensures { GoesOn limit self.old.handle result self.new.handle }
+    {
+        surely::<Handle, OfHandle>(&self.handle);
+        match limit {
+            Some(steps) => self.handle.go_on_within(steps),
+            None => self.handle.go_on(),
+        }
+    }
+}
+
+// Runs a script, if a caller is held.
+fn run_held(held: &mut Held, script: &Script, limit: Option<u64>, reply: &mut CReply) -> u32
+    ensures { CallsHeld (CallsScript script.now limit) CALL_OPEN
+        held.old held.new reply.new result }
+{
+    match held {
+        Held::Caller(seat) => code_of(seat.run(script, limit), CALL_OPEN, reply),
+        _ => EMPTY,
+    }
+}
+
+// Goes on with the open call, if a caller is held.
+fn go_on_held(held: &mut Held, limit: Option<u64>, reply: &mut CReply) -> u32
+    ensures { CallsHeld (GoesOn limit) NO_CALL held.old held.new reply.new result }
+{
+    match held {
+        Held::Caller(seat) => code_of(seat.go_on(limit), NO_CALL, reply),
+        _ => EMPTY,
+    }
+}
+
+// Runs a script, if the slot holds a caller.
+fn run_in(
+    alloc: Global,
+    caller: &mut Slot,
+    script: &Script,
+    limit: Option<u64>,
+    reply: &mut CReply,
+) -> u32
+    ensures { CallsSlot (CallsScript script.now limit) CALL_OPEN
+        caller.old.raw.held caller.new.raw.held reply.new result }
+{
+    let Some(mut held) = caller.take(alloc) else {
+        return EMPTY;
+    };
+    let code = run_held(&mut held, script, limit, reply);
+    caller.put(held);
+    code
+}
+
+/// Runs the script of 1 to 16 words, for at most so many steps.
+#[unsafe(no_mangle)]
+pub extern "C" fn of_c_call(
+    alloc: Global,
+    caller: &mut Slot,
+    words: &[u64],
+    steps: u64,
+    reply: &mut CReply,
+) -> u32
+    ensures runs { CallsWords words.now (step_limit steps)
+        caller.old.raw.held caller.new.raw.held reply.new result }
+    ensures code { AreNoScript words.now → result ≡ NO_SCRIPT }
+    ensures same { AreNoScript words.now → caller.new.raw.held ≡ caller.old.raw.held }
+{
+    match from_words(words) {
+        Some(script) => run_in(alloc, caller, &script, limit_of(steps), reply),
+        None => NO_SCRIPT,
+    }
+}
+
+/// Runs the script that a text spells, for at most so many steps. If it spells none, the reply's
+/// `place` is the piece at fault.
+#[unsafe(no_mangle)]
+pub extern "C" fn of_c_call_text(
+    alloc: Global,
+    caller: &mut Slot,
+    text: &[u8],
+    steps: u64,
+    reply: &mut CReply,
+) -> u32
+    ensures runs { CallsText text.now (step_limit steps)
+        caller.old.raw.held caller.new.raw.held reply.new result }
+    ensures code { IsNoText text.now → result ≡ NO_SCRIPT }
+    ensures same { IsNoText text.now → caller.new.raw.held ≡ caller.old.raw.held }
+    ensures place { IsNoText text.now → IsFault text.now reply.new.place }
+{
+    match parse(text) {
+        Ok(script) => run_in(alloc, caller, &script, limit_of(steps), reply),
+        Err(ScriptErr::Bad { at }) => {
+            reply.place = at;
+            NO_SCRIPT
+        }
+    }
+}
+
+/// Goes on with the open call, for at most so many steps.
+#[unsafe(no_mangle)]
+pub extern "C" fn of_c_go_on(
+    alloc: Global,
+    caller: &mut Slot,
+    steps: u64,
+    reply: &mut CReply,
+) -> u32
+    ensures { CallsSlot (GoesOn (step_limit steps)) NO_CALL
+        caller.old.raw.held caller.new.raw.held reply.new result }
+{
+    let Some(mut held) = caller.take(alloc) else {
+        return EMPTY;
+    };
+    let code = go_on_held(&mut held, limit_of(steps), reply);
+    caller.put(held);
+    code
+}

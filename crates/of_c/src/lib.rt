@@ -1,0 +1,21 @@
+//! A memory, its callers and what it leaves, for C: each call tests what it is given and answers a
+//! code. The header c/onefile.h is the manual.
+#![tactic(auto)]
+
+mod callers;
+mod codes;
+mod held;
+mod memories;
+mod pair;
+mod parts;
+mod raw;
+mod reply;
+mod slot;
+mod states;
+mod truth;
+
+pub use held::{Held, Home, Kept, Seat};
+pub use pair::Pair;
+pub use raw::Raw;
+pub use reply::CReply;
+pub use slot::Slot;

@@ -1,0 +1,237 @@
+//! What C does with a memory: opens it, enrols callers, and closes it.
+
+ghost use Rattle.std.specs.Prelude.{◌≡◌, ◌≢◌, IsSome, None, Some};
+ghost use Rattle.of_c.specs.declared.codes.TheConstants.{DONE};
+ghost use Rattle.of_c.specs.declared.held.Held.TheVariants.{Memory as HeldMemory};
+ghost use Rattle.of_c.specs.Slots.{HoldsMemory, AreOfOne};
+ghost use Rattle.of_c.specs.Lives.{HoldsEmpty, HoldsNext, HoldsEnrolled, HoldsLeft, HoldsClosed};
+ghost use Rattle.of_c.specs.Lives.{HoldsStill};
+
+use crate::codes::{DONE, EMPTY, FULL, IN_USE, NO_MEMORY, RANGE, TAKEN};
+use crate::held::{Held, Home, Kept, Seat};
+use crate::pair::Pair;
+use crate::slot::Slot;
+use crate::truth::{OfHandle, OfMemory, OfPair, OfSaved, surely};
+use of_memory::{EnrolErr, Handle, InUse, Memory, OpenErr, Saved};
+use std::alloc::Global;
+
+/// An empty memory: 1 to 16 callers, at most 512 blocks, sequences up to a limit.
+#[unsafe(no_mangle)]
+pub extern "C" fn of_c_open(
+    alloc: Global,
+    callers: u32,
+    blocks: u32,
+    limit: u32,
+    memory: &mut Slot,
+) -> u32
+    ensures opened { result ≡ DONE → HoldsEmpty callers blocks memory.new.raw.held }
+    ensures refused { result ≢ DONE → memory.new.raw.held ≡ memory.old.raw.held }
+{
+    if !memory.is_empty() {
+        return FULL;
+    }
+    match Memory::open(alloc, callers, blocks, limit) {
+        Ok(opened) => memory.keep(alloc, Held::Memory(Home { memory: opened })),
+        Err(OpenErr::OutOfMemory(_)) => NO_MEMORY,
+        Err(_) => RANGE,
+    }
+}
+
+// A memory that goes on from what is held, if a memory has left it.
+fn reopen_held(alloc: Global, held: &Held, memory: &mut Slot) -> u32
+    ensures reopened { result ≡ DONE → HoldsNext (Some held.now) memory.new.raw.held }
+    ensures refused { result ≢ DONE → memory.new.raw.held ≡ memory.old.raw.held }
+{
+    match held {
+        Held::Saved(kept) => {
+            surely::<Saved, OfSaved>(&kept.saved);
+            match Memory::reopen(alloc, &kept.saved) {
+                Ok(opened) => memory.keep(alloc, Held::Memory(Home { memory: opened })),
+                Err(_) => NO_MEMORY,
+            }
+        }
+        _ => EMPTY,
+    }
+}
+
+/// A memory that goes on from what another one has left.
+#[unsafe(no_mangle)]
+pub extern "C" fn of_c_reopen(alloc: Global, saved: &mut Slot, memory: &mut Slot) -> u32
+    ensures reopened { result ≡ DONE → HoldsNext saved.old.raw.held memory.new.raw.held }
+    ensures refused { result ≢ DONE → memory.new.raw.held ≡ memory.old.raw.held }
+    ensures same { saved.new.raw.held ≡ saved.old.raw.held }
+{
+    if !memory.is_empty() {
+        return FULL;
+    }
+    let Some(held) = saved.take(alloc) else {
+        return EMPTY;
+    };
+    let code = reopen_held(alloc, &held, memory);
+    saved.put(held);
+    code
+}
+
+// Enrols a caller into a place, if a memory is held. The place is dropped if that fails.
+fn enrol_held(held: &mut Held, number: u32, mut place: Box<Held, Global>, caller: &mut Slot) -> u32
+    requires { caller.old.raw.held ≡ None }
+    ensures of_one { AreOfOne (Some held.new) caller.new.raw.held }
+    ensures enrolled { result ≡ DONE
+        → HoldsEnrolled number (Some held.old) (Some held.new) caller.new.raw.held }
+    ensures refused { result ≢ DONE → caller.new.raw.held ≡ None }
+{
+    match held {
+        Held::Memory(home) => {
+            surely::<Memory, OfMemory>(&home.memory);
+            match home.memory.enrol(number) {
+                Ok(handle) => {
+                    *place = Held::Caller(Seat { handle });
+                    caller.put(place);
+                    DONE
+                }
+                Err(EnrolErr::OutOfMemory(_)) => NO_MEMORY,
+                Err(EnrolErr::NoCaller { number: _ }) => RANGE,
+                Err(EnrolErr::Enrolled { number: _ }) => TAKEN,
+            }
+        }
+        _ => EMPTY,
+    }
+}
+
+/// Enrols the caller with this number.
+#[unsafe(no_mangle)]
+pub extern "C" fn of_c_enrol(alloc: Global, pair: &mut Pair, number: u32) -> u32
+    ensures enrolled { result ≡ DONE → HoldsEnrolled number
+        pair.old.memory.raw.held pair.new.memory.raw.held pair.new.caller.raw.held }
+    ensures refused { result ≢ DONE → pair.new.caller.raw.held ≡ pair.old.caller.raw.held }
+{
+    if !pair.caller.is_empty() {
+        return TAKEN;
+    }
+    let Ok(place) = Box::new(alloc, Held::Nothing) else {
+        return NO_MEMORY;
+    };
+    let Some(mut held) = pair.memory.take(alloc) else {
+        return EMPTY;
+    };
+    let code = enrol_held(&mut held, number, place, &mut pair.caller);
+    pair.memory.put(held);
+    code
+}
+
+// The caller leaves the memory, if both are held. Otherwise it is held again.
+fn leave_held(held: &mut Held, seat: Box<Held, Global>, caller: &mut Slot) -> u32
+    requires empty { caller.old.raw.held ≡ None }
+    requires of_one { AreOfOne (Some held.old) (Some seat.value) }
+    ensures of_one { AreOfOne (Some held.new) caller.new.raw.held }
+    ensures left { result ≡ DONE → HoldsLeft (Some held.old) (Some seat.value) (Some held.new) }
+    ensures gone { result ≡ DONE → caller.new.raw.held ≡ None }
+    ensures refused { result ≢ DONE → caller.new.raw.held ≡ Some seat.value }
+    ensures same { result ≢ DONE → held.new ≡ held.old }
+{
+    let Held::Memory(home) = held else {
+        caller.put(seat);
+        return EMPTY;
+    };
+    if !matches!(&*seat, Held::Caller(_)) {
+        caller.put(seat);
+        return EMPTY;
+    }
+    match Box::into_inner(seat) {
+        Held::Caller(seat) => {
+            surely::<Memory, OfMemory>(&home.memory);
+            surely::<Handle, OfHandle>(&seat.handle);
+            seat.handle.leave(&mut home.memory);
+            DONE
+        }
+        _ => unreachable!(),
+    }
+}
+
+/// The caller leaves. An open call stays open, and its number is free again.
+#[unsafe(no_mangle)]
+pub extern "C" fn of_c_leave(alloc: Global, pair: &mut Pair) -> u32
+    ensures left { result ≡ DONE → HoldsLeft
+        pair.old.memory.raw.held pair.old.caller.raw.held pair.new.memory.raw.held }
+    ensures gone { result ≡ DONE → pair.new.caller.raw.held ≡ None }
+    ensures refused { result ≢ DONE → pair.new.caller.raw.held ≡ pair.old.caller.raw.held }
+    ensures same { result ≢ DONE → pair.new.memory.raw.held ≡ pair.old.memory.raw.held }
+{
+    surely::<Pair, OfPair>(pair);
+    let Some(mut held) = pair.memory.take(alloc) else {
+        return EMPTY;
+    };
+    let Some(seat) = pair.caller.take(alloc) else {
+        pair.memory.put(held);
+        return EMPTY;
+    };
+    let code = leave_held(&mut held, seat, &mut pair.caller);
+    pair.memory.put(held);
+    code
+}
+
+// Closes a memory. Either what it has left is held, or the memory again.
+fn close_home(home: Home, mut place: Box<Held, Global>, memory: &mut Slot, saved: &mut Slot) -> u32
+    requires { memory.old.raw.held ≡ None }
+    ensures closed { result ≡ DONE
+        → HoldsClosed (Some (HeldMemory home)) saved.new.raw.held }
+    ensures gone { result ≡ DONE → memory.new.raw.held ≡ None }
+    ensures refused { result ≢ DONE → saved.new.raw.held ≡ saved.old.raw.held }
+    ensures back { result ≢ DONE → HoldsMemory memory.new.raw.held home.memory }
+{
+    surely::<Memory, OfMemory>(&home.memory);
+    match home.memory.close() {
+        Ok(left) => {
+            *place = Held::Saved(Kept { saved: left });
+            saved.put(place);
+            DONE
+        }
+        Err(InUse(again)) => {
+            *place = Held::Memory(Home { memory: again });
+            memory.put(place);
+            IN_USE
+        }
+    }
+}
+
+/// Closes a memory: what is durable is recovered and saved.
+#[unsafe(no_mangle)]
+pub extern "C" fn of_c_close(alloc: Global, memory: &mut Slot, saved: &mut Slot) -> u32
+    ensures closed { result ≡ DONE → HoldsClosed memory.old.raw.held saved.new.raw.held }
+    ensures gone { result ≡ DONE → memory.new.raw.held ≡ None }
+    ensures refused { result ≢ DONE → saved.new.raw.held ≡ saved.old.raw.held }
+    ensures back { result ≢ DONE → HoldsStill memory.old.raw.held memory.new.raw.held }
+{
+    if !saved.is_empty() {
+        return FULL;
+    }
+    let Ok(place) = Box::new(alloc, Held::Nothing) else {
+        return NO_MEMORY;
+    };
+    let Some(held) = memory.take(alloc) else {
+        return EMPTY;
+    };
+    if !matches!(&*held, Held::Memory(_)) {
+        memory.put(held);
+        return EMPTY;
+    }
+    match Box::into_inner(held) {
+        Held::Memory(home) => close_home(home, place, memory, saved),
+        _ => unreachable!(),
+    }
+}
+
+/// Lets go what a slot holds.
+#[unsafe(no_mangle)]
+pub extern "C" fn of_c_free(alloc: Global, slot: &mut Slot) -> u32
+    ensures gone { slot.new.raw.held ≡ None }
+    ensures done { result ≡ DONE → IsSome slot.old.raw.held }
+{
+    match slot.take(alloc) {
+        Some(held) => {
+            drop(held);
+            DONE
+        }
+        None => EMPTY,
+    }
+}

@@ -1,0 +1,112 @@
+//! A reply as C reads it.
+
+ghost use Rattle.std.specs.Prelude.{◌≡◌};
+ghost use Rattle.of_c.specs.Replies.{given_flag, given_number, cause_number, ShowsEach};
+
+use of_memory::{Abort, Answer, Cause, Reply};
+use of_script::MOST_INSTRS;
+
+/// A reply as C reads it.
+#[repr(C)]
+#[derive(Drop)]
+pub struct CReply {
+    /// The sequence at which the call took effect.
+    pub seq: u32,
+    /// 1 if the call was announced, 0 if it only read.
+    pub announced: u32,
+    /// How many instructions the script has.
+    pub len: u32,
+    /// The instruction that aborted, from 0, if `cause` is not 0.
+    pub place: u32,
+    /// Why the script aborted; 0 if it did not.
+    pub cause: u32,
+    /// Of a last reply, the number of its call.
+    pub ticket: u32,
+    /// How many steps the call made; if it was stopped, how many it has asked for.
+    pub steps: u64,
+    /// 1 for each instruction that answered a number, 0 for the others.
+    pub given: [u32; MOST_INSTRS],
+    /// The numbers.
+    pub values: [u32; MOST_INSTRS],
+}
+
+// 1 for a number, 0 for none.
+fn flag_of(value: Option<u32>) -> u32
+    ensures { result ≡ given_flag value }
+{
+    match value {
+        Some(_) => 1,
+        None => 0,
+    }
+}
+
+// The number; 0 for none.
+fn number_of(value: Option<u32>) -> u32
+    ensures { result ≡ given_number value }
+{
+    match value {
+        Some(number) => number,
+        None => 0,
+    }
+}
+
+// Which values are numbers.
+fn flags_of(values: [Option<u32>; MOST_INSTRS]) -> [u32; MOST_INSTRS]
+    ensures { ShowsEach given_flag values result }
+{
+    values.map(|value| flag_of(value))
+}
+
+// The numbers.
+fn numbers_of(values: [Option<u32>; MOST_INSTRS]) -> [u32; MOST_INSTRS]
+    ensures { ShowsEach given_number values result }
+{
+    values.map(|value| number_of(value))
+}
+
+// The number of a cause.
+fn number_of_cause(cause: Cause) -> u32
+    ensures { result ≡ cause_number cause }
+{
+    match cause {
+        Cause::Overflow => 1,
+        Cause::Short => 2,
+        Cause::NoRoom => 3,
+        Cause::Differs => 4,
+        Cause::BadOp => 5,
+    }
+}
+
+impl CReply {
+    ghost use Rattle.of_c.specs.Replies.{ShowsReply, ShowsAnswer};
+
+    /// Writes what a script answered.
+    pub(crate) fn show(&mut self, reply: &Reply)
+        ensures { ShowsReply reply.now self.new }
+    {
+        self.len = u32::from(reply.len);
+        self.given = flags_of(reply.values);
+        self.values = numbers_of(reply.values);
+        match reply.abort {
+            Some(Abort { place, cause }) => {
+                self.place = u32::from(place);
+                self.cause = number_of_cause(cause);
+            }
+            None => {
+                self.place = 0;
+                self.cause = 0;
+            }
+        }
+    }
+
+    /// Writes the answer of a call.
+    pub(crate) fn tell(&mut self, answer: &Answer)
+        ensures { ShowsAnswer answer.now self.new }
+    {
+        self.show(&answer.reply);
+        self.seq = answer.seq;
+        self.announced = u32::from(answer.announced);
+        self.ticket = 0;
+        self.steps = answer.steps;
+    }
+}

@@ -1,0 +1,222 @@
+//! What C reads of what a memory has left.
+
+ghost use Rattle.std.specs.Prelude.{◌≡◌, ◌≢◌, ◌<◌, IfErr, IfOk, None, Some, slice_get};
+ghost use Rattle.std.specs.FinMap as fm;
+ghost use Rattle.of_store.specs.Store.{register as register_of, queue as queue_of};
+ghost use Rattle.of_script.specs.declared.instr.TheConstants.{QUEUES};
+ghost use Rattle.of_memory.specs.Saving.{saved_ticket};
+ghost use Rattle.of_c.specs.declared.codes.TheConstants.{ABSENT, DONE};
+ghost use Rattle.of_c.specs.States.{HoldsStore, HasCallerWith, ShowsLast, TellsNothing};
+
+use crate::codes::{ABSENT, DONE, EMPTY, NO_MEMORY, RANGE};
+use crate::held::Held;
+use crate::reply::CReply;
+use crate::slot::Slot;
+use crate::truth::{OfSaved, surely};
+use of_memory::{Saved, Store};
+use of_script::{GREATEST, QUEUES, REGISTERS};
+use std::alloc::Global;
+
+// The store of what is held, or a code.
+fn store_held(alloc: Global, held: &Held) -> Result<Store, u32>
+    ensures store { IfOk result (λ s. HoldsStore (Some held.now) (λ t. t ≡ s)) }
+    ensures code { IfErr result TellsNothing }
+{
+    match held {
+        Held::Saved(kept) => {
+            surely::<Saved, OfSaved>(&kept.saved);
+            match kept.saved.store(alloc) {
+                Ok(store) => Ok(store),
+                Err(_) => Err(NO_MEMORY),
+            }
+        }
+        _ => Err(EMPTY),
+    }
+}
+
+// The store of what a memory has left, or a code. The slot holds what it held.
+fn store_in(alloc: Global, saved: &mut Slot) -> Result<Store, u32>
+    ensures store { IfOk result (λ s. HoldsStore saved.old.raw.held (λ t. t ≡ s)) }
+    ensures code { IfErr result TellsNothing }
+    ensures same { saved.new.raw.held ≡ saved.old.raw.held }
+{
+    let Some(held) = saved.take(alloc) else {
+        return Err(EMPTY);
+    };
+    let store = store_held(alloc, &held);
+    saved.put(held);
+    store
+}
+
+// Tells a number, if there is one.
+fn tell(number: Option<u32>, value: &mut u32) -> u32
+    ensures some { result ≡ DONE → number ≡ Some value.new }
+    ensures none { result ≡ ABSENT → number ≡ None }
+    ensures unread { result ≢ DONE → value.new ≡ value.old }
+{
+    match number {
+        Some(number) => {
+            *value = number;
+            DONE
+        }
+        None => ABSENT,
+    }
+}
+
+// An item of a queue, from the front.
+fn item_of(store: &Store, queue: u32, at: u32) -> Option<u32>
+    requires { queue < QUEUES }
+    ensures { result ≡ slice_get (queue_of store.now queue) at }
+{
+    store.queue(queue).get(at as usize).copied()
+}
+
+/// The number in a register.
+#[unsafe(no_mangle)]
+pub extern "C" fn of_c_register(
+    alloc: Global,
+    saved: &mut Slot,
+    register: u32,
+    value: &mut u32,
+) -> u32
+    ensures read { result ≡ DONE → HoldsStore saved.old.raw.held
+        (λ s. value.new ≡ register_of s register) }
+    ensures same { saved.new.raw.held ≡ saved.old.raw.held }
+    ensures unread { result ≢ DONE → value.new ≡ value.old }
+{
+    if register as usize >= REGISTERS {
+        return RANGE;
+    }
+    match store_in(alloc, saved) {
+        Ok(store) => {
+            *value = store.register(register);
+            DONE
+        }
+        Err(code) => code,
+    }
+}
+
+/// The number at a key.
+#[unsafe(no_mangle)]
+pub extern "C" fn of_c_key(alloc: Global, saved: &mut Slot, key: u32, value: &mut u32) -> u32
+    ensures read { result ≡ DONE → HoldsStore saved.old.raw.held
+        (λ s. fm.get s.keys key ≡ Some value.new) }
+    ensures absent { result ≡ ABSENT → HoldsStore saved.old.raw.held
+        (λ s. fm.get s.keys key ≡ None) }
+    ensures same { saved.new.raw.held ≡ saved.old.raw.held }
+    ensures unread { result ≢ DONE → value.new ≡ value.old }
+{
+    if key > GREATEST {
+        return RANGE;
+    }
+    match store_in(alloc, saved) {
+        Ok(store) => tell(store.key(key), value),
+        Err(code) => code,
+    }
+}
+
+/// An item of a queue, from the front.
+#[unsafe(no_mangle)]
+pub extern "C" fn of_c_item(
+    alloc: Global,
+    saved: &mut Slot,
+    queue: u32,
+    at: u32,
+    value: &mut u32,
+) -> u32
+    ensures read { result ≡ DONE → HoldsStore saved.old.raw.held
+        (λ s. slice_get (queue_of s queue) at ≡ Some value.new) }
+    ensures absent { result ≡ ABSENT → HoldsStore saved.old.raw.held
+        (λ s. slice_get (queue_of s queue) at ≡ None) }
+    ensures same { saved.new.raw.held ≡ saved.old.raw.held }
+    ensures unread { result ≢ DONE → value.new ≡ value.old }
+{
+    if queue as usize >= QUEUES {
+        return RANGE;
+    }
+    match store_in(alloc, saved) {
+        Ok(store) => tell(item_of(&store, queue, at), value),
+        Err(code) => code,
+    }
+}
+
+fn ticket_held(held: &Held, number: u32, ticket: &mut u32) -> u32
+    ensures read { result ≡ DONE → HasCallerWith (Some held.now) number
+        (λ d. ticket.new ≡ saved_ticket d number) }
+    ensures unread { result ≢ DONE → ticket.new ≡ ticket.old }
+{
+    match held {
+        Held::Saved(kept) => {
+            if number >= kept.saved.callers() {
+                return RANGE;
+            }
+            surely::<Saved, OfSaved>(&kept.saved);
+            *ticket = kept.saved.ticket(number);
+            DONE
+        }
+        _ => EMPTY,
+    }
+}
+
+/// How many calls of a caller are held.
+#[unsafe(no_mangle)]
+pub extern "C" fn of_c_ticket(alloc: Global, saved: &mut Slot, number: u32, ticket: &mut u32) -> u32
+    ensures read { result ≡ DONE → HasCallerWith saved.old.raw.held number
+        (λ d. ticket.new ≡ saved_ticket d number) }
+    ensures same { saved.new.raw.held ≡ saved.old.raw.held }
+    ensures unread { result ≢ DONE → ticket.new ≡ ticket.old }
+{
+    let Some(held) = saved.take(alloc) else {
+        return EMPTY;
+    };
+    let code = ticket_held(&held, number, ticket);
+    saved.put(held);
+    code
+}
+
+fn last_reply_held(held: &Held, number: u32, reply: &mut CReply) -> u32
+    ensures read { result ≡ DONE
+        → HasCallerWith (Some held.now) number (ShowsLast number reply.new) }
+    ensures absent { result ≡ ABSENT
+        → HasCallerWith (Some held.now) number (λ d. saved_ticket d number ≡ 0) }
+{
+    match held {
+        Held::Saved(kept) => {
+            if number >= kept.saved.callers() {
+                return RANGE;
+            }
+            surely::<Saved, OfSaved>(&kept.saved);
+            match kept.saved.last_reply(number) {
+                Some((ticket, last)) => {
+                    reply.show(&last);
+                    reply.ticket = ticket;
+                    DONE
+                }
+                None => ABSENT,
+            }
+        }
+        _ => EMPTY,
+    }
+}
+
+/// The reply to a caller's last call that is held.
+#[unsafe(no_mangle)]
+pub extern "C" fn of_c_last_reply(
+    alloc: Global,
+    saved: &mut Slot,
+    number: u32,
+    reply: &mut CReply,
+) -> u32
+    ensures read { result ≡ DONE
+        → HasCallerWith saved.old.raw.held number (ShowsLast number reply.new) }
+    ensures absent { result ≡ ABSENT
+        → HasCallerWith saved.old.raw.held number (λ d. saved_ticket d number ≡ 0) }
+    ensures same { saved.new.raw.held ≡ saved.old.raw.held }
+{
+    let Some(held) = saved.take(alloc) else {
+        return EMPTY;
+    };
+    let code = last_reply_held(&held, number, reply);
+    saved.put(held);
+    code
+}
