@@ -103,7 +103,11 @@ typedef struct onefile_saved {
   onefile_guarded saved;
 } onefile_saved;
 
+#ifdef __cplusplus
+#define ONEFILE_NONE {}
+#else
 #define ONEFILE_NONE {0}
+#endif
 
 /* ---- Memories. */
 
