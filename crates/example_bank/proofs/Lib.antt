@@ -5,3 +5,4 @@ pub mod Clerks
 pub mod Evenings
 pub mod Together
 pub mod Settling
+pub mod Founded

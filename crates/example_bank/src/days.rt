@@ -7,8 +7,7 @@ ghost use Rattle.example_bank.specs.Days.{CanSettle, GoOnWithJobs, HaveEnded, Ha
 
 use crate::clerk::Clerk;
 use anyhow::Result;
-use of_memory::laws::histories_join;
-use of_memory::laws::memories_stay;
+use of_memory::laws::{histories_join, memories_stay};
 use of_memory::{Memory, Saved};
 use std::alloc::Global;
 use std::thread::Threads;

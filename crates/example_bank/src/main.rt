@@ -8,46 +8,70 @@ mod transfer;
 
 ghost use Rattle.std.specs.Prelude.{◌≡◌, ◌<◌, ◌≤◌, IfOk, length};
 ghost use Rattle.of_script.specs.declared.instr.TheConstants.{REGISTERS, GREATEST};
-ghost use Rattle.of_memory.specs.Handles.{IsHandle, IsSame};
+ghost use Rattle.of_script.specs.declared.instr.Instr.TheVariants.{Store as StoreInstr};
 ghost use Rattle.of_memory.specs.Saving.{IsSaved, saved_callers};
 ghost use Rattle.example_bank.specs.declared.TheConstants.{CLERKS};
+ghost use Rattle.example_bank.specs.Founding.{founding_script, HasMoney, IsFounded};
 
 use crate::clerk::Clerk;
 use crate::days::two_days;
 use crate::transfer::Transfer;
 use anyhow::Result;
-use of_memory::{GREATEST_LIMIT, Handle, Memory, Saved, parse};
+use of_memory::laws::{lone_calls_are_saved, memories_stay, none_stays_open};
+use of_memory::{GREATEST_LIMIT, Instr, Memory, Saved, Script};
 use std::alloc::{AllocError, Global};
+use std::thread::Threads;
 
 /// How many clerks there are.
 const CLERKS: u32 = 4;
 
-/// Runs a script that puts money into accounts.
-fn deposit(founder: &mut Handle, text: &[u8]) -> Result<()>
-    requires { IsHandle founder.old }
-    ensures handle { IsHandle founder.new }
-    ensures same { IsSame founder.old founder.new }
+// Sets an account to 100.
+fn opening(account: u8) -> Instr
+    requires { account < REGISTERS }
+    ensures { result ≡ StoreInstr account 100 }
 {
-    founder.run(&parse(text)?)?;
-    Ok(())
+    Instr::Store {
+        reg: account,
+        value: 100,
+    }
+}
+
+// Sets each account to 100.
+fn founding() -> Script
+    ensures { result ≡ founding_script }
+{
+    Script::new(&[
+        opening(0),
+        opening(1),
+        opening(2),
+        opening(3),
+        opening(4),
+        opening(5),
+        opening(6),
+        opening(7),
+        opening(8),
+        opening(9),
+        opening(10),
+        opening(11),
+        opening(12),
+        opening(13),
+        opening(14),
+        opening(15),
+    ])
 }
 
 /// A bank whose sixteen accounts hold 100 each.
 fn found(alloc: Global) -> Result<Saved>
     ensures saved { IfOk result IsSaved }
     ensures callers { IfOk result (λ d. saved_callers d ≡ CLERKS) }
+    ensures money { IfOk result IsFounded }
 {
+    memories_stay();
+    none_stays_open();
+    lone_calls_are_saved();
     let mut memory = Memory::open(alloc, CLERKS, 0, GREATEST_LIMIT)?;
     let mut founder = memory.enrol(0)?;
-    deposit(
-        &mut founder,
-        b"add 0 100; add 1 100; add 2 100; add 3 100; add 4 100; add 5 100; add 6 100; add 7 100",
-    )?;
-    deposit(
-        &mut founder,
-        b"add 8 100; add 9 100; add 10 100; add 11 100; add 12 100; add 13 100; add 14 100",
-    )?;
-    deposit(&mut founder, b"add 15 100")?;
+    founder.run(&founding())?;
     founder.leave(&mut memory);
     Ok(memory.close()?)
 }
@@ -105,12 +129,20 @@ fn show(rt: &impl Print, alloc: Global, saved: &Saved) -> Result<()>
     Ok(())
 }
 
-fn main(rt: HostRuntime) -> Result<()> {
-    let alloc: Global = rt.alloc();
+/// Founds the bank, and lets its clerks work for two days.
+fn work<R: Threads + Print + Sync>(rt: &R, alloc: Global) -> Result<(Saved, Vec<Clerk>)>
+    ensures saved { IfOk result (λ r. IsSaved r.0) }
+    ensures money { IfOk result (λ r. HasMoney 1600 r.0) }
+{
     let founded = found(alloc)?;
     print!(rt; "before:")?;
-    show(&rt, alloc, &founded)?;
-    let (evening, clerks) = two_days(&rt, alloc, &founded, staff(alloc)?)?;
+    show(rt, alloc, &founded)?;
+    two_days(rt, alloc, &founded, staff(alloc)?)
+}
+
+fn main(rt: HostRuntime) -> Result<()> {
+    let alloc: Global = rt.alloc();
+    let (evening, clerks) = work(&rt, alloc)?;
     for number in 0..clerks.len() {
         let (made, aborted) = (clerks[number].made, clerks[number].aborted);
         println!(rt; "clerk {number}: {made} made, {aborted} aborted")?;
