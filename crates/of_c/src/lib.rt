@@ -7,7 +7,6 @@ mod codes;
 mod held;
 mod memories;
 mod pair;
-mod parts;
 mod raw;
 mod reply;
 mod slot;

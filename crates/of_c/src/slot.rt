@@ -7,7 +7,6 @@ ghost use Rattle.of_c.specs.declared.codes.TheConstants.{DONE};
 
 use crate::codes::{DONE, NO_MEMORY};
 use crate::held::Held;
-use crate::parts::Parts;
 use crate::raw::Raw;
 use std::alloc::Global;
 use std::mem::replace;
@@ -33,7 +32,7 @@ impl Slot {
     pub(crate) fn put(&mut self, held: Box<Held, Global>)
         ensures { self.new.raw.held ≡ Some held.value }
     {
-        self.raw = Raw::of_parts(Parts::of(held));
+        self.raw = Raw::of(held);
         self.state = 1;
     }
 
@@ -48,7 +47,7 @@ impl Slot {
         }
         let raw = replace(&mut self.raw, Raw::none(alloc));
         self.state = 0;
-        Some(raw.into_parts().join())
+        Some(raw.into_box())
     }
 
     /// Holds this, if there is memory for it.
