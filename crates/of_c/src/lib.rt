@@ -5,6 +5,7 @@
 mod callers;
 mod codes;
 mod held;
+mod images;
 mod memories;
 mod pair;
 mod raw;

@@ -3,7 +3,7 @@
 ghost use Rattle.std.specs.Prelude.{◌≡◌, ◌≢◌, ◌↔◌, IfSome, IsNone, IsSome, IsTrue, None, Some};
 ghost use Rattle.std.specs.Coded.{Π_prop, Coded-set};
 ghost use Rattle.of_c.specs.Holding.{code_of_held};
-ghost use Rattle.of_c.specs.declared.codes.TheConstants.{DONE};
+ghost use Rattle.of_c.specs.declared.codes.TheConstants.{DONE, NO_MEMORY};
 
 use crate::codes::{DONE, NO_MEMORY};
 use crate::held::Held;
@@ -54,6 +54,7 @@ impl Slot {
     pub(crate) fn keep(&mut self, alloc: Global, held: Held) -> u32
         ensures done { result ≡ DONE → self.new.raw.held ≡ Some held }
         ensures refused { result ≢ DONE → self.new.raw.held ≡ self.old.raw.held }
+        ensures code { result ≢ DONE → result ≡ NO_MEMORY }
     {
         match Box::new(alloc, held) {
             Ok(held) => {
