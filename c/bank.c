@@ -1,5 +1,5 @@
 /* bank.c: four threads move money between four registers, one caller is stopped, the memory is
- * closed and opened again. What it prints is the same however the threads run. */
+ * closed and goes on from its text. What it prints is the same however the threads run. */
 #include "onefile.h"
 
 #include <pthread.h>
@@ -46,6 +46,18 @@ static void leave_all(void) {
   for (uint32_t i = 0; i < CALLERS; i++) expect(onefile_leave(&bank, i), ONEFILE_DONE, "leave");
 }
 
+/* What was saved as its text, which a file could keep, and again from the text. */
+static void through_text(onefile_saved *saved) {
+  size_t length = 0;
+  expect(onefile_image(saved, NULL, 0, &length), ONEFILE_NO_ROOM, "length");
+  char *text = malloc(length);
+  if (!text) expect(ONEFILE_NO_MEMORY, ONEFILE_DONE, "text");
+  expect(onefile_image(saved, text, length, &length), ONEFILE_DONE, "image");
+  expect(onefile_free_saved(saved), ONEFILE_DONE, "free");
+  expect(onefile_from_image(saved, text, length), ONEFILE_DONE, "from image");
+  free(text);
+}
+
 int main(void) {
   onefile_saved saved = ONEFILE_NONE;
   onefile_reply reply;
@@ -73,7 +85,8 @@ int main(void) {
   expect(onefile_close(&bank, &saved), ONEFILE_DONE, "close");
   printf("the sum is %u\n", sum_of(&saved));
 
-  /* The next life, which asks what the last call of caller 3 came to. */
+  /* The next life comes from the text. It asks what the last call of caller 3 came to. */
+  through_text(&saved);
   expect(onefile_reopen(&bank, &saved), ONEFILE_DONE, "reopen");
   expect(onefile_last_reply(&saved, 3, &reply), ONEFILE_DONE, "last reply");
   printf("caller 3: call %u was answered, and the queue has %u\n", reply.ticket, reply.values[2]);

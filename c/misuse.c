@@ -22,6 +22,8 @@ static onefile_saved saved = ONEFILE_NONE, none = ONEFILE_NONE;
 static onefile_reply reply;
 static uint32_t value;
 static uint64_t words[17];
+static char image[1 << 14];
+static size_t size;
 
 static int text(uint32_t number, const char *script) {
   return onefile_call_text(&memory, number, script, strlen(script), &reply);
@@ -51,6 +53,11 @@ static void null_pointers(void) {
   EXPECT(onefile_item(&saved, 0, 0, NULL), ONEFILE_NULL);
   EXPECT(onefile_ticket(&saved, 0, NULL), ONEFILE_NULL);
   EXPECT(onefile_last_reply(&saved, 0, NULL), ONEFILE_NULL);
+  EXPECT(onefile_image(NULL, image, sizeof image, &size), ONEFILE_NULL);
+  EXPECT(onefile_image(&saved, NULL, 1, &size), ONEFILE_NULL);
+  EXPECT(onefile_image(&saved, image, sizeof image, NULL), ONEFILE_NULL);
+  EXPECT(onefile_from_image(NULL, image, 0), ONEFILE_NULL);
+  EXPECT(onefile_from_image(&saved, NULL, 1), ONEFILE_NULL);
   EXPECT(onefile_free_saved(NULL), ONEFILE_NULL);
 }
 
@@ -67,6 +74,7 @@ static void empty_objects(void) {
   EXPECT(onefile_item(&saved, 0, 0, &value), ONEFILE_EMPTY);
   EXPECT(onefile_ticket(&saved, 0, &value), ONEFILE_EMPTY);
   EXPECT(onefile_last_reply(&saved, 0, &reply), ONEFILE_EMPTY);
+  EXPECT(onefile_image(&saved, image, sizeof image, &size), ONEFILE_EMPTY);
   EXPECT(onefile_free_saved(&saved), ONEFILE_EMPTY);
 }
 
@@ -152,6 +160,25 @@ static void what_was_saved(void) {
   EXPECT(onefile_last_reply(&saved, 0, &reply), ONEFILE_DONE);
 }
 
+/* What is saved goes through its text. A text that is cut off or empty is none. */
+static void images(void) {
+  EXPECT(onefile_image(&saved, NULL, 0, &size), ONEFILE_NO_ROOM);
+  EXPECT(size > 0 && size <= sizeof image, 1);
+  memset(image, '?', sizeof image);
+  size_t room = size - 1;
+  EXPECT(onefile_image(&saved, image, room, &size), ONEFILE_NO_ROOM);
+  EXPECT(size == room + 1 && image[0] == '?', 1);
+  EXPECT(onefile_image(&saved, image, sizeof image, &size), ONEFILE_DONE);
+  EXPECT(size == room + 1 && image[size - 1] == '\n' && image[size] == '?', 1);
+  EXPECT(onefile_from_image(&saved, image, size), ONEFILE_FULL);
+  EXPECT(onefile_free_saved(&saved), ONEFILE_DONE);
+  EXPECT(onefile_from_image(&saved, image, size - 1), ONEFILE_NO_IMAGE);
+  EXPECT(onefile_from_image(&saved, NULL, 0), ONEFILE_NO_IMAGE);
+  EXPECT(onefile_from_image(&saved, image, size), ONEFILE_DONE);
+  EXPECT(onefile_register(&saved, 0, &value), ONEFILE_DONE);
+  EXPECT(value == 1, 1);
+}
+
 /* Eight threads use one caller at once: each call is done or BUSY, and every one that was done
  * counts once. */
 static void *add_often(void *done_of) {
@@ -193,6 +220,7 @@ int main(void) {
   open_calls();
   the_end();
   what_was_saved();
+  images();
   one_caller();
   printf("%d answers, %d wrong\n", tried, wrong);
   return wrong != 0;

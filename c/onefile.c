@@ -27,6 +27,8 @@ uint32_t of_c_key(onefile_slot *saved, uint32_t key, uint32_t *value);
 uint32_t of_c_item(onefile_slot *saved, uint32_t queue, uint32_t at, uint32_t *value);
 uint32_t of_c_ticket(onefile_slot *saved, uint32_t number, uint32_t *ticket);
 uint32_t of_c_last_reply(onefile_slot *saved, uint32_t number, onefile_reply *reply);
+uint32_t of_c_image(onefile_slot *saved, uint8_t *buffer, size_t room, size_t *length);
+uint32_t of_c_from_image(const uint8_t *text, size_t length, onefile_slot *saved);
 
 _Static_assert(sizeof(onefile_slot) == 16, "a slot is as of_c has it");
 _Static_assert(sizeof(onefile_reply) == 6 * 4 + 8 + 32 * 4, "a reply is as of_c has it");
@@ -82,7 +84,8 @@ const char *onefile_name(int answer) {
       "ONEFILE_DONE",      "ONEFILE_NULL",    "ONEFILE_BUSY",      "ONEFILE_EMPTY",
       "ONEFILE_FULL",      "ONEFILE_NO_MEMORY", "ONEFILE_RANGE",   "ONEFILE_TAKEN",
       "ONEFILE_CALL_OPEN", "ONEFILE_NO_CALL", "ONEFILE_STOPPED",   "ONEFILE_SPENT",
-      "ONEFILE_NO_TICKET", "ONEFILE_NO_SCRIPT", "ONEFILE_IN_USE",  "ONEFILE_ABSENT"};
+      "ONEFILE_NO_TICKET", "ONEFILE_NO_SCRIPT", "ONEFILE_IN_USE",  "ONEFILE_ABSENT",
+      "ONEFILE_NO_ROOM",   "ONEFILE_NO_IMAGE"};
   return answer >= 0 && (size_t)answer < sizeof names / sizeof *names ? names[answer]
                                                                       : "ONEFILE_?";
 }
@@ -240,6 +243,17 @@ int onefile_ticket(onefile_saved *saved, uint32_t number, uint32_t *ticket) {
 
 int onefile_last_reply(onefile_saved *saved, uint32_t number, onefile_reply *reply) {
   ON(saved, reply, of_c_last_reply(&saved->saved.slot, number, reply));
+}
+
+int onefile_image(onefile_saved *saved, char *buffer, size_t room, size_t *length) {
+  uint8_t nothing[1];
+  uint8_t *bytes = buffer ? (uint8_t *)buffer : nothing;
+  ON(saved, length && (buffer || room == 0), of_c_image(&saved->saved.slot, bytes, room, length));
+}
+
+int onefile_from_image(onefile_saved *saved, const char *text, size_t length) {
+  const uint8_t *bytes = text ? (const uint8_t *)text : no_text;
+  ON(saved, text || length == 0, of_c_from_image(bytes, length, &saved->saved.slot));
 }
 
 int onefile_free_saved(onefile_saved *saved) {

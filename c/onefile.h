@@ -31,7 +31,7 @@
  *   - malloc, realloc and free belong together, and malloc aligns to 16.
  *   - No function is called in a signal handler, nor in the forked child of a process with threads.
  *
- * What is kept is in the process: it ends with the process.
+ * What is kept is in the process. To keep it longer, write the text that onefile_image gives.
  */
 #ifndef ONEFILE_H
 #define ONEFILE_H
@@ -66,7 +66,9 @@ enum {
   ONEFILE_NO_TICKET = 12, /* the caller has made all calls that it may make, 2^32 - 1 */
   ONEFILE_NO_SCRIPT = 13, /* the words or the text are no script */
   ONEFILE_IN_USE = 14,    /* a caller has not left */
-  ONEFILE_ABSENT = 15     /* there is no such key, item or call */
+  ONEFILE_ABSENT = 15,    /* there is no such key, item or call */
+  ONEFILE_NO_ROOM = 16,   /* the buffer is too short for the text */
+  ONEFILE_NO_IMAGE = 17   /* the text is no image */
 };
 
 /* The name of an answer, as "ONEFILE_DONE". "ONEFILE_?" if there is no such answer. */
@@ -250,7 +252,7 @@ int onefile_call_text_within(onefile_memory *memory, uint32_t number, const char
  * EMPTY, RANGE, NO_CALL, STOPPED, SPENT. */
 int onefile_go_on(onefile_memory *memory, uint32_t number, uint64_t steps, onefile_reply *reply);
 
-/* ---- What was saved. Each answers EMPTY if `saved` is empty. */
+/* ---- What was saved. Each but onefile_from_image answers EMPTY if `saved` is empty. */
 
 /* The number in a register (0 to 15). RANGE. */
 int onefile_register(onefile_saved *saved, uint32_t reg, uint32_t *value);
@@ -268,6 +270,18 @@ int onefile_ticket(onefile_saved *saved, uint32_t number, uint32_t *ticket);
  * ticket. `seq`, `announced` and `steps` are not written.
  * RANGE; ABSENT if no call of the caller is held. */
 int onefile_last_reply(onefile_saved *saved, uint32_t number, onefile_reply *reply);
+
+/* Writes what is held into `buffer`, which has room for `room` bytes, as the text of an image, with
+ * no zero byte at its end, and its length into `length`. It has the store, and of each caller the
+ * last ticket and reply; the limit is not in it. The program `onefile` reads it.
+ * NO_ROOM: only `length` is written, which says how much room is needed. `buffer` may be null if
+ * `room` is 0. */
+int onefile_image(onefile_saved *saved, char *buffer, size_t room, size_t *length);
+
+/* Fills `saved` with what a text of `length` bytes holds, which onefile_image or the program
+ * `onefile` has written. Its limit is ONEFILE_GREATEST_LIMIT.
+ * FULL, NO_IMAGE. */
+int onefile_from_image(onefile_saved *saved, const char *text, size_t length);
 
 /* Lets go what is held. EMPTY. */
 int onefile_free_saved(onefile_saved *saved);

@@ -1,4 +1,4 @@
--- What a slot owns.
+-- What is behind the pointer of a slot.
 use base.Fml.{Fml, ftrue}
 use base.Stored.{Coded}
 use denote.RawPtr.{Ptr}
@@ -7,12 +7,13 @@ use Rattle.std.specs.Coded.{coded_option}
 use Rattle.std.specs.Box.Ownership.{box_owns}
 use Rattle.std.specs.Global.{Global}
 use Rattle.std.specs.contracts.impls.GlobalAllocator.TheImpl.{ghosts}
-use Rattle.of_c.specs.contracts.held.Held.{the_row}
+use Rattle.of_c.specs.contracts.held.Held as held
 
--- a box of this at the pointer, or nothing
-abbrev pub box_or_nothing : Global → Ptr → Option the_row.Denot → Fml
-box_or_nothing alloc at None = ftrue
-box_or_nothing alloc at (Some x) = box_owns (ghosts.dealloc_token alloc) the_row at x
+-- if something is held, the block at the pointer with that in it, and the right to free the block
+abbrev pub block_owned : Ptr → Global → Option held.the_row.Denot → Fml
+block_owned at alloc None = ftrue
+block_owned at alloc (Some x) = box_owns (ghosts.dealloc_token alloc) held.the_row at x
 
-abbrev pub code_of_held : Coded (Option the_row.Denot)
-code_of_held = coded_option the_row.coded
+-- how a proof stores what is held
+abbrev pub code_of_held : Coded (Option held.the_row.Denot)
+code_of_held = coded_option held.the_row.coded

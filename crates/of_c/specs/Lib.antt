@@ -4,3 +4,4 @@ pub mod Replies
 pub mod Calls
 pub mod Lives
 pub mod States
+pub mod Images

@@ -41,3 +41,9 @@ pub const IN_USE: u32 = 14;
 
 /// There is no such key, item or call.
 pub const ABSENT: u32 = 15;
+
+/// The buffer is too short for the text.
+pub const NO_ROOM: u32 = 16;
+
+/// The text is no image.
+pub const NO_IMAGE: u32 = 17;

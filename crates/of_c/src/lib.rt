@@ -5,9 +5,9 @@
 mod callers;
 mod codes;
 mod held;
+mod images;
 mod memories;
 mod pair;
-mod parts;
 mod raw;
 mod reply;
 mod slot;

@@ -2,10 +2,9 @@
 
 ghost use Rattle.std.specs.Prelude.{◌≡◌, IsSome, Option, None, Some};
 ghost use Rattle.of_c.specs.declared.held.Held.{Held};
-ghost use Rattle.of_c.specs.Holding.{code_of_held, box_or_nothing};
+ghost use Rattle.of_c.specs.Holding.{block_owned, code_of_held};
 
 use crate::held::Held;
-use crate::parts::Parts;
 use std::alloc::Global;
 use std::marker::Model;
 use std::ptr::null_mut;
@@ -20,7 +19,7 @@ pub struct Raw {
 }
 
 impl Model for Raw {
-    ghost also_owns = { λ r. box_or_nothing r.alloc r.at r.held };
+    ghost also_owns = { λ r. block_owned r.at r.alloc r.held };
 }
 
 impl Raw {
@@ -34,27 +33,24 @@ impl Raw {
         }
     }
 
-    /// The box of these parts.
-    pub(crate) fn of_parts(parts: Parts<Held, Global>) -> Raw
-        ensures { result.held ≡ Some parts.value }
+    /// The pointer of a box.
+    pub(crate) fn of(held: Box<Held, Global>) -> Raw
+        ensures { result.held ≡ Some held.value }
     {
-        let Parts { at, alloc } = parts;
+        let (at, alloc) = Box::into_raw_with_allocator(held);
         Raw {
             at: at as *mut u8,
             alloc,
         }
     }
 
-    /// The parts of its box.
-    pub(crate) fn into_parts(self) -> Parts<Held, Global>
+    /// The box at the pointer.
+    pub(crate) fn into_box(self) -> Box<Held, Global>
         requires { IsSome self.held }
         ensures { self.held ≡ Some result.value }
     {
         let Raw { at, alloc } = self;
-        Parts {
-            at: at as *mut Held,
-            alloc,
-        }
+        unsafe { Box::from_raw(alloc, at as *mut Held) }
     }
 }
 

@@ -3,11 +3,10 @@
 ghost use Rattle.std.specs.Prelude.{◌≡◌, ◌≢◌, ◌↔◌, IfSome, IsNone, IsSome, IsTrue, None, Some};
 ghost use Rattle.std.specs.Coded.{Π_prop, Coded-set};
 ghost use Rattle.of_c.specs.Holding.{code_of_held};
-ghost use Rattle.of_c.specs.declared.codes.TheConstants.{DONE};
+ghost use Rattle.of_c.specs.declared.codes.TheConstants.{DONE, NO_MEMORY};
 
 use crate::codes::{DONE, NO_MEMORY};
 use crate::held::Held;
-use crate::parts::Parts;
 use crate::raw::Raw;
 use std::alloc::Global;
 use std::mem::replace;
@@ -33,7 +32,7 @@ impl Slot {
     pub(crate) fn put(&mut self, held: Box<Held, Global>)
         ensures { self.new.raw.held ≡ Some held.value }
     {
-        self.raw = Raw::of_parts(Parts::of(held));
+        self.raw = Raw::of(held);
         self.state = 1;
     }
 
@@ -48,13 +47,14 @@ impl Slot {
         }
         let raw = replace(&mut self.raw, Raw::none(alloc));
         self.state = 0;
-        Some(raw.into_parts().join())
+        Some(raw.into_box())
     }
 
     /// Holds this, if there is memory for it.
     pub(crate) fn keep(&mut self, alloc: Global, held: Held) -> u32
         ensures done { result ≡ DONE → self.new.raw.held ≡ Some held }
         ensures refused { result ≢ DONE → self.new.raw.held ≡ self.old.raw.held }
+        ensures code { result ≢ DONE → result ≡ NO_MEMORY }
     {
         match Box::new(alloc, held) {
             Ok(held) => {

@@ -1,0 +1,47 @@
+-- The text of what a memory has left.
+use Rattle.std.specs.Prelude.{◌≡◌, ◌≢◌, ℕ, List, length, slice_range, Option}
+use Rattle.of_cell.specs.declared.word.TheConstants.{GREATEST_LIMIT}
+use Rattle.of_memory.specs.declared.saved.Saved.{Saved}
+use Rattle.of_memory.specs.declared.error.ImageTextErr.{ImageTextErr}
+use Rattle.of_memory.specs.declared.error.ImageTextErr.TheVariants.{OutOfMemory, Bad, Unlawful, PastLimits}
+use Rattle.of_memory.specs.Saving.{IsSaved, saved_limit}
+use Rattle.of_memory.specs.Texts.{IsTextOfSaved, TextHolds, IsReadBack}
+use Rattle.of_c.specs.declared.codes.TheConstants.{DONE, NO_IMAGE, NO_MEMORY, NO_ROOM}
+use Rattle.of_c.specs.declared.held.Held.{Held}
+use Rattle.of_c.specs.Slots.{HoldsSaved}
+
+-- no text is told
+abbrev pub TellsNoText : (code : ℕ) → Type 0
+TellsNoText code = (code ≢ DONE) × (code ≢ NO_ROOM)
+
+-- the buffer begins with the text
+abbrev pub BeginsWithText : (text buffer : List ℕ) → Type 0
+BeginsWithText text buffer = slice_range buffer 0 (length text) ≡ text
+
+-- what is held has a text, of which this is so
+pub record HasText (held : Option Held) (P : List ℕ → Type 0) : Type 0 where
+  pub left : Saved
+  pub is : HoldsSaved held left
+  pub text : List ℕ
+  pub printed : IsTextOfSaved left text
+  pub holds : TextHolds text left
+  pub so : P text
+
+-- what a text holds is held: the words that something had which was written so
+pub record HoldsRead (text : List ℕ) (now : Option Held) : Type 0 where
+  pub left : Saved
+  pub is : HoldsSaved now left
+  pub holds : TextHolds text left
+  pub limit : saved_limit left ≡ GREATEST_LIMIT
+  pub back : (d : Saved) → IsSaved d → TextHolds text d → IsReadBack d left
+
+-- the text was written for nothing that a memory has left
+abbrev pub IsOfNoneSaved : List ℕ → Type 0
+IsOfNoneSaved text = (d : Saved) → IsSaved d → TextHolds text d → ⊥
+
+-- the code of why nothing is read from a text
+abbrev pub fault_code : ImageTextErr → ℕ
+fault_code OutOfMemory = NO_MEMORY
+fault_code (Bad line) = NO_IMAGE
+fault_code (Unlawful cell) = NO_IMAGE
+fault_code (PastLimits seq) = NO_IMAGE

@@ -1,0 +1,111 @@
+//! What a memory has left as a text, and back.
+
+ghost use Rattle.std.specs.Prelude.{◌≡◌, ◌≢◌, ◌<◌, IfErr, IfOk, Some, length};
+ghost use Rattle.of_c.specs.declared.codes.TheConstants.{DONE, NO_IMAGE, NO_ROOM};
+ghost use Rattle.of_c.specs.Images.{TellsNoText, BeginsWithText, HasText, HoldsRead};
+ghost use Rattle.of_c.specs.Images.{IsOfNoneSaved, fault_code};
+
+use crate::codes::{DONE, EMPTY, FULL, NO_IMAGE, NO_MEMORY, NO_ROOM};
+use crate::held::{Held, Kept};
+use crate::slot::Slot;
+use crate::truth::{OfSaved, surely};
+use of_memory::{ImageTextErr, Saved};
+use std::alloc::Global;
+
+// The text of what is held, or a code.
+fn text_held(alloc: Global, held: &Held) -> Result<Vec<u8>, u32>
+    ensures text { IfOk result (λ text. HasText (Some held.now) (λ t. t ≡ text.items)) }
+    ensures code { IfErr result TellsNoText }
+{
+    match held {
+        Held::Saved(kept) => {
+            surely::<Saved, OfSaved>(&kept.saved);
+            match kept.saved.image_text(alloc) {
+                Ok(text) => Ok(text),
+                Err(_) => Err(NO_MEMORY),
+            }
+        }
+        _ => Err(EMPTY),
+    }
+}
+
+// The text of what a memory has left, or a code. The slot holds what it held.
+fn text_in(alloc: Global, saved: &mut Slot) -> Result<Vec<u8>, u32>
+    ensures text { IfOk result (λ text. HasText saved.old.raw.held (λ t. t ≡ text.items)) }
+    ensures code { IfErr result TellsNoText }
+    ensures same { saved.new.raw.held ≡ saved.old.raw.held }
+{
+    let Some(held) = saved.take(alloc) else {
+        return Err(EMPTY);
+    };
+    let text = text_held(alloc, &held);
+    saved.put(held);
+    text
+}
+
+// Writes a text to the front of a buffer, if it has room, and how long it is.
+fn write_text(text: &[u8], buffer: &mut [u8], size: &mut usize) -> u32
+    ensures written { result ≡ DONE → BeginsWithText text.now buffer.new }
+    ensures short { result ≡ NO_ROOM → length buffer.old < length text.now }
+    ensures size { size.new ≡ length text.now }
+    ensures told { TellsNoText result → ⊥ }
+    ensures unwritten { result ≢ DONE → buffer.new ≡ buffer.old }
+{
+    *size = text.len();
+    if text.len() > buffer.len() {
+        return NO_ROOM;
+    }
+    buffer[..text.len()].copy_from_slice(text);
+    DONE
+}
+
+/// The text of what a memory has left, and how long it is. If the buffer is too short for it, only
+/// the length is written.
+#[unsafe(no_mangle)]
+pub extern "C" fn of_c_image(
+    alloc: Global,
+    saved: &mut Slot,
+    buffer: &mut [u8],
+    size: &mut usize,
+) -> u32
+    ensures written { result ≡ DONE → HasText saved.old.raw.held
+        (λ t. BeginsWithText t buffer.new × (size.new ≡ length t)) }
+    ensures short { result ≡ NO_ROOM → HasText saved.old.raw.held
+        (λ t. (length buffer.old < length t) × (size.new ≡ length t)) }
+    ensures same { saved.new.raw.held ≡ saved.old.raw.held }
+    ensures unwritten { result ≢ DONE → buffer.new ≡ buffer.old }
+    ensures uncounted { TellsNoText result → size.new ≡ size.old }
+{
+    match text_in(alloc, saved) {
+        Ok(text) => write_text(&text, buffer, size),
+        Err(code) => code,
+    }
+}
+
+// The code of why nothing is read from a text.
+fn code_of_fault(fault: ImageTextErr) -> u32
+    ensures { result ≡ fault_code fault }
+{
+    match fault {
+        ImageTextErr::OutOfMemory => NO_MEMORY,
+        ImageTextErr::Bad { line: _ } => NO_IMAGE,
+        ImageTextErr::Unlawful { cell: _ } => NO_IMAGE,
+        ImageTextErr::PastLimits { seq: _ } => NO_IMAGE,
+    }
+}
+
+/// What a text holds, as `of_c_image` or the command line writes it. Its limit is the greatest one.
+#[unsafe(no_mangle)]
+pub extern "C" fn of_c_from_image(alloc: Global, text: &[u8], saved: &mut Slot) -> u32
+    ensures read { result ≡ DONE → HoldsRead text.now saved.new.raw.held }
+    ensures cause { result ≡ NO_IMAGE → IsOfNoneSaved text.now }
+    ensures refused { result ≢ DONE → saved.new.raw.held ≡ saved.old.raw.held }
+{
+    if !saved.is_empty() {
+        return FULL;
+    }
+    match Saved::from_image(alloc, text) {
+        Ok(left) => saved.keep(alloc, Held::Saved(Kept { saved: left })),
+        Err(fault) => code_of_fault(fault),
+    }
+}
