@@ -172,7 +172,7 @@ static void images(void) {
   EXPECT(size == room + 1 && image[size - 1] == '\n' && image[size] == '?', 1);
   EXPECT(onefile_from_image(&saved, image, size), ONEFILE_FULL);
   EXPECT(onefile_free_saved(&saved), ONEFILE_DONE);
-  EXPECT(onefile_from_image(&saved, image, size - 1), ONEFILE_NO_IMAGE);
+  EXPECT(onefile_from_image(&saved, image, size / 2), ONEFILE_NO_IMAGE);
   EXPECT(onefile_from_image(&saved, NULL, 0), ONEFILE_NO_IMAGE);
   EXPECT(onefile_from_image(&saved, image, size), ONEFILE_DONE);
   EXPECT(onefile_register(&saved, 0, &value), ONEFILE_DONE);
