@@ -1,11 +1,13 @@
 //! Hands add to one sum in threads of their own; one of them is stopped in a call.
 #![tactic(auto)]
 
+ghost use Rattle.std.specs.Prelude.{IfOk};
 ghost use Rattle.of_memory.specs.Saving.{IsSaved};
 
 use anyhow::Result;
 use of_memory::{GREATEST_LIMIT, Handle, Memory, Saved, Script, Task, parse};
 use std::alloc::Global;
+use std::thread::Threads;
 
 /// Adds to a register of its own and to the sum, by a call of at most so many steps.
 #[derive(Drop)]
@@ -22,10 +24,8 @@ impl Task for Hand {
 
 fn new_hand(alloc: Global, number: u32, steps: u64) -> Result<Hand> {
     let text = format!(in alloc; "add {number} 5; add 15 5")?;
-    Ok(Hand {
-        script: parse(text.as_bytes())?,
-        steps,
-    })
+    let script = parse(text.as_bytes())?;
+    Ok(Hand { script, steps })
 }
 
 fn show(rt: &impl Print, alloc: Global, saved: &Saved) -> Result<()>
@@ -41,30 +41,40 @@ fn show(rt: &impl Print, alloc: Global, saved: &Saved) -> Result<()>
     Ok(())
 }
 
-fn main(rt: HostRuntime) -> Result<()> {
-    let alloc: Global = rt.alloc();
+// Four hands work at once, the third for six steps. Then the first one adds again, and finishes the
+// call that was stopped.
+fn first_day<R: Threads + Sync>(rt: &R, alloc: Global) -> Result<Saved>
+    ensures { IfOk result IsSaved }
+{
     let mut hands = Vec::new(alloc);
     for number in 0..4 {
-        // The third hand is stopped.
-        let steps = if number == 2 { 6 } else { u64::MAX };
-        hands.push(new_hand(alloc, number, steps)?)?;
+        hands.push(new_hand(alloc, number, if number == 2 { 6 } else { u64::MAX })?)?;
     }
     let mut memory = Memory::open(alloc, 4, 8, GREATEST_LIMIT)?;
-    memory.at_once(&rt, &mut hands)?;
-    // The first hand adds again, and finishes the call that was stopped.
+    memory.at_once(rt, &mut hands)?;
     hands.truncate(1);
-    memory.at_once(&rt, &mut hands)?;
-    let saved = memory.close()?;
-    show(&rt, alloc, &saved)?;
+    memory.at_once(rt, &mut hands)?;
+    Ok(memory.close()?)
+}
 
-    // A program keeps this text in a file, from which another one goes on.
-    let text = saved.image_text(alloc)?;
-    let saved = Saved::from_image(alloc, &text)?;
+// The third hand adds again, in a memory that goes on from an image.
+fn second_day(alloc: Global, image: &[u8]) -> Result<Saved>
+    ensures { IfOk result IsSaved }
+{
+    let saved = Saved::from_image(alloc, image)?;
     let saved = saved.renumbered().with_limit(1_000)?;
     let mut memory = Memory::reopen(alloc, &saved)?;
     let mut third = memory.enrol(2)?;
     third.run(&new_hand(alloc, 2, u64::MAX)?.script)?;
     third.leave(&mut memory);
-    let saved = memory.close()?;
-    show(&rt, alloc, &saved)
+    Ok(memory.close()?)
+}
+
+fn main(rt: HostRuntime) -> Result<()> {
+    let alloc: Global = rt.alloc();
+    let saved = first_day(&rt, alloc)?;
+    show(&rt, alloc, &saved)?;
+    // A program keeps this text in a file, from which another one goes on.
+    let image = saved.image_text(alloc)?;
+    show(&rt, alloc, &second_day(alloc, &image)?)
 }

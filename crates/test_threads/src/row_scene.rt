@@ -21,10 +21,10 @@ const MOST_CALLS: u32 = 1_000;
 /// An event of a schedule.
 #[derive(Clone, Copy)]
 pub enum Event {
-    /// So many turns of a caller, each in the call that is open or in its next one.
-    Turns { caller: u32, count: u32 },
-    /// The eviction of a cell.
-    Evict { cell: u32 },
+    /// A caller, and how many turns it makes, each in the call that is open or in its next one.
+    Turns(u32, u32),
+    /// The cell that is evicted.
+    Evict(u32),
 }
 
 /// Makes an event on a row. `calls` are the calls of caller 0 and of caller 1, each of one
@@ -46,12 +46,12 @@ fn happen(
     ensures second { IfSome second.new (λ c. IsStepperOf row.now c.member c.machine) }
 {
     match event {
-        Event::Turns { caller: 0, count } => turns(row, first, calls[0], count, brake),
-        Event::Turns { caller: _, count } => match second {
+        Event::Turns(0, count) => turns(row, first, calls[0], count, brake),
+        Event::Turns(_, count) => match second {
             Some(second) => turns(row, second, calls[1], count, brake),
             None => None,
         },
-        Event::Evict { cell } => {
+        Event::Evict(cell) => {
             if cell < row.shape().durable_cells() {
                 row.evict(pass, cell);
             }
@@ -219,13 +219,13 @@ fn bank_happen(bank: &mut Bank<Scripts>, shape: &Shape, calls: [&[u64]; 2], even
     ensures cells { bank.new.cells ≡ bank.old.cells }
 {
     match event {
-        Event::Turns { caller, count } => {
+        Event::Turns(caller, count) => {
             if caller < shape.callers {
                 let own = if caller == 0 { calls[0] } else { calls[1] };
                 let _ = bank_turns(bank, caller, own, count);
             }
         }
-        Event::Evict { cell } => {
+        Event::Evict(cell) => {
             if cell < shape.durable_cells() {
                 bank.evict(cell);
             }
