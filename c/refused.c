@@ -1,7 +1,8 @@
-/* refused.c: each allocation of a life is refused in turn. The call answers ONEFILE_NO_MEMORY, has
- * changed nothing, and does what it should when it is made again. Only a call that reads the store
- * can do without one allocation: it asks for the room of a list at once, and if that is refused, it
- * takes the room as the list grows. To be linked with -Wl,--wrap=malloc,--wrap=realloc. */
+/* refused.c: each allocation of a life is refused in turn. The function answers ONEFILE_NO_MEMORY,
+ * has changed nothing, and does what it should when it is called again. Only a function that reads
+ * the store can do without one allocation: it asks for the room of a list at once, and if that is
+ * refused, it takes the room as the list grows. A call of a script allocates nothing. To be linked
+ * with -Wl,--wrap=malloc,--wrap=realloc. */
 #include "onefile.h"
 
 #include <stdio.h>
@@ -14,10 +15,14 @@ void *__real_realloc(void *block, size_t size);
 /* How many allocations are given before one is refused. */
 static long left = -1;
 
+/* How many were asked for. */
+static long asked;
+
 /* Whether one was refused in this call. */
 static int refused;
 
 static int refuses(void) {
+  asked++;
   if (left < 0 || left-- > 0) return 0;
   refused = 1;
   return 1;
@@ -50,6 +55,14 @@ static void expect(int answer, const char *what) {
     expect(answer, #call);                       \
   } while (0)
 
+/* Makes a call of a script, which allocates nothing. */
+#define CALL(call)                                          \
+  do {                                                      \
+    long before = asked;                                    \
+    expect((call), #call);                                  \
+    if (asked != before) expect(-1, "allocated in " #call); \
+  } while (0)
+
 #define AGAIN(call) MAKE(call, 1)
 #define READS(call) MAKE(call, 0)
 
@@ -63,7 +76,7 @@ static void life(void) {
   size_t length = 0;
   AGAIN(onefile_open(&memory, 2, 4, 100));
   AGAIN(onefile_enrol(&memory, 1));
-  AGAIN(onefile_call_text(&memory, 1, first, sizeof first - 1, &reply));
+  CALL(onefile_call_text(&memory, 1, first, sizeof first - 1, &reply));
   AGAIN(onefile_leave(&memory, 1));
   AGAIN(onefile_close(&memory, &saved));
   AGAIN(onefile_image(&saved, text, sizeof text, &length));
@@ -72,7 +85,7 @@ static void life(void) {
   AGAIN(onefile_reopen(&memory, &saved));
   AGAIN(onefile_free_saved(&saved));
   AGAIN(onefile_enrol(&memory, 0));
-  AGAIN(onefile_call_text(&memory, 0, second, sizeof second - 1, &reply));
+  CALL(onefile_call_text(&memory, 0, second, sizeof second - 1, &reply));
   AGAIN(onefile_leave(&memory, 0));
   AGAIN(onefile_close(&memory, &saved));
   READS(onefile_register(&saved, 1, &value[0]));

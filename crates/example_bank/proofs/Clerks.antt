@@ -6,7 +6,7 @@ use Rattle.of_store.specs.Store.{Reply}
 use Rattle.of_store.specs.Replies.{reply_value_of}
 use Rattle.of_plan.specs.declared.answer.Answer.{Answer}
 use Rattle.of_memory.specs.declared.error.RunErr.{RunErr}
-use Rattle.of_memory.specs.declared.error.RunErr.TheVariants.{OutOfMemory, Stopped, Spent as NoneLeft, Open, NoTicket}
+use Rattle.of_memory.specs.declared.error.RunErr.TheVariants.{Stopped, Spent as NoneLeft, Open, NoTicket}
 use Rattle.of_memory.specs.declared.handle.Handle.{Handle}
 use Rattle.of_memory.specs.History.{Made, Replied, Spent}
 use Rattle.of_memory.specs.Called.{LeavesAsItWas}
@@ -159,7 +159,6 @@ module _ (y z : Clerk) (h k : Handle) (script : List Instr) (is : script ≡ nex
   -- it was not answered
   pub ended_on : (e : RunErr) → z.end ≡ Some e → StaysAt y z → CallsAreCounted → IsHandle h → IsSame h k → MakesCall script (Err e) h k → StaysOpenOnlyIfStopped script (Err e) k → RefusesCall h (Err e) → LeavesAsItWas {A = Handle} (Err e) h k
       → KeepsWithin 0 y.steps (steps_so_far k) (Err e) → OpensOnly script h k → GoesOn y h z k
-  ended_on OutOfMemory end stay counts handle same makes stays refuses unmade within only x w = unmade_on OutOfMemory end stay unmade x w tt tt
   ended_on (Stopped asked) end stay counts handle same makes stays refuses unmade within only x w =
       ends_with (Stopped asked) end stay x w (makes w.made w.has) tt (λ s opened. (tt, opens s (only s opened))) (within.0 ∙ ap (λ (n : ℕ). n + 1) w.steps)
     where

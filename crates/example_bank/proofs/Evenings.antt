@@ -8,7 +8,7 @@ use Rattle.of_script.specs.declared.instr.Instr.{Instr}
 use Rattle.of_script.specs.declared.instr.Instr.TheVariants.{Count}
 use Rattle.of_store.specs.Store.{Store}
 use Rattle.of_memory.specs.declared.error.RunErr.{RunErr}
-use Rattle.of_memory.specs.declared.error.RunErr.TheVariants.{OutOfMemory, Stopped, Spent as NoneLeft, Open, NoTicket}
+use Rattle.of_memory.specs.declared.error.RunErr.TheVariants.{Stopped, Spent as NoneLeft, Open, NoTicket}
 use Rattle.of_memory.specs.declared.memory.Memory.{Memory}
 use Rattle.of_memory.specs.declared.saved.Saved.{Saved}
 use Rattle.of_memory.specs.History.{HistoryEntry, no_history_entry, Made, no_made, Replied, IsOneOf, HasOnly, ExplainsAll, ExplainsEnd, ScriptOnlyReads}
@@ -153,7 +153,6 @@ module _ (c : Saved) (m k : Memory) (n : ℕ) (x y : Clerk) (tickets : tickets_b
         where
           by_end : (end : Option RunErr) → y.end ≡ end → SettlesEnd n c d y z end → Counts x z (calls_of n h)
           by_end None is one = plain (λ stopped. subst IsStopped is stopped) one.0
-          by_end (Some OutOfMemory) is one = plain (λ stopped. subst IsStopped is stopped) one.0
           by_end (Some (Stopped asked)) is one =
               stopped_in one (subst IsStopped (sym is) tt) (has_worked.0.whole (subst IsNotSpent (sym is) tt)) (has_worked.0.left (subst IsEarly (sym is) tt))
             where
@@ -179,7 +178,6 @@ module _ (c : Saved) (m k : Memory) (n : ℕ) (x y : Clerk) (tickets : tickets_b
 
     left : (end : Option RunErr) → SettlesEnd n c d y z end → Left end
     left None one = left_plain one.0 one.1
-    left (Some OutOfMemory) one = left_plain one.0 one.1
     left (Some (Stopped asked)) (inl p) =
         let yes : one_if z.pending ≡ 1 = ap one_if p.pending in
         (omega (arith, yes), omega (arith, yes, p.none.0, p.none.1, counted_today, settles.answered))

@@ -4,7 +4,7 @@ use Rattle.std.proofs.Common.{get_or}
 use Rattle.of_script.specs.declared.instr.Instr.{Instr}
 use Rattle.of_store.specs.Store.{Reply}
 use Rattle.of_memory.specs.declared.error.RunErr.{RunErr}
-use Rattle.of_memory.specs.declared.error.RunErr.TheVariants.{OutOfMemory, Stopped, Spent as NoneLeft, Open, NoTicket}
+use Rattle.of_memory.specs.declared.error.RunErr.TheVariants.{Stopped, Spent as NoneLeft, Open, NoTicket}
 use Rattle.of_memory.specs.declared.handle.Handle.{Handle}
 use Rattle.of_memory.specs.declared.saved.Saved.{Saved}
 use Rattle.of_memory.specs.History.{Made}
@@ -37,7 +37,6 @@ pub record Counts (x y : Clerk) (cs : List Call) : Type 0 where
 -- it was stopped in a call
 abbrev pub IsStopped : Option RunErr → Type 0
 IsStopped None = ⊥
-IsStopped (Some OutOfMemory) = ⊥
 IsStopped (Some (Stopped asked)) = Unit {0}
 IsStopped (Some (NoneLeft seq)) = ⊥
 IsStopped (Some Open) = ⊥
@@ -46,7 +45,6 @@ IsStopped (Some NoTicket) = ⊥
 -- each of its calls was answered or is open
 abbrev pub IsNotSpent : Option RunErr → Type 0
 IsNotSpent None = Unit {0}
-IsNotSpent (Some OutOfMemory) = Unit {0}
 IsNotSpent (Some (Stopped asked)) = Unit {0}
 IsNotSpent (Some (NoneLeft seq)) = ⊥
 IsNotSpent (Some Open) = Unit {0}
@@ -61,7 +59,6 @@ IsEarly (Some e) = Unit {0}
 -- made so many calls before the day and on it that no ticket is left.
 abbrev pub HasCause : (steps before answered : ℕ) → Option RunErr → Type 0
 HasCause steps before answered None = Unit {0}
-HasCause steps before answered (Some OutOfMemory) = Unit {0}
 HasCause steps before answered (Some (Stopped asked)) = asked ≡ steps + 1
 HasCause steps before answered (Some (NoneLeft seq)) = Unit {0}
 HasCause steps before answered (Some Open) = ⊥
@@ -121,7 +118,6 @@ pub record IsFinished (n : ℕ) (c d : Saved) (y z : Clerk) : Type 0 where
 
 abbrev pub SettlesEnd : ℕ → (before after : Saved) → Clerk → Clerk → Option RunErr → Type 0
 SettlesEnd n c d y z None = CountsNone y z × (z.pending ≡ y.pending)
-SettlesEnd n c d y z (Some OutOfMemory) = CountsNone y z × (z.pending ≡ y.pending)
 SettlesEnd n c d y z (Some (Stopped asked)) = IsPending n c d y z ⊎ IsFinished n c d y z
 SettlesEnd n c d y z (Some (NoneLeft seq)) = CountsNone y z × (z.pending ≡ y.pending)
 SettlesEnd n c d y z (Some Open) = CountsNone y z × (z.pending ≡ y.pending)

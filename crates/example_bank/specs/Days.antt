@@ -4,7 +4,7 @@ use Rattle.std.proofs.Common.{get_or}
 use Rattle.std.specs.List.{All}
 use Rattle.of_store.specs.Store.{Store}
 use Rattle.of_memory.specs.declared.error.RunErr.{RunErr}
-use Rattle.of_memory.specs.declared.error.RunErr.TheVariants.{OutOfMemory, Stopped, Spent as NoneLeft, Open, NoTicket}
+use Rattle.of_memory.specs.declared.error.RunErr.TheVariants.{Stopped, Spent as NoneLeft, Open, NoTicket}
 use Rattle.of_memory.specs.declared.saved.Saved.{Saved}
 use Rattle.of_memory.specs.History.{HistoryEntry, IsSerial, store_after}
 use Rattle.of_memory.specs.Saving.{SavedHolds, saved_ticket}
@@ -31,7 +31,6 @@ GoOnWithJobs c d xs ys =
 -- a call of the clerk was open in the evening
 abbrev pub open_in : Option RunErr → ℕ
 open_in None = 0
-open_in (Some OutOfMemory) = 0
 open_in (Some (Stopped asked)) = 1
 open_in (Some (NoneLeft seq)) = 0
 open_in (Some Open) = 0

@@ -8,7 +8,7 @@ use Rattle.of_store.specs.Store.{Store}
 use Rattle.of_store.specs.Replies.{reply_value_of}
 use Rattle.of_plan.specs.declared.answer.Answer.{Answer}
 use Rattle.of_memory.specs.declared.error.RunErr.{RunErr}
-use Rattle.of_memory.specs.declared.error.RunErr.TheVariants.{OutOfMemory, Stopped, Spent as NoneLeft, Open, NoTicket}
+use Rattle.of_memory.specs.declared.error.RunErr.TheVariants.{Stopped, Spent as NoneLeft, Open, NoTicket}
 use Rattle.of_memory.specs.declared.memory.Memory.{Memory}
 use Rattle.of_memory.specs.declared.handle.Handle.{Handle}
 use Rattle.of_memory.specs.declared.saved.Saved.{Saved}
@@ -71,7 +71,6 @@ module _ {J : Type 0} (Does : TaskWork J) (does : (x y : J) (h k : Handle) → D
 
 all_take : (script : List Instr) (r : Result Answer RunErr) (ms : List Made) → TakesJob script → AllTake ms → AllTake (made_with script r ms)
 all_take script (Ok a) ms takes all = All-push (λ (m : Made). TakesJob m.script) ms (record { script = script; ended = Replied (reply_value_of a.reply) }) all takes
-all_take script (Err OutOfMemory) ms takes all = all
 all_take script (Err (Stopped asked)) ms takes all = all
 all_take script (Err (NoneLeft seq)) ms takes all = All-push (λ (m : Made). TakesJob m.script) ms (record { script = script; ended = Spent }) all takes
 all_take script (Err Open) ms takes all = all

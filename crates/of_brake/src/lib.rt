@@ -2,6 +2,7 @@
 
 #![tactic(auto)]
 
+mod boxed;
 mod brake;
 mod fuel;
 mod hold;

@@ -6,13 +6,13 @@ use Rattle.of_script.specs.Text.{SpellsScript}
 use Rattle.of_plan.specs.declared.answer.Answer.{Answer}
 use Rattle.of_memory.specs.declared.handle.Handle.{Handle}
 use Rattle.of_memory.specs.declared.error.RunErr.{RunErr}
-use Rattle.of_memory.specs.declared.error.RunErr.TheVariants.{OutOfMemory, Stopped, Spent, Open, NoTicket}
+use Rattle.of_memory.specs.declared.error.RunErr.TheVariants.{Stopped, Spent, Open, NoTicket}
 use Rattle.of_memory.specs.Called.{LeavesAsItWas}
 use Rattle.of_memory.specs.Handles.{IsSame, MakesCall, StaysOpenOnlyIfStopped, RefusesCall, OpensOnly}
 use Rattle.of_memory.specs.Handles.{ResumesCall, OpenCallStays, RefusesToGoOn, OpensNone}
 use Rattle.of_memory.specs.Handles.{steps_so_far, step_bound_of}
 use Rattle.of_memory.specs.Within.{EndsWithin, KeepsToStop}
-use Rattle.of_c.specs.declared.codes.TheConstants.{DONE, EMPTY, NO_MEMORY, NO_TICKET, SPENT, STOPPED, CALL_OPEN}
+use Rattle.of_c.specs.declared.codes.TheConstants.{DONE, EMPTY, NO_TICKET, SPENT, STOPPED, CALL_OPEN}
 use Rattle.of_c.specs.declared.held.Held.{Held}
 use Rattle.of_c.specs.declared.held.Held.TheVariants.{Nothing, Memory, Caller, Saved}
 use Rattle.of_c.specs.declared.reply.CReply.{CReply}
@@ -27,7 +27,6 @@ step_limit steps = if steps == 18446744073709551615 then None else Some steps
 -- must not be, or that none is.
 abbrev pub Tells : (open_code : ℕ) → Result Answer RunErr → (code : ℕ) → CReply → Type 0
 Tells o (Ok a) code r = (code ≡ DONE) × ShowsAnswer a r
-Tells o (Err OutOfMemory) code r = code ≡ NO_MEMORY
 Tells o (Err (Stopped asked)) code r = (code ≡ STOPPED) × (r.steps ≡ asked)
 Tells o (Err (Spent seq)) code r = (code ≡ SPENT) × (r.seq ≡ seq)
 Tells o (Err Open) code r = code ≡ o

@@ -6,9 +6,7 @@ ghost use Rattle.of_c.specs.declared.codes.TheConstants.{CALL_OPEN, NO_CALL, NO_
 ghost use Rattle.of_c.specs.Calls.{step_limit, Tells, CallsScript, GoesOn, CallsHeld, CallsSlot};
 ghost use Rattle.of_c.specs.Calls.{CallsWords, AreNoScript, CallsText, IsNoText};
 
-use crate::codes::{
-    CALL_OPEN, DONE, EMPTY, NO_CALL, NO_MEMORY, NO_SCRIPT, NO_TICKET, SPENT, STOPPED,
-};
+use crate::codes::{CALL_OPEN, DONE, EMPTY, NO_CALL, NO_SCRIPT, NO_TICKET, SPENT, STOPPED};
 use crate::held::{Held, Seat};
 use crate::reply::CReply;
 use crate::slot::Slot;
@@ -34,7 +32,6 @@ fn code_of(ended: Result<Answer, RunErr>, open_code: u32, reply: &mut CReply) ->
             reply.tell(&answer);
             DONE
         }
-        Err(RunErr::OutOfMemory) => NO_MEMORY,
         Err(RunErr::Stopped { asked }) => {
             reply.steps = asked;
             STOPPED

@@ -4,7 +4,7 @@ ghost use Rattle.std.specs.Prelude.{◌≡◌, ◌+◌, ◌<◌, ◌≤◌, ◌�
 ghost use Rattle.of_mem.specs.declared.work.TheConstants.{MOST_INSTRS};
 ghost use Rattle.of_core.specs.Machine.{IsOpen};
 ghost use Rattle.of_core.specs.Turn.{IsIdle};
-ghost use Rattle.of_brake.specs.Stops.{HasRisen, HasHeardAnswer};
+ghost use Rattle.of_brake.specs.Stops.{HasRisen};
 ghost use Rattle.of_row.specs.Rows.{calls_of_member, IsRowMember, HasNoCall};
 
 use of_brake::{Brake, Steps};
@@ -30,16 +30,6 @@ pub enum CallErr {
 pub struct Caller<W: Work> {
     member: Member,
     machine: Machine<W>,
-}
-
-// Tells a brake of an answer.
-fn tell_answer(brake: &mut Box<dyn Brake + Send>)
-    ensures denials { denials brake.old ≤ denials brake.new }
-    ensures left { left brake.new ≡ left brake.old }
-    ensures answers { HasHeardAnswer (answers brake.old) (answers brake.new) }
-    ensures asks { asks brake.new ≡ asks brake.old }
-{
-    brake.answered();
 }
 
 impl<W: Work> Caller<W> {
@@ -76,11 +66,11 @@ impl<W: Work> Caller<W> {
 
     /// Makes a call of 1 to `MOST_INSTRS` words. The brake is asked before each of its steps, and
     /// told of its answer. A stopped call stays open for `go_on`; a spent one is over.
-    pub fn call<L: Ledger>(
+    pub fn call<L: Ledger, B: Brake>(
         &mut self,
         row: &Row<W>,
         op: &[u64],
-        brake: &mut Box<dyn Brake + Send>,
+        brake: &mut B,
         steps: &mut Steps<L>,
     ) -> Result<Outcome, CallErr>
         requires caller { IsCaller W.meaning row.now self.old }
@@ -92,12 +82,12 @@ impl<W: Work> Caller<W> {
         ensures told { TellsCallOf W.meaning W.lawful row.now
             (call_begun_by W.meaning row.now self.old op.now)
             self.old self.new steps.old steps.new result }
-        ensures denials { denials brake.old ≤ denials brake.new }
-        ensures cause { IsStop result → HasRisen (denials brake.old) (denials brake.new) }
-        ensures stop { StopsAt (left brake.old) result }
-        ensures left { UsesCountedSteps (left brake.old) (left brake.new) steps.old steps.new }
-        ensures answers { HearsAnswerOnce (answers brake.old) (answers brake.new) result }
-        ensures asks { AsksOf (asks brake.old) (asks brake.new) steps.old steps.new result }
+        ensures denials { B.denials brake.old ≤ B.denials brake.new }
+        ensures cause { IsStop result → HasRisen (B.denials brake.old) (B.denials brake.new) }
+        ensures stop { StopsAt (B.left brake.old) result }
+        ensures left { UsesCountedSteps (B.left brake.old) (B.left brake.new) steps.old steps.new }
+        ensures answers { HearsAnswerOnce (B.answers brake.old) (B.answers brake.new) result }
+        ensures asks { AsksOf (B.asks brake.old) (B.asks brake.new) steps.old steps.new result }
     {
         members(row.work());
         machines(row.work());
@@ -107,10 +97,10 @@ impl<W: Work> Caller<W> {
 
     /// Goes on with the open call, as `call` does. The steps of its answer are those of the whole
     /// call.
-    pub fn go_on<L: Ledger>(
+    pub fn go_on<L: Ledger, B: Brake>(
         &mut self,
         row: &Row<W>,
-        brake: &mut Box<dyn Brake + Send>,
+        brake: &mut B,
         steps: &mut Steps<L>,
     ) -> Result<Outcome, CallErr>
         requires caller { IsCaller W.meaning row.now self.old }
@@ -118,12 +108,12 @@ impl<W: Work> Caller<W> {
         ensures caller { IsCaller W.meaning row.now self.new }
         ensures told { TellsCallOf W.meaning W.lawful row.now (caller_call self.old)
             self.old self.new steps.old steps.new result }
-        ensures denials { denials brake.old ≤ denials brake.new }
-        ensures cause { IsStop result → HasRisen (denials brake.old) (denials brake.new) }
-        ensures stop { StopsAt (left brake.old) result }
-        ensures left { UsesCountedSteps (left brake.old) (left brake.new) steps.old steps.new }
-        ensures answers { HearsAnswerOnce (answers brake.old) (answers brake.new) result }
-        ensures asks { AsksOf (asks brake.old) (asks brake.new) steps.old steps.new result }
+        ensures denials { B.denials brake.old ≤ B.denials brake.new }
+        ensures cause { IsStop result → HasRisen (B.denials brake.old) (B.denials brake.new) }
+        ensures stop { StopsAt (B.left brake.old) result }
+        ensures left { UsesCountedSteps (B.left brake.old) (B.left brake.new) steps.old steps.new }
+        ensures answers { HearsAnswerOnce (B.answers brake.old) (B.answers brake.new) result }
+        ensures asks { AsksOf (B.asks brake.old) (B.asks brake.new) steps.old steps.new result }
     {
         of_core::laws::machines();
         let mut asked: u64 = 0;
@@ -137,7 +127,7 @@ impl<W: Work> Caller<W> {
         match self.machine.answer() {
             Some(Outcome::Spent { seq }) => Err(CallErr::Spent { seq }),
             Some(outcome) => {
-                tell_answer(brake);
+                brake.answered();
                 Ok(outcome)
             }
             None => unreachable!(),

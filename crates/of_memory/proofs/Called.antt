@@ -46,10 +46,10 @@ use Rattle.of_memory.specs.Calls.{IsScriptOperation, EndsAs, IsMade, AreMade, Ru
 use Rattle.of_caller.specs.PlanRows.{start_of_row}
 use Rattle.of_memory.specs.Serving.{IsScriptsRow, Serves, ended_of, made_before}
 use Rattle.of_memory.specs.declared.error.RunErr.{RunErr}
-use Rattle.of_memory.specs.declared.error.RunErr.TheVariants.{OutOfMemory, Stopped as Halted, Spent as RanOut, Open, NoTicket}
+use Rattle.of_memory.specs.declared.error.RunErr.TheVariants.{Stopped as Halted, Spent as RanOut, Open, NoTicket}
 use Rattle.of_memory.specs.declared.handle.Handle.{Handle}
 use Rattle.of_memory.specs.Called.{WasTried, LeavesAsItWas, CallerOpensOnly, CallerOpensNone}
-use Rattle.of_memory.specs.Within.{KeepsToTold}
+use Rattle.of_memory.specs.Within.{KeepsToStop}
 use Rattle.of_memory.specs.Handles.{home_of, CallsAreCounted, RefusesCall, RefusesToGoOn}
 use Rattle.of_memory.proofs.Plans.{plan_of, is_plan}
 
@@ -220,24 +220,29 @@ module _ (S : Setup) (L : List ℕ → Type 0) (B : TableStart) (m : CallState) 
   pub stops_within : (asked : ℕ) → r ≡ Err (Stopped asked) → asked ≤ bound S
   stops_within asked is = let h : Told (Err (Stopped asked)) = subst Told is told.result in let within = h.2 in omega (arith, within)
 
-  pub keeps_answered : (before after : Option (Option ℕ)) → UsesCountedSteps before after a b → (o : Outcome) (x : Answer) → TellsAnswer o x → Told (Ok o) → KeepsToTold m.steps before d.steps (Ok x)
-  keeps_answered None after uses o x tells h = tt
-  keeps_answered (Some None) after uses o x tells h = tt
-  keeps_answered (Some (Some most)) None uses o x tells h = absurd uses.2
-  keeps_answered (Some (Some most)) (Some rest) uses o x tells h = let steps = steps_told o x tells h.1 in omega (arith, steps, uses.1, told.rise, uses.2.1)
+  answers_by : (stop : Option ℕ) (after : Option (Option ℕ)) → UsesCountedSteps (Some stop) after a b → (o : Outcome) (x : Answer) → TellsAnswer o x → Told (Ok o) → KeepsToStop m.steps stop d.steps (Ok x)
+  answers_by None after uses o x tells h = tt
+  answers_by (Some most) None uses o x tells h = absurd uses.2
+  answers_by (Some most) (Some rest) uses o x tells h = let steps = steps_told o x tells h.1 in omega (arith, steps, uses.1, told.rise, uses.2.1)
 
-  pub keeps_stopped : (before : Option (Option ℕ)) → StopsAt before r → (asked : ℕ) → r ≡ Err (Stopped asked) → KeepsToTold m.steps before d.steps (Err (Halted asked))
-  keeps_stopped None stop asked is = tt
-  keeps_stopped (Some None) stop asked is = absurd (subst (StopsAt (Some None)) is stop)
-  keeps_stopped (Some (Some most)) stop asked is =
+  stops_by : (stop : Option ℕ) → StopsAt (Some stop) r → (asked : ℕ) → r ≡ Err (Stopped asked) → KeepsToStop m.steps stop d.steps (Err (Halted asked))
+  stops_by None stops asked is = absurd (subst (StopsAt (Some None)) is stops)
+  stops_by (Some most) stops asked is =
       let h : Told (Err (Stopped asked)) = subst Told is told.result in
-      let used : asked ≡ most + 1 = subst (StopsAt (Some (Some most))) is stop in
+      let used : asked ≡ most + 1 = subst (StopsAt (Some (Some most))) is stops in
       (used, omega (arith, h.0.steps, h.1, used))
 
-  pub keeps_over : (before : Option (Option ℕ)) (seq : ℕ) → KeepsToTold m.steps before d.steps (Err (RanOut seq))
+  -- a brake that is armed with a stop lets a call make so many steps
+  module _ (stop : Option ℕ) (left : Option (Option ℕ)) (armed : left ≡ Some stop) where
+    pub keeps_answered : (after : Option (Option ℕ)) → UsesCountedSteps left after a b → (o : Outcome) (x : Answer) → TellsAnswer o x → Told (Ok o) → KeepsToStop m.steps stop d.steps (Ok x)
+    keeps_answered after uses o x tells h = answers_by stop after (subst (λ (z : Option (Option ℕ)). UsesCountedSteps z after a b) armed uses) o x tells h
+
+    pub keeps_stopped : StopsAt left r → (asked : ℕ) → r ≡ Err (Stopped asked) → KeepsToStop m.steps stop d.steps (Err (Halted asked))
+    keeps_stopped stops asked is = stops_by stop (subst (λ (z : Option (Option ℕ)). StopsAt z r) armed stops) asked is
+
+  pub keeps_over : (stop : Option ℕ) (seq : ℕ) → KeepsToStop m.steps stop d.steps (Err (RanOut seq))
   keeps_over None seq = tt
-  keeps_over (Some None) seq = tt
-  keeps_over (Some (Some most)) seq = tt
+  keeps_over (Some most) seq = tt
 
 -- ---- a caller of a row of scripts
 
@@ -326,7 +331,6 @@ calls_counted h ms is none made =
 
 pub tried_is : (h : Handle) (r : Result Answer RunErr) → WasTried r → RefusesCall h r
 tried_is h (Ok a) t = tt
-tried_is h (Err OutOfMemory) t = tt
 tried_is h (Err (Halted asked)) t = tt
 tried_is h (Err (RanOut seq)) t = tt
 tried_is h (Err Open) t = absurd t
@@ -334,19 +338,18 @@ tried_is h (Err NoTicket) t = absurd t
 
 pub went_on : (h : Handle) (r : Result Answer RunErr) → WasTried r → RefusesToGoOn h r
 went_on h (Ok a) t = tt
-went_on h (Err OutOfMemory) t = tt
 went_on h (Err (Halted asked)) t = tt
 went_on h (Err (RanOut seq)) t = tt
 went_on h (Err Open) t = absurd t
 went_on h (Err NoTicket) t = absurd t
 
-pub as_it_was : {A C : Type 0} → (f : A → C) (r : Result Answer RunErr) (x y : A) → LeavesAsItWas r x y → LeavesAsItWas r (f x) (f y)
-as_it_was f (Ok a) x y h = tt
-as_it_was f (Err OutOfMemory) x y h = ap f h
-as_it_was f (Err (Halted asked)) x y h = tt
-as_it_was f (Err (RanOut seq)) x y h = tt
-as_it_was f (Err Open) x y h = ap f h
-as_it_was f (Err NoTicket) x y h = ap f h
+-- of a call that is made nothing is said to stay
+pub was_made : (r : Result Answer RunErr) (h k : Handle) → WasTried r → LeavesAsItWas r h k
+was_made (Ok a) h k t = tt
+was_made (Err (Halted asked)) h k t = tt
+was_made (Err (RanOut seq)) h k t = tt
+was_made (Err Open) h k t = absurd t
+was_made (Err NoTicket) h k t = absurd t
 
 -- ---- what is open after a call
 

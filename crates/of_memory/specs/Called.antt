@@ -9,7 +9,7 @@ use Rattle.of_core.specs.Machine.{IsOpen}
 use Rattle.of_caller.specs.declared.caller.Caller.{Caller}
 use Rattle.of_caller.specs.Callers.{caller_call}
 use Rattle.of_memory.specs.declared.error.RunErr.{RunErr}
-use Rattle.of_memory.specs.declared.error.RunErr.TheVariants.{OutOfMemory, Stopped, Spent as NoneLeft, Open, NoTicket}
+use Rattle.of_memory.specs.declared.error.RunErr.TheVariants.{Stopped, Spent as NoneLeft, Open, NoTicket}
 use Rattle.of_memory.specs.History.{Made, Replied, Spent}
 use Rattle.of_memory.specs.Calls.{AreMade}
 use Rattle.of_memory.specs.Serving.{ended_of}
@@ -18,7 +18,6 @@ use Rattle.of_memory.specs.Serving.{ended_of}
 abbrev pub made_with : List Instr → Result Answer RunErr → List Made → List Made
 made_with script (Ok a) ms =
     ms ++ record { script = script; ended = Replied (reply_value_of a.reply) } ∷ []
-made_with script (Err OutOfMemory) ms = ms
 made_with script (Err (Stopped asked)) ms = ms
 made_with script (Err (NoneLeft seq)) ms = ms ++ record { script = script; ended = Spent } ∷ []
 made_with script (Err Open) ms = ms
@@ -37,7 +36,6 @@ IsInCall c = IsOpen (caller_call c).place
 -- a stopped call stays open, and none is open after one that has ended
 abbrev pub LeavesOpen : List Instr → Result Answer RunErr → Caller Scripts → Type 0
 LeavesOpen script (Ok a) c = IsInCall c → ⊥
-LeavesOpen script (Err OutOfMemory) c = Unit {0}
 LeavesOpen script (Err (Stopped asked)) c = IsOpenAt script c
 LeavesOpen script (Err (NoneLeft seq)) c = IsInCall c → ⊥
 LeavesOpen script (Err Open) c = Unit {0}
@@ -70,10 +68,9 @@ CallerOpensOnly script c d = (s : List Instr) → IsOpenAt s d → (s ≡ script
 abbrev pub CallerOpensNone : (before now : Caller Scripts) → Type 0
 CallerOpensNone c d = (s : List Instr) → IsOpenAt s d → IsOpenAt s c
 
--- the call was begun, unless there was no memory
+-- the call was made: it was not refused
 abbrev pub WasTried : Result Answer RunErr → Type 0
 WasTried (Ok a) = Unit {0}
-WasTried (Err OutOfMemory) = Unit {0}
 WasTried (Err (Stopped asked)) = Unit {0}
 WasTried (Err (NoneLeft seq)) = Unit {0}
 WasTried (Err Open) = ⊥
@@ -82,7 +79,6 @@ WasTried (Err NoTicket) = ⊥
 -- a call that is not made leaves everything as it was
 abbrev pub LeavesAsItWas : {A : Type 0} → Result Answer RunErr → (before now : A) → Type 0
 LeavesAsItWas (Ok a) before now = Unit {0}
-LeavesAsItWas (Err OutOfMemory) before now = now ≡ before
 LeavesAsItWas (Err (Stopped asked)) before now = Unit {0}
 LeavesAsItWas (Err (NoneLeft seq)) before now = Unit {0}
 LeavesAsItWas (Err Open) before now = now ≡ before

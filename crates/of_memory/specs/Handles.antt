@@ -8,7 +8,7 @@ use Rattle.of_row.specs.declared.row.Row.{Row}
 use Rattle.of_caller.specs.declared.caller.Caller.{Caller}
 use Rattle.of_caller.specs.Callers.{caller_call, calls_begun_by}
 use Rattle.of_memory.specs.declared.error.RunErr.{RunErr}
-use Rattle.of_memory.specs.declared.error.RunErr.TheVariants.{OutOfMemory, Stopped, Spent, Open, NoTicket}
+use Rattle.of_memory.specs.declared.error.RunErr.TheVariants.{Stopped, Spent, Open, NoTicket}
 use Rattle.of_memory.specs.declared.handle.Handle.{Handle}
 use Rattle.of_memory.specs.History.{Made}
 use Rattle.of_memory.specs.Calls.{AreMade}
@@ -103,7 +103,6 @@ OpensNone h k = CallerOpensNone (caller_of h) (caller_of k)
 -- it refuses a call only if one is open, or its number has made all calls that it may make
 abbrev pub RefusesCall : Handle → Result Answer RunErr → Type 0
 RefusesCall h (Ok a) = Unit {0}
-RefusesCall h (Err OutOfMemory) = Unit {0}
 RefusesCall h (Err (Stopped asked)) = Unit {0}
 RefusesCall h (Err (Spent seq)) = Unit {0}
 RefusesCall h (Err Open) = HasCallOpen h
@@ -112,7 +111,6 @@ RefusesCall h (Err NoTicket) = HasNoTicketLeft h
 -- it refuses to go on only if no call is open
 abbrev pub RefusesToGoOn : Handle → Result Answer RunErr → Type 0
 RefusesToGoOn h (Ok a) = Unit {0}
-RefusesToGoOn h (Err OutOfMemory) = Unit {0}
 RefusesToGoOn h (Err (Stopped asked)) = Unit {0}
 RefusesToGoOn h (Err (Spent seq)) = Unit {0}
 RefusesToGoOn h (Err Open) = HasCallOpen h → ⊥

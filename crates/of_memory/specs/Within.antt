@@ -2,12 +2,11 @@
 use Rattle.std.specs.Prelude.{◌≡◌, ℕ, ◌+◌, ◌≤◌, Option, Some, None, Result, Ok, Err}
 use Rattle.of_plan.specs.declared.answer.Answer.{Answer}
 use Rattle.of_memory.specs.declared.error.RunErr.{RunErr}
-use Rattle.of_memory.specs.declared.error.RunErr.TheVariants.{OutOfMemory, Stopped, Spent, Open, NoTicket}
+use Rattle.of_memory.specs.declared.error.RunErr.TheVariants.{Stopped, Spent, Open, NoTicket}
 
 -- the call is not stopped
 abbrev pub IsNeverStopped : Result Answer RunErr → Type 0
 IsNeverStopped (Ok a) = Unit {0}
-IsNeverStopped (Err OutOfMemory) = Unit {0}
 IsNeverStopped (Err (Stopped asked)) = ⊥
 IsNeverStopped (Err (Spent seq)) = Unit {0}
 IsNeverStopped (Err Open) = Unit {0}
@@ -18,7 +17,6 @@ IsNeverStopped (Err NoTicket) = Unit {0}
 -- ask.
 abbrev pub KeepsWithin : (before more now : ℕ) → Result Answer RunErr → Type 0
 KeepsWithin before more now (Ok a) = a.steps ≤ before + more
-KeepsWithin before more now (Err OutOfMemory) = Unit {0}
 KeepsWithin before more now (Err (Stopped asked)) = (asked ≡ more + 1) × (now ≡ before + more)
 KeepsWithin before more now (Err (Spent seq)) = Unit {0}
 KeepsWithin before more now (Err Open) = Unit {0}
@@ -30,16 +28,9 @@ abbrev pub KeepsToStop : (before : ℕ) → (stop : Option ℕ) → (now : ℕ)
 KeepsToStop before None now r = IsNeverStopped r
 KeepsToStop before (Some more) now r = KeepsWithin before more now r
 
--- the same of what a brake gives, where it tells its steps left
-abbrev pub KeepsToTold : (before : ℕ) → (left : Option (Option ℕ)) → (now : ℕ)
-    → Result Answer RunErr → Type 0
-KeepsToTold before None now r = Unit {0}
-KeepsToTold before (Some stop) now r = KeepsToStop before stop now r
-
 -- An answer tells at most so many steps, and a stopped call has asked at most so many times.
 abbrev pub EndsWithin : (most : ℕ) → Result Answer RunErr → Type 0
 EndsWithin most (Ok a) = a.steps ≤ most
-EndsWithin most (Err OutOfMemory) = Unit {0}
 EndsWithin most (Err (Stopped asked)) = asked ≤ most
 EndsWithin most (Err (Spent seq)) = Unit {0}
 EndsWithin most (Err Open) = Unit {0}

@@ -35,9 +35,6 @@ pub enum EnrolErr {
 /// Why a call has no answer.
 #[derive(Clone, Copy, Debug, PartialEq, Eq, Error)]
 pub enum RunErr {
-    /// Nothing was begun.
-    #[error("out of memory")]
-    OutOfMemory,
     /// The call has asked for so many steps, and the last one was denied. It stays open, for
     /// `go_on`.
     #[error("stopped at step {asked}")]

@@ -14,7 +14,6 @@ use std::sync::Arc;
 /// One caller of a memory, for one thread at a time.
 #[derive(Drop)]
 pub struct Handle {
-    pub(crate) alloc: Global,
     pub(crate) row: Arc<Row<Scripts>, Global>,
     pub(crate) number: u32,
     pub(crate) caller: Caller<Scripts>,
@@ -91,14 +90,7 @@ impl Handle {
         if self.caller.made() == u32::MAX {
             return Err(RunErr::NoTicket);
         }
-        call_script(
-            self.alloc,
-            &self.row,
-            self.number,
-            &mut self.caller,
-            script,
-            stop,
-        )
+        call_script(&self.row, self.number, &mut self.caller, script, stop)
     }
 
     /// Goes on with the open call, to its answer.
@@ -150,7 +142,7 @@ impl Handle {
         if self.caller.is_idle() {
             return Err(RunErr::Open);
         }
-        go_on_with(self.alloc, &self.row, self.number, &mut self.caller, stop)
+        go_on_with(&self.row, self.number, &mut self.caller, stop)
     }
 
     /// Leaves its memory, which keeps what it has made; a call that is open stays open. Then its
@@ -170,7 +162,6 @@ impl Handle {
         ensures back { PutsBack memory.old memory.new self }
     {
         let Handle {
-            alloc: _,
             row: _,
             number,
             caller,

@@ -155,7 +155,6 @@ impl Memory {
         };
         match take_at(&mut self.callers, number as usize) {
             Some(caller) => Ok(Handle {
-                alloc: self.alloc,
                 row,
                 number,
                 caller,

@@ -31,14 +31,14 @@ returns-clause-made g c script ms is words made =
 pub returns-in-Ok-clause-stop : goal.returns-in-Ok-clause-stop
 returns-in-Ok-clause-stop g c =
     let told = c.in-Ok.ensures.told in
-    keeps_answered _ _ _ _ _ _ _ _ _ _ told _ _ c.in-Ok.ensures.left c.in-Ok.outcome c.answer_of.result c.answer_of.ensures told.result
+    keeps_answered _ _ _ _ _ _ _ _ _ _ told c.args.stop _ c.fuel_of.ensures _ c.in-Ok.ensures.left c.in-Ok.outcome c.answer_of.result c.answer_of.ensures told.result
 
 pub returns-in-Err-Stopped-clause-stop : goal.returns-in-Err-Stopped-clause-stop
 returns-in-Err-Stopped-clause-stop g c =
-    keeps_stopped _ _ _ _ _ _ _ _ _ _ c.go_on.ensures.told _ c.go_on.ensures.stop c.in-Err-Stopped.asked (c.in-Err-Stopped.is ∙ ap (λ e. Err e) c.in-Err-Stopped.field-0-is)
+    keeps_stopped _ _ _ _ _ _ _ _ _ _ c.go_on.ensures.told c.args.stop _ c.fuel_of.ensures c.go_on.ensures.stop c.in-Err-Stopped.asked (c.in-Err-Stopped.is ∙ ap (λ e. Err e) c.in-Err-Stopped.field-0-is)
 
 pub returns-clause-stop : goal.returns-clause-stop
-returns-clause-stop g c = keeps_over _ _ _ _ _ _ _ _ _ _ c.go_on.ensures.told _ _
+returns-clause-stop g c = keeps_over _ _ _ _ _ _ _ _ _ _ c.go_on.ensures.told c.args.stop _
 
 pub returns-in-Ok-clause-open_call : goal.returns-in-Ok-clause-open_call
 returns-in-Ok-clause-open_call g c script is words =

@@ -27,11 +27,11 @@ loop-asked-preserved g c =
       answers = c.in-Ok.ensures.answers ∙ inv.answers;
       asks =
           let b0 = c.args.brake.now in let b1 = c.loop-asked.brake in let b2 = c.step.new.brake in
-          let asks0 = (goal.Brake-dyn g (b0.vtable, b0.value)).asks b0.value in let asks1 = (goal.Brake-dyn g (b1.vtable, b1.value)).asks b1.value in let asks2 = (goal.Brake-dyn g (b2.vtable, b2.value)).asks b2.value in
+          let asks0 = g.B.Brake.asks b0 in let asks1 = g.B.Brake.asks b1 in let asks2 = g.B.Brake.asks b2 in
           asked_more asks0 asks1 asks2 c.loop-asked.asked inv.asks c.in-Ok.ensures.asks;
       uses =
           let b0 = c.args.brake.now in let b1 = c.loop-asked.brake in let b2 = c.step.new.brake in
-          let left0 = (goal.Brake-dyn g (b0.vtable, b0.value)).left b0.value in let left1 = (goal.Brake-dyn g (b1.vtable, b1.value)).left b1.value in let left2 = (goal.Brake-dyn g (b2.vtable, b2.value)).left b2.value in
+          let left0 = g.B.Brake.left b0 in let left1 = g.B.Brake.left b1 in let left2 = g.B.Brake.left b2 in
           gave_more left0 left1 left2 c.loop-asked.asked inv.uses c.in-Ok.ensures.left;
     }
 
@@ -47,15 +47,15 @@ loop-asked-smaller g c =
 pub returns-in-Some-clause-left : goal.returns-in-Some-clause-left
 returns-in-Some-clause-left g c =
     let inv = c.loop-asked.invariant in
-    (c.loop-asked.asked, inv.steps, gave_same _ _ _ _ inv.uses c.tell_answer.ensures.left)
+    (c.loop-asked.asked, inv.steps, gave_same _ _ _ _ inv.uses c.answered.ensures.left)
 
 pub returns-in-Some-clause-answers : goal.returns-in-Some-clause-answers
-returns-in-Some-clause-answers g c = heard_from _ _ _ c.loop-asked.invariant.answers c.tell_answer.ensures.answers
+returns-in-Some-clause-answers g c = heard_from _ _ _ c.loop-asked.invariant.answers c.answered.ensures.answers
 
 pub returns-in-Some-clause-asks : goal.returns-in-Some-clause-asks
 returns-in-Some-clause-asks g c =
     let inv = c.loop-asked.invariant in
-    (c.loop-asked.asked, inv.steps, asked_same _ _ _ _ inv.asks c.tell_answer.ensures.asks)
+    (c.loop-asked.asked, inv.steps, asked_same _ _ _ _ inv.asks c.answered.ensures.asks)
 
 pub returns-in_default-clause-asks : goal.returns-in_default-clause-asks
 returns-in_default-clause-asks g c = asked_more _ _ _ _ c.loop-asked.invariant.asks c.step.ensures.asks

@@ -14,8 +14,8 @@ invariant-loop-asked g l = record {
   caller : IsCaller g.W.Work.meaning l.row l.self;
   progress : Progress (setup_at g.W.Work.meaning l.row) (g.W.Work.lawful (key_of l.row).work) (row_start g.W.Work.meaning l.row) (caller_call l.initial.self) (sight_of l.initial.self) l.asked (caller_call l.self) (sight_of l.self);
   steps : l.steps ≡ l.initial.steps + l.asked;
-  denials : (goal.Brake-dyn g (l.initial.brake.vtable, l.initial.brake.value)).denials l.initial.brake.value ≤ (goal.Brake-dyn g (l.brake.vtable, l.brake.value)).denials l.brake.value;
-  uses : TakesSteps ((goal.Brake-dyn g (l.initial.brake.vtable, l.initial.brake.value)).left l.initial.brake.value) ((goal.Brake-dyn g (l.brake.vtable, l.brake.value)).left l.brake.value) l.asked;
-  asks : AskedFor ((goal.Brake-dyn g (l.initial.brake.vtable, l.initial.brake.value)).asks l.initial.brake.value) ((goal.Brake-dyn g (l.brake.vtable, l.brake.value)).asks l.brake.value) l.asked;
-  answers : (goal.Brake-dyn g (l.brake.vtable, l.brake.value)).answers l.brake.value ≡ (goal.Brake-dyn g (l.initial.brake.vtable, l.initial.brake.value)).answers l.initial.brake.value;
+  denials : g.B.Brake.denials l.initial.brake ≤ g.B.Brake.denials l.brake;
+  uses : TakesSteps (g.B.Brake.left l.initial.brake) (g.B.Brake.left l.brake) l.asked;
+  asks : AskedFor (g.B.Brake.asks l.initial.brake) (g.B.Brake.asks l.brake) l.asked;
+  answers : g.B.Brake.answers l.brake ≡ g.B.Brake.answers l.initial.brake;
 }

@@ -1,10 +1,8 @@
-use Rattle.of_memory.proofs.Called.{went_on, as_it_was}
+use Rattle.of_memory.proofs.Called.{went_on, was_made}
 use Rattle.of_memory.proofs.handle.Handle.resume.Goals as goal
 
 pub returns-clause-cause : goal.returns-clause-cause
 returns-clause-cause c = went_on c.args.self.now c.go_on_with.result c.go_on_with.ensures.tried
 
 pub returns-clause-unmade : goal.returns-clause-unmade
-returns-clause-unmade c =
-    let h = c.args.self.now in
-    as_it_was (λ k. record h { caller = k }) c.go_on_with.result h.caller c.go_on_with.new.caller c.go_on_with.ensures.unmade
+returns-clause-unmade c = was_made c.go_on_with.result _ _ c.go_on_with.ensures.tried
