@@ -131,14 +131,14 @@ module _ {W : Type 0} (meaning : W → Meaning) (lawful : W → List ℕ → Typ
       all = ap length by_past.ended
 
   -- and in each that begins with it
-  ended_later : (es ds : List Event) (i : ℕ) → IsPrefix es ds → length (outcomes S first es i) ≤ length (outcomes S first ds i)
+  pub ended_later : (es ds : List Event) (i : ℕ) → IsPrefix es ds → length (outcomes S first es i) ≤ length (outcomes S first ds i)
   ended_later es ds i p =
       let more = outcomes S (after_events S first es) p.0 i in
       let e : outcomes S first ds i ≡ outcomes S first es i ++ more = ap (λ (l : List Event). outcomes S first l i) (sym p.1) ∙ outcomes_append S first es p.0 i in
       omega (arith, ap length e, length-append (outcomes S first es i) more)
 
   -- before a caller with no open call makes a step, its past has only calls that have ended
-  begun_in_past : (n : CallState) (b c : Caller W) (p q : ℕ) (r : Result Outcome CallErr) (told : TellsCallOf meaning lawful row n b c p q r) → HasNoCall b.member → 0 < told.steps → length (operations_begun (sight_of b).past n.caller) ≤ length told.before.ended
+  pub begun_in_past : (n : CallState) (b c : Caller W) (p q : ℕ) (r : Result Outcome CallErr) (told : TellsCallOf meaning lawful row n b c p q r) → HasNoCall b.member → 0 < told.steps → length (operations_begun (sight_of b).past n.caller) ≤ length told.before.ended
   begun_in_past n b c p q r told rest some =
       let idle : IsIdle told.before.machine = ap (λ (xs : List KnownCaller). (last_caller xs).machine.place) (sym told.kept_before) ∙ rest in
       omega (arith, told.behind some, ap length (begun_idle told.before idle), length-map told.before.ended (λ (e : EndedCall). e.op))

@@ -28,7 +28,7 @@ pub enum CallErr {
 /// One caller: a member of a row, and the machine that its calls are made with.
 #[derive(Drop)]
 pub struct Caller<W: Work> {
-    member: Member,
+    pub(crate) member: Member,
     machine: Machine<W>,
 }
 

@@ -9,6 +9,7 @@ pub mod laws;
 mod rows;
 mod team_caller;
 mod team_run;
+mod telling;
 
 pub use caller::{CallErr, Caller};
 pub use rows::zero_row_for;

@@ -1,0 +1,40 @@
+//! What one caller knows goes to another while both stay: as a pass.
+
+ghost use Rattle.std.specs.Prelude.{◌≡◌};
+ghost use Rattle.of_row.specs.Rows.{view_of_pass, IsRowPass, KeepsNobody, KnowsBoth};
+ghost use Rattle.of_row.specs.Turned.{view_of_nobody};
+
+use crate::caller::Caller;
+use of_mem::Work;
+use of_row::{Pass, Row};
+
+impl<W: Work> Caller<W> {
+    ghost use Rattle.of_caller.specs.Callers.{IsCaller, caller_call, sight_of};
+
+    /// A pass that knows all that the caller has seen, for another caller to hear. The caller stays
+    /// as it is.
+    pub fn tell(&mut self, row: &Row<W>) -> Pass
+        requires { IsCaller W.meaning row.now self.old }
+        ensures caller { IsCaller W.meaning row.now self.new }
+        ensures call { caller_call self.new ≡ caller_call self.old }
+        ensures sight { sight_of self.new ≡ sight_of self.old }
+        ensures pass { IsRowPass row.now result }
+        ensures tells { view_of_pass result ≡ view_of_nobody (sight_of self.old) }
+    {
+        row.tell(&mut self.member)
+    }
+
+    /// Takes in a pass that keeps nobody: the caller then knows all that either had seen. Its calls
+    /// stay as they are, the open one too.
+    pub fn hear(&mut self, row: &Row<W>, pass: Pass)
+        requires caller { IsCaller W.meaning row.now self.old }
+        requires pass { IsRowPass row.now pass }
+        requires nobody { KeepsNobody pass }
+        ensures caller { IsCaller W.meaning row.now self.new }
+        ensures call { caller_call self.new ≡ caller_call self.old }
+        ensures kept { (sight_of self.new).kept ≡ (sight_of self.old).kept }
+        ensures heard { KnowsBoth (sight_of self.old) (view_of_pass pass) (sight_of self.new) }
+    {
+        row.hear(&mut self.member, pass);
+    }
+}
