@@ -1,11 +1,24 @@
-use Rattle.std.proofs.Common.{get_or, arith}
+use Rattle.std.proofs.Common.{◌≡◌, ◌≤◌, ◌<◌, ◌+◌, get_or, take, length, arith}
+use Rattle.std.specs.Char.{digit_value}
+use Rattle.std.proofs.lemmas.List.{length-take-le}
 use Rattle.std.proofs.lemmas.Int.Digits.{digits_more, digits_value_more}
 use Rattle.std.proofs.lemmas.Str.{digit_value_digit}
+use Rattle.of_script.proofs.Numbers.{few_digits}
 use Rattle.of_script.proofs.text.leading_digits.Goals as goal
 
 pub loop-i-preserved : goal.loop-i-preserved
-loop-i-preserved c = record {
-  digits = digits_more 10 c.args.bytes.now c.loop-i.i c.loop-i-test.true c.loop-i.invariant.digits c.if-not-is_ascii_digit.ensures.bound;
-  value = omega (arith, digits_value_more 10 c.args.bytes.now c.loop-i.i c.loop-i-test.true, digit_value_digit (get_or c.args.bytes.now c.loop-i.i 0) c.if-not-is_ascii_digit.ensures.cases);
-  small = omega arith;
-}
+loop-i-preserved c =
+    let bytes = c.args.bytes.now in
+    let b = get_or bytes c.loop-i.i 0 in
+    let low : 48 ≤ b = omega (arith, c.from-digit.ensures, c.if-digit-gt9.false) in
+    let high : b ≤ 57 = omega (arith, c.from-digit.ensures, c.if-digit-gt9.false) in
+    let digit : digit_value b + 48 ≡ b = digit_value_digit b (low, high) in
+    let below : digit_value b < 10 = omega arith in
+    let digits = digits_more 10 bytes c.loop-i.i c.loop-i-test.true c.loop-i.invariant.digits below in
+    let more = digits_value_more 10 bytes c.loop-i.i c.loop-i-test.true in
+    record {
+      digits = digits;
+      value = λ few.
+          let short : length (take (c.loop-i.i + 1) bytes) ≤ 10 = omega (arith, length-take-le (c.loop-i.i + 1) bytes (omega arith)) in
+          omega (arith, c.loop-i.invariant.value (omega arith), more, digit, few_digits _ digits short, c.from-digit.ensures);
+    }
