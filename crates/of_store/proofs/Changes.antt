@@ -20,7 +20,7 @@ use Rattle.of_store.specs.Store.{Store, IsState, InstrEffect, ScriptOutcome, ins
 use Rattle.of_store.proofs.Keeps.{nat_same}
 use Rattle.of_store.specs.declared.change.Change.{Change}
 use Rattle.of_store.specs.declared.change.Change.TheVariants.{Nothing, Register, Key, Pushed}
-use Rattle.of_store.specs.Changes.{takes_out, may_fail, FailsFirst, change_of, with_at, without, undone, IsReplaced, IsChange, AreThere, ChangesLead, HasFailed}
+use Rattle.of_store.specs.Changes.{takes_out, may_fail, FailsFirst, change_of, change_after, written_register, with_at, without, undone, IsReplaced, IsChange, AreThere, ChangesLead, HasFailed}
 
 -- ---- an instruction is taken back
 
@@ -130,6 +130,33 @@ takes_back s t Count o h k f e = no_change s t (ap (left_by s) e)
 takes_back s t First o h k f e = no_change s t (ap (left_by s) e)
 takes_back s t (Next n) o h k f e = no_change s t (ap (left_by s) e)
 takes_back s t (DropBelow n) o h k f e = absurd cc
+
+-- what an effect answers, or this
+abbrev answered_by : Option ℕ → InstrEffect → Option ℕ
+answered_by o (Ok e) = e.1
+answered_by o (Err cause) = o
+
+answer_of : (b : Bool) (cause : Cause) (t u : Store) (o p : Option ℕ) → cond {A = InstrEffect} b (Err cause) (Ok (t, o)) ≡ Ok (u, p) → p ≡ o
+answer_of true cause t u o p e = absurd cc
+answer_of false cause t u o p e = sym (ap (answered_by o) e)
+
+-- what an instruction has changed is told by what its register had and by what it answered
+pub change_told : (s t : Store) (i : Instr) (o : Option ℕ) → instr_effect s i ≡ Ok (t, o) → change_after i (written_register s i) o ≡ change_of s i
+change_told s t (Load r) o e = refl
+change_told s t (StoreInstr r v) o e = refl
+change_told s t (Add r v) o e = refl
+change_told s t (Sub r v) o e = refl
+change_told s t (Get n) o e = refl
+change_told s t (Put n v) o e = ap (Key n) (answer_of _ _ _ t _ o e)
+change_told s t (Del n) o e = refl
+change_told s t (Need n v) o e = refl
+change_told s t (Push q v) o e = refl
+change_told s t (Pop q) o e = refl
+change_told s t (Len q) o e = refl
+change_told s t Count o e = refl
+change_told s t First o e = refl
+change_told s t (Next n) o e = refl
+change_told s t (DropBelow n) o e = refl
 
 -- ---- what fails
 

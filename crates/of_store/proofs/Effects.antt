@@ -44,3 +44,7 @@ copied_none (Some v) e = absurd cc
 pub copied_some : (o : Option (Bor ℕ)) → is_some o ≡ true → is_some (option_copied o) ≡ true
 copied_some None e = absurd cc
 copied_some (Some v) e = refl
+
+pub none_from : (o : Option ℕ) → is_some o ≡ false → o ≡ None
+none_from None e = refl
+none_from (Some v) e = absurd cc

@@ -71,6 +71,22 @@ change_of s First = Nothing
 change_of s (Next k) = Nothing
 change_of s (DropBelow k) = Nothing
 
+-- the number of the register that the instruction writes; 0 if it writes none
+abbrev pub written_register : Store → Instr → ℕ
+written_register s (StoreInstr r v) = register s r
+written_register s (Add r v) = register s r
+written_register s (Sub r v) = register s r
+written_register s _ = 0
+
+-- what it has changed, by that number and by what it answered
+abbrev pub change_after : Instr → (before : ℕ) → (answer : Option ℕ) → Change
+change_after (StoreInstr r v) before answer = Register r before
+change_after (Add r v) before answer = Register r before
+change_after (Sub r v) before answer = Register r before
+change_after (Put k v) before answer = Key k answer
+change_after (Push q v) before answer = Pushed q
+change_after _ before answer = Nothing
+
 -- the store with this at a key, or without the key
 abbrev pub with_at : Store → ℕ → Option ℕ → Store
 with_at s k None = without_key s k

@@ -3,7 +3,7 @@
 ghost use Rattle.std.specs.Prelude.{◌≡◌, ◌≤◌, length};
 ghost use Rattle.of_script.specs.Language.{IsInstrInRange};
 ghost use Rattle.of_script.specs.declared.instr.TheConstants.{MOST_INSTRS};
-ghost use Rattle.of_store.specs.Changes.{change_of, without, undone, IsChange, AreThere};
+ghost use Rattle.of_store.specs.Changes.{change_after, written_register, without, undone, IsChange, AreThere};
 
 use crate::store::Store;
 use of_script::{Instr, MOST_INSTRS};
@@ -41,25 +41,35 @@ impl Changes {
     }
 }
 
+// What takes an instruction back that has run, by the number that its register had and by what it
+// answered.
+pub(crate) fn change_after(instr: Instr, before: u32, answer: Option<u32>) -> Change
+    ensures { result ≡ change_after instr before answer }
+{
+    match instr {
+        Instr::Store { reg, value: _ }
+        | Instr::Add { reg, value: _ }
+        | Instr::Sub { reg, value: _ } => Change::Register { reg, before },
+        Instr::Put { key, value: _ } => Change::Key {
+            key,
+            before: answer,
+        },
+        Instr::Push { queue, value: _ } => Change::Pushed { queue },
+        _ => Change::Nothing,
+    }
+}
+
 impl Store {
-    // What will take an instruction back once it has run.
-    pub(crate) fn change_of(&self, instr: Instr) -> Change
+    // The number of the register that an instruction writes; 0 if it writes none.
+    pub(crate) fn written_register(&self, instr: Instr) -> u32
         requires { IsInstrInRange instr }
-        ensures { result ≡ change_of self.now instr }
+        ensures { result ≡ written_register self.now instr }
     {
         match instr {
             Instr::Store { reg, value: _ }
             | Instr::Add { reg, value: _ }
-            | Instr::Sub { reg, value: _ } => Change::Register {
-                reg,
-                before: self.register(u32::from(reg)),
-            },
-            Instr::Put { key, value: _ } => Change::Key {
-                key,
-                before: self.key(key),
-            },
-            Instr::Push { queue, value: _ } => Change::Pushed { queue },
-            _ => Change::Nothing,
+            | Instr::Sub { reg, value: _ } => self.register(u32::from(reg)),
+            _ => 0,
         }
     }
 

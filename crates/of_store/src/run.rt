@@ -7,7 +7,7 @@ ghost use Rattle.of_store.specs.Store.{run, instr_effect, IsEffect};
 ghost use Rattle.of_store.specs.Replies.{reply_value_of, IsReplyOfScript};
 ghost use Rattle.of_store.specs.Changes.{takes_out, may_fail, FailsFirst, HasFailed, HasRunToEnd, ChangesLead};
 
-use crate::change::Changes;
+use crate::change::{Changes, change_after};
 use crate::store::{Answer, Store};
 use of_script::{Abort, Cause, GREATEST, Instr, MOST_INSTRS, Reply, Script};
 use std::alloc::AllocError;
@@ -129,9 +129,12 @@ impl Store {
         let len = script.len();
         for i in 0..len {
             let instr = script.at(i);
-            let change = self.change_of(instr);
+            let before = self.written_register(instr);
             match self.step(instr)? {
-                Ok(value) => values[i as usize] = value,
+                Ok(value) => {
+                    values[i as usize] = value;
+                    changes.list[i as usize] = change_after(instr, before, value);
+                }
                 Err(cause) => {
                     return Ok(Reply {
                         len: len as u8,
@@ -143,7 +146,6 @@ impl Store {
                     });
                 }
             }
-            changes.list[i as usize] = change;
             changes.count = i + 1;
         }
         Ok(Reply {

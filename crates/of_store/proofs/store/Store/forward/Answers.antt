@@ -2,12 +2,12 @@ use Rattle.std.proofs.Common.{◌≡◌, ◌+◌, ◌<◌, ℕ, List, Option, ta
 use Rattle.std.proofs.lemmas.List.{take_more_set, length-set}
 use Rattle.of_store.specs.Store.{ScriptOutcome, Answered, run_result}
 use Rattle.of_store.specs.Replies.{IsSmall}
-use Rattle.of_store.specs.Changes.{ChangesLead}
+use Rattle.of_store.specs.Changes.{ChangesLead, change_of, change_after}
 use Rattle.of_store.proofs.Keeps.{effect_keeps}
 use Rattle.of_store.proofs.Runs.{GoesOn, goes_on, ends, aborts}
 use Rattle.of_store.proofs.Values.{effect_small, value_of, small_values, none_left}
 use Rattle.of_store.specs.declared.change.Change.{Change}
-use Rattle.of_store.proofs.Changes.{TakesBack, takes_back, aborts_may_fail, none_taken, leads_on}
+use Rattle.of_store.proofs.Changes.{TakesBack, takes_back, aborts_may_fail, none_taken, leads_on, change_told}
 use Rattle.of_store.proofs.store.Store.forward.Goals as goal
 
 pub returns-in-Err-clause-reply : goal.returns-in-Err-clause-reply
@@ -35,6 +35,9 @@ loop-i-preserved c =
     let few : c.loop-i.i < length c.loop-i.values = omega (arith, c.len-len.ensures.few, c.loop-i.invariant.room) in
     let place : c.loop-i.i < length c.loop-i.changes.list = omega (arith, c.len-len.ensures.few, c.loop-i.invariant.places) in
     let done = (rw c.in-Ok.is at c.in_ok-value.ensures).effect in
+    let told : c.change_after.result ≡ change_of c.loop-i.self c.at-instr.result =
+    c.change_after.ensures ∙ ap (λ (n : ℕ). change_after c.at-instr.result n c.in-Ok.value) c.written_register-before.ensures
+    ∙ change_told c.loop-i.self c.step.new.self c.at-instr.result c.in-Ok.value done in
     let small = subst IsSmall (ap value_of done) (effect_small c.loop-i.self c.at-instr.result c.loop-i.invariant.state c.at-instr.ensures.in_range) in
     record {
       whole = subst (λ (vs : List (Option ℕ)). GoesOn c.args.self.now c.args.script.now (c.loop-i.i + 1) vs c.step.new.self)
@@ -44,10 +47,10 @@ loop-i-preserved c =
       room = length-set c.loop-i.values c.loop-i.i c.in-Ok.value ∙ c.loop-i.invariant.room;
       small = small_values c.loop-i.values c.loop-i.i c.in-Ok.value c.loop-i.invariant.small small;
       rest = none_left c.loop-i.values c.loop-i.i c.in-Ok.value c.loop-i.invariant.rest;
-      places = length-set c.loop-i.changes.list c.loop-i.i c.change_of-change.result ∙ c.loop-i.invariant.places;
+      places = length-set c.loop-i.changes.list c.loop-i.i c.change_after.result ∙ c.loop-i.invariant.places;
       count = refl;
-      leads = λ none. leads_on c.loop-i.changes.list c.loop-i.i c.change_of-change.result c.args.self.now c.loop-i.self c.step.new.self place
-          (subst (λ (d : Change). TakesBack d c.loop-i.self c.step.new.self) (sym c.change_of-change.ensures)
+      leads = λ none. leads_on c.loop-i.changes.list c.loop-i.i c.change_after.result c.args.self.now c.loop-i.self c.step.new.self place
+          (subst (λ (d : Change). TakesBack d c.loop-i.self c.step.new.self) (sym told)
           (takes_back c.loop-i.self c.step.new.self c.at-instr.result c.in-Ok.value c.loop-i.invariant.state c.at-instr.ensures.in_range (none c.loop-i.i c.at-instr.result (omega arith) c.at-instr.ensures.value) done))
           (c.loop-i.invariant.leads (λ j a lt is. none j a (omega arith) is));
     }
