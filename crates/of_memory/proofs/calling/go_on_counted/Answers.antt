@@ -1,4 +1,4 @@
-use Rattle.std.proofs.Common.{◌∙◌, ap, refl, Err}
+use Rattle.std.proofs.Common.{◌∙◌, ap, refl, Some, Err}
 use Rattle.of_memory.proofs.Called.{held_of, serves_on, made_answered, made_spent, keeps_answered, keeps_stopped, keeps_over, none_after_answer, none_after_spent, answers_within, stops_within, open_counts, opens_none}
 use Rattle.of_memory.proofs.calling.go_on_counted.Goals as goal
 
@@ -31,11 +31,11 @@ returns-clause-made g c script ms is words made =
 pub returns-in-Ok-clause-stop : goal.returns-in-Ok-clause-stop
 returns-in-Ok-clause-stop g c =
     let told = c.in-Ok.ensures.told in
-    keeps_answered _ _ _ _ _ _ _ _ _ _ told c.args.stop _ c.fuel_of.ensures _ c.in-Ok.ensures.left c.in-Ok.outcome c.answer_of.result c.answer_of.ensures told.result
+    keeps_answered _ _ _ _ _ _ _ _ _ _ told c.args.stop _ c.fuel_of-brake.ensures (Some c.go_on.new.brake.left) c.in-Ok.ensures.left c.in-Ok.outcome c.answer_of.result c.answer_of.ensures told.result
 
 pub returns-in-Err-Stopped-clause-stop : goal.returns-in-Err-Stopped-clause-stop
 returns-in-Err-Stopped-clause-stop g c =
-    keeps_stopped _ _ _ _ _ _ _ _ _ _ c.go_on.ensures.told c.args.stop _ c.fuel_of.ensures c.go_on.ensures.stop c.in-Err-Stopped.asked (c.in-Err-Stopped.is ∙ ap (λ e. Err e) c.in-Err-Stopped.field-0-is)
+    keeps_stopped _ _ _ _ _ _ _ _ _ _ c.go_on.ensures.told c.args.stop _ c.fuel_of-brake.ensures c.go_on.ensures.stop c.in-Err-Stopped.asked (c.in-Err-Stopped.is ∙ ap (λ e. Err e) c.in-Err-Stopped.field-0-is)
 
 pub returns-clause-stop : goal.returns-clause-stop
 returns-clause-stop g c = keeps_over _ _ _ _ _ _ _ _ _ _ c.go_on.ensures.told c.args.stop _
