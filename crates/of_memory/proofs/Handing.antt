@@ -14,6 +14,7 @@ use Rattle.of_memory.specs.Called.{IsOpenAt}
 use Rattle.of_memory.specs.Serving.{ended_of}
 use Rattle.of_memory.specs.Handles.{IsHandle}
 use Rattle.of_memory.specs.Memories.{IsFrom, IsStill, TakesOut, TakesNone, PutsBack, IsEnrolCause, callers_of}
+use Rattle.of_memory.proofs.Times.{order_in}
 use Rattle.of_memory.specs.Tasks.{KnowsHandle, KnowsSame, KnowsRest, TaskWork, HasWorked, HasWorkedAs, HaveWorked, IsTaskCause, IsHandedOut, HasHandedOut, MayLeave, MayAllLeave, HasLeft, HasTakenBack}
 
 -- ---- what a memory knows of a number
@@ -265,7 +266,7 @@ module _ {J : Type 0} where
         let w = worked i d low in
         record { place = omega (arith, o.place, w.same.number, out.count, size); handle = w.handle; from = w.same.home ∙ o.from ∙ sym still }
 
-    module _ (back : HasTakenBack k n [] zs 0 rs) where
+    module _ (back : HasTakenBack k n [] zs 0 rs) (still : IsStill m n) where
       worked_as : (i j : ℕ) (d : J) → j + i + 1 ≡ length xs → j < length ps → HasWorkedAs Does i m n (get_or xs i d) (get_or zs i d)
       worked_as i j d place low =
           let lower : j < length rs = omega (arith, low, size) in
@@ -287,6 +288,7 @@ module _ {J : Type 0} where
             left = r.0.0;
             worked = subst (λ (y : J). HasWorked Does (p.0.0, get_or xs i d) (r.0.0, y)) (sym after) (subst (λ (x : J). HasWorked Does (p.0.0, x) r.0) (sym before) w);
             knows = knows_handle n r.0.0 l.known;
+            order = order_in n r.0.0 l.known (w.same.home ∙ o.from ∙ sym still);
           }
 
       pub have_worked : HaveWorked Does m n xs zs
@@ -316,12 +318,12 @@ module _ {J : Type 0} where
         subst (MayAllLeave k (length left)) (sym is) (subst (λ (l : List J). MayAllLeave k (length l) rs) (sym none)
         (may_leave_after Does m k k xs [] ps rs out_all pairs_long pairs_worked still))
 
-    module _ (n : Memory) (zs : List J) (back : HasTakenBack k n left zs 0 now) where
+    module _ (n : Memory) (zs : List J) (back : HasTakenBack k n left zs 0 now) (still : IsStill m n) where
       back_all : HasTakenBack k n [] zs 0 rs
       back_all = subst (λ (l : List J). HasTakenBack k n l zs 0 rs) none (subst (HasTakenBack k n left zs 0) is back)
 
       pub all_worked : HaveWorked Does m n xs zs
-      all_worked = have_worked Does m k n xs zs ps rs out_all pairs_long pairs_worked back_all
+      all_worked = have_worked Does m k n xs zs ps rs out_all pairs_long pairs_worked back_all still
 
       pub others_known : KnowsRest (length xs) m n
-      others_known = rest_known Does m k n xs zs ps rs out_all pairs_long pairs_worked back_all
+      others_known = rest_known Does m k n xs zs ps rs out_all pairs_long pairs_worked back_all still

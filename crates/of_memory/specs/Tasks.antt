@@ -8,6 +8,7 @@ use Rattle.of_memory.specs.declared.handle.Handle.{Handle}
 use Rattle.of_memory.specs.History.{Made}
 use Rattle.of_memory.specs.Handles.{IsHandle, HasMade, HasOpen, IsSame}
 use Rattle.of_memory.specs.Memories.{HasMadeOf, HasOpenOf, IsFrom, callers_of}
+use Rattle.of_memory.specs.Telling.{LeavesOrder}
 
 -- the memory knows of the handle's number what the handle knows, and nothing else
 pub record KnowsHandle (m : Memory) (h : Handle) : Type 0 where
@@ -49,6 +50,7 @@ pub record HasWorkedAs {J : Type 0} (Does : TaskWork J) (n : ℕ) (m k : Memory)
   pub left : Handle
   pub worked : HasWorked Does (begun, x) (left, y)
   pub knows : KnowsHandle k left
+  pub order : LeavesOrder left k
 
 -- each task has worked with the handle of the number that is its place
 pub record HaveWorked {J : Type 0} (Does : TaskWork J) (m k : Memory) (xs ys : List J)

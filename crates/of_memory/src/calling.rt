@@ -7,7 +7,7 @@ ghost use Rattle.of_caller.specs.Callers.{caller_call};
 ghost use Rattle.of_caller.specs.Ends.{TellsAnswer};
 ghost use Rattle.of_caller.specs.Lanes.{IsHeldAnswer};
 ghost use Rattle.of_memory.specs.Serving.{IsScriptsRow, Serves, row_step_bound};
-ghost use Rattle.of_memory.specs.Called.{MakesCallOf, MakesOpenCall};
+ghost use Rattle.of_memory.specs.Called.{MakesCallOf, MakesOpenCall, BeginsAsNext, LearnsMore};
 ghost use Rattle.of_memory.specs.Called.{LeavesOpen, LeavesOpenCall, LeavesAsItWas, WasTried, CallerOpensOnly, CallerOpensNone};
 ghost use Rattle.of_memory.specs.Within.{EndsWithin, KeepsToStop, KeepsToTold};
 
@@ -71,6 +71,8 @@ fn call_counted<L: Ledger>(
     ensures bound { EndsWithin (row_step_bound row.now) result }
     ensures stop { KeepsToTold 0 (left brake.old) (caller_call caller.new).steps result }
     ensures only { CallerOpensOnly script.now caller.old caller.new }
+    ensures next { BeginsAsNext number result caller.old }
+    ensures more { LearnsMore caller.old caller.new }
 {
     let mut steps: Steps<L> = Steps::new(blank);
     let len = script.len() as usize;
@@ -105,6 +107,7 @@ fn go_on_counted<L: Ledger>(
     ensures stop { KeepsToTold (caller_call caller.old).steps (left brake.old)
         (caller_call caller.new).steps result }
     ensures only { CallerOpensNone caller.old caller.new }
+    ensures more { LearnsMore caller.old caller.new }
 {
     let mut steps: Steps<L> = Steps::new(blank);
     match caller.go_on(row, brake, &mut steps) {
@@ -144,6 +147,8 @@ pub(crate) fn call_script(
     ensures bound { EndsWithin (row_step_bound row.now) result }
     ensures stop { KeepsToStop 0 stop (caller_call caller.new).steps result }
     ensures only { CallerOpensOnly script.now caller.old caller.new }
+    ensures next { BeginsAsNext number result caller.old }
+    ensures more { LearnsMore caller.old caller.new }
 {
     let Ok(fuel) = Box::new(alloc, fuel_of(stop)) else {
         return Err(RunErr::OutOfMemory);
@@ -172,6 +177,7 @@ pub(crate) fn go_on_with(
     ensures stop { KeepsToStop (caller_call caller.old).steps stop
         (caller_call caller.new).steps result }
     ensures only { CallerOpensNone caller.old caller.new }
+    ensures more { LearnsMore caller.old caller.new }
 {
     let Ok(fuel) = Box::new(alloc, fuel_of(stop)) else {
         return Err(RunErr::OutOfMemory);

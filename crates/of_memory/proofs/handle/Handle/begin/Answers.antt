@@ -1,4 +1,6 @@
+use Rattle.std.proofs.Common.{refl}
 use Rattle.of_memory.proofs.Called.{tried_is, as_it_was}
+use Rattle.of_memory.proofs.Times.{keeps_known, begins_after}
 use Rattle.of_memory.proofs.handle.Handle.begin.Goals as goal
 
 pub returns-clause-cause : goal.returns-clause-cause
@@ -8,3 +10,11 @@ pub returns-clause-unmade : goal.returns-clause-unmade
 returns-clause-unmade c =
     let h = c.args.self.now in
     as_it_was (λ k. record h { caller = k }) c.call_script.result h.caller c.call_script.new.caller c.call_script.ensures.unmade
+
+pub returns-clause-knows : goal.returns-clause-knows
+returns-clause-knows c = let h = c.args.self.now in keeps_known h (record h { caller = c.call_script.new.caller }) refl c.call_script.ensures.more
+
+pub returns-clause-behind : goal.returns-clause-behind
+returns-clause-behind c =
+    let h = c.args.self.now in
+    begins_after c.call_script.result h (record h { caller = c.call_script.new.caller }) refl c.call_script.ensures.more c.call_script.ensures.next

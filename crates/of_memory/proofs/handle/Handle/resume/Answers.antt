@@ -1,4 +1,6 @@
+use Rattle.std.proofs.Common.{refl}
 use Rattle.of_memory.proofs.Called.{went_on, as_it_was}
+use Rattle.of_memory.proofs.Times.{keeps_known}
 use Rattle.of_memory.proofs.handle.Handle.resume.Goals as goal
 
 pub returns-clause-cause : goal.returns-clause-cause
@@ -8,3 +10,6 @@ pub returns-clause-unmade : goal.returns-clause-unmade
 returns-clause-unmade c =
     let h = c.args.self.now in
     as_it_was (λ k. record h { caller = k }) c.go_on_with.result h.caller c.go_on_with.new.caller c.go_on_with.ensures.unmade
+
+pub returns-clause-knows : goal.returns-clause-knows
+returns-clause-knows c = let h = c.args.self.now in keeps_known h (record h { caller = c.go_on_with.new.caller }) refl c.go_on_with.ensures.more

@@ -24,7 +24,7 @@ returns-in-Ok-hand_out-clause-worked g c =
     let long : c.hand_out.new.pairs.len ≡ length ps = search rules in
     let size = c.work_all.auto.pairs in
     all_worked g.J.Task.does m c.hand_out.new.self xs c.hand_out.new.tasks.items ps c.as_mut_slice.result.now rs _ c.in-Ok-hand_out.ensures.out c.in-Ok-hand_out.ensures.all
-    value size (written ps rs c.hand_out.new.pairs.len (size ∙ ap length value) long) c.work_all.ensures c.take_back.new.self c.take_back.new.tasks.items c.take_back.ensures.back
+    value size (written ps rs c.hand_out.new.pairs.len (size ∙ ap length value) long) c.work_all.ensures c.take_back.new.self c.take_back.new.tasks.items c.take_back.ensures.back (c.take_back.ensures.still ∙ c.in-Ok-hand_out.ensures.still)
 
 pub returns-in-Ok-hand_out-clause-rest : goal.returns-in-Ok-hand_out-clause-rest
 returns-in-Ok-hand_out-clause-rest g c =
@@ -36,7 +36,7 @@ returns-in-Ok-hand_out-clause-rest g c =
     let long : c.hand_out.new.pairs.len ≡ length ps = search rules in
     let size = c.work_all.auto.pairs in
     others_known g.J.Task.does m c.hand_out.new.self xs c.hand_out.new.tasks.items ps c.as_mut_slice.result.now rs _ c.in-Ok-hand_out.ensures.out c.in-Ok-hand_out.ensures.all
-    value size (written ps rs c.hand_out.new.pairs.len (size ∙ ap length value) long) c.work_all.ensures c.take_back.new.self c.take_back.new.tasks.items c.take_back.ensures.back
+    value size (written ps rs c.hand_out.new.pairs.len (size ∙ ap length value) long) c.work_all.ensures c.take_back.new.self c.take_back.new.tasks.items c.take_back.ensures.back (c.take_back.ensures.still ∙ c.in-Ok-hand_out.ensures.still)
 
 pub returns-in-Err-clause-unchanged : goal.returns-in-Err-clause-unchanged
 returns-in-Err-clause-unchanged g c =
