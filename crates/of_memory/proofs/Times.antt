@@ -1,12 +1,10 @@
 -- What handles know of real time, and go on knowing.
-use Rattle.std.proofs.Common.{◌≡◌, ℕ, ◌+◌, ◌≤◌, ◌<◌, ◌⊎◌, inl, inr, Bool, true, false, List, [], length, append-nil, get_or, set, Option, Some, None, Result, Ok, Err, sym, ap, subst, ◌∙◌, arith}
+use Rattle.std.proofs.Common.{◌≡◌, ℕ, ◌≤◌, ◌<◌, false, List, [], length, append-nil, get_or, Some, None, Result, sym, ap, subst, ◌∙◌, arith}
 use mathlib.Core.Bool.{true≢false}
 use mathlib.Core.List.{IsPrefix}
-use Rattle.std.proofs.lemmas.List.{get_or-set_same}
 use Rattle.of_plan.specs.declared.answer.Answer.{Answer}
 use Rattle.of_eval.specs.declared.scripts.Scripts.{Scripts}
 use Rattle.of_eval.specs.Scripts.{scripts_meaning, LawfulCells}
-use Rattle.of_core.specs.Table.{Setup}
 use Rattle.of_core.specs.Machine.{CallState, IsOpen, is_idle}
 use Rattle.of_core.specs.Turn.{IsIdle}
 use Rattle.of_core.specs.MachineValue.{machine_setup}
@@ -26,7 +24,6 @@ use Rattle.of_memory.specs.declared.error.RunErr.{RunErr}
 use Rattle.of_memory.specs.declared.memory.Memory.{Memory}
 use Rattle.of_memory.specs.declared.handle.Handle.{Handle}
 use Rattle.of_memory.specs.declared.telling.News.{News}
-use Rattle.of_memory.specs.History.{Made}
 use Rattle.of_memory.specs.Times.{calls_ended_in, calls_begun_in, EndBefore}
 use Rattle.of_memory.specs.Laws.{setup_with}
 use Rattle.of_memory.specs.Serving.{IsScriptsRow, Serves, ended_of, events_known_to}
@@ -34,7 +31,7 @@ use Rattle.of_memory.specs.Called.{BeginsAsNext, LearnsMore}
 use Rattle.of_memory.specs.Calls.{AreMade}
 use Rattle.of_memory.specs.Handles.{IsHandle, home_of, number_of_handle, caller_of}
 use Rattle.of_memory.specs.Memories.{HasOrderOf, row_of}
-use Rattle.of_memory.specs.Telling.{KeepsKnown, CallsStay, BeginsAfterHeard, KnowsOrder, TellsOwn, TellsHeard, HearsAll, events_told}
+use Rattle.of_memory.specs.Telling.{KeepsKnown, CallsStay, BeginsAfterHeard, KnowsOrder, TellsOf, TellsOwn, TellsHeard, HearsAll, ToldCallsComeFirst, events_told}
 use Rattle.of_memory.proofs.Called.{made_many, next_of}
 use Rattle.of_memory.proofs.Seats.{open_same, same_caller, serves_same}
 
@@ -101,6 +98,14 @@ order_in m h here home n x k y known = record {
   order = subst (λ (r : Row Scripts). EndBefore (setup_at scripts_meaning r) (start_of_row r) (events_known_to h.caller) n x k y) home known;
 }
 
+-- a number whose caller is the same knows each order still
+pub order_same : (m l : Memory) (j : ℕ) → row_of l ≡ row_of m → get_or l.callers.items j None ≡ get_or m.callers.items j None → (n x k y : ℕ) → HasOrderOf m j n x k y → HasOrderOf l j n x k y
+order_same m l j still is n x k y has = record {
+  caller = has.caller;
+  here = is ∙ has.here;
+  order = subst (λ (r : Row Scripts). EndBefore (setup_at scripts_meaning r) (start_of_row r) (events_known_to has.caller) n x k y) (sym still) has.order;
+}
+
 -- ---- a handle tells, and hears
 
 module _ (h : Handle) (k : Caller Scripts) (is : IsHandle h) (row : Row Scripts) (home : row ≡ home_of h) (caller : IsCaller scripts_meaning row k) (call : caller_call k ≡ caller_call h.caller) (kept : (sight_of k).kept ≡ (sight_of h.caller).kept) (more : LearnsMore h.caller k) where
@@ -140,3 +145,13 @@ pub hears_all : (a : News) (h : Handle) → IsPrefix (events_told a) (events_kno
 hears_all a h more n count tells =
     let later = ended_later scripts_meaning LawfulCells (home_of h) (events_told a) (events_known_to h.caller) n more in
     omega (arith, tells, later)
+
+pub told_first : ToldCallsComeFirst
+told_first m d a b c e news result ms ks of_m of_m_too made tells hears made_too started begins keeps leaves history s starts =
+    let n = number_of_handle a in
+    let k = number_of_handle b in
+    let told : TellsOf (home_of b) news n (length ms) = subst (λ (r : Row Scripts). TellsOf r news n (length ms)) (of_m ∙ sym of_m_too) (tells ms made) in
+    let order : KnowsOrder c n (length ms) k (length ks) = begins started ks made_too n (length ms) (hears n (length ms) told) in
+    let left = leaves n (length ms) k (length ks) (keeps.order n (length ms) k (length ks) order) in
+    let found = history s starts in
+    (found.0, found.1, found.1.time (number_of_handle e) n (length ms) k (length ks) left)

@@ -93,7 +93,8 @@ HasStarted (Err NoTicket) = ⊥
 -- the caller of this number, which has made these calls, began no other before the call, as far as
 -- it knew then; so it is of a call that has made a step
 abbrev pub BeginsAsNext : (number : ℕ) → Result Answer RunErr → Caller Scripts → Type 0
-BeginsAsNext n result c = HasStarted result → calls_begun_in (events_known_to c) n ≤ length (ended_of c)
+BeginsAsNext n result c =
+    HasStarted result → calls_begun_in (events_known_to c) n ≤ length (ended_of c)
 
 -- the events that the caller knows go on
 abbrev pub LearnsMore : (before now : Caller Scripts) → Type 0

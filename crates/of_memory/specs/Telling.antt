@@ -1,5 +1,5 @@
 -- What a handle knows of the calls of its memory, and tells to another handle.
-use Rattle.std.specs.Prelude.{◌≡◌, ℕ, ◌≤◌, List, length, Result}
+use Rattle.std.specs.Prelude.{◌≡◌, ℕ, ◌+◌, ◌≤◌, List, length, Result}
 use Rattle.of_script.specs.declared.instr.Instr.{Instr}
 use Rattle.of_plan.specs.declared.answer.Answer.{Answer}
 use Rattle.of_eval.specs.declared.scripts.Scripts.{Scripts}
@@ -12,13 +12,15 @@ use Rattle.of_memory.specs.declared.error.RunErr.{RunErr}
 use Rattle.of_memory.specs.declared.handle.Handle.{Handle}
 use Rattle.of_memory.specs.declared.telling.News.{News}
 use Rattle.of_memory.specs.declared.memory.Memory.{Memory}
-use Rattle.of_memory.specs.History.{Made}
+use Rattle.of_store.specs.Store.{Store}
+use Rattle.of_memory.specs.declared.saved.Saved.{Saved}
+use Rattle.of_memory.specs.History.{HistoryEntry, Made, ComeInOrder}
 use Rattle.of_memory.specs.Times.{calls_ended_in, EndBefore}
 use Rattle.of_memory.specs.Called.{HasStarted}
 use Rattle.of_memory.specs.Serving.{events_known_to}
 use Rattle.of_memory.specs.Handles.{home_of, number_of_handle, caller_of, calls_begun, steps_so_far}
 use Rattle.of_memory.specs.Handles.{HasMade, HasOpen}
-use Rattle.of_memory.specs.Memories.{HasOrderOf}
+use Rattle.of_memory.specs.Memories.{IsFrom, StartsWith, HasOrderOf, HasHistory, LeadsTo, tickets_before}
 
 -- it knows that so many first calls of a number, since the memory was opened, have ended
 abbrev pub HasHeardOf : Handle → (number count : ℕ) → Type 0
@@ -61,11 +63,13 @@ pub record IsNews (r : Row Scripts) (a : News) : Type 0 where
 
 -- it tells that so many first calls of a number have ended
 abbrev pub TellsOf : Row Scripts → News → (number count : ℕ) → Type 0
-TellsOf r a n count = count ≤ calls_ended_in (setup_at scripts_meaning r) (start_of_row r) (events_told a) n
+TellsOf r a n count =
+    count ≤ calls_ended_in (setup_at scripts_meaning r) (start_of_row r) (events_told a) n
 
 -- it tells of all calls of the handle that have ended
 abbrev pub TellsOwn : Handle → News → Type 0
-TellsOwn h a = (ms : List Made) → HasMade h ms → TellsOf (home_of h) a (number_of_handle h) (length ms)
+TellsOwn h a =
+    (ms : List Made) → HasMade h ms → TellsOf (home_of h) a (number_of_handle h) (length ms)
 
 -- it tells of all that the handle has heard of
 abbrev pub TellsHeard : Handle → News → Type 0
@@ -94,3 +98,20 @@ KnowsOrdersOf m h =
 abbrev pub LeavesOrder : Handle → Memory → Type 0
 LeavesOrder h m =
     (n x k y : ℕ) → KnowsOrder h n x k y → HasOrderOf m (number_of_handle h) n x k y
+
+-- ---- the whole
+
+-- Handle a tells when it has made the calls ms. Handle b hears of it when it has made the calls ks,
+-- and its next call leaves it as c. It leaves its memory m as e, with all that c knew, and what is
+-- saved at the close is d. So each call among ms comes before that call, and before each later one
+-- of its number, in the history.
+abbrev pub ToldCallsComeFirst : Type 0
+ToldCallsComeFirst =
+    (m : Memory) (d : Saved) (a b c e : Handle) (news : News) (result : Result Answer RunErr)
+    (ms ks : List Made) → IsFrom m a → IsFrom m b
+    → HasMade a ms → TellsOwn a news → HearsAll news b
+    → HasMade b ks → HasStarted result → BeginsAfterHeard result b c
+    → KeepsKnown c e → LeavesOrder e m → HasHistory m d → (s : Store) → StartsWith m s
+    → (h : List HistoryEntry) × LeadsTo m s d h
+    × ComeInOrder h (number_of_handle a) (tickets_before m (number_of_handle a) + length ms)
+    (number_of_handle b) (tickets_before m (number_of_handle b) + length ks)
