@@ -30,6 +30,7 @@ use Rattle.of_row.specs.declared.row.Row.{Row}
 use Rattle.of_row.specs.Rows.{key_of, setup_at}
 use Rattle.of_row.specs.Rule.{CallHasEnded, open_call_count}
 use Rattle.of_row.specs.Turned.{IsMeantReply, StandsForMachine}
+use Rattle.of_row.specs.Told.{open_operation, operations_known}
 use Rattle.of_row.specs.Views.{EndedCall, KnownCaller, View, last_caller, seen_seq, seen_history}
 use Rattle.of_caller.specs.declared.caller.Caller.{Caller}
 use Rattle.of_caller.specs.declared.caller.CallErr.{CallErr}
@@ -42,6 +43,7 @@ use Rattle.of_caller.specs.Lanes.{IsHeldAnswer}
 use Rattle.of_caller.specs.Tables.{plan_setup}
 use Rattle.of_caller.proofs.RawReplies.{IsFine, answer_holds}
 use Rattle.of_memory.specs.History.{End, Replied, Spent, Made}
+use Rattle.of_memory.specs.Times.{calls_ended_in, calls_begun_in}
 use Rattle.of_memory.specs.Calls.{IsScriptOperation, EndsAs, IsMade, AreMade, RunsScripts}
 use Rattle.of_caller.specs.PlanRows.{start_of_row}
 use Rattle.of_memory.specs.Serving.{IsScriptsRow, Serves, ended_of, made_before}
@@ -200,6 +202,46 @@ module _ (S : Setup) (L : List ℕ → Type 0) (B : TableStart) (m : CallState) 
   pub counts_on : (base : ℕ) → m.made ≡ base + length before.ended + 1 → d.made ≡ base + length now.ended + open_call_count (is_idle d.place)
   counts_on base made = count_now base made r told.result
 
+  -- ---- what the caller knows of real time
+
+  -- its calls that have ended are among the events that it knows
+  pub told_on : (n : ℕ) → m.caller ≡ n → length before.ended ≤ calls_ended_in S B v.past n → length now.ended ≤ calls_ended_in S B w.past n
+  told_on n is low = elim (none_or_some told.steps) [
+    | inl none ↦
+        subst (λ (x : View). length (last_caller x.kept).ended ≤ calls_ended_in S B x.past n) (sym (told.none none)) low
+    | inr some ↦
+        let t = (told.some some).told in
+        let all : length (map (λ (e : EndedCall). e.outcome) told.kept.ended) ≡ calls_ended_in S B w.past d.caller = ap length t.ended in
+        let many : length told.kept.ended ≡ length now.ended = ap (λ (x : KnownCaller). length x.ended) now_is in
+        subst (λ (i : ℕ). length now.ended ≤ calls_ended_in S B w.past i) (told.caller ∙ is) (omega (arith, all, many, length-map told.kept.ended (λ (e : EndedCall). e.outcome)))
+  ]
+
+  -- a call that the caller began when none was open comes after all that it had begun
+  pub next_of : (is_idle before.machine.place ≡ false → ⊥) → 0 < told.steps → calls_begun_in v.past m.caller ≤ length before.ended
+  next_of rest some = go (is_idle before.machine.place) refl
+    where
+      ops : List (List ℕ)
+      ops = map (λ (e : EndedCall). e.op) before.ended
+
+      known : length (operations_known told.before) ≡ length (operations_known before)
+      known = ap (λ (x : KnownCaller). length (operations_known x)) before_is
+
+      go : (b : Bool) → is_idle before.machine.place ≡ b → calls_begun_in v.past m.caller ≤ length before.ended
+      go false is = absurd (rest is)
+      go true is =
+          let few = told.behind some in
+          let none : length (operations_known before) ≡ length (ops ++ []) = ap (λ (b : Bool). length (ops ++ open_operation before.machine b)) is in
+          omega (arith, few, known, none, length-append ops [], length-map before.ended (λ (e : EndedCall). e.op))
+
+  pub answered_some : (o : Outcome) → Told (Ok o) → 0 < told.steps
+  answered_some o h = ended_some o h.1
+
+  pub stopped_some : (asked : ℕ) → r ≡ Err (Stopped asked) → 1 < asked → 0 < told.steps
+  stopped_some asked is more = let h : Told (Err (Stopped asked)) = subst Told is told.result in omega (arith, h.1, more)
+
+  pub spent_some : (seq : ℕ) → r ≡ Err (NoneLeft seq) → 0 < told.steps
+  spent_some seq is = let h : Told (Err (NoneLeft seq)) = subst Told is told.result in ended_some (Over seq) h
+
   -- ---- no call is open after one that has ended
 
   pub none_after_answer : (o : Outcome) → Told (Ok o) → IsOpen d.place → ⊥
@@ -294,6 +336,7 @@ module _ (r : Row Scripts) (row : IsScriptsRow r) where
     runs = runs_on (setup_at scripts_meaning r) L (start_of_row r) m (sight_of c) a (caller_call k) (sight_of k) b z told op s.runs;
     begun = λ is_open. subst IsScriptOperation (sym told.op) op;
     counts = counts_on (setup_at scripts_meaning r) L (start_of_row r) m (sight_of c) a (caller_call k) (sight_of k) b z told (made_before r n) made;
+    told = told_on (setup_at scripts_meaning r) L (start_of_row r) m (sight_of c) a (caller_call k) (sight_of k) b z told n (same ∙ s.number) s.told;
   }
 
 -- ---- the call that a caller begins or goes on with is the next one
@@ -311,7 +354,7 @@ open_counts r n c s is_open =
     let one : open_call_count (is_idle (caller_call c).place) ≡ 1 = ap open_call_count is_open in
     omega (arith, s.counts, one)
 
-made_many : (es : List EndedCall) (ms : List Made) → AreMade es ms → length ms ≡ length es
+pub made_many : (es : List EndedCall) (ms : List Made) → AreMade es ms → length ms ≡ length es
 made_many [] [] h = refl
 made_many [] (m ∷ ms) h = absurd h
 made_many (e ∷ es) [] h = absurd h

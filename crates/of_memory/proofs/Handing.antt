@@ -12,9 +12,10 @@ use Rattle.of_memory.specs.declared.handle.Handle.{Handle}
 use Rattle.of_memory.specs.Calls.{AreMade}
 use Rattle.of_memory.specs.Called.{IsOpenAt}
 use Rattle.of_memory.specs.Serving.{ended_of}
-use Rattle.of_memory.specs.Handles.{IsHandle}
+use Rattle.of_memory.specs.Handles.{IsHandle, home_of}
 use Rattle.of_memory.specs.Memories.{IsFrom, IsStill, TakesOut, TakesNone, PutsBack, IsEnrolCause, callers_of}
-use Rattle.of_memory.specs.Tasks.{KnowsHandle, KnowsSame, KnowsRest, TaskWork, HasWorked, HasWorkedAs, HaveWorked, IsTaskCause, IsHandedOut, HasHandedOut, MayLeave, MayAllLeave, HasLeft, HasTakenBack}
+use Rattle.of_memory.proofs.Times.{order_in, order_out, order_same}
+use Rattle.of_memory.specs.Tasks.{KnowsHandle, KnowsSame, KnowsRest, RestKnowsOrder, TaskWork, HasWorked, HasWorkedAs, HaveWorked, IsTaskCause, IsHandedOut, HasHandedOut, MayLeave, MayAllLeave, HasLeft, HasTakenBack}
 
 -- ---- what a memory knows of a number
 
@@ -36,6 +37,9 @@ knows_same n m k is = record {
   open_call = λ script has. record { caller = has.caller; here = is ∙ has.here; opened = has.opened };
   only_open = λ script has. record { caller = has.caller; here = sym is ∙ has.here; opened = has.opened };
 }
+
+pub orders_it_all : (m : Memory) → RestKnowsOrder 0 m m
+orders_it_all m j low n x k y known = known
 
 pub knows_it_all : (m : Memory) → KnowsRest 0 m m
 knows_it_all m n low = knows_same n m m refl
@@ -254,6 +258,9 @@ module _ {J : Type 0} where
     pub all_back : KnowsRest 0 m n
     all_back i low = knows_same i m n (caller_at i)
 
+    pub all_in_order : IsStill m n → RestKnowsOrder 0 m n
+    all_in_order still i low = order_same m n i still (caller_at i)
+
   -- ---- each task has worked
 
   module _ (Does : TaskWork J) (m k n : Memory) (xs zs : List J) (ps rs : List (Handle × J)) (out : HasHandedOut m k xs [] ps) (size : length rs ≡ length ps)
@@ -265,7 +272,7 @@ module _ {J : Type 0} where
         let w = worked i d low in
         record { place = omega (arith, o.place, w.same.number, out.count, size); handle = w.handle; from = w.same.home ∙ o.from ∙ sym still }
 
-    module _ (back : HasTakenBack k n [] zs 0 rs) where
+    module _ (back : HasTakenBack k n [] zs 0 rs) (still : IsStill m n) where
       worked_as : (i j : ℕ) (d : J) → j + i + 1 ≡ length xs → j < length ps → HasWorkedAs Does i m n (get_or xs i d) (get_or zs i d)
       worked_as i j d place low =
           let lower : j < length rs = omega (arith, low, size) in
@@ -284,9 +291,11 @@ module _ {J : Type 0} where
             from = o.from;
             handle = o.handle;
             knew = knows_handle m p.0.0 o.was;
+            knew_order = order_out m p.0.0.number p.0.0.caller (home_of p.0.0) o.was o.from;
             left = r.0.0;
             worked = subst (λ (y : J). HasWorked Does (p.0.0, get_or xs i d) (r.0.0, y)) (sym after) (subst (λ (x : J). HasWorked Does (p.0.0, x) r.0) (sym before) w);
             knows = knows_handle n r.0.0 l.known;
+            order = order_in n r.0.0 l.known (w.same.home ∙ o.from ∙ sym still);
           }
 
       pub have_worked : HaveWorked Does m n xs zs
@@ -295,8 +304,14 @@ module _ {J : Type 0} where
         each = λ i d lt. worked_as i (length xs - 1 - i) d (omega (arith, lt)) (omega (arith, lt, out.count));
       }
 
+      rest_same : (i : ℕ) → length xs ≤ i → get_or n.callers.items i None ≡ get_or m.callers.items i None
+      rest_same i high = back.rest i (inr (omega (arith, high, out.count, size))) ∙ out.rest i (inr high)
+
       pub rest_known : KnowsRest (length xs) m n
-      rest_known i high = knows_same i m n (back.rest i (inr (omega (arith, high, out.count, size))) ∙ out.rest i (inr high))
+      rest_known i high = knows_same i m n (rest_same i high)
+
+      pub rest_in_order : RestKnowsOrder (length xs) m n
+      rest_in_order i high = order_same m n i still (rest_same i high)
 
   -- ---- the same, as the call leaves it
 
@@ -316,12 +331,15 @@ module _ {J : Type 0} where
         subst (MayAllLeave k (length left)) (sym is) (subst (λ (l : List J). MayAllLeave k (length l) rs) (sym none)
         (may_leave_after Does m k k xs [] ps rs out_all pairs_long pairs_worked still))
 
-    module _ (n : Memory) (zs : List J) (back : HasTakenBack k n left zs 0 now) where
+    module _ (n : Memory) (zs : List J) (back : HasTakenBack k n left zs 0 now) (still : IsStill m n) where
       back_all : HasTakenBack k n [] zs 0 rs
       back_all = subst (λ (l : List J). HasTakenBack k n l zs 0 rs) none (subst (HasTakenBack k n left zs 0) is back)
 
       pub all_worked : HaveWorked Does m n xs zs
-      all_worked = have_worked Does m k n xs zs ps rs out_all pairs_long pairs_worked back_all
+      all_worked = have_worked Does m k n xs zs ps rs out_all pairs_long pairs_worked back_all still
 
       pub others_known : KnowsRest (length xs) m n
-      others_known = rest_known Does m k n xs zs ps rs out_all pairs_long pairs_worked back_all
+      others_known = rest_known Does m k n xs zs ps rs out_all pairs_long pairs_worked back_all still
+
+      pub others_in_order : RestKnowsOrder (length xs) m n
+      others_in_order = rest_in_order Does m k n xs zs ps rs out_all pairs_long pairs_worked back_all still

@@ -1,9 +1,10 @@
 -- A closed row of scripts holds a serial history of scripts, which recovery finds the end of.
-use Rattle.std.proofs.Common.{◌≡◌, ℕ, zero, suc, ◌+◌, ◌-◌, ◌≤◌, ◌<◌, ◌⊎◌, inl, inr, Bool, true, false, List, [], ◌∷◌, ◌++◌, length, get_or, map, refl, sym, ap, subst, ◌∙◌, arith, length-append}
+use Rattle.std.proofs.Common.{◌≡◌, ℕ, zero, suc, ◌+◌, ◌-◌, ◌≤◌, ◌<◌, ◌⊎◌, inl, inr, Bool, true, false, List, [], ◌∷◌, ◌++◌, length, get_or, map, take, refl, sym, ap, subst, ◌∙◌, arith, length-append}
 use Rattle.std.specs.List.{All, AllByRecursion as Every}
 use Rattle.std.proofs.lemmas.Bool.{cases_lt}
 use Rattle.std.proofs.lemmas.List.{length-map, get_or_past, get_or_append_left}
-use Rattle.std.proofs.Math.Seq.{get_or-append_seam}
+use mathlib.Core.List.{IsPrefix}
+use Rattle.std.proofs.Math.Seq.{get_or-append_seam, take-append_seam}
 use Rattle.std.proofs.Math.ListN.{get_or-map}
 use Rattle.std.proofs.lemmas.List.Elements.{All-from_recursion, recursion_from_All, All-from_get_or}
 use Rattle.of_cell.specs.Words.{payload_of}
@@ -45,11 +46,13 @@ use Rattle.of_row.specs.Told.{open_operation, operations_known}
 use Rattle.of_row.specs.Trail.{first_of, moment, IsRunBy}
 use Rattle.of_row.specs.Moments.{ExplainsEndedCalls, StopsLoseNothing, LosesNothing, words_alone}
 use Rattle.of_core.proofs.Tickets.{ticket_upto}
+use Rattle.of_caller.proofs.CallSteps.{prefix_trans}
 use Rattle.of_caller.proofs.StoresReplay.{number_at, state_start}
 use Rattle.of_caller.proofs.StoresRecovered.{stand_same}
 use Rattle.of_memory.specs.History.{HistoryEntry, no_history_entry, Made, no_made, store_after, IsOneOf, ScriptOnlyReads, IsUpTo}
 use Rattle.of_memory.specs.Calls.{IsScriptOperation, IsMade, AreMade, RunsScripts}
-use Rattle.of_memory.specs.Laws.{setup_with, StandsAt, HoldsLastReplies, KeepsSo, KeepScripts, ExplainsKept, HasOpenScript, HasOnlyKept, TellsLast, HistoryLeads, HoldsHistory}
+use Rattle.of_memory.specs.Times.{calls_ended_in, calls_begun_in}
+use Rattle.of_memory.specs.Laws.{setup_with, StandsAt, HoldsLastReplies, KeepsSo, KeepScripts, ExplainsKept, HasOpenScript, HasOnlyKept, TellsLast, RespectsEvents, HistoryLeads, HoldsHistory}
 use Rattle.of_memory.proofs.Replaying.{sizes, Cells, AreScripts, IsEntryOf, entries, serial, long, leads, at, in_order, explains}
 
 -- ---- the operations that a kept caller has begun are scripts'
@@ -347,6 +350,22 @@ module _ (w : Scripts) (limit : ℕ) (start : StartsMeetInvariant (setup_with w 
             let at_end = recovered_at (ticket_cell_at MOST_INSTRS n) ticket_low in
             omega (arith, few, is.ticket, at_end))
 
+      -- what the view knows of real time, the order respects, and so does the history
+      on_time : RespectsEvents S B v.past h
+      on_time n x k y before p q lt high first later =
+          let es = lost.events in
+          let known : IsPrefix before.moment es = prefix_trans before.moment v.past es before.early (lost.reached.pasts m.seat v m.view awake) in
+          let cut : take (length before.moment) es ≡ before.moment = ap (take (length before.moment)) (sym known.1) ∙ take-append_seam before.moment known.0 in
+          let c : Call = get_or order q no_call in
+          let d : Call = get_or order p no_call in
+          let a = entry_of q high in
+          let b = entry_of p (omega (arith, lt, high)) in
+          lost.linearizes.real_time p q lt (subst (λ (j : ℕ). q < j) (long w s order are_scripts) high) (
+            length before.moment,
+            subst (λ (z : List Event × ℕ). c.ticket ≤ start_ticket S B z.1 + calls_ended_in S B z.0 z.1) (λ i. (sym cut i, (sym first.0 ∙ a.caller) i)) (omega (arith, a.ticket, first.1, before.ended)),
+            subst (λ (z : List Event × ℕ). start_ticket S B z.1 + calls_begun_in z.0 z.1 < d.ticket) (λ i. (sym cut i, (sym later.0 ∙ b.caller) i)) (omega (arith, b.ticket, later.1, before.begun)),
+          )
+
       leads_there : HistoryLeads w limit B v s found h
       leads_there = record {
         serial = serial w s order are_scripts;
@@ -357,6 +376,7 @@ module _ (w : Scripts) (limit : ℕ) (start : StartsMeetInvariant (setup_with w 
         callers = below;
         last = tells_last;
         upto = up_to;
+        time = on_time;
       }
 
     -- the start stands for some store, and so what recovery finds holds the last replies

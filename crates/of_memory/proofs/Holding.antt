@@ -1,34 +1,36 @@
 -- What a memory knows of its callers, and the history that its close leaves.
-use Rattle.std.proofs.Common.{◌≡◌, ℕ, ◌<◌, inl, inr, true≢false, List, [], ◌∷◌, length, get_or, set, Option, Some, None, sym, ap, subst, ◌∙◌, arith}
+use Rattle.std.proofs.Common.{◌≡◌, ℕ, ◌+◌, ◌<◌, inl, inr, true≢false, List, [], ◌∷◌, length, get_or, set, Option, Some, None, sym, ap, subst, ◌∙◌, arith}
 use Rattle.std.specs.List.{All}
 use Rattle.std.proofs.lemmas.Bool.{cases_lt}
 use Rattle.std.proofs.lemmas.List.{get_or-set_same, get_or-set_other, get_or_past}
 use Rattle.of_script.specs.declared.instr.Instr.{Instr}
 use Rattle.of_store.specs.Store.{Store}
 use Rattle.of_eval.specs.declared.scripts.Scripts.{Scripts}
-use Rattle.of_eval.specs.Scripts.{scripts_data_cells}
+use Rattle.of_eval.specs.Scripts.{scripts_data_cells, scripts_meaning}
 use Rattle.of_core.specs.Table.{Setup}
 use Rattle.of_core.specs.Machine.{CallState, IsOpen, is_idle}
 use Rattle.of_core.specs.Turn.{IsIdle}
 use Rattle.of_core.specs.TableMoment.{TableStart}
 use Rattle.of_core.specs.Starts.{start_from_durable}
 use Rattle.of_row.specs.declared.row.Row.{Row}
-use Rattle.of_row.specs.Rows.{key_of}
+use Rattle.of_row.specs.Rows.{key_of, setup_at}
 use Rattle.of_row.specs.Rule.{done_before}
 use Rattle.of_row.specs.Views.{EndedCall, KnownCaller, View, Each}
 use Rattle.of_caller.specs.declared.caller.Caller.{Caller}
 use Rattle.of_caller.specs.Callers.{caller_call}
+use Rattle.of_caller.proofs.CallSteps.{prefix_trans}
 use Rattle.of_memory.specs.declared.memory.Memory.{Memory}
 use Rattle.of_memory.specs.declared.handle.Handle.{Handle}
 use Rattle.of_memory.specs.declared.saved.Saved.{Saved}
-use Rattle.of_memory.specs.History.{HistoryEntry, Made, store_after, ExplainsAll, IsOneOf, HasOnly, IsUpTo}
+use Rattle.of_memory.specs.History.{HistoryEntry, Made, store_after, ExplainsAll, IsOneOf, HasOnly, IsUpTo, ComeInOrder}
+use Rattle.of_memory.specs.Times.{EndBefore}
 use Rattle.of_memory.specs.Calls.{AreMade, RunsScripts}
 use Rattle.of_memory.specs.Called.{IsOpenAt}
 use Rattle.of_memory.specs.Laws.{setup_with, StandsAt, KeepsSo, ExplainsKept, HasOpenScript, HasOnlyKept, TellsLast, HistoryLeads}
 use Rattle.of_caller.specs.PlanRows.{start_of_row}
-use Rattle.of_memory.specs.Serving.{Serves, IsNew, AllStand, AllHere, IsKeptOf, KeepsThose, ended_of}
+use Rattle.of_memory.specs.Serving.{Serves, IsNew, AllStand, AllHere, IsKeptOf, KeepsThose, KnowsPasts, ended_of, events_known_to, made_before}
 use Rattle.of_memory.specs.Handles.{IsHandle}
-use Rattle.of_memory.specs.Memories.{IsMemory, IsFrom, HasMadeOf, HasOpenOf, HasNoneOpen, KnowsOthers, OthersStayOpen, HasHistory, row_of, callers_of}
+use Rattle.of_memory.specs.Memories.{IsMemory, IsFrom, HasMadeOf, HasOpenOf, HasNoneOpen, KnowsOthers, OthersStayOpen, OthersKnowOrder, HasHistory, row_of, callers_of}
 use Rattle.of_memory.proofs.Seats.{number_below, keeps_as, same_caller}
 
 -- ---- a caller is taken out of its place, or put into it
@@ -45,6 +47,13 @@ opens_set m k i x is n script ne h = record {
   caller = h.caller;
   here = ap (λ (cs : List (Option (Caller Scripts))). get_or cs n None) is ∙ get_or-set_other m.callers.items i n x None ne ∙ h.here;
   opened = h.opened;
+}
+
+pub orders_set : (m k : Memory) (i : ℕ) (x : Option (Caller Scripts)) → row_of k ≡ row_of m → k.callers.items ≡ set m.callers.items i x → OthersKnowOrder i m k
+orders_set m k i x still is j n a l b ne h = record {
+  caller = h.caller;
+  here = ap (λ (cs : List (Option (Caller Scripts))). get_or cs j None) is ∙ get_or-set_other m.callers.items i j x None ne ∙ h.here;
+  order = subst (λ (r : Row Scripts). EndBefore (setup_at scripts_meaning r) (start_of_row r) (events_known_to h.caller) n a l b) (sym still) h.order;
 }
 
 pub open_here : (k : Memory) (cs : List (Option (Caller Scripts))) (i : ℕ) (c : Caller Scripts) → k.callers.items ≡ set cs i (Some c) → i < length cs → (script : List Instr) → IsOpenAt script c → HasOpenOf k i script
@@ -125,9 +134,9 @@ keep_scripts cs xs count long here keeps n lt =
     let one = here n low in
     keeps_as n (IsKeptOf one.0) RunsScripts (λ x k. k.runs) xs (keeps n one.0 low one.1)
 
-pub history : (m : Memory) (d : Saved) (r : Row Scripts) (v : View) → r ≡ row_of m → (key_of r).callers ≡ (key_of r).work.callers → d.scripts ≡ (key_of r).work → KeepsThose m.callers.items (length m.callers.items) v.kept
+pub history : (m : Memory) (d : Saved) (r : Row Scripts) (v : View) → r ≡ row_of m → (key_of r).callers ≡ (key_of r).work.callers → setup_at scripts_meaning r ≡ setup_with (key_of r).work (key_of r).limit → d.scripts ≡ (key_of r).work → KeepsThose m.callers.items (length m.callers.items) v.kept → KnowsPasts m.callers.items (length m.callers.items) v.past
     → ((s : Store) → StandsAt (key_of r).work (start_of_row r) s → (h : List HistoryEntry) × HistoryLeads (key_of r).work (key_of r).limit (start_of_row r) v s d.row.items h) → HasHistory m d
-history m d r v same sizes scripts keeps leads s starts =
+history m d r v same sizes setup scripts keeps pasts leads s starts =
     let found = leads s (subst (λ (x : Row Scripts). StandsAt (key_of x).work (start_of_row x) s) (sym same) starts) in
     let h = found.0 in (
       h,
@@ -143,11 +152,24 @@ history m d r v same sizes scripts keeps leads s starts =
             subst (λ (x : Row Scripts). HasOnly h n (done_before (setup_with (key_of r).work (key_of r).limit) (start_of_row x) n) ms (HasOpenOf m n)) same owned;
         last = λ n lt.
             let S : Setup = setup_with (key_of r).work (key_of r).limit in
-            let Tells : Scripts → Row Scripts → Type 0 = λ w x. TellsLast S (start_of_row x) (start_from_durable w.callers (scripts_data_cells w) d.row.items) h n in
-            subst (λ (x : Row Scripts). Tells d.scripts x) same (subst (λ (w : Scripts). Tells w r) (sym scripts) (found.1.last n (low n lt)));
+            let TellsOf : Scripts → Row Scripts → Type 0 = λ w x. TellsLast S (start_of_row x) (start_from_durable w.callers (scripts_data_cells w) d.row.items) h n in
+            subst (λ (x : Row Scripts). TellsOf d.scripts x) same (subst (λ (w : Scripts). TellsOf w r) (sym scripts) (found.1.last n (low n lt)));
         upto = λ n lt.
             let S : Setup = setup_with (key_of r).work (key_of r).limit in
             subst (λ (w : Scripts). IsUpTo h n (done_before S (start_from_durable w.callers (scripts_data_cells w) d.row.items) n)) (sym scripts) (found.1.upto n (low n lt));
+        time = λ j n x k y has.
+            let T : Setup = setup_at scripts_meaning r in
+            let here : EndBefore T (start_of_row r) (events_known_to has.caller) n x k y =
+            subst (λ (q : Row Scripts). EndBefore (setup_at scripts_meaning q) (start_of_row q) (events_known_to has.caller) n x k y) (sym same) has.order in
+            let past = pasts j has.caller (is_within m.callers.items j has.caller has.here) has.here in
+            let known : EndBefore T (start_of_row r) v.past n x k y = record {
+              moment = here.moment;
+              early = prefix_trans here.moment (events_known_to has.caller) v.past here.early past;
+              ended = here.ended;
+              begun = here.begun;
+            } in
+            let comes = found.1.time n x k y (subst (λ (S : Setup). EndBefore S (start_of_row r) v.past n x k y) setup known) in
+            subst (λ (q : Row Scripts). ComeInOrder h n (made_before q n + x) k (made_before q k + y)) same comes;
         callers = subst (λ (k : ℕ). All (λ (e : HistoryEntry). e.caller < k) h) (sym sizes ∙ ap (λ (x : Row Scripts). (key_of x).callers) same) found.1.callers;
       },
     )

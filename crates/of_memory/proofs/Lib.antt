@@ -6,6 +6,7 @@ pub mod Seats
 pub mod Starting
 pub mod Closing
 pub mod Holding
+pub mod Times
 pub mod Reading
 pub mod Joining
 pub mod Handing

@@ -3,10 +3,11 @@ use Rattle.std.specs.Prelude.{is_some, not}
 use Rattle.std.proofs.Common.{◌≡◌, ◌≢◌, ℕ, ◌+◌, ◌<◌, ◌⊎◌, inl, inr, Bool, false, List, [], ◌∷◌, ◌++◌, length, get_or, set, Option, Some, None, refl, sym, ap, subst, ◌∙◌, arith}
 use Rattle.std.proofs.lemmas.Bool.{cases_lt}
 use mathlib.Core.Bool.{true≢false}
+use mathlib.Core.List.{IsPrefix}
 use Rattle.std.proofs.lemmas.List.{get_or-set_same, get_or-set_other, get_or_append_left, get_or_past}
 use Rattle.std.proofs.Math.Seq.{get_or-append_seam}
 use Rattle.of_eval.specs.declared.scripts.Scripts.{Scripts}
-use Rattle.of_eval.specs.Scripts.{scripts_meaning}
+use Rattle.of_eval.specs.Scripts.{scripts_meaning, LawfulCells}
 use Rattle.of_row.specs.declared.member.Member.{Member}
 use Rattle.of_row.specs.declared.member.Pass.{Pass}
 use Rattle.of_row.specs.declared.row.Row.{Row}
@@ -19,12 +20,15 @@ use Rattle.of_core.specs.Table.{Setup}
 use Rattle.of_core.specs.declared.place.Place.{Place}
 use Rattle.of_core.specs.Machine.{CallState, IsOpen, is_idle}
 use Rattle.of_core.specs.Turn.{IsIdle}
+use Rattle.of_core.specs.Events.{Event}
 use Rattle.of_core.specs.MachineValue.{machine_setup}
 use Rattle.of_caller.specs.declared.caller.Caller.{Caller}
 use Rattle.of_caller.specs.Callers.{IsCaller, caller_call, calls_begun_by, sight_of}
-use Rattle.of_memory.specs.Calls.{RunsScripts}
+use Rattle.of_caller.proofs.CallSteps.{prefix_trans}
+use Rattle.of_caller.proofs.Behind.{ended_later}
+use Rattle.of_memory.specs.Calls.{IsScriptOperation, RunsScripts}
 use Rattle.of_memory.specs.Laws.{KeepsSo}
-use Rattle.of_memory.specs.Serving.{IsNew, Serves, ServeAll, Enrols, AllStand, AllHere, IsKeptOf, KeepsThose}
+use Rattle.of_memory.specs.Serving.{IsNew, Serves, ServeAll, Enrols, AllStand, AllHere, IsKeptOf, KeepsThose, KnowsPasts, made_before}
 use Rattle.of_memory.proofs.Called.{stands_caller}
 
 -- ---- numbers that a pass has asked for
@@ -71,6 +75,7 @@ new_caller r n before member now c e is same rest begun = record {
         let many : length (last_caller (sight_of c).kept).ended ≡ 0 = ap (λ (x : KnownCaller). length x.ended) kept in
         let none : open_call_count (is_idle (caller_call c).place) ≡ 0 = ap (λ (p : Place). open_call_count (is_idle p)) rest in
         omega (arith, begun, e.made, many, none);
+    told = let many : length (last_caller (sight_of c).kept).ended ≡ 0 = ap (λ (x : KnownCaller). length x.ended) kept in omega (arith, many);
   };
   none = ap (λ (x : KnownCaller). x.ended) kept;
   idle = rest;
@@ -162,7 +167,7 @@ keeps_as n P Q f (x ∷ xs) (inl h) = inl (h.0, f x h.1)
 keeps_as n P Q f (x ∷ xs) (inr h) = inr (keeps_as n P Q f xs h)
 
 -- the open machine that a member keeps is its caller's
-open_same : (S : Setup) (x : KnownCaller) (d : CallState) → StandsForMachine S x d → IsOpen x.machine.place → x.machine ≡ d
+pub open_same : (S : Setup) (x : KnownCaller) (d : CallState) → StandsForMachine S x d → IsOpen x.machine.place → x.machine ≡ d
 open_same S x d (inl (inl e)) is_open = sym e
 open_same S x d (inl (inr e)) is_open = absurd (true≢false (sym (ap is_idle e.0) ∙ is_open))
 open_same S x d (inr o) is_open = absurd (true≢false (sym (ap is_idle o.at_rest) ∙ is_open))
@@ -200,3 +205,28 @@ here_more cs i all one n lt = elim (cases_lt n i) [
 pub one_there : (o : Option (Caller Scripts)) (b : Bool) → is_some o ≡ not b → b ≡ false → (c : Caller Scripts) × (o ≡ Some c)
 one_there None b e f = absurd (true≢false (sym (ap not f) ∙ sym e))
 one_there (Some c) b e f = (c, refl)
+
+-- ---- a caller that has told, or has heard
+
+-- with the same calls, and knowing more, it serves as before
+pub serves_same : (r : Row Scripts) (n : ℕ) (c k : Caller Scripts) → Serves r n c → IsCaller scripts_meaning r k → caller_call k ≡ caller_call c → (sight_of k).kept ≡ (sight_of c).kept → IsPrefix (sight_of c).past (sight_of k).past → Serves r n k
+serves_same r n c k s is call kept more = record {
+  caller = is;
+  number = ap (λ (d : CallState). d.caller) call ∙ s.number;
+  runs = subst (λ (xs : List KnownCaller). RunsScripts (last_caller xs)) (sym kept) s.runs;
+  begun = subst (λ (d : CallState). IsOpen d.place → IsScriptOperation d.op) (sym call) s.begun;
+  counts = subst (λ (z : CallState × List KnownCaller). z.0.made ≡ made_before r n + length (last_caller z.1).ended + open_call_count (is_idle z.0.place)) (λ i. (sym call i, sym kept i)) s.counts;
+  told =
+      let low = s.told in
+      let later = ended_later scripts_meaning LawfulCells r (sight_of c).past (sight_of k).past n more in
+      let same : length (last_caller (sight_of k).kept).ended ≡ length (last_caller (sight_of c).kept).ended = ap (λ (xs : List KnownCaller). length (last_caller xs).ended) kept in
+      omega (arith, low, later, same);
+}
+
+-- ---- what the callers know of real time is known when they are gathered
+
+pub pasts_more : (fs : List (Option (Caller Scripts))) (i : ℕ) (es ds : List Event) → KnowsPasts fs i es → IsPrefix es ds → ((c : Caller Scripts) → get_or fs i None ≡ Some c → IsPrefix (sight_of c).past ds) → KnowsPasts fs (i + 1) ds
+pasts_more fs i es ds all more own n c lt here = elim (cases_lt n i) [
+  | inl low ↦ prefix_trans (sight_of c).past es ds (all n c low here) more
+  | inr high ↦ let at : n ≡ i = omega (arith, lt, high) in own c (ap (λ (k : ℕ). get_or fs k None) (sym at) ∙ here)
+]

@@ -1,5 +1,6 @@
 -- What a call of a script comes to.
-use Rattle.std.specs.Prelude.{◌≡◌, List, [], ◌∷◌, ◌++◌, map, Result, Ok, Err, ◌⊎◌}
+use Rattle.std.specs.Prelude.{◌≡◌, ℕ, ◌<◌, ◌≤◌, List, [], ◌∷◌, ◌++◌, length, map, Result, Ok, Err, ◌⊎◌}
+use mathlib.Core.List.{IsPrefix}
 use Rattle.of_script.specs.declared.instr.Instr.{Instr}
 use Rattle.of_script.specs.Language.{IsScript, instr_word}
 use Rattle.of_store.specs.Replies.{reply_value_of}
@@ -12,7 +13,8 @@ use Rattle.of_memory.specs.declared.error.RunErr.{RunErr}
 use Rattle.of_memory.specs.declared.error.RunErr.TheVariants.{Stopped, Spent as NoneLeft, Open, NoTicket}
 use Rattle.of_memory.specs.History.{Made, Replied, Spent}
 use Rattle.of_memory.specs.Calls.{AreMade}
-use Rattle.of_memory.specs.Serving.{ended_of}
+use Rattle.of_memory.specs.Times.{calls_begun_in}
+use Rattle.of_memory.specs.Serving.{ended_of, events_known_to}
 
 -- the calls that have ended after these, where a call of a script has come to this
 abbrev pub made_with : List Instr → Result Answer RunErr → List Made → List Made
@@ -75,6 +77,24 @@ WasTried (Err (Stopped asked)) = Unit {0}
 WasTried (Err (NoneLeft seq)) = Unit {0}
 WasTried (Err Open) = ⊥
 WasTried (Err NoTicket) = ⊥
+
+-- the call has made a step
+abbrev pub HasStarted : Result Answer RunErr → Type 0
+HasStarted (Ok a) = Unit {0}
+HasStarted (Err (Stopped asked)) = 1 < asked
+HasStarted (Err (NoneLeft seq)) = Unit {0}
+HasStarted (Err Open) = ⊥
+HasStarted (Err NoTicket) = ⊥
+
+-- the caller of this number, which has made these calls, began no other before the call, as far as
+-- it knew then; so it is of a call that has made a step
+abbrev pub BeginsAsNext : (number : ℕ) → Result Answer RunErr → Caller Scripts → Type 0
+BeginsAsNext n result c =
+    HasStarted result → calls_begun_in (events_known_to c) n ≤ length (ended_of c)
+
+-- the events that the caller knows go on
+abbrev pub LearnsMore : (before now : Caller Scripts) → Type 0
+LearnsMore c d = IsPrefix (events_known_to c) (events_known_to d)
 
 -- a call that is not made leaves everything as it was
 abbrev pub LeavesAsItWas : {A : Type 0} → Result Answer RunErr → (before now : A) → Type 0

@@ -88,3 +88,16 @@ ScriptOnlyReads script = All (λ (i : Instr). IsTrue (reads_only i)) script
 abbrev pub IsUpTo : List HistoryEntry → (caller ticket : ℕ) → Type 0
 IsUpTo h c t =
     All (λ (e : HistoryEntry). e.caller ≡ c → (ScriptOnlyReads e.script → ⊥) → e.ticket ≤ t) h
+
+-- the entry is of this caller, up to this ticket, or above it
+abbrev pub IsUpToTicket : (caller ticket : ℕ) → HistoryEntry → Type 0
+IsUpToTicket n t e = (e.caller ≡ n) × (e.ticket ≤ t)
+
+abbrev pub IsAboveTicket : (caller ticket : ℕ) → HistoryEntry → Type 0
+IsAboveTicket k u e = (e.caller ≡ k) × (u < e.ticket)
+
+-- the calls of caller n up to ticket t come before those of caller k above ticket u
+abbrev pub ComeInOrder : List HistoryEntry → (n t k u : ℕ) → Type 0
+ComeInOrder h n t k u =
+    (p q : ℕ) → p < q → q < length h → IsUpToTicket n t (get_or h q no_history_entry)
+    → IsAboveTicket k u (get_or h p no_history_entry) → ⊥

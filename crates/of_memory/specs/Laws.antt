@@ -1,5 +1,5 @@
 -- What a closed row of scripts holds: one serial history of scripts on the plain store.
-use Rattle.std.specs.Prelude.{◌≡◌, ℕ, ◌<◌, ◌⊎◌, List, [], ◌∷◌, map, false}
+use Rattle.std.specs.Prelude.{◌≡◌, ℕ, ◌+◌, ◌<◌, ◌⊎◌, List, [], ◌∷◌, map, false}
 use Rattle.std.specs.List.{All}
 use Rattle.of_cell.specs.Words.{payload_of}
 use Rattle.of_recover.specs.Recovered.{recovered_words}
@@ -16,10 +16,12 @@ use Rattle.of_eval.specs.Faults.{AllOwnCellsAreSound}
 use Rattle.of_core.specs.Table.{Setup, setup_of}
 use Rattle.of_core.specs.Machine.{IsOpen}
 use Rattle.of_core.specs.TableMoment.{TableStart}
+use Rattle.of_core.specs.Events.{Event}
 use Rattle.of_core.specs.Starts.{IsDurable, IsStartRow, start_from_durable}
 use Rattle.of_row.specs.Views.{KnownCaller, View, Each}
 use Rattle.of_row.specs.Rule.{ViewMeetsRule, done_before}
-use Rattle.of_memory.specs.History.{HistoryEntry, Made, IsSerial, store_after, StandsInOrder, ExplainsAll, HasOnly, HasEntry, IsUpTo}
+use Rattle.of_memory.specs.History.{HistoryEntry, Made, IsSerial, store_after, StandsInOrder, ExplainsAll, HasOnly, HasEntry, IsUpTo, ComeInOrder}
+use Rattle.of_memory.specs.Times.{EndBefore}
 use Rattle.of_memory.specs.Calls.{RunsScripts, AreMade, HoldsResponse}
 
 -- what the machines on a table for these scripts have in common
@@ -74,6 +76,13 @@ TellsLast S B C h n =
     ⊎ ((e : HistoryEntry) × HasEntry h e × (e.caller ≡ n) × (e.ticket ≡ done_before S C n)
     × HoldsReplyAt C n e.reply)
 
+-- the history respects the time between the first x calls of n and those of k after its first y,
+-- where these events know of it
+abbrev pub RespectsEvents : Setup → TableStart → List Event → List HistoryEntry → Type 0
+RespectsEvents S B es h =
+    (n x k y : ℕ) → EndBefore S B es n x k y
+    → ComeInOrder h n (done_before S B n + x) k (done_before S B k + y)
+
 -- a serial history leads from the store to the one that the row stands for
 pub record HistoryLeads (w : Scripts) (limit : ℕ) (B : TableStart) (v : View) (s : Store)
     (row : List ℕ) (h : List HistoryEntry) : Type 0 where
@@ -90,6 +99,7 @@ pub record HistoryLeads (w : Scripts) (limit : ℕ) (B : TableStart) (v : View) 
       → IsUpTo h n
       (done_before (setup_with w limit)
       (start_from_durable w.callers (scripts_data_cells w) row) n)
+  pub time : RespectsEvents (setup_with w limit) B v.past h
 
 -- Where words and a view meet the rule of a row of these scripts, and the view keeps each caller,
 -- recovery of the durable words finds a row from which a table may start, and a serial history

@@ -1,5 +1,6 @@
 pub mod History
 pub mod Calls
+pub mod Times
 pub mod Laws
 pub mod Serving
 pub mod Called
@@ -7,6 +8,7 @@ pub mod Within
 pub mod Saving
 pub mod Handles
 pub mod Memories
+pub mod Telling
 pub mod Tasks
 pub mod Joining
 pub mod Texts

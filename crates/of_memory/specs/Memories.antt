@@ -1,5 +1,5 @@
 -- A memory that a program has opened, and what its close leaves.
-use Rattle.std.specs.Prelude.{◌≡◌, ◌≢◌, ℕ, ◌<◌, ◌≤◌, ◌⊎◌, List, Some, None, length, slice_set}
+use Rattle.std.specs.Prelude.{◌≡◌, ◌≢◌, ℕ, ◌+◌, ◌<◌, ◌≤◌, ◌⊎◌, List, Some, None, length, slice_set}
 use Rattle.std.proofs.Common.{get_or}
 use Rattle.std.specs.Arc.{arc_value}
 use Rattle.std.specs.List.{All}
@@ -7,7 +7,8 @@ use Rattle.of_script.specs.declared.instr.Instr.{Instr}
 use Rattle.of_store.specs.Store.{Store}
 use Rattle.of_eval.specs.declared.scripts.Scripts.{Scripts}
 use Rattle.of_row.specs.declared.row.Row.{Row}
-use Rattle.of_row.specs.Rows.{key_of, IsRowPass}
+use Rattle.of_eval.specs.Scripts.{scripts_meaning}
+use Rattle.of_row.specs.Rows.{key_of, setup_at, IsRowPass}
 use Rattle.of_caller.specs.declared.caller.Caller.{Caller}
 use Rattle.of_caller.specs.PlanRows.{start_of_row}
 use Rattle.of_mem.specs.declared.work.TheConstants.{MOST_CALLERS}
@@ -20,11 +21,12 @@ use Rattle.of_memory.specs.declared.error.OpenErr.TheVariants.{OutOfMemory as No
 use Rattle.of_memory.specs.declared.memory.Memory.{Memory}
 use Rattle.of_memory.specs.declared.handle.Handle.{Handle}
 use Rattle.of_memory.specs.declared.saved.Saved.{Saved}
-use Rattle.of_memory.specs.History.{HistoryEntry, Made, IsSerial, store_after, StandsInOrder, ExplainsAll, HasOnly, HasEntry, IsUpTo}
+use Rattle.of_memory.specs.History.{HistoryEntry, Made, IsSerial, store_after, StandsInOrder, ExplainsAll, HasOnly, HasEntry, IsUpTo, ComeInOrder}
+use Rattle.of_memory.specs.Times.{EndBefore}
 use Rattle.of_memory.specs.Calls.{AreMade}
 use Rattle.of_memory.specs.Called.{IsOpenAt}
 use Rattle.of_memory.specs.Laws.{StandsAt}
-use Rattle.of_memory.specs.Serving.{IsScriptsRow, ServeAll, AllHere, ended_of, made_before}
+use Rattle.of_memory.specs.Serving.{IsScriptsRow, ServeAll, AllHere, ended_of, events_known_to, made_before}
 use Rattle.of_memory.specs.Saving.{SavedHolds, HoldsReply, saved_ticket}
 use Rattle.of_memory.specs.Handles.{home_of, number_of_handle, caller_of}
 
@@ -63,6 +65,14 @@ pub record HasOpenOf (m : Memory) (n : ℕ) (script : List Instr) : Type 0 where
   pub here : get_or m.callers.items n None ≡ Some caller
   pub opened : IsOpenAt script caller
 
+-- no handle of number j is out, and it knows that the first x calls of number n had ended before
+-- number k began a call after its first y
+pub record HasOrderOf (m : Memory) (j n x k y : ℕ) : Type 0 where
+  pub caller : Caller Scripts
+  pub here : get_or m.callers.items j None ≡ Some caller
+  pub order : EndBefore (setup_at scripts_meaning (row_of m)) (start_of_row (row_of m))
+      (events_known_to caller) n x k y
+
 -- no handle is out
 abbrev pub HasNoHandleOut : Memory → Type 0
 HasNoHandleOut m = AllHere m.callers.items (length m.callers.items)
@@ -83,6 +93,11 @@ KnowsOthers n m k = (i : ℕ) (ms : List Made) → i ≢ n → HasMadeOf m i ms 
 abbrev pub OthersStayOpen : ℕ → (before now : Memory) → Type 0
 OthersStayOpen n m k =
     (i : ℕ) (script : List Instr) → i ≢ n → HasOpenOf m i script → HasOpenOf k i script
+
+-- nor is an order forgotten that they knew
+abbrev pub OthersKnowOrder : ℕ → (before now : Memory) → Type 0
+OthersKnowOrder i m l =
+    (j n x k y : ℕ) → j ≢ i → HasOrderOf m j n x k y → HasOrderOf l j n x k y
 
 -- no call is open
 abbrev pub HasNoneOpen : Memory → Type 0
@@ -117,7 +132,7 @@ TellsLastOf m d h n =
 -- and the calls of each caller stand in it in the order in which they were made, each once at most.
 -- It has each call that was answered, with its reply, and no call that was spent; beside these it
 -- has open calls alone. What is saved tells the last call of each caller, and no call that may
--- write is later.
+-- write is later. It respects the time between calls, where one of the numbers knows of it.
 pub record LeadsTo (m : Memory) (s : Store) (d : Saved) (h : List HistoryEntry) : Type 0 where
   pub serial : IsSerial s h
   pub ends : SavedHolds d (store_after s h)
@@ -128,6 +143,8 @@ pub record LeadsTo (m : Memory) (s : Store) (d : Saved) (h : List HistoryEntry) 
   pub callers : All (λ (e : HistoryEntry). e.caller < callers_of m) h
   pub last : (n : ℕ) → n < callers_of m → TellsLastOf m d h n
   pub upto : (n : ℕ) → n < callers_of m → IsUpTo h n (saved_ticket d n)
+  pub time : (j n x k y : ℕ) → HasOrderOf m j n x k y
+      → ComeInOrder h n (tickets_before m n + x) k (tickets_before m k + y)
 
 -- so it is of the store with which it was opened
 abbrev pub HasHistory : Memory → Saved → Type 0

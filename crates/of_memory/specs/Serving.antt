@@ -1,6 +1,7 @@
 -- A row of scripts, and its callers.
 use Rattle.std.specs.Prelude.{◌≡◌, ℕ, ◌+◌, ◌≤◌, ◌<◌, List, [], length, Option, Some, None}
 use Rattle.std.proofs.Common.{get_or}
+use mathlib.Core.List.{IsPrefix}
 use Rattle.of_store.specs.Store.{Store}
 use Rattle.of_cell.specs.declared.word.TheConstants.{GREATEST_LIMIT}
 use Rattle.of_eval.specs.declared.scripts.Scripts.{Scripts}
@@ -8,6 +9,7 @@ use Rattle.of_eval.specs.Scripts.{scripts_data_cells, scripts_meaning}
 use Rattle.of_core.specs.Machine.{IsOpen, is_idle}
 use Rattle.of_core.specs.Bound.{bound}
 use Rattle.of_core.specs.Turn.{IsIdle}
+use Rattle.of_core.specs.Events.{Event}
 use Rattle.of_row.specs.declared.row.Row.{Row}
 use Rattle.of_row.specs.declared.member.Pass.{Pass}
 use Rattle.of_row.specs.Rows.{key_of, setup_at, view_of_pass, IsRowPass, IsFirstPass}
@@ -18,6 +20,7 @@ use Rattle.of_caller.specs.Callers.{IsCaller, caller_call, calls_begun_by, sight
 use Rattle.of_caller.specs.PlanRows.{start_of_row}
 use Rattle.of_memory.specs.Calls.{IsScriptOperation, RunsScripts}
 use Rattle.of_memory.specs.Laws.{StandsAt, HoldsLastReplies, KeepsSo}
+use Rattle.of_memory.specs.Times.{calls_ended_in}
 
 -- how many calls a caller had made before that
 abbrev pub made_before : Row Scripts → ℕ → ℕ
@@ -50,13 +53,20 @@ CountsCalls r n c =
     calls_begun_by c
     ≡ made_before r n + length (ended_of c) + open_call_count (is_idle (caller_call c).place)
 
--- a caller of the row with this number, which has run scripts alone
+-- the events of the row that the caller knows
+abbrev pub events_known_to : Caller Scripts → List Event
+events_known_to c = (sight_of c).past
+
+-- a caller of the row with this number, which has run scripts alone, and knows of its own calls
+-- that they have ended
 pub record Serves (r : Row Scripts) (n : ℕ) (c : Caller Scripts) : Type 0 where
   pub caller : IsCaller scripts_meaning r c
   pub number : (caller_call c).caller ≡ n
   pub runs : RunsScripts (last_caller (sight_of c).kept)
   pub begun : IsOpen (caller_call c).place → IsScriptOperation (caller_call c).op
   pub counts : CountsCalls r n c
+  pub told : length (ended_of c)
+      ≤ calls_ended_in (setup_at scripts_meaning r) (start_of_row r) (events_known_to c) n
 
 -- it has made no call on this row
 pub record IsNew (r : Row Scripts) (n : ℕ) (c : Caller Scripts) : Type 0 where
@@ -93,3 +103,9 @@ pub record IsKeptOf (c : Caller Scripts) (x : KnownCaller) : Type 0 where
 abbrev pub KeepsThose : List (Option (Caller Scripts)) → (count : ℕ) → List KnownCaller → Type 0
 KeepsThose cs count xs =
     (n : ℕ) (c : Caller Scripts) → n < count → get_or cs n None ≡ Some c → KeepsSo n (IsKeptOf c) xs
+
+-- what each caller knows that stands at a place below the count is how these events begin
+abbrev pub KnowsPasts : List (Option (Caller Scripts)) → (count : ℕ) → List Event → Type 0
+KnowsPasts cs count es =
+    (n : ℕ) (c : Caller Scripts) → n < count → get_or cs n None ≡ Some c
+    → IsPrefix (events_known_to c) es

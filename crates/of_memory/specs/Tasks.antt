@@ -7,7 +7,8 @@ use Rattle.of_memory.specs.declared.memory.Memory.{Memory}
 use Rattle.of_memory.specs.declared.handle.Handle.{Handle}
 use Rattle.of_memory.specs.History.{Made}
 use Rattle.of_memory.specs.Handles.{IsHandle, HasMade, HasOpen, IsSame}
-use Rattle.of_memory.specs.Memories.{HasMadeOf, HasOpenOf, IsFrom, callers_of}
+use Rattle.of_memory.specs.Memories.{HasMadeOf, HasOpenOf, HasOrderOf, IsFrom, callers_of}
+use Rattle.of_memory.specs.Telling.{KnowsOrdersOf, LeavesOrder}
 
 -- the memory knows of the handle's number what the handle knows, and nothing else
 pub record KnowsHandle (m : Memory) (h : Handle) : Type 0 where
@@ -26,6 +27,11 @@ pub record KnowsSame (n : ℕ) (m k : Memory) : Type 0 where
 -- so it is of each number from this one on
 abbrev pub KnowsRest : (from : ℕ) → (before now : Memory) → Type 0
 KnowsRest from m k = (n : ℕ) → from ≤ n → KnowsSame n m k
+
+-- each number from this one on knows each order that it knew
+abbrev pub RestKnowsOrder : (from : ℕ) → (before now : Memory) → Type 0
+RestKnowsOrder from m l =
+    (j : ℕ) → from ≤ j → (n x k y : ℕ) → HasOrderOf m j n x k y → HasOrderOf l j n x k y
 
 -- what a task says of its work: the task and its handle before it and after it
 abbrev pub TaskWork : Type 0 → Type 1
@@ -46,9 +52,11 @@ pub record HasWorkedAs {J : Type 0} (Does : TaskWork J) (n : ℕ) (m k : Memory)
   pub from : IsFrom m begun
   pub handle : IsHandle begun
   pub knew : KnowsHandle m begun
+  pub knew_order : KnowsOrdersOf m begun
   pub left : Handle
   pub worked : HasWorked Does (begun, x) (left, y)
   pub knows : KnowsHandle k left
+  pub order : LeavesOrder left k
 
 -- each task has worked with the handle of the number that is its place
 pub record HaveWorked {J : Type 0} (Does : TaskWork J) (m k : Memory) (xs ys : List J)

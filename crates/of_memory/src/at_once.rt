@@ -68,7 +68,7 @@ impl Memory {
     ghost use Rattle.std.specs.Prelude.{IfErr, OnOk, OnErr};
     ghost use Rattle.of_memory.specs.Memories.{IsMemory, IsStill, callers_of};
     ghost use Rattle.of_memory.specs.Tasks.{HasHandedOut, MayAllLeave, HasTakenBack};
-    ghost use Rattle.of_memory.specs.Tasks.{HaveWorked, KnowsRest, IsTaskCause};
+    ghost use Rattle.of_memory.specs.Tasks.{HaveWorked, KnowsRest, RestKnowsOrder, IsTaskCause};
 
     /// Works at all tasks at once: each with the handle of the number that is its place, in a
     /// thread of its own where one can be made. Then the handles leave. If one can't be enrolled,
@@ -84,7 +84,9 @@ impl Memory {
         ensures worked { OnOk result
             (HaveWorked J.does self.old self.new tasks.old.items tasks.new.items) }
         ensures rest { KnowsRest (length tasks.old.items) self.old self.new }
+        ensures rest_order { RestKnowsOrder (length tasks.old.items) self.old self.new }
         ensures unchanged { OnErr result (KnowsRest 0 self.old self.new) }
+        ensures unchanged_order { OnErr result (RestKnowsOrder 0 self.old self.new) }
         ensures tasks { OnErr result (tasks.new.items ≡ tasks.old.items) }
         ensures cause { IfErr result (IsTaskCause self.old (length tasks.old.items)) }
     {

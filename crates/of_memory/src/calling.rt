@@ -7,7 +7,7 @@ ghost use Rattle.of_caller.specs.Callers.{caller_call};
 ghost use Rattle.of_caller.specs.Ends.{TellsAnswer};
 ghost use Rattle.of_caller.specs.Lanes.{IsHeldAnswer};
 ghost use Rattle.of_memory.specs.Serving.{IsScriptsRow, Serves, row_step_bound};
-ghost use Rattle.of_memory.specs.Called.{MakesCallOf, MakesOpenCall};
+ghost use Rattle.of_memory.specs.Called.{MakesCallOf, MakesOpenCall, BeginsAsNext, LearnsMore};
 ghost use Rattle.of_memory.specs.Called.{LeavesOpen, LeavesOpenCall, WasTried};
 ghost use Rattle.of_memory.specs.Called.{CallerOpensOnly, CallerOpensNone};
 ghost use Rattle.of_memory.specs.Within.{EndsWithin, KeepsToStop};
@@ -80,6 +80,8 @@ fn call_counted<L: Ledger>(
     ensures bound { EndsWithin (row_step_bound row.now) result }
     ensures stop { KeepsToStop 0 stop (caller_call caller.new).steps result }
     ensures only { CallerOpensOnly script.now caller.old caller.new }
+    ensures next { BeginsAsNext number result caller.old }
+    ensures more { LearnsMore caller.old caller.new }
 {
     let mut brake = fuel_of(stop);
     let mut steps: Steps<L> = Steps::new(blank);
@@ -114,6 +116,7 @@ fn go_on_counted<L: Ledger>(
     ensures stop { KeepsToStop (caller_call caller.old).steps stop
         (caller_call caller.new).steps result }
     ensures only { CallerOpensNone caller.old caller.new }
+    ensures more { LearnsMore caller.old caller.new }
 {
     let mut brake = fuel_of(stop);
     let mut steps: Steps<L> = Steps::new(blank);
@@ -143,6 +146,8 @@ pub(crate) fn call_script(
     ensures bound { EndsWithin (row_step_bound row.now) result }
     ensures stop { KeepsToStop 0 stop (caller_call caller.new).steps result }
     ensures only { CallerOpensOnly script.now caller.old caller.new }
+    ensures next { BeginsAsNext number result caller.old }
+    ensures more { LearnsMore caller.old caller.new }
 {
     call_counted::<Brand>(row, number, caller, script, stop, Blank::new(1))
 }
@@ -165,6 +170,7 @@ pub(crate) fn go_on_with(
     ensures stop { KeepsToStop (caller_call caller.old).steps stop
         (caller_call caller.new).steps result }
     ensures only { CallerOpensNone caller.old caller.new }
+    ensures more { LearnsMore caller.old caller.new }
 {
     go_on_counted::<Brand>(row, number, caller, stop, Blank::new(1))
 }

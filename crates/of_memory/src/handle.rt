@@ -32,6 +32,8 @@ impl Handle {
     ghost use Rattle.of_memory.specs.Memories.{IsMemory, IsFrom, IsStill, HasMadeOf, KnowsOthers};
     ghost use Rattle.of_memory.specs.Memories.{HasOpenOf, OthersStayOpen, PutsBack};
     ghost use Rattle.of_memory.specs.Handles.{OpensOnly, OpensNone};
+    ghost use Rattle.of_memory.specs.Telling.{BeginsAfterHeard, KeepsKnown, LeavesOrder};
+    ghost use Rattle.of_memory.specs.Memories.{OthersKnowOrder};
 
     /// Its number.
     pub fn number(&self) -> u32
@@ -52,6 +54,8 @@ impl Handle {
         ensures bound { EndsWithin (step_bound_of self.old) result }
         ensures stopped { IsNeverStopped result }
         ensures only { OpensOnly script.now self.old self.new }
+        ensures behind { BeginsAfterHeard result self.old self.new }
+        ensures knows { KeepsKnown self.old self.new }
     {
         self.begin(script, None)
     }
@@ -68,6 +72,8 @@ impl Handle {
         ensures bound { EndsWithin (step_bound_of self.old) result }
         ensures within { KeepsWithin 0 steps (steps_so_far self.new) result }
         ensures only { OpensOnly script.now self.old self.new }
+        ensures behind { BeginsAfterHeard result self.old self.new }
+        ensures knows { KeepsKnown self.old self.new }
     {
         self.begin(script, Some(steps))
     }
@@ -83,6 +89,8 @@ impl Handle {
         ensures bound { EndsWithin (step_bound_of self.old) result }
         ensures stop { KeepsToStop 0 stop (steps_so_far self.new) result }
         ensures only { OpensOnly script.now self.old self.new }
+        ensures behind { BeginsAfterHeard result self.old self.new }
+        ensures knows { KeepsKnown self.old self.new }
     {
         if !self.caller.is_idle() {
             return Err(RunErr::Open);
@@ -105,6 +113,7 @@ impl Handle {
         ensures bound { EndsWithin (step_bound_of self.old) result }
         ensures stopped { IsNeverStopped result }
         ensures only { OpensNone self.old self.new }
+        ensures knows { KeepsKnown self.old self.new }
     {
         self.resume(None)
     }
@@ -122,6 +131,7 @@ impl Handle {
         ensures within { KeepsWithin (steps_so_far self.old) steps
             (steps_so_far self.new) result }
         ensures only { OpensNone self.old self.new }
+        ensures knows { KeepsKnown self.old self.new }
     {
         self.resume(Some(steps))
     }
@@ -138,6 +148,7 @@ impl Handle {
         ensures stop { KeepsToStop (steps_so_far self.old) stop
             (steps_so_far self.new) result }
         ensures only { OpensNone self.old self.new }
+        ensures knows { KeepsKnown self.old self.new }
     {
         if self.caller.is_idle() {
             return Err(RunErr::Open);
@@ -160,6 +171,8 @@ impl Handle {
         ensures others { KnowsOthers (number_of_handle self) memory.old memory.new }
         ensures others_open { OthersStayOpen (number_of_handle self) memory.old memory.new }
         ensures back { PutsBack memory.old memory.new self }
+        ensures order { LeavesOrder self memory.new }
+        ensures others_order { OthersKnowOrder (number_of_handle self) memory.old memory.new }
     {
         let Handle {
             row: _,

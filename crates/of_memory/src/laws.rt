@@ -5,6 +5,7 @@ ghost use Rattle.of_memory.specs.Handles.{CallsAreCounted};
 ghost use Rattle.of_memory.specs.Joining.{HistoriesJoin, InvariantsHold};
 ghost use Rattle.of_memory.specs.Joining.{MemoriesStay, NoneStaysOpen, LoneCallsAreSaved};
 ghost use Rattle.of_memory.specs.Laws.{HoldsHistory};
+ghost use Rattle.of_memory.specs.Telling.{ToldCallsComeFirst};
 
 use of_core::laws::{every_moment, starts, step_kept};
 use of_eval::Scripts;
@@ -52,4 +53,10 @@ pub fn none_stays_open()
 /// scripts.
 pub fn lone_calls_are_saved()
     ensures { LoneCallsAreSaved }
+{}
+
+/// Calls that a handle tells another of come first in the history: before each call that the other
+/// begins when it has heard of them.
+pub fn told_calls_come_first()
+    ensures { ToldCallsComeFirst }
 {}

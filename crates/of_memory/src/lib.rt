@@ -12,6 +12,7 @@ mod limits;
 mod memory;
 mod saved;
 mod seating;
+mod telling;
 
 pub use at_once::Task;
 pub use error::{EnrolErr, ImageTextErr, InUse, LimitErr, OpenErr, RunErr};
@@ -21,3 +22,4 @@ pub use of_plan::{Answer, GREATEST_LIMIT};
 pub use of_script::{Abort, Cause, Instr, Reply, Script, ScriptErr, parse};
 pub use of_store::Store;
 pub use saved::Saved;
+pub use telling::News;

@@ -36,7 +36,8 @@ impl Memory {
     ghost use Rattle.of_memory.specs.Memories.{tickets_before};
     ghost use Rattle.of_memory.specs.Memories.{HasMadeOf, IsFrom, IsStill, KnowsOthers, HasHistory};
     ghost use Rattle.of_memory.specs.Memories.{IsOpenCause, IsEnrolCause, HasOpenOf};
-    ghost use Rattle.of_memory.specs.Memories.{OthersStayOpen};
+    ghost use Rattle.of_memory.specs.Memories.{OthersStayOpen, OthersKnowOrder};
+    ghost use Rattle.of_memory.specs.Telling.{KnowsOrdersOf};
     ghost use Rattle.of_memory.specs.Memories.{HasNoHandleOut};
     ghost use Rattle.of_memory.specs.Memories.{HasNoneOpen, TakesOut, TakesNone, PutsCaller};
     ghost use Rattle.of_script.specs.declared.instr.Instr.{Instr as TheInstr};
@@ -146,6 +147,8 @@ impl Memory {
         ensures cause { IfErr result (IsEnrolCause self.old number) }
         ensures taken { IfOk result (TakesOut self.old self.new) }
         ensures refused { OnErr result (TakesNone self.old self.new) }
+        ensures order { IfOk result (KnowsOrdersOf self.old) }
+        ensures others_order { OthersKnowOrder number self.old self.new }
     {
         if number >= self.callers() {
             return Err(EnrolErr::NoCaller { number });
@@ -176,6 +179,7 @@ impl Memory {
         ensures others { KnowsOthers number self.old self.new }
         ensures others_open { OthersStayOpen number self.old self.new }
         ensures back { PutsCaller number caller self.old self.new }
+        ensures others_order { OthersKnowOrder number self.old self.new }
     {
         put_at(&mut self.callers, number as usize, caller);
     }

@@ -5,10 +5,11 @@ ghost use Rattle.std.specs.Prelude.{slice_index_or, slice_set};
 ghost use Rattle.of_eval.specs.declared.scripts.Scripts.{Scripts as TheScripts};
 ghost use Rattle.of_row.specs.Rows.{key_of, view_of_pass, IsRowPass};
 ghost use Rattle.of_row.specs.Passes.{IsFirst};
+ghost use mathlib.Core.List.{IsPrefix};
 ghost use Rattle.of_caller.specs.declared.caller.Caller.{Caller as TheCaller};
 ghost use Rattle.of_memory.specs.Laws.{KeepsSo};
 ghost use Rattle.of_memory.specs.Serving.{IsNew, Serves, ServeAll, Enrols, AllStand, AllHere};
-ghost use Rattle.of_memory.specs.Serving.{IsKeptOf, KeepsThose};
+ghost use Rattle.of_memory.specs.Serving.{IsKeptOf, KeepsThose, KnowsPasts, events_known_to};
 
 use of_caller::Caller;
 use of_eval::Scripts;
@@ -101,6 +102,8 @@ fn gather_one(row: &Row<Scripts>, pass: Pass, number: usize, caller: Caller<Scri
     ensures others { (n : ℕ) (c : TheCaller TheScripts)
         → KeepsSo n (IsKeptOf c) (view_of_pass pass).kept
         → KeepsSo n (IsKeptOf c) (view_of_pass result).kept }
+    ensures past { IsPrefix (events_known_to caller) (view_of_pass result).past }
+    ensures more { IsPrefix (view_of_pass pass).past (view_of_pass result).past }
 {
     row.join(pass, caller.leave())
 }
@@ -116,6 +119,8 @@ pub(crate) fn gather(
     ensures pass { IsRowPass row.now result }
     ensures keeps { KeepsThose callers.old.items (length callers.old.items)
         (view_of_pass result).kept }
+    ensures pasts { KnowsPasts callers.old.items (length callers.old.items)
+        (view_of_pass result).past }
 {
     for number in 0..callers.len() {
         if let Some(caller) = take_at(callers, number) {

@@ -1,5 +1,6 @@
 use Rattle.std.proofs.Common.{◌∙◌, ap, refl, Some, Err}
-use Rattle.of_memory.proofs.Called.{words_are, held_of, serves_on, made_answered, made_spent, keeps_answered, keeps_stopped, keeps_over, none_after_answer, none_after_spent, answers_within, stops_within, begin_counts, opens_only}
+use Rattle.of_memory.proofs.Called.{words_are, held_of, serves_on, made_answered, made_spent, keeps_answered, keeps_stopped, keeps_over, none_after_answer, none_after_spent, answers_within, stops_within, begin_counts, opens_only, answered_some, stopped_some, spent_some}
+use Rattle.of_memory.proofs.Times.{next_call}
 use Rattle.of_memory.proofs.calling.call_counted.Goals as goal
 
 pub answer_of-requires : goal.answer_of-requires
@@ -78,3 +79,21 @@ pub returns-clause-only : goal.returns-clause-only
 returns-clause-only g c =
     let words = words_are c.args.script.now c.len-len.result c.len-len.ensures.len c.to_words.new.out _ c.to_words.ensures.words in
     opens_only c.args.script.now c.args.caller.now c.call.new.self c.len-len.ensures.fits (c.call.ensures.told.op ∙ words)
+
+pub returns-in-Ok-clause-next : goal.returns-in-Ok-clause-next
+returns-in-Ok-clause-next g c started =
+    let told = c.in-Ok.ensures.told in
+    next_call c.args.row.now _ c.args.number c.args.caller.now c.call.new.self _ _ _ _ told c.requires.serves refl c.requires.idle
+    (answered_some _ _ _ _ _ _ _ _ _ _ told c.in-Ok.outcome told.result)
+
+pub returns-in-Err-Stopped-clause-next : goal.returns-in-Err-Stopped-clause-next
+returns-in-Err-Stopped-clause-next g c started =
+    let told = c.call.ensures.told in
+    next_call c.args.row.now _ c.args.number c.args.caller.now c.call.new.self _ _ _ _ told c.requires.serves refl c.requires.idle
+    (stopped_some _ _ _ _ _ _ _ _ _ _ told c.in-Err-Stopped.asked (c.in-Err-Stopped.is ∙ ap (λ e. Err e) c.in-Err-Stopped.field-0-is) started)
+
+pub returns-clause-next : goal.returns-clause-next
+returns-clause-next g c started =
+    let told = c.call.ensures.told in
+    next_call c.args.row.now _ c.args.number c.args.caller.now c.call.new.self _ _ _ _ told c.requires.serves refl c.requires.idle
+    (spent_some _ _ _ _ _ _ _ _ _ _ told c.in-Err-Spent.seq (c.in-Err-Spent.is ∙ ap (λ e. Err e) c.in-Err-Spent.field-0-is))

@@ -1,4 +1,6 @@
+use Rattle.std.proofs.Common.{refl}
 use Rattle.of_memory.proofs.Called.{went_on, was_made}
+use Rattle.of_memory.proofs.Times.{keeps_known}
 use Rattle.of_memory.proofs.handle.Handle.resume.Goals as goal
 
 pub returns-clause-cause : goal.returns-clause-cause
@@ -6,3 +8,6 @@ returns-clause-cause c = went_on c.args.self.now c.go_on_with.result c.go_on_wit
 
 pub returns-clause-unmade : goal.returns-clause-unmade
 returns-clause-unmade c = was_made c.go_on_with.result _ _ c.go_on_with.ensures.tried
+
+pub returns-clause-knows : goal.returns-clause-knows
+returns-clause-knows c = let h = c.args.self.now in keeps_known h (record h { caller = c.go_on_with.new.caller }) refl c.go_on_with.ensures.more

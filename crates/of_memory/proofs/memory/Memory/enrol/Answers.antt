@@ -1,11 +1,12 @@
-use Rattle.std.proofs.Common.{sym, ap, subst, ◌∙◌, length, set, None, arith, ◌<◌}
+use Rattle.std.proofs.Common.{refl, sym, ap, subst, ◌∙◌, length, set, None, arith, ◌<◌}
 use Rattle.std.proofs.lemmas.List.{length-set, set-get_or}
 use Rattle.of_eval.specs.declared.scripts.Scripts.{Scripts}
 use Rattle.of_row.specs.declared.row.Row.{Row}
 use Rattle.of_memory.specs.Serving.{IsScriptsRow, Serves, ServeAll}
 use Rattle.of_memory.specs.Memories.{row_of}
 use Rattle.of_memory.proofs.Seats.{serve_none}
-use Rattle.of_memory.proofs.Holding.{others_set, opens_set, same_open}
+use Rattle.of_memory.proofs.Holding.{others_set, opens_set, orders_set, same_open}
+use Rattle.of_memory.proofs.Times.{order_out}
 use Rattle.of_memory.proofs.memory.Memory.enrol.Goals as goal
 
 pub returns-in-Some-clause-memory : goal.returns-in-Some-clause-memory
@@ -65,3 +66,12 @@ pub returns-in-None-clause-refused : goal.returns-in-None-clause-refused
 returns-in-None-clause-refused c =
     let cs = c.args.self.now.callers.items in
     c.take_at.ensures.items ∙ ap (set cs c.args.number) (sym c.in-None.is ∙ c.take_at.ensures.caller) ∙ set-get_or cs c.args.number None
+
+pub returns-in-Some-clause-others_order : goal.returns-in-Some-clause-others_order
+returns-in-Some-clause-others_order c = orders_set c.args.self.now _ c.args.number None refl c.take_at.ensures.items
+
+pub returns-in-None-clause-others_order : goal.returns-in-None-clause-others_order
+returns-in-None-clause-others_order c = orders_set c.args.self.now _ c.args.number None refl c.take_at.ensures.items
+
+pub returns-in-Some-clause-order : goal.returns-in-Some-clause-order
+returns-in-Some-clause-order c n x k y h = order_out c.args.self.now c.args.number c.in-Some.caller _ (sym c.in-Some.ensures.caller) c.in-Ok.ensures n x k y h

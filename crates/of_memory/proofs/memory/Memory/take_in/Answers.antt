@@ -1,9 +1,9 @@
-use Rattle.std.proofs.Common.{sym, ap, subst, ◌∙◌, length, Some}
+use Rattle.std.proofs.Common.{refl, sym, ap, subst, ◌∙◌, length, Some}
 use Rattle.std.proofs.lemmas.List.{length-set}
 use Rattle.of_memory.specs.Serving.{ServeAll}
 use Rattle.of_memory.specs.Memories.{row_of}
 use Rattle.of_memory.proofs.Seats.{serve_some}
-use Rattle.of_memory.proofs.Holding.{others_set, opens_set, low_number, made_here, open_here}
+use Rattle.of_memory.proofs.Holding.{others_set, opens_set, orders_set, low_number, made_here, open_here}
 use Rattle.of_memory.proofs.memory.Memory.take_in.Goals as goal
 
 pub returns-clause-memory : goal.returns-clause-memory
@@ -34,3 +34,6 @@ returns-clause-open_call c script is_open =
 
 pub returns-clause-others_open : goal.returns-clause-others_open
 returns-clause-others_open c = opens_set c.args.self.now _ c.args.number (Some c.args.caller) c.put_at.ensures
+
+pub returns-clause-others_order : goal.returns-clause-others_order
+returns-clause-others_order c = orders_set c.args.self.now _ c.args.number (Some c.args.caller) refl c.put_at.ensures
