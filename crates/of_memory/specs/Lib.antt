@@ -10,3 +10,5 @@ pub mod Memories
 pub mod Tasks
 pub mod Joining
 pub mod Texts
+pub mod Words
+pub mod Moments

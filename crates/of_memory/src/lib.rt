@@ -12,12 +12,14 @@ mod limits;
 mod memory;
 mod saved;
 mod seating;
+mod words;
 
 pub use at_once::Task;
-pub use error::{EnrolErr, ImageTextErr, InUse, LimitErr, OpenErr, RunErr};
+pub use error::{EnrolErr, ImageTextErr, InUse, LimitErr, OpenErr, RunErr, WordsErr};
 pub use handle::Handle;
 pub use memory::Memory;
 pub use of_plan::{Answer, GREATEST_LIMIT};
 pub use of_script::{Abort, Cause, Instr, Reply, Script, ScriptErr, parse};
 pub use of_store::Store;
 pub use saved::Saved;
+pub use words::{TableSizes, sizes};
