@@ -1,13 +1,13 @@
 -- What a text's image keeps: a recovered row is a row, in which recovery finds nothing to do. A text has at most one image.
 use Rattle.std.proofs.Common.{◌≡◌, ℕ, ◌+◌, ◌*◌, ◌^◌, ◌<◌, ◌≤◌, inl, inr, Bool, true, false, cond, Option, Some, None, List, length, get_or, Ok, Err, refl, sym, ap, subst, ◌∙◌, arith}
-use Rattle.std.specs.Prelude.{Result, IfOk, IfErr, MatchResult, nat_lt, ◌==◌, ◌&&◌, unwrap_or, slice_range}
+use Rattle.std.specs.Prelude.{Result, IfOk, IfErr, IsErrAnd, MatchResult, nat_lt, ◌==◌, ◌&&◌, unwrap_or, slice_range}
 use Rattle.std.specs.Option.{option_map}
 use Rattle.std.proofs.lemmas.Bool.{cases_lt}
 use Rattle.std.proofs.lemmas.List.{get_or_past}
 use Rattle.of_cell.specs.Words.{pack, seq_of}
 use Rattle.of_cell.specs.Cells.{request_cell, data_cell, durable_cells, table_words}
 use Rattle.of_cell.proofs.Order.{seq_small, pay_small}
-use Rattle.of_recover.specs.Row.{current_seq, current_owner, is_open}
+use Rattle.of_recover.specs.Row.{IsDurableRow, current_seq, current_owner, is_open}
 use Rattle.of_recover.specs.Log.{entry_count, log_entry_value, first_naming}
 use Rattle.of_recover.specs.Recovered.{recovered_words, recovered_data, replayed_data, recovered_word, is_data}
 use Rattle.of_recover.proofs.Rows.{length-recovered, recovered_at}
@@ -151,6 +151,36 @@ plot_read v text p r i instrs is s h = record {
   spelled = s;
   restored = subst (λ (n : ℕ). IsRestored n r i) instrs (subst (λ (q : DurableRow). IsRestored p.instrs q i) is h);
 }
+
+-- ---- what is answered of words alone
+
+module _ (p : Plot) (instrs : p.instrs ≡ MOST_INSTRS) (words copy : List ℕ) (same : copy ≡ words) where
+  pub words_restored : (i : Image) → IsRestored p.instrs (row_in p copy) i → IsRestored MOST_INSTRS (row_in p words) i
+  words_restored i h = subst (λ (n : ℕ). IsRestored n (row_in p words) i) instrs (subst (λ (ws : List ℕ). IsRestored p.instrs (row_in p ws) i) same h)
+
+  pub words_are_row : IsDurableRow p.callers (data_cell_count p) words → ((c : ℕ) → get_or words c 0 < 2 ^ 64) → IsRow MOST_INSTRS (row_in p words)
+  words_are_row long small = record {
+    some_callers = p.some_callers;
+    few_callers = p.few_callers;
+    few_blocks = p.few_blocks;
+    size = long ∙ ap (λ (n : ℕ). durable_cells p.callers (cells_at (base_of p.callers n) p.blocks)) instrs;
+    words = small;
+  }
+
+  pub only_restored : (i j : Image) → IsRestored p.instrs (row_in p copy) i → IsRestored MOST_INSTRS (row_in p words) j → i ≡ j
+  only_restored i j h k = one_restored MOST_INSTRS (row_in p words) i j (words_restored i h) k
+
+  -- words with a cell at fault have no image
+  pub none_restored : (e : RowErr) → NamesRowFault p.instrs (recovered_row p.instrs (row_in p copy)) e → (j : Image) → IsRestored MOST_INSTRS (row_in p words) j → image_err e ≡ Memory
+  none_restored NoMemory h j k = refl
+  none_restored (UnlawfulRow cell law) h j k =
+      let there = subst (λ (n : ℕ). NamesRowFault n (recovered_row n (row_in p words)) (UnlawfulRow cell law)) instrs (subst (λ (ws : List ℕ). NamesRowFault p.instrs (recovered_row p.instrs (row_in p ws)) (UnlawfulRow cell law)) same h) in
+      absurd (fault_excludes MOST_INSTRS (recovered_row MOST_INSTRS (row_in p words)) j.store cell (subst (λ (q : DurableRow). IsLawfulRow MOST_INSTRS q j.store) k.row k.lawful) (record { law = law; breaks = there }))
+
+-- an error that says so
+pub only_memory : (x : Result Held ImageErr) (e : ImageErr) (P : Held → Type 0) → IsErrAnd x (λ f. f ≡ e) → e ≡ Memory → MatchResult x P (λ f. f ≡ Memory)
+only_memory (Ok i) e P is memory = absurd is
+only_memory (Err f) e P is memory = is ∙ memory
 
 -- ---- the durable words of a table are a row
 

@@ -1,6 +1,7 @@
 -- Which image a text has, and why another text has none.
 use Rattle.std.specs.Prelude.{◌≡◌, ℕ, List}
 use Rattle.of_plan.specs.BadLine.{HasBadLine}
+use Rattle.of_script.specs.declared.instr.TheConstants.{MOST_INSTRS}
 use Rattle.of_report.specs.ImageRow.{DurableRow, recovered_row}
 use Rattle.of_report.specs.Image.{Image, IsRestored}
 use Rattle.of_image.specs.declared.error.ImageErr.{ImageErr}
@@ -35,6 +36,12 @@ abbrev pub IsNoImage : Version → List ℕ → ImageErr → Type 0
 IsNoImage v text Memory = Unit {0}
 IsNoImage v text (Bad line) = HasBadLine (IsImageText v) text line
 IsNoImage v text (Unlawful cell) = ⊥
+
+-- why durable words have no image; want of memory says nothing
+abbrev pub WordsAreRefused : DurableRow → ImageErr → Type 0
+WordsAreRefused r Memory = Unit {0}
+WordsAreRefused r (Bad line) = ⊥
+WordsAreRefused r (Unlawful cell) = IsRowFault MOST_INSTRS (recovered_row MOST_INSTRS r) cell
 
 -- why no store is found in a row
 abbrev pub NamesRowFault : (instrs : ℕ) → DurableRow → RowErr → Type 0

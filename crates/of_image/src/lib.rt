@@ -17,6 +17,7 @@ mod refusal;
 mod renumber;
 mod restore;
 mod version;
+mod words;
 
 pub use again::image_again;
 pub use error::ImageErr;
@@ -28,3 +29,4 @@ pub use reason::Reason;
 pub use refusal::{BadPiece, ImageFault, fault};
 pub use renumber::renumbered_print;
 pub use version::Version;
+pub use words::image_of_words;

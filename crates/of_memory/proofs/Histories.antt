@@ -40,10 +40,11 @@ use Rattle.of_core.specs.Starts.{IsDurable, IsStartRow, start_from_durable, reco
 use Rattle.of_core.specs.Invariant.{MeetsInvariant}
 use Rattle.of_core.specs.Grounds.{GoodGrounds}
 use Rattle.of_core.specs.Laws.{StartsMeetInvariant, SchedulesKeepInvariant, InvariantIsSound, RecoveredRowsMayStart}
+use Rattle.atomic_table.specs.Table.{State}
 use Rattle.of_row.specs.Views.{EndedCall, KnownCaller, View, no_ended, Each}
-use Rattle.of_row.specs.Rule.{ViewMeetsRule, ticket_at as own_ticket, done_before}
+use Rattle.of_row.specs.Rule.{MeetsRule, ViewMeetsRule, ticket_at as own_ticket, done_before}
 use Rattle.of_row.specs.Told.{open_operation, operations_known}
-use Rattle.of_row.specs.Trail.{first_of, moment, IsRunBy}
+use Rattle.of_row.specs.Trail.{first_of, moment, IsRunBy, EachView}
 use Rattle.of_row.specs.Moments.{ExplainsEndedCalls, StopsLoseNothing, LosesNothing, words_alone}
 use Rattle.of_core.proofs.Tickets.{ticket_upto}
 use Rattle.of_caller.proofs.CallSteps.{prefix_trans}
@@ -53,6 +54,8 @@ use Rattle.of_memory.specs.History.{HistoryEntry, no_history_entry, Made, no_mad
 use Rattle.of_memory.specs.Calls.{IsScriptOperation, IsMade, AreMade, RunsScripts}
 use Rattle.of_memory.specs.Times.{calls_ended_in, calls_begun_in}
 use Rattle.of_memory.specs.Laws.{setup_with, StandsAt, HoldsLastReplies, KeepsSo, KeepScripts, ExplainsKept, HasOpenScript, HasOnlyKept, TellsLast, RespectsEvents, HistoryLeads, HoldsHistory}
+use Rattle.of_memory.specs.Words.{AreStartWords}
+use Rattle.of_memory.specs.Moments.{IsKeptByOne, EachRunsScripts, WordsHoldHistory}
 use Rattle.of_memory.proofs.Replaying.{sizes, Cells, AreScripts, IsEntryOf, entries, serial, long, leads, at, in_order, explains}
 
 -- ---- the operations that a kept caller has begun are scripts'
@@ -136,26 +139,33 @@ module _ (w : Scripts) (limit : ℕ) (start : StartsMeetInvariant (setup_with w 
   abbrev L : List ℕ → Type 0
   L = LawfulCells w
 
-  module _ (B : TableStart) (ws : List ℕ) (v : View) (m : ViewMeetsRule S L B ws v) (awake : v.spent ≡ false) (keeps : KeepScripts S v) where
-    abbrev lost : LosesNothing S L B m.state
-    lost = stops B m.state m.rule
+  module _ (B : TableStart) (st : State (Unit {0}) View) (r : MeetsRule S L B st) (each_runs : EachRunsScripts S st) where
+    abbrev lost : LosesNothing S L B st
+    lost = stops B st r
 
     -- the moment that has led to the words
     abbrev u : Moment
     u = moment S B lost.events
 
     good : MeetsInvariant S L B u
-    good = runs B (first_of S B) (start B m.rule.from (words_before_members S + 1) (omega arith)).0 lost.events lost.reached.schedule
+    good = runs B (first_of S B) (start B r.from (words_before_members S + 1) (omega arith)).0 lost.events lost.reached.schedule
 
-    durable_same : (c : ℕ) → c < cell_count S → durable_word S m.state.words c ≡ durable_word S u.words c
+    durable_same : (c : ℕ) → c < cell_count S → durable_word S st.words c ≡ durable_word S u.words c
     durable_same c low = lost.reached.words (durable_at S c) (omega (arith, low))
 
     -- recovery finds in the words what it finds at that moment
-    number_same : (a : ℕ) → a < scripts_data_cells w → recovered_number S (words_alone m.state.words) a ≡ recovered_number S u a
-    number_same a low = ap payload_of (recovered_data-same S.callers S.cells (durable_word S m.state.words) (durable_word S u.words) durable_same a low (omega (arith, low, (grounds B u good).cells)))
+    number_same : (a : ℕ) → a < scripts_data_cells w → recovered_number S (words_alone st.words) a ≡ recovered_number S u a
+    number_same a low = ap payload_of (recovered_data-same S.callers S.cells (durable_word S st.words) (durable_word S u.words) durable_same a low (omega (arith, low, (grounds B u good).cells)))
 
     abbrev order : List Call
     order = lost.order
+
+    -- each call that a number has begun is that of a script
+    runs_scripts : (n : ℕ) → n < S.callers → All IsScriptOperation (operations_begun lost.events n)
+    runs_scripts n low = elim (each_runs n low) [
+      | inl free ↦ subst (All IsScriptOperation) (sym (lost.reached.free n low free).0) (All-from_recursion IsScriptOperation [] tt)
+      | inr k ↦ operations_are S B lost.events n k.view.kept k.keeps (lost.reached.callers k.seat k.view k.there k.live)
+    ]
 
     -- each call of the order is that of a script
     are_scripts : AreScripts w order
@@ -165,18 +175,18 @@ module _ (w : Scripts) (limit : ℕ) (start : StartsMeetInvariant (setup_with w 
         let b = lost.linearizes.begun y no_call l in
         let was = b.1 refl in
         subst IsScriptOperation (sym was.2)
-        (operations_are S B lost.events c.caller v.kept (keeps c.caller b.0) (lost.reached.callers m.seat v m.view awake) (c.ticket - start_ticket S B c.caller - 1) [] (omega (arith, was.0, was.1)))))
+        (runs_scripts c.caller b.0 (c.ticket - start_ticket S B c.caller - 1) [] (omega (arith, was.0, was.1)))))
 
     abbrev found_in : List ℕ → List ℕ
     found_in row = recovered_words w.callers (scripts_data_cells w) row
 
-    starts_again : (row : List ℕ) → IsDurable S ws row → IsStartRow S L (found_in row) × (start_from_durable w.callers (scripts_data_cells w) (found_in row) ≡ recovered_start S B u)
+    starts_again : (row : List ℕ) → IsDurable S st.words row → IsStartRow S L (found_in row) × (start_from_durable w.callers (scripts_data_cells w) (found_in row) ≡ recovered_start S B u)
     starts_again row durable = restarts B u good row record {
       long = durable.long;
-      each = λ c low. durable.each c low ∙ ap (λ (xs : List ℕ). durable_word S xs c) (sym m.words) ∙ durable_same c low;
+      each = λ c low. durable.each c low ∙ durable_same c low;
     }
 
-    module _ (row : List ℕ) (durable : IsDurable S ws row) (s : Store) (stands : StandsAt w B s) where
+    module _ (row : List ℕ) (durable : IsDurable S st.words row) (s : Store) (stands : StandsAt w B s) where
       abbrev found : List ℕ
       found = found_in row
 
@@ -187,10 +197,10 @@ module _ (w : Scripts) (limit : ℕ) (start : StartsMeetInvariant (setup_with w 
       C = start_from_durable w.callers (scripts_data_cells w) found
 
       -- what recovery finds in a data cell
-      recovered_at : (a : ℕ) → a < scripts_data_cells w → recovered_number S (words_alone m.state.words) a ≡ payload_of (get_or C.cells a 0)
+      recovered_at : (a : ℕ) → a < scripts_data_cells w → recovered_number S (words_alone st.words) a ≡ payload_of (get_or C.cells a 0)
       recovered_at a lt = number_same a lt ∙ ap payload_of ((sound B u good).recovers a lt) ∙ ap (λ (B : TableStart). payload_of (get_or B.cells a 0)) (sym re.1)
 
-      number_found : (a : ℕ) → a < scripts_data_cells w → memory_of (map payload_of C.cells) a ≡ recovered_number S (words_alone m.state.words) a
+      number_found : (a : ℕ) → a < scripts_data_cells w → memory_of (map payload_of C.cells) a ≡ recovered_number S (words_alone st.words) a
       number_found a lt = number_at C.cells a ∙ sym (recovered_at a lt)
 
       abbrev xs : List ℕ
@@ -200,7 +210,7 @@ module _ (w : Scripts) (limit : ℕ) (start : StartsMeetInvariant (setup_with w 
       ys = numbers_after_calls (scripts_meaning w) xs order
 
       started : Cells w xs s
-      started = record { size = length-map B.cells payload_of ∙ m.rule.from.start.size; stored = stands }
+      started = record { size = length-map B.cells payload_of ∙ r.from.start.size; stored = stands }
 
       abbrev h : List HistoryEntry
       h = entries w s order are_scripts
@@ -269,27 +279,27 @@ module _ (w : Scripts) (limit : ℕ) (start : StartsMeetInvariant (setup_with w 
         ticket_low : ticket_cell_at MOST_INSTRS n < scripts_data_cells w
         ticket_low = omega (arith, low)
 
-        found_last : (y : ℕ) → y < length order → (get_or order y no_call).caller ≡ n → FindsCall S (words_alone m.state.words) (get_or order y no_call) → TellsLast S B C h n
+        found_last : (y : ℕ) → y < length order → (get_or order y no_call).caller ≡ n → FindsCall S (words_alone st.words) (get_or order y no_call) → TellsLast S B C h n
         found_last y among mine finds =
             let c : Call = get_or order y no_call in
             let l : y < length h = subst (λ (k : ℕ). y < k) (sym (long w s order are_scripts)) among in
             let is = entry_of y l in
             let raw : RawReply = reply_in MOST_INSTRS (memory_of (map payload_of C.cells)) n in
-            let shape : raw.shape ≡ c.raw.shape = number_found (shape_at MOST_INSTRS n) (omega (arith, low)) ∙ ap (λ (i : ℕ). recovered_number S (words_alone m.state.words) (shape_cell S i)) (sym mine) ∙ finds.shape in
+            let shape : raw.shape ≡ c.raw.shape = number_found (shape_at MOST_INSTRS n) (omega (arith, low)) ∙ ap (λ (i : ℕ). recovered_number S (words_alone st.words) (shape_cell S i)) (sym mine) ∙ finds.shape in
             let same : SameWhereMarked S raw c.raw = (
               shape,
               λ j k mark.
                   get_or-map-range_with_len (reply_number MOST_INSTRS (memory_of (map payload_of C.cells)) n) 0 MOST_INSTRS j j 0 k (omega arith)
                   ∙ ap (λ (b : Bool). if b then memory_of (map payload_of C.cells) (reply_at MOST_INSTRS n j) else 0) (lt-ltb j MOST_INSTRS k)
                   ∙ number_found (reply_at MOST_INSTRS n j) (omega (arith, low, k))
-                  ∙ ap (λ (i : ℕ). recovered_number S (words_alone m.state.words) (reply_cell S i j)) (sym mine)
+                  ∙ ap (λ (i : ℕ). recovered_number S (words_alone st.words) (reply_cell S i j)) (sym mine)
                   ∙ finds.replies j k (ap (λ (x : ℕ). is_marked x j) (sym shape) ∙ mark),
             ) in
             inr (
               get_or h y no_history_entry,
               (y, l, refl),
               is.caller ∙ mine,
-              is.ticket ∙ sym finds.ticket ∙ ap (λ (i : ℕ). recovered_number S (words_alone m.state.words) (ticket_cell S i)) mine ∙ recovered_at (ticket_cell_at MOST_INSTRS n) ticket_low,
+              is.ticket ∙ sym finds.ticket ∙ ap (λ (i : ℕ). recovered_number S (words_alone st.words) (ticket_cell S i)) mine ∙ recovered_at (ticket_cell_at MOST_INSTRS n) ticket_low,
               has_reply (sizes w limit) raw (length c.op) (get_or h y no_history_entry).reply is.some is.few is.fits (subst (SameWhereMarked S raw) is.raw same),
             )
 
@@ -350,42 +360,56 @@ module _ (w : Scripts) (limit : ℕ) (start : StartsMeetInvariant (setup_with w 
             let at_end = recovered_at (ticket_cell_at MOST_INSTRS n) ticket_low in
             omega (arith, few, is.ticket, at_end))
 
-      -- what the view knows of real time, the order respects, and so does the history
-      on_time : RespectsEvents S B v.past h
-      on_time n x k y before p q lt high first later =
+      -- what a view knows of real time, the order respects, and so does the history
+      on_time : EachView (λ v. RespectsEvents S B v.past h) st.views
+      on_time j v there live n x k y before p q lt high first later =
           let es = lost.events in
-          let known : IsPrefix before.moment es = prefix_trans before.moment v.past es before.early (lost.reached.pasts m.seat v m.view awake) in
+          let known : IsPrefix before.moment es = prefix_trans before.moment v.past es before.early (lost.reached.pasts j v there live) in
           let cut : take (length before.moment) es ≡ before.moment = ap (take (length before.moment)) (sym known.1) ∙ take-append_seam before.moment known.0 in
           let c : Call = get_or order q no_call in
           let d : Call = get_or order p no_call in
           let a = entry_of q high in
           let b = entry_of p (omega (arith, lt, high)) in
-          lost.linearizes.real_time p q lt (subst (λ (j : ℕ). q < j) (long w s order are_scripts) high) (
+          lost.linearizes.real_time p q lt (subst (λ (i : ℕ). q < i) (long w s order are_scripts) high) (
             length before.moment,
             subst (λ (z : List Event × ℕ). c.ticket ≤ start_ticket S B z.1 + calls_ended_in S B z.0 z.1) (λ i. (sym cut i, (sym first.0 ∙ a.caller) i)) (omega (arith, a.ticket, first.1, before.ended)),
             subst (λ (z : List Event × ℕ). start_ticket S B z.1 + calls_begun_in z.0 z.1 < d.ticket) (λ i. (sym cut i, (sym later.0 ∙ b.caller) i)) (omega (arith, b.ticket, later.1, before.begun)),
           )
 
-      leads_there : HistoryLeads w limit B v s found h
-      leads_there = record {
+      leads_there : EachView (λ v. HistoryLeads w limit B v s found h) st.views
+      leads_there j v there live = record {
         serial = serial w s order are_scripts;
         ends = ends;
         order = in_order w limit order xs s are_scripts started lost.linearizes.legal lost.linearizes.rising;
-        calls = each_of explained v.kept (lost.explained m.seat v m.view awake);
-        only = each_of owned v.kept (lost.reached.callers m.seat v m.view awake);
+        calls = each_of explained v.kept (lost.explained j v there live);
+        only = each_of owned v.kept (lost.reached.callers j v there live);
         callers = below;
         last = tells_last;
         upto = up_to;
-        time = on_time;
+        time = on_time j v there live;
       }
 
     -- the start stands for some store, and so what recovery finds holds the last replies
-    replies_held : (row : List ℕ) → IsDurable S ws row → HoldsLastReplies w B → HoldsLastReplies w (start_from_durable w.callers (scripts_data_cells w) (found_in row))
-    replies_held row durable before n low = own_sound row durable m.rule.from.lawful.0 m.rule.from.lawful.1 n low (before n low)
+    replies_held : (row : List ℕ) → IsDurable S st.words row → HoldsLastReplies w B → HoldsLastReplies w (start_from_durable w.callers (scripts_data_cells w) (found_in row))
+    replies_held row durable before n low = own_sound row durable r.from.lawful.0 r.from.lawful.1 n low (before n low)
 
-  pub holds_history : HoldsHistory w limit
-  holds_history B ws v m awake keeps row durable = (
-    (starts_again B ws v m awake keeps row durable).0,
-    replies_held B ws v m awake keeps row durable,
-    (λ s stands. (h B ws v m awake keeps row durable s stands, leads_there B ws v m awake keeps row durable s stands)),
+  pub words_hold : WordsHoldHistory w limit
+  words_hold B st r each_runs before some few row durable = (
+    record {
+      row = (starts_again B st r each_runs row durable).0;
+      replies = replies_held B st r each_runs row durable before;
+      some_limit = some;
+      few_limit = few;
+    },
+    (λ s stands. (h B st r each_runs row durable s stands, leads_there B st r each_runs row durable s stands)),
   )
+
+  -- a closed row stops at its last moment, when one view keeps each caller
+  pub holds_history : HoldsHistory w limit
+  holds_history B ws v m awake keeps row durable =
+      let each_runs : EachRunsScripts S m.state = (λ n low. inr (record { seat = m.seat; view = v; there = m.view; live = awake; keeps = keeps n low })) in
+      let there : IsDurable S m.state.words row = subst (λ (xs : List ℕ). IsDurable S xs row) (sym m.words) durable in (
+        (starts_again B m.state m.rule each_runs row there).0,
+        replies_held B m.state m.rule each_runs row there,
+        (λ s stands. (h B m.state m.rule each_runs row there s stands, leads_there B m.state m.rule each_runs row there s stands m.seat v m.view awake)),
+      )

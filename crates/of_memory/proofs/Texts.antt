@@ -16,9 +16,10 @@ use Rattle.of_recover.specs.Row.{is_open}
 use Rattle.of_script.specs.declared.instr.TheConstants.{MOST_INSTRS}
 use Rattle.of_store.specs.Store.{Store}
 use Rattle.of_eval.specs.Lawful.{DataCellsStandFor, reply_in}
-use Rattle.of_eval.specs.Scripts.{scripts_data_cells}
+use Rattle.of_eval.specs.declared.scripts.Scripts.{Scripts}
+use Rattle.of_eval.specs.Scripts.{scripts_data_cells, LawfulCells}
 use Rattle.of_eval.specs.Stored.{IsStored}
-use Rattle.of_core.specs.Starts.{start_from_durable}
+use Rattle.of_core.specs.Starts.{IsStartRow, start_from_durable}
 use Rattle.of_caller.proofs.StoresReplay.{number_at}
 use Rattle.of_report.specs.ImageRow.{DurableRow, row_cell_count}
 use Rattle.of_report.specs.ImageLaw.{IsLawfulRow}
@@ -32,6 +33,7 @@ use Rattle.of_memory.specs.declared.saved.Saved.{Saved}
 use Rattle.of_memory.specs.declared.error.ImageTextErr.{ImageTextErr}
 use Rattle.of_memory.specs.declared.error.ImageTextErr.TheVariants.{OutOfMemory}
 use Rattle.of_memory.specs.Calls.{HoldsResponse}
+use Rattle.of_memory.specs.Laws.{setup_with, StandsAt, HoldsLastReplies}
 use Rattle.of_memory.specs.Saving.{IsSaved, SavedHolds, start_in, saved_callers, saved_ticket}
 use Rattle.of_memory.specs.Texts.{saved_row, saved_seq, IsImageOfSaved, TextHolds, SavesSame, IsReadBack, IsPastAll, IsTextCause}
 use Rattle.of_memory.proofs.Reading.{word_in}
@@ -60,6 +62,15 @@ same_rows d e same = record {
 
 -- ---- the image of what is saved
 
+-- a row from which a table may start is lawful, if it holds the last replies
+pub start_is_lawful : (w : Scripts) (limit : ℕ) (row : List ℕ) → IsStartRow (setup_with w limit) (LawfulCells w) row → HoldsLastReplies w (start_from_durable w.callers (scripts_data_cells w) row)
+    → (s : Store) → StandsAt w (start_from_durable w.callers (scripts_data_cells w) row) s → IsLawfulRow MOST_INSTRS (record { callers = w.callers; blocks = w.blocks; words = row }) s
+start_is_lawful w limit row is replies s stands = record {
+  owned = is.may_start.start.owner_in;
+  none_newer = λ a lt. omega (arith, is.may_start.start.old a, ap seq_of (word_in row w.callers (scripts_data_cells w) a lt));
+  stands = subst (λ (xs : List ℕ). DataCellsStandFor w.callers MOST_INSTRS w.blocks (memory_of xs) s) (numbers_are w.callers (scripts_data_cells w) row is.long) (record { own = replies; stored = stands });
+}
+
 module _ (d : Saved) (is : IsSaved d) where
   abbrev cells : ℕ
   cells = scripts_data_cells d.scripts
@@ -72,11 +83,7 @@ module _ (d : Saved) (is : IsSaved d) where
     image = record { row = saved_row d; seq = saved_seq d; replayed = is_open d.scripts.callers (λ c. get_or d.row.items c 0); store = s }
 
     lawful : IsLawfulRow MOST_INSTRS (saved_row d) s
-    lawful = record {
-      owned = is.row.may_start.start.owner_in;
-      none_newer = λ a lt. omega (arith, is.row.may_start.start.old a, ap seq_of (word_in d.row.items d.scripts.callers cells a lt));
-      stands = subst (λ (xs : List ℕ). DataCellsStandFor d.scripts.callers MOST_INSTRS d.scripts.blocks (memory_of xs) s) (numbers_are d.scripts.callers cells d.row.items is.row.long) (record { own = is.replies; stored = holds });
-    }
+    lawful = start_is_lawful d.scripts d.limit d.row.items is.row is.replies s holds
 
     restored : IsRestored MOST_INSTRS (saved_row d) image
     restored = record { row = (let same = sym is.row.recovered in λ j. record (saved_row d) { words = same j }); seq = refl; replayed = refl; lawful = lawful }

@@ -12,3 +12,5 @@ pub mod Telling
 pub mod Tasks
 pub mod Joining
 pub mod Texts
+pub mod Words
+pub mod Moments

@@ -44,6 +44,10 @@ pub record IsMemory (m : Memory) : Type 0 where
 abbrev pub callers_of : Memory → ℕ
 callers_of m = (key_of (row_of m)).callers
 
+-- the last sequence that may be committed in it
+abbrev pub limit_of : Memory → ℕ
+limit_of m = (key_of (row_of m)).limit
+
 -- the store that it was opened with
 abbrev pub StartsWith : Memory → Store → Type 0
 StartsWith m s = StandsAt (key_of (row_of m)).work (start_of_row (row_of m)) s
@@ -159,6 +163,8 @@ IsEnrolCause m n (Enrolled k) = (k ≡ n) × (get_or m.callers.items n None ≡ 
 -- and why no memory is opened
 abbrev pub IsOpenCause : (callers blocks limit : ℕ) → OpenErr → Type 0
 IsOpenCause callers blocks limit (NoRoom e) = Unit {0}
-IsOpenCause callers blocks limit (Callers k) = (callers ≡ 0) ⊎ (MOST_CALLERS < callers)
-IsOpenCause callers blocks limit (Blocks k) = MOST_BLOCKS < blocks
-IsOpenCause callers blocks limit (Limit k) = (limit ≡ 0) ⊎ (GREATEST_LIMIT < limit)
+IsOpenCause callers blocks limit (Callers k) =
+    (k ≡ callers) × ((callers ≡ 0) ⊎ (MOST_CALLERS < callers))
+IsOpenCause callers blocks limit (Blocks k) = (k ≡ blocks) × (MOST_BLOCKS < blocks)
+IsOpenCause callers blocks limit (Limit k) =
+    (k ≡ limit) × ((limit ≡ 0) ⊎ (GREATEST_LIMIT < limit))

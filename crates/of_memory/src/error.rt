@@ -68,6 +68,28 @@ pub enum ImageTextErr {
     PastLimits { seq: u32 },
 }
 
+/// Why nothing that is saved is found in words.
+#[derive(Clone, Copy, Debug, PartialEq, Eq, Error)]
+pub enum WordsErr {
+    #[error("out of memory")]
+    OutOfMemory,
+    #[error("{callers} callers: there are 1 to 16")]
+    Callers { callers: u32 },
+    #[error("{blocks} blocks: there are at most 512")]
+    Blocks { blocks: u32 },
+    #[error("{limit} is no limit of sequences")]
+    Limit { limit: u32 },
+    /// A table of these counts has another number of durable words.
+    #[error("{count} words are not the durable words of such a memory")]
+    Count { count: usize },
+    /// No table may start from what recovery finds in the words: this is the first cell at fault.
+    #[error("unlawful words, cell {cell}")]
+    Unlawful { cell: u32 },
+    /// The words have this sequence, and the limit is below it.
+    #[error("the limit is below sequence {seq}")]
+    PastLimit { seq: u32 },
+}
+
 /// What is saved can't have this limit. It is handed back.
 #[derive(Drop)]
 pub struct LimitErr(pub Saved);

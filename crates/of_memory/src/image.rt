@@ -1,6 +1,6 @@
 //! The text of what is saved, and what is saved from its text.
 
-ghost use Rattle.std.specs.Prelude.{◌≡◌, ◌+◌, IfOk, IfErr, length, slice_range};
+ghost use Rattle.std.specs.Prelude.{◌≡◌, ◌≤◌, ◌+◌, IfOk, IfErr, length, slice_range};
 ghost use Rattle.of_cell.specs.declared.word.TheConstants.{GREATEST_LIMIT};
 ghost use Rattle.of_cell.specs.Cells.{durable_cells, table_words};
 ghost use Rattle.of_mem.specs.declared.work.TheConstants.{MOST_INSTRS};
@@ -82,13 +82,26 @@ fn save_image(image: Image) -> Result<Saved, ImageTextErr>
     if seq > GREATEST_LIMIT {
         return Err(ImageTextErr::PastLimits { seq });
     }
+    Ok(saved_of(image, GREATEST_LIMIT))
+}
+
+// What an image holds, with this limit.
+pub(crate) fn saved_of(image: Image, limit: u32) -> Saved
+    requires image { IsImage MOST_INSTRS (image_value image) }
+    requires some { 1 ≤ limit }
+    requires few { limit ≤ GREATEST_LIMIT }
+    requires within { image.recovered.seq ≤ limit }
+    ensures saved { IsSaved result }
+    ensures image { IsImageOfSaved (image_value image) result }
+    ensures limit { saved_limit result ≡ limit }
+{
     let scripts = Scripts {
         callers: image.callers,
         blocks: image.blocks,
     };
-    Ok(Saved {
+    Saved {
         scripts,
-        limit: GREATEST_LIMIT,
+        limit,
         row: image.durable,
-    })
+    }
 }

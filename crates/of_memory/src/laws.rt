@@ -5,6 +5,7 @@ ghost use Rattle.of_memory.specs.Handles.{CallsAreCounted};
 ghost use Rattle.of_memory.specs.Joining.{HistoriesJoin, InvariantsHold};
 ghost use Rattle.of_memory.specs.Joining.{MemoriesStay, NoneStaysOpen, LoneCallsAreSaved};
 ghost use Rattle.of_memory.specs.Laws.{HoldsHistory};
+ghost use Rattle.of_memory.specs.Moments.{WordsHoldHistory};
 ghost use Rattle.of_memory.specs.Telling.{ToldCallsComeFirst};
 
 use of_core::laws::{every_moment, starts, step_kept};
@@ -15,6 +16,18 @@ use of_row::laws::stops_lose_nothing;
 /// plain store. It has each call that was answered, with its reply, and recovery finds its end.
 pub fn history_is_held(work: Scripts, limit: u32)
     ensures { HoldsHistory work limit }
+{
+    step_kept(limit, work);
+    every_moment(limit, work);
+    starts(limit, work);
+    stops_lose_nothing(limit, work);
+}
+
+/// A process that is killed at any moment loses no call that was answered: a memory may go on from
+/// what recovery finds in the durable words as they are then (`Saved::from_words` takes them), and
+/// one serial history leads there.
+pub fn words_hold_history(work: Scripts, limit: u32)
+    ensures { WordsHoldHistory work limit }
 {
     step_kept(limit, work);
     every_moment(limit, work);

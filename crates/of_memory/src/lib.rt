@@ -13,9 +13,10 @@ mod memory;
 mod saved;
 mod seating;
 mod telling;
+mod words;
 
 pub use at_once::Task;
-pub use error::{EnrolErr, ImageTextErr, InUse, LimitErr, OpenErr, RunErr};
+pub use error::{EnrolErr, ImageTextErr, InUse, LimitErr, OpenErr, RunErr, WordsErr};
 pub use handle::Handle;
 pub use memory::Memory;
 pub use of_plan::{Answer, GREATEST_LIMIT};
@@ -23,3 +24,4 @@ pub use of_script::{Abort, Cause, Instr, Reply, Script, ScriptErr, parse};
 pub use of_store::Store;
 pub use saved::Saved;
 pub use telling::News;
+pub use words::{TableSizes, sizes};

@@ -30,9 +30,10 @@ impl Memory {
     ghost use Rattle.of_memory.specs.History.{Made};
     ghost use Rattle.of_memory.specs.Calls.{AreMade};
     ghost use Rattle.of_memory.specs.Serving.{IsScriptsRow, Serves, ended_of};
-    ghost use Rattle.of_memory.specs.Saving.{IsSaved, SavedHolds, saved_callers, saved_ticket};
+    ghost use Rattle.of_memory.specs.Saving.{IsSaved, SavedHolds, saved_callers};
+    ghost use Rattle.of_memory.specs.Saving.{saved_limit, saved_ticket};
     ghost use Rattle.of_memory.specs.Handles.{IsHandle, number_of_handle, HasMade, HasOpen};
-    ghost use Rattle.of_memory.specs.Memories.{IsMemory, row_of, callers_of, StartsWith};
+    ghost use Rattle.of_memory.specs.Memories.{IsMemory, row_of, callers_of, limit_of, StartsWith};
     ghost use Rattle.of_memory.specs.Memories.{tickets_before};
     ghost use Rattle.of_memory.specs.Memories.{HasMadeOf, IsFrom, IsStill, KnowsOthers, HasHistory};
     ghost use Rattle.of_memory.specs.Memories.{IsOpenCause, IsEnrolCause, HasOpenOf};
@@ -48,6 +49,7 @@ impl Memory {
     pub fn open(alloc: Global, callers: u32, blocks: u32, limit: u32) -> Result<Memory, OpenErr>
         ensures memory { IfOk result IsMemory }
         ensures callers { IfOk result (λ m. callers_of m ≡ callers) }
+        ensures limit { IfOk result (λ m. limit_of m ≡ limit) }
         ensures empty { IfOk result (λ m. StartsWith m (empty_store blocks)) }
         ensures tickets { IfOk result (λ m.
             (n : ℕ) → n < callers → tickets_before m n ≡ 0) }
@@ -76,6 +78,7 @@ impl Memory {
         requires few { limit ≤ GREATEST_LIMIT }
         ensures memory { IfOk result IsMemory }
         ensures callers { IfOk result (λ m. callers_of m ≡ scripts.callers) }
+        ensures limit { IfOk result (λ m. limit_of m ≡ limit) }
         ensures empty { IfOk result (λ m. StartsWith m (empty_store scripts.blocks)) }
         ensures tickets { IfOk result (λ m.
             (n : ℕ) → n < scripts.callers → tickets_before m n ≡ 0) }
@@ -92,6 +95,7 @@ impl Memory {
         requires { IsSaved saved.now }
         ensures memory { IfOk result IsMemory }
         ensures callers { IfOk result (λ m. callers_of m ≡ saved_callers saved.now) }
+        ensures limit { IfOk result (λ m. limit_of m ≡ saved_limit saved.now) }
         ensures goes_on { IfOk result (λ m. (s : Store) → SavedHolds saved.now s → StartsWith m s) }
         ensures tickets { IfOk result (λ m. (n : ℕ) → n < saved_callers saved.now
             → tickets_before m n ≡ saved_ticket saved.now n) }
@@ -191,6 +195,9 @@ impl Memory {
         ensures saved { IfOk result IsSaved }
         ensures history { IfOk result (HasHistory self) }
         ensures callers { IfOk result (λ d. saved_callers d ≡ callers_of self) }
+        ensures limit { IfOk result (λ d. saved_limit d ≡ limit_of self) }
+        // So no call that was answered is missing.
+        ensures here { IfOk result (λ d. HasNoHandleOut self) }
         ensures in_use { IfErr result (λ e. e.0 ≡ self) }
     {
         if all_here(&self.callers) {
@@ -207,6 +214,7 @@ impl Memory {
         ensures saved { IfOk result IsSaved }
         ensures history { IfOk result (HasHistory self) }
         ensures callers { IfOk result (λ d. saved_callers d ≡ callers_of self) }
+        ensures limit { IfOk result (λ d. saved_limit d ≡ limit_of self) }
         ensures in_use { IfErr result (λ e. e.0 ≡ self) }
     {
         let Memory {

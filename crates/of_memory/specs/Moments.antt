@@ -1,0 +1,47 @@
+-- What the durable words of a memory hold at any moment, so also when its process is killed.
+use Rattle.std.specs.Prelude.{◌≡◌, ◌⊎◌, ℕ, ◌<◌, ◌≤◌, List, false}
+use Rattle.std.specs.Int.{bit_at}
+use mathlib.Core.Option.{some}
+use lib.ListN.{get_elem?}
+use Rattle.atomic_table.specs.Table.{State}
+use Rattle.of_cell.specs.declared.word.TheConstants.{GREATEST_LIMIT}
+use Rattle.of_store.specs.Store.{Store}
+use Rattle.of_eval.specs.declared.scripts.Scripts.{Scripts}
+use Rattle.of_eval.specs.Scripts.{LawfulCells}
+use Rattle.of_core.specs.Table.{Setup}
+use Rattle.of_core.specs.TableMoment.{TableStart}
+use Rattle.of_core.specs.Starts.{IsDurable}
+use Rattle.of_row.specs.Views.{View}
+use Rattle.of_row.specs.Trail.{EachView}
+use Rattle.of_row.specs.Rule.{MeetsRule, members_of}
+use Rattle.of_memory.specs.History.{HistoryEntry}
+use Rattle.of_memory.specs.Calls.{RunsScripts}
+use Rattle.of_memory.specs.Laws.{setup_with, StandsAt, HoldsLastReplies, KeepsSo, HistoryLeads}
+use Rattle.of_memory.specs.Words.{AreStartWords, words_found}
+
+-- one of the views, which is not spent, keeps a caller of this number, which has run scripts alone
+pub record IsKeptByOne (vs : List View) (n : ℕ) : Type 0 where
+  pub seat : ℕ
+  pub view : View
+  pub there : get_elem? vs seat ≡ some view
+  pub live : view.spent ≡ false
+  pub keeps : KeepsSo n RunsScripts view.kept
+
+-- no number that is taken has run anything but scripts: a pass or a member keeps it
+abbrev pub EachRunsScripts : Setup → State (Unit {0}) View → Type 0
+EachRunsScripts S s =
+    (n : ℕ) → n < S.callers → (bit_at (members_of S s.words) n ≡ 0) ⊎ IsKeptByOne s.views n
+
+-- At each moment of a row of these scripts, as between any two steps on it, a table may start from
+-- what recovery finds in the durable words as they are. From each store that the row has started
+-- with one serial history leads there. It has each call that was answered to whomever a pass or a
+-- member keeps, with its reply, and beside these it has open calls alone.
+abbrev pub WordsHoldHistory : Scripts → (limit : ℕ) → Type 0
+WordsHoldHistory w limit =
+    let S : Setup = setup_with w limit in
+    (B : TableStart) (s : State (Unit {0}) View) → MeetsRule S (LawfulCells w) B s
+    → EachRunsScripts S s → HoldsLastReplies w B → 1 ≤ limit → limit ≤ GREATEST_LIMIT
+    → (words : List ℕ) → IsDurable S s.words words →
+    AreStartWords w limit words
+    × ((t : Store) → StandsAt w B t → (h : List HistoryEntry)
+    × EachView (λ v. HistoryLeads w limit B v t (words_found w words) h) s.views)
