@@ -1,5 +1,5 @@
 -- What C is told of a call, and what the call has come to.
-use Rattle.std.specs.Prelude.{◌≡◌, ℕ, ◌==◌, if◌then◌else◌, List, map, Option, Some, None, Result, Ok, Err}
+use Rattle.std.specs.Prelude.{◌≡◌, ◌≢◌, ℕ, ◌==◌, if◌then◌else◌, List, map, Option, Some, None, Result, Ok, Err}
 use Rattle.of_script.specs.declared.instr.Instr.{Instr}
 use Rattle.of_script.specs.Language.{IsScript, instr_word}
 use Rattle.of_script.specs.Text.{SpellsScript}
@@ -31,6 +31,17 @@ Tells o (Err (Stopped asked)) code r = (code ≡ STOPPED) × (r.steps ≡ asked)
 Tells o (Err (Spent seq)) code r = (code ≡ SPENT) × (r.seq ≡ seq)
 Tells o (Err Open) code r = code ≡ o
 Tells o (Err NoTicket) code r = code ≡ NO_TICKET
+
+-- Unless the call was answered, the reply is as it was: if it was stopped but for the steps, and if
+-- it was spent but for the sequence.
+pub record LeavesReply (code : ℕ) (before now : CReply) : Type 0 where
+  pub stopped : code ≡ STOPPED → now ≡ record before { steps = now.steps }
+  pub spent : code ≡ SPENT → now ≡ record before { seq = now.seq }
+  pub refused : code ≢ DONE → code ≢ STOPPED → code ≢ SPENT → now ≡ before
+
+-- it is as it was but for the place
+abbrev pub ShowsPlaceAlone : (before now : CReply) → Type 0
+ShowsPlaceAlone before now = now ≡ record before { place = now.place }
 
 -- a call of this script has come to this, and the handle to that
 pub record CallsScript (script : List Instr) (stop : Option ℕ) (h : Handle)

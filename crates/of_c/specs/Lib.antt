@@ -5,3 +5,5 @@ pub mod Calls
 pub mod Lives
 pub mod States
 pub mod Images
+pub mod Causes
+pub mod Words

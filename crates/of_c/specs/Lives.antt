@@ -9,17 +9,18 @@ use Rattle.of_memory.specs.History.{Made}
 use Rattle.of_memory.specs.Handles.{HasMade, HasOpen, number_of_handle}
 use Rattle.of_memory.specs.Memories.{callers_of, StartsWith, tickets_before, HasMadeOf, HasOpenOf}
 use Rattle.of_memory.specs.Memories.{HasNoneOpen, IsFrom, IsStill, KnowsOthers, OthersStayOpen}
-use Rattle.of_memory.specs.Memories.{HasHistory}
-use Rattle.of_memory.specs.Saving.{SavedHolds, saved_callers, saved_ticket}
+use Rattle.of_memory.specs.Memories.{HasHistory, HasNoHandleOut, limit_of}
+use Rattle.of_memory.specs.Saving.{SavedHolds, saved_callers, saved_limit, saved_ticket}
 use Rattle.of_c.specs.declared.held.Held.{Held}
 use Rattle.of_c.specs.Slots.{HoldsMemory, HoldsHandle, HoldsSaved}
 
--- an empty memory is held: it has so many callers and blocks, and none of the callers has made a
--- call
-pub record HoldsEmpty (callers blocks : ℕ) (now : Option Held) : Type 0 where
+-- an empty memory is held: it has so many callers and blocks and this limit, and none of the
+-- callers has made a call
+pub record HoldsEmpty (callers blocks limit : ℕ) (now : Option Held) : Type 0 where
   pub memory : Memory
   pub is : HoldsMemory now memory
   pub count : callers_of memory ≡ callers
+  pub limit_is : limit_of memory ≡ limit
   pub empty : StartsWith memory (empty_store blocks)
   pub tickets : (n : ℕ) → n < callers → tickets_before memory n ≡ 0
   pub none : (n : ℕ) → n < callers → HasMadeOf memory n []
@@ -32,6 +33,7 @@ pub record HoldsNext (saved now : Option Held) : Type 0 where
   pub memory : Memory
   pub is : HoldsMemory now memory
   pub count : callers_of memory ≡ saved_callers left
+  pub limit_is : limit_of memory ≡ saved_limit left
   pub goes_on : (s : Store) → SavedHolds left s → StartsWith memory s
   pub tickets : (n : ℕ) → n < saved_callers left → tickets_before memory n ≡ saved_ticket left n
   pub none : (n : ℕ) → n < saved_callers left → HasMadeOf memory n []
@@ -75,7 +77,7 @@ pub record HoldsLeft (before caller now : Option Held) : Type 0 where
   pub others_open : OthersStayOpen (number_of_handle handle) memory next
 
 -- what the memory has left is held: one serial history leads to it, with each call that was
--- answered
+-- answered. Each caller had left
 pub record HoldsClosed (before now : Option Held) : Type 0 where
   pub memory : Memory
   pub was : HoldsMemory before memory
@@ -83,3 +85,5 @@ pub record HoldsClosed (before now : Option Held) : Type 0 where
   pub is : HoldsSaved now left
   pub history : HasHistory memory left
   pub count : saved_callers left ≡ callers_of memory
+  pub limit_is : saved_limit left ≡ limit_of memory
+  pub here : HasNoHandleOut memory

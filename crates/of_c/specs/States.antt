@@ -11,10 +11,6 @@ use Rattle.of_c.specs.declared.reply.CReply.{CReply}
 use Rattle.of_c.specs.Replies.{ShowsReply}
 use Rattle.of_c.specs.Slots.{HoldsSaved}
 
--- nothing is told
-abbrev pub TellsNothing : (code : ℕ) → Type 0
-TellsNothing code = (code ≢ DONE) × (code ≢ ABSENT)
-
 -- what is held holds a store of which this is so
 pub record HoldsStore (held : Option Held) (P : Store → Type 0) : Type 0 where
   pub left : Saved

@@ -1,10 +1,11 @@
 //! What C does with a caller: calls of scripts.
 
-ghost use Rattle.std.specs.Prelude.{◌≡◌};
+ghost use Rattle.std.specs.Prelude.{◌≡◌, ◌≢◌};
 ghost use Rattle.of_script.specs.Text.{IsFault};
 ghost use Rattle.of_c.specs.declared.codes.TheConstants.{CALL_OPEN, NO_CALL, NO_SCRIPT};
 ghost use Rattle.of_c.specs.Calls.{step_limit, Tells, CallsScript, GoesOn, CallsHeld, CallsSlot};
 ghost use Rattle.of_c.specs.Calls.{CallsWords, AreNoScript, CallsText, IsNoText};
+ghost use Rattle.of_c.specs.Calls.{LeavesReply, ShowsPlaceAlone};
 
 use crate::codes::{CALL_OPEN, DONE, EMPTY, NO_CALL, NO_SCRIPT, NO_TICKET, SPENT, STOPPED};
 use crate::held::{Held, Seat};
@@ -25,7 +26,8 @@ fn limit_of(steps: u64) -> Option<u64>
 // The code of what a call has come to, which the reply tells. `open_code` is the code if a call is
 // open that must not be, or none is.
 fn code_of(ended: Result<Answer, RunErr>, open_code: u32, reply: &mut CReply) -> u32
-    ensures { Tells open_code ended result reply.new }
+    ensures tells { Tells open_code ended result reply.new }
+    ensures stays { LeavesReply result reply.old reply.new }
 {
     match ended {
         Ok(answer) => {
@@ -71,8 +73,9 @@ impl Seat {
 
 // Runs a script, if a caller is held.
 fn run_held(held: &mut Held, script: &Script, limit: Option<u64>, reply: &mut CReply) -> u32
-    ensures { CallsHeld (CallsScript script.now limit) CALL_OPEN
+    ensures runs { CallsHeld (CallsScript script.now limit) CALL_OPEN
         held.old held.new reply.new result }
+    ensures stays { LeavesReply result reply.old reply.new }
 {
     match held {
         Held::Caller(seat) => code_of(seat.run(script, limit), CALL_OPEN, reply),
@@ -82,7 +85,8 @@ fn run_held(held: &mut Held, script: &Script, limit: Option<u64>, reply: &mut CR
 
 // Goes on with the open call, if a caller is held.
 fn go_on_held(held: &mut Held, limit: Option<u64>, reply: &mut CReply) -> u32
-    ensures { CallsHeld (GoesOn limit) NO_CALL held.old held.new reply.new result }
+    ensures runs { CallsHeld (GoesOn limit) NO_CALL held.old held.new reply.new result }
+    ensures stays { LeavesReply result reply.old reply.new }
 {
     match held {
         Held::Caller(seat) => code_of(seat.go_on(limit), NO_CALL, reply),
@@ -98,8 +102,9 @@ fn run_in(
     limit: Option<u64>,
     reply: &mut CReply,
 ) -> u32
-    ensures { CallsSlot (CallsScript script.now limit) CALL_OPEN
+    ensures runs { CallsSlot (CallsScript script.now limit) CALL_OPEN
         caller.old.raw.held caller.new.raw.held reply.new result }
+    ensures stays { LeavesReply result reply.old reply.new }
 {
     let Some(mut held) = caller.take(alloc) else {
         return EMPTY;
@@ -122,6 +127,7 @@ pub extern "C" fn of_c_call(
         caller.old.raw.held caller.new.raw.held reply.new result }
     ensures code { AreNoScript words.now → result ≡ NO_SCRIPT }
     ensures same { AreNoScript words.now → caller.new.raw.held ≡ caller.old.raw.held }
+    ensures stays { LeavesReply result reply.old reply.new }
 {
     match from_words(words) {
         Some(script) => run_in(alloc, caller, &script, limit_of(steps), reply),
@@ -144,6 +150,8 @@ pub extern "C" fn of_c_call_text(
     ensures code { IsNoText text.now → result ≡ NO_SCRIPT }
     ensures same { IsNoText text.now → caller.new.raw.held ≡ caller.old.raw.held }
     ensures place { IsNoText text.now → IsFault text.now reply.new.place }
+    ensures stays { result ≢ NO_SCRIPT → LeavesReply result reply.old reply.new }
+    ensures else_stays { IsNoText text.now → ShowsPlaceAlone reply.old reply.new }
 {
     match parse(text) {
         Ok(script) => run_in(alloc, caller, &script, limit_of(steps), reply),
@@ -162,8 +170,9 @@ pub extern "C" fn of_c_go_on(
     steps: u64,
     reply: &mut CReply,
 ) -> u32
-    ensures { CallsSlot (GoesOn (step_limit steps)) NO_CALL
+    ensures runs { CallsSlot (GoesOn (step_limit steps)) NO_CALL
         caller.old.raw.held caller.new.raw.held reply.new result }
+    ensures stays { LeavesReply result reply.old reply.new }
 {
     let Some(mut held) = caller.take(alloc) else {
         return EMPTY;

@@ -47,3 +47,6 @@ pub const NO_ROOM: u32 = 16;
 
 /// The text is no image.
 pub const NO_IMAGE: u32 = 17;
+
+/// No memory may start from the words.
+pub const NO_START: u32 = 18;

@@ -1,7 +1,9 @@
 //! What a memory has left as a text, and back.
 
-ghost use Rattle.std.specs.Prelude.{◌≡◌, ◌≢◌, ◌<◌, IfErr, IfOk, Some, length};
-ghost use Rattle.of_c.specs.declared.codes.TheConstants.{DONE, NO_IMAGE, NO_ROOM};
+ghost use Rattle.std.specs.Prelude.{◌≡◌, ◌≢◌, ◌↔◌, ◌<◌, ◌∷◌, [], IfErr, IfOk, IsSome, Some, length};
+ghost use Rattle.of_c.specs.declared.codes.TheConstants.{DONE, EMPTY, FULL, NO_IMAGE, NO_MEMORY};
+ghost use Rattle.of_c.specs.declared.codes.TheConstants.{NO_ROOM};
+ghost use Rattle.of_c.specs.Causes.{IsOneCode, IsUnread, HoldsNo, IsNotSaved};
 ghost use Rattle.of_c.specs.Images.{TellsNoText, BeginsWithText, HasText, HoldsRead};
 ghost use Rattle.of_c.specs.Images.{IsOfNoneSaved, fault_code};
 
@@ -15,7 +17,7 @@ use std::alloc::Global;
 // The text of what is held, or a code.
 fn text_held(alloc: Global, held: &Held) -> Result<Vec<u8>, u32>
     ensures text { IfOk result (λ text. HasText (Some held.now) (λ t. t ≡ text.items)) }
-    ensures code { IfErr result TellsNoText }
+    ensures code { IfErr result (IsUnread (Some held.now)) }
 {
     match held {
         Held::Saved(kept) => {
@@ -32,7 +34,7 @@ fn text_held(alloc: Global, held: &Held) -> Result<Vec<u8>, u32>
 // The text of what a memory has left, or a code. The slot holds what it held.
 fn text_in(alloc: Global, saved: &mut Slot) -> Result<Vec<u8>, u32>
     ensures text { IfOk result (λ text. HasText saved.old.raw.held (λ t. t ≡ text.items)) }
-    ensures code { IfErr result TellsNoText }
+    ensures code { IfErr result (IsUnread saved.old.raw.held) }
     ensures same { saved.new.raw.held ≡ saved.old.raw.held }
 {
     let Some(held) = saved.take(alloc) else {
@@ -46,6 +48,7 @@ fn text_in(alloc: Global, saved: &mut Slot) -> Result<Vec<u8>, u32>
 // Writes a text to the front of a buffer, if it has room, and how long it is.
 fn write_text(text: &[u8], buffer: &mut [u8], size: &mut usize) -> u32
     ensures written { result ≡ DONE → BeginsWithText text.now buffer.new }
+    ensures codes { IsOneCode (DONE ∷ NO_ROOM ∷ []) result }
     ensures short { result ≡ NO_ROOM → length buffer.old < length text.now }
     ensures size { size.new ≡ length text.now }
     ensures told { TellsNoText result → ⊥ }
@@ -72,6 +75,8 @@ pub extern "C" fn of_c_image(
         (λ t. BeginsWithText t buffer.new × (size.new ≡ length t)) }
     ensures short { result ≡ NO_ROOM → HasText saved.old.raw.held
         (λ t. (length buffer.old < length t) × (size.new ≡ length t)) }
+    ensures codes { IsOneCode (DONE ∷ NO_ROOM ∷ EMPTY ∷ NO_MEMORY ∷ []) result }
+    ensures empty { result ≡ EMPTY → HoldsNo IsNotSaved saved.old.raw.held }
     ensures same { saved.new.raw.held ≡ saved.old.raw.held }
     ensures unwritten { result ≢ DONE → buffer.new ≡ buffer.old }
     ensures uncounted { TellsNoText result → size.new ≡ size.old }
@@ -98,6 +103,8 @@ fn code_of_fault(fault: ImageTextErr) -> u32
 #[unsafe(no_mangle)]
 pub extern "C" fn of_c_from_image(alloc: Global, text: &[u8], saved: &mut Slot) -> u32
     ensures read { result ≡ DONE → HoldsRead text.now saved.new.raw.held }
+    ensures codes { IsOneCode (DONE ∷ FULL ∷ NO_IMAGE ∷ NO_MEMORY ∷ []) result }
+    ensures full { (result ≡ FULL) ↔ IsSome saved.old.raw.held }
     ensures cause { result ≡ NO_IMAGE → IsOfNoneSaved text.now }
     ensures refused { result ≢ DONE → saved.new.raw.held ≡ saved.old.raw.held }
 {

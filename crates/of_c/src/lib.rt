@@ -13,9 +13,11 @@ mod reply;
 mod slot;
 mod states;
 mod truth;
+mod words;
 
 pub use held::{Held, Home, Kept, Seat};
 pub use pair::Pair;
 pub use raw::Raw;
 pub use reply::CReply;
 pub use slot::Slot;
+pub use words::CSizes;

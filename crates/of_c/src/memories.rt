@@ -1,11 +1,15 @@
 //! What C does with a memory: opens it, enrols callers, and closes it.
 
-ghost use Rattle.std.specs.Prelude.{◌≡◌, ◌≢◌, IsSome, None, Some};
-ghost use Rattle.of_c.specs.declared.codes.TheConstants.{DONE};
+ghost use Rattle.std.specs.Prelude.{◌≡◌, ◌≢◌, ◌↔◌, ◌⊎◌, ◌∷◌, [], IsSome, None, Some};
+ghost use Rattle.of_c.specs.declared.codes.TheConstants.{DONE, EMPTY, FULL, IN_USE, NO_MEMORY};
+ghost use Rattle.of_c.specs.declared.codes.TheConstants.{RANGE, TAKEN};
 ghost use Rattle.of_c.specs.declared.held.Held.TheVariants.{Memory as HeldMemory};
 ghost use Rattle.of_c.specs.Slots.{HoldsMemory, AreOfOne};
 ghost use Rattle.of_c.specs.Lives.{HoldsEmpty, HoldsNext, HoldsEnrolled, HoldsLeft, HoldsClosed};
 ghost use Rattle.of_c.specs.Lives.{HoldsStill};
+ghost use Rattle.of_c.specs.Causes.{IsOneCode, HoldsNo, IsNotMemory, IsNotCaller, IsNotSaved};
+ghost use Rattle.of_c.specs.Causes.{AreOutOfRange, HoldsMemoryWith, HasNoNumber, IsEnrolled};
+ghost use Rattle.of_c.specs.Causes.{KeepsHeld, KeepsSlot};
 
 use crate::codes::{DONE, EMPTY, FULL, IN_USE, NO_MEMORY, RANGE, TAKEN};
 use crate::held::{Held, Home, Kept, Seat};
@@ -24,7 +28,10 @@ pub extern "C" fn of_c_open(
     limit: u32,
     memory: &mut Slot,
 ) -> u32
-    ensures opened { result ≡ DONE → HoldsEmpty callers blocks memory.new.raw.held }
+    ensures opened { result ≡ DONE → HoldsEmpty callers blocks limit memory.new.raw.held }
+    ensures codes { IsOneCode (DONE ∷ FULL ∷ RANGE ∷ NO_MEMORY ∷ []) result }
+    ensures full { (result ≡ FULL) ↔ IsSome memory.old.raw.held }
+    ensures range { result ≡ RANGE → AreOutOfRange callers blocks limit }
     ensures refused { result ≢ DONE → memory.new.raw.held ≡ memory.old.raw.held }
 {
     if !memory.is_empty() {
@@ -40,6 +47,8 @@ pub extern "C" fn of_c_open(
 // A memory that goes on from what is held, if a memory has left it.
 fn reopen_held(alloc: Global, held: &Held, memory: &mut Slot) -> u32
     ensures reopened { result ≡ DONE → HoldsNext (Some held.now) memory.new.raw.held }
+    ensures codes { IsOneCode (DONE ∷ EMPTY ∷ NO_MEMORY ∷ []) result }
+    ensures empty { (result ≡ EMPTY) ↔ IsNotSaved held.now }
     ensures refused { result ≢ DONE → memory.new.raw.held ≡ memory.old.raw.held }
 {
     match held {
@@ -58,6 +67,9 @@ fn reopen_held(alloc: Global, held: &Held, memory: &mut Slot) -> u32
 #[unsafe(no_mangle)]
 pub extern "C" fn of_c_reopen(alloc: Global, saved: &mut Slot, memory: &mut Slot) -> u32
     ensures reopened { result ≡ DONE → HoldsNext saved.old.raw.held memory.new.raw.held }
+    ensures codes { IsOneCode (DONE ∷ FULL ∷ EMPTY ∷ NO_MEMORY ∷ []) result }
+    ensures full { (result ≡ FULL) ↔ IsSome memory.old.raw.held }
+    ensures empty { result ≡ EMPTY → HoldsNo IsNotSaved saved.old.raw.held }
     ensures refused { result ≢ DONE → memory.new.raw.held ≡ memory.old.raw.held }
     ensures same { saved.new.raw.held ≡ saved.old.raw.held }
 {
@@ -78,6 +90,11 @@ fn enrol_held(held: &mut Held, number: u32, mut place: Box<Held, Global>, caller
     ensures of_one { AreOfOne (Some held.new) caller.new.raw.held }
     ensures enrolled { result ≡ DONE
         → HoldsEnrolled number (Some held.old) (Some held.new) caller.new.raw.held }
+    ensures codes { IsOneCode (DONE ∷ EMPTY ∷ RANGE ∷ TAKEN ∷ NO_MEMORY ∷ []) result }
+    ensures empty { (result ≡ EMPTY) ↔ IsNotMemory held.old }
+    ensures range { result ≡ RANGE → HoldsMemoryWith (HasNoNumber number) (Some held.old) }
+    ensures taken { result ≡ TAKEN → HoldsMemoryWith (IsEnrolled number) (Some held.old) }
+    ensures kept { result ≢ DONE → KeepsHeld held.old held.new }
     ensures refused { result ≢ DONE → caller.new.raw.held ≡ None }
 {
     match held {
@@ -103,6 +120,15 @@ fn enrol_held(held: &mut Held, number: u32, mut place: Box<Held, Global>, caller
 pub extern "C" fn of_c_enrol(alloc: Global, pair: &mut Pair, number: u32) -> u32
     ensures enrolled { result ≡ DONE → HoldsEnrolled number
         pair.old.memory.raw.held pair.new.memory.raw.held pair.new.caller.raw.held }
+    ensures codes { IsOneCode (DONE ∷ EMPTY ∷ RANGE ∷ TAKEN ∷ NO_MEMORY ∷ []) result }
+    ensures empty { result ≡ EMPTY → HoldsNo IsNotMemory pair.old.memory.raw.held }
+    ensures range { result ≡ RANGE
+        → HoldsMemoryWith (HasNoNumber number) pair.old.memory.raw.held }
+    ensures taken { result ≡ TAKEN → IsSome pair.old.caller.raw.held
+        ⊎ HoldsMemoryWith (IsEnrolled number) pair.old.memory.raw.held }
+    ensures full { IsSome pair.old.caller.raw.held → result ≡ TAKEN }
+    ensures kept { result ≢ DONE
+        → KeepsSlot pair.old.memory.raw.held pair.new.memory.raw.held }
     ensures refused { result ≢ DONE → pair.new.caller.raw.held ≡ pair.old.caller.raw.held }
 {
     if !pair.caller.is_empty() {
@@ -125,6 +151,8 @@ fn leave_held(held: &mut Held, seat: Box<Held, Global>, caller: &mut Slot) -> u3
     requires of_one { AreOfOne (Some held.old) (Some seat.value) }
     ensures of_one { AreOfOne (Some held.new) caller.new.raw.held }
     ensures left { result ≡ DONE → HoldsLeft (Some held.old) (Some seat.value) (Some held.new) }
+    ensures codes { IsOneCode (DONE ∷ EMPTY ∷ []) result }
+    ensures empty { (result ≡ EMPTY) ↔ (IsNotMemory held.old ⊎ IsNotCaller seat.value) }
     ensures gone { result ≡ DONE → caller.new.raw.held ≡ None }
     ensures refused { result ≢ DONE → caller.new.raw.held ≡ Some seat.value }
     ensures same { result ≢ DONE → held.new ≡ held.old }
@@ -153,6 +181,9 @@ fn leave_held(held: &mut Held, seat: Box<Held, Global>, caller: &mut Slot) -> u3
 pub extern "C" fn of_c_leave(alloc: Global, pair: &mut Pair) -> u32
     ensures left { result ≡ DONE → HoldsLeft
         pair.old.memory.raw.held pair.old.caller.raw.held pair.new.memory.raw.held }
+    ensures codes { IsOneCode (DONE ∷ EMPTY ∷ []) result }
+    ensures empty { (result ≡ EMPTY) ↔ (HoldsNo IsNotMemory pair.old.memory.raw.held
+        ⊎ HoldsNo IsNotCaller pair.old.caller.raw.held) }
     ensures gone { result ≡ DONE → pair.new.caller.raw.held ≡ None }
     ensures refused { result ≢ DONE → pair.new.caller.raw.held ≡ pair.old.caller.raw.held }
     ensures same { result ≢ DONE → pair.new.memory.raw.held ≡ pair.old.memory.raw.held }
@@ -175,6 +206,7 @@ fn close_home(home: Home, mut place: Box<Held, Global>, memory: &mut Slot, saved
     requires { memory.old.raw.held ≡ None }
     ensures closed { result ≡ DONE
         → HoldsClosed (Some (HeldMemory home)) saved.new.raw.held }
+    ensures codes { IsOneCode (DONE ∷ IN_USE ∷ []) result }
     ensures gone { result ≡ DONE → memory.new.raw.held ≡ None }
     ensures refused { result ≢ DONE → saved.new.raw.held ≡ saved.old.raw.held }
     ensures back { result ≢ DONE → HoldsMemory memory.new.raw.held home.memory }
@@ -198,6 +230,10 @@ fn close_home(home: Home, mut place: Box<Held, Global>, memory: &mut Slot, saved
 #[unsafe(no_mangle)]
 pub extern "C" fn of_c_close(alloc: Global, memory: &mut Slot, saved: &mut Slot) -> u32
     ensures closed { result ≡ DONE → HoldsClosed memory.old.raw.held saved.new.raw.held }
+    ensures codes { IsOneCode (DONE ∷ FULL ∷ EMPTY ∷ IN_USE ∷ NO_MEMORY ∷ []) result }
+    ensures full { (result ≡ FULL) ↔ IsSome saved.old.raw.held }
+    ensures empty { result ≡ EMPTY → HoldsNo IsNotMemory memory.old.raw.held }
+    ensures in_use { HoldsNo IsNotMemory memory.old.raw.held → result ≢ IN_USE }
     ensures gone { result ≡ DONE → memory.new.raw.held ≡ None }
     ensures refused { result ≢ DONE → saved.new.raw.held ≡ saved.old.raw.held }
     ensures back { result ≢ DONE → HoldsStill memory.old.raw.held memory.new.raw.held }
@@ -225,7 +261,8 @@ pub extern "C" fn of_c_close(alloc: Global, memory: &mut Slot, saved: &mut Slot)
 #[unsafe(no_mangle)]
 pub extern "C" fn of_c_free(alloc: Global, slot: &mut Slot) -> u32
     ensures gone { slot.new.raw.held ≡ None }
-    ensures done { result ≡ DONE → IsSome slot.old.raw.held }
+    ensures codes { IsOneCode (DONE ∷ EMPTY ∷ []) result }
+    ensures done { (result ≡ DONE) ↔ IsSome slot.old.raw.held }
 {
     match slot.take(alloc) {
         Some(held) => {

@@ -23,7 +23,7 @@ pub struct Slot {
 impl Slot {
     /// Whether it is empty.
     pub(crate) fn is_empty(&self) -> bool
-        ensures { IsTrue result → self.now.raw.held ≡ None }
+        ensures { IsTrue result ↔ (self.now.raw.held ≡ None) }
     {
         self.state == 0
     }

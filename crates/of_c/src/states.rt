@@ -1,12 +1,15 @@
 //! What C reads of what a memory has left.
 
-ghost use Rattle.std.specs.Prelude.{◌≡◌, ◌≢◌, ◌<◌, IfErr, IfOk, None, Some, slice_get};
+ghost use Rattle.std.specs.Prelude.{◌≡◌, ◌≢◌, ◌↔◌, ◌<◌, ◌≤◌, ◌∷◌, [], IfErr, IfOk, None, Some};
+ghost use Rattle.std.specs.Prelude.{slice_get};
 ghost use Rattle.std.specs.FinMap as fm;
 ghost use Rattle.of_store.specs.Store.{register as register_of, queue as queue_of};
-ghost use Rattle.of_script.specs.declared.instr.TheConstants.{QUEUES};
+ghost use Rattle.of_script.specs.declared.instr.TheConstants.{GREATEST, QUEUES, REGISTERS};
 ghost use Rattle.of_memory.specs.Saving.{saved_ticket};
-ghost use Rattle.of_c.specs.declared.codes.TheConstants.{ABSENT, DONE};
-ghost use Rattle.of_c.specs.States.{HoldsStore, HasCallerWith, ShowsLast, TellsNothing};
+ghost use Rattle.of_c.specs.declared.codes.TheConstants.{ABSENT, DONE, EMPTY, NO_MEMORY, RANGE};
+ghost use Rattle.of_c.specs.States.{HoldsStore, HasCallerWith, ShowsLast};
+ghost use Rattle.of_c.specs.Causes.{IsOneCode, IsUnread, HoldsNo, IsNotSaved};
+ghost use Rattle.of_c.specs.Causes.{HoldsSavedWith, HasNoTicketOf};
 
 use crate::codes::{ABSENT, DONE, EMPTY, NO_MEMORY, RANGE};
 use crate::held::Held;
@@ -20,7 +23,7 @@ use std::alloc::Global;
 // The store of what is held, or a code.
 fn store_held(alloc: Global, held: &Held) -> Result<Store, u32>
     ensures store { IfOk result (λ s. HoldsStore (Some held.now) (λ t. t ≡ s)) }
-    ensures code { IfErr result TellsNothing }
+    ensures code { IfErr result (IsUnread (Some held.now)) }
 {
     match held {
         Held::Saved(kept) => {
@@ -37,7 +40,7 @@ fn store_held(alloc: Global, held: &Held) -> Result<Store, u32>
 // The store of what a memory has left, or a code. The slot holds what it held.
 fn store_in(alloc: Global, saved: &mut Slot) -> Result<Store, u32>
     ensures store { IfOk result (λ s. HoldsStore saved.old.raw.held (λ t. t ≡ s)) }
-    ensures code { IfErr result TellsNothing }
+    ensures code { IfErr result (IsUnread saved.old.raw.held) }
     ensures same { saved.new.raw.held ≡ saved.old.raw.held }
 {
     let Some(held) = saved.take(alloc) else {
@@ -52,6 +55,7 @@ fn store_in(alloc: Global, saved: &mut Slot) -> Result<Store, u32>
 fn tell(number: Option<u32>, value: &mut u32) -> u32
     ensures some { result ≡ DONE → number ≡ Some value.new }
     ensures none { result ≡ ABSENT → number ≡ None }
+    ensures codes { IsOneCode (DONE ∷ ABSENT ∷ []) result }
     ensures unread { result ≢ DONE → value.new ≡ value.old }
 {
     match number {
@@ -81,6 +85,9 @@ pub extern "C" fn of_c_register(
 ) -> u32
     ensures read { result ≡ DONE → HoldsStore saved.old.raw.held
         (λ s. value.new ≡ register_of s register) }
+    ensures codes { IsOneCode (DONE ∷ RANGE ∷ EMPTY ∷ NO_MEMORY ∷ []) result }
+    ensures range { (result ≡ RANGE) ↔ (REGISTERS ≤ register) }
+    ensures empty { result ≡ EMPTY → HoldsNo IsNotSaved saved.old.raw.held }
     ensures same { saved.new.raw.held ≡ saved.old.raw.held }
     ensures unread { result ≢ DONE → value.new ≡ value.old }
 {
@@ -103,6 +110,9 @@ pub extern "C" fn of_c_key(alloc: Global, saved: &mut Slot, key: u32, value: &mu
         (λ s. fm.get s.keys key ≡ Some value.new) }
     ensures absent { result ≡ ABSENT → HoldsStore saved.old.raw.held
         (λ s. fm.get s.keys key ≡ None) }
+    ensures codes { IsOneCode (DONE ∷ ABSENT ∷ RANGE ∷ EMPTY ∷ NO_MEMORY ∷ []) result }
+    ensures range { (result ≡ RANGE) ↔ (GREATEST < key) }
+    ensures empty { result ≡ EMPTY → HoldsNo IsNotSaved saved.old.raw.held }
     ensures same { saved.new.raw.held ≡ saved.old.raw.held }
     ensures unread { result ≢ DONE → value.new ≡ value.old }
 {
@@ -128,6 +138,9 @@ pub extern "C" fn of_c_item(
         (λ s. slice_get (queue_of s queue) at ≡ Some value.new) }
     ensures absent { result ≡ ABSENT → HoldsStore saved.old.raw.held
         (λ s. slice_get (queue_of s queue) at ≡ None) }
+    ensures codes { IsOneCode (DONE ∷ ABSENT ∷ RANGE ∷ EMPTY ∷ NO_MEMORY ∷ []) result }
+    ensures range { (result ≡ RANGE) ↔ (QUEUES ≤ queue) }
+    ensures empty { result ≡ EMPTY → HoldsNo IsNotSaved saved.old.raw.held }
     ensures same { saved.new.raw.held ≡ saved.old.raw.held }
     ensures unread { result ≢ DONE → value.new ≡ value.old }
 {
@@ -143,6 +156,9 @@ pub extern "C" fn of_c_item(
 fn ticket_held(held: &Held, number: u32, ticket: &mut u32) -> u32
     ensures read { result ≡ DONE → HasCallerWith (Some held.now) number
         (λ d. ticket.new ≡ saved_ticket d number) }
+    ensures codes { IsOneCode (DONE ∷ RANGE ∷ EMPTY ∷ []) result }
+    ensures range { result ≡ RANGE → HoldsSavedWith (HasNoTicketOf number) (Some held.now) }
+    ensures empty { (result ≡ EMPTY) ↔ IsNotSaved held.now }
     ensures unread { result ≢ DONE → ticket.new ≡ ticket.old }
 {
     match held {
@@ -163,6 +179,9 @@ fn ticket_held(held: &Held, number: u32, ticket: &mut u32) -> u32
 pub extern "C" fn of_c_ticket(alloc: Global, saved: &mut Slot, number: u32, ticket: &mut u32) -> u32
     ensures read { result ≡ DONE → HasCallerWith saved.old.raw.held number
         (λ d. ticket.new ≡ saved_ticket d number) }
+    ensures codes { IsOneCode (DONE ∷ RANGE ∷ EMPTY ∷ []) result }
+    ensures range { result ≡ RANGE → HoldsSavedWith (HasNoTicketOf number) saved.old.raw.held }
+    ensures empty { (result ≡ EMPTY) ↔ HoldsNo IsNotSaved saved.old.raw.held }
     ensures same { saved.new.raw.held ≡ saved.old.raw.held }
     ensures unread { result ≢ DONE → ticket.new ≡ ticket.old }
 {
@@ -179,6 +198,10 @@ fn last_reply_held(held: &Held, number: u32, reply: &mut CReply) -> u32
         → HasCallerWith (Some held.now) number (ShowsLast number reply.new) }
     ensures absent { result ≡ ABSENT
         → HasCallerWith (Some held.now) number (λ d. saved_ticket d number ≡ 0) }
+    ensures codes { IsOneCode (DONE ∷ ABSENT ∷ RANGE ∷ EMPTY ∷ []) result }
+    ensures range { result ≡ RANGE → HoldsSavedWith (HasNoTicketOf number) (Some held.now) }
+    ensures empty { (result ≡ EMPTY) ↔ IsNotSaved held.now }
+    ensures unread { result ≢ DONE → reply.new ≡ reply.old }
 {
     match held {
         Held::Saved(kept) => {
@@ -211,6 +234,10 @@ pub extern "C" fn of_c_last_reply(
         → HasCallerWith saved.old.raw.held number (ShowsLast number reply.new) }
     ensures absent { result ≡ ABSENT
         → HasCallerWith saved.old.raw.held number (λ d. saved_ticket d number ≡ 0) }
+    ensures codes { IsOneCode (DONE ∷ ABSENT ∷ RANGE ∷ EMPTY ∷ []) result }
+    ensures range { result ≡ RANGE → HoldsSavedWith (HasNoTicketOf number) saved.old.raw.held }
+    ensures empty { (result ≡ EMPTY) ↔ HoldsNo IsNotSaved saved.old.raw.held }
+    ensures unread { result ≢ DONE → reply.new ≡ reply.old }
     ensures same { saved.new.raw.held ≡ saved.old.raw.held }
 {
     let Some(held) = saved.take(alloc) else {

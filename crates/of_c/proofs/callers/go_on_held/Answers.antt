@@ -5,7 +5,7 @@ use Rattle.of_c.specs.declared.held.Held.TheVariants.{Caller}
 use Rattle.of_c.specs.Calls.{GoesOn, CallsHeld}
 use Rattle.of_c.proofs.callers.go_on_held.Goals as goal
 
-pub returns-in-Caller : goal.returns-in-Caller
-returns-in-Caller c =
+pub returns-in-Caller-clause-runs : goal.returns-in-Caller-clause-runs
+returns-in-Caller-clause-runs c =
     subst (λ (h : Held). CallsHeld (GoesOn c.args.limit) NO_CALL h (Caller c.go_on.new.self) c.code_of.new.reply c.code_of.result) (sym c.in-Caller.is)
-    (record { handle = c.go_on.new.self.handle; held = refl; answer = c.go_on.result; tells = c.code_of.ensures; does = c.go_on.ensures })
+    (record { handle = c.go_on.new.self.handle; held = refl; answer = c.go_on.result; tells = c.code_of.ensures.tells; does = c.go_on.ensures })

@@ -12,4 +12,6 @@ returns-in-Ok-clause-closed c done = record {
   is = subst (λ (h : Option Held). HoldsSaved h c.in-Ok.left) (sym c.put.ensures) refl;
   history = c.in-Ok.ensures.history;
   count = c.in-Ok.ensures.callers;
+  limit_is = c.in-Ok.ensures.limit;
+  here = c.in-Ok.ensures.here;
 }

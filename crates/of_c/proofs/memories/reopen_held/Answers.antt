@@ -11,6 +11,7 @@ returns-in-Ok-clause-reopened c done = record {
   memory = c.in-Ok.opened;
   is = subst (λ (h : Option Held). HoldsMemory h c.in-Ok.opened) (sym (c.keep.ensures.done done)) refl;
   count = c.in-Ok.ensures.callers;
+  limit_is = c.in-Ok.ensures.limit;
   goes_on = c.in-Ok.ensures.goes_on;
   tickets = c.in-Ok.ensures.tickets;
   none = c.in-Ok.ensures.none;

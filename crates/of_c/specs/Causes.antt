@@ -1,0 +1,133 @@
+-- When which code is answered: the causes. That there is no memory may come at any time.
+use Rattle.std.specs.Prelude.{◌≡◌, ◌≢◌, ◌⊎◌, ℕ, ◌<◌, ◌≤◌, List, [], ◌∷◌, Option, Some, None, length}
+use Rattle.std.proofs.Common.{get_or}
+use Rattle.of_cell.specs.declared.word.TheConstants.{GREATEST_LIMIT}
+use Rattle.of_mem.specs.declared.work.TheConstants.{MOST_CALLERS}
+use Rattle.of_mem.specs.declared.plot.TheConstants.{MOST_BLOCKS}
+use Rattle.of_memory.specs.declared.memory.Memory.{Memory as TheMemory}
+use Rattle.of_memory.specs.declared.saved.Saved.{Saved as TheSaved}
+use Rattle.of_memory.specs.declared.error.WordsErr.{WordsErr}
+use Rattle.of_memory.specs.declared.error.WordsErr.TheVariants.{OutOfMemory, Callers, Blocks, Limit, Count, Unlawful, PastLimit}
+use Rattle.of_memory.specs.Memories.{IsStill, callers_of}
+use Rattle.of_memory.specs.Saving.{saved_callers}
+use Rattle.of_memory.specs.Tasks.{KnowsSame}
+use Rattle.of_memory.specs.Texts.{IsNoLimitOf}
+use Rattle.of_memory.specs.Words.{IsFaultIn, IsPastLimit, durable_count}
+use Rattle.of_c.specs.declared.codes.TheConstants.{EMPTY, NO_MEMORY, NO_START, RANGE}
+use Rattle.of_c.specs.declared.held.Held.{Held}
+use Rattle.of_c.specs.declared.held.Held.TheVariants.{Nothing, Memory, Caller, Saved}
+use Rattle.of_c.specs.Slots.{HoldsMemory, HoldsSaved}
+
+-- the code is one of these
+abbrev pub IsOneCode : List ℕ → (code : ℕ) → Type 0
+IsOneCode [] code = ⊥
+IsOneCode (c ∷ cs) code = (code ≡ c) ⊎ IsOneCode cs code
+
+-- ---- what isn't held
+
+abbrev pub IsNotMemory : Held → Type 0
+IsNotMemory Nothing = Unit {0}
+IsNotMemory (Memory m) = ⊥
+IsNotMemory (Caller s) = Unit {0}
+IsNotMemory (Saved d) = Unit {0}
+
+abbrev pub IsNotCaller : Held → Type 0
+IsNotCaller Nothing = Unit {0}
+IsNotCaller (Memory m) = Unit {0}
+IsNotCaller (Caller s) = ⊥
+IsNotCaller (Saved d) = Unit {0}
+
+abbrev pub IsNotSaved : Held → Type 0
+IsNotSaved Nothing = Unit {0}
+IsNotSaved (Memory m) = Unit {0}
+IsNotSaved (Caller s) = Unit {0}
+IsNotSaved (Saved d) = ⊥
+
+-- the slot is empty, or holds something else
+abbrev pub HoldsNo : (Held → Type 0) → Option Held → Type 0
+HoldsNo HasNone None = Unit {0}
+HoldsNo HasNone (Some h) = HasNone h
+
+-- ---- of memories
+
+-- a count or the limit is out of its range
+abbrev pub AreOutOfRange : (callers blocks limit : ℕ) → Type 0
+AreOutOfRange callers blocks limit =
+    ((callers ≡ 0) ⊎ (MOST_CALLERS < callers))
+    ⊎ ((MOST_BLOCKS < blocks) ⊎ ((limit ≡ 0) ⊎ (GREATEST_LIMIT < limit)))
+
+-- a memory is held, of which this is so
+pub record HoldsMemoryWith (P : TheMemory → Type 0) (held : Option Held) : Type 0 where
+  pub memory : TheMemory
+  pub is : HoldsMemory held memory
+  pub so : P memory
+
+-- the memory has no caller of this number
+abbrev pub HasNoNumber : ℕ → TheMemory → Type 0
+HasNoNumber n m = callers_of m ≤ n
+
+-- a caller of this number is enrolled
+abbrev pub IsEnrolled : ℕ → TheMemory → Type 0
+IsEnrolled n m = get_or m.callers.items n None ≡ None
+
+-- it is the same memory still, and knows of every number what it knew
+pub record KnowsAll (m k : TheMemory) : Type 0 where
+  pub still : IsStill m k
+  pub knows : (n : ℕ) → KnowsSame n m k
+
+-- what is held is held still; a memory knows what it knew
+abbrev pub KeepsHeld : (before now : Held) → Type 0
+KeepsHeld (Memory h) now = HoldsMemoryWith (KnowsAll h.memory) (Some now)
+KeepsHeld Nothing now = now ≡ Nothing
+KeepsHeld (Caller s) now = now ≡ Caller s
+KeepsHeld (Saved d) now = now ≡ Saved d
+
+-- so it is of what a slot holds
+abbrev pub KeepsSlot : (before now : Option Held) → Type 0
+KeepsSlot None now = now ≡ None
+KeepsSlot (Some h) None = ⊥
+KeepsSlot (Some h) (Some k) = KeepsHeld h k
+
+-- ---- of what a memory has left
+
+-- something is held that a memory has left, of which this is so
+pub record HoldsSavedWith (P : TheSaved → Type 0) (held : Option Held) : Type 0 where
+  pub left : TheSaved
+  pub is : HoldsSaved held left
+  pub so : P left
+
+-- it has no caller of this number
+abbrev pub HasNoTicketOf : ℕ → TheSaved → Type 0
+HasNoTicketOf n d = saved_callers d ≤ n
+
+-- it can't have this limit
+abbrev pub RefusesLimit : ℕ → TheSaved → Type 0
+RefusesLimit limit d = IsNoLimitOf d limit
+
+-- nothing is read of it, since there is none, or no memory
+abbrev pub IsUnread : Option Held → (code : ℕ) → Type 0
+IsUnread held code = ((code ≡ EMPTY) × HoldsNo IsNotSaved held) ⊎ (code ≡ NO_MEMORY)
+
+-- ---- of words
+
+-- a count or the limit is out of its range, the number of words is another one, or the limit is
+-- below their sequence
+abbrev pub AreOutOfWords : (callers blocks limit : ℕ) → List ℕ → Type 0
+AreOutOfWords callers blocks limit words =
+    AreOutOfRange callers blocks limit
+    ⊎ ((length words ≢ durable_count callers blocks)
+    ⊎ ((seq : ℕ) × IsPastLimit limit words seq))
+
+-- a cell is at fault in what recovery finds in the words
+abbrev pub HasCellAtFault : (callers blocks : ℕ) → List ℕ → Type 0
+HasCellAtFault callers blocks words = (cell : ℕ) × IsFaultIn callers blocks words cell
+
+-- the code of why nothing is found in words
+abbrev pub words_code : WordsErr → ℕ
+words_code OutOfMemory = NO_MEMORY
+words_code (Callers k) = RANGE
+words_code (Blocks k) = RANGE
+words_code (Limit k) = RANGE
+words_code (Count k) = RANGE
+words_code (Unlawful cell) = NO_START
+words_code (PastLimit seq) = RANGE
