@@ -7,7 +7,8 @@ ghost use Rattle.of_caller.specs.Callers.{caller_call};
 ghost use Rattle.of_caller.specs.Ends.{TellsAnswer};
 ghost use Rattle.of_caller.specs.Lanes.{IsHeldAnswer};
 ghost use Rattle.of_memory.specs.Serving.{IsScriptsRow, Serves, row_step_bound};
-ghost use Rattle.of_memory.specs.Called.{MakesCallOf, MakesOpenCall, BeginsAsNext, LearnsMore};
+ghost use Rattle.of_memory.specs.Called.{MakesCallOf, MakesOpenCall, BeginsAsNext, ResumesAsNext};
+ghost use Rattle.of_memory.specs.Called.{LearnsMore};
 ghost use Rattle.of_memory.specs.Called.{LeavesOpen, LeavesOpenCall, LeavesAsItWas, WasTried, CallerOpensOnly, CallerOpensNone};
 ghost use Rattle.of_memory.specs.Within.{EndsWithin, KeepsToStop, KeepsToTold};
 
@@ -107,6 +108,7 @@ fn go_on_counted<L: Ledger>(
     ensures stop { KeepsToTold (caller_call caller.old).steps (left brake.old)
         (caller_call caller.new).steps result }
     ensures only { CallerOpensNone caller.old caller.new }
+    ensures next { ResumesAsNext number result caller.old }
     ensures more { LearnsMore caller.old caller.new }
 {
     let mut steps: Steps<L> = Steps::new(blank);
@@ -177,6 +179,7 @@ pub(crate) fn go_on_with(
     ensures stop { KeepsToStop (caller_call caller.old).steps stop
         (caller_call caller.new).steps result }
     ensures only { CallerOpensNone caller.old caller.new }
+    ensures next { ResumesAsNext number result caller.old }
     ensures more { LearnsMore caller.old caller.new }
 {
     let Ok(fuel) = Box::new(alloc, fuel_of(stop)) else {
