@@ -46,7 +46,7 @@ use Rattle.of_memory.specs.History.{End, Replied, Spent, Made}
 use Rattle.of_memory.specs.Times.{calls_ended_in, calls_begun_in}
 use Rattle.of_memory.specs.Calls.{IsScriptOperation, EndsAs, IsMade, AreMade, RunsScripts}
 use Rattle.of_caller.specs.PlanRows.{start_of_row}
-use Rattle.of_memory.specs.Serving.{IsScriptsRow, Serves, ended_of, made_before}
+use Rattle.of_memory.specs.Serving.{IsScriptsRow, Serves, HasStartedIfOpen, ended_of, made_before}
 use Rattle.of_memory.specs.declared.error.RunErr.{RunErr}
 use Rattle.of_memory.specs.declared.error.RunErr.TheVariants.{Stopped as Halted, Spent as RanOut, Open, NoTicket}
 use Rattle.of_memory.specs.declared.handle.Handle.{Handle}
@@ -233,6 +233,22 @@ module _ (S : Setup) (L : List ℕ → Type 0) (B : TableStart) (m : CallState) 
           let none : length (operations_known before) ≡ length (ops ++ []) = ap (λ (b : Bool). length (ops ++ open_operation before.machine b)) is in
           omega (arith, few, known, none, length-append ops [], length-map before.ended (λ (e : EndedCall). e.op))
 
+  -- a call that stays open has made a step, if the caller has seen one of it
+  pub started_on : HasStartedIfOpen before → HasStartedIfOpen now
+  started_on was is_open = elim (none_or_some told.steps) [
+    | inl none ↦
+        let same : now ≡ before = ap (λ (x : View). last_caller x.kept) (told.none none) in
+        subst (λ (x : KnownCaller). 0 < x.machine.steps) (sym same) (was (subst (λ (x : KnownCaller). IsOpen x.machine.place) same is_open))
+    | inr some ↦
+        let machine : now.machine ≡ d = ap (λ (x : KnownCaller). x.machine) (sym now_is) ∙ (told.some some).machine in
+        subst (λ (e : CallState). 0 < e.steps) (sym machine) (stays r told.result some (subst (λ (e : CallState). IsOpen e.place) machine is_open))
+  ]
+    where
+      stays : (z : Result Outcome CallErr) → Told z → 0 < told.steps → IsOpen d.place → 0 < d.steps
+      stays (Ok o) h some opened = absurd (none_open d h.1.idle opened)
+      stays (Err (Stopped asked)) h some opened = omega (arith, h.0.steps, some)
+      stays (Err (NoneLeft seq)) h some opened = absurd (none_open d h.idle opened)
+
   pub answered_some : (o : Outcome) → Told (Ok o) → 0 < told.steps
   answered_some o h = ended_some o h.1
 
@@ -337,6 +353,7 @@ module _ (r : Row Scripts) (row : IsScriptsRow r) where
     begun = λ is_open. subst IsScriptOperation (sym told.op) op;
     counts = counts_on (setup_at scripts_meaning r) L (start_of_row r) m (sight_of c) a (caller_call k) (sight_of k) b z told (made_before r n) made;
     told = told_on (setup_at scripts_meaning r) L (start_of_row r) m (sight_of c) a (caller_call k) (sight_of k) b z told n (same ∙ s.number) s.told;
+    started = started_on (setup_at scripts_meaning r) L (start_of_row r) m (sight_of c) a (caller_call k) (sight_of k) b z told s.started;
   }
 
 -- ---- the call that a caller begins or goes on with is the next one

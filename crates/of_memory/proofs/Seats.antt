@@ -28,7 +28,7 @@ use Rattle.of_caller.proofs.CallSteps.{prefix_trans}
 use Rattle.of_caller.proofs.Behind.{ended_later}
 use Rattle.of_memory.specs.Calls.{IsScriptOperation, RunsScripts}
 use Rattle.of_memory.specs.Laws.{KeepsSo}
-use Rattle.of_memory.specs.Serving.{IsNew, Serves, ServeAll, Enrols, AllStand, AllHere, IsKeptOf, KeepsThose, KnowsPasts, made_before}
+use Rattle.of_memory.specs.Serving.{IsNew, Serves, ServeAll, Enrols, AllStand, AllHere, IsKeptOf, KeepsThose, KnowsPasts, HasStartedIfOpen, made_before}
 use Rattle.of_memory.proofs.Called.{stands_caller}
 
 -- ---- numbers that a pass has asked for
@@ -76,6 +76,7 @@ new_caller r n before member now c e is same rest begun = record {
         let none : open_call_count (is_idle (caller_call c).place) ≡ 0 = ap (λ (p : Place). open_call_count (is_idle p)) rest in
         omega (arith, begun, e.made, many, none);
     told = let many : length (last_caller (sight_of c).kept).ended ≡ 0 = ap (λ (x : KnownCaller). length x.ended) kept in omega (arith, many);
+    started = λ is_open. absurd (true≢false (ap (λ (x : KnownCaller). is_idle x.machine.place) (sym kept) ∙ is_open));
   };
   none = ap (λ (x : KnownCaller). x.ended) kept;
   idle = rest;
@@ -221,6 +222,7 @@ serves_same r n c k s is call kept more = record {
       let later = ended_later scripts_meaning LawfulCells r (sight_of c).past (sight_of k).past n more in
       let same : length (last_caller (sight_of k).kept).ended ≡ length (last_caller (sight_of c).kept).ended = ap (λ (xs : List KnownCaller). length (last_caller xs).ended) kept in
       omega (arith, low, later, same);
+  started = subst (λ (xs : List KnownCaller). HasStartedIfOpen (last_caller xs)) (sym kept) s.started;
 }
 
 -- ---- what the callers know of real time is known when they are gathered

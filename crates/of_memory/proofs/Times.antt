@@ -57,6 +57,25 @@ next_call r L n c k m a b z told s same rest some =
     subst (λ (i : ℕ). calls_begun_in (events_known_to c) i ≤ length (ended_of c)) (same ∙ s.number)
     (next_of (setup_at scripts_meaning r) L (start_of_row r) m (sight_of c) a (caller_call k) (sight_of k) b z told (kept_idle r c s.caller rest) some)
 
+-- an open call that has made no step is kept by none
+pub kept_fresh : (r : Row Scripts) (n : ℕ) (c : Caller Scripts) → Serves r n c → (caller_call c).steps ≡ 0 → is_idle (last_caller (sight_of c).kept).machine.place ≡ false → ⊥
+kept_fresh r n c s none opened =
+    let is = s.caller in
+    let x : KnownCaller = is.member.0 in
+    let last : last_caller (sight_of c).kept ≡ x = ap last_caller is.member.1 in
+    let is_open : IsOpen x.machine.place = subst (λ (y : KnownCaller). IsOpen y.machine.place) last opened in
+    let same : x.machine ≡ caller_call c = open_same (machine_setup scripts_meaning c.machine) x (caller_call c) is.member.2 is_open in
+    let some : 0 < x.machine.steps = subst (λ (y : KnownCaller). 0 < y.machine.steps) last (s.started opened) in
+    let steps : x.machine.steps ≡ (caller_call c).steps = ap (λ (d : CallState). d.steps) same in
+    absurd (omega (arith, some, steps, none))
+
+-- so the caller begins it when it goes on
+pub fresh_call : (r : Row Scripts) (L : List ℕ → Type 0) (n : ℕ) (c k : Caller Scripts) (m : CallState) (a b : ℕ) (z : Result Outcome CallErr) (told : TellsCall (setup_at scripts_meaning r) L (start_of_row r) m (sight_of c) a (caller_call k) (sight_of k) b z)
+    → Serves r n c → m.caller ≡ (caller_call c).caller → (caller_call c).steps ≡ 0 → 0 < told.steps → calls_begun_in (events_known_to c) n ≤ length (ended_of c)
+fresh_call r L n c k m a b z told s same none some =
+    subst (λ (i : ℕ). calls_begun_in (events_known_to c) i ≤ length (ended_of c)) (same ∙ s.number)
+    (next_of (setup_at scripts_meaning r) L (start_of_row r) m (sight_of c) a (caller_call k) (sight_of k) b z told (kept_fresh r n c s none) some)
+
 -- ---- a handle
 
 pub keeps_known : (h k : Handle) → home_of k ≡ home_of h → LearnsMore (caller_of h) (caller_of k) → KeepsKnown h k

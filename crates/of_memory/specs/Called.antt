@@ -92,6 +92,10 @@ abbrev pub BeginsAsNext : (number : ℕ) → Result Answer RunErr → Caller Scr
 BeginsAsNext n result c =
     HasStarted result → calls_begun_in (events_known_to c) n ≤ length (ended_of c)
 
+-- so it is of an open call that had made no step, when it goes on
+abbrev pub ResumesAsNext : (number : ℕ) → Result Answer RunErr → Caller Scripts → Type 0
+ResumesAsNext n result c = (caller_call c).steps ≡ 0 → BeginsAsNext n result c
+
 -- the events that the caller knows go on
 abbrev pub LearnsMore : (before now : Caller Scripts) → Type 0
 LearnsMore c d = IsPrefix (events_known_to c) (events_known_to d)

@@ -57,6 +57,10 @@ CountsCalls r n c =
 abbrev pub events_known_to : Caller Scripts → List Event
 events_known_to c = (sight_of c).past
 
+-- a call that is kept open has made a step
+abbrev pub HasStartedIfOpen : KnownCaller → Type 0
+HasStartedIfOpen x = IsOpen x.machine.place → 0 < x.machine.steps
+
 -- a caller of the row with this number, which has run scripts alone, and knows of its own calls
 -- that they have ended
 pub record Serves (r : Row Scripts) (n : ℕ) (c : Caller Scripts) : Type 0 where
@@ -67,6 +71,7 @@ pub record Serves (r : Row Scripts) (n : ℕ) (c : Caller Scripts) : Type 0 wher
   pub counts : CountsCalls r n c
   pub told : length (ended_of c)
       ≤ calls_ended_in (setup_at scripts_meaning r) (start_of_row r) (events_known_to c) n
+  pub started : HasStartedIfOpen (last_caller (sight_of c).kept)
 
 -- it has made no call on this row
 pub record IsNew (r : Row Scripts) (n : ℕ) (c : Caller Scripts) : Type 0 where

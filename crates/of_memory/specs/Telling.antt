@@ -87,6 +87,10 @@ BeginsAfterHeard result h k =
     HasStarted result → (ms : List Made) → HasMade h ms → (n count : ℕ) → HasHeardOf h n count
     → KnowsOrder k n count (number_of_handle h) (length ms)
 
+-- so it is of an open call that had made no step, when it goes on
+abbrev pub ResumesAfterHeard : Result Answer RunErr → (before now : Handle) → Type 0
+ResumesAfterHeard result h k = steps_so_far h ≡ 0 → BeginsAfterHeard result h k
+
 -- ---- handles come and go
 
 -- the handle knows each order that its number knew

@@ -7,8 +7,8 @@ ghost use Rattle.of_caller.specs.Callers.{caller_call};
 ghost use Rattle.of_caller.specs.Ends.{TellsAnswer};
 ghost use Rattle.of_caller.specs.Lanes.{IsHeldAnswer};
 ghost use Rattle.of_memory.specs.Serving.{IsScriptsRow, Serves, row_step_bound};
-ghost use Rattle.of_memory.specs.Called.{MakesCallOf, MakesOpenCall, BeginsAsNext, LearnsMore};
-ghost use Rattle.of_memory.specs.Called.{LeavesOpen, LeavesOpenCall, WasTried};
+ghost use Rattle.of_memory.specs.Called.{MakesCallOf, MakesOpenCall, BeginsAsNext, ResumesAsNext};
+ghost use Rattle.of_memory.specs.Called.{LeavesOpen, LeavesOpenCall, WasTried, LearnsMore};
 ghost use Rattle.of_memory.specs.Called.{CallerOpensOnly, CallerOpensNone};
 ghost use Rattle.of_memory.specs.Within.{EndsWithin, KeepsToStop};
 
@@ -116,6 +116,7 @@ fn go_on_counted<L: Ledger>(
     ensures stop { KeepsToStop (caller_call caller.old).steps stop
         (caller_call caller.new).steps result }
     ensures only { CallerOpensNone caller.old caller.new }
+    ensures next { ResumesAsNext number result caller.old }
     ensures more { LearnsMore caller.old caller.new }
 {
     let mut brake = fuel_of(stop);
@@ -170,6 +171,7 @@ pub(crate) fn go_on_with(
     ensures stop { KeepsToStop (caller_call caller.old).steps stop
         (caller_call caller.new).steps result }
     ensures only { CallerOpensNone caller.old caller.new }
+    ensures next { ResumesAsNext number result caller.old }
     ensures more { LearnsMore caller.old caller.new }
 {
     go_on_counted::<Brand>(row, number, caller, stop, Blank::new(1))

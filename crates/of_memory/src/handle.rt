@@ -32,7 +32,8 @@ impl Handle {
     ghost use Rattle.of_memory.specs.Memories.{IsMemory, IsFrom, IsStill, HasMadeOf, KnowsOthers};
     ghost use Rattle.of_memory.specs.Memories.{HasOpenOf, OthersStayOpen, PutsBack};
     ghost use Rattle.of_memory.specs.Handles.{OpensOnly, OpensNone};
-    ghost use Rattle.of_memory.specs.Telling.{BeginsAfterHeard, KeepsKnown, LeavesOrder};
+    ghost use Rattle.of_memory.specs.Telling.{BeginsAfterHeard, ResumesAfterHeard, KeepsKnown};
+    ghost use Rattle.of_memory.specs.Telling.{LeavesOrder};
     ghost use Rattle.of_memory.specs.Memories.{OthersKnowOrder};
 
     /// Its number.
@@ -113,6 +114,7 @@ impl Handle {
         ensures bound { EndsWithin (step_bound_of self.old) result }
         ensures stopped { IsNeverStopped result }
         ensures only { OpensNone self.old self.new }
+        ensures behind { ResumesAfterHeard result self.old self.new }
         ensures knows { KeepsKnown self.old self.new }
     {
         self.resume(None)
@@ -131,6 +133,7 @@ impl Handle {
         ensures within { KeepsWithin (steps_so_far self.old) steps
             (steps_so_far self.new) result }
         ensures only { OpensNone self.old self.new }
+        ensures behind { ResumesAfterHeard result self.old self.new }
         ensures knows { KeepsKnown self.old self.new }
     {
         self.resume(Some(steps))
@@ -148,6 +151,7 @@ impl Handle {
         ensures stop { KeepsToStop (steps_so_far self.old) stop
             (steps_so_far self.new) result }
         ensures only { OpensNone self.old self.new }
+        ensures behind { ResumesAfterHeard result self.old self.new }
         ensures knows { KeepsKnown self.old self.new }
     {
         if self.caller.is_idle() {

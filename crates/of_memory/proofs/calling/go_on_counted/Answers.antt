@@ -1,5 +1,6 @@
 use Rattle.std.proofs.Common.{◌∙◌, ap, refl, Some, Err}
-use Rattle.of_memory.proofs.Called.{held_of, serves_on, made_answered, made_spent, keeps_answered, keeps_stopped, keeps_over, none_after_answer, none_after_spent, answers_within, stops_within, open_counts, opens_none}
+use Rattle.of_memory.proofs.Called.{held_of, serves_on, made_answered, made_spent, keeps_answered, keeps_stopped, keeps_over, none_after_answer, none_after_spent, answers_within, stops_within, open_counts, opens_none, answered_some, stopped_some, spent_some}
+use Rattle.of_memory.proofs.Times.{fresh_call}
 use Rattle.of_memory.proofs.calling.go_on_counted.Goals as goal
 
 pub answer_of-requires : goal.answer_of-requires
@@ -66,3 +67,21 @@ returns-in-Err-Stopped-clause-only g c = opens_none c.args.caller.now c.go_on.ne
 
 pub returns-clause-only : goal.returns-clause-only
 returns-clause-only g c = opens_none c.args.caller.now c.go_on.new.self c.requires.open_call c.go_on.ensures.told.op
+
+pub returns-in-Ok-clause-next : goal.returns-in-Ok-clause-next
+returns-in-Ok-clause-next g c none started =
+    let told = c.in-Ok.ensures.told in
+    fresh_call c.args.row.now _ c.args.number c.args.caller.now c.go_on.new.self _ _ _ _ told c.requires.serves refl none
+    (answered_some _ _ _ _ _ _ _ _ _ _ told c.in-Ok.outcome told.result)
+
+pub returns-in-Err-Stopped-clause-next : goal.returns-in-Err-Stopped-clause-next
+returns-in-Err-Stopped-clause-next g c none started =
+    let told = c.go_on.ensures.told in
+    fresh_call c.args.row.now _ c.args.number c.args.caller.now c.go_on.new.self _ _ _ _ told c.requires.serves refl none
+    (stopped_some _ _ _ _ _ _ _ _ _ _ told c.in-Err-Stopped.asked (c.in-Err-Stopped.is ∙ ap (λ e. Err e) c.in-Err-Stopped.field-0-is) started)
+
+pub returns-clause-next : goal.returns-clause-next
+returns-clause-next g c none started =
+    let told = c.go_on.ensures.told in
+    fresh_call c.args.row.now _ c.args.number c.args.caller.now c.go_on.new.self _ _ _ _ told c.requires.serves refl none
+    (spent_some _ _ _ _ _ _ _ _ _ _ told c.in-Err-Spent.seq (c.in-Err-Spent.is ∙ ap (λ e. Err e) c.in-Err-Spent.field-0-is))
