@@ -1,0 +1,126 @@
+-- Tellers: what they know of their calls, and their logs.
+use Rattle.std.proofs.Common.{◌≡◌, ℕ, zero, suc, ◌+◌, ◌≤◌, ◌<◌, ◌⊎◌, inl, inr, refl, sym, ◌∙◌, ap, subst, arith, List, [], ◌∷◌, ◌++◌, length, get_or, map, Ok, Err}
+use Rattle.std.specs.Prelude.{Result}
+use Rattle.std.specs.List.{All}
+use Rattle.std.proofs.lemmas.List.{get_or-map, length-map}
+use Rattle.std.proofs.lemmas.List.Elements.{All-cons}
+use Rattle.of_core.specs.declared.place.Outcome.{Outcome}
+use Rattle.of_core.specs.declared.place.Outcome.TheVariants.{Spent as Over}
+use Rattle.of_core.specs.Table.{Setup}
+use Rattle.of_core.specs.Machine.{Call, CallState}
+use Rattle.of_core.specs.TableMoment.{TableStart}
+use Rattle.of_core.specs.Events.{zero_start, start_ticket}
+use Rattle.of_core.specs.Linear.{ExplainsOutcome}
+use Rattle.of_row.specs.declared.member.Member.{Member}
+use Rattle.of_row.specs.declared.member.Pass.{Pass}
+use Rattle.of_row.specs.declared.row.Row.{Row}
+use Rattle.of_row.specs.Views.{EndedCall, KnownCaller, View, Each, last_caller, no_ended}
+use Rattle.of_row.specs.Rule.{IsAsked, done_before, outcome_at, ended_operation_at}
+use Rattle.of_row.specs.Rows.{view_of_pass, view_of_member, number_of_member}
+use Rattle.of_row.specs.Passes.{IsFirst, HasEnrolled}
+use Rattle.of_row.specs.Moments.{ExplainsEndedCalls}
+use Rattle.of_caller.specs.declared.caller.Caller.{Caller}
+use Rattle.of_caller.specs.declared.caller.CallErr.{CallErr}
+use Rattle.of_caller.specs.declared.caller.CallErr.TheVariants.{Stopped, Spent}
+use Rattle.of_caller.specs.Callers.{IsCaller, sight_of}
+use Rattle.of_caller.specs.CallsTold.{TellsCall, TellsResult}
+use Rattle.example_accounts.specs.declared.accounts.Accounts.{Accounts}
+use Rattle.example_accounts.specs.declared.teller.Answer.{Answer}
+use Rattle.example_accounts.specs.declared.teller.Teller.{Teller}
+use Rattle.example_accounts.specs.declared.day.Log.{Log}
+use Rattle.example_accounts.specs.Meaning.{accounts_meaning}
+use Rattle.example_accounts.specs.Days.{setup_with, Serves, Enrols, ended_of, ended_call, IsLogged, AreLogged, HasLog, no_answer}
+
+-- ---- numbers
+
+asked_or_last : (n r m : ℕ) (xs : List (ℕ × ℕ)) → IsAsked n (xs ++ (r, m) ∷ []) → IsAsked n xs ⊎ (m ≡ n)
+asked_or_last n r m [] (inl e) = inr e
+asked_or_last n r m [] (inr a) = absurd a
+asked_or_last n r m (x ∷ xs) (inl e) = inl (inl e)
+asked_or_last n r m (x ∷ xs) (inr a) = later (asked_or_last n r m xs a)
+  where
+    later : IsAsked n xs ⊎ (m ≡ n) → IsAsked n (x ∷ xs) ⊎ (m ≡ n)
+    later (inl t) = inl (inr t)
+    later (inr t) = inr t
+
+pub enrols_first : (r : Row Accounts) (n : ℕ) (p : Pass) → IsFirst r p → Enrols r n p
+enrols_first r n p h = record {
+  row = h.0;
+  first = ap (λ (v : View). v.first) h.1;
+  nobody = ap (λ (v : View). v.kept) h.1;
+  above = λ m a. absurd (subst (λ (v : View). IsAsked m v.asked) h.1 a);
+}
+
+pub enrols_next : (r : Row Accounts) (n : ℕ) (before : Pass) (member : Member) (now : Pass) → Enrols r (n + 1) before → HasEnrolled accounts_meaning r n before member now → Enrols r n now
+enrols_next r n before member now h e = record {
+  row = e.at_row.1;
+  first = ap (λ (v : View). v.first) e.pass_is ∙ h.first;
+  nobody = ap (λ (v : View). v.kept) e.pass_is ∙ h.nobody;
+  above = λ m a. high m (asked_or_last m e.found n (view_of_pass before).asked (subst (λ (v : View). IsAsked m v.asked) e.pass_is a));
+}
+  where
+    high : (m : ℕ) → IsAsked m (view_of_pass before).asked ⊎ (n ≡ m) → n ≤ m
+    high m (inl t) = let b = h.above m t in omega (arith, b)
+    high m (inr t) = omega (arith, t)
+
+-- a teller that was just seated has made no call
+pub none_ended : (r : Row Accounts) (n : ℕ) (before : Pass) (member : Member) (now : Pass) (c : Caller Accounts) → HasEnrolled accounts_meaning r n before member now → c.member ≡ member → ended_of c ≡ []
+none_ended r n before member now c e same = ap (λ (m : Member). (last_caller (view_of_member m).kept).ended) same ∙ ap (λ (v : View). (last_caller v.kept).ended) e.member_is
+
+-- ---- what a call tells
+
+module _ (S : Setup) (L : List ℕ → Type 0) (B : TableStart) (m : CallState) (v : View) (a : ℕ) (d : CallState) (x : View) (b : ℕ) (r : Result Outcome CallErr) (told : TellsCall S L B m v a d x b r) where
+  from_kept : (es : List EndedCall) → told.kept.ended ≡ told.before.ended ++ es → (last_caller x.kept).ended ≡ (last_caller v.kept).ended ++ es
+  from_kept es e = ap (λ xs. (last_caller xs).ended) told.kept_now ∙ e ∙ ap (λ xs. (last_caller xs).ended ++ es) (sym told.kept_before)
+
+  result_is : (q : Result Outcome CallErr) → r ≡ q → TellsResult S L B m v told.before told.steps d x told.kept q
+  result_is q e = subst (TellsResult S L B m v told.before told.steps d x told.kept) e told.result
+
+  pub answered : (o : Outcome) → r ≡ Ok o → (last_caller x.kept).ended ≡ (last_caller v.kept).ended ++ record { op = m.op; outcome = o } ∷ []
+  answered o e = from_kept (record { op = m.op; outcome = o } ∷ []) (result_is (Ok o) e).1.kept
+
+  pub spent : (n : ℕ) → r ≡ Err (Spent n) → (last_caller x.kept).ended ≡ (last_caller v.kept).ended ++ record { op = m.op; outcome = Over n } ∷ []
+  spent n e = from_kept (record { op = m.op; outcome = Over n } ∷ []) (result_is (Err (Spent n)) e).kept
+
+  pub stopped : (n : ℕ) → r ≡ Err (Stopped n) → (last_caller x.kept).ended ≡ (last_caller v.kept).ended
+  stopped n e = ap (λ xs. (last_caller xs).ended) told.kept_now ∙ (result_is (Err (Stopped n)) e).0.kept ∙ ap (λ xs. (last_caller xs).ended) (sym told.kept_before)
+
+pub one_more : (es : List EndedCall) (bs cs : List Answer) (a : Answer) → es ≡ map ended_call bs → cs ≡ bs ++ a ∷ [] → es ++ ended_call a ∷ [] ≡ map ended_call cs
+one_more es bs cs a e is = ap (λ xs. xs ++ ended_call a ∷ []) e ∙ sym (map_more bs) ∙ ap (map ended_call) (sym is)
+  where
+    map_more : (xs : List Answer) → map ended_call (xs ++ a ∷ []) ≡ map ended_call xs ++ ended_call a ∷ []
+    map_more [] = refl
+    map_more (x ∷ xs) = ap (λ ys. ended_call x ∷ ys) (map_more xs)
+
+-- ---- logs
+
+pub logged_more : (xs : List KnownCaller) (ls : List Log) (x : KnownCaller) (l : Log) → AreLogged xs ls → IsLogged x l → AreLogged (xs ++ x ∷ []) (ls ++ l ∷ [])
+logged_more [] [] x l h k = (k, tt)
+logged_more [] (m ∷ ms) x l h k = absurd h
+logged_more (y ∷ ys) [] x l h k = absurd h
+logged_more (y ∷ ys) (m ∷ ms) x l h k = (h.0, logged_more ys ms x l h.1 k)
+
+-- the log of a teller that has left
+pub hands_in : (r : Row Accounts) (t : Teller) (kept now : List KnownCaller) (ls ms : List Log) (m : Member) (l : Log) → Serves r t → m ≡ t.caller.member → now ≡ kept ++ (view_of_member m).kept
+    → ms ≡ ls ++ l ∷ [] → l.number ≡ number_of_member m → l.answers.items ≡ t.answers.items → AreLogged kept ls → AreLogged now ms
+hands_in r t kept now ls ms m l s same view more number answers h =
+    let x = s.caller.member in
+    let one : (view_of_member m).kept ≡ x.0 ∷ [] = ap (λ (m : Member). (view_of_member m).kept) same ∙ x.1 in
+    subst (λ (k : List KnownCaller × List Log). AreLogged k.0 k.1) (λ i. ((sym (view ∙ ap (λ xs. kept ++ xs) one)) i, sym more i))
+    (logged_more kept ls x.0 l h (record {
+      number = sym x.3 ∙ ap number_of_member (sym same) ∙ sym number;
+      answers = ap (λ xs. (last_caller xs).ended) (sym x.1) ∙ s.answers ∙ ap (map ended_call) (sym answers);
+    }))
+
+has_log : (w : Accounts) (calls : List Call) (x : KnownCaller) (l : Log) → ((i : ℕ) → start_ticket (setup_with w) (zero_start (setup_with w)) i ≡ 0) → IsLogged x l → ExplainsEndedCalls (setup_with w) (zero_start (setup_with w)) calls x → HasLog w calls l
+has_log w calls x l none is all k lt =
+    let long : length x.ended ≡ length l.answers.items = ap length is.answers ∙ length-map l.answers.items ended_call in
+    let at : get_or x.ended k no_ended ≡ ended_call (get_or l.answers.items k no_answer) = ap (λ es. get_or es k no_ended) is.answers ∙ get_or-map ended_call l.answers.items k no_answer no_ended lt in
+    let ticket : done_before (setup_with w) (zero_start (setup_with w)) x.machine.caller + k + 1 ≡ k + 1 = let z = none x.machine.caller in omega (arith, z) in
+    subst (λ (e : ℕ × (ℕ × EndedCall)). ExplainsOutcome (setup_with w) calls e.0 e.1.0 e.1.1.op e.1.1.outcome) (λ i. (is.number i, (ticket i, at i))) (all k (omega (arith, lt, long)))
+
+pub have_logs : (w : Accounts) (calls : List Call) (xs : List KnownCaller) (ls : List Log) → ((i : ℕ) → start_ticket (setup_with w) (zero_start (setup_with w)) i ≡ 0) → AreLogged xs ls → Each (ExplainsEndedCalls (setup_with w) (zero_start (setup_with w)) calls) xs → All (HasLog w calls) ls
+have_logs w calls [] [] none h all = λ k d lt. absurd (omega (arith, lt))
+have_logs w calls [] (l ∷ ls) none h all = absurd h
+have_logs w calls (x ∷ xs) [] none h all = absurd h
+have_logs w calls (x ∷ xs) (l ∷ ls) none h all = All-cons (HasLog w calls) l ls (has_log w calls x l none h.0 all.0) (have_logs w calls xs ls none h.1 all.1)

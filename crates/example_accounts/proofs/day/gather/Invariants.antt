@@ -1,0 +1,15 @@
+use Rattle.std.proofs.Common.{ℕ, length}
+use Rattle.std.specs.List.{All}
+use Rattle.of_row.specs.Rows.{IsRowPass, view_of_pass}
+use Rattle.example_accounts.specs.Days.{Serves, AreLogged}
+use Rattle.example_accounts.proofs.day.gather.Given as goal
+
+abbrev pub decreases-loop-teller : goal.decreases-loop-teller
+decreases-loop-teller l = length l.tellers.items
+
+abbrev pub invariant-loop-teller : goal.invariant-loop-teller
+invariant-loop-teller l = record {
+  pass : IsRowPass l.row l.pass;
+  logs : AreLogged (view_of_pass l.pass).kept l.logs.items;
+  tellers : All (Serves l.row) l.tellers.items;
+}

@@ -1,0 +1,22 @@
+-- Accounts as a work: what its operations mean, and which cells are lawful.
+use Rattle.std.specs.Prelude.{◌≡◌, ◌<◌, ℕ, true, false, List, length, Some}
+use Rattle.of_mem.specs.Meaning.{Meaning}
+use Rattle.of_mem.specs.Part.{Part, newest_at}
+use Rattle.of_mem.specs.ProgramWork.{memory_of, meaning_of}
+use Rattle.example_accounts.specs.declared.accounts.Accounts.{Accounts}
+use Rattle.example_accounts.specs.Accounts.{HasAllMoney, cell_count, transferring}
+
+-- each reply is a success, and each operation may write
+abbrev pub accounts_meaning : Accounts → Meaning
+accounts_meaning w = meaning_of (λ r. true) (λ op. false) (transferring w)
+
+-- lists of cells that have all the money are lawful
+abbrev pub LawfulCells : Accounts → List ℕ → Type 0
+LawfulCells w xs = HasAllMoney w (memory_of xs)
+
+-- the partial memory has the table's cells, and is part of one that has all the money
+pub record IsPartOfTable (w : Accounts) (p : Part) : Type 0 where
+  pub fits : length p.known ≡ cell_count w
+  pub memory : ℕ → ℕ
+  pub money : HasAllMoney w memory
+  pub part : (a v : ℕ) → a < cell_count w → newest_at p a ≡ Some v → memory a ≡ v
