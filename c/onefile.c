@@ -1,91 +1,22 @@
 /* onefile.c: the C side of the library. It tests what the proved functions can't test: that no
- * pointer is null, and that each slot is in one call at a time. A slot is taken by one atomic
- * exchange, so nobody waits. The slots of a memory and of its callers are always those of one
- * onefile_memory, and the memory's slot is filled and emptied only while all slots of its callers
- * are taken and empty. So a caller that is held is one of the memory beside it. */
-#include "onefile.h"
-
-/* What of_c exports. An allocator takes no parameter in C, and a slice is a pointer and a length. */
-typedef struct pair {
-  onefile_slot memory;
-  onefile_slot caller;
-} pair;
-
-uint32_t of_c_open(uint32_t callers, uint32_t blocks, uint32_t limit, onefile_slot *memory);
-uint32_t of_c_reopen(onefile_slot *saved, onefile_slot *memory);
-uint32_t of_c_enrol(pair *both, uint32_t number);
-uint32_t of_c_leave(pair *both);
-uint32_t of_c_close(onefile_slot *memory, onefile_slot *saved);
-uint32_t of_c_free(onefile_slot *slot);
-uint32_t of_c_call(onefile_slot *caller, const uint64_t *words, size_t count, uint64_t steps,
-                   onefile_reply *reply);
-uint32_t of_c_call_text(onefile_slot *caller, const uint8_t *text, size_t length, uint64_t steps,
-                        onefile_reply *reply);
-uint32_t of_c_go_on(onefile_slot *caller, uint64_t steps, onefile_reply *reply);
-uint32_t of_c_register(onefile_slot *saved, uint32_t reg, uint32_t *value);
-uint32_t of_c_key(onefile_slot *saved, uint32_t key, uint32_t *value);
-uint32_t of_c_item(onefile_slot *saved, uint32_t queue, uint32_t at, uint32_t *value);
-uint32_t of_c_ticket(onefile_slot *saved, uint32_t number, uint32_t *ticket);
-uint32_t of_c_last_reply(onefile_slot *saved, uint32_t number, onefile_reply *reply);
-uint32_t of_c_image(onefile_slot *saved, uint8_t *buffer, size_t room, size_t *length);
-uint32_t of_c_from_image(const uint8_t *text, size_t length, onefile_slot *saved);
-
-_Static_assert(sizeof(onefile_slot) == 16, "a slot is as of_c has it");
-_Static_assert(sizeof(onefile_reply) == 6 * 4 + 8 + 32 * 4, "a reply is as of_c has it");
-
-static int claim(onefile_guarded *one) {
-  return __atomic_exchange_n(&one->busy, 1, __ATOMIC_SEQ_CST) == 0;
-}
-
-static void release(onefile_guarded *one) { __atomic_store_n(&one->busy, 0, __ATOMIC_SEQ_CST); }
-
-/* Takes both, or none. */
-static int claim_both(onefile_guarded *one, onefile_guarded *other) {
-  if (!claim(one)) return 0;
-  if (claim(other)) return 1;
-  release(one);
-  return 0;
-}
-
-static void release_callers(onefile_memory *memory, size_t count) {
-  while (count > 0) release(&memory->caller[--count]);
-}
-
-/* Takes the memory with all its callers, or nothing. */
-static int claim_all(onefile_memory *memory) {
-  if (!claim(&memory->memory)) return 0;
-  for (size_t i = 0; i < ONEFILE_MOST_CALLERS; i++) {
-    if (!claim(&memory->caller[i])) {
-      release_callers(memory, i);
-      release(&memory->memory);
-      return 0;
-    }
-  }
-  return 1;
-}
-
-static void release_all(onefile_memory *memory) {
-  release_callers(memory, ONEFILE_MOST_CALLERS);
-  release(&memory->memory);
-}
-
-/* Whether a caller is enrolled, if all are taken. */
-static int has_caller(const onefile_memory *memory) {
-  for (size_t i = 0; i < ONEFILE_MOST_CALLERS; i++) {
-    if (memory->caller[i].slot.state != 0) return 1;
-  }
-  return 0;
-}
+ * pointer is null, and that each slot is in one call at a time. The slots of a memory and of its
+ * callers are always those of one onefile_memory, and the memory's slot is filled and emptied only
+ * while all slots of its callers are taken and empty. So a caller that is held is one of the memory
+ * beside it. */
+#include "of_c.h"
+#include "slots.h"
 
 const char *onefile_version(void) { return ONEFILE_VERSION; }
 
 const char *onefile_name(int answer) {
   static const char *const names[] = {
-      "ONEFILE_DONE",      "ONEFILE_NULL",    "ONEFILE_BUSY",      "ONEFILE_EMPTY",
-      "ONEFILE_FULL",      "ONEFILE_NO_MEMORY", "ONEFILE_RANGE",   "ONEFILE_TAKEN",
-      "ONEFILE_CALL_OPEN", "ONEFILE_NO_CALL", "ONEFILE_STOPPED",   "ONEFILE_SPENT",
-      "ONEFILE_NO_TICKET", "ONEFILE_NO_SCRIPT", "ONEFILE_IN_USE",  "ONEFILE_ABSENT",
-      "ONEFILE_NO_ROOM",   "ONEFILE_NO_IMAGE"};
+      "ONEFILE_DONE",        "ONEFILE_NULL",        "ONEFILE_BUSY",     "ONEFILE_EMPTY",
+      "ONEFILE_FULL",        "ONEFILE_NO_MEMORY",   "ONEFILE_RANGE",    "ONEFILE_TAKEN",
+      "ONEFILE_CALL_OPEN",   "ONEFILE_NO_CALL",     "ONEFILE_STOPPED",  "ONEFILE_SPENT",
+      "ONEFILE_NO_TICKET",   "ONEFILE_NO_SCRIPT",   "ONEFILE_IN_USE",   "ONEFILE_ABSENT",
+      "ONEFILE_NO_ROOM",     "ONEFILE_NO_IMAGE",    "ONEFILE_BAD_FILE", "ONEFILE_NO_FILE",
+      "ONEFILE_FILE_EXISTS", "ONEFILE_FILE_IN_USE", "ONEFILE_TORN",     "ONEFILE_NO_SPACE",
+      "ONEFILE_SYSTEM"};
   return answer >= 0 && (size_t)answer < sizeof names / sizeof *names ? names[answer]
                                                                       : "ONEFILE_?";
 }
@@ -119,7 +50,7 @@ int onefile_enrol(onefile_memory *memory, uint32_t number) {
   if (number >= ONEFILE_MOST_CALLERS) return ONEFILE_RANGE;
   onefile_guarded *caller = &memory->caller[number];
   if (!claim_both(&memory->memory, caller)) return ONEFILE_BUSY;
-  pair both = {memory->memory.slot, caller->slot};
+  of_c_pair both = {memory->memory.slot, caller->slot};
   uint32_t answer = of_c_enrol(&both, number);
   memory->memory.slot = both.memory;
   caller->slot = both.caller;
@@ -133,7 +64,7 @@ int onefile_leave(onefile_memory *memory, uint32_t number) {
   if (number >= ONEFILE_MOST_CALLERS) return ONEFILE_RANGE;
   onefile_guarded *caller = &memory->caller[number];
   if (!claim_both(&memory->memory, caller)) return ONEFILE_BUSY;
-  pair both = {memory->memory.slot, caller->slot};
+  of_c_pair both = {memory->memory.slot, caller->slot};
   uint32_t answer = of_c_leave(&both);
   memory->memory.slot = both.memory;
   caller->slot = both.caller;

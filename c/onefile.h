@@ -7,8 +7,9 @@
  * onefile_saved, and a memory can go on from there.
  *
  * Objects. onefile_memory and onefile_saved are structs of yours. Set one to ONEFILE_NONE before
- * you use it first. Then it is empty. onefile_open and onefile_reopen fill a memory, onefile_close
- * fills a saved one. onefile_free and onefile_free_saved let go what is held, and leave it empty.
+ * you use it first. Then it is empty. onefile_open and onefile_reopen fill a memory, as do
+ * onefile_open_file and onefile_reopen_file; onefile_close fills a saved one. onefile_free and
+ * onefile_free_saved let go what is held, and leave it empty.
  *
  * Answers. A function answers ONEFILE_DONE or the code of a refusal. After a refusal nothing has
  * changed, if the function does not say otherwise here.
@@ -22,7 +23,7 @@
  * Threads. Any thread may call any function on any object at any time. Calls of different callers
  * run at once. Two calls of one caller do not: the second one is answered ONEFILE_BUSY, and
  * nobody waits. onefile_enrol and onefile_leave take the memory and the one caller.
- * onefile_open, onefile_reopen, onefile_close and onefile_free take the memory with all its callers.
+ * The others on memories, as onefile_open and onefile_close, take the memory with all its callers.
  *
  * What you must ensure, since it can't be tested:
  *   - A pointer that is not null points to as much as its type, or the length beside it, says. While
@@ -32,7 +33,8 @@
  *   - malloc, realloc and free belong together, and malloc aligns to 16.
  *   - No function is called in a signal handler, nor in the forked child of a process with threads.
  *
- * What is kept is in the process. To keep it longer, write the text that onefile_image gives.
+ * What is kept is in the process. To keep it longer, write the text that onefile_image gives, or
+ * open the memory in a file.
  */
 #ifndef ONEFILE_H
 #define ONEFILE_H
@@ -53,23 +55,30 @@ const char *onefile_version(void);
 
 enum {
   ONEFILE_DONE = 0,
-  ONEFILE_NULL = 1,       /* a pointer is null */
-  ONEFILE_BUSY = 2,       /* another call has the object or the caller */
-  ONEFILE_EMPTY = 3,      /* the object is empty, or no caller is enrolled with this number */
-  ONEFILE_FULL = 4,       /* the object that is to be filled is not empty */
-  ONEFILE_NO_MEMORY = 5,  /* malloc gave none */
-  ONEFILE_RANGE = 6,      /* a number is out of its range */
-  ONEFILE_TAKEN = 7,      /* a caller is enrolled with this number */
-  ONEFILE_CALL_OPEN = 8,  /* a call of the caller is open */
-  ONEFILE_NO_CALL = 9,    /* no call of the caller is open */
-  ONEFILE_STOPPED = 10,   /* the steps that were given are made; the call stays open */
-  ONEFILE_SPENT = 11,     /* no sequence is left; the call is over, and changed nothing */
-  ONEFILE_NO_TICKET = 12, /* the caller has made all calls that it may make, 2^32 - 1 */
-  ONEFILE_NO_SCRIPT = 13, /* the words or the text are no script */
-  ONEFILE_IN_USE = 14,    /* a caller has not left */
-  ONEFILE_ABSENT = 15,    /* there is no such key, item or call */
-  ONEFILE_NO_ROOM = 16,   /* the buffer is too short for the text */
-  ONEFILE_NO_IMAGE = 17   /* the text is no image */
+  ONEFILE_NULL = 1,         /* a pointer is null */
+  ONEFILE_BUSY = 2,         /* another call has the object or the caller */
+  ONEFILE_EMPTY = 3,        /* the object is empty, or no caller is enrolled with this number */
+  ONEFILE_FULL = 4,         /* the object that is to be filled is not empty */
+  ONEFILE_NO_MEMORY = 5,    /* malloc gave none */
+  ONEFILE_RANGE = 6,        /* a number is out of its range */
+  ONEFILE_TAKEN = 7,        /* a caller is enrolled with this number */
+  ONEFILE_CALL_OPEN = 8,    /* a call of the caller is open */
+  ONEFILE_NO_CALL = 9,      /* no call of the caller is open */
+  ONEFILE_STOPPED = 10,     /* the steps that were given are made; the call stays open */
+  ONEFILE_SPENT = 11,       /* no sequence is left; the call is over, and changed nothing */
+  ONEFILE_NO_TICKET = 12,   /* the caller has made all calls that it may make, 2^32 - 1 */
+  ONEFILE_NO_SCRIPT = 13,   /* the words or the text are no script */
+  ONEFILE_IN_USE = 14,      /* a caller has not left */
+  ONEFILE_ABSENT = 15,      /* there is no such key, item or call */
+  ONEFILE_NO_ROOM = 16,     /* the buffer is too short for the text */
+  ONEFILE_NO_IMAGE = 17,    /* the text is no image */
+  ONEFILE_BAD_FILE = 18,    /* the file holds no memory, or what it holds is spoilt */
+  ONEFILE_NO_FILE = 19,     /* there is no file or no folder with this name */
+  ONEFILE_FILE_EXISTS = 20, /* there is a file with this name */
+  ONEFILE_FILE_IN_USE = 21, /* a memory is open in the file, of this process or of another one */
+  ONEFILE_TORN = 22,        /* the machine stopped while a memory was open in the file */
+  ONEFILE_NO_SPACE = 23,    /* the disk is full */
+  ONEFILE_SYSTEM = 24       /* the system refused something else: errno says why */
 };
 
 /* The name of an answer, as "ONEFILE_DONE". "ONEFILE_?" if there is no such answer. */
@@ -142,6 +151,39 @@ int onefile_close(onefile_memory *memory, onefile_saved *saved);
 /* Lets go the memory and all its callers. Nothing is saved.
  * EMPTY. */
 int onefile_free(onefile_memory *memory);
+
+/* ---- Memories in a file, on Linux.
+ *
+ * Such a memory has its words in a file that is mapped. So it survives the death of its process at
+ * any moment: the next process finds every call that was answered, each once, and of each caller at
+ * most the open call besides. It does not survive the death of the machine: no call waits for the
+ * disk. If the machine stops while the memory is open, the file is ONEFILE_TORN.
+ *
+ * A file has one memory at a time, and is locked meanwhile. onefile_close and onefile_free let it
+ * go, and it is marked as closed once the disk has all of it. These calls wait for one another, and
+ * for the two below. A process has at most 64 such files: ONEFILE_NO_MEMORY answers one more.
+ *
+ * Reopening makes a new file, PATH.new, which gets the name PATH once the memory is open in it. The
+ * old file is not written. So PATH.new is the library's: what is there goes.
+ *
+ * You must ensure besides:
+ *   - The path ends in a zero byte, and the file is on a disk of this machine or in its memory.
+ *   - While the memory is open nobody else writes, cuts off, renames or removes the file.
+ *   - A forked child uses no memory that was opened in a file before. It may let it go. */
+
+/* Makes a file with this name and fills `memory` with an empty memory in it, as onefile_open does.
+ * FULL, RANGE, FILE_EXISTS, NO_FILE, NO_SPACE, SYSTEM; FILE_IN_USE if another process makes it. */
+int onefile_open_file(onefile_memory *memory, const char *path, uint32_t callers, uint32_t blocks,
+                      uint32_t limit);
+
+/* Fills `memory` with one that goes on from the file, in a new file with this name. No call that is
+ * held there runs again. The sequences begin anew, so each life has all of them up to `limit`:
+ * `seq` of a reply says nothing beyond its life, and `ticket` does. What was found is kept in
+ * `saved`, if that is not null: onefile_last_reply tells what the last call of each caller came to.
+ * FULL, also if `saved` is not empty; RANGE if there is no such limit; NO_FILE, FILE_IN_USE,
+ * BAD_FILE, TORN, NO_SPACE, SYSTEM. */
+int onefile_reopen_file(onefile_memory *memory, const char *path, uint32_t limit,
+                        onefile_saved *saved);
 
 /* ---- Calls. */
 

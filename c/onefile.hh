@@ -1,0 +1,124 @@
+// onefile.hh: onefile.h for C++17, as bank.cc and jobs.cc use it. Memories, callers and what was
+// saved let go what they hold when their scope ends. They cannot be copied or moved. An answer that
+// is not wanted is thrown.
+#ifndef ONEFILE_HH
+#define ONEFILE_HH
+
+#include "onefile.h"
+
+#include <stdexcept>
+#include <string>
+#include <vector>
+
+namespace onefile {
+
+// An answer that is not wanted.
+class refusal : public std::runtime_error {
+ public:
+  explicit refusal(int answer) : std::runtime_error(onefile_name(answer)), answer(answer) {}
+  const int answer;
+};
+
+inline void expect(int answer, int wanted = ONEFILE_DONE) {
+  if (answer != wanted) throw refusal(answer);
+}
+
+using script = std::vector<uint64_t>;
+
+class saved;
+
+class memory {
+ public:
+  memory(uint32_t callers, uint32_t blocks, uint32_t limit = ONEFILE_GREATEST_LIMIT) {
+    expect(onefile_open(&held, callers, blocks, limit));
+  }
+  explicit memory(saved &from);
+  memory(const memory &) = delete;
+  memory &operator=(const memory &) = delete;
+  ~memory() { onefile_free(&held); }
+
+  onefile_memory held = ONEFILE_NONE;
+};
+
+// A caller that is enrolled; it leaves when its scope ends.
+class caller {
+ public:
+  caller(memory &of, uint32_t number) : of(of), number(number) {
+    expect(onefile_enrol(&of.held, number));
+  }
+  caller(const caller &) = delete;
+  caller &operator=(const caller &) = delete;
+  ~caller() { onefile_leave(&of.held, number); }
+
+  onefile_reply call(const script &words) {
+    onefile_reply reply{};
+    expect(onefile_call(&of.held, number, words.data(), words.size(), &reply));
+    return reply;
+  }
+
+  // Runs a script that is stopped after so many steps.
+  onefile_reply stop_in(const script &words, uint64_t steps) {
+    onefile_reply reply{};
+    expect(onefile_call_within(&of.held, number, words.data(), words.size(), steps, &reply),
+           ONEFILE_STOPPED);
+    return reply;
+  }
+
+ private:
+  memory &of;
+  uint32_t number;
+};
+
+class saved {
+ public:
+  // What a memory holds that all callers have left. The memory is empty then.
+  explicit saved(memory &of) { expect(onefile_close(&of.held, &held)); }
+  // What an image holds.
+  explicit saved(const std::string &text) {
+    expect(onefile_from_image(&held, text.data(), text.size()));
+  }
+  saved(const saved &) = delete;
+  saved &operator=(const saved &) = delete;
+  ~saved() { onefile_free_saved(&held); }
+
+  uint32_t reg(uint32_t number) {
+    uint32_t value = 0;
+    expect(onefile_register(&held, number, &value));
+    return value;
+  }
+
+  // Whether a key has this value.
+  bool has(uint32_t key, uint32_t value) {
+    uint32_t found = 0;
+    int answer = onefile_key(&held, key, &found);
+    if (answer != ONEFILE_ABSENT) expect(answer);
+    return answer == ONEFILE_DONE && found == value;
+  }
+
+  uint32_t ticket(uint32_t number) {
+    uint32_t value = 0;
+    expect(onefile_ticket(&held, number, &value));
+    return value;
+  }
+
+  onefile_reply last_reply(uint32_t number) {
+    onefile_reply reply{};
+    expect(onefile_last_reply(&held, number, &reply));
+    return reply;
+  }
+
+  std::string image() {
+    size_t length = 0;
+    expect(onefile_image(&held, nullptr, 0, &length), ONEFILE_NO_ROOM);
+    std::string text(length, ' ');
+    expect(onefile_image(&held, text.data(), length, &length));
+    return text;
+  }
+
+  onefile_saved held = ONEFILE_NONE;
+};
+
+inline memory::memory(saved &from) { expect(onefile_reopen(&held, &from.held)); }
+
+}  // namespace onefile
+#endif

@@ -1,0 +1,54 @@
+/* slots.h: how the files of the library's C side take a memory or what was saved. Each is taken by
+ * one atomic exchange, so nobody waits. Private to the library. */
+#ifndef ONEFILE_SLOTS_H
+#define ONEFILE_SLOTS_H
+
+#include "onefile.h"
+
+static inline int claim(onefile_guarded *one) {
+  return __atomic_exchange_n(&one->busy, 1, __ATOMIC_SEQ_CST) == 0;
+}
+
+static inline void release(onefile_guarded *one) {
+  __atomic_store_n(&one->busy, 0, __ATOMIC_SEQ_CST);
+}
+
+/* Takes both, or none. */
+static inline int claim_both(onefile_guarded *one, onefile_guarded *other) {
+  if (!claim(one)) return 0;
+  if (claim(other)) return 1;
+  release(one);
+  return 0;
+}
+
+static inline void release_callers(onefile_memory *memory, size_t count) {
+  while (count > 0) release(&memory->caller[--count]);
+}
+
+/* Takes the memory with all its callers, or nothing. */
+static inline int claim_all(onefile_memory *memory) {
+  if (!claim(&memory->memory)) return 0;
+  for (size_t i = 0; i < ONEFILE_MOST_CALLERS; i++) {
+    if (!claim(&memory->caller[i])) {
+      release_callers(memory, i);
+      release(&memory->memory);
+      return 0;
+    }
+  }
+  return 1;
+}
+
+static inline void release_all(onefile_memory *memory) {
+  release_callers(memory, ONEFILE_MOST_CALLERS);
+  release(&memory->memory);
+}
+
+/* Whether a caller is enrolled, if all are taken. */
+static inline int has_caller(const onefile_memory *memory) {
+  for (size_t i = 0; i < ONEFILE_MOST_CALLERS; i++) {
+    if (memory->caller[i].slot.state != 0) return 1;
+  }
+  return 0;
+}
+
+#endif
