@@ -132,3 +132,8 @@ line_same l m p q e = some_is l m (sym (line_again l p) ∙ ap read_words e ∙ 
 pub named_spells : (o : Option ImageLine) (name : List ℕ) (ws : List (List ℕ)) → o ≡ line_named name ws → is_skipped (name ∷ ws) ≡ false → MatchOption o (SpellsNoLine image_language (name ∷ ws)) (SpellsLine image_language (name ∷ ws))
 named_spells None name ws e kept = record { kept = kept; none = λ l range is. let k = e ∙ ap read_words is ∙ line_again l range in cc }
 named_spells (Some l) name ws e kept = let t = line_takes name ws l (sym e) in record { kept = kept; words = t.words; range = t.range }
+
+-- what is read of the words after `cell`
+pub cell_spells : (o : Option ImageLine) (ws : List (List ℕ)) → o ≡ cell_line_of ws → MatchOption o (SpellsNoLine image_language (codes "cell" ∷ ws)) (SpellsLine image_language (codes "cell" ∷ ws))
+unfolding line_named
+cell_spells o ws e = named_spells o (codes "cell") ws e refl

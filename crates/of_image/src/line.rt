@@ -1,6 +1,6 @@
 //! One line of an image.
 
-ghost use Rattle.std.specs.Prelude.{◌≡◌, ◌≤◌};
+ghost use Rattle.std.specs.Prelude.{◌≡◌, ◌≤◌, ◌∷◌, IfSome, codes};
 ghost use Rattle.of_script.specs.Text.{text_words};
 ghost use Rattle.of_script.specs.Reading.{at_end_of_words};
 ghost use Rattle.of_image.specs.ImageReading.{image_title_line, cell_line_of, line_named, line_with_count, IsReadAs};
@@ -65,6 +65,7 @@ fn blocks(bytes: &[u8]) -> Option<ImageLine>
     end_of(ImageLine::Blocks { count }, rest)
 }
 
+#[inline(always)]
 fn cell(bytes: &[u8]) -> Option<ImageLine>
     ensures { result ≡ cell_line_of (text_words bytes.now) }
 {
@@ -97,8 +98,10 @@ fn named(name: &[u8], rest: &[u8]) -> Option<ImageLine>
     None
 }
 
-/// What a line says.
-pub(crate) fn read_line(line: &[u8]) -> ReadLine
+// What a line of any kind says.
+#[cold]
+#[inline(never)]
+fn read_any(line: &[u8]) -> ReadLine
     ensures { IsReadAs (text_words line.now) result }
 {
     let Some((first, rest)) = word(line) else {
@@ -108,6 +111,31 @@ pub(crate) fn read_line(line: &[u8]) -> ReadLine
         return ReadLine::Skipped;
     }
     match named(first, rest) {
+        Some(line) => ReadLine::Line { line },
+        None => ReadLine::Bad,
+    }
+}
+
+// The bytes after the first word, if that is `cell` and a space follows.
+fn after_cell(line: &[u8]) -> Option<&[u8]>
+    ensures { IfSome result (λ rest. text_words line.now ≡ codes "cell" ∷ text_words rest.now) }
+{
+    if line.len() < 5 || &line[..5] != b"cell ".as_slice() {
+        return None;
+    }
+    let (_, rest) = line.split_at(4);
+    Some(rest)
+}
+
+/// What a line says. Most lines of an image are cells, so these are tried first.
+#[inline(always)]
+pub(crate) fn read_line(line: &[u8]) -> ReadLine
+    ensures { IsReadAs (text_words line.now) result }
+{
+    let Some(rest) = after_cell(line) else {
+        return read_any(line);
+    };
+    match cell(rest) {
         Some(line) => ReadLine::Line { line },
         None => ReadLine::Bad,
     }

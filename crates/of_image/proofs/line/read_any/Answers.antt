@@ -4,7 +4,7 @@ use Rattle.of_plan.proofs.LineLaws.{not_skipped}
 use Rattle.of_plan.specs.Reader.{SpellsLine, SpellsNoLine}
 use Rattle.of_image.specs.ImageReading.{image_language}
 use Rattle.of_image.proofs.ImageLines.{named_spells}
-use Rattle.of_image.proofs.line.read_line.Goals as goal
+use Rattle.of_image.proofs.line.read_any.Goals as goal
 
 pub returns-in-Some-named : goal.returns-in-Some-named
 returns-in-Some-named c = subst (λ (ws : List (List ℕ)). SpellsLine image_language ws c.in-Some-named.line) (sym c.in-Some.ensures.words)
