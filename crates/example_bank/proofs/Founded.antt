@@ -1,5 +1,5 @@
 -- What is saved after the founding script alone.
-use Rattle.std.proofs.Common.{◌≡◌, ℕ, zero, suc, ◌+◌, ◌<◌, List, [], ◌∷◌, get_or, Ok, refl, subst, ◌∙◌, arith}
+use Rattle.std.proofs.Common.{◌≡◌, ℕ, zero, suc, ◌<◌, List, [], ◌∷◌, get_or, Ok, refl, subst, ◌∙◌, arith}
 use Rattle.of_script.specs.declared.instr.Instr.{Instr}
 use Rattle.of_store.specs.Store.{empty_store, last_store}
 use Rattle.of_store.specs.Replies.{reply_value_of}
