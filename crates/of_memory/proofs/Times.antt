@@ -57,7 +57,7 @@ next_call r L n c k m a b z told s same rest some =
     subst (λ (i : ℕ). calls_begun_in (events_known_to c) i ≤ length (ended_of c)) (same ∙ s.number)
     (next_of (setup_at scripts_meaning r) L (start_of_row r) m (sight_of c) a (caller_call k) (sight_of k) b z told (kept_idle r c s.caller rest) some)
 
--- an open call that has made no step is kept by none
+-- a caller keeps no open call that has made no step
 pub kept_fresh : (r : Row Scripts) (n : ℕ) (c : Caller Scripts) → Serves r n c → (caller_call c).steps ≡ 0 → is_idle (last_caller (sight_of c).kept).machine.place ≡ false → ⊥
 kept_fresh r n c s none opened =
     let is = s.caller in

@@ -86,13 +86,13 @@ HasStarted (Err (NoneLeft seq)) = Unit {0}
 HasStarted (Err Open) = ⊥
 HasStarted (Err NoTicket) = ⊥
 
--- the caller of this number, which has made these calls, began no other before the call, as far as
--- it knew then; so it is of a call that has made a step
+-- Before a call that has made a step, the caller of this number knew of no call of its number but
+-- those that have ended.
 abbrev pub BeginsAsNext : (number : ℕ) → Result Answer RunErr → Caller Scripts → Type 0
 BeginsAsNext n result c =
     HasStarted result → calls_begun_in (events_known_to c) n ≤ length (ended_of c)
 
--- so it is of an open call that had made no step, when it goes on
+-- the same of an open call that had made no step, when it goes on
 abbrev pub ResumesAsNext : (number : ℕ) → Result Answer RunErr → Caller Scripts → Type 0
 ResumesAsNext n result c = (caller_call c).steps ≡ 0 → BeginsAsNext n result c
 

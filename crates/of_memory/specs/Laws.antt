@@ -76,8 +76,8 @@ TellsLast S B C h n =
     ⊎ ((e : HistoryEntry) × HasEntry h e × (e.caller ≡ n) × (e.ticket ≡ done_before S C n)
     × HoldsReplyAt C n e.reply)
 
--- the history respects the time between the first x calls of n and those of k after its first y,
--- where these events know of it
+-- the history has calls in the order in which these events have them: those that had ended come
+-- before those that had not begun
 abbrev pub RespectsEvents : Setup → TableStart → List Event → List HistoryEntry → Type 0
 RespectsEvents S B es h =
     (n x k y : ℕ) → EndBefore S B es n x k y

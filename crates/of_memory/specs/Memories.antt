@@ -70,7 +70,7 @@ pub record HasOpenOf (m : Memory) (n : ℕ) (script : List Instr) : Type 0 where
   pub opened : IsOpenAt script caller
 
 -- no handle of number j is out, and it knows that the first x calls of number n had ended before
--- number k began a call after its first y
+-- number k began any call but its first y
 pub record HasOrderOf (m : Memory) (j n x k y : ℕ) : Type 0 where
   pub caller : Caller Scripts
   pub here : get_or m.callers.items j None ≡ Some caller
@@ -98,7 +98,7 @@ abbrev pub OthersStayOpen : ℕ → (before now : Memory) → Type 0
 OthersStayOpen n m k =
     (i : ℕ) (script : List Instr) → i ≢ n → HasOpenOf m i script → HasOpenOf k i script
 
--- nor is an order forgotten that they knew
+-- they know each order that they knew
 abbrev pub OthersKnowOrder : ℕ → (before now : Memory) → Type 0
 OthersKnowOrder i m l =
     (j n x k y : ℕ) → j ≢ i → HasOrderOf m j n x k y → HasOrderOf l j n x k y

@@ -109,7 +109,7 @@ abbrev pub KeepsThose : List (Option (Caller Scripts)) → (count : ℕ) → Lis
 KeepsThose cs count xs =
     (n : ℕ) (c : Caller Scripts) → n < count → get_or cs n None ≡ Some c → KeepsSo n (IsKeptOf c) xs
 
--- what each caller knows that stands at a place below the count is how these events begin
+-- the events that are known to each caller at a place below the count are how these events begin
 abbrev pub KnowsPasts : List (Option (Caller Scripts)) → (count : ℕ) → List Event → Type 0
 KnowsPasts cs count es =
     (n : ℕ) (c : Caller Scripts) → n < count → get_or cs n None ≡ Some c

@@ -22,21 +22,21 @@ use Rattle.of_memory.specs.Handles.{home_of, number_of_handle, caller_of, calls_
 use Rattle.of_memory.specs.Handles.{HasMade, HasOpen}
 use Rattle.of_memory.specs.Memories.{IsFrom, StartsWith, HasOrderOf, HasHistory, LeadsTo, tickets_before}
 
--- it knows that so many first calls of a number, since the memory was opened, have ended
+-- it knows that the first `count` calls of a number since the memory was opened have ended
 abbrev pub HasHeardOf : Handle → (number count : ℕ) → Type 0
 HasHeardOf h n count =
     count
     ≤ calls_ended_in (setup_at scripts_meaning (home_of h)) (start_of_row (home_of h))
     (events_known_to (caller_of h)) n
 
--- it knows that the first x calls of number n had ended before number k began a call after its
+-- it knows that the first x calls of number n had ended before number k began any call but its
 -- first y
 abbrev pub KnowsOrder : Handle → (n x k y : ℕ) → Type 0
 KnowsOrder h n x k y =
     EndBefore (setup_at scripts_meaning (home_of h)) (start_of_row (home_of h))
     (events_known_to (caller_of h)) n x k y
 
--- all that it has heard of it has heard of still, and each order that it knew it knows
+-- it still knows which calls had ended, and each order that it knew
 pub record KeepsKnown (before now : Handle) : Type 0 where
   pub heard : (n count : ℕ) → HasHeardOf before n count → HasHeardOf now n count
   pub order : (n x k y : ℕ) → KnowsOrder before n x k y → KnowsOrder now n x k y
@@ -61,7 +61,7 @@ pub record IsNews (r : Row Scripts) (a : News) : Type 0 where
   pub row : IsRowPass r a.pass
   pub nobody : KeepsNobody a.pass
 
--- it tells that so many first calls of a number have ended
+-- it tells that the first `count` calls of a number have ended
 abbrev pub TellsOf : Row Scripts → News → (number count : ℕ) → Type 0
 TellsOf r a n count =
     count ≤ calls_ended_in (setup_at scripts_meaning r) (start_of_row r) (events_told a) n
@@ -81,13 +81,13 @@ HearsAll a h = (n count : ℕ) → TellsOf (home_of h) a n count → HasHeardOf 
 
 -- ---- a call
 
--- a call that has made a step began after all calls that the handle had heard of had ended
+-- the calls that the handle had heard of had ended before its call began, if that has made a step
 abbrev pub BeginsAfterHeard : Result Answer RunErr → (before now : Handle) → Type 0
 BeginsAfterHeard result h k =
     HasStarted result → (ms : List Made) → HasMade h ms → (n count : ℕ) → HasHeardOf h n count
     → KnowsOrder k n count (number_of_handle h) (length ms)
 
--- so it is of an open call that had made no step, when it goes on
+-- the same of an open call that had made no step, when it goes on
 abbrev pub ResumesAfterHeard : Result Answer RunErr → (before now : Handle) → Type 0
 ResumesAfterHeard result h k = steps_so_far h ≡ 0 → BeginsAfterHeard result h k
 

@@ -15,8 +15,8 @@ calls_ended_in S B es n = length (outcomes S (first_of S B) es n)
 abbrev pub calls_begun_in : List Event → (n : ℕ) → ℕ
 calls_begun_in es n = length (operations_begun es n)
 
--- the first x calls of caller n have ended before a call of caller k after its first y begins: there
--- is a moment between them in the events
+-- the first x calls of caller n have ended before caller k begins any call but its first y: there is
+-- a moment between these in the events
 pub record EndBefore (S : Setup) (B : TableStart) (es : List Event) (n x k y : ℕ) : Type 0 where
   pub moment : List Event
   pub early : IsPrefix moment es
