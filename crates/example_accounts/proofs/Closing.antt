@@ -1,10 +1,9 @@
 -- What recovery finds in the words of a closed table.
-use Rattle.std.proofs.Common.{◌≡◌, ℕ, ◌+◌, ◌-◌, ◌*◌, ◌≤◌, ◌<◌, refl, sym, ◌∙◌, ap, subst, arith, List, length, get_or, map, take, drop, replicate, false, length-take-le}
+use Rattle.std.proofs.Common.{◌≡◌, ℕ, ◌+◌, ◌-◌, ◌≤◌, ◌<◌, sym, ◌∙◌, ap, subst, arith, List, length, get_or, map, drop, replicate, length-take-le}
 use Rattle.std.specs.Prelude.{slice_range, slice_index}
 use Rattle.std.proofs.lemmas.List.{get_or-take, get_or-drop, get_or-map, length-drop, length-map, length-replicate, get_or-replicate, ext_get_or}
 use Rattle.of_cell.specs.Words.{payload_of}
 use Rattle.of_cell.specs.Cells.{data_cell, durable_cells, table_words}
-use Rattle.of_cell.specs.declared.word.TheConstants.{GREATEST_LIMIT}
 use Rattle.of_mem.specs.declared.work.TheConstants.{MOST_INSTRS}
 use Rattle.of_mem.specs.ProgramWork.{memory_of}
 use Rattle.of_recover.specs.Recovered.{recovered_words, recovered_data, RecoversData}
@@ -23,7 +22,7 @@ use Rattle.of_row.specs.Rows.{key_of, setup_at, row_start, view_of_pass, IsRowPa
 use Rattle.of_row.specs.Passes.{ClosesWith}
 use Rattle.of_row.specs.Moments.{StopsLoseNothing, LosesNothing, words_alone}
 use Rattle.example_accounts.specs.declared.accounts.Accounts.{Accounts}
-use Rattle.example_accounts.specs.Accounts.{account_cell, cell_count, flipped, balance_in}
+use Rattle.example_accounts.specs.Accounts.{account_cell, flipped, balance_in}
 use Rattle.example_accounts.specs.Meaning.{accounts_meaning, LawfulCells}
 use Rattle.example_accounts.specs.Days.{setup_with, IsOpened, HoldsDay, balance_after}
 
@@ -101,6 +100,7 @@ module _ (r : Row Accounts) (opened : IsOpened r) (p : Pass) (ws : List ℕ) (cl
       money = starts.may_start.lawful;
       calls = lost.order;
       history = subst (λ xs. CallsHaveReplies (accounts_meaning w) xs lost.order) (zeros_paid S.cells) lost.linearizes.legal;
+      order = lost.linearizes.rising;
       balances = balances;
       kept_calls = lost.explained meets.seat (view_of_pass p) meets.view seat.2;
     })

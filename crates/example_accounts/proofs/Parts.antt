@@ -1,5 +1,5 @@
 -- An operation on partial memory.
-use Rattle.std.proofs.Common.{◌≡◌, ℕ, ◌+◌, ◌-◌, ◌<◌, ◌≤◌, inl, inr, refl, sym, ◌∙◌, ap, subst, arith, true, Some, None, List, [], length, get_or, Option}
+use Rattle.std.proofs.Common.{◌≡◌, ℕ, ◌+◌, ◌-◌, ◌<◌, ◌≤◌, inl, inr, sym, ◌∙◌, ap, subst, arith, true, Some, None, List, [], length, get_or}
 use Rattle.std.proofs.lemmas.Bool.{cases_eq}
 use Rattle.of_mem.specs.declared.work.RawReply.{RawReply}
 use Rattle.of_mem.specs.Part.{Part, newest_at, write, newer_of, overlaid}
@@ -14,29 +14,27 @@ use Rattle.of_mem.proofs.Sounds.{part_fresh}
 use Rattle.example_accounts.specs.declared.accounts.Accounts.{Accounts}
 use Rattle.example_accounts.specs.Accounts.{first_cell, account_cell, cell_count, flipped, balance_in, transferring}
 use Rattle.example_accounts.specs.Meaning.{accounts_meaning, LawfulCells, IsPartOfTable}
-use Rattle.example_accounts.specs.Money.{balance_below}
+use Rattle.example_accounts.specs.Money.{with_balance, balance_below}
 use Rattle.example_accounts.specs.Sound.{taken, good}
 
--- what the other account has then, and the amount, are no more than all the money
+-- where the partial memory after a write has a number, so has the memory that it is part of
+wrote_table : (w : Accounts) (p : Part) (t : IsPartOfTable w p) (a v b y : ℕ) → b < cell_count w → newest_at (write p a v) b ≡ Some y → with_value t.memory a v b ≡ y
+wrote_table w p t a v b y l e = elim (cases_eq b a) [
+  | inl q ↦ rw (q, changed_same t.memory a v) (let k : Some v ≡ Some y = sym (newest_same p a v) ∙ subst (λ x. newest_at (write p a v) x ≡ Some y) q e in cc)
+  | inr n ↦ changed_other t.memory a v b n ∙ t.part b y l (sym (newest_other p a v b n) ∙ e)
+]
+
+-- what the account x has from which the amount was taken, what the other one has then, and the amount are no more than all the money
 pub has_room : (w : Accounts) (p : Part) (from to amount x y : ℕ) → IsPartOfTable w p → from < w.accounts → to < w.accounts → newest_at p (account_cell w from) ≡ Some x → amount ≤ flipped w.money from x
     → newest_at (write p (account_cell w from) (flipped w.money from (flipped w.money from x - amount))) (account_cell w to) ≡ Some y → flipped w.money to y + amount ≤ w.money
 has_room w p from to amount x y t lf lt found enough then =
-    let is : t.memory (account_cell w from) ≡ x = t.part (account_cell w from) x (omega (arith, lf)) found in
-    let had : balance_in w t.memory from ≡ flipped w.money from x = ap (flipped w.money from) is in
-    let left : flipped w.money from (balance_in w t.memory from - amount) ≡ flipped w.money from (flipped w.money from x - amount) = ap (λ b. flipped w.money from (b - amount)) had in
+    let had : balance_in w t.memory from ≡ flipped w.money from x = ap (flipped w.money from) (t.part (account_cell w from) x (omega (arith, lf)) found) in
     let next = taken w t.memory from amount t.money lf (omega (arith, had, enough)) in
-    let low = balance_below w (with_value t.memory (account_cell w from) (flipped w.money from (balance_in w t.memory from - amount))) to w.accounts lt in
-    let there : balance_in w (with_value t.memory (account_cell w from) (flipped w.money from (balance_in w t.memory from - amount))) to ≡ flipped w.money to y = ap (flipped w.money to) (rw left (holds then)) in
-    omega (arith, next, low, there)
-  where
-    v : ℕ
-    v = flipped w.money from (flipped w.money from x - amount)
-
-    holds : newest_at (write p (account_cell w from) v) (account_cell w to) ≡ Some y → with_value t.memory (account_cell w from) v (account_cell w to) ≡ y
-    holds e = elim (cases_eq (account_cell w to) (account_cell w from)) [
-      | inl q ↦ rw (q, changed_same t.memory (account_cell w from) v) (let k : Some v ≡ Some y = sym (newest_same p (account_cell w from) v) ∙ subst (λ a. newest_at (write p (account_cell w from) v) a ≡ Some y) q e in cc)
-      | inr n ↦ changed_other t.memory (account_cell w from) v (account_cell w to) n ∙ t.part (account_cell w to) y (omega (arith, lt)) (sym (newest_other p (account_cell w from) v (account_cell w to) n) ∙ e)
-    ]
+    let left : ℕ → ℕ = with_balance w t.memory from (balance_in w t.memory from - amount) in
+    let is : left ≡ with_balance w t.memory from (flipped w.money from x - amount) = ap (λ b. with_balance w t.memory from (b - amount)) had in
+    let there : balance_in w left to ≡ flipped w.money to y =
+    ap (λ (m : ℕ → ℕ). balance_in w m to) is ∙ ap (flipped w.money to) (wrote_table w p t (account_cell w from) (flipped w.money from (flipped w.money from x - amount)) (account_cell w to) y (omega (arith, lt)) then) in
+    omega (arith, next, balance_below w left to w.accounts lt, there)
 
 gives : (x : RunEnd RawReply) (r : RawReply) (q : Part) → RunsAlike x (Ends r q) → walk_of_run (λ r. true) x ≡ Gives q.script r
 gives (Lacks a) r q h = absurd h

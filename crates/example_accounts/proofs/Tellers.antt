@@ -1,35 +1,24 @@
 -- Tellers: what they know of their calls, and their logs.
-use Rattle.std.proofs.Common.{◌≡◌, ℕ, zero, suc, ◌+◌, ◌≤◌, ◌<◌, ◌⊎◌, inl, inr, refl, sym, ◌∙◌, ap, subst, arith, List, [], ◌∷◌, ◌++◌, length, get_or, map, Ok, Err}
-use Rattle.std.specs.Prelude.{Result}
+use Rattle.std.proofs.Common.{◌≡◌, ℕ, ◌+◌, ◌≤◌, ◌⊎◌, inl, inr, sym, ◌∙◌, ap, subst, arith, List, [], ◌∷◌, ◌++◌, length, get_or, map}
 use Rattle.std.specs.List.{All}
 use Rattle.std.proofs.lemmas.List.{get_or-map, length-map}
 use Rattle.std.proofs.lemmas.List.Elements.{All-cons}
-use Rattle.of_core.specs.declared.place.Outcome.{Outcome}
-use Rattle.of_core.specs.declared.place.Outcome.TheVariants.{Spent as Over}
-use Rattle.of_core.specs.Table.{Setup}
-use Rattle.of_core.specs.Machine.{Call, CallState}
-use Rattle.of_core.specs.TableMoment.{TableStart}
+use Rattle.of_core.specs.Machine.{Call}
 use Rattle.of_core.specs.Events.{zero_start, start_ticket}
 use Rattle.of_core.specs.Linear.{ExplainsOutcome}
 use Rattle.of_row.specs.declared.member.Member.{Member}
 use Rattle.of_row.specs.declared.member.Pass.{Pass}
 use Rattle.of_row.specs.declared.row.Row.{Row}
 use Rattle.of_row.specs.Views.{EndedCall, KnownCaller, View, Each, last_caller, no_ended}
-use Rattle.of_row.specs.Rule.{IsAsked, done_before, outcome_at, ended_operation_at}
+use Rattle.of_row.specs.Rule.{IsAsked, done_before}
 use Rattle.of_row.specs.Rows.{view_of_pass, view_of_member, number_of_member}
 use Rattle.of_row.specs.Passes.{IsFirst, HasEnrolled}
 use Rattle.of_row.specs.Moments.{ExplainsEndedCalls}
-use Rattle.of_caller.specs.declared.caller.Caller.{Caller}
-use Rattle.of_caller.specs.declared.caller.CallErr.{CallErr}
-use Rattle.of_caller.specs.declared.caller.CallErr.TheVariants.{Stopped, Spent}
-use Rattle.of_caller.specs.Callers.{IsCaller, sight_of}
-use Rattle.of_caller.specs.CallsTold.{TellsCall, TellsResult}
 use Rattle.example_accounts.specs.declared.accounts.Accounts.{Accounts}
-use Rattle.example_accounts.specs.declared.teller.Answer.{Answer}
 use Rattle.example_accounts.specs.declared.teller.Teller.{Teller}
 use Rattle.example_accounts.specs.declared.day.Log.{Log}
 use Rattle.example_accounts.specs.Meaning.{accounts_meaning}
-use Rattle.example_accounts.specs.Days.{setup_with, Serves, Enrols, ended_of, ended_call, IsLogged, AreLogged, HasLog, no_answer}
+use Rattle.example_accounts.specs.Days.{setup_with, Serves, Enrols, ended_call, IsLogged, AreLogged, HasLog, no_answer}
 
 -- ---- numbers
 
@@ -62,35 +51,6 @@ enrols_next r n before member now h e = record {
     high : (m : ℕ) → IsAsked m (view_of_pass before).asked ⊎ (n ≡ m) → n ≤ m
     high m (inl t) = let b = h.above m t in omega (arith, b)
     high m (inr t) = omega (arith, t)
-
--- a teller that was just seated has made no call
-pub none_ended : (r : Row Accounts) (n : ℕ) (before : Pass) (member : Member) (now : Pass) (c : Caller Accounts) → HasEnrolled accounts_meaning r n before member now → c.member ≡ member → ended_of c ≡ []
-none_ended r n before member now c e same = ap (λ (m : Member). (last_caller (view_of_member m).kept).ended) same ∙ ap (λ (v : View). (last_caller v.kept).ended) e.member_is
-
--- ---- what a call tells
-
-module _ (S : Setup) (L : List ℕ → Type 0) (B : TableStart) (m : CallState) (v : View) (a : ℕ) (d : CallState) (x : View) (b : ℕ) (r : Result Outcome CallErr) (told : TellsCall S L B m v a d x b r) where
-  from_kept : (es : List EndedCall) → told.kept.ended ≡ told.before.ended ++ es → (last_caller x.kept).ended ≡ (last_caller v.kept).ended ++ es
-  from_kept es e = ap (λ xs. (last_caller xs).ended) told.kept_now ∙ e ∙ ap (λ xs. (last_caller xs).ended ++ es) (sym told.kept_before)
-
-  result_is : (q : Result Outcome CallErr) → r ≡ q → TellsResult S L B m v told.before told.steps d x told.kept q
-  result_is q e = subst (TellsResult S L B m v told.before told.steps d x told.kept) e told.result
-
-  pub answered : (o : Outcome) → r ≡ Ok o → (last_caller x.kept).ended ≡ (last_caller v.kept).ended ++ record { op = m.op; outcome = o } ∷ []
-  answered o e = from_kept (record { op = m.op; outcome = o } ∷ []) (result_is (Ok o) e).1.kept
-
-  pub spent : (n : ℕ) → r ≡ Err (Spent n) → (last_caller x.kept).ended ≡ (last_caller v.kept).ended ++ record { op = m.op; outcome = Over n } ∷ []
-  spent n e = from_kept (record { op = m.op; outcome = Over n } ∷ []) (result_is (Err (Spent n)) e).kept
-
-  pub stopped : (n : ℕ) → r ≡ Err (Stopped n) → (last_caller x.kept).ended ≡ (last_caller v.kept).ended
-  stopped n e = ap (λ xs. (last_caller xs).ended) told.kept_now ∙ (result_is (Err (Stopped n)) e).0.kept ∙ ap (λ xs. (last_caller xs).ended) (sym told.kept_before)
-
-pub one_more : (es : List EndedCall) (bs cs : List Answer) (a : Answer) → es ≡ map ended_call bs → cs ≡ bs ++ a ∷ [] → es ++ ended_call a ∷ [] ≡ map ended_call cs
-one_more es bs cs a e is = ap (λ xs. xs ++ ended_call a ∷ []) e ∙ sym (map_more bs) ∙ ap (map ended_call) (sym is)
-  where
-    map_more : (xs : List Answer) → map ended_call (xs ++ a ∷ []) ≡ map ended_call xs ++ ended_call a ∷ []
-    map_more [] = refl
-    map_more (x ∷ xs) = ap (λ ys. ended_call x ∷ ys) (map_more xs)
 
 -- ---- logs
 

@@ -7,8 +7,8 @@ use Rattle.of_mem.specs.ProgramWork.{memory_of}
 use Rattle.of_core.specs.declared.place.Outcome.{Outcome}
 use Rattle.of_core.specs.declared.place.Outcome.TheVariants.{Spent}
 use Rattle.of_core.specs.Table.{Setup, setup_of}
-use Rattle.of_core.specs.Machine.{Call}
-use Rattle.of_core.specs.TableMoment.{TableStart}
+use Rattle.of_core.specs.Machine.{Call, no_call}
+use Rattle.of_core.specs.Claim.{IsNewerCall}
 use Rattle.of_core.specs.History.{numbers_after_calls, CallsHaveReplies}
 use Rattle.of_core.specs.Events.{zero_start}
 use Rattle.of_core.specs.Linear.{ExplainsOutcome}
@@ -81,6 +81,12 @@ AreLogged (x ∷ xs) (l ∷ ls) = IsLogged x l × AreLogged xs ls
 abbrev pub IsHistory : Accounts → List Call → Type 0
 IsHistory w calls = CallsHaveReplies (accounts_meaning w) (replicate (cell_count w) 0) calls
 
+-- each of them is there once, and each caller's are in the order in which it made them
+abbrev pub AreInOrder : List Call → Type 0
+AreInOrder calls =
+    (p q : ℕ) → p < q → q < length calls
+    → IsNewerCall (get_or calls p no_call) (get_or calls q no_call)
+
 -- the balance of an account after them
 abbrev pub balance_after : Accounts → List Call → (account : ℕ) → ℕ
 balance_after w calls a =
@@ -94,6 +100,7 @@ pub record HoldsDay (w : Accounts) (kept : List KnownCaller) (cells : List ℕ) 
   pub money : HasAllMoney w (memory_of cells)
   pub calls : List Call
   pub history : IsHistory w calls
+  pub order : AreInOrder calls
   pub balances : (a : ℕ) → a < w.accounts
       → balance_in w (memory_of cells) a ≡ balance_after w calls a
   pub kept_calls : Each (ExplainsEndedCalls (setup_with w) (zero_start (setup_with w)) calls) kept
@@ -120,6 +127,7 @@ pub record IsEvening (w : Accounts) (e : Evening) : Type 0 where
   -- the balances are those after one history, which has the transfers of all logs
   pub calls : List Call
   pub history : IsHistory w calls
+  pub order : AreInOrder calls
   pub balances : (a : ℕ) → a < w.accounts
       → balance_in w (memory_of e.cells.items) a ≡ balance_after w calls a
   pub logs : All (HasLog w calls) e.logs.items

@@ -104,13 +104,7 @@ impl Accounts {
     }
 
     // Takes the amount from one account and gives it to the other.
-    fn move_money(
-        &self,
-        part: &mut Part,
-        from: u32,
-        to: u32,
-        amount: u64,
-    ) -> Result<RawReply, Need>
+    fn move_money(&self, part: &mut Part, from: u32, to: u32, amount: u64) -> Result<RawReply, Need>
         requires table { IsPartOfTable self.now part.old }
         requires from { from < self.now.accounts }
         requires to { to < self.now.accounts }

@@ -56,12 +56,7 @@ fn seat_all(
 }
 
 // Lets all tellers work at once, each in a thread of its own if one can be made.
-fn work_all<R: Threads + Sync>(
-    rt: &R,
-    alloc: Global,
-    row: &Row<Accounts>,
-    tellers: &mut [Teller],
-)
+fn work_all<R: Threads + Sync>(rt: &R, alloc: Global, row: &Row<Accounts>, tellers: &mut [Teller])
     requires { All (Serves row.now) tellers.old }
     ensures { All (Serves row.now) tellers.new }
 {

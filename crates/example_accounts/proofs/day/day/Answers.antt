@@ -14,6 +14,7 @@ returns g c =
       money = d.money;
       calls = d.calls;
       history = d.history;
+      order = d.order;
       balances = d.balances;
       logs = have_logs c.args.accounts d.calls kept c.in_ok-logs.logs.items c.starts.ensures.zero_tickets c.in_ok-logs.ensures.logs d.kept_calls;
     }

@@ -1,4 +1,4 @@
-use Rattle.std.proofs.Common.{ℕ, ◌≤◌, length}
+use Rattle.std.proofs.Common.{◌≤◌, length}
 use Rattle.std.specs.List.{All}
 use Rattle.of_row.specs.Rows.{key_of}
 use Rattle.example_accounts.specs.Days.{Serves, Enrols}

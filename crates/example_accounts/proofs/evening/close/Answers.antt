@@ -1,4 +1,4 @@
-use Rattle.std.proofs.Common.{◌≡◌, ℕ, ◌+◌, sym, ap, subst, ◌∙◌, map}
+use Rattle.std.proofs.Common.{ℕ, ◌+◌, ap, subst, ◌∙◌, map}
 use Rattle.std.specs.Prelude.{slice_range}
 use Rattle.of_cell.specs.Words.{payload_of}
 use Rattle.of_cell.specs.Cells.{durable_cells}
@@ -14,7 +14,7 @@ use Rattle.example_accounts.proofs.evening.close.Goals as goal
 pub returns : goal.returns
 returns c =
     let law = subst (λ (k : Accounts × ℕ). StopsLoseNothing (LawfulCells k.0) (setup_of k.0.callers (cell_count k.0) k.1 (accounts_meaning k.0)))
-        (λ i. (c.work.ensures i, (c.limit.ensures.is ∙ c.requires.row.limit) i)) c.stops_lose_nothing.ensures.stops in
+    (λ i. (c.work.ensures i, (c.limit.ensures.is ∙ c.requires.row.limit) i)) c.stops_lose_nothing.ensures.stops in
     let shape = c.shape-shape.result in
     let part = c.in_ok-durable.ensures ∙ ap (λ ws. slice_range ws (durable_cells shape.callers shape.cells) (durable_cells shape.callers shape.cells + durable_cells shape.callers shape.cells)) c.deref.ensures.value in
     let words = c.in_ok-data.ensures ∙ ap (λ row. (start_on shape row).cells) (c.deref-2.ensures.value ∙ c.recover_words.ensures.row) in

@@ -1,4 +1,4 @@
-use Rattle.std.proofs.Common.{◌≡◌, ◌≤◌, ◌-◌, Some, sym, ◌∙◌, ap, arith}
+use Rattle.std.proofs.Common.{◌≡◌, ◌-◌, Some, sym, ◌∙◌, ap, arith}
 use Rattle.of_mem.specs.Part.{newest_at, write}
 use Rattle.example_accounts.specs.Accounts.{account_cell, flipped}
 use Rattle.example_accounts.proofs.Parts.{has_room}

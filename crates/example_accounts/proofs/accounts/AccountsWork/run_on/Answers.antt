@@ -1,5 +1,4 @@
-use Rattle.std.proofs.Common.{refl, ◌∙◌, ap}
-use Rattle.of_mem.specs.Meaning.{Gives, Needs}
+use Rattle.std.proofs.Common.{refl, ap}
 use Rattle.example_accounts.proofs.Parts.{is_table, walk_gives, walk_needs}
 use Rattle.example_accounts.proofs.accounts.AccountsWork.run_on.Goals as goal
 
