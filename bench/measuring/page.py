@@ -1,9 +1,8 @@
 """The results as lines, as the tables of docs/BENCH.md, and as its pictures."""
 import re
 
-from . import chart
+from . import chart, from_c, threads
 from .runs import CALLERS, KEYS, KINDS, by_callers, by_keys
-from .threads import CALLS, NAMES
 
 LACKING = "-"
 COMMAND = "`bench/run --write`"
@@ -43,10 +42,10 @@ def spread(values):
     return f"{middle} ({low} to {high})"
 
 
-def thread_lines(found):
+def thread_lines(what, names, found):
     for name, by in found.items():
         for callers, spent in by.items():
-            line = f"load, callers {callers}: {NAMES[name]}"
+            line = f"{what}, callers {callers}: {names[name]}"
             yield f"{line:48} processor {spread(spent['processor'])} ns a call, by the clock " \
                   f"{spread(spent['clock'])}"
 
@@ -77,9 +76,8 @@ def runs_table(results, wanted):
     return table(head, rows)
 
 
-def threads_table(results, kind, cell):
-    found = results["threads"]
-    head = ["Callers", *[NAMES[name] for name in found]]
+def threads_table(found, names, kind, cell):
+    head = ["Callers", *[names[name] for name in found]]
     rows = [[str(it), *[cell(by[str(it)][kind]) for by in found.values()]] for it in CALLERS]
     return table(head, rows)
 
@@ -111,7 +109,7 @@ def threads_picture(results):
     every = [it for by in results["threads"].values() for spent in by.values()
              for values in spent.values() for it in values]
     for kind, title in titles.items():
-        lines = [chart.Line(NAMES[name], [by[str(it)][kind] for it in CALLERS])
+        lines = [chart.Line(threads.NAMES[name], [by[str(it)][kind] for it in CALLERS])
                  for name, by in results["threads"].items()]
         yield chart.Panel(title, "callers", CALLERS, lines, True, every)
 
@@ -143,17 +141,18 @@ def draw(results, folder):
             yield name
 
 
-def threads_text(results):
-    if not results["threads"]:
+def race_text(found, names, calls):
+    """The tables of a race; none if it was not run."""
+    if not found:
         return ""
     return "\n\n".join([
-        f"Processor nanoseconds a call, with the least and the greatest of all rounds, {CALLS:,} "
+        f"Processor nanoseconds a call, with the least and the greatest of all rounds, {calls:,} "
         "calls a burst:",
-        threads_table(results, "processor", spread),
+        threads_table(found, names, "processor", spread),
         "By the clock, nanoseconds a call:",
-        threads_table(results, "clock", spread),
+        threads_table(found, names, "clock", spread),
         "Calls a second, by the clock:",
-        threads_table(results, "clock", calls_a_second)])
+        threads_table(found, names, "clock", calls_a_second)])
 
 
 PARTS = {
@@ -161,7 +160,8 @@ PARTS = {
     "plays": lambda it: runs_table(it, "play"),
     "commands": lambda it: runs_table(it, ("serial", "check", "recover", "run", "load")),
     "texts": lambda it: runs_table(it, ("reading", "printing")),
-    "threads": threads_text,
+    "threads": lambda it: race_text(it["threads"], threads.NAMES, threads.CALLS),
+    "calls": lambda it: race_text(it.get("calls"), from_c.NAMES, from_c.CALLS),
 }
 
 

@@ -1,4 +1,5 @@
-"""Callers at once: `load` of the program beside peers that do the same behind a lock."""
+"""Callers at once: `load` of the program beside peers that do the same behind a lock. And how any
+programs race."""
 import pathlib
 import shutil
 import subprocess
@@ -42,13 +43,18 @@ def build_peers(folder):
     return made, why
 
 
-class Race:
-    """Bursts of all programs, in turns."""
+def words(program, folder):
+    """The words that run each, by name, and why others are left out."""
+    peers, why = build_peers(folder)
+    return {"onefile": [program.path, "load"], **{name: [it] for name, it in peers.items()}}, why
 
-    def __init__(self, program, peers, part):
-        self.words = {"onefile": [program.path, "load"]}
-        self.words |= {name: [path] for name, path in peers.items()}
-        self.calls = CALLS // part
+
+class Race:
+    """Bursts of all programs, in turns. All must print what the first one does."""
+
+    def __init__(self, words, calls):
+        self.words = words
+        self.calls = calls
         self.samples = {}
         self.failed = []
 
@@ -79,7 +85,7 @@ class Race:
                 spent, printed[name] = self.burst(name, callers)
                 self.samples.setdefault((name, callers), []).append(spent)
             for name, text in printed.items():
-                if text != printed["onefile"]:
+                if text != printed[next(iter(self.words))]:
                     self.failed.append(f"{name} {callers}: it prints another summary")
 
     def results(self):
