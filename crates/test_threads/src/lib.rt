@@ -1,7 +1,8 @@
 //! Tests of what runs in threads. Brakes of each kind. Rows: worked schedules beside the bank,
 //! callers in threads, and rows that start. Callers: calls that brakes stop and let go on, a spent
 //! call, teams, and newcomers, through a door too. Lives, each from the image of the words that the
-//! one before left. Days of a memory, and news between its handles. There is nothing to call here.
+//! one before left. Days of a memory, news between its handles, and what its durable words hold.
+//! There is nothing to call here.
 #![tactic(auto)]
 
 #[cfg(test)]
@@ -20,6 +21,8 @@ mod lives;
 mod memory_days;
 #[cfg(test)]
 mod memory_news;
+#[cfg(test)]
+mod memory_words;
 #[cfg(test)]
 mod row_scene;
 #[cfg(test)]

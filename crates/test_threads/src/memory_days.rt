@@ -10,7 +10,7 @@ use std::test::Fail;
 
 /// Two callers. The second one's call may make so many steps; then the first one makes a call. What
 /// came of the second one's call, and what is saved.
-fn day_on(mut memory: Memory, steps: u64) -> Result<(Option<RunErr>, Saved), Fail>
+pub(crate) fn day_on(mut memory: Memory, steps: u64) -> Result<(Option<RunErr>, Saved), Fail>
     requires { IsMemory memory }
     ensures { IfOk result (λ r. IsSaved r.1) }
 {
@@ -24,7 +24,7 @@ fn day_on(mut memory: Memory, steps: u64) -> Result<(Option<RunErr>, Saved), Fai
 }
 
 /// What registers 0 and 1 hold, and how many calls each caller has made.
-fn seen(alloc: Global, saved: &Saved) -> Result<[u32; 4], Fail>
+pub(crate) fn seen(alloc: Global, saved: &Saved) -> Result<[u32; 4], Fail>
     requires { IsSaved saved.now }
 {
     let store = saved.store(alloc)?;
