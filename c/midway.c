@@ -199,6 +199,11 @@ static int reopens(onefile_memory *memory) {
   return onefile_reopen_file(memory, path, LIMIT, NULL);
 }
 
+static int reopens_and_closes(onefile_memory *memory) {
+  int answer = reopens(memory);
+  return answer == ONEFILE_DONE ? onefile_free(memory) : answer;
+}
+
 /* A request is refused: the call says so and has changed nothing, or it can do without. */
 static int refuse(trial *call, long at) {
   static onefile_memory memory = ONEFILE_NONE;
@@ -323,7 +328,7 @@ int main(int argc, char **argv) {
   int tried = try_all(opens, refuse) + try_all(opens, killed);
   for (size_t i = 0; i < sizeof steps / sizeof *steps; i++) {
     make_file(steps[i]);
-    tried += try_all(reopens, refuse) + try_all(reopens, killed);
+    tried += try_all(reopens, refuse) + try_all(reopens_and_closes, killed);
     tried += refused_closings();
   }
   renamed_meanwhile();

@@ -168,6 +168,7 @@ int onefile_free(onefile_memory *memory);
  *
  * You must ensure besides:
  *   - The path ends in a zero byte, and the file is on a disk of this machine or in its memory.
+ *   - /proc is there. Without it each file that was not closed is ONEFILE_TORN.
  *   - While the memory is open nobody else writes, cuts off, renames or removes the file.
  *   - A forked child uses no memory that was opened in a file before. It may let it go. */
 
