@@ -145,12 +145,16 @@ fn limit_held(held: &mut Held, limit: u32) -> u32
     match replace(held, Held::Nothing) {
         Held::Saved(kept) => {
             surely::<Saved, OfSaved>(&kept.saved);
-            let (saved, code) = match kept.saved.with_limit(limit) {
-                Ok(saved) => (saved, DONE),
-                Err(LimitErr(saved)) => (saved, RANGE),
-            };
-            *held = Held::Saved(Kept { saved });
-            code
+            match kept.saved.with_limit(limit) {
+                Ok(saved) => {
+                    *held = Held::Saved(Kept { saved });
+                    DONE
+                }
+                Err(LimitErr(saved)) => {
+                    *held = Held::Saved(Kept { saved });
+                    RANGE
+                }
+            }
         }
         other => {
             *held = other;

@@ -28,3 +28,10 @@ returns-in-None-clause-absent c done = record {
   there = omega (arith, c.if-number-callers.false, c.callers.ensures);
   so = c.in-None.ensures.none.0 refl;
 }
+
+pub returns-then-number-callers-clause-range : goal.returns-then-number-callers-clause-range
+returns-then-number-callers-clause-range c done = record {
+  left = c.in-Saved.kept.saved;
+  is = subst (λ (h : Held). HasSaved h c.in-Saved.kept.saved) (sym c.in-Saved.is) refl;
+  so = omega (arith, c.if-number-callers.true, c.callers.ensures);
+}

@@ -2,6 +2,7 @@ use Rattle.std.proofs.Common.{◌≡◌, ◌∙◌, ap, sym, subst}
 use Rattle.std.specs.Prelude.{Option, Some}
 use Rattle.of_memory.specs.Saving.{saved_ticket}
 use Rattle.of_c.specs.declared.held.Held.{Held}
+use Rattle.of_c.specs.Causes.{HoldsSavedWith, HasNoTicketOf}
 use Rattle.of_c.specs.States.{HasCallerWith, ShowsLast}
 use Rattle.of_c.proofs.states.of_c_last_reply.Goals as goal
 
@@ -14,3 +15,8 @@ pub returns-clause-absent : goal.returns-clause-absent
 returns-clause-absent c done =
     subst (λ (h : Option Held). HasCallerWith h c.args.number (λ d. saved_ticket d c.args.number ≡ 0))
     (ap Some c.deref.ensures ∙ sym c.in-Some.ensures.some) (c.last_reply_held-code.ensures.absent done)
+
+pub returns-clause-range : goal.returns-clause-range
+returns-clause-range c out =
+    subst (λ (h : Option Held). HoldsSavedWith (HasNoTicketOf c.args.number) h)
+    (ap Some c.deref.ensures ∙ sym c.in-Some.ensures.some) (c.last_reply_held-code.ensures.range out)

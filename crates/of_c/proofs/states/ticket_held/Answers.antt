@@ -10,3 +10,10 @@ returns-else-number-callers-clause-read c done = record {
   there = omega (arith, c.if-number-callers.false, c.callers.ensures);
   so = c.ticket.ensures;
 }
+
+pub returns-then-number-callers-clause-range : goal.returns-then-number-callers-clause-range
+returns-then-number-callers-clause-range c done = record {
+  left = c.in-Saved.kept.saved;
+  is = subst (λ (h : Held). HasSaved h c.in-Saved.kept.saved) (sym c.in-Saved.is) refl;
+  so = omega (arith, c.if-number-callers.true, c.callers.ensures);
+}

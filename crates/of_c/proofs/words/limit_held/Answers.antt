@@ -1,0 +1,22 @@
+use Rattle.std.proofs.Common.{refl, sym, subst}
+use Rattle.of_c.specs.declared.held.Held.{Held}
+use Rattle.of_c.specs.Slots.{HasSaved}
+use Rattle.of_c.proofs.words.limit_held.Goals as goal
+
+pub returns-in-Ok-clause-limited : goal.returns-in-Ok-clause-limited
+returns-in-Ok-clause-limited c done = record {
+  left = c.in-Saved.kept.saved;
+  was = subst (λ (h : Held). HasSaved h c.in-Saved.kept.saved) c.in-Saved.ensures.value refl;
+  next = c.in-Ok.saved;
+  is = refl;
+  same = c.in-Ok.ensures.same;
+  seq = c.in-Ok.ensures.seq;
+  limit_is = c.in-Ok.ensures.limit;
+}
+
+pub returns-in-Err-clause-range : goal.returns-in-Err-clause-range
+returns-in-Err-clause-range c out = record {
+  left = c.in-Saved.kept.saved;
+  is = subst (λ (h : Held). HasSaved h c.in-Saved.kept.saved) c.in-Saved.ensures.value refl;
+  so = c.in-Err.ensures.cause;
+}
