@@ -1,3 +1,4 @@
-pub mod Parts
+pub mod Walks
+pub mod Room
 pub mod Closing
 pub mod Tellers

@@ -11,7 +11,7 @@ use Rattle.of_mem.specs.Numbers.{FitsCell}
 use Rattle.of_mem.specs.Meaning.{IsSoundMeaning, HasRoom, is_marked}
 use Rattle.of_mem.specs.Programs.{Program, program_answer, memory_after, StaysBetween, StaysFrom}
 use Rattle.of_mem.specs.ProgramWork.{IsReplyTo, AreSound}
-use Rattle.of_mem.proofs.Sounds as sounds
+use Rattle.of_mem.proofs.Sounds.{sound}
 use Rattle.example_accounts.specs.declared.accounts.Accounts.{Accounts}
 use Rattle.example_accounts.specs.declared.transfer.Reply.TheVariants.{Done as Moved, NoAccount}
 use Rattle.example_accounts.specs.Accounts.{first_cell, account_cell, cell_count, flipped, balance_in, total_of, HasAllMoney, raw_reply, paying_in, paying, has_both, moving_if, transferring}
@@ -196,14 +196,9 @@ module _ (w : Accounts) where
 
   -- ---- so they are a work
 
-  abbrev keeps : RawReply → Bool
-  keeps r = true
-
-  abbrev reads : List ℕ → Bool
-  reads op = false
-
-  are_sound :
-      AreSound keeps reads (transferring w) (HasAllMoney w) (first_cell w) (cell_count w)
+  pub are_sound :
+      AreSound (λ r. true) (λ op. false) (transferring w) (HasAllMoney w) (first_cell w)
+      (cell_count w)
   are_sound = record {
     zeros = λ m z. zeros w m z;
     leads = λ m op h k. (good m op h).leads;
@@ -218,5 +213,5 @@ module _ (w : Accounts) where
   pub accounts_sound :
       IsSoundMeaning (accounts_meaning w) (LawfulCells w) (first_cell w) (cell_count w)
   accounts_sound =
-      sounds.sound keeps reads (transferring w) (HasAllMoney w) (first_cell w) (cell_count w)
-      are_sound
+      sound (λ r. true) (λ op. false) (transferring w) (HasAllMoney w) (first_cell w)
+      (cell_count w) are_sound

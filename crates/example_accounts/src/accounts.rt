@@ -15,7 +15,7 @@ pub const MOST_ACCOUNTS: u32 = 3_000;
 /// How many cells belong to each caller.
 const OWN_CELLS: u32 = MOST_INSTRS as u32 + 2;
 
-/// Accounts, each in a cell behind those of the callers. At first account 0 has all the money. A
+/// Accounts, each in a cell after those of the callers. At first account 0 has all the money. A
 /// table starts with zeros, so the cell of account 0 holds how much of the money it does not have.
 #[derive(Clone, Copy, Debug, PartialEq, Eq)]
 pub struct Accounts {

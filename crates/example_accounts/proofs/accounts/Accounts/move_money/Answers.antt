@@ -1,7 +1,7 @@
 use Rattle.std.proofs.Common.{◌≡◌, ◌-◌, Some, sym, ◌∙◌, ap, arith}
 use Rattle.of_mem.specs.Part.{newest_at, write}
 use Rattle.example_accounts.specs.Accounts.{account_cell, flipped}
-use Rattle.example_accounts.proofs.Parts.{has_room}
+use Rattle.example_accounts.proofs.Room.{has_room}
 use Rattle.example_accounts.proofs.accounts.Accounts.move_money.Goals as goal
 
 pub overflow_add-had : goal.overflow_add-had

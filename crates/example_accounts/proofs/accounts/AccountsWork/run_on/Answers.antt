@@ -1,12 +1,27 @@
-use Rattle.std.proofs.Common.{refl, ap}
-use Rattle.example_accounts.proofs.Parts.{is_table, walk_gives, walk_needs}
+use Rattle.std.proofs.Common.{ap, false, refl, true}
+use Rattle.example_accounts.specs.Accounts.{HasAllMoney, cell_count, first_cell, transferring}
+use Rattle.example_accounts.specs.Sound.{are_sound}
+use Rattle.example_accounts.proofs.Walks.{part_of, walk_gives, walk_needs}
+use Rattle.of_mem.specs.ProgramWork.{memory_of}
 use Rattle.example_accounts.proofs.accounts.AccountsWork.run_on.Goals as goal
 
 pub transfer-requires : goal.transfer-requires
-transfer-requires c = is_table c.args.self.now c.args.part.now c.requires.agrees c.requires.cells c.requires.empty
+transfer-requires c =
+    let w = c.args.self.now in
+    record {
+      fits = c.requires.cells;
+      memory = memory_of c.requires.agrees.0;
+      money = c.requires.agrees.2;
+      part = λ x v. part_of (λ r. true) (λ op. false) (transferring w) (HasAllMoney w) (first_cell w) (cell_count w) (are_sound w) c.args.part.now c.requires.agrees c.requires.cells c.requires.empty x v;
+    }
 
 pub returns-in-Ok-clause-walk : goal.returns-in-Ok-clause-walk
-returns-in-Ok-clause-walk c = walk_gives c.args.self.now c.args.part.now c.requires.agrees c.requires.cells c.requires.empty c.args.op.now c.in-Ok.reply c.transfer.new.part c.in-Ok.ensures.walk
+returns-in-Ok-clause-walk c =
+    let w = c.args.self.now in
+    walk_gives (λ r. true) (λ op. false) (transferring w) (HasAllMoney w) (first_cell w) (cell_count w) (are_sound w) c.args.part.now c.requires.agrees c.requires.cells c.requires.empty c.args.op.now c.in-Ok.reply c.transfer.new.part c.in-Ok.ensures.walk
 
 pub returns-in-Err-clause-walk : goal.returns-in-Err-clause-walk
-returns-in-Err-clause-walk c = (walk_needs c.args.self.now c.args.part.now c.requires.agrees c.requires.cells c.requires.empty c.args.op.now c.in-Err.need.addr c.in-Err.ensures.walk, ap (λ p. p.script) c.undo.ensures, refl)
+returns-in-Err-clause-walk c =
+    let w = c.args.self.now in
+    let lacks = walk_needs (λ r. true) (λ op. false) (transferring w) (HasAllMoney w) (first_cell w) (cell_count w) (are_sound w) c.args.part.now c.requires.agrees c.requires.cells c.requires.empty c.args.op.now c.in-Err.need.addr c.in-Err.ensures.walk in
+    (lacks, ap (λ p. p.script) c.undo.ensures, refl)

@@ -1,4 +1,4 @@
--- An operation on partial memory.
+-- There is room for an amount in the account that gets it.
 use Rattle.std.proofs.Common.{◌≡◌, ℕ, ◌+◌, ◌-◌, ◌<◌, ◌≤◌, inl, inr, sym, ◌∙◌, ap, subst, arith, true, Some, None, List, [], length, get_or}
 use Rattle.std.proofs.lemmas.Bool.{cases_eq}
 use Rattle.of_mem.specs.declared.work.RawReply.{RawReply}
@@ -35,32 +35,3 @@ has_room w p from to amount x y t lf lt found enough then =
     let there : balance_in w left to ≡ flipped w.money to y =
     ap (λ (m : ℕ → ℕ). balance_in w m to) is ∙ ap (flipped w.money to) (wrote_table w p t (account_cell w from) (flipped w.money from (flipped w.money from x - amount)) (account_cell w to) y (omega (arith, lt)) then) in
     omega (arith, next, balance_below w left to w.accounts lt, there)
-
-gives : (x : RunEnd RawReply) (r : RawReply) (q : Part) → RunsAlike x (Ends r q) → walk_of_run (λ r. true) x ≡ Gives q.script r
-gives (Lacks a) r q h = absurd h
-gives (Ends s p) r q h = λ i. Gives (h.1 i) (h.0 i)
-
-needs : (x : RunEnd RawReply) (a : ℕ) → RunsAlike x (Lacks a) → walk_of_run (λ r. true) x ≡ Needs a
-needs (Lacks b) a h = ap Needs h
-needs (Ends s p) a h = absurd h
-
--- A run goes as on the known cells with the batch over them.
-module _ (w : Accounts) (p : Part) (a : KnowsSome (LawfulCells w) (cell_count w) (overlaid p.known p.batch)) (size : length p.known ≡ cell_count w) (empty : p.script ≡ []) where
-  newest_over : (x : ℕ) → x < cell_count w → newest_at p x ≡ get_or (overlaid p.known p.batch) x None
-  unfolding newest_at
-  newest_over x l = ap (λ (es : List (ℕ × ℕ)). newer_of (value_for es x) (newer_of (value_for p.batch x) (get_or p.known x None))) empty ∙ sym (over_at p.known p.batch x (omega (arith, size, l)))
-
-  pub is_table : IsPartOfTable w p
-  is_table = record { fits = size; memory = memory_of a.0; money = a.2; part = λ x v l e. a.3 x v (sym (newest_over x l) ∙ e) }
-
-  alike : (op : List ℕ) → RunsAlike (run_program (transferring w op) (fresh_part (overlaid p.known p.batch))) (run_program (transferring w op) p)
-  alike op = run_alike (first_cell w) (cell_count w) (transferring w op) (fresh_part (overlaid p.known p.batch)) p (memory_of a.0)
-      (record { below = λ x l. over_at p.known p.batch x (omega (arith, size, l)); script = sym empty })
-      (part_fresh (overlaid p.known p.batch) a.0 a.3)
-      (good w (memory_of a.0) op a.2).inside
-
-  pub walk_gives : (op : List ℕ) (r : RawReply) (q : Part) → run_program (transferring w op) p ≡ Ends r q → (accounts_meaning w).walk (overlaid p.known p.batch) op ≡ Gives q.script r
-  walk_gives op r q e = gives (run_program (transferring w op) (fresh_part (overlaid p.known p.batch))) r q (subst (RunsAlike (run_program (transferring w op) (fresh_part (overlaid p.known p.batch)))) e (alike op))
-
-  pub walk_needs : (op : List ℕ) (x : ℕ) → run_program (transferring w op) p ≡ Lacks x → (accounts_meaning w).walk (overlaid p.known p.batch) op ≡ Needs x
-  walk_needs op x e = needs (run_program (transferring w op) (fresh_part (overlaid p.known p.batch))) x (subst (RunsAlike (run_program (transferring w op) (fresh_part (overlaid p.known p.batch)))) e (alike op))
