@@ -1,11 +1,10 @@
 -- What is read of what a memory has left.
-use Rattle.std.specs.Prelude.{◌≡◌, ◌≢◌, ℕ, ◌<◌, Option}
+use Rattle.std.specs.Prelude.{◌≡◌, ℕ, ◌<◌, Option}
 use Rattle.of_script.specs.declared.instr.Reply.{Reply}
 use Rattle.of_store.specs.Store.{Store}
 use Rattle.of_store.specs.Replies.{reply_value_of}
 use Rattle.of_memory.specs.declared.saved.Saved.{Saved}
 use Rattle.of_memory.specs.Saving.{SavedHolds, HoldsReply, saved_callers, saved_ticket}
-use Rattle.of_c.specs.declared.codes.TheConstants.{DONE, ABSENT}
 use Rattle.of_c.specs.declared.held.Held.{Held}
 use Rattle.of_c.specs.declared.reply.CReply.{CReply}
 use Rattle.of_c.specs.Replies.{ShowsReply}

@@ -42,7 +42,7 @@ use Rattle.of_core.specs.Grounds.{GoodGrounds}
 use Rattle.of_core.specs.Laws.{StartsMeetInvariant, SchedulesKeepInvariant, InvariantIsSound, RecoveredRowsMayStart}
 use Rattle.atomic_table.specs.Table.{State}
 use Rattle.of_row.specs.Views.{EndedCall, KnownCaller, View, no_ended, Each}
-use Rattle.of_row.specs.Rule.{MeetsRule, ViewMeetsRule, ticket_at as own_ticket, done_before}
+use Rattle.of_row.specs.Rule.{MeetsRule, ticket_at as own_ticket, done_before}
 use Rattle.of_row.specs.Told.{open_operation, operations_known}
 use Rattle.of_row.specs.Trail.{first_of, moment, IsRunBy, EachView}
 use Rattle.of_row.specs.Moments.{ExplainsEndedCalls, StopsLoseNothing, LosesNothing, words_alone}
@@ -53,9 +53,8 @@ use Rattle.of_caller.proofs.StoresRecovered.{stand_same}
 use Rattle.of_memory.specs.History.{HistoryEntry, no_history_entry, Made, no_made, store_after, IsOneOf, ScriptOnlyReads, IsUpTo}
 use Rattle.of_memory.specs.Calls.{IsScriptOperation, IsMade, AreMade, RunsScripts}
 use Rattle.of_memory.specs.Times.{calls_ended_in, calls_begun_in}
-use Rattle.of_memory.specs.Laws.{setup_with, StandsAt, HoldsLastReplies, KeepsSo, KeepScripts, ExplainsKept, HasOpenScript, HasOnlyKept, TellsLast, RespectsEvents, HistoryLeads, HoldsHistory}
-use Rattle.of_memory.specs.Words.{AreStartWords}
-use Rattle.of_memory.specs.Moments.{IsKeptByOne, EachRunsScripts, WordsHoldHistory}
+use Rattle.of_memory.specs.Laws.{setup_with, StandsAt, HoldsLastReplies, KeepsSo, ExplainsKept, HasOpenScript, HasOnlyKept, TellsLast, RespectsEvents, HistoryLeads, HoldsHistory}
+use Rattle.of_memory.specs.Moments.{EachRunsScripts, WordsHoldHistory}
 use Rattle.of_memory.proofs.Replaying.{sizes, Cells, AreScripts, IsEntryOf, entries, serial, long, leads, at, in_order, explains}
 
 -- ---- the operations that a kept caller has begun are scripts'

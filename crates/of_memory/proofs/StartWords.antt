@@ -1,5 +1,5 @@
 -- Durable words from which a table may start have an image, and so they are taken.
-use Rattle.std.proofs.Common.{◌≡◌, ℕ, ◌<◌, ◌≤◌, inl, List, length, get_or, map, refl, sym, ap, subst, ◌∙◌, arith}
+use Rattle.std.proofs.Common.{◌≡◌, ℕ, ◌≤◌, inl, List, length, get_or, map, refl, sym, ap, subst, ◌∙◌, arith}
 use Rattle.of_cell.specs.Words.{seq_of, payload_of}
 use Rattle.of_mem.specs.Places.{base_of, cells_at}
 use Rattle.of_mem.specs.ProgramWork.{memory_of, meaning_of}

@@ -27,7 +27,7 @@ pub record IsKeptByOne (vs : List View) (n : ℕ) : Type 0 where
   pub live : view.spent ≡ false
   pub keeps : KeepsSo n RunsScripts view.kept
 
--- no number that is taken has run anything but scripts: a pass or a member keeps it
+-- each number that is taken is kept by a pass or a member, and has run scripts alone
 abbrev pub EachRunsScripts : Setup → State (Unit {0}) View → Type 0
 EachRunsScripts S s =
     (n : ℕ) → n < S.callers → (bit_at (members_of S s.words) n ≡ 0) ⊎ IsKeptByOne s.views n
