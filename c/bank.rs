@@ -2,7 +2,7 @@
 
 mod onefile;
 
-use onefile::{CAUSE_SHORT, Caller, GREATEST_LIMIT, Memory, Refusal, STOPPED, Saved, name};
+use onefile::{name, Caller, Memory, Refusal, Saved, CAUSE_SHORT, GREATEST_LIMIT, STOPPED};
 use std::thread;
 
 const CALLERS: u32 = 4;
@@ -34,8 +34,12 @@ fn first_life() -> Result<Vec<u8>, Refusal> {
     let fill: Vec<String> = (0..CALLERS).map(|i| format!("store {i} {EACH}")).collect();
     callers[0].call(&fill.join("; "))?;
     thread::scope(|scope| {
-        let all: Vec<_> = callers.iter().map(|own| scope.spawn(|| work(own))).collect();
-        all.into_iter().try_for_each(|one| one.join().expect("a thread"))
+        let all: Vec<_> = callers
+            .iter()
+            .map(|own| scope.spawn(|| work(own)))
+            .collect();
+        all.into_iter()
+            .try_for_each(|one| one.join().expect("a thread"))
     })?;
     println!("{} calls of {CALLERS} threads", CALLERS * CALLS);
     let reply = callers[3].stop_in("put 7 70; push 2 5; len 2", 12)?;
@@ -56,7 +60,10 @@ fn second_life(image: &[u8]) -> Result<(), Refusal> {
     println!("caller 3: call {ticket} was answered, and the queue has {length}");
     let callers = enrol_all(&bank)?;
     let reply = callers[3].call("get 7; pop 2")?;
-    println!("key 7 has {}, and the queue had {}", reply.values[0], reply.values[1]);
+    println!(
+        "key 7 has {}, and the queue had {}",
+        reply.values[0], reply.values[1]
+    );
     drop(callers);
     let left = bank.close()?;
     println!("caller 3 has made {} calls", left.ticket(3)?);

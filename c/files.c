@@ -166,6 +166,32 @@ static void rubbish(void) {
   }
 }
 
+/* Memories of all sizes, and their last callers. */
+static void shapes(void) {
+  static const uint32_t counts[][2] = {{1, 0}, {16, 0}, {1, 512}, {16, 512}, {3, 7}};
+  char name[240];
+  snprintf(name, sizeof name, "%s.shape", path);
+  for (size_t i = 0; i < sizeof counts / sizeof *counts; i++) {
+    uint32_t last = counts[i][0] - 1;
+    const char *script = counts[i][1] ? "add 15 3; put 2147483647 4" : "add 15 3";
+    EXPECT(onefile_open_file(&memory, name, last + 1, counts[i][1], LIMIT), ONEFILE_DONE);
+    EXPECT(onefile_enrol(&memory, last), ONEFILE_DONE);
+    EXPECT(onefile_call_text(&memory, last, script, strlen(script), &reply), ONEFILE_DONE);
+    EXPECT(onefile_free(&memory), ONEFILE_DONE);
+    EXPECT(onefile_reopen_file(&memory, name, LIMIT, &saved), ONEFILE_DONE);
+    EXPECT(onefile_enrol(&memory, last + 1), ONEFILE_RANGE);
+    EXPECT(onefile_free(&memory), ONEFILE_DONE);
+    EXPECT(onefile_register(&saved, 15, &value), ONEFILE_DONE);
+    HOLDS(value == 3);
+    int answer = onefile_key(&saved, 2147483647, &value);
+    EXPECT(answer, counts[i][1] ? ONEFILE_DONE : ONEFILE_ABSENT);
+    EXPECT(onefile_last_reply(&saved, last, &reply), ONEFILE_DONE);
+    HOLDS(reply.ticket == 1 && reply.values[0] == 3);
+    EXPECT(onefile_free_saved(&saved), ONEFILE_DONE);
+    HOLDS(unlink(name) == 0);
+  }
+}
+
 /* A process opens 64 files at most. */
 static void many(void) {
   static onefile_memory all[65];
@@ -386,6 +412,7 @@ int main(int argc, char **argv) {
   twice();
   lives();
   rubbish();
+  shapes();
   many();
   headers();
   words();

@@ -2,7 +2,7 @@
 
 mod onefile;
 
-use onefile::{Caller, GREATEST_LIMIT, Memory, Refusal, Reply, Saved};
+use onefile::{Caller, Memory, Refusal, Reply, Saved, GREATEST_LIMIT};
 use std::thread;
 
 const WORKERS: u32 = 4;
@@ -34,7 +34,10 @@ fn work(own: &Caller, has: Option<u32>, most: u32) -> Result<Option<u32>, Refusa
     for _ in 0..most {
         let Some(job) = has else { break };
         let reply = own.call(&next(own.number, job))?;
-        assert!(reply.cause == 0 && reply.given[0] == 0, "job {job} was done before");
+        assert!(
+            reply.cause == 0 && reply.given[0] == 0,
+            "job {job} was done before"
+        );
         has = job_of(&reply);
     }
     Ok(has)
@@ -46,7 +49,11 @@ fn enrol_all(memory: &Memory) -> Result<Vec<Caller<'_>>, Refusal> {
 
 /// How many jobs have their result.
 fn jobs_done(saved: &Saved) -> Result<u32, Refusal> {
-    let is_done = |job| saved.key(job).map(|value| u32::from(value == Some(result_of(job))));
+    let is_done = |job| {
+        saved
+            .key(job)
+            .map(|value| u32::from(value == Some(result_of(job))))
+    };
     (1..=JOBS).map(is_done).sum()
 }
 
@@ -61,8 +68,12 @@ where
     F: Fn(&Caller) -> Result<(), Refusal> + Sync,
 {
     thread::scope(|scope| {
-        let all: Vec<_> = callers.iter().map(|own| scope.spawn(|| work(own))).collect();
-        all.into_iter().try_for_each(|one| one.join().expect("a thread"))
+        let all: Vec<_> = callers
+            .iter()
+            .map(|own| scope.spawn(|| work(own)))
+            .collect();
+        all.into_iter()
+            .try_for_each(|one| one.join().expect("a thread"))
     })
 }
 
@@ -82,7 +93,10 @@ fn first_life() -> Result<Vec<u8>, Refusal> {
     let left = memory.close()?;
     println!("{JOBS} jobs, and worker 3 was stopped");
     let once = jobs_done(&left)? == jobs_counted(&left)?;
-    println!("those that are done: {}", if once { "each once" } else { "not each once" });
+    println!(
+        "those that are done: {}",
+        if once { "each once" } else { "not each once" }
+    );
     left.image()
 }
 
@@ -93,10 +107,16 @@ fn second_life(image: &[u8]) -> Result<(), Refusal> {
     let job_before = |worker| before.last_reply(worker).map(|reply| job_of(&reply));
     let jobs: Vec<Option<u32>> = (0..WORKERS).map(job_before).collect::<Result<_, _>>()?;
     let callers = enrol_all(&memory)?;
-    in_threads(&callers, |own| work(own, jobs[own.number as usize], JOBS).map(drop))?;
+    in_threads(&callers, |own| {
+        work(own, jobs[own.number as usize], JOBS).map(drop)
+    })?;
     drop(callers);
     let left = memory.close()?;
-    println!("{} jobs are done, and {} were counted", jobs_done(&left)?, jobs_counted(&left)?);
+    println!(
+        "{} jobs are done, and {} were counted",
+        jobs_done(&left)?,
+        jobs_counted(&left)?
+    );
     Ok(())
 }
 

@@ -179,12 +179,12 @@ static size_t size_for(const header *one) {
 
 /* Whether this is the header of a file of so many bytes. */
 static int is_header(const header *one, uint64_t size) {
-  of_c_table table;
+  of_c_table sizes;
   return memcmp(one->magic, magic, sizeof magic) == 0 && one->version == VERSION &&
          one->order == ORDER && one->sum == sum_of(one) && one->offset == PAGE &&
          (one->closed == 0 || one->closed == IS_CLOSED) &&
-         of_c_sizes(one->callers, one->blocks, &table) == ONEFILE_DONE &&
-         memcmp(&table, &one->table, sizeof table) == 0 && size == size_for(one);
+         of_c_sizes(one->callers, one->blocks, &sizes) == ONEFILE_DONE &&
+         memcmp(&sizes, &one->table, sizeof sizes) == 0 && size == size_for(one);
 }
 
 /* Whether the words of a file can be those that were in memory: it was closed, or the machine has

@@ -3,7 +3,7 @@
 #![allow(dead_code)] // each program uses a part
 
 use std::cell::UnsafeCell;
-use std::ffi::{CStr, c_char, c_int, c_void};
+use std::ffi::{c_char, c_int, c_void, CStr};
 use std::fmt;
 
 pub const DONE: c_int = 0;
@@ -89,11 +89,17 @@ impl fmt::Debug for Refusal {
 /// The name of an answer, as "ONEFILE_DONE".
 pub fn name(answer: c_int) -> &'static str {
     // SAFETY: each name is a constant of the library.
-    unsafe { CStr::from_ptr(onefile_name(answer)) }.to_str().unwrap_or("ONEFILE_?")
+    unsafe { CStr::from_ptr(onefile_name(answer)) }
+        .to_str()
+        .unwrap_or("ONEFILE_?")
 }
 
 fn wanted(answer: c_int, want: c_int) -> Result<(), Refusal> {
-    if answer == want { Ok(()) } else { Err(Refusal(answer)) }
+    if answer == want {
+        Ok(())
+    } else {
+        Err(Refusal(answer))
+    }
 }
 
 /// A memory. It is let go with its callers, and nothing of it is saved, if it was not closed.
@@ -112,13 +118,19 @@ impl Memory {
 
     pub fn open(callers: u32, blocks: u32, limit: u32) -> Result<Memory, Refusal> {
         let memory = Memory::none();
-        wanted(unsafe { onefile_open(memory.0.get(), callers, blocks, limit) }, DONE)?;
+        wanted(
+            unsafe { onefile_open(memory.0.get(), callers, blocks, limit) },
+            DONE,
+        )?;
         Ok(memory)
     }
 
     pub fn reopen(saved: &Saved) -> Result<Memory, Refusal> {
         let memory = Memory::none();
-        wanted(unsafe { onefile_reopen(memory.0.get(), saved.0.get()) }, DONE)?;
+        wanted(
+            unsafe { onefile_reopen(memory.0.get(), saved.0.get()) },
+            DONE,
+        )?;
         Ok(memory)
     }
 
@@ -131,7 +143,10 @@ impl Memory {
 
     pub fn enrol(&self, number: u32) -> Result<Caller<'_>, Refusal> {
         wanted(unsafe { onefile_enrol(self.0.get(), number) }, DONE)?;
-        Ok(Caller { memory: self, number })
+        Ok(Caller {
+            memory: self,
+            number,
+        })
     }
 }
 
@@ -152,7 +167,14 @@ impl Caller<'_> {
         let mut reply = Reply::default();
         let (memory, length) = (self.memory.0.get(), text.len());
         let answer = unsafe {
-            onefile_call_text_within(memory, self.number, text.as_ptr(), length, steps, &mut reply)
+            onefile_call_text_within(
+                memory,
+                self.number,
+                text.as_ptr(),
+                length,
+                steps,
+                &mut reply,
+            )
         };
         wanted(answer, want)?;
         Ok(reply)
@@ -185,22 +207,34 @@ impl Saved {
 
     pub fn from_image(text: &[u8]) -> Result<Saved, Refusal> {
         let saved = Saved::none();
-        wanted(unsafe { onefile_from_image(saved.0.get(), text.as_ptr(), text.len()) }, DONE)?;
+        wanted(
+            unsafe { onefile_from_image(saved.0.get(), text.as_ptr(), text.len()) },
+            DONE,
+        )?;
         Ok(saved)
     }
 
     pub fn image(&self) -> Result<Vec<u8>, Refusal> {
         let mut size = 0;
         let none = std::ptr::null_mut();
-        wanted(unsafe { onefile_image(self.0.get(), none, 0, &mut size) }, NO_ROOM)?;
+        wanted(
+            unsafe { onefile_image(self.0.get(), none, 0, &mut size) },
+            NO_ROOM,
+        )?;
         let mut text = vec![0; size];
-        wanted(unsafe { onefile_image(self.0.get(), text.as_mut_ptr(), size, &mut size) }, DONE)?;
+        wanted(
+            unsafe { onefile_image(self.0.get(), text.as_mut_ptr(), size, &mut size) },
+            DONE,
+        )?;
         Ok(text)
     }
 
     pub fn register(&self, register: u32) -> Result<u32, Refusal> {
         let mut value = 0;
-        wanted(unsafe { onefile_register(self.0.get(), register, &mut value) }, DONE)?;
+        wanted(
+            unsafe { onefile_register(self.0.get(), register, &mut value) },
+            DONE,
+        )?;
         Ok(value)
     }
 
@@ -215,13 +249,19 @@ impl Saved {
     /// How many calls of a caller are held.
     pub fn ticket(&self, number: u32) -> Result<u32, Refusal> {
         let mut ticket = 0;
-        wanted(unsafe { onefile_ticket(self.0.get(), number, &mut ticket) }, DONE)?;
+        wanted(
+            unsafe { onefile_ticket(self.0.get(), number, &mut ticket) },
+            DONE,
+        )?;
         Ok(ticket)
     }
 
     pub fn last_reply(&self, number: u32) -> Result<Reply, Refusal> {
         let mut reply = Reply::default();
-        wanted(unsafe { onefile_last_reply(self.0.get(), number, &mut reply) }, DONE)?;
+        wanted(
+            unsafe { onefile_last_reply(self.0.get(), number, &mut reply) },
+            DONE,
+        )?;
         Ok(reply)
     }
 }
