@@ -64,8 +64,7 @@ fn compared(
     limit: u32,
     calls: [&[u64]; 2],
     events: &[Event],
-) -> Result<Option<Left>, AllocError>
-{
+) -> Result<Option<Left>, AllocError> {
     if limit > GREATEST_LIMIT {
         return Ok(None);
     }
@@ -141,7 +140,12 @@ const WORKED: [Worked; 9] = [
         callers: 2,
         limit: 5,
         calls: [&[STORE_3_7, STORE_3_9], &[ADD_4_1]],
-        events: &[Event::Turns(0, 31), Event::Turns(1, 14), Event::Turns(0, 103), Event::Turns(1, 17)],
+        events: &[
+            Event::Turns(0, 31),
+            Event::Turns(1, 14),
+            Event::Turns(0, 103),
+            Event::Turns(1, 17),
+        ],
         wanted: Left::Answered(2, NUMBER, 1, 31),
     },
     Worked {
