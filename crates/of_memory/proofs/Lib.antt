@@ -14,3 +14,4 @@ pub mod Texts
 pub mod Renumbering
 pub mod Alone
 pub mod StartWords
+pub mod AnyMoment
