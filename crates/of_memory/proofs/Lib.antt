@@ -15,3 +15,4 @@ pub mod Texts
 pub mod Renumbering
 pub mod Alone
 pub mod StartWords
+pub mod AnyMoment

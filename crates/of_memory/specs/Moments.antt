@@ -7,17 +7,21 @@ use Rattle.atomic_table.specs.Table.{State}
 use Rattle.of_cell.specs.declared.word.TheConstants.{GREATEST_LIMIT}
 use Rattle.of_store.specs.Store.{Store}
 use Rattle.of_eval.specs.declared.scripts.Scripts.{Scripts}
-use Rattle.of_eval.specs.Scripts.{LawfulCells}
+use Rattle.of_eval.specs.Scripts.{LawfulCells, scripts_meaning}
 use Rattle.of_core.specs.Table.{Setup}
 use Rattle.of_core.specs.TableMoment.{TableStart}
 use Rattle.of_core.specs.Starts.{IsDurable}
+use Rattle.of_row.specs.Rows.{key_of, setup_at}
 use Rattle.of_row.specs.Views.{View}
+use Rattle.of_caller.specs.PlanRows.{start_of_row}
 use Rattle.of_row.specs.Trail.{EachView}
 use Rattle.of_row.specs.Rule.{MeetsRule, members_of}
+use Rattle.of_memory.specs.declared.memory.Memory.{Memory}
 use Rattle.of_memory.specs.History.{HistoryEntry}
 use Rattle.of_memory.specs.Calls.{RunsScripts}
 use Rattle.of_memory.specs.Laws.{setup_with, StandsAt, HoldsLastReplies, KeepsSo, HistoryLeads}
 use Rattle.of_memory.specs.Words.{AreStartWords, words_found}
+use Rattle.of_memory.specs.Memories.{row_of, limit_of, StartsWith}
 
 -- one of the views, which is not spent, keeps a caller of this number, which has run scripts alone
 pub record IsKeptByOne (vs : List View) (n : ℕ) : Type 0 where
@@ -45,3 +49,17 @@ WordsHoldHistory w limit =
     AreStartWords w limit words
     × ((t : Store) → StandsAt w B t → (h : List HistoryEntry)
     × EachView (λ v. HistoryLeads w limit B v t (words_found w words) h) s.views)
+
+-- So it is of the memory at each moment of its row: it may go on from what recovery finds in the
+-- durable words as they are, and one serial history leads there from the store with which it was
+-- opened.
+abbrev pub HoldsWordsAlways : Memory → Type 0
+HoldsWordsAlways m =
+    let S : Setup = setup_at scripts_meaning (row_of m) in
+    let w : Scripts = (key_of (row_of m)).work in
+    let B : TableStart = start_of_row (row_of m) in
+    (s : State (Unit {0}) View) → MeetsRule S (LawfulCells w) B s → EachRunsScripts S s
+    → (words : List ℕ) → IsDurable S s.words words →
+    AreStartWords w (limit_of m) words
+    × ((t : Store) → StartsWith m t → (h : List HistoryEntry)
+    × EachView (λ v. HistoryLeads w (limit_of m) B v t (words_found w words) h) s.views)

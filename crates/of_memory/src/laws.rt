@@ -5,9 +5,11 @@ ghost use Rattle.of_memory.specs.Handles.{CallsAreCounted};
 ghost use Rattle.of_memory.specs.Joining.{HistoriesJoin, InvariantsHold};
 ghost use Rattle.of_memory.specs.Joining.{MemoriesStay, NoneStaysOpen, LoneCallsAreSaved};
 ghost use Rattle.of_memory.specs.Laws.{HoldsHistory};
-ghost use Rattle.of_memory.specs.Moments.{WordsHoldHistory};
+ghost use Rattle.of_memory.specs.Memories.{IsMemory};
+ghost use Rattle.of_memory.specs.Moments.{WordsHoldHistory, HoldsWordsAlways};
 ghost use Rattle.of_memory.specs.Telling.{ToldCallsComeFirst};
 
+use crate::memory::Memory;
 use of_core::laws::{every_moment, starts, step_kept};
 use of_eval::Scripts;
 use of_row::laws::stops_lose_nothing;
@@ -33,6 +35,15 @@ pub fn words_hold_history(work: Scripts, limit: u32)
     every_moment(limit, work);
     starts(limit, work);
     stops_lose_nothing(limit, work);
+}
+
+/// So it is of a memory: what recovery finds in its durable words, as they are at any moment, is the
+/// end of one serial history, which has each call that was answered. The memory may go on from it.
+pub fn memory_words_hold_history(memory: &Memory)
+    requires { IsMemory memory.now }
+    ensures { HoldsWordsAlways memory.now }
+{
+    words_hold_history(memory.scripts(), memory.limit());
 }
 
 /// A handle that has no open call has begun as many calls as its memory was opened with, and those

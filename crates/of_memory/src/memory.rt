@@ -134,6 +134,20 @@ impl Memory {
         self.row.shape().callers
     }
 
+    /// The last sequence that may be committed.
+    pub fn limit(&self) -> u32
+        ensures { result ≡ limit_of self.now }
+    {
+        self.row.limit()
+    }
+
+    // The scripts that it runs.
+    pub(crate) fn scripts(&self) -> Scripts
+        ensures { result ≡ (key_of (row_of self.now)).work }
+    {
+        self.row.work()
+    }
+
     /// A handle for a number. It goes on where the last handle of that number left.
     pub fn enrol(&mut self, number: u32) -> Result<Handle, EnrolErr>
         requires { IsMemory self.old }
