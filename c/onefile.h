@@ -177,8 +177,8 @@ int onefile_open_file(onefile_memory *memory, const char *path, uint32_t callers
 
 /* Fills `memory` with one that goes on from the file, in a new file with this name. No call that is
  * held there runs again. The sequences begin anew, so each life has all of them up to `limit`, and
- * `seq` of a reply counts within its life. Tickets go on. What was found is kept in `saved`, if that
- * is not null: onefile_last_reply tells what the last call of each caller came to.
+ * `seq` of a reply counts within its life. Tickets go on. What was found is kept in `saved`, if
+ * that is not null: onefile_last_reply tells what the last call of each caller came to.
  * FULL, also if `saved` is not empty; RANGE if there is no such limit; NO_FILE, FILE_IN_USE,
  * BAD_FILE, TORN, NO_SPACE, SYSTEM. */
 int onefile_reopen_file(onefile_memory *memory, const char *path, uint32_t limit,
