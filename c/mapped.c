@@ -151,23 +151,24 @@ static uint64_t sum_of(const header *one) {
   return sum;
 }
 
-/* The name of this run of the machine; all zeros if it has none. */
-static void read_boot(char boot[40]) {
-  memset(boot, 0, 40);
+/* The name of this run of the machine. SYSTEM. */
+static uint32_t read_boot(char boot[40]) {
   int file = open("/proc/sys/kernel/random/boot_id", O_RDONLY | O_CLOEXEC);
-  if (file < 0) return;
-  if (read(file, boot, 36) != 36) memset(boot, 0, 40);
+  if (file < 0) return ONEFILE_SYSTEM;
+  memset(boot, 0, 40);
+  ssize_t size = read(file, boot, 36);
   close(file);
+  return size == 36 ? ONEFILE_DONE : ONEFILE_SYSTEM;
 }
 
-/* The header of a file for a memory. RANGE. */
+/* The header of a file for a memory. RANGE, SYSTEM. */
 static uint32_t header_for(uint32_t callers, uint32_t blocks, uint64_t lives, header *made) {
   *made = (header){.version = VERSION, .order = ORDER, .callers = callers, .blocks = blocks};
   memcpy(made->magic, magic, sizeof magic);
   made->offset = PAGE;
   made->lives = lives;
-  read_boot(made->boot);
   uint32_t answer = of_c_sizes(callers, blocks, &made->table);
+  if (answer == ONEFILE_DONE) answer = read_boot(made->boot);
   made->sum = sum_of(made);
   return answer;
 }
@@ -187,12 +188,14 @@ static int is_header(const header *one, uint64_t size) {
          memcmp(&sizes, &one->table, sizeof sizes) == 0 && size == size_for(one);
 }
 
-/* Whether the words of a file can be those that were in memory: it was closed, or the machine has
- * run since. */
-static int is_whole(const header *one) {
+/* Whether the words of a file are those that were in memory: it was closed, or the machine has run
+ * since. TORN, SYSTEM. */
+static uint32_t is_whole(const header *one) {
   char boot[40];
-  read_boot(boot);
-  return one->closed == IS_CLOSED || (boot[0] && memcmp(boot, one->boot, sizeof boot) == 0);
+  if (one->closed == IS_CLOSED) return ONEFILE_DONE;
+  uint32_t answer = read_boot(boot);
+  if (answer != ONEFILE_DONE) return answer;
+  return memcmp(boot, one->boot, sizeof boot) == 0 ? ONEFILE_DONE : ONEFILE_TORN;
 }
 
 /* ---- Files. */
@@ -288,6 +291,12 @@ static uint32_t make_file(birth *born, table *one) {
   return ONEFILE_DONE;
 }
 
+/* The answer if the proved code does not take its memory as this file expects. */
+static uint32_t mistaken(void) {
+  errno = ENOTSUP;
+  return ONEFILE_SYSTEM;
+}
+
 /* Whether the memory that was opened has its table in the file: a memory can start from what is
  * there, and knows the same calls. */
 static uint32_t read_back(const birth *born, const table *one) {
@@ -296,11 +305,12 @@ static uint32_t read_back(const birth *born, const table *one) {
   onefile_slot there = {0};
   uint32_t answer = of_c_from_words(head->callers, head->blocks, ONEFILE_GREATEST_LIMIT, durable,
                                     head->table.durable, &there);
+  if (answer == ONEFILE_BAD_FILE || answer == ONEFILE_RANGE) answer = mistaken();
   for (uint32_t i = 0; answer == ONEFILE_DONE && i < head->callers; i++) {
     uint32_t held = 0, wanted = 0;
     of_c_ticket(&there, i, &held);
     of_c_ticket(born->start, i, &wanted);
-    if (held != wanted) answer = ONEFILE_BAD_FILE;
+    if (held != wanted) answer = mistaken();
   }
   of_c_free(&there);
   return answer;
@@ -316,7 +326,7 @@ static uint32_t open_there(const birth *born, table *one, onefile_slot *memory) 
   uint32_t answer = of_c_reopen(born->start, memory);
   unsigned count = awaited.count;
   awaited.bytes = 0;
-  if (answer == ONEFILE_DONE && count != 1) answer = ONEFILE_BAD_FILE;
+  if (answer == ONEFILE_DONE && count != 1) answer = mistaken();
   return answer == ONEFILE_DONE ? read_back(born, one) : answer;
 }
 
@@ -414,7 +424,7 @@ static uint32_t find(int file, const header *head, onefile_slot *found) {
   return answer;
 }
 
-/* The header of a file that holds a memory, and its mode. BAD_FILE, TORN. */
+/* The header of a file that holds a memory, and its mode. BAD_FILE, TORN, SYSTEM. */
 static uint32_t look(int file, header *head, mode_t *mode) {
   struct stat about;
   if (fstat(file, &about) != 0) return refusal();
@@ -422,8 +432,7 @@ static uint32_t look(int file, header *head, mode_t *mode) {
   *mode = about.st_mode & 0777;
   uint32_t answer = read_all(file, head, sizeof *head, 0);
   if (answer != ONEFILE_DONE) return answer;
-  if (!is_header(head, (uint64_t)about.st_size)) return ONEFILE_BAD_FILE;
-  return is_whole(head) ? ONEFILE_DONE : ONEFILE_TORN;
+  return is_header(head, (uint64_t)about.st_size) ? is_whole(head) : ONEFILE_BAD_FILE;
 }
 
 /* Goes on from a file that is locked. What was found is kept in `found`, with new sequences. */

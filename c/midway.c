@@ -214,8 +214,7 @@ static int refuse(trial *call, long at) {
   refused_at = 0;
   if (count < at) return NOT_REACHED;
   if (answer != ONEFILE_DONE) {
-    HOLDS(answer == ONEFILE_NO_MEMORY || answer == ONEFILE_NO_SPACE || answer == ONEFILE_SYSTEM ||
-          answer == ONEFILE_TORN);
+    HOLDS(answer == ONEFILE_NO_MEMORY || answer == ONEFILE_NO_SPACE || answer == ONEFILE_SYSTEM);
     HOLDS(open_files() == files && is_as_before());
     HOLDS(!is_file(beside));
     MUST(call(&memory));

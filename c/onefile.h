@@ -166,9 +166,8 @@ int onefile_free(onefile_memory *memory);
  * Reopening makes a new file, PATH.new, which gets the name PATH once the memory is open in it. The
  * old file is not written. So PATH.new is the library's: what is there goes.
  *
- * You must ensure besides:
+ * /proc must be there, or the answer is ONEFILE_SYSTEM. You must ensure besides:
  *   - The path ends in a zero byte, and the file is on a disk of this machine or in its memory.
- *   - /proc is there. Without it each file that was not closed is ONEFILE_TORN.
  *   - While the memory is open nobody else writes, cuts off, renames or removes the file.
  *   - A forked child uses no memory that was opened in a file before. It may let it go. */
 
@@ -178,9 +177,9 @@ int onefile_open_file(onefile_memory *memory, const char *path, uint32_t callers
                       uint32_t limit);
 
 /* Fills `memory` with one that goes on from the file, in a new file with this name. No call that is
- * held there runs again. The sequences begin anew, so each life has all of them up to `limit`:
- * `seq` of a reply says nothing beyond its life, and `ticket` does. What was found is kept in
- * `saved`, if that is not null: onefile_last_reply tells what the last call of each caller came to.
+ * held there runs again. The sequences begin anew, so each life has all of them up to `limit`, and
+ * `seq` of a reply counts within its life. Tickets go on. What was found is kept in `saved`, if
+ * that is not null: onefile_last_reply tells what the last call of each caller came to.
  * FULL, also if `saved` is not empty; RANGE if there is no such limit; NO_FILE, FILE_IN_USE,
  * BAD_FILE, TORN, NO_SPACE, SYSTEM. */
 int onefile_reopen_file(onefile_memory *memory, const char *path, uint32_t limit,
