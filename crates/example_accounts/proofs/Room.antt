@@ -1,21 +1,15 @@
 -- There is room for an amount in the account that gets it.
-use Rattle.std.proofs.Common.{◌≡◌, ℕ, ◌+◌, ◌-◌, ◌<◌, ◌≤◌, inl, inr, sym, ◌∙◌, ap, subst, arith, true, Some, None, List, [], length, get_or}
+use Rattle.std.proofs.Common.{◌≡◌, ℕ, ◌+◌, ◌-◌, ◌<◌, ◌≤◌, inl, inr, sym, ◌∙◌, ap, subst, arith, Some}
 use Rattle.std.proofs.lemmas.Bool.{cases_eq}
-use Rattle.of_mem.specs.declared.work.RawReply.{RawReply}
-use Rattle.of_mem.specs.Part.{Part, newest_at, write, newer_of, overlaid}
-use Rattle.of_mem.specs.CellMap.{value_for}
-use Rattle.of_mem.specs.Meaning.{KnowsSome, Needs, Gives}
-use Rattle.of_mem.specs.Programs.{RunEnd, Lacks, Ends, run_program, with_value}
-use Rattle.of_mem.specs.ProgramWork.{memory_of, fresh_part, walk_of_run}
+use Rattle.of_mem.specs.Part.{Part, newest_at, write}
+use Rattle.of_mem.specs.Programs.{with_value}
 use Rattle.of_mem.proofs.Changes.{changed_same, changed_other}
-use Rattle.of_mem.proofs.Overlaid.{over_at, RunsAlike, run_alike}
 use Rattle.of_mem.proofs.Runs.{newest_same, newest_other}
-use Rattle.of_mem.proofs.Sounds.{part_fresh}
 use Rattle.example_accounts.specs.declared.accounts.Accounts.{Accounts}
-use Rattle.example_accounts.specs.Accounts.{first_cell, account_cell, cell_count, flipped, balance_in, transferring}
-use Rattle.example_accounts.specs.Meaning.{accounts_meaning, LawfulCells, IsPartOfTable}
+use Rattle.example_accounts.specs.Accounts.{account_cell, cell_count, flipped, balance_in}
+use Rattle.example_accounts.specs.Meaning.{IsPartOfTable}
 use Rattle.example_accounts.specs.Money.{with_balance, balance_below}
-use Rattle.example_accounts.specs.Sound.{taken, good}
+use Rattle.example_accounts.specs.Sound.{taken}
 
 -- where the partial memory after a write has a number, so has the memory that it is part of
 wrote_table : (w : Accounts) (p : Part) (t : IsPartOfTable w p) (a v b y : ℕ) → b < cell_count w → newest_at (write p a v) b ≡ Some y → with_value t.memory a v b ≡ y

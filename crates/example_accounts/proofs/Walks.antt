@@ -1,5 +1,5 @@
 -- The run of a program on partial memory goes as its walk on the known cells with the batch's writes over them. It is so of each work whose operations are programs.
-use Rattle.std.proofs.Common.{◌≡◌, ℕ, ◌<◌, sym, ◌∙◌, ap, subst, arith, cond, Bool, Option, None, Some, List, [], length, get_or}
+use Rattle.std.proofs.Common.{◌≡◌, ℕ, ◌<◌, sym, ◌∙◌, ap, subst, arith, cond, Bool, None, Some, List, [], length, get_or}
 use Rattle.of_mem.specs.declared.work.RawReply.{RawReply}
 use Rattle.of_mem.specs.CellMap.{value_for}
 use Rattle.of_mem.specs.Part.{Part, newest_at, newer_of, overlaid}

@@ -1,7 +1,8 @@
 -- What a day leaves: one history of transfers, which has each that was answered, and all the money.
 use Rattle.std.specs.Prelude.{◌≡◌, ℕ, ◌+◌, ◌≤◌, ◌<◌, List, [], ◌∷◌, ◌++◌, length, map}
 use Rattle.std.specs.List.{All}
-use Rattle.std.proofs.Common.{get_or, replicate}
+use Rattle.std.specs.declared.vec.Vec.{Vec}
+use Rattle.std.proofs.Common.{get_or, replicate, take, Global}
 use Rattle.of_cell.specs.declared.word.TheConstants.{GREATEST_LIMIT}
 use Rattle.of_mem.specs.ProgramWork.{memory_of}
 use Rattle.of_core.specs.declared.place.Outcome.{Outcome}
@@ -53,10 +54,18 @@ abbrev pub HasEnded : (before now : Caller Accounts) → Transfer → Outcome �
 HasEnded before now t o =
     ended_of now ≡ ended_of before ++ record { op = transfer_words t; outcome = o } ∷ []
 
+abbrev pub transfer_of : Answer → Transfer
+transfer_of a = a.transfer
+
+-- the answers are to the first transfers of the job, in its order
+abbrev pub FollowsJob : List Answer → (job : List Transfer) → Type 0
+FollowsJob answers job = map transfer_of answers ≡ take (length answers) job
+
 -- the teller is a caller of the row, and its answers are those of its calls
 pub record Serves (r : Row Accounts) (t : Teller) : Type 0 where
   pub caller : IsCaller accounts_meaning r t.caller
   pub answers : ended_of t.caller ≡ map ended_call t.answers.items
+  pub follows : FollowsJob t.answers.items t.job.items
 
 -- the row's first pass, which has asked for no number below n, and keeps no caller
 pub record Enrols (r : Row Accounts) (n : ℕ) (p : Pass) : Type 0 where
@@ -69,6 +78,7 @@ pub record Enrols (r : Row Accounts) (n : ℕ) (p : Pass) : Type 0 where
 pub record IsLogged (x : KnownCaller) (l : Log) : Type 0 where
   pub number : x.machine.caller ≡ l.number
   pub answers : x.ended ≡ map ended_call l.answers.items
+  pub follows : FollowsJob l.answers.items l.job.items
 
 -- the logs are those of the kept callers, in order
 abbrev pub AreLogged : List KnownCaller → List Log → Type 0
@@ -111,18 +121,25 @@ no_answer = record {
   outcome = Spent 0;
 }
 
--- The history has each transfer of the log with its reply, as the teller's calls from the first on.
--- It has none for which no sequence was left.
-abbrev pub HasLog : Accounts → List Call → Log → Type 0
-HasLog w calls l =
-    (k : ℕ) → k < length l.answers.items →
-    let a : Answer = get_or l.answers.items k no_answer in
-    ExplainsOutcome (setup_with w) calls l.number (k + 1) (transfer_words a.transfer) a.outcome
+-- The log has the first transfers of its job, in their order. The history has each of them with its
+-- reply, as the teller's calls from the first on. It has none for which no sequence was left.
+pub record HasLog (w : Accounts) (calls : List Call) (l : Log) : Type 0 where
+  pub follows : FollowsJob l.answers.items l.job.items
+  pub each : (k : ℕ) → k < length l.answers.items →
+      let a : Answer = get_or l.answers.items k no_answer in
+      ExplainsOutcome (setup_with w) calls l.number (k + 1) (transfer_words a.transfer) a.outcome
 
--- what a day leaves
-pub record IsEvening (w : Accounts) (e : Evening) : Type 0 where
-  -- all accounts together have the money that account 0 had at first
+abbrev pub job_of_teller : Teller → Vec Transfer Global
+job_of_teller t = t.job
+
+abbrev pub job_of : Log → Vec Transfer Global
+job_of l = l.job
+
+-- what a day leaves whose tellers had these jobs
+pub record IsEvening (w : Accounts) (given : List (Vec Transfer Global)) (e : Evening)
+    : Type 0 where
   pub size : length e.cells.items ≡ cell_count w
+  -- all accounts together have the money that account 0 had at first
   pub money : HasAllMoney w (memory_of e.cells.items)
   -- the balances are those after one history, which has the transfers of all logs
   pub calls : List Call
@@ -131,3 +148,5 @@ pub record IsEvening (w : Accounts) (e : Evening) : Type 0 where
   pub balances : (a : ℕ) → a < w.accounts
       → balance_in w (memory_of e.cells.items) a ≡ balance_after w calls a
   pub logs : All (HasLog w calls) e.logs.items
+  -- there is a log for each job, in the order of the jobs
+  pub jobs : map job_of e.logs.items ≡ given

@@ -1,10 +1,12 @@
 //! A day: the tellers work at once, and in the evening the table is closed.
 
-ghost use Rattle.std.specs.Prelude.{◌≡◌, ◌≤◌, length, slice_index_or, IfOk};
+ghost use Rattle.std.specs.Prelude.{◌≡◌, ◌≤◌, ◌<◌, ℕ, length, map, reverse, slice_index_or, IfOk};
+ghost use Rattle.example_accounts.specs.declared.teller.Teller.{Teller as TheTeller};
 ghost use Rattle.std.specs.List.{All};
 ghost use Rattle.of_row.specs.Rows.{key_of, view_of_pass, IsRowPass, KeepsNobody};
 ghost use Rattle.of_row.specs.Passes.{IsFirst};
 ghost use Rattle.example_accounts.specs.Days.{Serves, IsEvening, AreLogged};
+ghost use Rattle.example_accounts.specs.Days.{job_of, job_of_teller};
 
 use crate::accounts::Accounts;
 use crate::evening::close;
@@ -21,7 +23,8 @@ use std::thread::{Threads, for_each_mut};
 pub struct Log {
     /// The teller's number.
     pub number: u32,
-    /// Its transfers, in their order.
+    pub job: Vec<Transfer>,
+    /// The transfers of its job that it has made, in their order.
     pub answers: Vec<Answer>,
 }
 
@@ -43,6 +46,7 @@ fn seat_all(
     requires first { IsFirst row.now pass }
     requires few { length jobs.items ≤ (key_of row.now).callers }
     ensures tellers { IfOk result (λ r. All (Serves row.now) r.0.items) }
+    ensures jobs { IfOk result (λ r. jobs.items ≡ reverse (map job_of_teller r.0.items)) }
     ensures pass { IfOk result (λ r. IsRowPass row.now r.1) }
     ensures nobody { IfOk result (λ r. KeepsNobody r.1) }
 {
@@ -58,7 +62,10 @@ fn seat_all(
 // Lets all tellers work at once, each in a thread of its own if one can be made.
 fn work_all<R: Threads + Sync>(rt: &R, alloc: Global, row: &Row<Accounts>, tellers: &mut [Teller])
     requires { All (Serves row.now) tellers.old }
-    ensures { All (Serves row.now) tellers.new }
+    ensures tellers { All (Serves row.now) tellers.new }
+    ensures len { length tellers.new ≡ length tellers.old }
+    ensures jobs { (i : ℕ) (d : TheTeller) → i < length tellers.old
+        → (slice_index_or tellers.new i d).job ≡ (slice_index_or tellers.old i d).job }
 {
     let threads = tellers.len().max(1);
     for_each_mut(
@@ -81,6 +88,8 @@ fn gather(
     requires tellers { All (Serves row.now) tellers.items }
     ensures pass { IfOk result (λ r. IsRowPass row.now r.1) }
     ensures logs { IfOk result (λ r. AreLogged (view_of_pass r.1).kept r.0.items) }
+    ensures jobs { IfOk result (λ r.
+        map job_of_teller tellers.items ≡ reverse (map job_of r.0.items)) }
 {
     let mut logs = Vec::new(alloc);
     while let Some(teller) = tellers.pop() {
@@ -89,6 +98,7 @@ fn gather(
         pass = row.join(pass, member);
         logs.push(Log {
             number,
+            job: teller.job,
             answers: teller.answers,
         })?;
     }
@@ -103,7 +113,7 @@ pub fn day<R: Threads + Sync>(
     jobs: Vec<Vec<Transfer>>,
 ) -> Result<Evening, AllocError>
     requires { length jobs.items ≤ accounts.callers }
-    ensures { IfOk result (IsEvening accounts) }
+    ensures { IfOk result (IsEvening accounts jobs.items) }
 {
     starts(GREATEST_LIMIT, accounts);
     let (row, pass) = Row::new(alloc, accounts.shape(), GREATEST_LIMIT, accounts)?;

@@ -9,7 +9,7 @@ mod teller;
 mod transfer;
 
 ghost use Rattle.std.specs.Prelude.{◌≡◌, IfOk, length};
-ghost use Rattle.example_accounts.specs.Days.{IsEvening};
+ghost use Rattle.example_accounts.specs.Accounts.{cell_count};
 
 use crate::accounts::Accounts;
 use crate::day::{Evening, day};
@@ -37,7 +37,7 @@ fn jobs(alloc: Global) -> Result<Vec<Vec<Transfer>>, AllocError>
 }
 
 fn show(rt: &impl Print, accounts: Accounts, evening: &Evening) -> Result<()>
-    requires { IsEvening accounts evening.now }
+    requires { length evening.now.cells.items ≡ cell_count accounts }
 {
     for log in &evening.logs {
         print!(rt; "teller {}:", log.number)?;

@@ -90,7 +90,8 @@ fn put(answers: &mut Vec<Answer>, answer: Answer)
 }
 
 impl Teller {
-    // A teller with a number that is free, and the pass that got it.
+    /// A teller with a number that no teller has yet, and the pass that gave it. The error is that
+    /// there is no memory.
     pub fn seat(
         alloc: Global,
         row: &Row<Accounts>,
@@ -101,6 +102,7 @@ impl Teller {
         requires pass { Enrols row.now (number + 1) pass }
         requires number { number < (key_of row.now).callers }
         ensures teller { IfOk result (λ r. Serves row.now r.0) }
+        ensures job { IfOk result (λ r. r.0.job ≡ job) }
         ensures pass { IfOk result (λ r. Enrols row.now number r.1) }
     {
         members(row.work());
@@ -121,32 +123,36 @@ impl Teller {
         }
     }
 
-    /// Makes the transfers of its job, one after the other. Without memory it makes none.
+    /// Makes the transfers of its job that are left, one after the other, until a call stays open.
+    /// Without memory it makes none.
     pub fn work(&mut self, alloc: Global, row: &Row<Accounts>)
         requires { Serves row.now self.old }
-        ensures { Serves row.now self.new }
+        ensures serves { Serves row.now self.new }
+        ensures job { self.new.job ≡ self.old.job }
     {
         let Ok(fuel) = Box::new(alloc, Fuel::new()) else {
             return;
         };
         let mut brake: Box<dyn Brake + Send> = fuel;
-        for i in 0..self.job.len() {
-            let transfer = self.job[i];
-            self.make(row, transfer, &mut brake);
+        for _ in 0..self.job.len() {
+            self.make_next(row, &mut brake);
         }
     }
 
-    // Makes one of them, if it can: if no call is open, and there is a ticket and room for the
-    // answer.
-    fn make(&mut self, row: &Row<Accounts>, transfer: Transfer, brake: &mut Box<dyn Brake + Send>)
+    // Makes the next one, if there is one, no call is open, and a ticket is left.
+    fn make_next(&mut self, row: &Row<Accounts>, brake: &mut Box<dyn Brake + Send>)
         requires { Serves row.now self.old }
         ensures serves { Serves row.now self.new }
         ensures job { self.new.job ≡ self.old.job }
     {
-        let has_room = self.answers.len() < self.answers.capacity();
-        if !has_room || !self.caller.is_idle() || self.caller.made() == u32::MAX {
+        let next = self.answers.len();
+        if next >= self.job.len() || next >= self.answers.capacity() {
             return;
         }
+        if !self.caller.is_idle() || self.caller.made() == u32::MAX {
+            return;
+        }
+        let transfer = self.job[next];
         let outcome = call::<Brand>(row, &mut self.caller, &transfer, brake, Blank::new(1));
         if let Some(outcome) = outcome {
             put(&mut self.answers, Answer { transfer, outcome });
