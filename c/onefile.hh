@@ -1,4 +1,4 @@
-// onefile.hh: onefile.h for C++17, as bank.cc and jobs.cc use it. Memories, callers and what was
+// onefile.hh: onefile.h for C++17, as the programs here use it. Memories, callers and what was
 // saved let go what they hold when their scope ends. They cannot be copied or moved. An answer that
 // is not wanted is thrown.
 #ifndef ONEFILE_HH
@@ -33,6 +33,15 @@ class memory {
     expect(onefile_open(&held, callers, blocks, limit));
   }
   explicit memory(saved &from);
+  // One in a file: it goes on from there, or the file is made.
+  memory(const std::string &path, uint32_t callers, uint32_t blocks,
+         uint32_t limit = ONEFILE_GREATEST_LIMIT) {
+    int answer = onefile_reopen_file(&held, path.c_str(), limit, nullptr);
+    if (answer == ONEFILE_NO_FILE) {
+      answer = onefile_open_file(&held, path.c_str(), callers, blocks, limit);
+    }
+    expect(answer);
+  }
   memory(const memory &) = delete;
   memory &operator=(const memory &) = delete;
   ~memory() { onefile_free(&held); }

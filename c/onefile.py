@@ -1,10 +1,10 @@
-"""onefile.h for Python programs, as bank.py and jobs.py use it: ctypes over libonefile.so, which
-the variable ONEFILE_LIBRARY names. A refusal is raised. Other threads run during a call."""
+"""onefile.h for Python programs, as those here use it: ctypes over libonefile.so, which the variable
+ONEFILE_LIBRARY names. A refusal is raised. Other threads run during a call."""
 import ctypes
 import os
 from ctypes import POINTER, c_char_p, c_int, c_size_t, c_uint32, c_uint64, c_void_p
 
-DONE, STOPPED, ABSENT, NO_ROOM = 0, 10, 15, 16
+DONE, STOPPED, ABSENT, NO_ROOM, NO_FILE = 0, 10, 15, 16, 19
 CAUSE_SHORT = 2
 GREATEST_LIMIT = 4294967294
 NO_END = 2**64 - 1
@@ -40,6 +40,8 @@ LIBRARY = ctypes.CDLL(os.environ.get("ONEFILE_LIBRARY", "libonefile.so"))
 OF = {
     "open": [POINTER(RawMemory), c_uint32, c_uint32, c_uint32],
     "reopen": [POINTER(RawMemory), POINTER(Guarded)],
+    "open_file": [POINTER(RawMemory), c_char_p, c_uint32, c_uint32, c_uint32],
+    "reopen_file": [POINTER(RawMemory), c_char_p, c_uint32, POINTER(Guarded)],
     "enrol": [POINTER(RawMemory), c_uint32],
     "leave": [POINTER(RawMemory), c_uint32],
     "close": [POINTER(RawMemory), POINTER(Guarded)],
@@ -76,12 +78,17 @@ def make(word, *given, wanted=(DONE,)):
 
 
 class Memory:
-    """A memory. It is let go when nothing refers to it, and nothing of it is saved then."""
+    """A memory, which goes on from what was saved, or from the file if there is one. It is let go
+    when nothing refers to it, and nothing of it is saved then but in its file."""
 
-    def __init__(self, callers=0, blocks=0, limit=GREATEST_LIMIT, saved=None):
+    def __init__(self, callers=0, blocks=0, limit=GREATEST_LIMIT, saved=None, path=None):
         self.held = RawMemory()
         if saved:
             make("reopen", self.held, saved.held)
+        elif path:
+            name, wanted = os.fsencode(path), (DONE, NO_FILE)
+            if make("reopen_file", self.held, name, limit, None, wanted=wanted) == NO_FILE:
+                make("open_file", self.held, name, callers, blocks, limit)
         else:
             make("open", self.held, callers, blocks, limit)
 

@@ -1,15 +1,16 @@
-//! onefile.h for Rust programs, as bank.rs and jobs.rs use it: std and `extern "C"` only. What is
+//! onefile.h for Rust programs, as the programs here use it: std and `extern "C"` only. What is
 //! held is in a box, since it must not move, and is let go with it.
 #![allow(dead_code)] // each program uses a part
 
 use std::cell::UnsafeCell;
-use std::ffi::{c_char, c_int, c_void, CStr};
+use std::ffi::{c_char, c_int, c_void, CStr, CString};
 use std::fmt;
 
 pub const DONE: c_int = 0;
 pub const STOPPED: c_int = 10;
 pub const ABSENT: c_int = 15;
 pub const NO_ROOM: c_int = 16;
+pub const NO_FILE: c_int = 19;
 pub const CAUSE_SHORT: u32 = 2;
 pub const GREATEST_LIMIT: u32 = 4_294_967_294;
 pub const NO_END: u64 = u64::MAX;
@@ -56,6 +57,19 @@ extern "C" {
     fn onefile_name(answer: c_int) -> *const c_char;
     fn onefile_open(memory: *mut RawMemory, callers: u32, blocks: u32, limit: u32) -> c_int;
     fn onefile_reopen(memory: *mut RawMemory, saved: *mut Guarded) -> c_int;
+    fn onefile_open_file(
+        memory: *mut RawMemory,
+        path: *const c_char,
+        callers: u32,
+        blocks: u32,
+        limit: u32,
+    ) -> c_int;
+    fn onefile_reopen_file(
+        memory: *mut RawMemory,
+        path: *const c_char,
+        limit: u32,
+        saved: *mut Guarded,
+    ) -> c_int;
     fn onefile_enrol(memory: *mut RawMemory, number: u32) -> c_int;
     fn onefile_leave(memory: *mut RawMemory, number: u32) -> c_int;
     fn onefile_close(memory: *mut RawMemory, saved: *mut Guarded) -> c_int;
@@ -131,6 +145,19 @@ impl Memory {
             unsafe { onefile_reopen(memory.0.get(), saved.0.get()) },
             DONE,
         )?;
+        Ok(memory)
+    }
+
+    /// A memory in a file: it goes on from there, or the file is made. A path has no zero byte.
+    pub fn in_file(path: &str, callers: u32, blocks: u32, limit: u32) -> Result<Memory, Refusal> {
+        let memory = Memory::none();
+        let path = CString::new(path).expect("a path");
+        let (held, name) = (memory.0.get(), path.as_ptr());
+        let answer = match unsafe { onefile_reopen_file(held, name, limit, std::ptr::null_mut()) } {
+            NO_FILE => unsafe { onefile_open_file(held, name, callers, blocks, limit) },
+            answer => answer,
+        };
+        wanted(answer, DONE)?;
         Ok(memory)
     }
 
