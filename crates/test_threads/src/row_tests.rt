@@ -65,7 +65,7 @@ fn compared(
     calls: [&[u64]; 2],
     events: &[Event],
 ) -> Result<Option<Left>, AllocError> {
-    if limit > GREATEST_LIMIT {
+    if callers == 0 || callers > 2 || limit > GREATEST_LIMIT {
         return Ok(None);
     }
     let scripts = Scripts { callers, blocks: 0 };
