@@ -9,7 +9,8 @@
  * Objects. onefile_memory and onefile_saved are structs of yours. Set one to ONEFILE_NONE before
  * you use it first. Then it is empty. onefile_open and onefile_reopen fill a memory, as do
  * onefile_open_file and onefile_reopen_file; onefile_close fills a saved one. onefile_free and
- * onefile_free_saved let go what is held, and leave it empty.
+ * onefile_free_saved let go what is held, and leave it empty. A memory that was just filled has no
+ * caller enrolled, also if it goes on from an earlier one.
  *
  * Answers. A function answers ONEFILE_DONE or the code of a refusal. After a refusal nothing has
  * changed, if the function does not say otherwise here.
@@ -139,7 +140,8 @@ int onefile_reopen(onefile_memory *memory, onefile_saved *saved);
 int onefile_enrol(onefile_memory *memory, uint32_t number);
 
 /* The caller leaves, and its number is free again. A call that is open stays open: it takes effect
- * once or not at all.
+ * once or not at all, and the next caller of this number can go on with it. After a close no call
+ * is open, and onefile_ticket tells whether it took effect.
  * EMPTY, RANGE. */
 int onefile_leave(onefile_memory *memory, uint32_t number);
 
@@ -251,7 +253,8 @@ static inline uint64_t onefile_need(uint32_t key, uint32_t value) {
   return onefile_word((uint64_t)2 << 31, key, value);
 }
 
-/* What a call answered. */
+/* What a call answered. Calls take effect in the order of `seq`. Of those with the same `seq` the
+ * announced ones come first, in the order of their callers' numbers, and then the others. */
 typedef struct onefile_reply {
   uint32_t seq;       /* the sequence at which the call took effect; at SPENT the last one */
   uint32_t announced; /* 1 if other callers could finish the call, 0 if it only read */
@@ -284,8 +287,9 @@ int onefile_call(onefile_memory *memory, uint32_t number, const uint64_t *words,
 int onefile_call_text(onefile_memory *memory, uint32_t number, const char *text, size_t length,
                       onefile_reply *reply);
 
-/* The same, for at most so many steps of the caller. At STOPPED the call is open: it takes effect
- * once or not at all, and another caller may finish it. The reply's `steps` is written then. */
+/* The same, for at most so many steps of the caller. A step is one atomic access to the memory; an
+ * `add` of a memory's only caller makes 49. At STOPPED the call is open: it takes effect once or not
+ * at all, and another caller may finish it. The reply's `steps` is written then. */
 int onefile_call_within(onefile_memory *memory, uint32_t number, const uint64_t *words, size_t count,
                         uint64_t steps, onefile_reply *reply);
 int onefile_call_text_within(onefile_memory *memory, uint32_t number, const char *text,
@@ -306,7 +310,9 @@ int onefile_key(onefile_saved *saved, uint32_t key, uint32_t *value);
 /* The item at this place of a queue (0 to 3), the front at 0. RANGE; ABSENT. */
 int onefile_item(onefile_saved *saved, uint32_t queue, uint32_t at, uint32_t *value);
 
-/* How many calls of the caller are held: the number of its last one. RANGE. */
+/* The number of the caller's last call that is held; 0 if none is. Its calls are numbered from 1,
+ * also those that were not announced, which are not held. If a memory goes on from here, the
+ * caller's next call has the next number. RANGE. */
 int onefile_ticket(onefile_saved *saved, uint32_t number, uint32_t *ticket);
 
 /* The reply to that last call, also if the caller was stopped before it was answered, and its

@@ -273,7 +273,7 @@ impl Saved {
         }
     }
 
-    /// How many calls of a caller are held.
+    /// The number of a caller's last call that is held; 0 if none is.
     pub fn ticket(&self, number: u32) -> Result<u32, Refusal> {
         let mut ticket = 0;
         wanted(
