@@ -14,6 +14,7 @@ use Rattle.of_recover.proofs.Agreeing.{recovered_data-same}
 use Rattle.of_mem.specs.Places.{base_of, ticket_cell_at}
 use Rattle.of_script.specs.declared.instr.TheConstants.{MOST_INSTRS}
 use Rattle.of_mem.specs.declared.work.RawReply.{RawReply}
+use Rattle.of_mem.proofs.Lists.{part_at, part_long}
 use Rattle.of_eval.specs.Shapes.{IsHeldBy}
 use Rattle.of_eval.specs.Lawful.{DataCellsStandFor}
 use Rattle.of_eval.specs.Stored.{cell_store}
@@ -38,13 +39,6 @@ use Rattle.of_caller.proofs.StoresRecovered.{IsOwnCell, same_reply, stand_same}
 use Rattle.of_caller.proofs.RecordsLawful.{MomentFacts}
 use Rattle.of_caller.proofs.Records.{facts}
 use Rattle.of_caller.proofs.LastTickets.{hold_last}
-
--- a part of a list, place by place
-part_at : (ws : List ℕ) (a n i : ℕ) → i < n → get_or (slice_range ws a (a + n)) i 0 ≡ get_or ws (a + i) 0
-part_at ws a n i l = get_or-take (a + n - a) (drop a ws) i 0 (omega arith) ∙ get_or-drop a ws i 0
-
-part_long : (ws : List ℕ) (a n : ℕ) → a + n ≤ length ws → length (slice_range ws a (a + n)) ≡ n
-part_long ws a n l = let e : a + n - a ≡ n = omega arith in length-take-le (a + n - a) (drop a ws) (omega (arith, length-drop a ws)) ∙ e
 
 -- own cells that are the same hold the same
 module _ (f g : ℕ → ℕ) (c n : ℕ) (es : List Entry) (same : (a : ℕ) → IsOwnCell c a → f a ≡ g a) where

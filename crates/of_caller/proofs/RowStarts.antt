@@ -3,6 +3,7 @@ use Rattle.std.proofs.Common.{◌≡◌, ℕ, zero, suc, ◌<◌, List, get_or, 
 use Rattle.of_mem.specs.Meaning.{Meaning}
 use Rattle.of_mem.specs.Places.{base_of}
 use Rattle.of_mem.specs.ProgramWork.{memory_of}
+use Rattle.of_mem.proofs.Lists.{zero_at}
 use Rattle.of_script.specs.declared.instr.TheConstants.{MOST_INSTRS}
 use Rattle.of_eval.specs.declared.scripts.Scripts.{Scripts}
 use Rattle.of_eval.specs.Record.{plan_data_cells}
@@ -48,11 +49,6 @@ module _ (p : Plan) (r : Row Scripts) (row : IsRowOf p r) where
   -- the scripts of a caller that are done are those that the row has behind it
   pub done_is : (s : Start) → StartsAtPlan p s (start_of_row r) → (c : ℕ) → c < p.callers → done_at r c ≡ finished_of s c
   done_is s starts c lt = ticket_is p s (start_of_row r) starts c lt
-
-zero_at : (n c : ℕ) → ◌≡◌ {A = ℕ} (get_or (replicate n 0) c 0) 0
-zero_at zero c = refl
-zero_at (suc n) zero = refl
-zero_at (suc n) (suc c) = zero_at n c
 
 -- a row of zeros has the plan's start
 pub zeros_are : (p : Plan) (r : Row Scripts) → IsRowOf p r → start_of_row r ≡ zero_start (setup_at scripts_meaning r) → start_of_row r ≡ zero_start (plan_setup p)

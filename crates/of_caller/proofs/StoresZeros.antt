@@ -4,6 +4,7 @@ use Rattle.std.proofs.lemmas.List.{length-replicate}
 use Rattle.of_cell.specs.Words.{payload_of}
 use Rattle.of_cell.proofs.Order.{pay_zero}
 use Rattle.of_mem.specs.Places.{base_of, ticket_cell_at, shape_at}
+use Rattle.of_mem.proofs.Lists.{zero_at}
 use Rattle.of_script.specs.declared.instr.TheConstants.{MOST_INSTRS}
 use Rattle.of_eval.specs.SoundScripts.{empty_is_stored}
 use Rattle.of_plan.specs.Plan.{Plan, IsPlan}
@@ -12,12 +13,6 @@ use Rattle.of_core.specs.Events.{zero_start}
 use Rattle.of_caller.specs.Tables.{plan_setup}
 use Rattle.of_caller.specs.Starts.{start_number, ZerosAreEmpty}
 use Rattle.of_caller.proofs.StoresReplay.{number_at}
-
--- a list of zeros has 0 everywhere
-zero_at : (n a : ℕ) → ◌≡◌ {A = ℕ} (get_or (replicate n 0) a 0) 0
-zero_at zero a = refl
-zero_at (suc n) zero = refl
-zero_at (suc n) (suc a) = zero_at n a
 
 module _ (p : Plan) where
   number_zero : (a : ℕ) → start_number (zero_start (plan_setup p)) a ≡ 0

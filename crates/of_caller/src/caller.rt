@@ -14,14 +14,17 @@ use of_row::laws::{idle_members, machines, members};
 use of_row::{Member, Row};
 use std::alloc::{AllocError, Global};
 use std::sync::ledger::Ledger;
+use thiserror::Error;
 
 /// Why a call has no answer.
-#[derive(Clone, Copy)]
+#[derive(Clone, Copy, Debug, PartialEq, Eq, Error)]
 pub enum CallErr {
     /// The brake was asked so many times in this call, and denied the last of them. The call stays
     /// open.
+    #[error("stopped at step {asked}")]
     Stopped { asked: u64 },
     /// The sequence has come to the row's limit `seq` without the call, which is over.
+    #[error("no sequence is left after {seq}")]
     Spent { seq: u32 },
 }
 

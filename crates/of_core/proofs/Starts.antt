@@ -8,20 +8,13 @@ use Rattle.of_cell.specs.declared.word.TheConstants.{PAYLOADS}
 use Rattle.of_cell.specs.Cells.{data_cell, durable_cells}
 use Rattle.of_cell.proofs.Order.{seq_word, pay_word, seq_zero, pay_zero, word_eta}
 use Rattle.of_mem.specs.Meaning.{IsSoundMeaning}
+use Rattle.of_mem.proofs.Lists.{zero_at, part_at, part_long}
 use Rattle.of_core.specs.Table.{Setup, first_operation_cell, cell_count, durable_at, ticket_cell}
 use Rattle.of_core.specs.TableMoment.{TableStart}
 use Rattle.of_core.specs.WordsMatch.{IsStart, MayStart}
 use Rattle.of_core.specs.Events.{zero_start, start_ticket}
 use Rattle.of_core.specs.Laws.{HoldsStart}
 use Rattle.of_core.specs.Starts.{closed_request, first_cells, first_words, start_from_durable}
-
--- a list of zeros has 0 everywhere
-pub zero_at : (n x : ℕ) → get_or {A = ℕ} (replicate n 0) x 0 ≡ 0
-zero_at n x = go (cases_lt x n)
-  where
-    go : (x < n) ⊎ (n ≤ x) → get_or {A = ℕ} (replicate n 0) x 0 ≡ 0
-    go (inl l) = get_or-replicate n x 0 0 l
-    go (inr l) = get_or_past (replicate n 0) x 0 (rw length-replicate l)
 
 -- the closed request has its sequence, and is above the open one
 pub closed_seq : (s : ℕ) → seq_of (closed_request s) ≡ s
@@ -151,13 +144,6 @@ module _ (S : Setup) where
   -- and no call stands behind it
   pub zero_ticket : (i : ℕ) → start_ticket S (zero_start S) i ≡ 0
   zero_ticket i = ap payload_of (zero_at S.cells (ticket_cell S i)) ∙ pay_zero
-
--- the words of the data cells in a durable row
-part_at : (ws : List ℕ) (a n i : ℕ) → i < n → get_or (slice_range ws a (a + n)) i 0 ≡ get_or ws (a + i) 0
-part_at ws a n i l = get_or-take (a + n - a) (drop a ws) i 0 (omega arith) ∙ get_or-drop a ws i 0
-
-part_long : (ws : List ℕ) (a n : ℕ) → a + n ≤ length ws → length (slice_range ws a (a + n)) ≡ n
-part_long ws a n l = let e : a + n - a ≡ n = omega arith in length-take-le (a + n - a) (drop a ws) (omega (arith, length-drop a ws)) ∙ e
 
 module _ (callers cells : ℕ) (row : List ℕ) where
   pub data_long : length row ≡ durable_cells callers cells → length (start_from_durable callers cells row).cells ≡ cells

@@ -4,6 +4,7 @@ use Rattle.std.proofs.lemmas.Bool.{cases_lt, false≢true}
 use Rattle.std.proofs.lemmas.List.{length-replicate}
 use Rattle.of_mem.specs.Places.{shape_at, reply_at}
 use Rattle.of_mem.specs.Numbers.{IsNumber}
+use Rattle.of_mem.proofs.Lists.{zero_at}
 use Rattle.of_script.specs.declared.instr.TheConstants.{MOST_INSTRS}
 use Rattle.of_script.specs.Language.{greatest}
 use Rattle.of_script.specs.declared.instr.Reply.{Reply}
@@ -13,11 +14,6 @@ use Rattle.of_eval.specs.Faults.{IsShapeOf, HasNumber, OwnFault, shape_alone}
 use Rattle.of_eval.specs.Faults.OwnFault.{Left, NoShape, GreatReply}
 use Rattle.of_eval.proofs.Unpacked.{len_is, values_are}
 use Rattle.of_eval.proofs.OwnCells.{filled_at, filled_marks, renumbered, with_numbers, whole_with, shape_with, number_at}
-
-zero_at : (n i : ℕ) → get_or {A = ℕ} (replicate n 0) i 0 ≡ 0
-zero_at zero i = refl
-zero_at (suc n) zero = refl
-zero_at (suc n) (suc i) = zero_at n i
 
 -- two replies of one shape have numbers at the same places
 same_numbers : (instrs shape : ℕ) (r s : Reply) → IsShapeOf instrs shape r → IsShapeOf instrs shape s → (r.len ≡ s.len) × ((j : ℕ) → HasNumber r j → HasNumber s j)

@@ -17,12 +17,15 @@ use of_mem::{BUCKETS, Plot};
 use of_script::QUEUES;
 use of_store::Store;
 use std::alloc::{AllocError, Global};
+use thiserror::Error;
 
 /// Why cells are answered with no store: there is no memory, or they stand for none, and this is
 /// the first cell at fault.
-#[derive(Clone, Copy, Debug, PartialEq, Eq)]
+#[derive(Clone, Copy, Debug, PartialEq, Eq, Error)]
 pub enum LawErr {
+    #[error("out of memory")]
     Memory,
+    #[error("cell {cell} stands for no store")]
     Unlawful { cell: u32 },
 }
 

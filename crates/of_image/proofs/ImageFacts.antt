@@ -15,6 +15,7 @@ use Rattle.of_recover.proofs.Kept.{others_kept, recovered_twice}
 use Rattle.of_mem.specs.declared.plot.Plot.{Plot}
 use Rattle.of_mem.specs.Plots.{data_cell_count}
 use Rattle.of_mem.specs.Places.{base_of, cells_at}
+use Rattle.of_mem.proofs.Lists.{part_at, part_long}
 use Rattle.of_script.specs.declared.instr.TheConstants.{MOST_INSTRS}
 use Rattle.of_report.specs.declared.image.Image.{Image as Held}
 use Rattle.of_image.specs.declared.error.ImageErr.{ImageErr}
@@ -22,7 +23,7 @@ use Rattle.of_image.specs.declared.error.ImageErr.TheVariants.{Memory, Bad, Unla
 use Rattle.of_image.specs.declared.version.Version.{Version}
 use Rattle.of_report.specs.ImageRow.{DurableRow, IsRow, row_cell_count, row_in}
 use Rattle.of_image.specs.Version.{instrs_of}
-use Rattle.of_report.proofs.Recovery.{part_at, part_long, row_long}
+use Rattle.of_report.proofs.Recovery.{row_long}
 use Rattle.of_image.specs.ImageText.{SpellsImage}
 use Rattle.of_report.specs.ImageLaw.{IsLawfulRow}
 use Rattle.of_image.specs.RowFault.{IsRowFault}

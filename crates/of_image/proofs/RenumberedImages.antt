@@ -10,6 +10,7 @@ use Rattle.of_cell.specs.Cells.{data_cell}
 use Rattle.of_cell.proofs.Order.{seq_word, pay_word, pay_small}
 use Rattle.of_script.specs.declared.instr.TheConstants.{MOST_INSTRS}
 use Rattle.of_mem.specs.ProgramWork.{memory_of}
+use Rattle.of_mem.proofs.Lists.{map_range_same}
 use Rattle.of_recover.specs.Row.{is_open}
 use Rattle.of_recover.specs.Recovered.{is_data, recovered_words}
 use Rattle.of_recover.specs.Renumbered.{renumbered_words, BeginsAnew}
@@ -25,10 +26,6 @@ use Rattle.of_image.proofs.PrintedImages.{printed_again}
 small_word : (p : ℕ) → p < 4294967296 → pack 0 p < 2 ^ 64
 unfolding pack
 small_word p h = omega arith
-
--- two functions with the same values below a bound
-same_below : (f g : ℕ → ℕ) (n : ℕ) → ((a : ℕ) → a < n → f a ≡ g a) → map f (range_with_len 0 n) ≡ map g (range_with_len 0 n)
-same_below f g n h = fill_by_all g (map f (range_with_len 0 n)) n 0 (length-map-range_with_len f 0 n) (λ k l. get_or-map-range_with_len f 0 n k k 0 l (omega arith) ∙ h k l)
 
 module _ (i : Image) (h : IsImage MOST_INSTRS i) where
   abbrev r : DurableRow
@@ -73,7 +70,7 @@ module _ (i : Image) (h : IsImage MOST_INSTRS i) where
     number_same a l = ap payload_of (anew.numbers a l) ∙ pay_word 0 (payload_of (get_or r.words (data_cell r.callers a) 0)) (pay_small (get_or r.words (data_cell r.callers a) 0))
 
     numbers_same : data_numbers_in MOST_INSTRS (renumbered_row MOST_INSTRS r) ≡ data_numbers_in MOST_INSTRS r
-    numbers_same = same_below (λ a. payload_of (get_or vs (data_cell r.callers a) 0)) (λ a. payload_of (get_or r.words (data_cell r.callers a) 0)) M number_same
+    numbers_same = map_range_same (λ a. payload_of (get_or vs (data_cell r.callers a) 0)) (λ a. payload_of (get_or r.words (data_cell r.callers a) 0)) M number_same
 
     none_newer : (a : ℕ) → a < M → seq_of (get_or vs (data_cell r.callers a) 0) ≤ seq_of (get_or vs 0 0)
     none_newer a l =

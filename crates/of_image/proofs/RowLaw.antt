@@ -10,6 +10,7 @@ use Rattle.of_cell.specs.Cells.{data_cell, durable_cells}
 use Rattle.of_mem.specs.declared.plot.Plot.{Plot}
 use Rattle.of_mem.specs.Plots.{data_cell_count}
 use Rattle.of_mem.specs.ProgramWork.{memory_of}
+use Rattle.of_mem.proofs.Lists.{part_at, part_long}
 use Rattle.of_recover.specs.Row.{IsDurableRow}
 use Rattle.of_store.specs.Store.{Store}
 use Rattle.of_eval.specs.Lawful.{DataCellsStandFor}
@@ -17,7 +18,6 @@ use Rattle.of_eval.specs.Faults.{IsFirstFault}
 use Rattle.of_eval.proofs.FaultLaws.{first_excludes}
 use Rattle.of_eval.proofs.OneFault.{one_fault}
 use Rattle.of_eval.proofs.OneStore.{one_store}
-use Rattle.of_report.proofs.Recovery.{part_at, part_long}
 use Rattle.of_report.specs.ImageRow.{DurableRow, row_in, data_numbers_in}
 use Rattle.of_report.specs.ImageLaw.{NoneNewer, IsLawfulRow}
 use Rattle.of_image.specs.declared.law.Law.{Law}

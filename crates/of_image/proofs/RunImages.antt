@@ -7,6 +7,7 @@ use Rattle.of_cell.specs.Words.{seq_of, payload_of}
 use Rattle.of_cell.specs.Cells.{data_cell}
 use Rattle.of_mem.specs.Places.{ticket_cell_at}
 use Rattle.of_mem.specs.ProgramWork.{memory_of}
+use Rattle.of_mem.proofs.Lists.{map_range_same}
 use Rattle.of_script.specs.declared.instr.TheConstants.{MOST_INSTRS}
 use Rattle.of_recover.specs.Row.{IsDurableRow, is_open}
 use Rattle.of_recover.specs.Recovered.{recovered_words}
@@ -23,14 +24,6 @@ use Rattle.of_report.proofs.Cells.{stands_for_same}
 use Rattle.of_image.specs.declared.version.Version.TheVariants.{Two}
 use Rattle.of_image.specs.ImageText.{image_text, SpellsImage}
 use Rattle.of_image.specs.RunImage.{durable_row, row_left_by_run, HasOwnerAndNoneNewer, IsImageOf}
-
--- functions that agree below a number
-map_range_same : (f g : ℕ → ℕ) (n : ℕ) → ((k : ℕ) → k < n → f k ≡ g k) → map f (range_with_len 0 n) ≡ map g (range_with_len 0 n)
-map_range_same f g n same =
-    ext_get_or 0 (map f (range_with_len 0 n)) (map g (range_with_len 0 n)) (length-map-range_with_len f 0 n ∙ sym (length-map-range_with_len g 0 n))
-    (λ k lt.
-    let l : k < n = omega (arith, lt, length-map-range_with_len f 0 n) in
-    get_or-map-range_with_len f 0 n k k 0 l (omega arith) ∙ same k l ∙ sym (get_or-map-range_with_len g 0 n k k 0 l (omega arith)))
 
 module _ (p : Plan) (s : Start) (e : Ended) (r : Report) (plan : IsPlan p) (lawful : IsLawfulRecord p s e r) where
   abbrev N : ℕ

@@ -10,6 +10,7 @@ use Rattle.of_cell.proofs.Order.{seq_zero}
 use Rattle.of_recover.specs.Row.{IsDurableRow}
 use Rattle.of_mem.specs.Places.{ticket_cell_at}
 use Rattle.of_mem.specs.ProgramWork.{memory_of}
+use Rattle.of_mem.proofs.Lists.{part_at, part_long}
 use Rattle.of_script.specs.declared.instr.TheConstants.{MOST_INSTRS}
 use Rattle.of_eval.specs.Lawful.{DataCellsStandFor}
 use Rattle.of_plan.specs.Plan.{Plan}
@@ -24,13 +25,6 @@ use Rattle.of_report.specs.Image.{Image, IsImage, image_ticket}
 use Rattle.of_report.specs.Image.{start_of_image as image_start}
 use Rattle.of_lives.specs.Restarts.{start_from_row}
 use Rattle.of_lives.specs.Images.{PlanFitsImage}
-
--- a part of a list, place by place
-pub part_at : (ws : List ℕ) (a n i : ℕ) → i < n → get_or (slice_range ws a (a + n)) i 0 ≡ get_or ws (a + i) 0
-part_at ws a n i l = get_or-take (a + n - a) (drop a ws) i 0 (omega arith) ∙ get_or-drop a ws i 0
-
-pub part_long : (ws : List ℕ) (a n : ℕ) → a + n ≤ length ws → length (slice_range ws a (a + n)) ≡ n
-part_long ws a n l = let e : a + n - a ≡ n = omega arith in length-take-le (a + n - a) (drop a ws) (omega (arith, length-drop a ws)) ∙ e
 
 -- ---- the start that a row is
 

@@ -11,6 +11,7 @@ use Rattle.of_recover.proofs.Kept.{others_kept}
 use Rattle.of_recover.proofs.Rows.{length-recovered}
 use Rattle.of_mem.specs.Places.{ticket_cell_at}
 use Rattle.of_mem.specs.ProgramWork.{memory_of}
+use Rattle.of_mem.proofs.Lists.{part_at, part_long}
 use Rattle.of_script.specs.declared.instr.TheConstants.{MOST_INSTRS}
 use Rattle.of_eval.specs.Lawful.{DataCellsStandFor}
 use Rattle.of_eval.specs.Record.{plan_data_cells}
@@ -26,7 +27,7 @@ use Rattle.of_report.specs.Image.{Image, image_ticket, start_of_image, IsRestore
 use Rattle.of_lives.specs.Lives.{Life, start_behind, finished_behind}
 use Rattle.of_lives.specs.Restarts.{LeavesRow}
 use Rattle.of_lives.specs.Continuing.{LeavesImage}
-use Rattle.of_lives.proofs.ImageStarts.{part_at, part_long, word_at, numbers_are, number_is}
+use Rattle.of_lives.proofs.ImageStarts.{word_at, numbers_are, number_is}
 
 -- the durable words of a table are its durable row
 pub row_durable : (p : Plan) (e : Ended) → length e.words ≡ table_words p.callers MOST_INSTRS (plan_data_cells p) → IsDurable (plan_setup p) e.words (durable_row p e).words

@@ -7,7 +7,7 @@ use Rattle.std.proofs.lemmas.List.{length-map, get_or-map, map-set, append_assoc
 use Rattle.std.proofs.lemmas.List.Elements.{All-set, All-replicate, All-append}
 use Rattle.of_mem.specs.Eras.{slot_number, slot_numbers, all_slots, IsUpToEra}
 
-equals : (a : ℕ) → (a == a) ≡ true
+pub equals : (a : ℕ) → (a == a) ≡ true
 equals a = grind (arith, nat_tests)
 
 -- the slots of all cells

@@ -1,3 +1,4 @@
+pub mod Lists
 pub mod Indexed
 pub mod Cells
 pub mod Eras

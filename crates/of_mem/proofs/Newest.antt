@@ -9,9 +9,7 @@ use Rattle.of_mem.specs.CellMap.{CellMap, IsCellMap, value_for, put_pair, put_al
 use Rattle.of_mem.specs.Part.{Part, newest_at, newer_of, empty_part, learn, write, keep}
 use Rattle.of_mem.specs.Newest.{HasNewest}
 use Rattle.of_mem.proofs.Indexed.{value_at_put, value_at-absent}
-
-equals : (a : ℕ) → (a == a) ≡ true
-equals a = grind (arith, nat_tests)
+use Rattle.of_mem.proofs.Eras.{equals}
 
 -- the older of two lists of pairs has no address twice
 absent_behind : (p : CellMap) (i : ℕ) → IsCellMap p → i < length p.entries → IsAbsent (drop (i + 1) p.entries) (entry_address p.entries i)

@@ -13,13 +13,10 @@ use Rattle.of_eval.specs.declared.scripts.Scripts.{Scripts}
 use Rattle.of_eval.specs.Scripts.{scripts_data_cells, LawfulCells}
 use Rattle.of_core.specs.TableMoment.{TableStart}
 use Rattle.of_core.specs.Starts.{IsStartRow, start_from_durable}
-use Rattle.of_report.proofs.Recovery.{part_long}
 use Rattle.of_image.proofs.RowLaw.{numbers_are}
 use Rattle.of_memory.specs.Laws.{setup_with}
 use Rattle.of_memory.proofs.Reading.{word_in}
-
-same_below : (f g : ℕ → ℕ) (n : ℕ) → ((a : ℕ) → a < n → f a ≡ g a) → map f (range_with_len 0 n) ≡ map g (range_with_len 0 n)
-same_below f g n h = fill_by_all g (map f (range_with_len 0 n)) n 0 (length-map-range_with_len f 0 n) (λ k l. get_or-map-range_with_len f 0 n k k 0 l (omega arith) ∙ h k l)
+use Rattle.of_mem.proofs.Lists.{map_range_same, part_long}
 
 module _ (w : Scripts) (old new : List ℕ) (long : IsDurableRow w.callers (scripts_data_cells w) old) (anew : BeginsAnew w.callers (scripts_data_cells w) old new) where
   abbrev cells : ℕ
@@ -37,7 +34,7 @@ module _ (w : Scripts) (old new : List ℕ) (long : IsDurableRow w.callers (scri
   pub numbers_anew : map payload_of (start_from_durable w.callers (scripts_data_cells w) new).cells ≡ map payload_of (start_from_durable w.callers (scripts_data_cells w) old).cells
   numbers_anew =
       numbers_are n cells new anew.size
-      ∙ same_below (λ a. payload_of (get_or new (data_cell n a) 0)) (λ a. payload_of (get_or old (data_cell n a) 0)) cells number
+      ∙ map_range_same (λ a. payload_of (get_or new (data_cell n a) 0)) (λ a. payload_of (get_or old (data_cell n a) 0)) cells number
       ∙ sym (numbers_are n cells old long)
 
   size : length now.cells ≡ cells

@@ -5,6 +5,7 @@ use Rattle.of_cell.specs.Words.{payload_of}
 use Rattle.of_cell.proofs.Order.{pay_zero}
 use Rattle.of_cell.specs.declared.shape.Shape.{Shape}
 use Rattle.of_mem.specs.ProgramWork.{memory_of}
+use Rattle.of_mem.proofs.Lists.{zero_at}
 use Rattle.of_store.specs.Store.{Store, empty_store}
 use Rattle.of_cell.specs.declared.word.TheConstants.{GREATEST_LIMIT}
 use Rattle.of_eval.specs.declared.scripts.Scripts.{Scripts}
@@ -24,11 +25,6 @@ use Rattle.of_memory.specs.Laws.{setup_with, StandsAt, HoldsLastReplies}
 use Rattle.of_caller.specs.PlanRows.{start_of_row}
 use Rattle.of_memory.specs.Serving.{IsScriptsRow, IsNew, Serves, ServeAll, AllStand, made_before}
 use Rattle.of_memory.specs.Memories.{IsMemory, HasMadeOf, row_of}
-
-zero_at : (n a : ℕ) → ◌≡◌ {A = ℕ} (get_or (replicate n 0) a 0) 0
-zero_at zero a = refl
-zero_at (suc n) zero = refl
-zero_at (suc n) (suc a) = zero_at n a
 
 number_zero : (n a : ℕ) → memory_of (map payload_of (replicate n 0)) a ≡ 0
 number_zero n a = number_at (replicate n 0) a ∙ ap payload_of (zero_at n a) ∙ pay_zero

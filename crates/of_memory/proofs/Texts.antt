@@ -12,6 +12,7 @@ use Rattle.of_mem.specs.declared.plot.Plot.{Plot}
 use Rattle.of_mem.specs.Plots.{data_cell_count}
 use Rattle.of_mem.specs.Places.{base_of, cells_at, ticket_cell_at}
 use Rattle.of_mem.specs.ProgramWork.{memory_of}
+use Rattle.of_mem.proofs.Lists.{part_long}
 use Rattle.of_recover.specs.Row.{is_open}
 use Rattle.of_script.specs.declared.instr.TheConstants.{MOST_INSTRS}
 use Rattle.of_store.specs.Store.{Store}
@@ -24,7 +25,6 @@ use Rattle.of_caller.proofs.StoresReplay.{number_at}
 use Rattle.of_report.specs.ImageRow.{DurableRow, row_cell_count}
 use Rattle.of_report.specs.ImageLaw.{IsLawfulRow}
 use Rattle.of_report.specs.Image.{Image, IsImage, IsRestored, image_ticket}
-use Rattle.of_report.proofs.Recovery.{part_long}
 use Rattle.of_image.specs.declared.version.Version.TheVariants.{Two}
 use Rattle.of_image.specs.ImageText.{SpellsImage, table_row}
 use Rattle.of_image.specs.Parsed.{ReadsImage}

@@ -15,6 +15,7 @@ use Rattle.of_order.specs.Dropping.{IsBetweenBuckets, IsInsideBucket, IsDropping
 use Rattle.of_order.proofs.Walking.{is_suc}
 use Rattle.of_order.proofs.Dropping.{at_block, block_below, stays, leaves, leaves_inside, list_left, block_out}
 use Rattle.of_order.proofs.Drops.{at_first, in_drops, within_first}
+use Rattle.of_order.proofs.Rests.{turn, none_left}
 
 -- the partial memory is part of a memory that stands inside bucket i
 pub record Stays (plot : Plot) (p : Part) (low i cell pointer gone : ℕ) : Type 0 where
@@ -149,12 +150,6 @@ module _ (o low n cell gone : ℕ) (p : Part) where
       ∙ ap (λ (x : Part). run_program (then_do (give_program o (f - 1)) (after_give o (drop_walk o low n) cell g gone)) x) (sym same)
 
 -- ---- one bucket of so many
-
-turn : (n i : ℕ) → i < n → n - i ≡ suc (n - (i + 1))
-turn n i l = omega arith
-
-none_left : (n i : ℕ) → n ≤ i → n - i ≡ 0
-none_left n i l = omega arith
 
 one_more : (o blocks low j i gone : ℕ) → drop_buckets o blocks low (suc j) i gone ≡ then_do (drop_in_program o blocks i low gone) (drop_buckets o blocks low j (i + 1))
 unfolding drop_buckets

@@ -1,3 +1,4 @@
+pub mod Rests
 pub mod Best
 pub mod Buckets
 pub mod Walking

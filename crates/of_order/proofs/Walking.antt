@@ -16,6 +16,7 @@ use Rattle.of_mem.proofs.Heaps.{front_bucket}
 use Rattle.of_mem.proofs.Runs.{run_read, run_unknown}
 use Rattle.of_order.specs.Means.{better_of}
 use Rattle.of_order.specs.OrderPrograms.{least_walk, at_pointer, weigh_key, weigh_link, least_in_program, least_buckets}
+use Rattle.of_order.proofs.Rests.{turn, none_left}
 
 -- this pointer leads through a chain of blocks of the plot
 pub record Points (plot : Plot) (p : Part) (pointer : ℕ) : Type 0 where
@@ -95,12 +96,6 @@ module _ (o low n : ℕ) (p : Part) (best : Option ℕ) where
       ∙ ap (λ (x : Option ℕ). run_program (least_walk o low n g x) p) (sym same)
 
 -- one bucket of so many
-turn : (n i : ℕ) → i < n → n - i ≡ suc (n - (i + 1))
-turn n i l = omega arith
-
-none_left : (n i : ℕ) → n ≤ i → n - i ≡ 0
-none_left n i l = omega arith
-
 one_more : (o blocks low j i : ℕ) (best : Option ℕ) → least_buckets o blocks low (suc j) i best ≡ then_do (least_in_program o blocks i low best) (least_buckets o blocks low j (i + 1))
 unfolding least_buckets
 one_more o blocks low j i best = refl

@@ -1,5 +1,6 @@
 -- Every schedule of a plan's scripts leads from the plan's empty start to a moment of it.
 use Rattle.std.proofs.Common.{◌≡◌, ℕ, ◌<◌, List, map, take, drop, sym, ap, ◌∙◌, arith}
+use Rattle.of_mem.proofs.Lists.{zero_at}
 use Rattle.of_plan.specs.Plan.{Plan, scripts_of}
 use Rattle.of_plan.specs.Report.{empty_start, finished_of}
 use Rattle.of_core.specs.Calls.{operations_begun, outcomes}
@@ -7,7 +8,7 @@ use Rattle.of_core.specs.Events.{Event, IsSchedule, zero_start}
 use Rattle.of_caller.specs.Tables.{plan_setup, opening_for, operation_of}
 use Rattle.of_caller.specs.Left.{IsOfPlan, moment_after}
 use Rattle.of_caller.specs.Runs.{AreNextScripts, IsMomentOf}
-use Rattle.of_play.proofs.PlaysMoments.{IsPlayable, zero_at}
+use Rattle.of_play.proofs.PlaysMoments.{IsPlayable}
 
 pub none_finished : (p : Plan) (c : ℕ) → finished_of (empty_start p) c ≡ 0
 none_finished p c = zero_at p.callers c

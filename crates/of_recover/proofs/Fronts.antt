@@ -17,7 +17,7 @@ use Rattle.of_recover.specs.Log.{owner_log_word, entry_count, entry_addr, log_en
 use Rattle.of_recover.specs.Recovered.{replayed_data, recovered_data, is_data, recovered_word, recovered_words}
 use Rattle.of_recover.specs.Walk.{after_entry, HasReplayed}
 use Rattle.of_recover.specs.Writes.{words_after_writes, entry_writes, log_writes, recovery_writes, IsUnderway}
-use Rattle.of_recover.proofs.Entries.{picked, first_more, range_push, replays_none, replays_more, same_entry, entry_within}
+use Rattle.of_recover.proofs.Entries.{picked, first_more, range_push, replays_none, replays_more, same_entry, entry_within, not_less_self}
 use Rattle.of_recover.proofs.Rows.{length-recovered, recovered_at, left_alone, brought_to_end, inside, outside}
 use Rattle.of_recover.proofs.Kept.{recovered_twice}
 
@@ -31,14 +31,11 @@ map_ext : (f g : ℕ → ℕ) → ((j : ℕ) → f j ≡ g j) → (o : Option �
 map_ext f g e None = refl
 map_ext f g e (Some x) = ap Some (e x)
 
-not_less : (a b : ℕ) → a ≡ b → nat_lt a b ≡ false
-not_less a b e = grind (arith, nat_tests)
-
 -- a picked word is picked again
 picked_again : (older : Bool) (o : Option ℕ) (value : ℕ → ℕ) (own s : ℕ) → nat_lt (seq_of own) s ≡ older → ((k : ℕ) → seq_of (value k) ≡ s)
     → picked (nat_lt (seq_of (picked older o value own)) s) o value (picked older o value own) ≡ picked older o value own
 picked_again true None value own s e f = rw e refl
-picked_again true (Some k) value own s e f = rw (not_less (seq_of (value k)) s (f k)) refl
+picked_again true (Some k) value own s e f = rw (not_less_self (seq_of (value k)) s (f k)) refl
 picked_again false o value own s e f = rw e refl
 
 -- two readers that agree on every cell that isn't a data cell, and each data cell has the word of the one, or what recovery makes of it
@@ -129,7 +126,7 @@ underway_recovers N M old new size h =
 pub still_older : (older : Bool) (o : Option ℕ) (value : ℕ → ℕ) (own s : ℕ) → nat_lt (seq_of own) s ≡ older → ((k : ℕ) → seq_of (value k) ≡ s)
     → nat_lt (seq_of (picked older o value own)) s ≡ (is_none o && older)
 still_older true None value own s e f = e
-still_older true (Some k) value own s e f = not_less (seq_of (value k)) s (f k)
+still_older true (Some k) value own s e f = not_less_self (seq_of (value k)) s (f k)
 still_older false None value own s e f = e
 still_older false (Some k) value own s e f = e
 

@@ -14,6 +14,7 @@ use Rattle.of_recover.specs.Walk.{after_entry, lands, HasReplayed}
 use Rattle.of_recover.specs.Writes.{words_after_writes, entry_writes, log_writes, recovery_writes}
 use Rattle.of_recover.proofs.Entries.{same_zero, same_log, entry_within, replays_none, replays_more}
 use Rattle.of_recover.proofs.Fronts.{still_older, log_writes_more, one_at_most, entry_step, log_written, all_of}
+use Rattle.of_recover.proofs.Agreeing.{few}
 
 -- n entries have made the row `words` of `old` by as many of their writes as may be made, of which
 -- `left` are left; while more may be made these are all of their writes
@@ -116,11 +117,6 @@ module _ (N M : ℕ) (old : List ℕ) (size : IsDurableRow N M old) where
       more = omega (arith, spent_length N M (λ c. get_or old c 0) most n (omega (arith, h.more)));
       replays = λ m. absurd (omega arith);
     }
-
-few : (c : Bool) (k n : ℕ) → (b : Bool) → nat_le k n ≡ b → (if c && b then k else 0) ≤ n
-few true k n true e = grind (arith, nat_tests)
-few true k n false e = omega arith
-few false k n b e = omega arith
 
 -- what a replay of at most so many writes leaves, and the closing behind it where one more may be made
 module _ (N M : ℕ) (old : List ℕ) where

@@ -12,6 +12,7 @@ use Rattle.of_mem.specs.Meaning.{WalkEnd, Needs, Gives, Agrees, WalkFits, IsFini
 use Rattle.of_mem.specs.ProgramWork.{memory_of}
 use Rattle.of_mem.proofs.Overlaid.{over_length, over_at}
 use Rattle.of_mem.proofs.Writes.{written_length}
+use Rattle.of_mem.proofs.Lists.{zero_at}
 use Rattle.of_script.specs.declared.instr.Instr.{Instr}
 use Rattle.of_script.specs.declared.instr.Reply.{Reply as RustReply}
 use Rattle.of_script.specs.declared.instr.TheConstants.{MOST_INSTRS}
@@ -68,11 +69,6 @@ not_written low a xs (e ∷ es) l h = not_written low a (set xs e.0 e.1) es l (�
 zeros_known : (n : ℕ) → replicate {A = Option ℕ} n (Some 0) ≡ map Some (replicate {A = ℕ} n 0)
 zeros_known zero = refl
 zeros_known (suc n) = ap (λ (l : List (Option ℕ)). Some 0 ∷ l) (zeros_known n)
-
-zero_at : (n a : ℕ) → ◌≡◌ {A = ℕ} (get_or (replicate n 0) a 0) 0
-zero_at zero a = refl
-zero_at (suc n) zero = refl
-zero_at (suc n) (suc a) = zero_at n a
 
 -- cells that are all known to be 0 hold the empty store
 pub zeros_hold : (w : Scripts) (p : Part) (n : ℕ) → n ≡ scripts_data_cells w → length p.known ≡ scripts_data_cells w → take n p.known ≡ replicate n (Some 0) → p.batch ≡ [] → p.script ≡ [] → CellsHoldStore (record { scripts = w; part = p }) (empty_store w.blocks)

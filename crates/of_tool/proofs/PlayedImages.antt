@@ -2,6 +2,7 @@
 use Rattle.std.proofs.Common.{◌≡◌, ℕ, ◌+◌, ◌<◌, ◌≤◌, List, get_or, refl, sym, ap, subst, ◌∙◌, arith}
 use Rattle.of_cell.specs.Words.{seq_of}
 use Rattle.of_cell.specs.Cells.{data_cell, durable_place}
+use Rattle.of_mem.proofs.Lists.{part_at}
 use Rattle.of_recover.specs.Recovered.{recovered_words}
 use Rattle.of_plan.specs.Plan.{Plan}
 use Rattle.of_plan.specs.Ended.{Ended}
@@ -12,7 +13,7 @@ use Rattle.of_core.specs.Starts.{IsDurable, IsStartRow}
 use Rattle.of_core.specs.Events.{zero_start}
 use Rattle.of_caller.specs.Tables.{plan_setup, IsLawfulFor}
 use Rattle.of_caller.specs.Left.{moment_after}
-use Rattle.of_report.proofs.Recovery.{part_at, row_long, row_at}
+use Rattle.of_report.proofs.Recovery.{row_long, row_at}
 use Rattle.of_image.specs.declared.version.Version.TheVariants.{Two}
 use Rattle.of_image.specs.ImageText.{image_text, SpellsImage}
 use Rattle.of_image.specs.RunImage.{durable_row, HasOwnerAndNoneNewer, RecordsHaveImages}

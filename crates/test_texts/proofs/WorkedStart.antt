@@ -7,6 +7,7 @@ use Rattle.std.proofs.lemmas.Bool.Decides.{nat_tests}
 use Rattle.of_cell.specs.Words.{pack, seq_of, payload_of}
 use Rattle.of_cell.specs.Cells.{data_cell}
 use Rattle.of_mem.specs.ProgramWork.{memory_of}
+use Rattle.of_mem.proofs.Lists.{none_at}
 use Rattle.of_script.specs.declared.instr.Instr.TheVariants.{Store}
 use Rattle.of_script.specs.declared.instr.TheConstants.{MOST_INSTRS}
 use Rattle.of_recover.specs.Recovered.{recovered_words}
@@ -21,7 +22,7 @@ use Rattle.of_report.specs.Image.{Image, IsRestored, start_of_image}
 use Rattle.of_image.specs.declared.version.Version.TheVariants.{Two}
 use Rattle.of_image.specs.Parsed.{ReadsImage}
 use Rattle.of_image.proofs.PrintedImages.{printed_again}
-use Rattle.test_texts.proofs.Worked.{two_calls, table_of, durable_rows, first_answer, first_done, behind_ended, behind_told, behind_lawful, cells_with, cells_stand, each_of, only, none_from, first_whole, two_scripts}
+use Rattle.test_texts.proofs.Worked.{two_calls, table_of, durable_rows, first_answer, first_done, behind_ended, behind_told, behind_lawful, cells_with, cells_stand, each_of, only, first_whole, two_scripts}
 
 -- the durable words that the first call left: cell, sequence and payload
 abbrev first_rows : List (ℕ × ℕ × ℕ)
@@ -80,7 +81,7 @@ no_number : (v : ℕ) → ◌≡◌ {A = Option ℕ} None (Some v) → ⊥
 no_number v e = cc
 
 first_held : IsHeldBy (reply_in MOST_INSTRS (memory_of (cells_with 1 65536 0 7)) 0) first_answer.reply
-first_held = (first_whole, record { shape = refl; numbers = λ i v e. absurd (no_number v (sym (none_from 16 i) ∙ e)) })
+first_held = (first_whole, record { shape = refl; numbers = λ i v e. absurd (no_number v (sym (none_at 16 i) ∙ e)) })
 
 first_store_is : IsState first_done.store
 first_store_is = last_store_keeps (empty_store 0) ((Store 3 7 ∷ []) ∷ []) (empty_is 0 (lit≤ tt)) (two_scripts.0, tt)

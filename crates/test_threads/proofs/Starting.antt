@@ -9,6 +9,7 @@ use Rattle.of_script.specs.Reading.{instr_at}
 use Rattle.of_eval.specs.Scripts.{LawfulCells, scripts_meaning}
 use Rattle.of_eval.specs.SoundScripts.{scripts_sound}
 use Rattle.test_threads.specs.Starts.{alone, stored_row, MayStartFrom}
+use Rattle.of_mem.proofs.Lists.{zero_at}
 
 -- whether no word is newer than the sequence
 abbrev are_old : ℕ → List ℕ → Bool
@@ -23,11 +24,6 @@ all_old s (w ∷ ws) e a = go (nat_le (seq_of w) s) refl e (λ h. all_old s ws h
     go true q e f zero = grind (arith, nat_tests)
     go true q e f (suc a) = f e a
     go false q e f a = cc
-
-zero_at : (n a : ℕ) → get_or {A = ℕ} (replicate n 0) a 0 ≡ 0
-zero_at zero a = refl
-zero_at (suc n) zero = refl
-zero_at (suc n) (suc a) = zero_at n a
 
 -- the words of its script store 3 7
 abbrev store_3_7 : List ℕ

@@ -9,13 +9,7 @@ use Rattle.of_order.specs.OrderPrograms.{drop_walk, drop_front, after_give}
 use Rattle.of_order.proofs.DropWalks.{stays_first, stays_below, stays_on, goes_out, stays_behind, cell_fits, drop_end, drop_needs_key, drop_needs_link, drop_on, drop_out}
 use Rattle.of_order.proofs.drop_in.Goals as goal
 use Rattle.of_order.proofs.drop_in.Goals.{then-found-key+in_ok-give, else-found-key}
-
--- there is a turn left
-turn : (n i : ℕ) → i < n → n - i ≡ suc (n - (i + 1))
-turn n i l = omega arith
-
-whole : (n : ℕ) → n ≡ n - 0
-whole n = omega arith
+use Rattle.of_order.proofs.Rests.{turn, whole}
 
 pub loop-step-init : goal.loop-step-init
 loop-step-init c = record {

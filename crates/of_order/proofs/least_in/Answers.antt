@@ -7,13 +7,7 @@ use Rattle.of_mem.proofs.Runs.{run_read}
 use Rattle.of_order.specs.OrderPrograms.{least_walk, from_front}
 use Rattle.of_order.proofs.Walking.{points_first, points_below, points_on, least_end, least_needs_key, least_needs_link, least_on}
 use Rattle.of_order.proofs.least_in.Goals as goal
-
--- there is a turn left
-turn : (n i : ℕ) → i < n → n - i ≡ suc (n - (i + 1))
-turn n i l = omega arith
-
-whole : (n : ℕ) → n ≡ n - 0
-whole n = omega arith
+use Rattle.of_order.proofs.Rests.{turn, whole}
 
 pub loop-step-init : goal.loop-step-init
 loop-step-init c = record {
