@@ -1,9 +1,15 @@
 -- What a function that reads the front of a text has answered.
 use Rattle.std.specs.Prelude.{◌≡◌, ℕ, List, MatchOption, Option, Some, None}
 use denote.Ref.{Bor}
+use Rattle.of_script.specs.declared.instr.Instr.{Instr}
 use Rattle.of_script.specs.Text.{text_words}
 
 -- the answer is the number that is read and the bytes of the other words, or none where none is
 abbrev pub HasReadNumber : Option (ℕ × List (List ℕ)) → Option (ℕ × Bor (List ℕ)) → Type 0
 HasReadNumber wanted answer =
+    MatchOption answer (wanted ≡ None) (λ x. wanted ≡ Some (x.0, text_words x.1.now))
+
+-- the same of an instruction
+abbrev pub HasReadFront : Option (Instr × List (List ℕ)) → Option (Instr × Bor (List ℕ)) → Type 0
+HasReadFront wanted answer =
     MatchOption answer (wanted ≡ None) (λ x. wanted ≡ Some (x.0, text_words x.1.now))

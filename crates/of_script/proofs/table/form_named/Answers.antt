@@ -15,14 +15,14 @@ pub returns-in_err-form : goal.returns-in_err-form
 returns-in_err-form c =
     c.from_residual.ensures ∙ none_named c.args.name.now (λ f e is. (let wrong : Some f ≡ None = sym e ∙ sym c.form_between.ensures ∙ c.in_err-form.was in absurd cc))
 
-pub returns-then-eq : goal.returns-then-eq
-returns-then-eq c =
-    let is = (bytes_eq-Decides c.args.name.now c.name.result.now).0 (sym c.eq.ensures ∙ c.if-eq.true) ∙ c.name.ensures in
+pub returns-then-is_named : goal.returns-then-is_named
+returns-then-is_named c =
+    let is = (bytes_eq-Decides c.args.name.now (instr_name c.in_ok-form.form)).0 (sym c.is_named.ensures ∙ c.if-is_named.true) in
     sym (ap form_named is ∙ between_named _ _ c.in_ok-form.form (sym c.form_between.ensures ∙ c.in_ok-form.was))
 
 pub returns : goal.returns
 returns c =
     none_named c.args.name.now (λ f e is.
     let same : f ≡ c.in_ok-form.form = (let both : Some f ≡ Some c.in_ok-form.form = sym e ∙ sym c.form_between.ensures ∙ c.in_ok-form.was in cc) in
-    let eq = (bytes_eq-Decides c.args.name.now c.name.result.now).1 (is ∙ ap instr_name same ∙ sym c.name.ensures) in
-    let wrong : true ≡ false = sym eq ∙ sym c.eq.ensures ∙ c.if-eq.false in absurd cc)
+    let eq = (bytes_eq-Decides c.args.name.now (instr_name c.in_ok-form.form)).1 (is ∙ ap instr_name same) in
+    let wrong : true ≡ false = sym eq ∙ sym c.is_named.ensures ∙ c.if-is_named.false in absurd cc)
