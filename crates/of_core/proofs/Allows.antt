@@ -48,7 +48,7 @@ module _ (S : Setup) (Lawful : List ℕ → Type 0) (m : CallState) (found : ℕ
   try_current_upto q = rw (found_at TryCurrent q) h.good.core.shared.counted.limit
 
   pub tries_few : m.place ≡ TryCurrent → m.tries < MOST_TRIES
-  tries_few q = (place_at TryCurrent q).3
+  tries_few q = (place_at TryCurrent q).few
 
   pub load_current_owner : m.place ≡ LoadCurrent → payload_of found < S.callers
   load_current_owner q = rw (found_at LoadCurrent q) h.good.core.shared.counted.owner_in
@@ -57,7 +57,7 @@ module _ (S : Setup) (Lawful : List ℕ → Type 0) (m : CallState) (found : ℕ
   load_current_upto q = rw (found_at LoadCurrent q) h.good.core.shared.counted.limit
 
   pub rounds_few : m.place ≡ LoadCurrent → m.rounds ≤ 2
-  rounds_few q = (place_at LoadCurrent q).2.few
+  rounds_few q = (place_at LoadCurrent q).between.few
 
   -- the operation has words
   helper_words : MayHelp S h.start h.world.words h.world.batches h.caller m → 1 ≤ length m.op
@@ -69,29 +69,29 @@ module _ (S : Setup) (Lawful : List ℕ → Type 0) (m : CallState) (found : ℕ
   mode_words false e p = absurd (let z : ◌≡◌ {A = Bool} false true = e in cc)
 
   pub request_words : m.place ≡ TryRequest → 1 ≤ length m.op
-  request_words q = (place_at TryRequest q).0.fresh.some
+  request_words q = (place_at TryRequest q).trying.fresh.some
 
   pub cell_words : (a : ℕ) → m.place ≡ TryCell a → 1 ≤ length m.op
-  cell_words a q = (place_at (TryCell a) q).0.fresh.some
+  cell_words a q = (place_at (TryCell a) q).trying.fresh.some
 
   pub look_words : m.place ≡ LookAgain → 1 ≤ length m.op
-  look_words q = helper_words (place_at LookAgain q).0.helper
+  look_words q = helper_words (place_at LookAgain q).copies.helper
 
   pub closed_words : m.place ≡ RaiseClosed → m.helps ≡ true → 1 ≤ length m.op
-  closed_words q e = mode_words m.helps e (place_at RaiseClosed q).0.mode
+  closed_words q e = mode_words m.helps e (place_at RaiseClosed q).applies.mode
 
   -- the log that is helped with
   pub copy_count : (x : ℕ) → m.place ≡ CopyLog x → get_or (with_log_word_copied m found) 0 0 ≤ S.cells
-  copy_count x q = rw (found_at (CopyLog x) q) (copied_count S Lawful h.start h.world h.good.core h.caller m h.in_range m x (place_at (CopyLog x) q).0)
+  copy_count x q = rw (found_at (CopyLog x) q) (copied_count S Lawful h.start h.world h.good.core h.caller m h.in_range m x (place_at (CopyLog x) q).copies)
 
   pub look_log : m.place ≡ LookAgain → found ≡ pack m.seq 0 → (es : List (ℕ × ℕ)) × (m.copy ≡ log_words es) × IsLog S es
   look_log q e =
       let f = found_at LookAgain q in
       let a = place_at LookAgain q in
-      let b = a.0.copied (sym f ∙ e) in
+      let b = a.copies.copied (sym f ∙ e) in
       let es : List (ℕ × ℕ) = (batch_at h.start h.world.batches m.seq).log in
-      let whole : length m.copy ≡ length (log_words es) = a.1 (sym f ∙ e) in
-      (es, b.1 ∙ take_all (length m.copy) (log_words es) (omega (arith, whole)), h.good.core.shared.counted.logs m.seq a.0.after a.0.current_word.upto)
+      let whole : length m.copy ≡ length (log_words es) = a.whole (sym f ∙ e) in
+      (es, b.1 ∙ take_all (length m.copy) (log_words es) (omega (arith, whole)), h.good.core.shared.counted.logs m.seq a.copies.after a.copies.current_word.upto)
 
   -- the state of a sequence that stands
   numbers_length : (s : ℕ) → h.start.seq ≤ s → s ≤ h.start.seq + length h.world.batches → length (numbers_after h.start h.world.batches s) ≡ S.cells
@@ -103,25 +103,25 @@ module _ (S : Setup) (Lawful : List ℕ → Type 0) (m : CallState) (found : ℕ
       let f : found ≡ data_word S h.world.words x = found_at (TryCell x) q in
       let a = place_at (TryCell x) q in
       let fresh : seq_of (data_word S h.world.words x) ≤ m.seq = rw (← f) l in
-      let upto : m.seq ≤ h.start.seq + length h.world.batches = omega (arith, a.1.upto, h.good.core.shared.counted.count) in (
+      let upto : m.seq ≤ h.start.seq + length h.world.batches = omega (arith, a.current_word.upto, h.good.core.shared.counted.count) in (
         numbers_after h.start h.world.batches m.seq,
-        numbers_length m.seq a.1.from upto,
-        h.good.core.shared.stands.lawful m.seq a.1.from upto,
-        rw f (watch_more S Lawful h.start h.world h.good.core h.caller m h.in_range m.seq m.owner m a.1 a.3 x a.4 fresh).agrees,
+        numbers_length m.seq a.current_word.from upto,
+        h.good.core.shared.stands.lawful m.seq a.current_word.from upto,
+        rw f (watch_more S Lawful h.start h.world h.good.core h.caller m h.in_range m.seq m.owner m a.current_word a.state x a.in_cells fresh).agrees,
       )
 
   -- the announcement of the caller that the scan has come to
   pub announced_small : m.place ≡ LoadAnnouncement → payload_of found ≤ S.instrs
-  announced_small q = rw (found_at LoadAnnouncement q) (h.good.core.shared.heard.small m.scan (place_at LoadAnnouncement q).3)
+  announced_small q = rw (found_at LoadAnnouncement q) (h.good.core.shared.heard.small m.scan (place_at LoadAnnouncement q).in_range)
 
   pub announced_some : m.place ≡ LoadAnnouncement → 0 < seq_of found → 1 ≤ payload_of found
-  announced_some q = rw (found_at LoadAnnouncement q) (h.good.core.shared.heard.some m.scan (place_at LoadAnnouncement q).3)
+  announced_some q = rw (found_at LoadAnnouncement q) (h.good.core.shared.heard.some m.scan (place_at LoadAnnouncement q).in_range)
 
   pub heard_small : m.place ≡ LoadTicket → payload_of m.heard ≤ S.instrs
-  heard_small q = (place_at LoadTicket q).4.small
+  heard_small q = (place_at LoadTicket q).heard.small
 
   pub heard_some : m.place ≡ LoadTicket → 0 < seq_of m.heard → 1 ≤ payload_of m.heard
-  heard_some q = (place_at LoadTicket q).4.some
+  heard_some q = (place_at LoadTicket q).heard.some
 
   -- no call that was run is that caller's, so nothing lies over its ticket cell
   value_absent : (es : List (ℕ × ℕ)) (a : ℕ) → ((j : ℕ) → j < length es → (get_or es j (0, 0)).0 ≡ a → ⊥) → value_for es a ≡ None
@@ -134,11 +134,11 @@ module _ (S : Setup) (Lawful : List ℕ → Type 0) (m : CallState) (found : ℕ
   ticket_unnamed q = value_absent m.log (ticket_cell S m.scan) none
     where
       o : IsInScan S h.start h.world.words h.world.batches h.caller m
-      o = (place_at LoadAnnouncement q).2
+      o = (place_at LoadAnnouncement q).scan
 
       none : (j : ℕ) → j < length m.log → (get_or m.log j (0, 0)).0 ≡ ticket_cell S m.scan → ⊥
       none j l e =
-          let low : (get_or m.log j (0, 0)).0 < first_operation_cell S = omega (arith, e, room_for m.scan S.callers (S.instrs + 2) (place_at LoadAnnouncement q).3) in
+          let low : (get_or m.log j (0, 0)).0 < first_operation_cell S = omega (arith, e, room_for m.scan S.callers (S.instrs + 2) (place_at LoadAnnouncement q).in_range) in
           let r = o.over.rows j l low in
           let c : ℕ = (get_or m.calls r.0 no_call).caller in
           let under : c < m.scan = o.below r.0 no_call r.1 in
@@ -146,13 +146,13 @@ module _ (S : Setup) (Lawful : List ℕ → Type 0) (m : CallState) (found : ℕ
 
   -- a script of which a word is loaded
   pub script_many : (j : ℕ) → m.place ≡ LoadScript j → length m.script ≡ j
-  script_many j q = (place_at (LoadScript j) q).5.many
+  script_many j q = (place_at (LoadScript j) q).loaded.many
 
   pub script_some : (a : ℕ) → m.place ≡ LoadCell a → 1 ≤ length m.script
   script_some a q =
       let p = place_at (LoadCell a) q in
-      let new : 0 < seq_of m.heard = omega (arith, p.5.new) in
-      omega (arith, p.5.many, p.4.some new)
+      let new : 0 < seq_of m.heard = omega (arith, p.loaded.new) in
+      omega (arith, p.loaded.many, p.heard.some new)
 
   -- what is known in a scan, under the log, agrees with what its calls lead to
   scan_agrees : IsSoundMeaning S.meaning Lawful (first_operation_cell S) S.cells → (n : CallState) → IsPastOwnTicket S h.start h.world.words h.world.batches h.caller n → IsInScan S h.start h.world.words h.world.batches h.caller n
@@ -169,11 +169,11 @@ module _ (S : Setup) (Lawful : List ℕ → Type 0) (m : CallState) (found : ℕ
       )
 
   pub script_agrees : IsSoundMeaning S.meaning Lawful (first_operation_cell S) S.cells → (j : ℕ) → m.place ≡ LoadScript j → (xs : List ℕ) × (length xs ≡ S.cells) × Lawful xs × Agrees (overlaid m.known m.log) xs
-  script_agrees sound j q = let a = place_at (LoadScript j) q in scan_agrees sound m a.0 a.2
+  script_agrees sound j q = let a = place_at (LoadScript j) q in scan_agrees sound m a.scanning.past a.scanning.scan
 
   pub cell_agrees : IsSoundMeaning S.meaning Lawful (first_operation_cell S) S.cells → (x : ℕ) → m.place ≡ LoadCell x → seq_of found ≤ m.seq → (xs : List ℕ) × (length xs ≡ S.cells) × Lawful xs × Agrees (overlaid (with_cell_known S m x found) m.log) xs
   cell_agrees sound x q l =
       let f : found ≡ data_word S h.world.words x = found_at (LoadCell x) q in
       let a = place_at (LoadCell x) q in
       let fresh : seq_of (data_word S h.world.words x) ≤ m.seq = rw (← f) l in
-      rw f (scan_agrees sound (record m { known = with_cell_known S m x (data_word S h.world.words x) }) (learn_past S Lawful h.start h.world h.good.core h.caller m h.in_range m a.0 x a.6 fresh) a.2)
+      rw f (scan_agrees sound (record m { known = with_cell_known S m x (data_word S h.world.words x) }) (learn_past S Lawful h.start h.world h.good.core h.caller m h.in_range m a.scanning.past x a.in_cells fresh) a.scanning.scan)

@@ -125,22 +125,22 @@ module _ (S : Setup) (Lawful : List ℕ → Type 0) (B : TableStart) (w : Moment
   store_script_kept j a = stored ci j v j_in f.quieted t heard (after_store_script m j (nat_lt (j + 1) (length m.op))) (go (nat_lt (j + 1) (length m.op)) refl)
     where
       f : IsUnannounced S B w.words w.batches i m
-      f = a.0
+      f = a.fresh
 
       ci : m.caller ≡ i
-      ci = a.0.caller
+      ci = a.fresh.caller
 
       v : ℕ
       v = get_or m.op j 0
 
       j_in : j < S.instrs + 1
-      j_in = omega (arith, a.2, f.words)
+      j_in = omega (arith, a.more, f.words)
 
       us : List ℕ
       us = set w.words (script_word_at S m.caller j) v
 
       ann_same : (c : ℕ) → announcement_of S us c ≡ announcement_of S w.words c
-      ann_same c = others ci j v j_in f.quieted c S.instrs (omega arith) (λ q r. omega (arith, a.2, f.words))
+      ann_same c = others ci j v j_in f.quieted c S.instrs (omega arith) (λ q r. omega (arith, a.more, f.words))
 
       t : Touches S Lawful B i w.words us w.batches
       t = touches ci j v j_in f.quieted (λ c l. inl (ann_same c))
@@ -171,44 +171,44 @@ module _ (S : Setup) (Lawful : List ℕ → Type 0) (B : TableStart) (w : Moment
       said_now : script_words_of S us i (j + 1) ≡ take (j + 1) m.op
       said_now =
           ap (script_words_of S us i) (suc_is j)
-          ∙ ap (λ (xs : List ℕ). xs ++ script_word S us i j ∷ []) (said_below S w.words us i j (λ y l. others ci j v j_in f.quieted i y (omega (arith, j_in)) (λ q r. omega arith)) ∙ a.3)
+          ∙ ap (λ (xs : List ℕ). xs ++ script_word S us i j ∷ []) (said_below S w.words us i j (λ y l. others ci j v j_in f.quieted i y (omega (arith, j_in)) (λ q r. omega arith)) ∙ a.script)
           ∙ ap (λ (k : ℕ). take j m.op ++ k ∷ []) (here ci j v j_in f.quieted)
-          ∙ sym (take_more m.op j 0 a.2)
+          ∙ sym (take_more m.op j 0 a.more)
         where
           suc_is : (n : ℕ) → n + 1 ≡ suc n
           suc_is n = omega arith
 
       go : (b : Bool) → nat_lt (j + 1) (length m.op) ≡ b → HoldsAtPlace S B us w.batches i (after_store_script m j b) (after_store_script m j b).place
-      go true e = (fresh _ refl refl refl refl refl, calm ci j v j_in f.quieted a.1, (let z : j + 1 < length m.op = grind (arith, nat_tests) in z), said_now)
+      go true e = record { fresh = fresh _ refl refl refl refl refl; calm = calm ci j v j_in f.quieted a.calm; more = (let z : j + 1 < length m.op = grind (arith, nat_tests) in z); script = said_now }
       go false e =
           let z : length m.op ≤ j + 1 = not_newer (j + 1) (length m.op) e in
-          let q : length m.op ≡ j + 1 = omega (arith, a.2) in
-          (fresh _ refl refl refl refl refl, calm ci j v j_in f.quieted a.1, ap (script_words_of S us i) q ∙ said_now ∙ take_all (j + 1) m.op (omega (arith, q)))
+          let q : length m.op ≡ j + 1 = omega (arith, a.more) in
+          record { fresh = fresh _ refl refl refl refl refl; calm = calm ci j v j_in f.quieted a.calm; script = ap (script_words_of S us i) q ∙ said_now ∙ take_all (j + 1) m.op (omega (arith, q)) }
 
   pub store_announcement_kept : HoldsAtPlace S B w.words w.batches i m StoreAnnouncement → KeepsGuarantee S Lawful B i w (after_counted_step S i m StoreAnnouncement w)
-  store_announcement_kept a = stored ci S.instrs v x_in f.quieted t heard (take_word_at S m (announcement_of S w.words m.caller) StoreAnnouncement) (
-    record {
+  store_announcement_kept a = stored ci S.instrs v x_in f.quieted t heard (take_word_at S m (announcement_of S w.words m.caller) StoreAnnouncement) (record {
+    begun = record {
       caller = ci;
       ticket = f.ticket;
       words = f.words;
       some = f.some;
       kept = keeps ci S.instrs v x_in f.quieted m.kept f.kept;
       says = now;
-      script = said_below S w.words us i (length m.op) (λ y l. others ci S.instrs v x_in f.quieted i y (omega (arith, f.words)) (λ q r. omega (arith, f.words))) ∙ a.2;
+      script = said_below S w.words us i (length m.op) (λ y l. others ci S.instrs v x_in f.quieted i y (omega (arith, f.words)) (λ q r. omega (arith, f.words))) ∙ a.script;
       upto = rw last_same (omega (arith, f.above));
       beyond = omega (arith, f.above, tickets_grow S Lawful B w.batches g.shared.stands B.seq (committed_seq w.words) i (omega arith) (omega (arith, n_is)) (omega (arith, n_is)) h);
       mine = λ k l u y d z q r. absurd (none k l (rw last_same at u) y d z q r);
       known = λ l. absurd (omega (arith, f.rounds));
-    },
-    calm ci S.instrs v x_in f.quieted a.1,
-    record { few = omega (arith, f.rounds); later = λ l. absurd (omega (arith, f.rounds)) },
-  )
+    };
+    calm = calm ci S.instrs v x_in f.quieted a.calm;
+    between = record { few = omega (arith, f.rounds); later = λ l. absurd (omega (arith, f.rounds)) };
+  })
     where
       f : IsUnannounced S B w.words w.batches i m
-      f = a.0
+      f = a.fresh
 
       ci : m.caller ≡ i
-      ci = a.0.caller
+      ci = a.fresh.caller
 
       v : ℕ
       v = pack m.made (length m.op)

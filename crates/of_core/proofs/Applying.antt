@@ -14,6 +14,7 @@ use Rattle.of_core.specs.History.{batch_at, data_word_after}
 use Rattle.of_core.specs.WordsMatch.{WordsHaveTheirKind, IsRequest, IsLastOpen, DataCellsMatchState, IsEntry, DurableWordsMatch}
 use Rattle.of_core.specs.Rounds.{MayHelp}
 use Rattle.of_core.specs.Transaction.{IsApplying, AppliesAs}
+use Rattle.of_core.specs.Places.{IsAtEntry}
 use Rattle.of_core.specs.Invariant.{HoldsAtPlace, MeetsCore}
 use Rattle.of_core.specs.Guarantees.{KeepsGuarantee}
 use Rattle.of_core.proofs.States.{old, named_at, named_later, unnamed, cases_named}
@@ -73,6 +74,10 @@ module _ (S : Setup) (Lawful : List ℕ → Type 0) (B : TableStart) where
         mode_of true false z q = cc
         mode_of false true z q = cc
 
+    entry_as : (xs : List ℕ) (j : ℕ) → IsAtEntry S B xs w.batches i m j → (n : CallState)
+        → n.caller ≡ m.caller → n.made ≡ m.made → n.op ≡ m.op → n.seq ≡ m.seq → n.owner ≡ m.owner → n.log ≡ m.log → n.raw ≡ m.raw → n.helps ≡ m.helps → n.kept ≡ m.kept → n.rounds ≡ m.rounds → n.first ≡ m.first → n.tries ≡ m.tries → IsAtEntry S B xs w.batches i n j
+    entry_as xs j p n a b c d e f r hh kk rr ff tt1 = record { applies = applies_as xs j j p.applies n a b c d e f r hh kk rr ff tt1 (omega arith); more = rw f p.more; durable = rw d p.durable }
+
     target_in : (j : ℕ) → IsApplying S B w.words w.batches i m j → (k : ℕ) → k < length m.log → IsEntry S (log_entry m k)
     target_in j p k l = let t = p.log.each k l in subst (λ (e : ℕ × ℕ). IsEntry S e) t.2 ((g.shared.counted.logs m.seq p.after p.upto).entries t.0 (0, 0) t.1)
 
@@ -84,12 +89,17 @@ module _ (S : Setup) (Lawful : List ℕ → Type 0) (B : TableStart) where
         found = data_word S w.words (log_entry m j).0
 
         go : (b : Bool) → nat_lt (seq_of found) m.seq ≡ b → HoldsAtPlace S B w.words w.batches i (after_load_target m j found b) (after_load_target m j found b).place
-        go true e = (applies_as w.words j j a.0 _ refl refl refl refl refl refl refl refl refl refl refl refl (omega arith), a.1, a.2, (let x : seq_of found < m.seq = grind (arith, nat_tests) in x), inl refl)
-        go false e = (applies_as w.words j j a.0 _ refl refl refl refl refl refl refl refl refl refl refl refl (omega arith), a.1, a.2, (let x : m.seq ≤ seq_of found = grind (arith, nat_tests) in x), omega arith, held_now S Lawful B w g (log_entry m j).0 (target_in j a.0 j a.1).0)
+        go true e = record { entry = entry_as w.words j a _ refl refl refl refl refl refl refl refl refl refl refl refl; older = (let x : seq_of found < m.seq = grind (arith, nat_tests) in x); found = inl refl }
+        go false e = record {
+          entry = entry_as w.words j a _ refl refl refl refl refl refl refl refl refl refl refl refl;
+          newer = (let x : m.seq ≤ seq_of found = grind (arith, nat_tests) in x);
+          low = omega arith;
+          held = held_now S Lawful B w g (log_entry m j).0 (target_in j a.applies j a.more).0;
+        }
 
     pub reload_target_kept : (j : ℕ) → HoldsAtPlace S B w.words w.batches i m (ReloadTarget j) → KeepsGuarantee S Lawful B i w (after_counted_step S i m (ReloadTarget j) w)
     reload_target_kept j a = assemble_read S Lawful B w g i h _ _ (take_word_at S m (data_word S w.words (log_entry m j).0) (ReloadTarget j)) (set-get_or w.words (S.callers + 1 + (log_entry m j).0) 0) (append-nil w.batches)
-        (applies_as w.words j j a.0 _ refl refl refl refl refl refl refl refl refl refl refl refl (omega arith), a.1, a.2, a.3, omega arith, held_now S Lawful B w g (log_entry m j).0 (target_in j a.0 j a.1).0)
+        (record { entry = entry_as w.words j a.entry _ refl refl refl refl refl refl refl refl refl refl refl refl; newer = a.newer; low = omega arith; held = held_now S Lawful B w g (log_entry m j).0 (target_in j a.entry.applies j a.entry.more).0 })
 
     pub exchange_target_kept : (j f : ℕ) → HoldsAtPlace S B w.words w.batches i m (ExchangeTarget j f) → KeepsGuarantee S Lawful B i w (after_counted_step S i m (ExchangeTarget j f) w)
     exchange_target_kept j f a = go (found == f) refl
@@ -104,7 +114,7 @@ module _ (S : Setup) (Lawful : List ℕ → Type 0) (B : TableStart) where
         new = pack m.seq (log_entry m j).1
 
         e : IsEntry S (log_entry m j)
-        e = target_in j a.0 j a.1
+        e = target_in j a.entry.applies j a.entry.more
 
         n_is : committed_seq w.words ≡ B.seq + length w.batches
         n_is = g.shared.counted.count
@@ -120,7 +130,7 @@ module _ (S : Setup) (Lawful : List ℕ → Type 0) (B : TableStart) where
         go false q =
             let y : found ≡ f → ⊥ = grind (arith, nat_tests) in
             assemble_read S Lawful B w g i h _ _ n (set-get_or w.words (S.callers + 1 + x) 0) (append-nil w.batches)
-            (applies_as w.words j j a.0 n refl refl refl refl refl refl refl refl refl refl refl refl (omega arith), a.1, a.2, newer y a.4)
+            (record { entry = entry_as w.words j a.entry n refl refl refl refl refl refl refl refl refl refl refl refl; newer = newer y a.found })
           where
             newer : (found ≡ f → ⊥) → (found ≡ f) ⊎ (m.seq ≤ seq_of found) → m.seq ≤ seq_of found
             newer y (inl z) = absurd (y z)
@@ -128,7 +138,7 @@ module _ (S : Setup) (Lawful : List ℕ → Type 0) (B : TableStart) where
         go true q =
             rw (append-nil w.batches)
             (assemble S Lawful B w g i h vs w.batches n (moves_of S Lawful B i w.words vs w.batches (touches i) g.shared) (shared_of S Lawful B i w.words vs w.batches (touches i) g.shared data_cells durable (heard_of S Lawful B i w.words vs w.batches (touches i) g.shared behind (λ p l. rw (log_kept_at p) (g.shared.heard.counts p l))) kinds)
-            (applies_as vs j j kept.0 n refl refl refl refl refl refl refl refl refl refl refl refl (omega arith), kept.1, kept.2, rw here (omega (arith, new_seq))))
+            (record { entry = entry_as vs j kept.entry n refl refl refl refl refl refl refl refl refl refl refl refl; newer = rw here (omega (arith, new_seq)) }))
           where
             vs : List ℕ
             vs = set w.words (S.callers + 1 + x) new
@@ -167,7 +177,7 @@ module _ (S : Setup) (Lawful : List ℕ → Type 0) (B : TableStart) where
             open_same o = record { any = rw current_same o.any; asks = rw current_same (req_same (committed_owner w.words) g.shared.counted.owner_in ∙ o.asks) }
 
             older : seq_of found < m.seq
-            older = rw same a.3
+            older = rw same a.older
 
             cell_same : (y : ℕ) → (y ≡ x → ⊥) → data_word S vs y ≡ data_word S w.words y
             cell_same y r = elsewhere (S.callers + 1 + y) (omega arith)
@@ -177,13 +187,13 @@ module _ (S : Setup) (Lawful : List ℕ → Type 0) (B : TableStart) where
             is_last = last_or (g.shared.data_cells.each x e.0) (cases_lt m.seq (committed_seq w.words))
               where
                 t : (k : ℕ) × (k < length (batch_at B w.batches m.seq).log) × (get_or (batch_at B w.batches m.seq).log k (0, 0) ≡ log_entry m j)
-                t = a.0.log.each j a.1
+                t = a.entry.applies.log.each j a.entry.more
 
                 from : (n : ℕ) → m.seq ≤ n → n ≤ B.seq + length w.batches → m.seq ≤ seq_of (data_word_after B w.batches n x)
-                from n l k = subst (λ (e : ℕ × ℕ). m.seq ≤ seq_of (data_word_after B w.batches n e.0)) t.2 (named_later S B w.batches g.shared.start (logs_of S Lawful B w g) m.seq n t.0 a.0.after l k t.1)
+                from n l k = subst (λ (e : ℕ × ℕ). m.seq ≤ seq_of (data_word_after B w.batches n e.0)) t.2 (named_later S B w.batches g.shared.start (logs_of S Lawful B w g) m.seq n t.0 a.entry.applies.after l k t.1)
 
                 last_or : (found ≡ data_word_after B w.batches (committed_seq w.words) x) ⊎ (IsLastOpen B w.words × (found ≡ data_word_after B w.batches (committed_seq w.words - 1) x)) → (m.seq < committed_seq w.words) ⊎ (committed_seq w.words ≤ m.seq) → m.seq ≡ committed_seq w.words
-                last_or d (inr l) = omega (arith, a.0.upto)
+                last_or d (inr l) = omega (arith, a.entry.applies.upto)
                 last_or (inl d) (inl l) = absurd (omega (arith, older, from (committed_seq w.words) (omega arith) (omega (arith, n_is)), ap seq_of d))
                 last_or (inr d) (inl l) = absurd (omega (arith, older, from (committed_seq w.words - 1) (omega arith) (omega (arith, n_is)), ap seq_of d.1))
 
@@ -216,8 +226,8 @@ module _ (S : Setup) (Lawful : List ℕ → Type 0) (B : TableStart) where
             kept = at_stable S Lawful B (i + 1) w.words w.batches vs w.batches (moves_of S Lawful B (i + 1) w.words vs w.batches (touches (i + 1)) g.shared) g.shared i h (λ z. omega arith) m (ExchangeTarget j f) a
 
             in_state : new ≡ data_word_after B w.batches (committed_seq w.words) x
-            in_state = let t = a.0.log.each j a.1 in
-                let q : data_word_after B w.batches m.seq x ≡ new = subst (λ (e : ℕ × ℕ). data_word_after B w.batches m.seq e.0 ≡ pack m.seq e.1) t.2 (named_at S B w.batches g.shared.start (logs_of S Lawful B w g) m.seq t.0 a.0.after (omega (arith, a.0.upto, n_is)) t.1) in
+            in_state = let t = a.entry.applies.log.each j a.entry.more in
+                let q : data_word_after B w.batches m.seq x ≡ new = subst (λ (e : ℕ × ℕ). data_word_after B w.batches m.seq e.0 ≡ pack m.seq e.1) t.2 (named_at S B w.batches g.shared.start (logs_of S Lawful B w g) m.seq t.0 a.entry.applies.after (omega (arith, a.entry.applies.upto, n_is)) t.1) in
                 rw (← is_last) (sym q)
 
             data_cells : DataCellsMatchState S B vs w.batches
@@ -233,7 +243,7 @@ module _ (S : Setup) (Lawful : List ℕ → Type 0) (B : TableStart) where
             durable = durable_of S Lawful B i w.words vs w.batches (touches i) g.shared (λ y l. fresh y l (cases_eq y x)) step (λ y l. cells (g.shared.durable.cells y l)) (λ k l u p o q y v. log_same p y)
               where
                 fresh : (y : ℕ) → y < S.cells → (y ≡ x) ⊎ (y ≡ x → ⊥) → seq_of (data_word S vs y) ≤ durable_seq S w.words
-                fresh y l (inl r) = rw (r, here, new_seq) a.2
+                fresh y l (inl r) = rw (r, here, new_seq) a.entry.durable
                 fresh y l (inr r) = rw (cell_same y r) (g.shared.durable.fresh y l)
 
                 step : (committed_seq w.words ≡ durable_seq S w.words) ⊎ ((committed_seq w.words ≡ durable_seq S w.words + 1) × IsLastOpen B w.words) → (committed_seq w.words ≡ durable_seq S w.words) ⊎ ((committed_seq w.words ≡ durable_seq S w.words + 1) × IsLastOpen B vs)
@@ -257,19 +267,19 @@ module _ (S : Setup) (Lawful : List ℕ → Type 0) (B : TableStart) where
         n_is = g.shared.counted.count
 
         owner_in : m.owner < S.callers
-        owner_in = rw (← a.0.committed) (g.shared.counted.owners m.seq a.0.after a.0.upto)
+        owner_in = rw (← a.applies.committed) (g.shared.counted.owners m.seq a.applies.after a.applies.upto)
 
         go : {rs : List Read} → (b : Bool) → (found == pack m.seq 0) ≡ b
             → KeepsGuarantee S Lawful B i w (record { words = set w.words (m.owner + 1) (if b then pack m.seq 1 else found); machines = set w.machines i n; batches = w.batches ++ []; reads = rs; loaded = w.loaded })
         go false q =
             let z : found ≡ pack m.seq 0 → ⊥ = grind (arith, nat_tests) in
-            let f : pack m.seq 0 ≤ found = rw a.0.committed at (floor_of S Lawful B w.words w.batches g.shared m.seq a.0.after a.0.upto) in
+            let f : pack m.seq 0 ≤ found = rw a.applies.committed at (floor_of S Lawful B w.words w.batches g.shared m.seq a.applies.after a.applies.upto) in
             assemble_read S Lawful B w g i h _ _ n (set-get_or w.words (m.owner + 1) 0) (append-nil w.batches)
-            (applies_as w.words (length m.log) (length m.log) a.0 n refl refl refl refl refl refl refl refl refl refl refl refl (omega arith), a.1, omega arith)
+            (record { applies = applies_as w.words (length m.log) (length m.log) a.applies n refl refl refl refl refl refl refl refl refl refl refl refl (omega arith); durable = a.durable; closed = omega arith })
         go true q =
             rw (append-nil w.batches)
             (assemble S Lawful B w g i h vs w.batches n (moves_of S Lawful B i w.words vs w.batches (touches i) g.shared) (shared_of S Lawful B i w.words vs w.batches (touches i) g.shared data_cells durable (heard_of S Lawful B i w.words vs w.batches (touches i) g.shared behind (λ p l. rw (log_kept_at p) (g.shared.heard.counts p l))) kinds)
-            (applies_as vs (length m.log) (length m.log) kept.0 n refl refl refl refl refl refl refl refl refl refl refl refl (omega arith), kept.1, rw here (word_more m.seq 0 1 (omega arith))))
+            (record { applies = applies_as vs (length m.log) (length m.log) kept.applies n refl refl refl refl refl refl refl refl refl refl refl refl (omega arith); durable = kept.durable; closed = rw here (word_more m.seq 0 1 (omega arith)) }))
           where
             was : found ≡ pack m.seq 0
             was = grind (arith, nat_tests)
@@ -299,13 +309,13 @@ module _ (S : Setup) (Lawful : List ℕ → Type 0) (B : TableStart) where
             is_last = last_or (cases_lt m.seq (committed_seq w.words))
               where
                 last_or : (m.seq < committed_seq w.words) ⊎ (committed_seq w.words ≤ m.seq) → m.seq ≡ committed_seq w.words
-                last_or (inr l) = omega (arith, a.0.upto)
-                last_or (inl l) = let y : pack m.seq 0 < request_of w.words m.owner = rw a.0.committed at (g.shared.requests.closed m.seq a.0.after l) in absurd (omega (arith, was))
+                last_or (inr l) = omega (arith, a.applies.upto)
+                last_or (inl l) = let y : pack m.seq 0 < request_of w.words m.owner = rw a.applies.committed at (g.shared.requests.closed m.seq a.applies.after l) in absurd (omega (arith, was))
 
             request : (j : ℕ) → (j ≡ m.owner) ⊎ (j ≡ m.owner → ⊥) → (request_of vs j ≡ request_of w.words j) ⊎ ((B.seq < committed_seq w.words) × ((batch_at B w.batches (committed_seq w.words)).owner ≡ j) × (request_of w.words j ≡ pack (committed_seq w.words) 0) × (request_of vs j ≡ pack (committed_seq w.words) 1))
             request j (inl r) = inr (
-              omega (arith, is_last, a.0.after),
-              subst (λ (k : ℕ). (batch_at B w.batches k).owner ≡ j) is_last (a.0.committed ∙ sym r),
+              omega (arith, is_last, a.applies.after),
+              subst (λ (k : ℕ). (batch_at B w.batches k).owner ≡ j) is_last (a.applies.committed ∙ sym r),
               ap (request_of w.words) r ∙ was ∙ ap (λ (k : ℕ). pack k 0) is_last,
               ap (request_of vs) r ∙ here ∙ ap (λ (k : ℕ). pack k 1) is_last,
             )
@@ -334,7 +344,7 @@ module _ (S : Setup) (Lawful : List ℕ → Type 0) (B : TableStart) where
             is_request j l (inl r) = λ b.
                 let e : request_of vs j ≡ pack m.seq 1 = ap (request_of vs) r ∙ here in
                 let f : seq_of (request_of vs j) ≡ m.seq = ap seq_of e ∙ seq_word m.seq 1 (omega arith) in
-                inr (ap payload_of e ∙ pay_word m.seq 1 (omega arith), rw f a.0.upto, rw f (a.0.committed ∙ sym r))
+                inr (ap payload_of e ∙ pay_word m.seq 1 (omega arith), rw f a.applies.upto, rw f (a.applies.committed ∙ sym r))
 
             kinds : WordsHaveTheirKind S B vs w.batches
             kinds = kinds_same S Lawful B i w.words vs w.batches (touches i) g.shared (λ j l. is_request j l (cases_eq j m.owner)) (λ j y l u. elsewhere (log_at S j y) (omega (arith, owner_in)))
@@ -348,29 +358,29 @@ module _ (S : Setup) (Lawful : List ℕ → Type 0) (B : TableStart) where
               where
                 d_of : (committed_seq w.words ≡ durable_seq S w.words) ⊎ ((committed_seq w.words ≡ durable_seq S w.words + 1) × IsLastOpen B w.words) → durable_seq S w.words ≡ committed_seq w.words
                 d_of (inl z) = sym z
-                d_of (inr z) = absurd (omega (arith, z.0, a.1, is_last))
+                d_of (inr z) = absurd (omega (arith, z.0, a.durable, is_last))
 
             -- a word of the state before, at least as new as the batch, is no such word
             whole : (x v : ℕ) → x < S.cells → ((k : ℕ) → k < length m.log → (log_entry m k).0 ≡ x → m.seq ≤ seq_of v) → v ≡ data_word_after B w.batches (committed_seq w.words - 1) x → v ≡ data_word_after B w.batches (committed_seq w.words) x
             whole x v l newer q = named (cases_named (batch_at B w.batches m.seq).log x)
               where
                 before : seq_of (data_word_after B w.batches (committed_seq w.words - 1) x) ≤ committed_seq w.words - 1
-                before = old S B w.batches g.shared.start (logs_of S Lawful B w g) (committed_seq w.words - 1) x (omega (arith, is_last, a.0.after)) (omega (arith, n_is)) l
+                before = old S B w.batches g.shared.start (logs_of S Lawful B w g) (committed_seq w.words - 1) x (omega (arith, is_last, a.applies.after)) (omega (arith, n_is)) l
 
                 named : ((k : ℕ) × (k < length (batch_at B w.batches m.seq).log) × ((get_or (batch_at B w.batches m.seq).log k (0, 0)).0 ≡ x)) ⊎ ((k : ℕ) → k < length (batch_at B w.batches m.seq).log → (get_or (batch_at B w.batches m.seq).log k (0, 0)).0 ≡ x → ⊥)
                     → v ≡ data_word_after B w.batches (committed_seq w.words) x
                 named (inl k) =
-                    let t = a.0.log.all k.0 k.1 in
+                    let t = a.applies.log.all k.0 k.1 in
                     let y : m.seq ≤ seq_of v = newer t.0 t.1 (ap (λ (e : ℕ × ℕ). e.0) t.2 ∙ k.2) in
-                    absurd (omega (arith, before, ap seq_of q, is_last, a.0.after))
-                named (inr away) = q ∙ sym (rw is_last at (unnamed S B w.batches g.shared.start (logs_of S Lawful B w g) m.seq x a.0.after (omega (arith, a.0.upto, n_is)) away))
+                    absurd (omega (arith, before, ap seq_of q, is_last, a.applies.after))
+                named (inr away) = q ∙ sym (rw is_last at (unnamed S B w.batches g.shared.start (logs_of S Lawful B w g) m.seq x a.applies.after (omega (arith, a.applies.upto, n_is)) away))
 
             data_cells : DataCellsMatchState S B vs w.batches
             data_cells = record { each = λ x l. inl (rw current_same (cell_same x l ∙ each x l (g.shared.data_cells.each x l))) }
               where
                 each : (x : ℕ) → x < S.cells → (data_word S w.words x ≡ data_word_after B w.batches (committed_seq w.words) x) ⊎ (IsLastOpen B w.words × (data_word S w.words x ≡ data_word_after B w.batches (committed_seq w.words - 1) x)) → data_word S w.words x ≡ data_word_after B w.batches (committed_seq w.words) x
                 each x l (inl d) = d
-                each x l (inr d) = whole x (data_word S w.words x) l (λ k u z. rw z at (a.0.done k u).0) d.1
+                each x l (inr d) = whole x (data_word S w.words x) l (λ k u z. rw z at (a.applies.done k u).0) d.1
 
             durable : DurableWordsMatch S B vs w.batches
             durable = durable_of S Lawful B i w.words vs w.batches (touches i) g.shared (λ y l. rw (cell_same y l) (g.shared.durable.fresh y l)) (λ q. inl (sym d_is)) (λ y l. cells y l (g.shared.durable.cells y l)) (λ k l u p o q y v. elsewhere (log_at S p y) (omega (arith, owner_in)))
@@ -378,4 +388,4 @@ module _ (S : Setup) (Lawful : List ℕ → Type 0) (B : TableStart) where
                 cells : (y : ℕ) → y < S.cells → (durable_cell S w.words y ≡ data_word_after B w.batches (durable_seq S w.words) y) ⊎ (IsLastOpen B w.words × (committed_seq w.words ≡ durable_seq S w.words) × (durable_cell S w.words y ≡ data_word_after B w.batches (durable_seq S w.words - 1) y))
                     → (durable_cell S w.words y ≡ data_word_after B w.batches (durable_seq S w.words) y) ⊎ (IsLastOpen B vs × (committed_seq w.words ≡ durable_seq S w.words) × (durable_cell S w.words y ≡ data_word_after B w.batches (durable_seq S w.words - 1) y))
                 cells y l (inl d) = inl d
-                cells y l (inr d) = inl (whole y (durable_cell S w.words y) l (λ k u z. rw z at (a.0.done k u).1) (d.2 ∙ ap (λ (k : ℕ). data_word_after B w.batches (k - 1) y) d_is) ∙ ap (λ (k : ℕ). data_word_after B w.batches k y) (sym d_is))
+                cells y l (inr d) = inl (whole y (durable_cell S w.words y) l (λ k u z. rw z at (a.applies.done k u).1) (d.2 ∙ ap (λ (k : ℕ). data_word_after B w.batches (k - 1) y) d_is) ∙ ap (λ (k : ℕ). data_word_after B w.batches k y) (sym d_is))

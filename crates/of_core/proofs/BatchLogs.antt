@@ -229,18 +229,18 @@ module _ (S : Setup) (Lawful : List ℕ → Type 0) (B : TableStart) (w : Moment
       by l t = subst (λ (xs : List ℕ). LeadTo S xs [] m.calls m.log) (sym (same_numbers more m.seq l)) t
 
       go : (p : Place) → HoldsAtPlace S B w.words w.batches i m p → Collects S B w.batches m p → Collects S B (w.batches ++ more) m p
-      go LoadOwnTicket a t = by a.0.round.upto t
-      go LoadAnnouncement a t = by a.0.looks.round.upto t
-      go LoadTicket a t = by a.0.looks.round.upto t
-      go (LoadScript j) a t = by a.0.looks.round.upto t
-      go (LoadCell x) a t = (by a.0.looks.round.upto t.0, t.1)
+      go LoadOwnTicket a t = by a.looks.round.upto t
+      go LoadAnnouncement a t = by a.past.looks.round.upto t
+      go LoadTicket a t = by a.scanning.past.looks.round.upto t
+      go (LoadScript j) a t = by a.scanning.past.looks.round.upto t
+      go (LoadCell x) a t = (by a.scanning.past.looks.round.upto t.0, t.1)
       go (TryCell x) a t = t
-      go RaiseOld a t = by a.0.looks.round.upto t
-      go (StoreLog x) a t = by a.0.stored.past.looks.round.upto t
-      go (RaiseLog x) a t = by a.0.stored.past.looks.round.upto t
+      go RaiseOld a t = by a.past.looks.round.upto t
+      go (StoreLog x) a t = by a.storing.stored.past.looks.round.upto t
+      go (RaiseLog x) a t = by a.storing.stored.past.looks.round.upto t
       go StoreRequest a t = by a.stored.past.looks.round.upto t
-      go RaiseRequest a t = by a.0.past.looks.round.upto t
-      go ExchangeCurrent a t = by a.0.past.looks.round.upto t
+      go RaiseRequest a t = by a.stored.past.looks.round.upto t
+      go ExchangeCurrent a t = by a.stored.past.looks.round.upto t
       go p a t = tt
 
   -- what a batch is that is committed behind these
@@ -259,17 +259,17 @@ module _ (S : Setup) (Lawful : List ℕ → Type 0) (B : TableStart) (w : Moment
       go false e = tt
       go true e = (
         subst (λ (k : ℕ). LeadTo S (numbers_after B w.batches k) [] m.calls m.log) (is ∙ g.shared.counted.count) t,
-        (own.0, own.1, ap (λ (c : Call). c.caller) own.2 ∙ sym a.0.past.looks.round.begun.caller),
+        (own.0, own.1, ap (λ (c : Call). c.caller) own.2 ∙ sym a.stored.past.looks.round.begun.caller),
       )
         where
           found : n ≡ pack m.seq m.owner
           found = grind (arith, nat_tests)
 
           is : m.seq ≡ committed_seq w.words
-          is = sym (ap seq_of (sym f ∙ found) ∙ seq_word m.seq m.owner (omega (arith, a.0.past.looks.round.owner_in, g.shared.few)))
+          is = sym (ap seq_of (sym f ∙ found) ∙ seq_word m.seq m.owner (omega (arith, a.stored.past.looks.round.owner_in, g.shared.few)))
 
           own : (y : ℕ) × (y < length m.calls) × (get_or m.calls y no_call ≡ record { caller = i; ticket = m.made; op = m.op; raw = m.raw })
-          own = a.0.over.own is h
+          own = a.stored.over.own is h
   next_are i m n h p a t f = tt
 
   -- what each batch of a history has

@@ -14,7 +14,8 @@ use Rattle.of_core.specs.Steps.{want, take_word, IsFoundBy}
 use Rattle.of_core.specs.TableMoment.{Moment, TableStart, Read, step_batches, step_reads, after_step}
 use Rattle.of_core.specs.History.{batch_at, last_ticket_by}
 use Rattle.of_core.specs.WordsMatch.{IsLastOpen}
-use Rattle.of_core.specs.Invariant.{HoldsAtPlace, MeetsInvariant, LastOutcomeStands}
+use Rattle.of_core.specs.Places.{LastOutcomeStands}
+use Rattle.of_core.specs.Invariant.{HoldsAtPlace, MeetsInvariant}
 use Rattle.of_core.specs.Guarantees.{Guarantees}
 use Rattle.of_core.specs.Bound.{TellsWithinBound}
 use Rattle.of_core.specs.Least.{TellsLeastSteps}

@@ -14,7 +14,8 @@ use Rattle.of_core.specs.Machine.{CallState, Call, no_machine}
 use Rattle.of_core.specs.TableMoment.{Moment, TableStart}
 use Rattle.of_core.specs.History.{state_after, batch_at, data_word_after, numbers_after, last_ticket_by, numbers_after_batches}
 use Rattle.of_core.specs.WordsMatch.{IsLastOpen, WasHeldByCell, IsRequest, IsLogWord}
-use Rattle.of_core.specs.Invariant.{MeetsCore, HoldsAtPlace, LastOutcomeStands, IsAtRest}
+use Rattle.of_core.specs.Places.{LastOutcomeStands, IsAtRest}
+use Rattle.of_core.specs.Invariant.{MeetsCore, HoldsAtPlace}
 use Rattle.of_core.specs.Bound.{bound, MachineIsWithinBound, TellsWithinBound}
 use Rattle.of_core.specs.Least.{HasMadeLeastSteps}
 use Rattle.of_core.specs.Events.{machine_in}
@@ -129,25 +130,25 @@ module _ (S : Setup) (Lawful : List ℕ → Type 0) (sound : IsSoundMeaning S.me
             before = let e : k - 1 + 1 ≡ k = omega arith in (rw e at (g.shared.stands.rises (k - 1) (omega arith) (omega arith))) y d v
 
         knows : (i : ℕ) (m : CallState) (p : Place) → HoldsAtPlace S B w.words w.batches i m p → knows_state p ≡ true → Agrees m.known (numbers_after B w.batches m.seq)
-        knows i m (TryCell x) a q = a.3.agrees
-        knows i m LoadOwnTicket a q = a.0.agrees
-        knows i m LoadShape a q = a.0.agrees
-        knows i m (LoadReply j) a q = a.0.agrees
-        knows i m LoadAnnouncement a q = a.0.looks.agrees
-        knows i m LoadTicket a q = a.0.looks.agrees
-        knows i m (LoadScript j) a q = a.0.looks.agrees
-        knows i m (LoadCell x) a q = a.0.looks.agrees
-        knows i m RaiseOld a q = a.0.looks.agrees
-        knows i m (StoreLog x) a q = a.0.stored.past.looks.agrees
-        knows i m (RaiseLog x) a q = a.0.stored.past.looks.agrees
+        knows i m (TryCell x) a q = a.state.agrees
+        knows i m LoadOwnTicket a q = a.looks.agrees
+        knows i m LoadShape a q = a.looks.agrees
+        knows i m (LoadReply j) a q = a.looks.agrees
+        knows i m LoadAnnouncement a q = a.past.looks.agrees
+        knows i m LoadTicket a q = a.scanning.past.looks.agrees
+        knows i m (LoadScript j) a q = a.scanning.past.looks.agrees
+        knows i m (LoadCell x) a q = a.scanning.past.looks.agrees
+        knows i m RaiseOld a q = a.past.looks.agrees
+        knows i m (StoreLog x) a q = a.storing.stored.past.looks.agrees
+        knows i m (RaiseLog x) a q = a.storing.stored.past.looks.agrees
         knows i m StoreRequest a q = a.stored.past.looks.agrees
-        knows i m RaiseRequest a q = a.0.past.looks.agrees
-        knows i m ExchangeCurrent a q = a.0.past.looks.agrees
+        knows i m RaiseRequest a q = a.stored.past.looks.agrees
+        knows i m ExchangeCurrent a q = a.stored.past.looks.agrees
         knows i m p a q = cc
 
         reads_own : (i : ℕ) (m : CallState) (p : Place) → HoldsAtPlace S B w.words w.batches i m p → OwnCellsAreOfState S (state_after B w.batches m.seq) i m p
-        reads_own i m LoadShape a = a.2
-        reads_own i m (LoadReply j) a = (a.2, a.3)
+        reads_own i m LoadShape a = a.finds
+        reads_own i m (LoadReply j) a = (a.finds, a.reply)
         reads_own i m p a = tt
 
         uses : (i : ℕ) (m : CallState) → HoldsAtPlace S B w.words w.batches i m m.place → UsesOneState S B w i m

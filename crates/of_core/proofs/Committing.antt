@@ -35,7 +35,7 @@ module _ (S : Setup) (Lawful : List ℕ → Type 0) (B : TableStart) where
     exchange_current_kept sound a = go (current_word w.words == pack m.seq m.owner) refl
       where
         st : HasStoredLog S B w.words w.batches i m (length (log_words m.log)) (length (log_words m.log))
-        st = a.0
+        st = a.stored
 
         round : IsInRound S B w.words w.batches i m
         round = st.past.looks.round
@@ -51,7 +51,11 @@ module _ (S : Setup) (Lawful : List ℕ → Type 0) (B : TableStart) where
             → KeepsGuarantee S Lawful B i w (record { words = set w.words 0 (if b then pack (m.seq + 1) m.caller else current_word w.words); machines = set w.machines i (after_commit_exchange m b); batches = w.batches ++ one_batch S w.words m b; reads = rs; loaded = w.loaded })
         go false q =
             assemble_read S Lawful B w g i h _ _ (after_commit_exchange m false) (set-get_or w.words 0 0) (append-nil w.batches)
-            (begun_as S Lawful B w g i m h m _ round.begun refl refl refl refl refl refl, calm (later_now (cases_lt m.seq (committed_seq w.words))), between (later_now (cases_lt m.seq (committed_seq w.words))))
+            (record {
+              begun = begun_as S Lawful B w g i m h m _ round.begun refl refl refl refl refl refl;
+              calm = calm (later_now (cases_lt m.seq (committed_seq w.words)));
+              between = between (later_now (cases_lt m.seq (committed_seq w.words)));
+            })
           where
             ne : current_word w.words ≡ pack m.seq m.owner → ⊥
             ne = differ (current_word w.words) (pack m.seq m.owner) q
@@ -68,15 +72,15 @@ module _ (S : Setup) (Lawful : List ℕ → Type 0) (B : TableStart) where
 
             calm : m.seq < committed_seq w.words → HasNothingUnderWay S B w.words w.batches i (committed_seq w.words)
             calm l = record {
-              own = omega (arith, ap seq_of a.1, seq_word (m.seq + 1) 0 (omega arith));
-              level = a.2 ∙ sym a.1;
+              own = omega (arith, ap seq_of a.asks, seq_word (m.seq + 1) 0 (omega arith));
+              level = a.raised ∙ sym a.asks;
               shut = λ k v u o. shut k u o (cases_lt m.seq k);
               logs = λ y u. omega (arith, log_old y u (cases_lt y (length (log_words m.log))));
             }
               where
                 shut : (k : ℕ) → k ≤ committed_seq w.words → (batch_at B w.batches k).owner ≡ i → (m.seq < k) ⊎ (k ≤ m.seq) → pack k 0 < request_of w.words i
                 shut k u o (inl v) = absurd (round.unowned k v u o)
-                shut k u o (inr v) = omega (arith, a.1, seq_less (pack k 0) (pack (m.seq + 1) 0) (omega (arith, seq_word k 0 (omega arith), seq_word (m.seq + 1) 0 (omega arith))))
+                shut k u o (inr v) = omega (arith, a.asks, seq_less (pack k 0) (pack (m.seq + 1) 0) (omega (arith, seq_word k 0 (omega arith), seq_word (m.seq + 1) 0 (omega arith))))
         go true q =
             assemble S Lawful B w g i h vs cs n moves shared
             (record {
@@ -87,7 +91,7 @@ module _ (S : Setup) (Lawful : List ℕ → Type 0) (B : TableStart) where
                 upto = own_upto;
                 reached = own_reached;
                 call = rw new_batch own_call;
-                asks = inl (elsewhere (i + 1) (omega arith) ∙ a.1);
+                asks = inl (elsewhere (i + 1) (omega arith) ∙ a.asks);
                 unowned = λ k l u. absurd (omega (arith, new_last));
                 logs = λ y u. rw (elsewhere (log_at S i y) (omega arith)) (log_old y u (cases_lt y (length (log_words m.log))));
               };
@@ -261,7 +265,7 @@ module _ (S : Setup) (Lawful : List ℕ → Type 0) (B : TableStart) where
                     inr (ap (λ (x : ℕ). last_ticket_by S B cs x j) u ∙ q.3 ∙ sym c, omega (arith, c, d, ap (λ (x : ℕ). last_ticket_by S B w.batches x j) is_last), omega (arith, is_last, st.past.under))
 
             asks : request_of vs (committed_owner vs) ≡ pack (committed_seq vs) 0
-            asks = ap (request_of vs) (new_holder ∙ ci) ∙ elsewhere (i + 1) (omega arith) ∙ a.1 ∙ ap (λ (k : ℕ). pack k 0) (sym new_last)
+            asks = ap (request_of vs) (new_holder ∙ ci) ∙ elsewhere (i + 1) (omega arith) ∙ a.asks ∙ ap (λ (k : ℕ). pack k 0) (sym new_last)
 
             opened : IsLastOpen B vs
             opened = record { any = omega (arith, new_last, round.from, is_last, longer); asks = asks }
@@ -317,7 +321,7 @@ module _ (S : Setup) (Lawful : List ℕ → Type 0) (B : TableStart) where
                 floor k l (inl u) = rw (batches k l u, dur_same (request_at (batch_at B w.batches k).owner) (omega (arith, g.shared.counted.owners k l u))) (g.shared.durable.floor k l u)
                 floor k l (inr u) =
                     let o : (batch_at B cs k).owner ≡ i = ap (λ (q : ℕ). (batch_at B cs q).owner) u ∙ ap (λ (c : Batch). c.owner) new_batch ∙ ci in
-                    rw (o, u) (omega (arith, dur_same (request_at i) (omega arith), a.2))
+                    rw (o, u) (omega (arith, dur_same (request_at i) (omega arith), a.raised))
 
                 logs : (k : ℕ) → B.seq < k → (j : ℕ) → (batch_at B cs k).owner ≡ j → durable_request S vs j ≡ pack k 0 → (x v : ℕ) → x < length (log_words (batch_at B cs k).log) → get_or (log_words (batch_at B cs k).log) x 0 ≡ v → (k ≤ committed_seq w.words) ⊎ (k ≡ m.seq + 1)
                     → (log_word_of S vs j x ≡ pack k v) × (durable_log S vs j x ≡ pack k v)

@@ -9,6 +9,7 @@ use Rattle.of_core.specs.TableMoment.{Moment, TableStart, one_batch}
 use Rattle.of_core.specs.History.{state_after}
 use Rattle.of_core.specs.Rounds.{IsInTry, MayHelp, IsUnannounced, IsAnnounced, IsInRound, IsPastRequest, IsPastOwnTicket, FindsOwnTicket, HasReadReplyUpTo}
 use Rattle.of_core.specs.Transaction.{AppliesAs, IsApplying, IsCopyingLog, HasStoredLog, IsStoringLog}
+use Rattle.of_core.specs.Places.{IsAtCaller, IsAtEntry}
 use Rattle.of_core.specs.Invariant.{HoldsAtPlace, MeetsCore}
 use Rattle.of_core.proofs.Alike.{begun_as, round_as, looks_as, past_as, fresh_as, trying_as, helper_as}
 
@@ -64,34 +65,40 @@ module _ (S : Setup) (Lawful : List ℕ → Type 0) (B : TableStart) (w : Moment
   applies : (j : ℕ) → IsApplying S B w.words w.batches i m j → IsApplying S B w.words w.batches i now j
   applies j p = record { mode = mode m.helps p.mode; after = p.after; upto = p.upto; committed = p.committed; log = p.log; done = p.done }
 
+  scanning : IsAtCaller S B w.words w.batches i m → IsAtCaller S B w.words w.batches i now
+  scanning p = record { past = past p.past; calm = p.calm; scan = p.scan; in_range = p.in_range }
+
+  entry : (j : ℕ) → IsAtEntry S B w.words w.batches i m j → IsAtEntry S B w.words w.batches i now j
+  entry j p = record { applies = applies j p.applies; more = p.more; durable = p.durable }
+
   pub counted_stands : (p : Place) → HoldsAtPlace S B w.words w.batches i m p → HoldsAtPlace S B w.words w.batches i (with_step_counted p m) p
   counted_stands Idle a = a
-  counted_stands TryCurrent a = (fresh a.0, a.1, a.2, a.3)
-  counted_stands TryRequest a = (trying a.0, a.1, a.2)
-  counted_stands (TryCell x) a = (trying a.0, a.1, a.2, a.3, a.4, a.5)
-  counted_stands (StoreScript j) a = (fresh a.0, a.1, a.2, a.3)
-  counted_stands StoreAnnouncement a = (fresh a.0, a.1, a.2)
-  counted_stands LoadCurrent a = (begun a.0, a.1, record { few = a.2.few; later = a.2.later })
-  counted_stands LoadRequest a = (round a.0, a.1)
-  counted_stands (CopyLog x) a = (copies x a.0, a.1, a.2)
-  counted_stands LookAgain a = (copies (length m.copy) a.0, a.1)
-  counted_stands LoadOwnTicket a = (looks a.0, a.1, a.2, a.3, a.4, a.5)
-  counted_stands LoadShape a = (looks a.0, a.1, found (state_after B w.batches m.seq) a.2)
-  counted_stands (LoadReply j) a = (looks a.0, a.1, found (state_after B w.batches m.seq) a.2, read (state_after B w.batches m.seq) j a.3, a.4, a.5)
-  counted_stands LoadAnnouncement a = (past a.0, a.1, a.2, a.3)
-  counted_stands LoadTicket a = (past a.0, a.1, a.2, a.3, a.4, a.5)
-  counted_stands (LoadScript j) a = (past a.0, a.1, a.2, a.3, a.4, a.5, a.6)
-  counted_stands (LoadCell x) a = (past a.0, a.1, a.2, a.3, a.4, a.5, a.6, a.7)
-  counted_stands RaiseOld a = (past a.0, a.1, a.2)
-  counted_stands (StoreLog x) a = (logs x x a.0, a.1)
-  counted_stands (RaiseLog x) a = (logs (x + 1) x a.0, a.1)
+  counted_stands TryCurrent a = record { fresh = fresh a.fresh; calm = a.calm; reads = a.reads; few = a.few }
+  counted_stands TryRequest a = record { trying = trying a.trying; current_word = a.current_word; calm = a.calm }
+  counted_stands (TryCell x) a = record { trying = trying a.trying; current_word = a.current_word; calm = a.calm; state = a.state; in_cells = a.in_cells; unknown = a.unknown }
+  counted_stands (StoreScript j) a = record { fresh = fresh a.fresh; calm = a.calm; more = a.more; script = a.script }
+  counted_stands StoreAnnouncement a = record { fresh = fresh a.fresh; calm = a.calm; script = a.script }
+  counted_stands LoadCurrent a = record { begun = begun a.begun; calm = a.calm; between = record { few = a.between.few; later = a.between.later } }
+  counted_stands LoadRequest a = record { round = round a.round; calm = a.calm }
+  counted_stands (CopyLog x) a = record { copies = copies x a.copies; more = a.more; in_log = a.in_log }
+  counted_stands LookAgain a = record { copies = copies (length m.copy) a.copies; whole = a.whole }
+  counted_stands LoadOwnTicket a = record { looks = looks a.looks; calm = a.calm; no_cell = a.no_cell; no_log = a.no_log; no_calls = a.no_calls; no_scan = a.no_scan }
+  counted_stands LoadShape a = record { looks = looks a.looks; calm = a.calm; finds = found (state_after B w.batches m.seq) a.finds }
+  counted_stands (LoadReply j) a = record { looks = looks a.looks; calm = a.calm; finds = found (state_after B w.batches m.seq) a.finds; reply = read (state_after B w.batches m.seq) j a.reply; in_reply = a.in_reply; marked = a.marked }
+  counted_stands LoadAnnouncement a = scanning a
+  counted_stands LoadTicket a = record { scanning = scanning a.scanning; heard = a.heard; unknown = a.unknown }
+  counted_stands (LoadScript j) a = record { scanning = scanning a.scanning; heard = a.heard; loaded = a.loaded; more = a.more }
+  counted_stands (LoadCell x) a = record { scanning = scanning a.scanning; heard = a.heard; loaded = a.loaded; in_cells = a.in_cells; unknown = a.unknown }
+  counted_stands RaiseOld a = record { past = past a.past; calm = a.calm; scan = a.scan }
+  counted_stands (StoreLog x) a = record { storing = logs x x a.storing; more = a.more }
+  counted_stands (RaiseLog x) a = record { storing = logs (x + 1) x a.storing; more = a.more }
   counted_stands StoreRequest a = logs (length (log_words m.log)) (length (log_words m.log)) a
-  counted_stands RaiseRequest a = (stored (length (log_words m.log)) (length (log_words m.log)) a.0, a.1, a.2)
-  counted_stands ExchangeCurrent a = (stored (length (log_words m.log)) (length (log_words m.log)) a.0, a.1, a.2)
+  counted_stands RaiseRequest a = record { stored = stored (length (log_words m.log)) (length (log_words m.log)) a.stored; asks = a.asks; shut = a.shut }
+  counted_stands ExchangeCurrent a = record { stored = stored (length (log_words m.log)) (length (log_words m.log)) a.stored; asks = a.asks; raised = a.raised }
   counted_stands RaiseCurrent a = applies 0 a
-  counted_stands (LoadTarget j) a = (applies j a.0, a.1, a.2)
-  counted_stands (ExchangeTarget j f) a = (applies j a.0, a.1, a.2, a.3, a.4)
-  counted_stands (ReloadTarget j) a = (applies j a.0, a.1, a.2, a.3)
-  counted_stands (RaiseTarget j f) a = (applies j a.0, a.1, a.2, a.3, a.4, a.5)
-  counted_stands CloseRequest a = (applies (length m.log) a.0, a.1)
-  counted_stands RaiseClosed a = (applies (length m.log) a.0, a.1, a.2)
+  counted_stands (LoadTarget j) a = entry j a
+  counted_stands (ExchangeTarget j f) a = record { entry = entry j a.entry; older = a.older; found = a.found }
+  counted_stands (ReloadTarget j) a = record { entry = entry j a.entry; newer = a.newer }
+  counted_stands (RaiseTarget j f) a = record { entry = entry j a.entry; newer = a.newer; low = a.low; held = a.held }
+  counted_stands CloseRequest a = record { applies = applies (length m.log) a.applies; durable = a.durable }
+  counted_stands RaiseClosed a = record { applies = applies (length m.log) a.applies; durable = a.durable; closed = a.closed }

@@ -52,35 +52,35 @@ module _ (S : Setup) (Lawful : List ℕ → Type 0) (B : TableStart) (w : Moment
 
     leveled : (p : Place) → HoldsAtPlace S B w.words w.batches j n p → Leveled
     leveled Idle a = inl a.calm.level
-    leveled TryCurrent a = inl a.1.level
-    leveled TryRequest a = inl a.2.level
-    leveled (TryCell x) a = inl a.2.level
-    leveled (StoreScript x) a = inl a.1.level
-    leveled StoreAnnouncement a = inl a.1.level
-    leveled LoadCurrent a = inl a.1.level
-    leveled LoadRequest a = inl a.1.level
-    leveled (CopyLog x) a = inl a.0.calm.level
-    leveled LookAgain a = inl a.0.calm.level
-    leveled LoadOwnTicket a = inl a.1.level
-    leveled LoadShape a = inl a.1.level
-    leveled (LoadReply x) a = inl a.1.level
-    leveled LoadAnnouncement a = inl a.1.level
-    leveled LoadTicket a = inl a.1.level
-    leveled (LoadScript x) a = inl a.1.level
-    leveled (LoadCell x) a = inl a.1.level
-    leveled RaiseOld a = inl a.1.level
-    leveled (StoreLog x) a = inl a.0.level
-    leveled (RaiseLog x) a = inl a.0.level
+    leveled TryCurrent a = inl a.calm.level
+    leveled TryRequest a = inl a.calm.level
+    leveled (TryCell x) a = inl a.calm.level
+    leveled (StoreScript x) a = inl a.calm.level
+    leveled StoreAnnouncement a = inl a.calm.level
+    leveled LoadCurrent a = inl a.calm.level
+    leveled LoadRequest a = inl a.calm.level
+    leveled (CopyLog x) a = inl a.copies.calm.level
+    leveled LookAgain a = inl a.copies.calm.level
+    leveled LoadOwnTicket a = inl a.calm.level
+    leveled LoadShape a = inl a.calm.level
+    leveled (LoadReply x) a = inl a.calm.level
+    leveled LoadAnnouncement a = inl a.calm.level
+    leveled LoadTicket a = inl a.scanning.calm.level
+    leveled (LoadScript x) a = inl a.scanning.calm.level
+    leveled (LoadCell x) a = inl a.scanning.calm.level
+    leveled RaiseOld a = inl a.calm.level
+    leveled (StoreLog x) a = inl a.storing.level
+    leveled (RaiseLog x) a = inl a.storing.level
     leveled StoreRequest a = inl a.level
-    leveled RaiseRequest a = inr (inl a.2)
-    leveled ExchangeCurrent a = inl (a.2 ∙ sym a.1)
+    leveled RaiseRequest a = inr (inl a.shut)
+    leveled ExchangeCurrent a = inl (a.raised ∙ sym a.asks)
     leveled RaiseCurrent a = applying 0 a
-    leveled (LoadTarget x) a = applying x a.0
-    leveled (ExchangeTarget x f) a = applying x a.0
-    leveled (ReloadTarget x) a = applying x a.0
-    leveled (RaiseTarget x f) a = applying x a.0
-    leveled CloseRequest a = applying (length n.log) a.0
-    leveled RaiseClosed a = applying (length n.log) a.0
+    leveled (LoadTarget x) a = applying x a.applies
+    leveled (ExchangeTarget x f) a = applying x a.entry.applies
+    leveled (ReloadTarget x) a = applying x a.entry.applies
+    leveled (RaiseTarget x f) a = applying x a.entry.applies
+    leveled CloseRequest a = applying (length n.log) a.applies
+    leveled RaiseClosed a = applying (length n.log) a.applies
 
   -- a request above the closed one of an own batch has left that one behind it durably too
   closed_low : (j k : ℕ) → j < S.callers → B.seq < k → k ≤ committed_seq w.words → (batch_at B w.batches k).owner ≡ j → pack k 1 < request_of w.words j → pack k 1 ≤ durable_request S w.words j
@@ -240,29 +240,29 @@ module _ (S : Setup) (Lawful : List ℕ → Type 0) (B : TableStart) (w : Moment
     durables (StoreScript x) a c l = elsewhere (script_word_at S m.caller x) _ c (λ e. omega (arith, e, l))
     durables StoreAnnouncement a c l = elsewhere (script_word_at S m.caller S.instrs) _ c (λ e. omega (arith, e, l))
     durables (StoreLog x) a c l =
-        let st = a.0.stored in
+        let st = a.storing.stored in
         let ci : m.caller ≡ i = st.past.looks.round.begun.caller in
-        elsewhere (log_at S m.caller x) _ c (λ e. omega (arith, e, ap (λ (k : ℕ). log_at S k x) ci, log_in S i x h (omega (arith, length-log_words m.log, st.over.over.is_log.few, a.1))))
+        elsewhere (log_at S m.caller x) _ c (λ e. omega (arith, e, ap (λ (k : ℕ). log_at S k x) ci, log_in S i x h (omega (arith, length-log_words m.log, st.over.over.is_log.few, a.more))))
     durables StoreRequest a c l = elsewhere (request_at m.caller) _ c (λ e. omega (arith, e, a.stored.past.looks.round.begun.caller, h))
     durables ExchangeCurrent a c l = elsewhere 0 _ c (λ e. omega (arith, e))
-    durables (ExchangeTarget x f) a c l = elsewhere (data_at S (log_entry m x).0) _ c (λ e. omega (arith, e, entry_in x x a.0 a.1))
-    durables CloseRequest a c l = elsewhere (request_at m.owner) _ c (λ e. omega (arith, e, owner_in (length m.log) a.0))
+    durables (ExchangeTarget x f) a c l = elsewhere (data_at S (log_entry m x).0) _ c (λ e. omega (arith, e, entry_in x x a.entry.applies a.entry.more))
+    durables CloseRequest a c l = elsewhere (request_at m.owner) _ c (λ e. omega (arith, e, owner_in (length m.log) a.applies))
     durables RaiseOld a c l =
-        let ci : m.caller ≡ i = a.0.looks.round.begun.caller in
-        raised (request_at m.caller) m.kept c l (omega (arith, ci, h)) (inl (rw ci (omega (arith, a.0.looks.round.begun.kept.0, a.1.level))))
+        let ci : m.caller ≡ i = a.past.looks.round.begun.caller in
+        raised (request_at m.caller) m.kept c l (omega (arith, ci, h)) (inl (rw ci (omega (arith, a.past.looks.round.begun.kept.0, a.calm.level))))
     durables (RaiseLog x) a c l =
-        let st = a.0.stored in
+        let st = a.storing.stored in
         let ci : m.caller ≡ i = st.past.looks.round.begun.caller in
-        let x_in : x < 2 * S.cells + 1 = omega (arith, length-log_words m.log, st.over.over.is_log.few, a.1) in
+        let x_in : x < 2 * S.cells + 1 = omega (arith, length-log_words m.log, st.over.over.is_log.few, a.more) in
         raised (log_at S m.caller x) _ c l (rw ci (log_in S i x h x_in)) (inr (rw ci (sym (st.each x (omega arith)))))
     durables RaiseRequest a c l =
-        let ci : m.caller ≡ i = a.0.past.looks.round.begun.caller in
-        raised (request_at m.caller) _ c l (omega (arith, ci, h)) (inr (rw ci (sym a.1)))
+        let ci : m.caller ≡ i = a.stored.past.looks.round.begun.caller in
+        raised (request_at m.caller) _ c l (omega (arith, ci, h)) (inr (rw ci (sym a.asks)))
     durables RaiseCurrent a c l = raised 0 _ c l (omega arith) (current_held a)
     durables (RaiseTarget x f) a c l =
-        let y_in : (log_entry m x).0 < S.cells = entry_in x x a.0 a.1 in
-        raised (data_at S (log_entry m x).0) f c l (omega (arith, y_in)) (held_low (log_entry m x).0 f y_in a.4 a.5)
-    durables RaiseClosed a c l = raised (request_at m.owner) _ c l (omega (arith, owner_in (length m.log) a.0)) (closed_held (length m.log) a.0 a.2)
+        let y_in : (log_entry m x).0 < S.cells = entry_in x x a.entry.applies a.entry.more in
+        raised (data_at S (log_entry m x).0) f c l (omega (arith, y_in)) (held_low (log_entry m x).0 f y_in a.low a.held)
+    durables RaiseClosed a c l = raised (request_at m.owner) _ c l (omega (arith, owner_in (length m.log) a.applies)) (closed_held (length m.log) a.applies a.closed)
     durables p a c l = inl (ap (λ (vs : List ℕ). durable_word S vs c) (set-get_or w.words (word_of (want_at S m p)) 0))
 
     pub step_durables : get_or w.machines i m ≡ m → (n : ℕ) → IsFoundBy (want S m) w.words n → (c : ℕ) → c < cell_count S → Stays (after_step S i m n w).words c

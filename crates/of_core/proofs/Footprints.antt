@@ -239,7 +239,7 @@ module _ (S : Setup) (W R : ℕ) where
     sparing Idle o a t e v = cc
     sparing TryCurrent o a t e v = record {
       copies = tt;
-      few = (omega (arith, a.3), t.few.1, λ q. let z : true ≡ false = sym a.2 ∙ q in cc);
+      few = (omega (arith, a.few), t.few.1, λ q. let z : true ≡ false = sym a.reads ∙ q in cc);
       steps = sum m.steps W R (m.tries * try_steps W R) ((m.tries + 1) * try_steps W R) (length m.op + 1) (m.rounds * round_steps S W R) (one_more m.tries (try_steps W R)) t.steps;
     }
       where
@@ -256,7 +256,7 @@ module _ (S : Setup) (W R : ℕ) where
 
         trying : (b : Bool) → (m.rounds == 0) ≡ b → m.steps + 1 + (2 * W + 1 - 0 + 1 + apply_steps W + helped S W R m b) ≤ allowed S W R m
         trying true q = opens m.steps W R (announced S W R m) (allowed S W R m) t.steps
-        trying false q = absurd (differ m.rounds 0 q a.0.fresh.rounds)
+        trying false q = absurd (differ m.rounds 0 q a.trying.fresh.rounds)
 
         go : (b : Bool) → Spares S W R (after_try_request S now b) (after_try_request S now b).place
         go true = record { copies = omega arith; few = t.few; steps = trying (m.rounds == 0) refl }
@@ -267,7 +267,7 @@ module _ (S : Setup) (W R : ℕ) where
         found = get_or w.words (word_of (want_at S m (TryCell x))) 0
 
         one : R - knowns (with_cell_known S m x found) + 1 ≡ R - knowns m.known
-        one = learns (TryCell x) x found e refl (omega (arith, a.3.all, a.4)) a.5
+        one = learns (TryCell x) x found e refl (omega (arith, a.state.all, a.in_cells)) a.unknown
 
         again : (s u v r l : ℕ) → v + 1 ≡ u → s + (u + r) ≤ l → s + 1 + r ≤ l
         again s u v r l e h = omega arith
@@ -294,12 +294,12 @@ module _ (S : Setup) (W R : ℕ) where
         last s i j x l k h = omega arith
 
         go : (b : Bool) → Spares S W R (after_store_script now j b) (after_store_script now j b).place
-        go true = record { copies = tt; few = t.few; steps = more m.steps (length m.op) j (apply_steps W) (allowed S W R m) a.2 t.steps }
-        go false = record { copies = tt; few = t.few; steps = last m.steps (length m.op) j (apply_steps W) (allowed S W R m) a.2 t.steps }
+        go true = record { copies = tt; few = t.few; steps = more m.steps (length m.op) j (apply_steps W) (allowed S W R m) a.more t.steps }
+        go false = record { copies = tt; few = t.few; steps = last m.steps (length m.op) j (apply_steps W) (allowed S W R m) a.more t.steps }
     sparing StoreAnnouncement o a t e v = record { copies = tt; few = t.few; steps = fewer m.steps (1 + apply_steps W) (apply_steps W) (allowed S W R m) t.steps (omega arith) }
     sparing LoadCurrent o a t e v = record {
       copies = tt;
-      few = (t.few.0, omega (arith, a.2.few), t.few.2);
+      few = (t.few.0, omega (arith, a.between.few), t.few.2);
       steps = sum m.steps W R (S.callers * (S.instrs + 1)) (m.tries * try_steps W R + (length m.op + 1)) (m.rounds * round_steps S W R) ((m.rounds + 1) * round_steps S W R) (one_more m.rounds (round_steps S W R)) t.steps;
     }
       where
@@ -316,7 +316,7 @@ module _ (S : Setup) (W R : ℕ) where
 
         round : (b : Bool) → (m.rounds == 0) ≡ b → m.steps + 1 + (2 * W + 1 - 0 + 1 + apply_steps W + helped S W R m b) ≤ allowed S W R m
         round false q = opens m.steps W (behind_help S W R + apply_steps W) (allowed S W R m) t.steps
-        round true q = let z : m.rounds ≡ 0 = grind (arith, nat_tests) in absurd (omega (arith, a.0.begun_one))
+        round true q = let z : m.rounds ≡ 0 = grind (arith, nat_tests) in absurd (omega (arith, a.round.begun_one))
 
         go : (b : Bool) → Spares S W R (after_load_request S now b) (after_load_request S now b).place
         go true = record { copies = omega arith; few = t.few; steps = round (m.rounds == 0) refl }
@@ -355,7 +355,7 @@ module _ (S : Setup) (W R : ℕ) where
         helping false q = cc
 
         go : (b d : Bool) → m.steps + (1 + apply_steps W + helped S W R m d) ≤ allowed S W R m → Spares S W R (after_look_again S now b d) (after_look_again S now b d).place
-        go true d z = record { copies = tt; few = t.few; steps = helping m.helps a.0.helps }
+        go true d z = record { copies = tt; few = t.few; steps = helping m.helps a.copies.helps }
         go false d z = resumed_sparing now d t.few (closed m.steps (apply_steps W) (helped S W R m d) (allowed S W R m) z)
     sparing LoadOwnTicket o a t e v = go (nat_lt m.seq (seq_of found)) (payload_of found == m.made) (m.seq == S.limit)
       where
@@ -379,7 +379,7 @@ module _ (S : Setup) (W R : ℕ) where
         none s x l h = omega arith
 
         cells_in : ticket_cell S m.caller < S.cells
-        cells_in = rw a.0.round.begun.caller (ticket_in_cells S Lawful B w g i m h i h)
+        cells_in = rw a.looks.round.begun.caller (ticket_in_cells S Lawful B w g i m h i h)
 
         none_of : (n y : ℕ) → get_or {A = Option ℕ} (replicate n None) y None ≡ None
         none_of zero y = refl
@@ -390,7 +390,7 @@ module _ (S : Setup) (W R : ℕ) where
         none_at ks q = rw q (none_of S.cells (ticket_cell S m.caller))
 
         known_one : R - knowns (with_cell_known S m (ticket_cell S m.caller) found) + 1 ≡ R
-        known_one = learns LoadOwnTicket (ticket_cell S m.caller) found e refl (omega (arith, a.0.all, cells_in)) (none_at m.known a.2) ∙ all (knowns m.known) (ap knowns a.2 ∙ knowns_none S.cells)
+        known_one = learns LoadOwnTicket (ticket_cell S m.caller) found e refl (omega (arith, a.looks.all, cells_in)) (none_at m.known a.no_cell) ∙ all (knowns m.known) (ap knowns a.no_cell ∙ knowns_none S.cells)
           where
             all : (k : ℕ) → k ≡ 0 → R - k ≡ R
             all k e = omega arith
@@ -403,7 +403,7 @@ module _ (S : Setup) (W R : ℕ) where
           copies = tt;
           few = t.few;
           steps = call m.steps (S.instrs + 1) R (S.callers * (S.instrs + 1)) (R - knowns (with_cell_known S m (ticket_cell S m.caller) found)) ((S.callers - m.scan - 1) * (S.instrs + 1)) (store_steps W) (apply_steps W) (allowed S W R m)
-              known_one (one_row S.callers m.scan (S.instrs + 1) a.5 (omega arith)) t.steps;
+              known_one (one_row S.callers m.scan (S.instrs + 1) a.no_scan (omega arith)) t.steps;
         }
     sparing LoadShape o a t e v = go (nat_lt m.seq (seq_of found)) refl
       where
@@ -414,7 +414,7 @@ module _ (S : Setup) (W R : ℕ) where
         same s i l h = omega arith
 
         fresh : seq_of (data_word S w.words (shape_cell S m.caller)) ≤ m.seq
-        fresh = rw a.0.round.begun.caller (own_row_old S Lawful B w g i m h m a.0 (done_now S Lawful B w g i m h m a.2) (shape_cell S i) (omega arith, omega arith))
+        fresh = rw a.looks.round.begun.caller (own_row_old S Lawful B w g i m h m a.looks (done_now S Lawful B w g i m h m a.finds) (shape_cell S i) (omega arith, omega arith))
 
         go : (b : Bool) → nat_lt m.seq (seq_of found) ≡ b → Spares S W R (after_load_shape S now found b) (after_load_shape S now found b).place
         go true q = let z : m.seq < seq_of found = is_newer m.seq (seq_of found) q in absurd (omega (arith, fresh))
@@ -425,14 +425,14 @@ module _ (S : Setup) (W R : ℕ) where
         found = data_word S w.words (reply_cell S m.caller j)
 
         fresh : seq_of (data_word S w.words (reply_cell S m.caller j)) ≤ m.seq
-        fresh = rw a.0.round.begun.caller (own_row_old S Lawful B w g i m h m a.0 (done_now S Lawful B w g i m h m a.2) (reply_cell S i j) (omega arith, omega (arith, a.4)))
+        fresh = rw a.looks.round.begun.caller (own_row_old S Lawful B w g i m h m a.looks (done_now S Lawful B w g i m h m a.finds) (reply_cell S i j) (omega arith, omega (arith, a.in_reply)))
 
         less : (s i j l : ℕ) → j < i → s + (i - j) ≤ l → s + 1 + (i - (j + 1)) ≤ l
         less s i j l z h = omega arith
 
         go : (b : Bool) → nat_lt m.seq (seq_of found) ≡ b → Spares S W R (after_load_reply S now j found b) (after_load_reply S now j found b).place
         go true q = let z : m.seq < seq_of found = is_newer m.seq (seq_of found) q in absurd (omega (arith, fresh))
-        go false q = asks_sparing (with_reply now j found) (j + 1) t.few (less m.steps S.instrs j (allowed S W R m) a.4 t.steps) (first_marked_place m.raw.shape (j + 1) (S.instrs - j - 1)) (λ k z. (mark_some m.raw.shape (j + 1) (S.instrs - j - 1) k z).0)
+        go false q = asks_sparing (with_reply now j found) (j + 1) t.few (less m.steps S.instrs j (allowed S W R m) a.in_reply t.steps) (first_marked_place m.raw.shape (j + 1) (S.instrs - j - 1)) (λ k z. (mark_some m.raw.shape (j + 1) (S.instrs - j - 1) k z).0)
     sparing LoadAnnouncement o a t e v = go (get_or m.known (ticket_cell S m.scan) None)
       where
         found : ℕ
@@ -443,7 +443,7 @@ module _ (S : Setup) (W R : ℕ) where
 
         go : (r : Option ℕ) → Spares S W R (after_announcement S now found r) (after_announcement S now found r).place
         go None = record { copies = tt; few = t.few; steps = less m.steps S.instrs (scan_left S W R m) (allowed S W R m) t.steps }
-        go (Some x) = weighed_sparing (record now { heard = found }) t.few a.3 (less m.steps S.instrs (scan_left S W R m) (allowed S W R m) t.steps) (nat_lt x (seq_of found))
+        go (Some x) = weighed_sparing (record now { heard = found }) t.few a.in_range (less m.steps S.instrs (scan_left S W R m) (allowed S W R m) t.steps) (nat_lt x (seq_of found))
     sparing LoadTicket o a t e v = go (nat_lt m.seq (seq_of found))
       where
         found : ℕ
@@ -451,9 +451,9 @@ module _ (S : Setup) (W R : ℕ) where
 
         go : (b : Bool) → Spares S W R (after_load_ticket S now found b) (after_load_ticket S now found b).place
         go true = record { copies = tt; few = t.few; steps = again_sum m.steps S.instrs ((S.callers - m.scan - 1) * (S.instrs + 1)) (R - knowns m.known) (store_steps W) (apply_steps W) (allowed S W R m) (omega arith) t.steps }
-        go false = weighed_sparing (record now { known = with_cell_known S m (ticket_cell S m.scan) found }) t.few a.3
+        go false = weighed_sparing (record now { known = with_cell_known S m (ticket_cell S m.scan) found }) t.few a.scanning.in_range
             (known_sum m.steps S.instrs ((S.callers - m.scan - 1) * (S.instrs + 1)) (R - knowns m.known) (R - knowns (with_cell_known S m (ticket_cell S m.scan) found)) (store_steps W) (apply_steps W) (allowed S W R m)
-            (learns LoadTicket (ticket_cell S m.scan) found e refl (omega (arith, a.0.looks.all, ticket_in_cells S Lawful B w g i m h m.scan a.3)) a.5) t.steps)
+            (learns LoadTicket (ticket_cell S m.scan) found e refl (omega (arith, a.scanning.past.looks.all, ticket_in_cells S Lawful B w g i m h m.scan a.scanning.in_range)) a.unknown) t.steps)
             (nat_lt (payload_of found) (seq_of m.heard))
     sparing (LoadScript j) o a t e v = go (nat_lt (j + 1) (payload_of m.heard))
       where
@@ -461,7 +461,7 @@ module _ (S : Setup) (W R : ℕ) where
         found = get_or w.words (word_of (want_at S m (LoadScript j))) 0
 
         j_in : j < S.instrs
-        j_in = omega (arith, a.6, a.4.small)
+        j_in = omega (arith, a.more, a.heard.small)
 
         more : (s i j x l : ℕ) → j < i → s + (i - j + x) ≤ l → s + 1 + (i - (j + 1) + x) ≤ l
         more s i j x l z h = omega arith
@@ -471,7 +471,7 @@ module _ (S : Setup) (W R : ℕ) where
 
         go : (b : Bool) → Spares S W R (after_load_script S now j found b) (after_load_script S now j found b).place
         go true = record { copies = tt; few = t.few; steps = more m.steps S.instrs j (scan_left S W R m) (allowed S W R m) j_in t.steps }
-        go false = ran_sparing (record now { script = with_script_word m found }) t.few a.3 (last m.steps S.instrs j (scan_left S W R m) (allowed S W R m) j_in t.steps) (S.meaning.walk (overlaid m.known m.log) (with_script_word m found))
+        go false = ran_sparing (record now { script = with_script_word m found }) t.few a.scanning.in_range (last m.steps S.instrs j (scan_left S W R m) (allowed S W R m) j_in t.steps) (S.meaning.walk (overlaid m.known m.log) (with_script_word m found))
     sparing (LoadCell x) o a t e v = go (nat_lt m.seq (seq_of found))
       where
         found : ℕ
@@ -479,9 +479,9 @@ module _ (S : Setup) (W R : ℕ) where
 
         go : (b : Bool) → Spares S W R (after_load_cell S now x found b) (after_load_cell S now x found b).place
         go true = record { copies = tt; few = t.few; steps = again_sum0 m.steps ((S.callers - m.scan - 1) * (S.instrs + 1)) (R - knowns m.known) (store_steps W) (apply_steps W) (allowed S W R m) (omega arith) t.steps }
-        go false = ran_sparing (record now { known = with_cell_known S m x found }) t.few a.3
+        go false = ran_sparing (record now { known = with_cell_known S m x found }) t.few a.scanning.in_range
             (known_sum0 m.steps ((S.callers - m.scan - 1) * (S.instrs + 1)) (R - knowns m.known) (R - knowns (with_cell_known S m x found)) (store_steps W) (apply_steps W) (allowed S W R m)
-            (learns (LoadCell x) x found e refl (omega (arith, a.0.looks.all, a.6)) a.7) t.steps)
+            (learns (LoadCell x) x found e refl (omega (arith, a.scanning.past.looks.all, a.in_cells)) a.unknown) t.steps)
             (S.meaning.walk (overlaid (with_cell_known S m x found) m.log) m.script)
     sparing RaiseOld o a t e v = record { copies = tt; few = t.few; steps = sum m.steps W (apply_steps W) (allowed S W R m) t.steps }
       where
@@ -494,7 +494,7 @@ module _ (S : Setup) (W R : ℕ) where
     sparing (RaiseLog x) o a t e v = go (nat_lt (x + 1) (length (log_words m.log)))
       where
         x_in : x < 2 * W + 1
-        x_in = sum x (length m.log) (length (log_words m.log)) W (length-log_words m.log) u.log a.1
+        x_in = sum x (length m.log) (length (log_words m.log)) W (length-log_words m.log) u.log a.more
           where
             sum : (x n k c : ℕ) → k ≡ 2 * n + 1 → n ≤ c → x < k → x < 2 * c + 1
             sum x n k c e l z = omega arith
@@ -547,14 +547,14 @@ module _ (S : Setup) (W R : ℕ) where
       where
         sum : (s y r l : ℕ) → s + (y + 1 + r) ≤ l → s + 1 + (y + r) ≤ l
         sum s y r l h = omega arith
-    sparing (ReloadTarget j) o a t e v = record { copies = tt; few = t.few; steps = sum m.steps W j (length m.log) (behind_apply S W R m m.helps) (allowed S W R m) a.1 u.log t.steps }
+    sparing (ReloadTarget j) o a t e v = record { copies = tt; few = t.few; steps = sum m.steps W j (length m.log) (behind_apply S W R m m.helps) (allowed S W R m) a.entry.more u.log t.steps }
       where
         sum : (s c j n r l : ℕ) → j < n → n ≤ c → s + (4 * (c - j) + r) ≤ l → s + 1 + (4 * (c - j) - 1 + r) ≤ l
         sum s c j n r l z q h = omega arith
     sparing (RaiseTarget j f) o a t e v = go (nat_lt (j + 1) (length m.log))
       where
         j_in : j < W
-        j_in = omega (arith, a.1, u.log)
+        j_in = omega (arith, a.entry.more, u.log)
 
         more : (s c j r l : ℕ) → j < c → s + (4 * (c - j) - 1 + r) ≤ l → s + 1 + (4 * (c - (j + 1)) + 2 + r) ≤ l
         more s c j r l z h = omega arith
@@ -595,7 +595,7 @@ module _ (S : Setup) (W R : ℕ) where
     some_left LookAgain o a t x e = omega arith
     some_left LoadOwnTicket o a t x e = omega arith
     some_left LoadShape o a t x e = omega arith
-    some_left (LoadReply j) o a t x e = omega (arith, a.4)
+    some_left (LoadReply j) o a t x e = omega (arith, a.in_reply)
     some_left LoadAnnouncement o a t x e = omega arith
     some_left LoadTicket o a t x e = omega arith
     some_left (LoadScript j) o a t x e = omega arith
@@ -609,8 +609,8 @@ module _ (S : Setup) (W R : ℕ) where
     some_left RaiseCurrent o a t x e = omega arith
     some_left (LoadTarget j) o a t x e = omega arith
     some_left (ExchangeTarget j f) o a t x e = omega arith
-    some_left (ReloadTarget j) o a t x e = omega (arith, a.1, u.log)
-    some_left (RaiseTarget j f) o a t x e = omega (arith, a.1, u.log)
+    some_left (ReloadTarget j) o a t x e = omega (arith, a.entry.more, u.log)
+    some_left (RaiseTarget j f) o a t x e = omega (arith, a.entry.more, u.log)
     some_left CloseRequest o a t x e = omega arith
     some_left RaiseClosed o a t x e = omega arith
 

@@ -13,7 +13,8 @@ use Rattle.of_core.specs.Machine.{is_idle, CallState, no_machine, first_place, b
 use Rattle.of_core.specs.TableMoment.{Read, Moment, TableStart}
 use Rattle.of_core.specs.WordsMatch.{IsRequest, IsLogWord}
 use Rattle.of_core.specs.Rounds.{IsUnannounced, KnowsOwnRequest}
-use Rattle.of_core.specs.Invariant.{MeetsInvariant, MeetsCore, HoldsAtPlace, IsAtRest, IsLoaded}
+use Rattle.of_core.specs.Places.{IsAtRest}
+use Rattle.of_core.specs.Invariant.{MeetsInvariant, MeetsCore, HoldsAtPlace, IsLoaded}
 use Rattle.of_core.specs.Bound.{MachineIsWithinBound}
 use Rattle.of_core.specs.Least.{HasMadeLeastSteps}
 use Rattle.of_core.specs.Order.{KeepsCallOrder, HasBegunTry, IsOlder}
@@ -54,8 +55,8 @@ module _ (S : Setup) (Lawful : List ℕ → Type 0) (B : TableStart) (w : Moment
         record { caller = a.caller; ticket = ticket; words = few; some = some; kept = (omega arith, λ l. absurd (omega (arith, l, seq_zero))); above = omega (arith, r.upto, a.made); quieted = r.quieted; newer = omega (arith, r.older, a.made); rounds = refl }
 
     at_first : (b : Bool) → S.meaning.reads_only op ≡ b → HoldsAtPlace S B w.words w.batches i (record (begin_call S d op) { place = first_place b }) (first_place b)
-    at_first true e = (fresh TryCurrent, at_rest.calm, e, omega arith)
-    at_first false e = (fresh (StoreScript 0), at_rest.calm, omega arith, refl)
+    at_first true e = record { fresh = fresh TryCurrent; calm = at_rest.calm; reads = e; few = omega arith }
+    at_first false e = record { fresh = fresh (StoreScript 0); calm = at_rest.calm; more = omega arith; script = refl }
 
     begun_core : MeetsCore S Lawful B (after_begin S i d op w)
     begun_core = (assemble S Lawful B w g.core i h w.words w.batches (begin_call S d op) (moves_not S Lawful B i w.words w.batches g.core.shared) g.core.shared (at_first (S.meaning.reads_only op) refl)).core

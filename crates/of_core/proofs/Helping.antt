@@ -78,7 +78,7 @@ module _ (S : Setup) (Lawful : List ℕ → Type 0) (B : TableStart) where
         ls = log_words (batch_at B w.batches m.seq).log
 
         c : IsCopyingLog S B w.words w.batches i m x
-        c = a.0
+        c = a.copies
 
         longer : length (with_log_word_copied m found) ≡ x + 1
         longer = length-append m.copy (payload_of found ∷ []) ∙ rw c.many refl
@@ -91,7 +91,7 @@ module _ (S : Setup) (Lawful : List ℕ → Type 0) (B : TableStart) where
 
         more : request_of w.words m.owner ≡ pack m.seq 0 → (with_log_word_copied m found ≡ take (x + 1) ls) × (x + 1 ≤ length ls)
         more q =
-            let u : x < length ls = a.1 q in
+            let u : x < length ls = a.more q in
             let e : found ≡ pack m.seq (get_or ls x 0) = copied_word m x c.current_word c.after q u in
             let v : payload_of found ≡ get_or ls x 0 = ap payload_of e ∙ pay_word m.seq (get_or ls x 0) (small_words S Lawful B (batch_at B w.batches m.seq).log g.shared.little log_is x) in
             ((rw v (ap (λ (ys : List ℕ). ys ++ get_or ls x 0 ∷ []) (c.copied q).1)) ∙ sym (take_more ls x 0 u), omega arith)
@@ -102,15 +102,15 @@ module _ (S : Setup) (Lawful : List ℕ → Type 0) (B : TableStart) where
             rw (e, get_or-take (x + 1) ls 0 0 (omega arith)) (sym (length-log_words (batch_at B w.batches m.seq).log))
 
         go : (b : Bool) → nat_lt (x + 1) (2 * get_or (with_log_word_copied m found) 0 0 + 1) ≡ b → HoldsAtPlace S B w.words w.batches i (after_copy_log m x found b) (after_copy_log m x found b).place
-        go true e = (
-          record { helper = helper_as S Lawful B w g i m h m _ c.helper refl refl refl refl refl refl refl refl refl; current_word = c.current_word; calm = c.calm; helps = c.helps; after = c.after; many = longer; count = λ l. count; copied = λ q. ((more q).1, (more q).0) },
-          λ q. let z : x + 1 < 2 * get_or (with_log_word_copied m found) 0 0 + 1 = grind (arith, nat_tests) in omega (arith, size q),
-          (let z : x + 1 < 2 * get_or (with_log_word_copied m found) 0 0 + 1 = grind (arith, nat_tests) in omega (arith, count)),
-        )
-        go false e = (
-          record { helper = helper_as S Lawful B w g i m h m _ c.helper refl refl refl refl refl refl refl refl refl; current_word = c.current_word; calm = c.calm; helps = c.helps; after = c.after; many = refl; count = λ l. count; copied = λ q. (omega (arith, whole q), (more q).0 ∙ ap (λ (k : ℕ). take k ls) (sym (got_length q))) },
-          λ q. whole q,
-        )
+        go true e = record {
+          copies = record { helper = helper_as S Lawful B w g i m h m _ c.helper refl refl refl refl refl refl refl refl refl; current_word = c.current_word; calm = c.calm; helps = c.helps; after = c.after; many = longer; count = λ l. count; copied = λ q. ((more q).1, (more q).0) };
+          more = λ q. let z : x + 1 < 2 * get_or (with_log_word_copied m found) 0 0 + 1 = grind (arith, nat_tests) in omega (arith, size q);
+          in_log = let z : x + 1 < 2 * get_or (with_log_word_copied m found) 0 0 + 1 = grind (arith, nat_tests) in omega (arith, count);
+        }
+        go false e = record {
+          copies = record { helper = helper_as S Lawful B w g i m h m _ c.helper refl refl refl refl refl refl refl refl refl; current_word = c.current_word; calm = c.calm; helps = c.helps; after = c.after; many = refl; count = λ l. count; copied = λ q. (omega (arith, whole q), (more q).0 ∙ ap (λ (k : ℕ). take k ls) (sym (got_length q))) };
+          whole = whole;
+        }
           where
             past : 2 * get_or (with_log_word_copied m found) 0 0 + 1 ≤ x + 1
             past = grind (arith, nat_tests)
@@ -129,14 +129,14 @@ module _ (S : Setup) (Lawful : List ℕ → Type 0) (B : TableStart) where
         found = request_of w.words m.owner
 
         c : IsCopyingLog S B w.words w.batches i m (length m.copy)
-        c = a.0
+        c = a.copies
 
         log : List (ℕ × ℕ)
         log = (batch_at B w.batches m.seq).log
 
         is_log : found ≡ pack m.seq 0 → log ≡ log_of m.copy
         is_log q =
-            let e : m.copy ≡ log_words log = (c.copied q).1 ∙ take_all (length m.copy) (log_words log) (omega (arith, a.1 q)) in
+            let e : m.copy ≡ log_words log = (c.copied q).1 ∙ take_all (length m.copy) (log_words log) (omega (arith, a.whole q)) in
             sym (ap log_of e ∙ log_back S Lawful B log)
 
         applies : (n : CallState) → n.caller ≡ m.caller → n.made ≡ m.made → n.op ≡ m.op → n.seq ≡ m.seq → n.owner ≡ m.owner → IsReorderingOf log n.log → n.helps ≡ true → n.kept ≡ m.kept → n.rounds ≡ m.rounds → n.first ≡ m.first → n.tries ≡ m.tries → IsApplying S B w.words w.batches i n 0

@@ -67,7 +67,7 @@ module _ (S : Setup) (Lawful : List ℕ → Type 0) (sound : IsSoundMeaning S.me
       some_left LookAgain o a x e = omega arith
       some_left LoadOwnTicket o a x e = omega arith
       some_left LoadShape o a x e = omega arith
-      some_left (LoadReply j) o a x e = omega (arith, a.4)
+      some_left (LoadReply j) o a x e = omega (arith, a.in_reply)
       some_left LoadAnnouncement o a x e = omega arith
       some_left LoadTicket o a x e = omega arith
       some_left (LoadScript j) o a x e = omega arith
@@ -81,8 +81,8 @@ module _ (S : Setup) (Lawful : List ℕ → Type 0) (sound : IsSoundMeaning S.me
       some_left RaiseCurrent o a x e = omega arith
       some_left (LoadTarget j) o a x e = omega arith
       some_left (ExchangeTarget j f) o a x e = omega arith
-      some_left (ReloadTarget j) o a x e = omega (arith, a.1, n_cells S Lawful B w g.core i m h j a.0)
-      some_left (RaiseTarget j f) o a x e = omega (arith, a.1, n_cells S Lawful B w g.core i m h j a.0)
+      some_left (ReloadTarget j) o a x e = omega (arith, a.entry.more, n_cells S Lawful B w g.core i m h j a.entry.applies)
+      some_left (RaiseTarget j f) o a x e = omega (arith, a.entry.more, n_cells S Lawful B w g.core i m h j a.entry.applies)
       some_left CloseRequest o a x e = omega arith
       some_left RaiseClosed o a x e = omega arith
 
@@ -109,7 +109,7 @@ module _ (S : Setup) (Lawful : List ℕ → Type 0) (sound : IsSoundMeaning S.me
     run_good (e ∷ es) w g s = run_good es (after_event S w e) (event_good S Lawful B w g sound e s.0) s.1
 
     pub no_fourth : (w : Moment) → MeetsInvariant S Lawful B w → (machine_in w i).place ≡ LoadCurrent → (machine_in w i).rounds ≤ 2
-    no_fourth w g e = (subst (λ (p : Place). HoldsAtPlace S B w.words w.batches i (machine_in w i) p) e (g.core.each i (machine_in w i) h (of_machine w g))).2.few
+    no_fourth w g e = (subst (λ (p : Place). HoldsAtPlace S B w.words w.batches i (machine_in w i) p) e (g.core.each i (machine_in w i) h (of_machine w g))).between.few
 
   pub ends_in_time : (w : Moment) → MeetsInvariant S Lawful B w → (es : List Event) → IsSchedule S w es → (i : ℕ) → i < S.callers → StaysOpen S w es i
       → ((machine_in w i).steps + turn_count i es < bound S) × ((machine_in (after_events S w es) i).place ≡ LoadCurrent → (machine_in (after_events S w es) i).rounds ≤ 2)

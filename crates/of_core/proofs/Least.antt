@@ -79,7 +79,7 @@ module _ (S : Setup) where
       where
         trying : (b : Bool) → (m.rounds == 0) ≡ b → made_helping m.op b ≤ m.steps + 1
         trying true q = omega (arith, t.steps)
-        trying false q = absurd (differ m.rounds 0 q a.0.fresh.rounds)
+        trying false q = absurd (differ m.rounds 0 q a.trying.fresh.rounds)
 
         go : (b : Bool) → HasMadeLeastSteps S (after_try_request S now b) (after_try_request S now b).place
         go true = record { steps = trying (m.rounds == 0) refl; rests = λ q. cc; told = λ q. cc }
@@ -121,7 +121,7 @@ module _ (S : Setup) where
         applying false q = cc
 
         go : (b d : Bool) → made_helping m.op d ≤ m.steps → HasMadeLeastSteps S (after_look_again S now b d) (after_look_again S now b d).place
-        go true d h = record { steps = applying m.helps a.0.helps; rests = λ q. cc; told = λ q. cc }
+        go true d h = record { steps = applying m.helps a.copies.helps; rests = λ q. cc; told = λ q. cc }
         go false d h = resumed_late now d (more (made_helping m.op d) h)
     late LoadOwnTicket a t e = go (nat_lt m.seq (seq_of n)) (payload_of n == m.made) (m.seq == S.limit)
       where

@@ -72,7 +72,7 @@ module _ (S : Setup) (Lawful : List ℕ → Type 0) (B : TableStart) (w : Moment
   current_level a e = go g.shared.durable.step (cases_lt B.seq (committed_seq w.words))
     where
       is : committed_seq w.words ≡ m.seq
-      is = ap seq_of e ∙ seq_word m.seq m.owner (omega (arith, a.0.past.looks.round.owner_in, g.shared.few))
+      is = ap seq_of e ∙ seq_word m.seq m.owner (omega (arith, a.stored.past.looks.round.owner_in, g.shared.few))
 
       same : (committed_seq w.words ≡ durable_seq S w.words) → committed_owner w.words ≡ payload_of (durable_word S w.words 0) → current_word w.words ≤ durable_word S w.words 0
       same q o =
@@ -86,7 +86,7 @@ module _ (S : Setup) (Lawful : List ℕ → Type 0) (B : TableStart) (w : Moment
           let f : committed_seq w.words ≡ B.seq = omega (arith, l, q, g.shared.durable.from) in
           same q (g.shared.counted.first f ∙ sym (g.shared.durable.first (omega (arith, q, f))))
       go (inr q) l =
-          let z : pack m.seq 0 < request_of w.words (committed_owner w.words) = a.0.past.looks.quiet (sym is) (omega (arith, is, q.1.any)) in
+          let z : pack m.seq 0 < request_of w.words (committed_owner w.words) = a.stored.past.looks.quiet (sym is) (omega (arith, is, q.1.any)) in
           let o : request_of w.words (committed_owner w.words) ≡ pack m.seq 0 = q.1.asks ∙ ap (λ (k : ℕ). pack k 0) is in
           absurd (omega (arith, z, o))
 
@@ -126,8 +126,8 @@ module _ (S : Setup) (Lawful : List ℕ → Type 0) (B : TableStart) (w : Moment
   cells (StoreScript x) a f c l = inl (elsewhere (script_word_at S m.caller x) _ c (λ e. omega (arith, e, l)))
   cells StoreAnnouncement a f c l = inl (elsewhere (script_word_at S m.caller S.instrs) _ c (λ e. omega (arith, e, l)))
   cells (StoreLog x) a f c l =
-      let ci : m.caller ≡ i = a.0.stored.past.looks.round.begun.caller in
-      changed (log_at S m.caller x) _ c (rw ci (level (f x (omega (arith, length-log_words m.log, a.0.stored.over.over.is_log.few, a.1)))))
+      let ci : m.caller ≡ i = a.storing.stored.past.looks.round.begun.caller in
+      changed (log_at S m.caller x) _ c (rw ci (level (f x (omega (arith, length-log_words m.log, a.storing.stored.over.over.is_log.few, a.more)))))
     where
       level : (durable_log S w.words i x ≡ log_word_of S w.words i x) ⊎ ⊥ → log_word_of S w.words i x ≤ durable_log S w.words i x
       level (inl q) = omega (arith, q)
@@ -137,9 +137,9 @@ module _ (S : Setup) (Lawful : List ℕ → Type 0) (B : TableStart) (w : Moment
       changed (request_at m.caller) _ c (rw ci (omega (arith, a.level)))
   cells ExchangeCurrent a f c l = exchanged 0 (pack m.seq m.owner) (pack (m.seq + 1) m.caller) c (current_level a)
   cells (ExchangeTarget x o) a f c l =
-      exchanged (data_at S (log_entry m x).0) o (pack m.seq (log_entry m x).1) c (λ e. target_level (log_entry m x).0 m.seq (entry_in S Lawful B w g i m h x x a.0 a.1) a.2 (omega (arith, ap seq_of e, a.3)))
+      exchanged (data_at S (log_entry m x).0) o (pack m.seq (log_entry m x).1) c (λ e. target_level (log_entry m x).0 m.seq (entry_in S Lawful B w g i m h x x a.entry.applies a.entry.more) a.entry.durable (omega (arith, ap seq_of e, a.older)))
   cells CloseRequest a f c l =
-      exchanged (request_at m.owner) (pack m.seq 0) (pack m.seq 1) c (λ e. omega (arith, e, rw a.0.committed at (g.shared.durable.floor m.seq a.0.after a.0.upto)))
+      exchanged (request_at m.owner) (pack m.seq 0) (pack m.seq 1) c (λ e. omega (arith, e, rw a.applies.committed at (g.shared.durable.floor m.seq a.applies.after a.applies.upto)))
   cells RaiseOld a f c l = inl (elsewhere (durable_at S (request_at m.caller)) _ c (λ e. omega (arith, e, l)))
   cells (RaiseLog x) a f c l = inl (elsewhere (durable_at S (log_at S m.caller x)) _ c (λ e. omega (arith, e, l)))
   cells RaiseRequest a f c l = inl (elsewhere (durable_at S (request_at m.caller)) _ c (λ e. omega (arith, e, l)))
@@ -165,7 +165,7 @@ module _ (S : Setup) (Lawful : List ℕ → Type 0) (B : TableStart) (w : Moment
   own_logs (StoreLog y) a f d n x u = go (cases_eq x y)
     where
       ci : m.caller ≡ i
-      ci = a.0.stored.past.looks.round.begun.caller
+      ci = a.storing.stored.past.looks.round.begun.caller
 
       go : (x ≡ y) ⊎ (x ≡ y → ⊥) → (durable_log S (words_after (want_at S m (StoreLog y)) w.words) i x ≡ log_word_of S (words_after (want_at S m (StoreLog y)) w.words) i x) ⊎ RaisesAt (take_word_at S (with_step_counted (StoreLog y) m) n (StoreLog y)).place x
       go (inl e) = inr (sym e)
@@ -174,14 +174,14 @@ module _ (S : Setup) (Lawful : List ℕ → Type 0) (B : TableStart) (w : Moment
       keeps_level _ x n StoreRequest (elsewhere (request_at m.caller) _ (log_at S i x) (λ e. omega (arith, e, a.stored.past.looks.round.begun.caller, h))) (d (log_at S i x) (log_in S i x h u)) (f x u)
   own_logs ExchangeCurrent a f d n x u = keeps_level _ x n ExchangeCurrent (elsewhere 0 _ (log_at S i x) (λ e. omega (arith, e))) (d (log_at S i x) (log_in S i x h u)) (f x u)
   own_logs (ExchangeTarget y o) a f d n x u =
-      keeps_level _ x n (ExchangeTarget y o) (elsewhere (data_at S (log_entry m y).0) _ (log_at S i x) (λ e. omega (arith, e, entry_in S Lawful B w g i m h y y a.0 a.1))) (d (log_at S i x) (log_in S i x h u)) (f x u)
+      keeps_level _ x n (ExchangeTarget y o) (elsewhere (data_at S (log_entry m y).0) _ (log_at S i x) (λ e. omega (arith, e, entry_in S Lawful B w g i m h y y a.entry.applies a.entry.more))) (d (log_at S i x) (log_in S i x h u)) (f x u)
   own_logs CloseRequest a f d n x u =
-      keeps_level _ x n CloseRequest (elsewhere (request_at m.owner) _ (log_at S i x) (λ e. omega (arith, e, owner_in S Lawful B w g i m h (length m.log) a.0))) (d (log_at S i x) (log_in S i x h u)) (f x u)
+      keeps_level _ x n CloseRequest (elsewhere (request_at m.owner) _ (log_at S i x) (λ e. omega (arith, e, owner_in S Lawful B w g i m h (length m.log) a.applies))) (d (log_at S i x) (log_in S i x h u)) (f x u)
   own_logs RaiseOld a f d n x u = keeps_level _ x n RaiseOld (elsewhere (durable_at S (request_at m.caller)) _ (log_at S i x) (λ e. omega (arith, e, log_in S i x h u))) (d (log_at S i x) (log_in S i x h u)) (f x u)
   own_logs (RaiseLog y) a f d n x u = go (cases_eq x y) (f x u)
     where
       ci : m.caller ≡ i
-      ci = a.0.stored.past.looks.round.begun.caller
+      ci = a.storing.stored.past.looks.round.begun.caller
 
       vs : List ℕ
       vs = words_after (want_at S m (RaiseLog y)) w.words
@@ -195,7 +195,7 @@ module _ (S : Setup) (Lawful : List ℕ → Type 0) (B : TableStart) (w : Moment
           here : y < 2 * S.cells + 1 → durable_log S vs i y ≡ log_word_of S vs i y
           here y_in =
               let spot : durable_at S (log_at S m.caller y) ≡ durable_at S (log_at S i y) = ap (λ (k : ℕ). durable_at S (log_at S k y)) ci in
-              let value : pack (m.seq + 1) (get_or (log_words m.log) y 0) ≡ log_word_of S w.words i y = sym (a.0.stored.each y (omega arith)) in
+              let value : pack (m.seq + 1) (get_or (log_words m.log) y 0) ≡ log_word_of S w.words i y = sym (a.storing.stored.each y (omega arith)) in
               let top : durable_log S vs i y ≡ max (durable_log S w.words i y) (pack (m.seq + 1) (get_or (log_words m.log) y 0)) =
               rw spot (get_or-set_same w.words (durable_at S (log_at S i y)) (max (durable_log S w.words i y) (pack (m.seq + 1) (get_or (log_words m.log) y 0))) 0 (omega (arith, g.shared.room, log_in S i y h y_in))) in
               let stays : log_word_of S vs i y ≡ log_word_of S w.words i y = elsewhere (durable_at S (log_at S m.caller y)) _ (log_at S i y) (λ z. omega (arith, z, log_in S i y h y_in)) in

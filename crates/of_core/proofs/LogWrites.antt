@@ -27,8 +27,8 @@ module _ (S : Setup) (Lawful : List ℕ → Type 0) (B : TableStart) where
     store_log_kept x a =
         rw (append-nil w.batches)
         (assemble S Lawful B w g i h vs w.batches (take_word_at S m (log_word_of S w.words m.caller x) (StoreLog x)) (moves_of S Lawful B i w.words vs w.batches touches g.shared)
-        (shared_of S Lawful B i w.words vs w.batches touches g.shared data_cells durable (heard_of S Lawful B i w.words vs w.batches touches g.shared behind counts) kinds) (
-          record {
+        (shared_of S Lawful B i w.words vs w.batches touches g.shared data_cells durable (heard_of S Lawful B i w.words vs w.batches touches g.shared behind counts) kinds) (record {
+          storing = record {
             stored = record {
               past = past_of S Lawful B i w.words vs w.batches touches g.shared behind m h st.past _ refl refl refl refl refl refl refl refl refl;
               over = over_of S Lawful B i w.words vs w.batches touches g.shared behind m.seq m.made m.op m.raw m.calls m.log S.callers st.over;
@@ -36,15 +36,15 @@ module _ (S : Setup) (Lawful : List ℕ → Type 0) (B : TableStart) where
               durable = λ y l. dur_same (log_at S i y) (log_in S i y h (omega (arith, x_in, l))) ∙ st.durable y l;
               rest = λ y l u. rw (log_row y u (λ q. omega arith)) (st.rest y (omega arith) u);
             };
-            own = rw (req_same i h) a.0.own;
-            level = dur_same (request_at i) (omega arith) ∙ a.0.level ∙ sym (req_same i h);
-            shut = λ k l u o. rw (req_same i h) (a.0.shut k l (rw current_same at u) o);
-          },
-          a.1,
-        ))
+            own = rw (req_same i h) a.storing.own;
+            level = dur_same (request_at i) (omega arith) ∙ a.storing.level ∙ sym (req_same i h);
+            shut = λ k l u o. rw (req_same i h) (a.storing.shut k l (rw current_same at u) o);
+          };
+          more = a.more;
+        }))
       where
         st : HasStoredLog S B w.words w.batches i m x x
-        st = a.0.stored
+        st = a.storing.stored
 
         new : ℕ
         new = pack (m.seq + 1) (get_or (log_words m.log) x 0)
@@ -56,7 +56,7 @@ module _ (S : Setup) (Lawful : List ℕ → Type 0) (B : TableStart) where
         ci = st.past.looks.round.begun.caller
 
         x_in : x < 2 * S.cells + 1
-        x_in = omega (arith, length-log_words m.log, st.over.over.is_log.few, a.1)
+        x_in = omega (arith, length-log_words m.log, st.over.over.is_log.few, a.more)
 
         fits : log_at S i x < length w.words
         fits = omega (arith, log_in S i x h x_in, g.shared.room)
@@ -143,7 +143,7 @@ module _ (S : Setup) (Lawful : List ℕ → Type 0) (B : TableStart) where
             sized j y l u (inr q) r = rw (log_other j (2 * y + 1) (omega arith) q) (g.shared.kinds.sized j y l u)
             sized j y l u (inl q) (inr r) = rw (q, log_row (2 * y + 1) (omega arith) r) (g.shared.kinds.sized i y h u)
             sized j y l u (inl q) (inl r) =
-                let in_log : y < length m.log = omega (arith, a.1, length-log_words m.log) in
+                let in_log : y < length m.log = omega (arith, a.more, length-log_words m.log) in
                 let e : log_word_of S vs j (2 * y + 1) ≡ new = ap (λ (k : ℕ). log_word_of S vs k (2 * y + 1)) q ∙ ap (log_word_of S vs i) r ∙ here in
                 let p : payload_of new ≡ get_or (log_words m.log) x 0 = pay_word (m.seq + 1) (get_or (log_words m.log) x 0) (fits_word x) in
                 let n : get_or (log_words m.log) x 0 ≡ (log_entry m y).0 = ap (λ (k : ℕ). get_or (log_words m.log) k 0) (sym r) ∙ (words_at m.log y in_log).0 in
@@ -173,7 +173,7 @@ module _ (S : Setup) (Lawful : List ℕ → Type 0) (B : TableStart) where
 
             -- an owner whose durable request is its batch's stores no log
             logs : (k : ℕ) → B.seq < k → k ≤ committed_seq w.words → (j : ℕ) → (batch_at B w.batches k).owner ≡ j → durable_request S w.words j ≡ pack k 0 → (y : ℕ) → y < 2 * S.cells + 1 → log_word_of S vs j y ≡ log_word_of S w.words j y
-            logs k l u j o q y v = log_other j y v (λ e. let z : pack k 0 < request_of w.words i = a.0.shut k l u (o ∙ e) in let r : durable_request S w.words i ≡ pack k 0 = rw e at q in omega (arith, a.0.level))
+            logs k l u j o q y v = log_other j y v (λ e. let z : pack k 0 < request_of w.words i = a.storing.shut k l u (o ∙ e) in let r : durable_request S w.words i ≡ pack k 0 = rw e at q in omega (arith, a.storing.level))
 
         stored : (y : ℕ) → y < x + 1 → (y ≡ x) ⊎ (y ≡ x → ⊥) → log_word_of S vs i y ≡ pack (m.seq + 1) (get_or (log_words m.log) y 0)
         stored y l (inl q) = rw q here
@@ -184,17 +184,17 @@ module _ (S : Setup) (Lawful : List ℕ → Type 0) (B : TableStart) where
     store_request_kept a =
         rw (append-nil w.batches)
         (assemble S Lawful B w g i h vs w.batches (take_word_at S m (request_of w.words m.caller) StoreRequest) (moves_of S Lawful B i w.words vs w.batches touches g.shared)
-        (shared_of S Lawful B i w.words vs w.batches touches g.shared data_cells durable (heard_of S Lawful B i w.words vs w.batches touches g.shared behind (λ j l. rw (log_same j 0) (g.shared.heard.counts j l))) (kinds_same S Lawful B i w.words vs w.batches touches g.shared (λ j l. request j l (cases_eq j i)) (λ j y l u. log_same j y))) (
-          record {
+        (shared_of S Lawful B i w.words vs w.batches touches g.shared data_cells durable (heard_of S Lawful B i w.words vs w.batches touches g.shared behind (λ j l. rw (log_same j 0) (g.shared.heard.counts j l))) (kinds_same S Lawful B i w.words vs w.batches touches g.shared (λ j l. request j l (cases_eq j i)) (λ j y l u. log_same j y))) (record {
+          stored = record {
             past = past_of S Lawful B i w.words vs w.batches touches g.shared behind m h st.past _ refl refl refl refl refl refl refl refl refl;
             over = over_of S Lawful B i w.words vs w.batches touches g.shared behind m.seq m.made m.op m.raw m.calls m.log S.callers st.over;
             each = λ y l. log_same i y ∙ st.each y l;
             durable = λ y l. dur_same (log_at S i y) (log_in S i y h (omega (arith, length-log_words m.log, st.over.over.is_log.few, l))) ∙ st.durable y l;
             rest = λ y l u. rw (log_same i y) (st.rest y l u);
-          },
-          here,
-          λ k l u o. rw (dur_same (request_at i) (omega arith)) (let z = a.shut k l (rw current_same at u) o in omega (arith, z, a.level)),
-        ))
+          };
+          asks = here;
+          shut = λ k l u o. rw (dur_same (request_at i) (omega arith)) (let z = a.shut k l (rw current_same at u) o in omega (arith, z, a.level));
+        }))
       where
         st : HasStoredLog S B w.words w.batches i m (length (log_words m.log)) (length (log_words m.log))
         st = a.stored

@@ -137,7 +137,7 @@ module _ (S : Setup) (B : TableStart) (w : Moment) (i : ℕ) (m : CallState) (n 
   losing LookAgain a = inr (inr (go (n == pack m.seq 0) (m.rounds == 0) refl))
     where
       go : (b c : Bool) → (m.rounds == 0) ≡ c → BeginsNone LookAgain (after_look_again S now b c)
-      go true c e = within LookAgain (after_look_again S now true c) refl refl refl refl refl (λ z q. inr (inl ((a.0.helps, q), refl)))
+      go true c e = within LookAgain (after_look_again S now true c) refl refl refl refl refl (λ z q. inr (inl ((a.copies.helps, q), refl)))
       go false c e = resumed_step LookAgain refl refl c (no_rounds c e)
   losing LoadOwnTicket a = inr (inr (go (nat_lt m.seq (seq_of n)) (payload_of n == m.made) (m.seq == S.limit)))
     where

@@ -20,7 +20,8 @@ use Rattle.of_core.specs.Order.{HasBegunTry}
 use Rattle.of_core.specs.Facts.{IsStep, TellsOutcome, ReadsFrom, loads_current, loads_current_at}
 use Rattle.of_core.specs.WordsMatch.{StatesFollowBatches}
 use Rattle.of_core.specs.Rounds.{IsInTry}
-use Rattle.of_core.specs.Invariant.{HoldsAtPlace, MeetsInvariant, IsAtRest, LastOutcomeStands}
+use Rattle.of_core.specs.Places.{IsAtRest, LastOutcomeStands}
+use Rattle.of_core.specs.Invariant.{HoldsAtPlace, MeetsInvariant}
 use Rattle.of_core.specs.MachineValue.{ended_outcome_at}
 use Rattle.of_core.specs.Events.{Event, Begins, Turns, Loads, Evicts, Raises, after_event, machine_in, after_events, MayHappen, IsSchedule}
 use Rattle.of_core.specs.Turn.{IsIdle}
@@ -148,7 +149,7 @@ module _ (S : Setup) (Lawful : List ℕ → Type 0) (sound : IsSoundMeaning S.me
           there = subst (λ (p : Place). HoldsAtPlace S B w.words w.batches j m p) q.0 here
 
           reads : S.meaning.reads_only m.op ≡ true
-          reads = there.2
+          reads = there.reads
 
           tries : d.tries ≡ m.tries + 1
           tries = ap (λ (x : CallState). x.tries) q.1
@@ -156,7 +157,7 @@ module _ (S : Setup) (Lawful : List ℕ → Type 0) (sound : IsSoundMeaning S.me
           below : Stage S B low j w.batches m → low + m.tries ≤ B.seq + length w.batches
           below (inl a) = a.1
           below (inr (inl a)) = absurd (subst (HasBegunTry m) q.0 a.0)
-          below (inr (inr a)) = omega (arith, a.0, there.3)
+          below (inr (inr a)) = omega (arith, a.0, there.few)
       go (inr (inl q)) = record {
         from = l.from;
         tries = omega (arith, l.tries, ap (λ (x : CallState). x.tries) q.1);
@@ -173,7 +174,7 @@ module _ (S : Setup) (Lawful : List ℕ → Type 0) (sound : IsSoundMeaning S.me
           one_more = ap (λ (x : CallState). x.rounds) q.1
 
           rounds : (0 < m.rounds) ⊎ (m.rounds ≤ 0) → low + d.rounds ≤ B.seq + length w.batches + 1
-          rounds (inl a) = omega (arith, one_more, l.first a, there.2.later a, last_is S Lawful B w g)
+          rounds (inl a) = omega (arith, one_more, l.first a, there.between.later a, last_is S Lawful B w g)
           rounds (inr a) = omega (arith, one_more, a, l.from)
 
           first : (b : Bool) → (m.rounds == 0) ≡ b → low ≤ first_round_seq m (seq_of n) b
@@ -498,6 +499,6 @@ has_lost S Lawful sound B w g es s i member rest live = record {
     l = lost_run S Lawful sound B i member low (omega arith) es w g s (omega arith) (λ o. absurd (let z : true ≡ false = sym (ap is_idle rest) ∙ o in cc)) live
 
     tried : 1 ≤ m.rounds → Stage S B low i v.batches m → MOST_TRIES ≤ B.seq + length v.batches - low
-    tried u (inl a) = absurd (omega (arith, u, (subst (λ (p : Place). HoldsAtPlace S B v.words v.batches i m p) a.0 here).0.rounds))
+    tried u (inl a) = absurd (omega (arith, u, (subst (λ (p : Place). HoldsAtPlace S B v.words v.batches i m p) a.0 here).fresh.rounds))
     tried u (inr (inl a)) = absurd (omega (arith, u, (tries_at S Lawful B v.words v.batches good.core.shared i m m.place here a.0).0.fresh.rounds))
     tried u (inr (inr a)) = omega (arith, a.0)

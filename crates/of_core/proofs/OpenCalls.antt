@@ -33,35 +33,35 @@ module _ (S : Setup) (Lawful : List ℕ → Type 0) (B : TableStart) (w : Moment
 
   open_holds : (p : Place) → IsOpen p → HoldsAtPlace S B w.words w.batches i m p → Holds
   open_holds Idle o a = cc
-  open_holds TryCurrent o a = inl a.0
-  open_holds TryRequest o a = inl a.0.fresh
-  open_holds (TryCell x) o a = inl a.0.fresh
-  open_holds (StoreScript j) o a = inl a.0
-  open_holds StoreAnnouncement o a = inl a.0
-  open_holds LoadCurrent o a = inr (inl a.0)
-  open_holds LoadRequest o a = inr (inl a.0.begun)
-  open_holds (CopyLog x) o a = helping a.0.helper
-  open_holds LookAgain o a = helping a.0.helper
-  open_holds LoadOwnTicket o a = inr (inl a.0.round.begun)
-  open_holds LoadShape o a = inr (inl a.0.round.begun)
-  open_holds (LoadReply j) o a = inr (inl a.0.round.begun)
-  open_holds LoadAnnouncement o a = inr (inl a.0.looks.round.begun)
-  open_holds LoadTicket o a = inr (inl a.0.looks.round.begun)
-  open_holds (LoadScript j) o a = inr (inl a.0.looks.round.begun)
-  open_holds (LoadCell x) o a = inr (inl a.0.looks.round.begun)
-  open_holds RaiseOld o a = inr (inl a.0.looks.round.begun)
-  open_holds (StoreLog x) o a = inr (inl a.0.stored.past.looks.round.begun)
-  open_holds (RaiseLog x) o a = inr (inl a.0.stored.past.looks.round.begun)
+  open_holds TryCurrent o a = inl a.fresh
+  open_holds TryRequest o a = inl a.trying.fresh
+  open_holds (TryCell x) o a = inl a.trying.fresh
+  open_holds (StoreScript j) o a = inl a.fresh
+  open_holds StoreAnnouncement o a = inl a.fresh
+  open_holds LoadCurrent o a = inr (inl a.begun)
+  open_holds LoadRequest o a = inr (inl a.round.begun)
+  open_holds (CopyLog x) o a = helping a.copies.helper
+  open_holds LookAgain o a = helping a.copies.helper
+  open_holds LoadOwnTicket o a = inr (inl a.looks.round.begun)
+  open_holds LoadShape o a = inr (inl a.looks.round.begun)
+  open_holds (LoadReply j) o a = inr (inl a.looks.round.begun)
+  open_holds LoadAnnouncement o a = inr (inl a.past.looks.round.begun)
+  open_holds LoadTicket o a = inr (inl a.scanning.past.looks.round.begun)
+  open_holds (LoadScript j) o a = inr (inl a.scanning.past.looks.round.begun)
+  open_holds (LoadCell x) o a = inr (inl a.scanning.past.looks.round.begun)
+  open_holds RaiseOld o a = inr (inl a.past.looks.round.begun)
+  open_holds (StoreLog x) o a = inr (inl a.storing.stored.past.looks.round.begun)
+  open_holds (RaiseLog x) o a = inr (inl a.storing.stored.past.looks.round.begun)
   open_holds StoreRequest o a = inr (inl a.stored.past.looks.round.begun)
-  open_holds RaiseRequest o a = inr (inl a.0.past.looks.round.begun)
-  open_holds ExchangeCurrent o a = inr (inl a.0.past.looks.round.begun)
+  open_holds RaiseRequest o a = inr (inl a.stored.past.looks.round.begun)
+  open_holds ExchangeCurrent o a = inr (inl a.stored.past.looks.round.begun)
   open_holds RaiseCurrent o a = applying 0 a
-  open_holds (LoadTarget j) o a = applying j a.0
-  open_holds (ExchangeTarget j f) o a = applying j a.0
-  open_holds (ReloadTarget j) o a = applying j a.0
-  open_holds (RaiseTarget j f) o a = applying j a.0
-  open_holds CloseRequest o a = applying (length m.log) a.0
-  open_holds RaiseClosed o a = applying (length m.log) a.0
+  open_holds (LoadTarget j) o a = applying j a.applies
+  open_holds (ExchangeTarget j f) o a = applying j a.entry.applies
+  open_holds (ReloadTarget j) o a = applying j a.entry.applies
+  open_holds (RaiseTarget j f) o a = applying j a.entry.applies
+  open_holds CloseRequest o a = applying (length m.log) a.applies
+  open_holds RaiseClosed o a = applying (length m.log) a.applies
 
   -- no call of the caller that is newer than its last one was run
   pub upto_at : (p : Place) → HoldsAtPlace S B w.words w.batches i m p → last_ticket_by S B w.batches (committed_seq w.words) i ≤ m.made

@@ -19,7 +19,8 @@ use Rattle.of_core.specs.Rounds.{IsAnnounced, WasCurrent, MayHelp, IsInTry, Anno
 use Rattle.of_core.specs.Transaction.{AppliesAs}
 use Rattle.of_core.specs.Order.{IsRead, AreInAnswerOrder, StandInCallOrder, AreInCallOrder, HasBegunTry, WasMadeBefore, IsOlder, HasOnlyOlderCalls, KeepsCallOrder, no_read}
 use Rattle.of_core.specs.Facts.{IsStepAtPlace, LastStepTells, CountsStepOrEnds}
-use Rattle.of_core.specs.Invariant.{HoldsAtPlace, MeetsCore, LastOutcomeStands, IsAtRest}
+use Rattle.of_core.specs.Places.{LastOutcomeStands, IsAtRest}
+use Rattle.of_core.specs.Invariant.{HoldsAtPlace, MeetsCore}
 use Rattle.of_core.specs.Guarantees.{Guarantees}
 use Rattle.of_core.proofs.Stability.{tick_how, tick_same}
 use Rattle.of_core.proofs.Tickets.{tickets_grow, ticket_upto}
@@ -84,17 +85,17 @@ module _ (S : Setup) (Lawful : List ℕ → Type 0) (B : TableStart) (ws : List 
     mode_tries false e q a = let z : false ≡ true = sym e ∙ q.0 in cc
 
     pub tries_at : (p : Place) → HoldsAtPlace S B ws bs j m p → HasBegunTry m p → IsInTry S B ws bs j m × WasCurrent S B ws bs m.seq m.owner
-    tries_at TryRequest a q = (a.0, a.1)
-    tries_at (TryCell x) a q = (a.0, a.1)
-    tries_at (CopyLog x) a q = (helper_tries q a.0.helper, a.0.current_word)
-    tries_at LookAgain a q = (helper_tries q a.0.helper, a.0.current_word)
+    tries_at TryRequest a q = (a.trying, a.current_word)
+    tries_at (TryCell x) a q = (a.trying, a.current_word)
+    tries_at (CopyLog x) a q = (helper_tries q a.copies.helper, a.copies.current_word)
+    tries_at LookAgain a q = (helper_tries q a.copies.helper, a.copies.current_word)
     tries_at RaiseCurrent a q = mode_tries m.helps refl q a.mode
-    tries_at (LoadTarget k) a q = mode_tries m.helps refl q a.0.mode
-    tries_at (ExchangeTarget k f) a q = mode_tries m.helps refl q a.0.mode
-    tries_at (ReloadTarget k) a q = mode_tries m.helps refl q a.0.mode
-    tries_at (RaiseTarget k f) a q = mode_tries m.helps refl q a.0.mode
-    tries_at CloseRequest a q = mode_tries m.helps refl q a.0.mode
-    tries_at RaiseClosed a q = mode_tries m.helps refl q a.0.mode
+    tries_at (LoadTarget k) a q = mode_tries m.helps refl q a.applies.mode
+    tries_at (ExchangeTarget k f) a q = mode_tries m.helps refl q a.entry.applies.mode
+    tries_at (ReloadTarget k) a q = mode_tries m.helps refl q a.entry.applies.mode
+    tries_at (RaiseTarget k f) a q = mode_tries m.helps refl q a.entry.applies.mode
+    tries_at CloseRequest a q = mode_tries m.helps refl q a.applies.mode
+    tries_at RaiseClosed a q = mode_tries m.helps refl q a.applies.mode
     tries_at Idle a q = absurd q
     tries_at TryCurrent a q = absurd q
     tries_at (StoreScript k) a q = absurd q
@@ -132,35 +133,35 @@ module _ (S : Setup) (Lawful : List ℕ → Type 0) (B : TableStart) (ws : List 
 
     announces_at : (p : Place) → HoldsAtPlace S B ws bs j m p → (AnnouncesNothingNew S B ws bs j → ⊥) → IsOpen p × (seq_of (announcement_of S ws j) ≡ m.made)
     announces_at Idle a n = absurd (n a.quieted)
-    announces_at TryCurrent a n = absurd (n a.0.quieted)
-    announces_at TryRequest a n = absurd (n a.0.fresh.quieted)
-    announces_at (TryCell x) a n = absurd (n a.0.fresh.quieted)
-    announces_at (StoreScript k) a n = absurd (n a.0.quieted)
-    announces_at StoreAnnouncement a n = absurd (n a.0.quieted)
-    announces_at LoadCurrent a n = (refl, begun_says a.0)
-    announces_at LoadRequest a n = (refl, begun_says a.0.begun)
-    announces_at (CopyLog x) a n = (refl, helper_says n a.0.helper)
-    announces_at LookAgain a n = (refl, helper_says n a.0.helper)
-    announces_at LoadOwnTicket a n = (refl, begun_says a.0.round.begun)
-    announces_at LoadShape a n = (refl, begun_says a.0.round.begun)
-    announces_at (LoadReply k) a n = (refl, begun_says a.0.round.begun)
-    announces_at LoadAnnouncement a n = (refl, begun_says a.0.looks.round.begun)
-    announces_at LoadTicket a n = (refl, begun_says a.0.looks.round.begun)
-    announces_at (LoadScript k) a n = (refl, begun_says a.0.looks.round.begun)
-    announces_at (LoadCell x) a n = (refl, begun_says a.0.looks.round.begun)
-    announces_at RaiseOld a n = (refl, begun_says a.0.looks.round.begun)
-    announces_at (StoreLog x) a n = (refl, begun_says a.0.stored.past.looks.round.begun)
-    announces_at (RaiseLog x) a n = (refl, begun_says a.0.stored.past.looks.round.begun)
+    announces_at TryCurrent a n = absurd (n a.fresh.quieted)
+    announces_at TryRequest a n = absurd (n a.trying.fresh.quieted)
+    announces_at (TryCell x) a n = absurd (n a.trying.fresh.quieted)
+    announces_at (StoreScript k) a n = absurd (n a.fresh.quieted)
+    announces_at StoreAnnouncement a n = absurd (n a.fresh.quieted)
+    announces_at LoadCurrent a n = (refl, begun_says a.begun)
+    announces_at LoadRequest a n = (refl, begun_says a.round.begun)
+    announces_at (CopyLog x) a n = (refl, helper_says n a.copies.helper)
+    announces_at LookAgain a n = (refl, helper_says n a.copies.helper)
+    announces_at LoadOwnTicket a n = (refl, begun_says a.looks.round.begun)
+    announces_at LoadShape a n = (refl, begun_says a.looks.round.begun)
+    announces_at (LoadReply k) a n = (refl, begun_says a.looks.round.begun)
+    announces_at LoadAnnouncement a n = (refl, begun_says a.past.looks.round.begun)
+    announces_at LoadTicket a n = (refl, begun_says a.scanning.past.looks.round.begun)
+    announces_at (LoadScript k) a n = (refl, begun_says a.scanning.past.looks.round.begun)
+    announces_at (LoadCell x) a n = (refl, begun_says a.scanning.past.looks.round.begun)
+    announces_at RaiseOld a n = (refl, begun_says a.past.looks.round.begun)
+    announces_at (StoreLog x) a n = (refl, begun_says a.storing.stored.past.looks.round.begun)
+    announces_at (RaiseLog x) a n = (refl, begun_says a.storing.stored.past.looks.round.begun)
     announces_at StoreRequest a n = (refl, begun_says a.stored.past.looks.round.begun)
-    announces_at RaiseRequest a n = (refl, begun_says a.0.past.looks.round.begun)
-    announces_at ExchangeCurrent a n = (refl, begun_says a.0.past.looks.round.begun)
+    announces_at RaiseRequest a n = (refl, begun_says a.stored.past.looks.round.begun)
+    announces_at ExchangeCurrent a n = (refl, begun_says a.stored.past.looks.round.begun)
     announces_at RaiseCurrent a n = (refl, mode_says m.helps n a.mode)
-    announces_at (LoadTarget k) a n = (refl, mode_says m.helps n a.0.mode)
-    announces_at (ExchangeTarget k f) a n = (refl, mode_says m.helps n a.0.mode)
-    announces_at (ReloadTarget k) a n = (refl, mode_says m.helps n a.0.mode)
-    announces_at (RaiseTarget k f) a n = (refl, mode_says m.helps n a.0.mode)
-    announces_at CloseRequest a n = (refl, mode_says m.helps n a.0.mode)
-    announces_at RaiseClosed a n = (refl, mode_says m.helps n a.0.mode)
+    announces_at (LoadTarget k) a n = (refl, mode_says m.helps n a.applies.mode)
+    announces_at (ExchangeTarget k f) a n = (refl, mode_says m.helps n a.entry.applies.mode)
+    announces_at (ReloadTarget k) a n = (refl, mode_says m.helps n a.entry.applies.mode)
+    announces_at (RaiseTarget k f) a n = (refl, mode_says m.helps n a.entry.applies.mode)
+    announces_at CloseRequest a n = (refl, mode_says m.helps n a.applies.mode)
+    announces_at RaiseClosed a n = (refl, mode_says m.helps n a.applies.mode)
 
 successive_push : (xs : List Read) (r : Read) → AreInAnswerOrder xs → All (λ (x : Read). x.caller ≡ r.caller → (x.ticket < r.ticket) × (x.seq ≤ r.seq)) xs → AreInAnswerOrder (xs ++ r ∷ [])
 successive_push xs r s f j k l u = go (cases_lt k (length xs))
@@ -372,7 +373,7 @@ module _ (S : Setup) (Lawful : List ℕ → Type 0) (B : TableStart) (w : Moment
       still (inl t) = ap (λ (s : ℕ). last_ticket_by S B cs s i) t.1 ∙ still_stable i m h (tries_at S Lawful B w.words w.batches g.shared i m m.place a t.0) (b.still t.0)
       still (inr t) =
           let f = subst (λ (p : Place). HoldsAtPlace S B w.words w.batches i m p) t.0 a in
-          ap (λ (s : ℕ). last_ticket_by S B cs s i) t.1 ∙ tick_same S Lawful B i w.words w.batches vs cs v g.shared (committed_seq w.words) i from_start (omega arith) ∙ sym (quiet_still i h f.0.quieted)
+          ap (λ (s : ℕ). last_ticket_by S B cs s i) t.1 ∙ tick_same S Lawful B i w.words w.batches vs cs v g.shared (committed_seq w.words) i from_start (omega arith) ∙ sym (quiet_still i h f.fresh.quieted)
 
   pub order_after : KeepsCallOrder S B (record { words = vs; machines = set w.machines i d; batches = cs; reads = w.reads ++ rs; loaded = w.loaded })
   order_after = record { ordered = ordered; behind = λ j n l e. go j n l e (cases_eq j i) }

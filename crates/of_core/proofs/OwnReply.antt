@@ -101,14 +101,14 @@ module _ (S : Setup) (Lawful : List ℕ → Type 0) (B : TableStart) where
         go y v k (inl z) = u.replies y z k
         go y v k (inr z) = absurd (mark_none n.raw.shape j (S.instrs - j) e y z (omega arith) k)
     asks_at n j l p o f u (Some x) e =
-        let s = mark_some n.raw.shape j (S.instrs - j) x e in (
-          looks_as S Lawful B w g i m h n _ p refl refl refl refl refl refl refl refl refl,
-          o,
-          record { heard = f.heard; there = f.there },
-          record { shape = u.shape; many = u.many; rest = u.rest; replies = λ y v k. go y v k (cases_lt y j) s.2 },
-          omega (arith, s.1),
-          s.3,
-        )
+        let s = mark_some n.raw.shape j (S.instrs - j) x e in record {
+          looks = looks_as S Lawful B w g i m h n _ p refl refl refl refl refl refl refl refl refl;
+          calm = o;
+          finds = record { heard = f.heard; there = f.there };
+          reply = record { shape = u.shape; many = u.many; rest = u.rest; replies = λ y v k. go y v k (cases_lt y j) s.2 };
+          in_reply = omega (arith, s.1);
+          marked = s.3;
+        }
       where
         go : (y : ℕ) → y < x → is_marked n.raw.shape y ≡ true → (y < j) ⊎ (j ≤ y) → ((y : ℕ) → j ≤ y → y < x → is_marked n.raw.shape y ≡ true → ⊥) → get_or n.raw.values y 0 ≡ payload_of (data_word_after B w.batches n.seq (reply_cell S i y))
         go y v k (inl z) t = u.replies y z k
@@ -122,21 +122,21 @@ module _ (S : Setup) (Lawful : List ℕ → Type 0) (B : TableStart) where
         found = data_word S w.words (shape_cell S m.caller)
 
         ci : m.caller ≡ i
-        ci = a.0.round.begun.caller
+        ci = a.looks.round.begun.caller
 
         x_in : shape_cell S i < S.cells
         x_in = row_in S Lawful B w g i m h (shape_cell S i) (omega arith, omega arith)
 
         fresh : seq_of (data_word S w.words (shape_cell S m.caller)) ≤ m.seq
-        fresh = rw ci (own_row_old S Lawful B w g i m h m a.0 (done_now m a.2) (shape_cell S i) (omega arith, omega arith))
+        fresh = rw ci (own_row_old S Lawful B w g i m h m a.looks (done_now m a.finds) (shape_cell S i) (omega arith, omega arith))
 
         is : data_word S w.words (shape_cell S m.caller) ≡ data_word_after B w.batches m.seq (shape_cell S i)
-        is = rw ci (cell_of S Lawful B w g i m h m a.0 (shape_cell S i) x_in (rw ci at fresh))
+        is = rw ci (cell_of S Lawful B w g i m h m a.looks (shape_cell S i) x_in (rw ci at fresh))
 
         go : (b : Bool) → nat_lt m.seq (seq_of found) ≡ b → HoldsAtPlace S B w.words w.batches i (after_load_shape S m found b) (after_load_shape S m found b).place
         go true e = let z : m.seq < seq_of found = grind (arith, nat_tests) in absurd (omega (arith, fresh))
         go false e =
-            asks_at (with_shape S m found) 0 (omega arith) (looks_as S Lawful B w g i m h m _ a.0 refl refl refl refl refl refl refl refl refl) a.1 (record { heard = a.2.heard; there = a.2.there })
+            asks_at (with_shape S m found) 0 (omega arith) (looks_as S Lawful B w g i m h m _ a.looks refl refl refl refl refl refl refl refl refl) a.calm (record { heard = a.finds.heard; there = a.finds.there })
             (record { shape = ap payload_of is; replies = λ y l. absurd (omega arith); rest = λ y l k. get_or-replicate S.instrs y 0 0 l; many = length-replicate S.instrs 0 }) (first_marked_place (payload_of found) 0 S.instrs) (ap (first_marked_place (payload_of found) 0) (omega arith))
 
     pub load_reply_kept : (j : ℕ) → HoldsAtPlace S B w.words w.batches i m (LoadReply j) → KeepsGuarantee S Lawful B i w (after_counted_step S i m (LoadReply j) w)
@@ -147,30 +147,30 @@ module _ (S : Setup) (Lawful : List ℕ → Type 0) (B : TableStart) where
         found = data_word S w.words (reply_cell S m.caller j)
 
         ci : m.caller ≡ i
-        ci = a.0.round.begun.caller
+        ci = a.looks.round.begun.caller
 
         in_row : IsCellOfCaller S i (reply_cell S i j)
-        in_row = (omega arith, omega (arith, a.4))
+        in_row = (omega arith, omega (arith, a.in_reply))
 
         fresh : seq_of (data_word S w.words (reply_cell S m.caller j)) ≤ m.seq
-        fresh = rw ci (own_row_old S Lawful B w g i m h m a.0 (done_now m a.2) (reply_cell S i j) in_row)
+        fresh = rw ci (own_row_old S Lawful B w g i m h m a.looks (done_now m a.finds) (reply_cell S i j) in_row)
 
         is : data_word S w.words (reply_cell S m.caller j) ≡ data_word_after B w.batches m.seq (reply_cell S i j)
-        is = rw ci (cell_of S Lawful B w g i m h m a.0 (reply_cell S i j) (row_in S Lawful B w g i m h (reply_cell S i j) in_row) (rw ci at fresh))
+        is = rw ci (cell_of S Lawful B w g i m h m a.looks (reply_cell S i j) (row_in S Lawful B w g i m h (reply_cell S i j) in_row) (rw ci at fresh))
 
         go : (b : Bool) → nat_lt m.seq (seq_of found) ≡ b → HoldsAtPlace S B w.words w.batches i (after_load_reply S m j found b) (after_load_reply S m j found b).place
         go true e = let z : m.seq < seq_of found = grind (arith, nat_tests) in absurd (omega (arith, fresh))
         go false e =
-            asks_at (with_reply m j found) (j + 1) (omega (arith, a.4)) (looks_as S Lawful B w g i m h m _ a.0 refl refl refl refl refl refl refl refl refl) a.1 (record { heard = a.2.heard; there = a.2.there })
-            (record { shape = a.3.shape; replies = λ y l k. read y l k (cases_eq y j); rest = λ y l k. unread y l k (cases_eq y j); many = length-set m.raw.values j (payload_of found) ∙ a.3.many }) (first_marked_place m.raw.shape (j + 1) (S.instrs - j - 1)) (ap (first_marked_place m.raw.shape (j + 1)) (omega arith))
+            asks_at (with_reply m j found) (j + 1) (omega (arith, a.in_reply)) (looks_as S Lawful B w g i m h m _ a.looks refl refl refl refl refl refl refl refl refl) a.calm (record { heard = a.finds.heard; there = a.finds.there })
+            (record { shape = a.reply.shape; replies = λ y l k. read y l k (cases_eq y j); rest = λ y l k. unread y l k (cases_eq y j); many = length-set m.raw.values j (payload_of found) ∙ a.reply.many }) (first_marked_place m.raw.shape (j + 1) (S.instrs - j - 1)) (ap (first_marked_place m.raw.shape (j + 1)) (omega arith))
           where
             read : (y : ℕ) → y < j + 1 → is_marked m.raw.shape y ≡ true → (y ≡ j) ⊎ (y ≡ j → ⊥) → get_or (set m.raw.values j (payload_of found)) y 0 ≡ payload_of (data_word_after B w.batches m.seq (reply_cell S i y))
-            read y l k (inl q) = rw q (get_or-set_same m.raw.values j (payload_of found) 0 (omega (arith, a.3.many, a.4)) ∙ ap payload_of is)
-            read y l k (inr q) = get_or-set_other m.raw.values j y (payload_of found) 0 q ∙ a.3.replies y (omega arith) k
+            read y l k (inl q) = rw q (get_or-set_same m.raw.values j (payload_of found) 0 (omega (arith, a.reply.many, a.in_reply)) ∙ ap payload_of is)
+            read y l k (inr q) = get_or-set_other m.raw.values j y (payload_of found) 0 q ∙ a.reply.replies y (omega arith) k
 
             unread : (y : ℕ) → y < S.instrs → is_marked m.raw.shape y ≡ false → (y ≡ j) ⊎ (y ≡ j → ⊥) → get_or (set m.raw.values j (payload_of found)) y 0 ≡ 0
-            unread y l k (inl q) = let z : true ≡ false = sym a.5 ∙ ap (is_marked m.raw.shape) (sym q) ∙ k in cc
-            unread y l k (inr q) = get_or-set_other m.raw.values j y (payload_of found) 0 q ∙ a.3.rest y l k
+            unread y l k (inl q) = let z : true ≡ false = sym a.marked ∙ ap (is_marked m.raw.shape) (sym q) ∙ k in cc
+            unread y l k (inr q) = get_or-set_other m.raw.values j y (payload_of found) 0 q ∙ a.reply.rest y l k
 
     -- nothing is scanned yet
     over_none : (made : ℕ) (op : List ℕ) (raw : RawReply) (s : ℕ) (cs : List Call) (es : List (ℕ × ℕ)) (n : ℕ) → cs ≡ [] → es ≡ [] → n ≡ 0 → HasScannedUpTo S B w.words w.batches i s made op raw cs es n
@@ -192,7 +192,7 @@ module _ (S : Setup) (Lawful : List ℕ → Type 0) (B : TableStart) where
         found = data_word S w.words (ticket_cell S m.caller)
 
         ci : m.caller ≡ i
-        ci = a.0.round.begun.caller
+        ci = a.looks.round.begun.caller
 
         in_row : IsCellOfCaller S i (ticket_cell S i)
         in_row = (omega arith, omega arith)
@@ -201,31 +201,31 @@ module _ (S : Setup) (Lawful : List ℕ → Type 0) (B : TableStart) where
         x_in = row_in S Lawful B w g i m h (ticket_cell S i) in_row
 
         is : seq_of (data_word S w.words (ticket_cell S m.caller)) ≤ m.seq → data_word S w.words (ticket_cell S m.caller) ≡ data_word_after B w.batches m.seq (ticket_cell S i)
-        is l = rw ci (cell_of S Lawful B w g i m h m a.0 (ticket_cell S i) x_in (rw ci at l))
+        is l = rw ci (cell_of S Lawful B w g i m h m a.looks (ticket_cell S i) x_in (rw ci at l))
 
         go : (b c d : Bool) → nat_lt m.seq (seq_of found) ≡ b → (payload_of found == m.made) ≡ c → (m.seq == S.limit) ≡ d → HoldsAtPlace S B w.words w.batches i (after_own_ticket S m found b c d) (after_own_ticket S m found b c d).place
         go true c d eb ec ed =
             let z : m.seq < seq_of found = grind (arith, nat_tests) in
             let z' : m.seq < seq_of (data_word S w.words (ticket_cell S i)) = rw ci at z in
-            again S Lawful B w g i m h m a.0.round a.1 (few z' (cases_eq m.rounds 3)) (ticket_cell S i) x_in z'
+            again S Lawful B w g i m h m a.looks.round a.calm (few z' (cases_eq m.rounds 3)) (ticket_cell S i) x_in z'
           where
             few : m.seq < seq_of (data_word S w.words (ticket_cell S i)) → (m.rounds ≡ 3) ⊎ (m.rounds ≡ 3 → ⊥) → m.rounds ≤ 2
-            few z (inl q) = absurd (omega (arith, z, own_row_old S Lawful B w g i m h m a.0 (third_done S Lawful B w g i m h m a.0.round q) (ticket_cell S i) in_row))
-            few z (inr q) = omega (arith, a.0.round.few)
+            few z (inl q) = absurd (omega (arith, z, own_row_old S Lawful B w g i m h m a.looks (third_done S Lawful B w g i m h m a.looks.round q) (ticket_cell S i) in_row))
+            few z (inr q) = omega (arith, a.looks.round.few)
         go false true d eb ec ed =
             let fresh : seq_of found ≤ m.seq = grind (arith, nat_tests) in
-            (looks_as S Lawful B w g i m h m _ a.0 refl refl refl refl refl refl refl refl refl, a.1, record { heard = is fresh; there = equal (payload_of found) m.made ec })
+            record { looks = looks_as S Lawful B w g i m h m _ a.looks refl refl refl refl refl refl refl refl refl; calm = a.calm; finds = record { heard = is fresh; there = equal (payload_of found) m.made ec } }
           where
             equal : (x y : ℕ) → (x == y) ≡ true → x ≡ y
             equal x y e = grind (arith, nat_tests)
         go false false true eb ec ed = record {
           caller = ci;
-          calm = calm_more S Lawful B w g i m h m.seq (committed_seq w.words) a.0.round.upto a.1;
-          kept = a.0.round.begun.kept;
-          quieted = inr (omega (arith, at_limit, a.0.round.upto, g.shared.counted.limit));
-          upto = a.0.round.begun.upto;
-          older = omega (arith, own_seq S Lawful B w g i m h m a.0.round.begun);
-          told = (omega (arith, differ (payload_of found) m.made ec, ap payload_of (is (not_newer m.seq (seq_of found) eb)), ap (λ (k : ℕ). last_ticket_by S B w.batches k i) at_last, a.0.round.begun.upto), at_limit, sym at_last, round_risen S Lawful B w g i m h m a.0);
+          calm = calm_more S Lawful B w g i m h m.seq (committed_seq w.words) a.looks.round.upto a.calm;
+          kept = a.looks.round.begun.kept;
+          quieted = inr (omega (arith, at_limit, a.looks.round.upto, g.shared.counted.limit));
+          upto = a.looks.round.begun.upto;
+          older = omega (arith, own_seq S Lawful B w g i m h m a.looks.round.begun);
+          told = (omega (arith, differ (payload_of found) m.made ec, ap payload_of (is (not_newer m.seq (seq_of found) eb)), ap (λ (k : ℕ). last_ticket_by S B w.batches k i) at_last, a.looks.round.begun.upto), at_limit, sym at_last, round_risen S Lawful B w g i m h m a.looks);
         }
           where
             at_limit : m.seq ≡ S.limit
@@ -235,17 +235,17 @@ module _ (S : Setup) (Lawful : List ℕ → Type 0) (B : TableStart) where
                 equal x y e = grind (arith, nat_tests)
 
             at_last : m.seq ≡ committed_seq w.words
-            at_last = omega (arith, at_limit, a.0.round.upto, g.shared.counted.limit)
-        go false false false eb ec ed = (
-          record {
-            looks = looks_as S Lawful B w g i m h (record m { known = with_cell_known S m (ticket_cell S m.caller) found }) _ (learn S Lawful B w g i m h m a.0 (ticket_cell S m.caller) (rw ci x_in) fresh) refl refl refl refl refl refl refl refl refl;
-            under = omega (arith, differ m.seq S.limit ed, a.0.round.upto, g.shared.counted.limit);
-            left = omega (arith, differ (payload_of found) m.made ec, ap payload_of (is fresh), a.0.round.begun.upto, grows_to S Lawful B w g i m h m.seq a.0.round.from a.0.round.upto);
-          },
-          a.1,
-          over_none m.made m.op m.raw m.seq m.calls m.log m.scan a.4 a.3 a.5,
-          rw a.5 (omega (arith, h)),
-        )
+            at_last = omega (arith, at_limit, a.looks.round.upto, g.shared.counted.limit)
+        go false false false eb ec ed = record {
+          past = record {
+            looks = looks_as S Lawful B w g i m h (record m { known = with_cell_known S m (ticket_cell S m.caller) found }) _ (learn S Lawful B w g i m h m a.looks (ticket_cell S m.caller) (rw ci x_in) fresh) refl refl refl refl refl refl refl refl refl;
+            under = omega (arith, differ m.seq S.limit ed, a.looks.round.upto, g.shared.counted.limit);
+            left = omega (arith, differ (payload_of found) m.made ec, ap payload_of (is fresh), a.looks.round.begun.upto, grows_to S Lawful B w g i m h m.seq a.looks.round.from a.looks.round.upto);
+          };
+          calm = a.calm;
+          scan = over_none m.made m.op m.raw m.seq m.calls m.log m.scan a.no_calls a.no_log a.no_scan;
+          in_range = rw a.no_scan (omega (arith, h));
+        }
           where
             fresh : seq_of (data_word S w.words (ticket_cell S m.caller)) ≤ m.seq
             fresh = not_newer m.seq (seq_of found) eb

@@ -136,25 +136,25 @@ module _ (S : Setup) (Lawful : List ℕ → Type 0) (B : TableStart) where
 
     pub raise_old_kept : HoldsAtPlace S B w.words w.batches i m RaiseOld → KeepsGuarantee S Lawful B i w (after_counted_step S i m RaiseOld w)
     raise_old_kept a =
-        goes_on RaiseOld a (request_at m.caller) m.kept (subst (λ (j : ℕ). IsLoaded S B w.words w.batches (request_at j, m.kept)) (sym a.0.looks.round.begun.caller) (req_loaded i m.kept h a.0.looks.round.begun.kept))
+        goes_on RaiseOld a (request_at m.caller) m.kept (subst (λ (j : ℕ). IsLoaded S B w.words w.batches (request_at j, m.kept)) (sym a.past.looks.round.begun.caller) (req_loaded i m.kept h a.past.looks.round.begun.kept))
         (take_word_at S m (durable_request S w.words m.caller) RaiseOld) (λ b u t. to _ b)
       where
         to : (xs : List ℕ) → HoldsAtPlace S B xs w.batches i m RaiseOld → HoldsAtPlace S B xs w.batches i (take_word_at S m (durable_request S w.words m.caller) RaiseOld) (StoreLog 0)
-        to xs b = (
-          record {
+        to xs b = record {
+          storing = record {
             stored = record {
-              past = past_to xs _ b.0 refl refl refl refl refl refl refl refl b.0.looks.round.begun.kept;
-              over = b.2;
+              past = past_to xs _ b.past refl refl refl refl refl refl refl refl b.past.looks.round.begun.kept;
+              over = b.scan;
               each = λ y l. absurd (omega arith);
               durable = λ y l. absurd (omega arith);
-              rest = λ y l u. b.1.logs y u;
+              rest = λ y l u. b.calm.logs y u;
             };
-            own = b.1.own;
-            level = b.1.level;
-            shut = b.1.shut;
-          },
-          omega arith,
-        )
+            own = b.calm.own;
+            level = b.calm.level;
+            shut = b.calm.shut;
+          };
+          more = omega arith;
+        }
 
     pub raise_log_kept : (x : ℕ) → HoldsAtPlace S B w.words w.batches i m (RaiseLog x) → KeepsGuarantee S Lawful B i w (after_counted_step S i m (RaiseLog x) w)
     raise_log_kept x a =
@@ -165,17 +165,17 @@ module _ (S : Setup) (Lawful : List ℕ → Type 0) (B : TableStart) where
         new = pack (m.seq + 1) (get_or (log_words m.log) x 0)
 
         ci : m.caller ≡ i
-        ci = a.0.stored.past.looks.round.begun.caller
+        ci = a.storing.stored.past.looks.round.begun.caller
 
         x_in : x < 2 * S.cells + 1
-        x_in = omega (arith, length-log_words m.log, a.0.stored.over.over.is_log.few, a.1)
+        x_in = omega (arith, length-log_words m.log, a.storing.stored.over.over.is_log.few, a.more)
 
         loads : IsLoaded S B w.words w.batches (log_at S m.caller x, new)
         loads = subst (λ (j : ℕ). IsLoaded S B w.words w.batches (log_at S j x, new)) (sym ci)
-            (record { place = log_in S i x h x_in; low = omega (arith, a.0.stored.each x (omega arith)); was_cur = λ q. absurd (omega arith); held = λ y l q. absurd (omega arith); request = λ y l q. absurd (omega arith); log = λ y z l u q. word_at y z (same_place y z u q) })
+            (record { place = log_in S i x h x_in; low = omega (arith, a.storing.stored.each x (omega arith)); was_cur = λ q. absurd (omega arith); held = λ y l q. absurd (omega arith); request = λ y l q. absurd (omega arith); log = λ y z l u q. word_at y z (same_place y z u q) })
           where
             now : log_word_of S w.words i x ≡ new
-            now = a.0.stored.each x (omega arith)
+            now = a.storing.stored.each x (omega arith)
 
             same_place : (y z : ℕ) → z < 2 * S.cells + 1 → log_at S i x ≡ log_at S y z → (i ≡ y) × (x ≡ z)
             same_place y z u q = let r : i ≡ y = same_row i y (2 * S.cells + 1) x z x_in u (omega arith) in (r, omega (arith, ap (λ (k : ℕ). k * (2 * S.cells + 1)) r))
@@ -190,49 +190,49 @@ module _ (S : Setup) (Lawful : List ℕ → Type 0) (B : TableStart) where
         to xs b e k u t = by b e
           where
             now : durable_log S xs i x ≡ new
-            now = let z : log_word_of S xs i x ≡ new = k.0.stored.each x (omega arith) in
+            now = let z : log_word_of S xs i x ≡ new = k.storing.stored.each x (omega arith) in
                 let u' : new ≤ durable_log S xs i x = rw ci at u in
                 let t' : durable_log S xs i x ≤ log_word_of S xs i x = rw ci at t in
                 omega (arith, z, u', t')
 
             upto : (y : ℕ) → y < x + 1 → (y ≡ x) ⊎ (y ≡ x → ⊥) → durable_log S xs i y ≡ pack (m.seq + 1) (get_or (log_words m.log) y 0)
             upto y l (inl q) = rw q now
-            upto y l (inr q) = k.0.stored.durable y (omega arith)
+            upto y l (inr q) = k.storing.stored.durable y (omega arith)
 
             logs : (n : CallState) (z : ℕ) → z ≡ x + 1 → n.caller ≡ m.caller → n.made ≡ m.made → n.op ≡ m.op → n.seq ≡ m.seq → n.owner ≡ m.owner → n.known ≡ m.known → n.kept ≡ m.kept → n.log ≡ m.log → n.raw ≡ m.raw → n.rounds ≡ m.rounds → n.first ≡ m.first → n.calls ≡ m.calls → IsStoringLog S B xs w.batches i n z z
             logs n z zx a1 b1 c1 d1 e1 f1 k1 g1 h1 r1 s1 t1 = record {
               stored = record {
-                past = past_to xs n k.0.stored.past a1 b1 c1 d1 e1 r1 s1 f1 (rw k1 k.0.stored.past.looks.round.begun.kept);
-                over = rw (d1, b1, c1, h1, t1, g1) k.0.stored.over;
-                each = λ y l. k.0.stored.each y (omega arith) ∙ sym (same_word y);
+                past = past_to xs n k.storing.stored.past a1 b1 c1 d1 e1 r1 s1 f1 (rw k1 k.storing.stored.past.looks.round.begun.kept);
+                over = rw (d1, b1, c1, h1, t1, g1) k.storing.stored.over;
+                each = λ y l. k.storing.stored.each y (omega arith) ∙ sym (same_word y);
                 durable = λ y l. upto y (omega arith) (cases_eq y x) ∙ sym (same_word y);
-                rest = λ y l v. rw d1 (k.0.stored.rest y (omega arith) v);
+                rest = λ y l v. rw d1 (k.storing.stored.rest y (omega arith) v);
               };
-              own = rw d1 k.0.own;
-              level = k.0.level;
-              shut = k.0.shut;
+              own = rw d1 k.storing.own;
+              level = k.storing.level;
+              shut = k.storing.shut;
             }
               where
                 same_word : (y : ℕ) → pack (n.seq + 1) (get_or (log_words n.log) y 0) ≡ pack (m.seq + 1) (get_or (log_words m.log) y 0)
                 same_word y = ap (λ (q : ℕ). pack (q + 1) (get_or (log_words n.log) y 0)) d1 ∙ ap (λ (es : List (ℕ × ℕ)). pack (m.seq + 1) (get_or (log_words es) y 0)) g1
 
             by : (b : Bool) → nat_lt (x + 1) (length (log_words m.log)) ≡ b → HoldsAtPlace S B xs w.batches i (after_raise_log m x b) (after_raise_log m x b).place
-            by true e = (logs (after_raise_log m x true) (x + 1) refl refl refl refl refl refl refl refl refl refl refl refl refl, let z : x + 1 < length (log_words m.log) = grind (arith, nat_tests) in z)
+            by true e = record { storing = logs (after_raise_log m x true) (x + 1) refl refl refl refl refl refl refl refl refl refl refl refl refl; more = (let z : x + 1 < length (log_words m.log) = grind (arith, nat_tests) in z) }
             by false e = logs (after_raise_log m x false) (length (log_words m.log)) (whole (let z : length (log_words m.log) ≤ x + 1 = grind (arith, nat_tests) in z)) refl refl refl refl refl refl refl refl refl refl refl refl
               where
                 whole : length (log_words m.log) ≤ x + 1 → length (log_words m.log) ≡ x + 1
-                whole v = omega (arith, k.1)
+                whole v = omega (arith, k.more)
 
     pub raise_request_kept : HoldsAtPlace S B w.words w.batches i m RaiseRequest → KeepsGuarantee S Lawful B i w (after_counted_step S i m RaiseRequest w)
     raise_request_kept a =
-        goes_on RaiseRequest a (request_at m.caller) new (subst (λ (j : ℕ). IsLoaded S B w.words w.batches (request_at j, new)) (sym ci) (req_loaded i new h (omega (arith, a.1), is_open_word)))
+        goes_on RaiseRequest a (request_at m.caller) new (subst (λ (j : ℕ). IsLoaded S B w.words w.batches (request_at j, new)) (sym ci) (req_loaded i new h (omega (arith, a.asks), is_open_word)))
         (take_word_at S m (durable_request S w.words m.caller) RaiseRequest) (λ b u t. to (raised w (request_at m.caller) new).words b u t)
       where
         new : ℕ
         new = pack (m.seq + 1) 0
 
         ci : m.caller ≡ i
-        ci = a.0.past.looks.round.begun.caller
+        ci = a.stored.past.looks.round.begun.caller
 
         is_open_word : IsRequest B w.words w.batches i new
         is_open_word l = inl (pay_word (m.seq + 1) 0 (omega arith))
@@ -240,17 +240,17 @@ module _ (S : Setup) (Lawful : List ℕ → Type 0) (B : TableStart) where
         to : (xs : List ℕ) → HoldsAtPlace S B xs w.batches i m RaiseRequest → new ≤ durable_word S xs (request_at m.caller) → durable_word S xs (request_at m.caller) ≤ get_or xs (request_at m.caller) 0 → HoldsAtPlace S B xs w.batches i (take_word_at S m (durable_request S w.words m.caller) RaiseRequest) ExchangeCurrent
         to xs b u t =
             let u' : new ≤ durable_request S xs i = rw ci at u in
-            let t' : durable_request S xs i ≤ request_of xs i = rw ci at t in (
-              record {
-                past = past_to xs _ b.0.past refl refl refl refl refl refl refl refl (omega (arith, b.1), λ l. inl (pay_word (m.seq + 1) 0 (omega arith)));
-                over = b.0.over;
-                each = b.0.each;
-                durable = b.0.durable;
-                rest = b.0.rest;
-              },
-              b.1,
-              omega (arith, u', t', b.1),
-            )
+            let t' : durable_request S xs i ≤ request_of xs i = rw ci at t in record {
+              stored = record {
+                past = past_to xs _ b.stored.past refl refl refl refl refl refl refl refl (omega (arith, b.asks), λ l. inl (pay_word (m.seq + 1) 0 (omega arith)));
+                over = b.stored.over;
+                each = b.stored.each;
+                durable = b.stored.durable;
+                rest = b.stored.rest;
+              };
+              asks = b.asks;
+              raised = omega (arith, u', t', b.asks);
+            }
 
     -- what is applied doesn't speak of the place
     applies_to : (xs : List ℕ) (j k : ℕ) → IsApplying S B xs w.batches i m j → (n : CallState)
@@ -314,10 +314,10 @@ module _ (S : Setup) (Lawful : List ℕ → Type 0) (B : TableStart) where
         }
 
         to : (xs : List ℕ) (b : Bool) → nat_lt 0 (length m.log) ≡ b → IsApplying S B xs w.batches i m 0 → new ≤ durable_word S xs 0 → HoldsAtPlace S B xs w.batches i (after_raise_current m b) (after_raise_current m b).place
-        to xs true e k u = (applies_to xs 0 0 k _ refl refl refl refl refl refl refl refl refl refl refl refl k.done, (let z : 0 < length m.log = grind (arith, nat_tests) in z), omega (arith, new_seq, seq_mono new (durable_word S xs 0) u))
+        to xs true e k u = record { applies = applies_to xs 0 0 k _ refl refl refl refl refl refl refl refl refl refl refl refl k.done; more = (let z : 0 < length m.log = grind (arith, nat_tests) in z); durable = omega (arith, new_seq, seq_mono new (durable_word S xs 0) u) }
         to xs false e k u =
             let z : length m.log ≡ 0 = grind (arith, nat_tests) in
-            (applies_to xs 0 (length m.log) k _ refl refl refl refl refl refl refl refl refl refl refl refl (λ y l. absurd (omega arith)), omega (arith, new_seq, seq_mono new (durable_word S xs 0) u))
+            record { applies = applies_to xs 0 (length m.log) k _ refl refl refl refl refl refl refl refl refl refl refl refl (λ y l. absurd (omega arith)); durable = omega (arith, new_seq, seq_mono new (durable_word S xs 0) u) }
 
     pub raise_target_kept : (j f : ℕ) → HoldsAtPlace S B w.words w.batches i m (RaiseTarget j f) → KeepsGuarantee S Lawful B i w (after_counted_step S i m (RaiseTarget j f) w)
     raise_target_kept j f a =
@@ -327,14 +327,14 @@ module _ (S : Setup) (Lawful : List ℕ → Type 0) (B : TableStart) where
         x = (log_entry m j).0
 
         x_in : x < S.cells
-        x_in = let t = a.0.log.each j a.1 in (subst (λ (e : ℕ × ℕ). (e.0 < S.cells) × (e.1 < PAYLOADS)) t.2 ((g.shared.counted.logs m.seq a.0.after a.0.upto).entries t.0 (0, 0) t.1)).0
+        x_in = let t = a.entry.applies.log.each j a.entry.more in (subst (λ (e : ℕ × ℕ). (e.0 < S.cells) × (e.1 < PAYLOADS)) t.2 ((g.shared.counted.logs m.seq a.entry.applies.after a.entry.applies.upto).entries t.0 (0, 0) t.1)).0
 
         loads : IsLoaded S B w.words w.batches (data_at S x, f)
         loads = record {
           place = omega (arith, x_in);
-          low = a.4;
+          low = a.low;
           was_cur = λ q. absurd (omega arith);
-          held = λ y l q. let e : x ≡ y = omega arith in subst (λ (k : ℕ). WasHeldByCell B w.words w.batches k f) e a.5;
+          held = λ y l q. let e : x ≡ y = omega arith in subst (λ (k : ℕ). WasHeldByCell B w.words w.batches k f) e a.held;
           request = λ y l q. absurd (omega arith);
           log = λ y z l u q. absurd (omega (arith, x_in));
         }
@@ -343,16 +343,16 @@ module _ (S : Setup) (Lawful : List ℕ → Type 0) (B : TableStart) where
         to xs b e k u = by b e
           where
             done : (y : ℕ) → y < j + 1 → (y ≡ j) ⊎ (y ≡ j → ⊥) → (m.seq ≤ seq_of (data_word S xs (log_entry m y).0)) × (m.seq ≤ seq_of (durable_cell S xs (log_entry m y).0))
-            done y l (inl q) = rw q (omega (arith, k.3, seq_mono f (data_word S xs x) k.4), omega (arith, k.3, seq_mono f (durable_cell S xs x) u))
-            done y l (inr q) = k.0.done y (omega arith)
+            done y l (inl q) = rw q (omega (arith, k.newer, seq_mono f (data_word S xs x) k.low), omega (arith, k.newer, seq_mono f (durable_cell S xs x) u))
+            done y l (inr q) = k.entry.applies.done y (omega arith)
 
             by : (b : Bool) → nat_lt (j + 1) (length m.log) ≡ b → HoldsAtPlace S B xs w.batches i (next_entry m j b) (next_entry m j b).place
-            by true e = (applies_to xs j (j + 1) k.0 _ refl refl refl refl refl refl refl refl refl refl refl refl (λ y l. done y l (cases_eq y j)), (let z : j + 1 < length m.log = grind (arith, nat_tests) in z), k.2)
+            by true e = record { applies = applies_to xs j (j + 1) k.entry.applies _ refl refl refl refl refl refl refl refl refl refl refl refl (λ y l. done y l (cases_eq y j)); more = (let z : j + 1 < length m.log = grind (arith, nat_tests) in z); durable = k.entry.durable }
             by false e = let z : length m.log ≡ j + 1 = whole (let z : length m.log ≤ j + 1 = grind (arith, nat_tests) in z) in
-                (applies_to xs j (length m.log) k.0 _ refl refl refl refl refl refl refl refl refl refl refl refl (λ y l. done y (omega arith) (cases_eq y j)), k.2)
+                record { applies = applies_to xs j (length m.log) k.entry.applies _ refl refl refl refl refl refl refl refl refl refl refl refl (λ y l. done y (omega arith) (cases_eq y j)); durable = k.entry.durable }
               where
                 whole : length m.log ≤ j + 1 → length m.log ≡ j + 1
-                whole v = omega (arith, k.1)
+                whole v = omega (arith, k.entry.more)
 
   -- behind the last raise of an apply a helper goes on with its round, and an owner's call is answered
   left_close : (w : Moment) (g : MeetsCore S Lawful B w) (i : ℕ) (m : CallState) (h : i < S.callers) → IsSoundMeaning S.meaning Lawful (first_operation_cell S) S.cells → IsApplying S B w.words w.batches i m (length m.log) → m.seq ≤ durable_seq S w.words → pack m.seq 0 < request_of w.words m.owner → pack m.seq 1 ≤ durable_request S w.words m.owner
@@ -403,7 +403,7 @@ module _ (S : Setup) (Lawful : List ℕ → Type 0) (B : TableStart) where
       let b : HoldsAtPlace S B (raised w (request_at m.owner) new).words w.batches i m RaiseClosed = stays w g i m h RaiseClosed a (request_at m.owner) new loads in
       record {
         core = (assemble_read S Lawful B (raised w (request_at m.owner) new) g1 i h _ _ (after_raise_closed S m m.helps (m.rounds == 0)) refl (append-nil w.batches)
-            (left_close (raised w (request_at m.owner) new) g1 i m h sound b.0 b.1 b.2 (omega (arith, here S Lawful B w.words w.batches g.shared (request_at m.owner) new loads)) m.helps (m.rounds == 0) refl refl)).core;
+            (left_close (raised w (request_at m.owner) new) g1 i m h sound b.applies b.durable b.closed (omega (arith, here S Lawful B w.words w.batches g.shared (request_at m.owner) new loads)) m.helps (m.rounds == 0) refl refl)).core;
         moves = rw (append-nil w.batches) (moves_raise w.words w.batches g.shared (request_at m.owner) new loads i);
       }
     where
@@ -411,14 +411,14 @@ module _ (S : Setup) (Lawful : List ℕ → Type 0) (B : TableStart) where
       new = pack m.seq 1
 
       owner_in : m.owner < S.callers
-      owner_in = rw (← a.0.committed) (g.shared.counted.owners m.seq a.0.after a.0.upto)
+      owner_in = rw (← a.applies.committed) (g.shared.counted.owners m.seq a.applies.after a.applies.upto)
 
       loads : IsLoaded S B w.words w.batches (request_at m.owner, new)
       loads = record {
         place = omega (arith, owner_in);
-        low = omega (arith, a.2, word_next m.seq 0);
+        low = omega (arith, a.closed, word_next m.seq 0);
         was_cur = λ q. absurd (omega arith);
         held = λ y l q. absurd (omega (arith, owner_in));
-        request = λ y l q. let e : m.owner ≡ y = omega arith in λ b. inr (pay_word m.seq 1 (omega arith), rw (seq_word m.seq 1 (omega arith)) a.0.upto, rw (seq_word m.seq 1 (omega arith)) (a.0.committed ∙ e));
+        request = λ y l q. let e : m.owner ≡ y = omega arith in λ b. inr (pay_word m.seq 1 (omega arith), rw (seq_word m.seq 1 (omega arith)) a.applies.upto, rw (seq_word m.seq 1 (omega arith)) (a.applies.committed ∙ e));
         log = λ y z l u q. absurd (omega (arith, owner_in));
       }

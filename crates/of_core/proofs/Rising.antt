@@ -45,8 +45,8 @@ module _ (S : Setup) (Lawful : List ℕ → Type 0) (B : TableStart) (w : Moment
   cells_at (StoreLog x) q = elsewhere (log_at S m.caller x) _ (λ e. omega (arith, e, l))
   cells_at StoreRequest q = elsewhere (request_at m.caller) _ (λ e. omega (arith, e, h, q.stored.past.looks.round.begun.caller))
   cells_at ExchangeCurrent q = elsewhere 0 _ (λ e. omega (arith, e))
-  cells_at (ExchangeTarget x o) q = exchanged (log_entry m x).0 m.seq o (pack m.seq (log_entry m x).1) (entry_in S Lawful B w g i m h x x q.0 q.1) q.3 q.0.upto
-  cells_at CloseRequest q = elsewhere (request_at m.owner) _ (λ e. omega (arith, e, owner_in S Lawful B w g i m h (length m.log) q.0))
+  cells_at (ExchangeTarget x o) q = exchanged (log_entry m x).0 m.seq o (pack m.seq (log_entry m x).1) (entry_in S Lawful B w g i m h x x q.entry.applies q.entry.more) q.older q.entry.applies.upto
+  cells_at CloseRequest q = elsewhere (request_at m.owner) _ (λ e. omega (arith, e, owner_in S Lawful B w g i m h (length m.log) q.applies))
   cells_at RaiseOld q = elsewhere (durable_at S (request_at m.caller)) _ (λ e. omega (arith, e, l))
   cells_at (RaiseLog x) q = elsewhere (durable_at S (log_at S m.caller x)) _ (λ e. omega (arith, e, l))
   cells_at RaiseRequest q = elsewhere (durable_at S (request_at m.caller)) _ (λ e. omega (arith, e, l))

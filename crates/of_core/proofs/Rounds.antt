@@ -29,21 +29,21 @@ module _ (S : Setup) (Lawful : List ℕ → Type 0) (B : TableStart) where
     idle_kept a = assemble_read S Lawful B w g i h _ _ m (same_words S Lawful B w g i m h 0) (same_batches S Lawful B w g i m h) a
 
     pub load_current_kept : HoldsAtPlace S B w.words w.batches i m LoadCurrent → KeepsGuarantee S Lawful B i w (after_counted_step S i m LoadCurrent w)
-    load_current_kept a = assemble_read S Lawful B w g i h _ _ (take_word_at S m (current_word w.words) LoadCurrent) (same_words S Lawful B w g i m h 0) (same_batches S Lawful B w g i m h) (go (m.rounds == 0) refl, a.1)
+    load_current_kept a = assemble_read S Lawful B w g i h _ _ (take_word_at S m (current_word w.words) LoadCurrent) (same_words S Lawful B w g i m h 0) (same_batches S Lawful B w g i m h) (record { round = go (m.rounds == 0) refl; calm = a.calm })
       where
         go : (b : Bool) → (m.rounds == 0) ≡ b → IsInRound S B w.words w.batches i (record m { place = LoadRequest; seq = committed_seq w.words; owner = committed_owner w.words; rounds = m.rounds + 1; first = first_round_seq m (committed_seq w.words) b })
         go b e = record {
           begun = record {
-            caller = a.0.caller;
-            ticket = a.0.ticket;
-            words = a.0.words;
-            some = a.0.some;
-            kept = a.0.kept;
-            says = a.0.says;
-            script = a.0.script;
-            upto = a.0.upto;
-            beyond = a.0.beyond;
-            mine = a.0.mine;
+            caller = a.begun.caller;
+            ticket = a.begun.ticket;
+            words = a.begun.words;
+            some = a.begun.some;
+            kept = a.begun.kept;
+            says = a.begun.says;
+            script = a.begun.script;
+            upto = a.begun.upto;
+            beyond = a.begun.beyond;
+            mine = a.begun.mine;
             known = λ l. known b e;
           };
           from = omega (arith, g.shared.counted.count);
@@ -55,16 +55,16 @@ module _ (S : Setup) (Lawful : List ℕ → Type 0) (B : TableStart) where
           unowned = λ k l u. absurd (omega arith);
           later = from b e;
           begun_one = omega arith;
-          few = omega (arith, a.2.few);
+          few = omega (arith, a.between.few);
         }
           where
             known : (b : Bool) → (m.rounds == 0) ≡ b → (B.seq ≤ first_round_seq m (committed_seq w.words) b) × ((k : ℕ) → first_round_seq m (committed_seq w.words) b < k → k ≤ committed_seq w.words → (batch_at B w.batches k).announcements i ≡ announcement_of S w.words i)
             known true e = (omega (arith, g.shared.counted.count), λ k l u. absurd (omega arith))
-            known false e = let z : 1 ≤ m.rounds = grind (arith, nat_tests) in a.0.known z
+            known false e = let z : 1 ≤ m.rounds = grind (arith, nat_tests) in a.begun.known z
 
             from : (b : Bool) → (m.rounds == 0) ≡ b → first_round_seq m (committed_seq w.words) b + (m.rounds + 1) ≤ committed_seq w.words + 1
             from true e = let z : m.rounds ≡ 0 = grind (arith, nat_tests) in omega arith
-            from false e = let z : 1 ≤ m.rounds = grind (arith, nat_tests) in omega (arith, a.2.later z)
+            from false e = let z : 1 ≤ m.rounds = grind (arith, nat_tests) in omega (arith, a.between.later z)
 
     pub n_is : committed_seq w.words ≡ B.seq + length w.batches
     n_is = g.shared.counted.count
@@ -117,24 +117,28 @@ module _ (S : Setup) (Lawful : List ℕ → Type 0) (B : TableStart) where
 
     -- a round that met a newer cell begins again
     pub again : (n : CallState) → IsInRound S B w.words w.batches i n → HasNothingUnderWay S B w.words w.batches i n.seq → n.rounds ≤ 2 → (x : ℕ) → x < S.cells → n.seq < seq_of (data_word S w.words x) → HoldsAtPlace S B w.words w.batches i (next_round n) LoadCurrent
-    again n p c few x l u = (begun_as S Lawful B w g i m h n _ p.begun refl refl refl refl refl refl, calm_more S Lawful B w g i m h n.seq (committed_seq w.words) p.upto c, record { few = few; later = λ z. omega (arith, p.later, cell_upto x l) })
+    again n p c few x l u = record {
+      begun = begun_as S Lawful B w g i m h n _ p.begun refl refl refl refl refl refl;
+      calm = calm_more S Lawful B w g i m h n.seq (committed_seq w.words) p.upto c;
+      between = record { few = few; later = λ z. omega (arith, p.later, cell_upto x l) };
+    }
 
     -- a machine in a round, past the help, looks for its call in the history
     pub entered_at : (n : CallState) → IsInRound S B w.words w.batches i n → HasNothingUnderWay S B w.words w.batches i n.seq
         → (n.seq ≡ committed_seq w.words → B.seq < n.seq → pack n.seq 0 < request_of w.words (committed_owner w.words)) → HoldsAtPlace S B w.words w.batches i (enter S n) LoadOwnTicket
-    entered_at n p o quiet = (
-      record {
+    entered_at n p o quiet = record {
+      looks = record {
         round = round_as S Lawful B w g i m h n _ p refl refl refl refl refl refl refl refl;
         quiet = quiet;
         agrees = λ x v q. absurd (elim_none v (sym (unknown_at x (cases_lt x S.cells)) ∙ q));
         all = length-replicate S.cells None;
-      },
-      o,
-      refl,
-      refl,
-      refl,
-      refl,
-    )
+      };
+      calm = o;
+      no_cell = refl;
+      no_log = refl;
+      no_calls = refl;
+      no_scan = refl;
+    }
       where
         unknown_at : (x : ℕ) → (x < S.cells) ⊎ (S.cells ≤ x) → get_or (no_cell_known S) x None ≡ None
         unknown_at x (inl l) = get_or-replicate S.cells x None None l
@@ -170,25 +174,25 @@ module _ (S : Setup) (Lawful : List ℕ → Type 0) (B : TableStart) where
         after : (0 < m.seq) × (request_of w.words m.owner ≡ pack m.seq 0) → (m.seq ≡ B.seq) ⊎ (m.seq ≡ B.seq → ⊥) → B.seq < m.seq
         after q (inl e) =
             let z : pack B.seq 0 < request_of w.words B.owner = g.shared.requests.floor (omega (arith, q.0)) in
-            absurd (omega (arith, q.1, ap (λ (k : ℕ). pack k 0) e, ap (request_of w.words) (a.0.first e)))
-        after q (inr e) = omega (arith, a.0.from)
+            absurd (omega (arith, q.1, ap (λ (k : ℕ). pack k 0) e, ap (request_of w.words) (a.round.first e)))
+        after q (inr e) = omega (arith, a.round.from)
 
         go : (b : Bool) → is_request_open m.seq (request_of w.words m.owner) ≡ b → HoldsAtPlace S B w.words w.batches i (after_load_request S m b) (after_load_request S m b).place
-        go true eb = (
-          record {
-            helper = inl (round_as S Lawful B w g i m h m _ a.0 refl refl refl refl refl refl refl refl);
-            current_word = current_of m a.0;
-            calm = a.1;
+        go true eb = record {
+          copies = record {
+            helper = inl (round_as S Lawful B w g i m h m _ a.round refl refl refl refl refl refl refl refl);
+            current_word = current_of m a.round;
+            calm = a.calm;
             helps = refl;
             after = after (opened_is m.seq (request_of w.words m.owner) eb) (cases_eq m.seq B.seq);
             many = refl;
             count = λ l. absurd (omega arith);
             copied = λ q. (omega arith, refl);
-          },
-          λ q. omega arith,
-          omega arith,
-        )
-        go false eb = entered_at m a.0 a.1 (quiet_from m.seq m.owner (current_of m a.0) (λ l. not_open m.seq (request_of w.words m.owner) eb (omega (arith, l))))
+          };
+          more = λ q. omega arith;
+          in_log = omega arith;
+        }
+        go false eb = entered_at m a.round a.calm (quiet_from m.seq m.owner (current_of m a.round) (λ l. not_open m.seq (request_of w.words m.owner) eb (omega (arith, l))))
 
     -- a cell that isn't newer than the round is that of the round's state
     pub cell_of : (n : CallState) → IsPastRequest S B w.words w.batches i n → (x : ℕ) → x < S.cells → seq_of (data_word S w.words x) ≤ n.seq → data_word S w.words x ≡ data_word_after B w.batches n.seq x

@@ -19,6 +19,7 @@ use Rattle.of_core.specs.TableMoment.{Moment, TableStart, after_counted_step}
 use Rattle.of_core.specs.History.{state_after, batch_at, CallersRise, last_ticket_by, numbers_after}
 use Rattle.of_core.specs.Rounds.{IsAnnounced, IsPastOwnTicket, HasNothingUnderWay}
 use Rattle.of_core.specs.Scan.{HasScannedUpTo, IsInScan, HasLoadedAnnouncement, HasLoadedScript, WasTakenByScan, IsAnnouncedCall}
+use Rattle.of_core.specs.Places.{IsAtCaller}
 use Rattle.of_core.specs.Invariant.{HoldsAtPlace, MeetsCore}
 use Rattle.of_core.specs.Guarantees.{KeepsGuarantee}
 use Rattle.of_core.proofs.States.{state_length}
@@ -53,28 +54,41 @@ module _ (S : Setup) (Lawful : List ℕ → Type 0) (B : TableStart) where
             let y : announcement_of S w.words n ≡ heard = l.stood after z' in
             inl (rw e (omega (arith, done, ap seq_of y)))
 
+    -- what was learnt or loaded is no matter to the scan
+    scanning_as : (n d : CallState) → IsAtCaller S B w.words w.batches i n → IsPastOwnTicket S B w.words w.batches i d → d.made ≡ n.made → d.op ≡ n.op → d.seq ≡ n.seq → d.raw ≡ n.raw → d.calls ≡ n.calls → d.log ≡ n.log → d.scan ≡ n.scan → IsAtCaller S B w.words w.batches i d
+    scanning_as n d p past a b c e f l q = record { past = past; calm = rw c p.calm; scan = rw (c, a, b, e, f, l, q) p.scan; in_range = rw q p.in_range }
+
     next_at : (n : CallState) → IsPastOwnTicket S B w.words w.batches i n → HasNothingUnderWay S B w.words w.batches i n.seq → HasScannedUpTo S B w.words w.batches i n.seq n.made n.op n.raw n.calls n.log (n.scan + 1) → n.scan < S.callers
         → (b : Bool) → nat_lt (n.scan + 1) S.callers ≡ b → HoldsAtPlace S B w.words w.batches i (next_scanned_caller n b) (next_scanned_caller n b).place
-    next_at n p o v l true e = (past_as S Lawful B w g i m h n _ p refl refl refl refl refl refl refl refl refl, o, v, let z : n.scan + 1 < S.callers = grind (arith, nat_tests) in z)
+    next_at n p o v l true e = record { past = past_as S Lawful B w g i m h n _ p refl refl refl refl refl refl refl refl refl; calm = o; scan = v; in_range = (let z : n.scan + 1 < S.callers = grind (arith, nat_tests) in z) }
     next_at n p o v l false e =
         let z : S.callers ≤ n.scan + 1 = not_newer (n.scan + 1) S.callers e in
         let q : n.scan + 1 ≡ S.callers = omega arith in
-        (past_as S Lawful B w g i m h n _ p refl refl refl refl refl refl refl refl refl, o, subst (λ (k : ℕ). HasScannedUpTo S B w.words w.batches i n.seq n.made n.op n.raw n.calls n.log k) q v)
+        record {
+          past = past_as S Lawful B w g i m h n _ p refl refl refl refl refl refl refl refl refl;
+          calm = o;
+          scan = subst (λ (k : ℕ). HasScannedUpTo S B w.words w.batches i n.seq n.made n.op n.raw n.calls n.log k) q v;
+        }
 
-    weighed_at : (n : CallState) → IsPastOwnTicket S B w.words w.batches i n → HasNothingUnderWay S B w.words w.batches i n.seq → IsInScan S B w.words w.batches i n → n.scan < S.callers → HasLoadedAnnouncement S B w.words w.batches i n.seq n.scan n.heard
+    weighed_at : (n : CallState) → IsAtCaller S B w.words w.batches i n → HasLoadedAnnouncement S B w.words w.batches i n.seq n.scan n.heard
         → (v : ℕ) → v ≡ last_ticket_by S B w.batches n.seq n.scan → (b : Bool) → nat_lt v (seq_of n.heard) ≡ b → HoldsAtPlace S B w.words w.batches i (weigh S n b) (weigh S n b).place
-    weighed_at n p o v l hs t q true e =
+    weighed_at n p hs t q true e =
         let z : t < seq_of n.heard = grind (arith, nat_tests) in
-        (past_as S Lawful B w g i m h n _ p refl refl refl refl refl refl refl refl refl, o, v, l, hs, record { new = omega (arith, q); words = λ k. refl; many = refl; within = omega arith }, hs.some (omega arith))
-    weighed_at n p o v l hs t q false e =
+        record {
+          scanning = scanning_as n _ p (past_as S Lawful B w g i m h n _ p.past refl refl refl refl refl refl refl refl refl) refl refl refl refl refl refl refl;
+          heard = hs;
+          loaded = record { new = omega (arith, q); words = λ k. refl; many = refl; within = omega arith };
+          more = hs.some (omega arith);
+        }
+    weighed_at n p hs t q false e =
         let z : seq_of n.heard ≤ t = not_newer t (seq_of n.heard) e in
-        next_at n p o (skip_over n.made n.op n.raw n.seq n.calls n.log n.scan n.heard (λ k. not_own k z) hs (omega (arith, q)) v) l (nat_lt (n.scan + 1) S.callers) refl
+        next_at n p.past p.calm (skip_over n.made n.op n.raw n.seq n.calls n.log n.scan n.heard (λ k. not_own k z) hs (omega (arith, q)) p.scan) p.in_range (nat_lt (n.scan + 1) S.callers) refl
       where
         not_own : n.scan ≡ i → seq_of n.heard ≤ t → ⊥
         not_own k z =
             let x : announcement_of S w.words i ≡ n.heard = rw k at (hs.own k) in
             let y : last_ticket_by S B w.batches n.seq n.scan ≡ last_ticket_by S B w.batches n.seq i = ap (λ (c : ℕ). last_ticket_by S B w.batches n.seq c) k in
-            omega (arith, own_seq S Lawful B w g i m h n p.looks.round.begun, ap seq_of x, p.left, q, y)
+            omega (arith, own_seq S Lawful B w g i m h n p.past.looks.round.begun, ap seq_of x, p.past.left, q, y)
 
     hears_now : (s c : ℕ) → c < S.callers → HasLoadedAnnouncement S B w.words w.batches i s c (announcement_of S w.words c)
     hears_now s c l = record { own = λ q. refl; ticket = g.shared.heard.tickets c l; fresh = λ e t. refl; stood = λ a q. refl; small = g.shared.heard.small c l; some = g.shared.heard.some c l }
@@ -90,10 +104,10 @@ module _ (S : Setup) (Lawful : List ℕ → Type 0) (B : TableStart) where
         found = announcement_of S w.words m.scan
 
         go : (r : Option ℕ) → get_or m.known (ticket_cell S m.scan) None ≡ r → HoldsAtPlace S B w.words w.batches i (after_announcement S m found r) (after_announcement S m found r).place
-        go None e = (past_as S Lawful B w g i m h m _ a.0 refl refl refl refl refl refl refl refl refl, a.1, a.2, a.3, hears_now m.seq m.scan a.3, e)
+        go None e = record { scanning = scanning_as m _ a (past_as S Lawful B w g i m h m _ a.past refl refl refl refl refl refl refl refl refl) refl refl refl refl refl refl refl; heard = hears_now m.seq m.scan a.in_range; unknown = e }
         go (Some v) e =
-            weighed_at (record m { heard = found }) (past_as S Lawful B w g i m h m _ a.0 refl refl refl refl refl refl refl refl refl) a.1 a.2 a.3 (hears_now m.seq m.scan a.3) v
-            (sym (a.0.looks.agrees (ticket_cell S m.scan) v e) ∙ number_at S Lawful B w.batches m.seq (ticket_cell S m.scan)) (nat_lt v (seq_of found)) refl
+            weighed_at (record m { heard = found }) (scanning_as m _ a (past_as S Lawful B w g i m h m _ a.past refl refl refl refl refl refl refl refl refl) refl refl refl refl refl refl refl) (hears_now m.seq m.scan a.in_range) v
+            (sym (a.past.looks.agrees (ticket_cell S m.scan) v e) ∙ number_at S Lawful B w.batches m.seq (ticket_cell S m.scan)) (nat_lt v (seq_of found)) refl
 
     pub load_ticket_kept : HoldsAtPlace S B w.words w.batches i m LoadTicket → KeepsGuarantee S Lawful B i w (after_counted_step S i m LoadTicket w)
     load_ticket_kept a = assemble_read S Lawful B w g i h _ _ (take_word_at S m found LoadTicket) (same_words S Lawful B w g i m h (data_at S (ticket_cell S m.scan))) (same_batches S Lawful B w g i m h) (
@@ -106,10 +120,10 @@ module _ (S : Setup) (Lawful : List ℕ → Type 0) (B : TableStart) where
         found = data_word S w.words (ticket_cell S m.scan)
 
         go : (b : Bool) → nat_lt m.seq (seq_of found) ≡ b → HoldsAtPlace S B w.words w.batches i (after_load_ticket S m found b) (after_load_ticket S m found b).place
-        go true e = again S Lawful B w g i m h m a.0.looks.round a.1 (two_rounds S Lawful B w g i m h m a.0) x (ticket_in_cells m.scan a.3) (let z : m.seq < seq_of found = grind (arith, nat_tests) in z)
+        go true e = again S Lawful B w g i m h m a.scanning.past.looks.round a.scanning.calm (two_rounds S Lawful B w g i m h m a.scanning.past) x (ticket_in_cells m.scan a.scanning.in_range) (let z : m.seq < seq_of found = grind (arith, nat_tests) in z)
         go false e =
-            weighed_at (record m { known = with_cell_known S m x found }) (learn_past S Lawful B w g i m h m a.0 x (ticket_in_cells m.scan a.3) (not_newer m.seq (seq_of found) e)) a.1 a.2 a.3 a.4 (payload_of found)
-            (ap payload_of (cell_of S Lawful B w g i m h m a.0.looks x (ticket_in_cells m.scan a.3) (not_newer m.seq (seq_of found) e))) (nat_lt (payload_of found) (seq_of m.heard)) refl
+            weighed_at (record m { known = with_cell_known S m x found }) (scanning_as m _ a.scanning (learn_past S Lawful B w g i m h m a.scanning.past x (ticket_in_cells m.scan a.scanning.in_range) (not_newer m.seq (seq_of found) e)) refl refl refl refl refl refl refl) a.heard (payload_of found)
+            (ap payload_of (cell_of S Lawful B w g i m h m a.scanning.past.looks x (ticket_in_cells m.scan a.scanning.in_range) (not_newer m.seq (seq_of found) e))) (nat_lt (payload_of found) (seq_of m.heard)) refl
 
     rising_push : (cs : List Call) (c : Call) → CallersRise cs → All (λ (d : Call). d.caller < c.caller) cs → CallersRise (cs ++ c ∷ [])
     rising_push cs c r below j k l u = go (cases_lt k (length cs))
@@ -137,10 +151,19 @@ module _ (S : Setup) (Lawful : List ℕ → Type 0) (B : TableStart) where
         suc_is n = omega arith
 
     -- the call that the scan has come to is run, as far as its cells are known
-    runs_at : (n : CallState) → IsSoundMeaning S.meaning Lawful (first_operation_cell S) S.cells → IsPastOwnTicket S B w.words w.batches i n → HasNothingUnderWay S B w.words w.batches i n.seq → IsInScan S B w.words w.batches i n → n.scan < S.callers → HasLoadedAnnouncement S B w.words w.batches i n.seq n.scan n.heard
+    runs_at : (n : CallState) → IsSoundMeaning S.meaning Lawful (first_operation_cell S) S.cells → IsAtCaller S B w.words w.batches i n → HasLoadedAnnouncement S B w.words w.batches i n.seq n.scan n.heard
         → HasLoadedScript S (state_after B w.batches n.seq) w.words n.seq n.scan n.heard n.script (payload_of n.heard) → HoldsAtPlace S B w.words w.batches i (run_script S n) (run_script S n).place
-    runs_at n sound p o v l hs rs = go (S.meaning.walk (overlaid n.known n.log) n.script) refl (walk_fits S Lawful sound xs n.calls n.log size lawful v.over n.known n.script p.looks.agrees)
+    runs_at n sound at hs rs = go (S.meaning.walk (overlaid n.known n.log) n.script) refl (walk_fits S Lawful sound xs n.calls n.log size lawful v.over n.known n.script p.looks.agrees)
       where
+        p : IsPastOwnTicket S B w.words w.batches i n
+        p = at.past
+
+        v : IsInScan S B w.words w.batches i n
+        v = at.scan
+
+        l : n.scan < S.callers
+        l = at.in_range
+
         xs : List ℕ
         xs = numbers_after B w.batches n.seq
 
@@ -151,9 +174,16 @@ module _ (S : Setup) (Lawful : List ℕ → Type 0) (B : TableStart) where
         lawful = g.shared.stands.lawful n.seq p.looks.round.from (at_risen S Lawful B w g i m h n p.looks)
 
         go : (r : WalkEnd) → S.meaning.walk (overlaid n.known n.log) n.script ≡ r → WalkFits S.meaning (first_operation_cell S) S.cells (overlaid n.known n.log) (with_writes_in xs n.log) n.script (S.meaning.walk (overlaid n.known n.log) n.script) → HoldsAtPlace S B w.words w.batches i (after_script_run S n r) (after_script_run S n r).place
-        go (Needs a) e f = let f' = rw e at f in (past_as S Lawful B w g i m h n _ p refl refl refl refl refl refl refl refl refl, o, v, l, hs, rs, f'.1, over_unknown n.known n.log a f'.2)
+        go (Needs a) e f =
+            let f' = rw e at f in record {
+              scanning = scanning_as n _ at (past_as S Lawful B w g i m h n _ p refl refl refl refl refl refl refl refl refl) refl refl refl refl refl refl refl;
+              heard = hs;
+              loaded = rs;
+              in_cells = f'.1;
+              unknown = over_unknown n.known n.log a f'.2;
+            }
         go (Gives es r) e f =
-            next_at (with_call_run S n es r) (past_as S Lawful B w g i m h n _ p refl refl refl refl refl refl refl refl refl) o (ran_over (rw e at f)) l (nat_lt (n.scan + 1) S.callers) refl
+            next_at (with_call_run S n es r) (past_as S Lawful B w g i m h n _ p refl refl refl refl refl refl refl refl refl) at.calm (ran_over (rw e at f)) l (nat_lt (n.scan + 1) S.callers) refl
           where
             call : Call
             call = call_as_run n r
@@ -242,22 +272,27 @@ module _ (S : Setup) (Lawful : List ℕ → Type 0) (B : TableStart) where
 
         reads : (k : ℕ) → k ≡ j + 1 → HasLoadedScript S (state_after B w.batches m.seq) w.words m.seq m.scan m.heard (with_script_word m found) k
         reads k e = record {
-          new = a.5.new;
-          words = λ q. ap (λ (xs : List ℕ). xs ++ found ∷ []) (a.5.words q) ∙ said_more m.scan j ∙ ap (script_words_of S w.words m.scan) (sym e);
-          many = rw length-append (omega (arith, a.5.many));
-          within = omega (arith, a.6);
+          new = a.loaded.new;
+          words = λ q. ap (λ (xs : List ℕ). xs ++ found ∷ []) (a.loaded.words q) ∙ said_more m.scan j ∙ ap (script_words_of S w.words m.scan) (sym e);
+          many = rw length-append (omega (arith, a.loaded.many));
+          within = omega (arith, a.more);
         }
 
         go : (b : Bool) → nat_lt (j + 1) (payload_of m.heard) ≡ b → HoldsAtPlace S B w.words w.batches i (after_load_script S m j found b) (after_load_script S m j found b).place
-        go true e = (past_as S Lawful B w g i m h m _ a.0 refl refl refl refl refl refl refl refl refl, a.1, a.2, a.3, a.4, reads (j + 1) refl, (let z : j + 1 < payload_of m.heard = grind (arith, nat_tests) in z))
+        go true e = record {
+          scanning = scanning_as m _ a.scanning (past_as S Lawful B w g i m h m _ a.scanning.past refl refl refl refl refl refl refl refl refl) refl refl refl refl refl refl refl;
+          heard = a.heard;
+          loaded = reads (j + 1) refl;
+          more = (let z : j + 1 < payload_of m.heard = grind (arith, nat_tests) in z);
+        }
         go false e =
-            runs_at (record m { script = with_script_word m found }) sound (past_as S Lawful B w g i m h m _ a.0 refl refl refl refl refl refl refl refl refl) a.1 a.2 a.3 a.4
-            (reads (payload_of m.heard) (omega (arith, not_newer (j + 1) (payload_of m.heard) e, a.6)))
+            runs_at (record m { script = with_script_word m found }) sound (scanning_as m _ a.scanning (past_as S Lawful B w g i m h m _ a.scanning.past refl refl refl refl refl refl refl refl refl) refl refl refl refl refl refl refl) a.heard
+            (reads (payload_of m.heard) (omega (arith, not_newer (j + 1) (payload_of m.heard) e, a.more)))
 
     pub load_cell_kept : IsSoundMeaning S.meaning Lawful (first_operation_cell S) S.cells → (x : ℕ) → HoldsAtPlace S B w.words w.batches i m (LoadCell x) → KeepsGuarantee S Lawful B i w (after_counted_step S i m (LoadCell x) w)
     load_cell_kept sound x a = assemble_read S Lawful B w g i h _ _ (take_word_at S m (data_word S w.words x) (LoadCell x)) (same_words S Lawful B w g i m h (data_at S x)) (same_batches S Lawful B w g i m h) (
         go (nat_lt m.seq (seq_of (data_word S w.words x))) refl)
       where
         go : (b : Bool) → nat_lt m.seq (seq_of (data_word S w.words x)) ≡ b → HoldsAtPlace S B w.words w.batches i (after_load_cell S m x (data_word S w.words x) b) (after_load_cell S m x (data_word S w.words x) b).place
-        go true e = again S Lawful B w g i m h m a.0.looks.round a.1 (two_rounds S Lawful B w g i m h m a.0) x a.6 (is_newer m.seq (seq_of (data_word S w.words x)) e)
-        go false e = runs_at (record m { known = with_cell_known S m x (data_word S w.words x) }) sound (learn_past S Lawful B w g i m h m a.0 x a.6 (not_newer m.seq (seq_of (data_word S w.words x)) e)) a.1 a.2 a.3 a.4 a.5
+        go true e = again S Lawful B w g i m h m a.scanning.past.looks.round a.scanning.calm (two_rounds S Lawful B w g i m h m a.scanning.past) x a.in_cells (is_newer m.seq (seq_of (data_word S w.words x)) e)
+        go false e = runs_at (record m { known = with_cell_known S m x (data_word S w.words x) }) sound (scanning_as m _ a.scanning (learn_past S Lawful B w g i m h m a.scanning.past x a.in_cells (not_newer m.seq (seq_of (data_word S w.words x)) e)) refl refl refl refl refl refl refl) a.heard a.loaded

@@ -176,8 +176,8 @@ spent_in_round S Lawful B w g i m h at n s o e q = go (spent_at S m n s m.place 
         let a : HoldsAtPlace S B w.words w.batches i m LoadOwnTicket = subst (λ (p : Place). HoldsAtPlace S B w.words w.batches i m p) is (g.core.each i m h at) in
         record {
           place = is;
-          begun = a.0.round.begun_one;
-          few = a.0.round.few;
+          begun = a.looks.round.begun_one;
+          few = a.looks.round.few;
           seq = same (subst (λ (p : Place). (take_word_at S (with_step_counted p m) n p).answer ≡ Some (Spent s)) is q) (subst (λ (p : Place). (take_word_at S (with_step_counted p m) n p).place ≡ Idle) is e);
-          says = a.0.round.begun.says;
+          says = a.looks.round.begun.says;
         }

@@ -18,7 +18,8 @@ use Rattle.of_core.specs.WordsMatch.{AnnouncementsAreServed, WordsHaveTheirKind,
 use Rattle.of_core.specs.Rounds.{WasCurrent, IsInTry, MayHelp, KnowsClosedState, IsAnnounced, IsUnannounced, IsInRound, IsPastRequest, IsPastOwnTicket, HasOneOperation, AnnouncesNothingNew, HasNothingUnderWay}
 use Rattle.of_core.specs.Scan.{HasScannedUpTo, HasLoadedAnnouncement, HasLoadedScript, WasTakenByScan, IsAnnouncedCall}
 use Rattle.of_core.specs.Transaction.{IsApplying, AppliesAs, OwnsTransaction, IsStoringLog, IsCopyingLog, HasStoredLog, HasClosedDurably}
-use Rattle.of_core.specs.Invariant.{LastOutcomeStands, HoldsAtPlace, WasHeldByCurrent, IsLoaded}
+use Rattle.of_core.specs.Places.{LastOutcomeStands, IsAtCaller, IsAtEntry}
+use Rattle.of_core.specs.Invariant.{HoldsAtPlace, WasHeldByCurrent, IsLoaded}
 use Rattle.of_core.specs.Guarantees.{Guarantees}
 use Rattle.of_core.proofs.Logs.{length-log_words, room_for}
 
@@ -364,11 +365,11 @@ module _ (S : Setup) (Lawful : List ℕ → Type 0) (B : TableStart) (i : ℕ) (
     scans_stable : (m : CallState) (n : ℕ) → IsPastOwnTicket S B ws bs j m → HasScannedUpTo S B ws bs j m.seq m.made m.op m.raw m.calls m.log n → HasScannedUpTo S B vs cs j m.seq m.made m.op m.raw m.calls m.log n
     scans_stable m n p h = over_stable m.seq p.looks.round.from p.looks.round.upto p.under j m.made m.op m.raw m.calls m.log n h
 
-    hear_stable : (m : CallState) → IsPastOwnTicket S B ws bs j m → m.scan < S.callers → HasLoadedAnnouncement S B ws bs j m.seq m.scan m.heard → HasLoadedAnnouncement S B vs cs j m.seq m.scan m.heard
-    hear_stable m p l h = hears_stable m.seq p.looks.round.from p.looks.round.upto p.under j m.scan m.heard l (λ q. rw q ann_same) h
+    heard_stable : (m : CallState) → IsAtCaller S B ws bs j m → HasLoadedAnnouncement S B ws bs j m.seq m.scan m.heard → HasLoadedAnnouncement S B vs cs j m.seq m.scan m.heard
+    heard_stable m p h = hears_stable m.seq p.past.looks.round.from p.past.looks.round.upto p.past.under j m.scan m.heard p.in_range (λ q. rw q ann_same) h
 
-    read_stable : (m : CallState) (n : ℕ) → IsPastOwnTicket S B ws bs j m → m.scan < S.callers → HasLoadedAnnouncement S B ws bs j m.seq m.scan m.heard → HasLoadedScript S (state_after B bs m.seq) ws m.seq m.scan m.heard m.script n → HasLoadedScript S (state_after B cs m.seq) vs m.seq m.scan m.heard m.script n
-    read_stable m n p l h r = reads_stable m.seq p.looks.round.from p.looks.round.upto p.under j m.scan m.heard n m.script l h r
+    script_stable : (m : CallState) (n : ℕ) → IsAtCaller S B ws bs j m → HasLoadedAnnouncement S B ws bs j m.seq m.scan m.heard → HasLoadedScript S (state_after B bs m.seq) ws m.seq m.scan m.heard m.script n → HasLoadedScript S (state_after B cs m.seq) vs m.seq m.scan m.heard m.script n
+    script_stable m n p h r = reads_stable m.seq p.past.looks.round.from p.past.looks.round.upto p.past.under j m.scan m.heard n m.script p.in_range h r
 
     -- the durable word of a cell that stays, and that has reached its cell, stays
     level_stable : (c : ℕ) → c < cell_count S → get_or vs c 0 ≡ get_or ws c 0 → durable_word S ws c ≡ get_or ws c 0 → durable_word S vs c ≡ durable_word S ws c
@@ -403,6 +404,15 @@ module _ (S : Setup) (Lawful : List ℕ → Type 0) (B : TableStart) (i : ℕ) (
       logs = λ y u. rw (v.logs j member other y u) (omega (arith, h.logs y u));
     }
 
+    calm_at : (n : ℕ) → HasNothingUnderWay S B ws bs j n → HasNothingUnderWay S B vs cs j n
+    calm_at n h = calm_stable n n (omega arith) h
+
+    calm_now : HasNothingUnderWay S B ws bs j (committed_seq ws) → HasNothingUnderWay S B vs cs j (committed_seq vs)
+    calm_now h = calm_stable (committed_seq ws) (committed_seq vs) grows h
+
+    scanning_stable : (m : CallState) → IsAtCaller S B ws bs j m → IsAtCaller S B vs cs j m
+    scanning_stable m h = record { past = past_stable m h.past; calm = calm_at m.seq h.calm; scan = scans_stable m m.scan h.past h.scan; in_range = h.in_range }
+
     owns_stable : (m : CallState) → B.seq < m.seq → m.seq ≤ committed_seq ws → OwnsTransaction S B ws bs j m → OwnsTransaction S B vs cs j m
     owns_stable m l u h = record {
       caller = h.caller;
@@ -424,7 +434,7 @@ module _ (S : Setup) (Lawful : List ℕ → Type 0) (B : TableStart) (i : ℕ) (
         go (inr a) (inr q) = let z : ◌≡◌ {A = ℕ} 1 0 = (word_inj m.seq 1 (committed_seq ws) 0 (omega arith) (omega arith) (sym a ∙ q.2)).1 in absurd (omega arith)
 
     mode_stable : (m : CallState) (b : Bool) → B.seq < m.seq → m.seq ≤ committed_seq ws → AppliesAs S B ws bs j m b → AppliesAs S B vs cs j m b
-    mode_stable m true l u h = (helper_stable m h.0, current_stable m.seq m.owner h.1, calm_stable m.seq m.seq (omega arith) h.2)
+    mode_stable m true l u h = (helper_stable m h.0, current_stable m.seq m.owner h.1, calm_at m.seq h.2)
     mode_stable m false l u h = owns_stable m l u h
 
     entry_in : (m : CallState) (n : ℕ) → IsApplying S B ws bs j m n → (k : ℕ) → k < length m.log → (log_entry m k).0 < S.cells
@@ -443,6 +453,9 @@ module _ (S : Setup) (Lawful : List ℕ → Type 0) (B : TableStart) (i : ℕ) (
       );
     }
 
+    entry_stable : (m : CallState) (n : ℕ) → IsAtEntry S B ws bs j m n → IsAtEntry S B vs cs j m n
+    entry_stable m n h = record { applies = applies_stable m n (omega (arith, h.more)) h.applies; more = h.more; durable = omega (arith, h.durable, risen_up) }
+
     -- a request that is open at m.seq was so before
     open_before : (m : CallState) → WasCurrent S B ws bs m.seq m.owner → B.seq < m.seq → request_of vs m.owner ≡ pack m.seq 0 → request_of ws m.owner ≡ pack m.seq 0
     open_before m h l q =
@@ -454,7 +467,7 @@ module _ (S : Setup) (Lawful : List ℕ → Type 0) (B : TableStart) (i : ℕ) (
     copies_stable m x h = record {
       helper = helper_stable m h.helper;
       current_word = current_stable m.seq m.owner h.current_word;
-      calm = calm_stable m.seq m.seq (omega arith) h.calm;
+      calm = calm_at m.seq h.calm;
       helps = h.helps;
       after = h.after;
       many = h.many;
@@ -506,49 +519,98 @@ module _ (S : Setup) (Lawful : List ℕ → Type 0) (B : TableStart) (i : ℕ) (
     pub at_stable : (m : CallState) (p : Place) → HoldsAtPlace S B ws bs j m p → HoldsAtPlace S B vs cs j m p
     at_stable m Idle h = record {
       caller = h.caller;
-      calm = calm_stable (committed_seq ws) (committed_seq vs) grows h.calm;
+      calm = calm_now h.calm;
       kept = (omega (arith, h.kept.0, req_up j member), request_stable j m.kept h.kept.1);
       quieted = quieted_stable h.quieted;
       upto = under_stable m.made h.older h.upto;
       older = omega (arith, h.older, ann_seq);
       told = told_stable m m.answer h.older h.told;
     }
-    at_stable m TryCurrent h = (fresh_stable m h.0, calm_stable (committed_seq ws) (committed_seq vs) grows h.1, h.2, h.3)
-    at_stable m TryRequest h = (trying_stable m h.0, current_stable m.seq m.owner h.1, calm_stable m.seq m.seq (omega arith) h.2)
-    at_stable m (TryCell x) h = (trying_stable m h.0, current_stable m.seq m.owner h.1, calm_stable m.seq m.seq (omega arith) h.2, watches_stable m.seq m.known h.1.from h.1.upto h.3, h.4, h.5)
-    at_stable m (StoreScript x) h = (fresh_stable m h.0, calm_stable (committed_seq ws) (committed_seq vs) grows h.1, h.2, said_same x (omega (arith, h.2, h.0.words)) ∙ h.3)
-    at_stable m StoreAnnouncement h = (fresh_stable m h.0, calm_stable (committed_seq ws) (committed_seq vs) grows h.1, said_same (length m.op) h.0.words ∙ h.2)
-    at_stable m LoadCurrent h = (begun_stable m h.0, calm_stable (committed_seq ws) (committed_seq vs) grows h.1, record { few = h.2.few; later = λ l. omega (arith, h.2.later l, grows) })
-    at_stable m LoadRequest h = (round_stable m h.0, calm_stable m.seq m.seq (omega arith) h.1)
-    at_stable m (CopyLog x) h = (copies_stable m x h.0, λ q. rw (v.batches m.seq h.0.after h.0.current_word.upto) (h.1 (open_before m h.0.current_word h.0.after q)), h.2)
-    at_stable m LookAgain h = (copies_stable m (length m.copy) h.0, λ q. rw (v.batches m.seq h.0.after h.0.current_word.upto) (h.1 (open_before m h.0.current_word h.0.after q)))
-    at_stable m LoadOwnTicket h = (looks_stable m h.0, calm_stable m.seq m.seq (omega arith) h.1, h.2, h.3, h.4, h.5)
-    at_stable m LoadShape h = (looks_stable m h.0, calm_stable m.seq m.seq (omega arith) h.1, rw (v.states m.seq h.0.round.from h.0.round.upto) h.2)
-    at_stable m (LoadReply y) h = (looks_stable m h.0, calm_stable m.seq m.seq (omega arith) h.1, rw (v.states m.seq h.0.round.from h.0.round.upto) h.2, rw (v.states m.seq h.0.round.from h.0.round.upto) h.3, h.4, h.5)
-    at_stable m LoadAnnouncement h = (past_stable m h.0, calm_stable m.seq m.seq (omega arith) h.1, scans_stable m m.scan h.0 h.2, h.3)
-    at_stable m LoadTicket h = (past_stable m h.0, calm_stable m.seq m.seq (omega arith) h.1, scans_stable m m.scan h.0 h.2, h.3, hear_stable m h.0 h.3 h.4, h.5)
-    at_stable m (LoadScript x) h = (past_stable m h.0, calm_stable m.seq m.seq (omega arith) h.1, scans_stable m m.scan h.0 h.2, h.3, hear_stable m h.0 h.3 h.4, read_stable m x h.0 h.3 h.4 h.5, h.6)
-    at_stable m (LoadCell a) h = (past_stable m h.0, calm_stable m.seq m.seq (omega arith) h.1, scans_stable m m.scan h.0 h.2, h.3, hear_stable m h.0 h.3 h.4, read_stable m (payload_of m.heard) h.0 h.3 h.4 h.5, h.6, h.7)
-    at_stable m RaiseOld h = (past_stable m h.0, calm_stable m.seq m.seq (omega arith) h.1, scans_stable m S.callers h.0 h.2)
-    at_stable m (StoreLog x) h = (logs_stable m x x (omega (arith, h.1)) (omega arith) h.0, h.1)
-    at_stable m (RaiseLog x) h = (logs_stable m (x + 1) x (omega (arith, h.1)) (omega arith) h.0, h.1)
+    at_stable m TryCurrent h = record { fresh = fresh_stable m h.fresh; calm = calm_now h.calm; reads = h.reads; few = h.few }
+    at_stable m TryRequest h = record { trying = trying_stable m h.trying; current_word = current_stable m.seq m.owner h.current_word; calm = calm_at m.seq h.calm }
+    at_stable m (TryCell x) h = record {
+      trying = trying_stable m h.trying;
+      current_word = current_stable m.seq m.owner h.current_word;
+      calm = calm_at m.seq h.calm;
+      state = watches_stable m.seq m.known h.current_word.from h.current_word.upto h.state;
+      in_cells = h.in_cells;
+      unknown = h.unknown;
+    }
+    at_stable m (StoreScript x) h = record { fresh = fresh_stable m h.fresh; calm = calm_now h.calm; more = h.more; script = said_same x (omega (arith, h.more, h.fresh.words)) ∙ h.script }
+    at_stable m StoreAnnouncement h = record { fresh = fresh_stable m h.fresh; calm = calm_now h.calm; script = said_same (length m.op) h.fresh.words ∙ h.script }
+    at_stable m LoadCurrent h = record {
+      begun = begun_stable m h.begun;
+      calm = calm_now h.calm;
+      between = record { few = h.between.few; later = λ l. omega (arith, h.between.later l, grows) };
+    }
+    at_stable m LoadRequest h = record { round = round_stable m h.round; calm = calm_at m.seq h.calm }
+    at_stable m (CopyLog x) h = record {
+      copies = copies_stable m x h.copies;
+      more = λ q. rw (v.batches m.seq h.copies.after h.copies.current_word.upto) (h.more (open_before m h.copies.current_word h.copies.after q));
+      in_log = h.in_log;
+    }
+    at_stable m LookAgain h = record {
+      copies = copies_stable m (length m.copy) h.copies;
+      whole = λ q. rw (v.batches m.seq h.copies.after h.copies.current_word.upto) (h.whole (open_before m h.copies.current_word h.copies.after q));
+    }
+    at_stable m LoadOwnTicket h = record { looks = looks_stable m h.looks; calm = calm_at m.seq h.calm; no_cell = h.no_cell; no_log = h.no_log; no_calls = h.no_calls; no_scan = h.no_scan }
+    at_stable m LoadShape h = record { looks = looks_stable m h.looks; calm = calm_at m.seq h.calm; finds = rw (v.states m.seq h.looks.round.from h.looks.round.upto) h.finds }
+    at_stable m (LoadReply y) h = record {
+      looks = looks_stable m h.looks;
+      calm = calm_at m.seq h.calm;
+      finds = rw (v.states m.seq h.looks.round.from h.looks.round.upto) h.finds;
+      reply = rw (v.states m.seq h.looks.round.from h.looks.round.upto) h.reply;
+      in_reply = h.in_reply;
+      marked = h.marked;
+    }
+    at_stable m LoadAnnouncement h = scanning_stable m h
+    at_stable m LoadTicket h = record { scanning = scanning_stable m h.scanning; heard = heard_stable m h.scanning h.heard; unknown = h.unknown }
+    at_stable m (LoadScript x) h = record { scanning = scanning_stable m h.scanning; heard = heard_stable m h.scanning h.heard; loaded = script_stable m x h.scanning h.heard h.loaded; more = h.more }
+    at_stable m (LoadCell a) h = record {
+      scanning = scanning_stable m h.scanning;
+      heard = heard_stable m h.scanning h.heard;
+      loaded = script_stable m (payload_of m.heard) h.scanning h.heard h.loaded;
+      in_cells = h.in_cells;
+      unknown = h.unknown;
+    }
+    at_stable m RaiseOld h = record { past = past_stable m h.past; calm = calm_at m.seq h.calm; scan = scans_stable m S.callers h.past h.scan }
+    at_stable m (StoreLog x) h = record { storing = logs_stable m x x (omega (arith, h.more)) (omega arith) h.storing; more = h.more }
+    at_stable m (RaiseLog x) h = record { storing = logs_stable m (x + 1) x (omega (arith, h.more)) (omega arith) h.storing; more = h.more }
     at_stable m StoreRequest h = logs_stable m (length (log_words m.log)) (length (log_words m.log)) (omega arith) (omega arith) h
-    at_stable m RaiseRequest h = (stored_stable m (length (log_words m.log)) (length (log_words m.log)) (omega arith) (omega arith) h.0, waits m h.0.past.looks.round h.1 ∙ h.1, closed_stable h.2)
+    at_stable m RaiseRequest h = record {
+      stored = stored_stable m (length (log_words m.log)) (length (log_words m.log)) (omega arith) (omega arith) h.stored;
+      asks = waits m h.stored.past.looks.round h.asks ∙ h.asks;
+      shut = closed_stable h.shut;
+    }
     at_stable m ExchangeCurrent h =
-        let q = waits m h.0.past.looks.round h.1 in
-        (stored_stable m (length (log_words m.log)) (length (log_words m.log)) (omega arith) (omega arith) h.0, q ∙ h.1, level_stable (request_at j) (omega arith) q (h.2 ∙ sym h.1) ∙ h.2)
+        let q = waits m h.stored.past.looks.round h.asks in record {
+          stored = stored_stable m (length (log_words m.log)) (length (log_words m.log)) (omega arith) (omega arith) h.stored;
+          asks = q ∙ h.asks;
+          raised = level_stable (request_at j) (omega arith) q (h.raised ∙ sym h.asks) ∙ h.raised;
+        }
     at_stable m RaiseCurrent h = applies_stable m 0 (omega arith) h
-    at_stable m (LoadTarget n) h = (applies_stable m n (omega (arith, h.1)) h.0, h.1, omega (arith, h.2, risen_up))
-    at_stable m (ExchangeTarget n f) h = (applies_stable m n (omega (arith, h.1)) h.0, h.1, omega (arith, h.2, risen_up), h.3, go h.4 (v.changes (log_entry m n).0 (entry_in m n h.0 n h.1)))
+    at_stable m (LoadTarget n) h = entry_stable m n h
+    at_stable m (ExchangeTarget n f) h = record { entry = entry_stable m n h.entry; older = h.older; found = go h.found (v.changes (log_entry m n).0 (entry_in m n h.entry.applies n h.entry.more)) }
       where
         go : (data_word S ws (log_entry m n).0 ≡ f) ⊎ (m.seq ≤ seq_of (data_word S ws (log_entry m n).0)) → (data_word S vs (log_entry m n).0 ≡ data_word S ws (log_entry m n).0) ⊎ (committed_seq ws ≤ seq_of (data_word S vs (log_entry m n).0))
             → (data_word S vs (log_entry m n).0 ≡ f) ⊎ (m.seq ≤ seq_of (data_word S vs (log_entry m n).0))
         go (inl x) (inl y) = inl (y ∙ x)
         go (inr x) (inl y) = inr (rw y x)
-        go x (inr y) = inr (omega (arith, h.0.upto))
-    at_stable m (ReloadTarget n) h = (applies_stable m n (omega (arith, h.1)) h.0, h.1, omega (arith, h.2, risen_up), omega (arith, h.3, seq_mono (data_word S ws (log_entry m n).0) (data_word S vs (log_entry m n).0) (cell_up (log_entry m n).0 (entry_in m n h.0 n h.1))))
-    at_stable m (RaiseTarget n f) h = (applies_stable m n (omega (arith, h.1)) h.0, h.1, omega (arith, h.2, risen_up), h.3, omega (arith, h.4, cell_up (log_entry m n).0 (entry_in m n h.0 n h.1)), held_stable (log_entry m n).0 f h.5)
-    at_stable m CloseRequest h = (applies_stable m (length m.log) (omega arith) h.0, omega (arith, h.1, risen_up))
+        go x (inr y) = inr (omega (arith, h.entry.applies.upto))
+    at_stable m (ReloadTarget n) h = record {
+      entry = entry_stable m n h.entry;
+      newer = omega (arith, h.newer, seq_mono (data_word S ws (log_entry m n).0) (data_word S vs (log_entry m n).0) (cell_up (log_entry m n).0 (entry_in m n h.entry.applies n h.entry.more)));
+    }
+    at_stable m (RaiseTarget n f) h = record {
+      entry = entry_stable m n h.entry;
+      newer = h.newer;
+      low = omega (arith, h.low, cell_up (log_entry m n).0 (entry_in m n h.entry.applies n h.entry.more));
+      held = held_stable (log_entry m n).0 f h.held;
+    }
+    at_stable m CloseRequest h = record { applies = applies_stable m (length m.log) (omega arith) h.applies; durable = omega (arith, h.durable, risen_up) }
     at_stable m RaiseClosed h =
-        let o : m.owner < S.callers = rw (← h.0.committed) (shared.counted.owners m.seq h.0.after h.0.upto) in
-        (applies_stable m (length m.log) (omega arith) h.0, omega (arith, h.1, risen_up), omega (arith, h.2, req_up m.owner o))
+        let o : m.owner < S.callers = rw (← h.applies.committed) (shared.counted.owners m.seq h.applies.after h.applies.upto) in record {
+          applies = applies_stable m (length m.log) (omega arith) h.applies;
+          durable = omega (arith, h.durable, risen_up);
+          closed = omega (arith, h.closed, req_up m.owner o);
+        }

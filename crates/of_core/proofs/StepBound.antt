@@ -157,7 +157,7 @@ module _ (S : Setup) where
     pub within : (p : Place) → HoldsAtPlace S B w.words w.batches i m p → MachineIsWithinBound S m p → m.place ≡ p
         → MachineIsWithinBound S (take_word_at S (with_step_counted p m) (get_or w.words (word_of (want_at S m p)) 0) p) (take_word_at S (with_step_counted p m) (get_or w.words (word_of (want_at S m p)) 0) p).place
     within Idle a t e = subst (λ (q : Place). MachineIsWithinBound S m q) (sym e) t
-    within TryCurrent a t e = record { told = λ q. cc; steps = sum m.steps S.cells ((MOST_TRIES - (m.tries + 1)) * (7 * S.cells + 7)) ((MOST_TRIES - m.tries) * (7 * S.cells + 7)) (steps_left_announced S) (bound S) (try_cost m.tries (7 * S.cells + 7) a.3) t.steps }
+    within TryCurrent a t e = record { told = λ q. cc; steps = sum m.steps S.cells ((MOST_TRIES - (m.tries + 1)) * (7 * S.cells + 7)) ((MOST_TRIES - m.tries) * (7 * S.cells + 7)) (steps_left_announced S) (bound S) (try_cost m.tries (7 * S.cells + 7) a.few) t.steps }
       where
         sum : (s c x y r l : ℕ) → x + (7 * c + 7) ≡ y → s + (y + r) ≤ l → s + 1 + (7 * c + 6 + (x + r)) ≤ l
         sum s c x y r l e h = omega arith
@@ -171,7 +171,7 @@ module _ (S : Setup) where
 
         trying : (b : Bool) → (m.rounds == 0) ≡ b → m.steps + 1 + (2 * S.cells + 1 - 0 + 1 + steps_to_apply S + steps_left_after_help S m b) ≤ bound S
         trying true q = opens m.steps S.cells (steps_left_in_tries S m) (bound S) t.steps
-        trying false q = absurd (differ m.rounds 0 q a.0.fresh.rounds)
+        trying false q = absurd (differ m.rounds 0 q a.trying.fresh.rounds)
 
         go : (b : Bool) → MachineIsWithinBound S (after_try_request S now b) (after_try_request S now b).place
         go true = record { told = λ q. cc; steps = trying (m.rounds == 0) refl }
@@ -182,7 +182,7 @@ module _ (S : Setup) where
         found = get_or w.words (word_of (want_at S m (TryCell x))) 0
 
         one : unknown_cell_count (with_cell_known S m x found) + 1 ≡ unknown_cell_count m.known
-        one = unknowns_set m.known x (payload_of found) (omega (arith, a.3.all, a.4)) a.5
+        one = unknowns_set m.known x (payload_of found) (omega (arith, a.state.all, a.in_cells)) a.unknown
 
         again : (s u v r l : ℕ) → v + 1 ≡ u → s + (u + r) ≤ l → s + 1 + r ≤ l
         again s u v r l e h = omega arith
@@ -209,16 +209,16 @@ module _ (S : Setup) where
         last s i j x l k h = omega arith
 
         j_in : j < S.instrs
-        j_in = omega (arith, a.2, a.0.words)
+        j_in = omega (arith, a.more, a.fresh.words)
 
         go : (b : Bool) → MachineIsWithinBound S (after_store_script now j b) (after_store_script now j b).place
         go true = record { told = λ q. cc; steps = more m.steps S.instrs j (3 * lost_round_steps S + steps_to_apply S) (bound S) j_in t.steps }
         go false = record { told = λ q. cc; steps = last m.steps S.instrs j (3 * lost_round_steps S + steps_to_apply S) (bound S) j_in t.steps }
-    within StoreAnnouncement a t e = record { told = λ q. cc; steps = sum m.steps m.rounds (lost_round_steps S) (steps_to_apply S) (bound S) a.0.rounds t.steps }
+    within StoreAnnouncement a t e = record { told = λ q. cc; steps = sum m.steps m.rounds (lost_round_steps S) (steps_to_apply S) (bound S) a.fresh.rounds t.steps }
       where
         sum : (s r q x l : ℕ) → r ≡ 0 → s + (1 + (3 * q + x)) ≤ l → s + 1 + ((3 - r) * q + x) ≤ l
         sum s r q x l e h = rw e (omega arith)
-    within LoadCurrent a t e = record { told = λ q. cc; steps = round_sum m.steps S.cells (S.callers * (S.instrs + 1)) ((3 - (m.rounds + 1)) * lost_round_steps S) ((3 - m.rounds) * lost_round_steps S) (bound S) (round_cost m.rounds (lost_round_steps S) a.2.few) t.steps }
+    within LoadCurrent a t e = record { told = λ q. cc; steps = round_sum m.steps S.cells (S.callers * (S.instrs + 1)) ((3 - (m.rounds + 1)) * lost_round_steps S) ((3 - m.rounds) * lost_round_steps S) (bound S) (round_cost m.rounds (lost_round_steps S) a.between.few) t.steps }
     within LoadRequest a t e = go (is_request_open m.seq (get_or w.words (m.owner + 1) 0))
       where
         opens : (s c x l : ℕ) → s + (6 * c + 6 + x) ≤ l → s + 1 + (2 * c + 1 - 0 + 1 + (4 * c + 3) + x) ≤ l
@@ -229,7 +229,7 @@ module _ (S : Setup) where
 
         round : (b : Bool) → (m.rounds == 0) ≡ b → m.steps + 1 + (2 * S.cells + 1 - 0 + 1 + steps_to_apply S + steps_left_after_help S m b) ≤ bound S
         round false q = opens m.steps S.cells (round_steps_after_help S + steps_left_in_rounds S m) (bound S) t.steps
-        round true q = let z : m.rounds ≡ 0 = grind (arith, nat_tests) in absurd (omega (arith, a.0.begun_one))
+        round true q = let z : m.rounds ≡ 0 = grind (arith, nat_tests) in absurd (omega (arith, a.round.begun_one))
 
         go : (b : Bool) → MachineIsWithinBound S (after_load_request S now b) (after_load_request S now b).place
         go true = record { told = λ q. cc; steps = round (m.rounds == 0) refl }
@@ -246,8 +246,8 @@ module _ (S : Setup) where
         last s c x k r l z h = omega arith
 
         go : (b : Bool) → MachineIsWithinBound S (after_copy_log now x found b) (after_copy_log now x found b).place
-        go true = record { told = λ q. cc; steps = more m.steps (2 * S.cells + 1) x (steps_to_apply S) (steps_left_after_help S m (m.rounds == 0)) (bound S) a.2 t.steps }
-        go false = record { told = λ q. cc; steps = last m.steps (2 * S.cells + 1) x (steps_to_apply S) (steps_left_after_help S m (m.rounds == 0)) (bound S) a.2 t.steps }
+        go true = record { told = λ q. cc; steps = more m.steps (2 * S.cells + 1) x (steps_to_apply S) (steps_left_after_help S m (m.rounds == 0)) (bound S) a.in_log t.steps }
+        go false = record { told = λ q. cc; steps = last m.steps (2 * S.cells + 1) x (steps_to_apply S) (steps_left_after_help S m (m.rounds == 0)) (bound S) a.in_log t.steps }
     within LookAgain a t e = go (get_or w.words (m.owner + 1) 0 == pack m.seq 0) (m.rounds == 0) t.steps
       where
         opens : (s k r l : ℕ) → s + (1 + k + r) ≤ l → s + 1 + (k + r) ≤ l
@@ -261,7 +261,7 @@ module _ (S : Setup) where
         helping false q = cc
 
         go : (b d : Bool) → m.steps + (1 + steps_to_apply S + steps_left_after_help S m d) ≤ bound S → MachineIsWithinBound S (after_look_again S now b d) (after_look_again S now b d).place
-        go true d u = record { told = λ q. cc; steps = helping m.helps a.0.helps }
+        go true d u = record { told = λ q. cc; steps = helping m.helps a.copies.helps }
         go false d u = resumed_within now d (closed m.steps (steps_to_apply S) (steps_left_after_help S m d) (bound S) u)
     within LoadOwnTicket a t e = go (nat_lt m.seq (seq_of found)) (payload_of found == m.made) (m.seq == S.limit)
       where
@@ -282,10 +282,10 @@ module _ (S : Setup) where
         one_row zero s q e l = absurd (omega arith)
 
         cells_in : ticket_cell S m.caller < S.cells
-        cells_in = rw a.0.round.begun.caller (ticket_in_cells S Lawful B w g i m h i h)
+        cells_in = rw a.looks.round.begun.caller (ticket_in_cells S Lawful B w g i m h i h)
 
         known_one : unknown_cell_count (with_cell_known S m (ticket_cell S m.caller) found) + 1 ≡ S.cells
-        known_one = unknowns_set m.known (ticket_cell S m.caller) (payload_of found) (omega (arith, a.0.all, cells_in)) (none_at m.known a.2) ∙ ap unknown_cell_count a.2 ∙ unknowns_all S.cells
+        known_one = unknowns_set m.known (ticket_cell S m.caller) (payload_of found) (omega (arith, a.looks.all, cells_in)) (none_at m.known a.no_cell) ∙ ap unknown_cell_count a.no_cell ∙ unknowns_all S.cells
           where
             none_of : (n y : ℕ) → get_or {A = Option ℕ} (replicate n None) y None ≡ None
             none_of zero y = refl
@@ -302,7 +302,7 @@ module _ (S : Setup) where
         go false false false = record {
           told = λ q. cc;
           steps = call m.steps (S.instrs + 1) S.cells (S.callers * (S.instrs + 1)) (unknown_cell_count (with_cell_known S m (ticket_cell S m.caller) found)) ((S.callers - m.scan - 1) * (S.instrs + 1)) (steps_left_in_rounds S m) (bound S)
-              known_one (one_row S.callers m.scan (S.instrs + 1) a.5 (omega arith)) t.steps;
+              known_one (one_row S.callers m.scan (S.instrs + 1) a.no_scan (omega arith)) t.steps;
         }
     within LoadShape a t e = go (nat_lt m.seq (seq_of found)) refl
       where
@@ -313,7 +313,7 @@ module _ (S : Setup) where
         same s i l h = omega arith
 
         fresh : seq_of (data_word S w.words (shape_cell S m.caller)) ≤ m.seq
-        fresh = rw a.0.round.begun.caller (own_row_old S Lawful B w g i m h m a.0 (done_now S Lawful B w g i m h m a.2) (shape_cell S i) (omega arith, omega arith))
+        fresh = rw a.looks.round.begun.caller (own_row_old S Lawful B w g i m h m a.looks (done_now S Lawful B w g i m h m a.finds) (shape_cell S i) (omega arith, omega arith))
 
         go : (b : Bool) → nat_lt m.seq (seq_of found) ≡ b → MachineIsWithinBound S (after_load_shape S now found b) (after_load_shape S now found b).place
         go true q = let z : m.seq < seq_of found = grind (arith, nat_tests) in absurd (omega (arith, fresh))
@@ -324,14 +324,14 @@ module _ (S : Setup) where
         found = data_word S w.words (reply_cell S m.caller j)
 
         fresh : seq_of (data_word S w.words (reply_cell S m.caller j)) ≤ m.seq
-        fresh = rw a.0.round.begun.caller (own_row_old S Lawful B w g i m h m a.0 (done_now S Lawful B w g i m h m a.2) (reply_cell S i j) (omega arith, omega (arith, a.4)))
+        fresh = rw a.looks.round.begun.caller (own_row_old S Lawful B w g i m h m a.looks (done_now S Lawful B w g i m h m a.finds) (reply_cell S i j) (omega arith, omega (arith, a.in_reply)))
 
         less : (s i j l : ℕ) → j < i → s + (i - j) ≤ l → s + 1 + (i - (j + 1)) ≤ l
         less s i j l z h = omega arith
 
         go : (b : Bool) → nat_lt m.seq (seq_of found) ≡ b → MachineIsWithinBound S (after_load_reply S now j found b) (after_load_reply S now j found b).place
         go true q = let z : m.seq < seq_of found = grind (arith, nat_tests) in absurd (omega (arith, fresh))
-        go false q = asks_within (with_reply now j found) (j + 1) (j + 1) (less m.steps S.instrs j (bound S) a.4 t.steps) (omega arith) (first_marked_place m.raw.shape (j + 1) (S.instrs - j - 1)) (λ k z. (mark_some m.raw.shape (j + 1) (S.instrs - j - 1) k z).0)
+        go false q = asks_within (with_reply now j found) (j + 1) (j + 1) (less m.steps S.instrs j (bound S) a.in_reply t.steps) (omega arith) (first_marked_place m.raw.shape (j + 1) (S.instrs - j - 1)) (λ k z. (mark_some m.raw.shape (j + 1) (S.instrs - j - 1) k z).0)
     within LoadAnnouncement a t e = go (get_or m.known (ticket_cell S m.scan) None)
       where
         found : ℕ
@@ -342,7 +342,7 @@ module _ (S : Setup) where
 
         go : (r : Option ℕ) → MachineIsWithinBound S (after_announcement S now found r) (after_announcement S now found r).place
         go None = record { told = λ q. cc; steps = less m.steps S.instrs (steps_left_in_scan S m) (bound S) t.steps }
-        go (Some v) = weighed_within (record now { heard = found }) a.3 (less m.steps S.instrs (steps_left_in_scan S m) (bound S) t.steps) (nat_lt v (seq_of found))
+        go (Some v) = weighed_within (record now { heard = found }) a.in_range (less m.steps S.instrs (steps_left_in_scan S m) (bound S) t.steps) (nat_lt v (seq_of found))
     within LoadTicket a t e = go (nat_lt m.seq (seq_of found))
       where
         found : ℕ
@@ -350,9 +350,9 @@ module _ (S : Setup) where
 
         go : (b : Bool) → MachineIsWithinBound S (after_load_ticket S now found b) (after_load_ticket S now found b).place
         go true = record { told = λ q. cc; steps = again_sum m.steps S.instrs ((S.callers - m.scan - 1) * (S.instrs + 1)) (unknown_cell_count m.known) (4 * S.cells + 6) (steps_left_in_rounds S m) (bound S) (omega arith) t.steps }
-        go false = weighed_within (record now { known = with_cell_known S m (ticket_cell S m.scan) found }) a.3
+        go false = weighed_within (record now { known = with_cell_known S m (ticket_cell S m.scan) found }) a.scanning.in_range
             (known_sum m.steps S.instrs ((S.callers - m.scan - 1) * (S.instrs + 1)) (unknown_cell_count m.known) (unknown_cell_count (with_cell_known S m (ticket_cell S m.scan) found)) (4 * S.cells + 6) (steps_left_in_rounds S m) (bound S)
-            (unknowns_set m.known (ticket_cell S m.scan) (payload_of found) (omega (arith, a.0.looks.all, ticket_in_cells S Lawful B w g i m h m.scan a.3)) a.5) t.steps)
+            (unknowns_set m.known (ticket_cell S m.scan) (payload_of found) (omega (arith, a.scanning.past.looks.all, ticket_in_cells S Lawful B w g i m h m.scan a.scanning.in_range)) a.unknown) t.steps)
             (nat_lt (payload_of found) (seq_of m.heard))
     within (LoadScript j) a t e = go (nat_lt (j + 1) (payload_of m.heard))
       where
@@ -360,7 +360,7 @@ module _ (S : Setup) where
         found = get_or w.words (word_of (want_at S m (LoadScript j))) 0
 
         j_in : j < S.instrs
-        j_in = omega (arith, a.6, a.4.small)
+        j_in = omega (arith, a.more, a.heard.small)
 
         more : (s i j x l : ℕ) → j < i → s + (i - j + x) ≤ l → s + 1 + (i - (j + 1) + x) ≤ l
         more s i j x l z h = omega arith
@@ -370,7 +370,7 @@ module _ (S : Setup) where
 
         go : (b : Bool) → MachineIsWithinBound S (after_load_script S now j found b) (after_load_script S now j found b).place
         go true = record { told = λ q. cc; steps = more m.steps S.instrs j (steps_left_in_scan S m) (bound S) j_in t.steps }
-        go false = ran_within (record now { script = with_script_word m found }) a.3 (last m.steps S.instrs j (steps_left_in_scan S m) (bound S) j_in t.steps) (S.meaning.walk (overlaid m.known m.log) (with_script_word m found))
+        go false = ran_within (record now { script = with_script_word m found }) a.scanning.in_range (last m.steps S.instrs j (steps_left_in_scan S m) (bound S) j_in t.steps) (S.meaning.walk (overlaid m.known m.log) (with_script_word m found))
     within (LoadCell x) a t e = go (nat_lt m.seq (seq_of found))
       where
         found : ℕ
@@ -378,9 +378,9 @@ module _ (S : Setup) where
 
         go : (b : Bool) → MachineIsWithinBound S (after_load_cell S now x found b) (after_load_cell S now x found b).place
         go true = record { told = λ q. cc; steps = again_sum0 m.steps ((S.callers - m.scan - 1) * (S.instrs + 1)) (unknown_cell_count m.known) (4 * S.cells + 6) (steps_left_in_rounds S m) (bound S) (omega arith) t.steps }
-        go false = ran_within (record now { known = with_cell_known S m x found }) a.3
+        go false = ran_within (record now { known = with_cell_known S m x found }) a.scanning.in_range
             (known_sum0 m.steps ((S.callers - m.scan - 1) * (S.instrs + 1)) (unknown_cell_count m.known) (unknown_cell_count (with_cell_known S m x found)) (4 * S.cells + 6) (steps_left_in_rounds S m) (bound S)
-            (unknowns_set m.known x (payload_of found) (omega (arith, a.0.looks.all, a.6)) a.7) t.steps)
+            (unknowns_set m.known x (payload_of found) (omega (arith, a.scanning.past.looks.all, a.in_cells)) a.unknown) t.steps)
             (S.meaning.walk (overlaid (with_cell_known S m x found) m.log) m.script)
     within RaiseOld a t e = record { told = λ q. cc; steps = sum m.steps S.cells (steps_left_in_rounds S m) (bound S) t.steps }
       where
@@ -393,7 +393,7 @@ module _ (S : Setup) where
     within (RaiseLog x) a t e = go (nat_lt (x + 1) (length (log_words m.log)))
       where
         x_in : x < 2 * S.cells + 1
-        x_in = omega (arith, length-log_words m.log, a.0.stored.over.over.is_log.few, a.1)
+        x_in = omega (arith, length-log_words m.log, a.storing.stored.over.over.is_log.few, a.more)
 
         more : (s c x r l : ℕ) → x < c → s + (2 * (c - x) + 2 + r) ≤ l → s + 1 + (2 * (c - (x + 1)) + 3 + r) ≤ l
         more s c x r l z h = omega arith
@@ -443,14 +443,14 @@ module _ (S : Setup) where
       where
         sum : (s y r l : ℕ) → s + (y + 1 + r) ≤ l → s + 1 + (y + r) ≤ l
         sum s y r l h = omega arith
-    within (ReloadTarget j) a t e = record { told = λ q. cc; steps = sum m.steps S.cells j (steps_left_after_apply S m m.helps) (bound S) (omega (arith, a.1, n_cells j a.0)) t.steps }
+    within (ReloadTarget j) a t e = record { told = λ q. cc; steps = sum m.steps S.cells j (steps_left_after_apply S m m.helps) (bound S) (omega (arith, a.entry.more, n_cells j a.entry.applies)) t.steps }
       where
         sum : (s c j r l : ℕ) → j < c → s + (4 * (c - j) + r) ≤ l → s + 1 + (4 * (c - j) - 1 + r) ≤ l
         sum s c j r l z h = omega arith
     within (RaiseTarget j f) a t e = go (nat_lt (j + 1) (length m.log))
       where
         j_in : j < S.cells
-        j_in = omega (arith, a.1, n_cells j a.0)
+        j_in = omega (arith, a.entry.more, n_cells j a.entry.applies)
 
         more : (s c j r l : ℕ) → j < c → s + (4 * (c - j) - 1 + r) ≤ l → s + 1 + (4 * (c - (j + 1)) + 2 + r) ≤ l
         more s c j r l z h = omega arith

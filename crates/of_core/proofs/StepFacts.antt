@@ -131,7 +131,7 @@ module _ (S : Setup) (Lawful : List ℕ → Type 0) (B : TableStart) (w : Moment
   step_facts LoadRequest o a = go (is_request_open m.seq n)
     where
       go : (b : Bool) → IsStepAtPlace S m n LoadRequest (after_load_request S now b) []
-      go true = on LoadRequest (after_load_request S now true) refl refl refl refl (omega arith) (λ q. absurd (omega (arith, q, a.0.begun_one))) (refl, refl)
+      go true = on LoadRequest (after_load_request S now true) refl refl refl refl (omega arith) (λ q. absurd (omega (arith, q, a.round.begun_one))) (refl, refl)
       go false = resumed_facts LoadRequest refl (omega arith) false (λ q. cc)
   step_facts (CopyLog x) o a = go (nat_lt (x + 1) (2 * get_or (with_log_word_copied m n) 0 0 + 1))
     where
@@ -154,12 +154,12 @@ module _ (S : Setup) (Lawful : List ℕ → Type 0) (B : TableStart) (w : Moment
     where
       go : (b : Bool) → IsStepAtPlace S m n LoadShape (after_load_shape S now n b) []
       go true = on LoadShape (after_load_shape S now n true) refl refl refl refl (omega arith) (λ q. absurd q) (refl, refl)
-      go false = asks_facts LoadShape refl (omega arith) (heard_old a.0 a.2) (with_shape S now n) refl refl refl refl refl refl refl (first_marked_place (payload_of n) 0 S.instrs)
+      go false = asks_facts LoadShape refl (omega arith) (heard_old a.looks a.finds) (with_shape S now n) refl refl refl refl refl refl refl (first_marked_place (payload_of n) 0 S.instrs)
   step_facts (LoadReply j) o a = go (nat_lt m.seq (seq_of n))
     where
       go : (b : Bool) → IsStepAtPlace S m n (LoadReply j) (after_load_reply S now j n b) []
       go true = on (LoadReply j) (after_load_reply S now j n true) refl refl refl refl (omega arith) (λ q. absurd q) (refl, refl)
-      go false = asks_facts (LoadReply j) refl (omega arith) (heard_old a.0 a.2) (with_reply now j n) refl refl refl refl refl refl refl (first_marked_place m.raw.shape (j + 1) (S.instrs - j - 1))
+      go false = asks_facts (LoadReply j) refl (omega arith) (heard_old a.looks a.finds) (with_reply now j n) refl refl refl refl refl refl refl (first_marked_place m.raw.shape (j + 1) (S.instrs - j - 1))
   step_facts LoadAnnouncement o a = go (get_or m.known (ticket_cell S m.scan) None)
     where
       go : (r : Option ℕ) → IsStepAtPlace S m n LoadAnnouncement (after_announcement S now n r) []

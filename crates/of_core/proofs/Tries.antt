@@ -75,7 +75,7 @@ module _ (S : Setup) (Lawful : List ℕ → Type 0) (B : TableStart) where
         size = length-map (state_after B w.batches n.seq) payload_of ∙ state_length S B w.batches g.shared.start (logs_of S Lawful B w g) n.seq c.from upto
 
         go : (r : WalkEnd) → S.meaning.walk n.known n.op ≡ r → WalkFits S.meaning (first_operation_cell S) S.cells n.known xs n.op (S.meaning.walk n.known n.op) → HoldsAtPlace S B w.words w.batches i (after_read_run n r) (after_read_run n r).place
-        go (Needs a) e f = let f' = rw e at f in (trying_as S Lawful B w g i m h n _ p refl refl refl refl refl refl, c, o, k, f'.1, f'.2)
+        go (Needs a) e f = let f' = rw e at f in record { trying = trying_as S Lawful B w g i m h n _ p refl refl refl refl refl refl; current_word = c; calm = o; state = k; in_cells = f'.1; unknown = f'.2 }
         go (Gives es r) e f = record {
           caller = p.fresh.caller;
           calm = calm_more S Lawful B w g i m h n.seq (committed_seq w.words) c.upto o;
@@ -109,18 +109,18 @@ module _ (S : Setup) (Lawful : List ℕ → Type 0) (B : TableStart) where
     resumed_at n sound (inr p) c o quiet false e = absurd (differ n.rounds 0 e p.fresh.rounds)
 
     pub try_current_kept : HoldsAtPlace S B w.words w.batches i m TryCurrent → KeepsGuarantee S Lawful B i w (after_counted_step S i m TryCurrent w)
-    try_current_kept a = assemble_read S Lawful B w g i h _ _ (take_word_at S m (current_word w.words) TryCurrent) (same_words S Lawful B w g i m h 0) (same_batches S Lawful B w g i m h) (
-      record { fresh = fresh_as S Lawful B w g i m h m _ a.0 refl refl refl refl refl; reads = a.2; few = omega (arith, a.3) },
-      record {
+    try_current_kept a = assemble_read S Lawful B w g i h _ _ (take_word_at S m (current_word w.words) TryCurrent) (same_words S Lawful B w g i m h 0) (same_batches S Lawful B w g i m h) (record {
+      trying = record { fresh = fresh_as S Lawful B w g i m h m _ a.fresh refl refl refl refl refl; reads = a.reads; few = omega (arith, a.few) };
+      current_word = record {
         from = omega (arith, n_is S Lawful B w g i m h);
         upto = omega arith;
         same = λ e. refl;
         owner_in = g.shared.counted.owner_in;
         committed = λ l. sym (g.shared.counted.owner l);
         first = g.shared.counted.first;
-      },
-      a.1,
-    )
+      };
+      calm = a.calm;
+    })
 
     pub try_request_kept : IsSoundMeaning S.meaning Lawful (first_operation_cell S) S.cells → HoldsAtPlace S B w.words w.batches i m TryRequest → KeepsGuarantee S Lawful B i w (after_counted_step S i m TryRequest w)
     try_request_kept sound a = assemble_read S Lawful B w g i h _ _ (take_word_at S m (request_of w.words m.owner) TryRequest) (same_words S Lawful B w g i m h (m.owner + 1)) (same_batches S Lawful B w g i m h) (
@@ -129,35 +129,45 @@ module _ (S : Setup) (Lawful : List ℕ → Type 0) (B : TableStart) where
         after : (0 < m.seq) × (request_of w.words m.owner ≡ pack m.seq 0) → (m.seq ≡ B.seq) ⊎ (m.seq ≡ B.seq → ⊥) → B.seq < m.seq
         after q (inl e) =
             let z : pack B.seq 0 < request_of w.words B.owner = g.shared.requests.floor (omega (arith, q.0)) in
-            absurd (omega (arith, q.1, ap (λ (k : ℕ). pack k 0) e, ap (request_of w.words) (a.1.first e)))
-        after q (inr e) = omega (arith, a.1.from)
+            absurd (omega (arith, q.1, ap (λ (k : ℕ). pack k 0) e, ap (request_of w.words) (a.current_word.first e)))
+        after q (inr e) = omega (arith, a.current_word.from)
 
         go : (b : Bool) → is_request_open m.seq (request_of w.words m.owner) ≡ b → HoldsAtPlace S B w.words w.batches i (after_try_request S m b) (after_try_request S m b).place
-        go true eb = (
-          record {
-            helper = inr (trying_as S Lawful B w g i m h m _ a.0 refl refl refl refl refl refl);
-            current_word = a.1;
-            calm = a.2;
+        go true eb = record {
+          copies = record {
+            helper = inr (trying_as S Lawful B w g i m h m _ a.trying refl refl refl refl refl refl);
+            current_word = a.current_word;
+            calm = a.calm;
             helps = refl;
             after = after (opened_is S Lawful B w g i m h m.seq (request_of w.words m.owner) eb) (cases_eq m.seq B.seq);
             many = refl;
             count = λ l. absurd (omega arith);
             copied = λ q. (omega arith, refl);
-          },
-          λ q. omega arith,
-          omega arith,
-        )
-        go false eb = tried_at m sound a.0 a.1 a.2 (quiet_from S Lawful B w g i m h m.seq m.owner a.1 (λ l. not_open S Lawful B w g i m h m.seq (request_of w.words m.owner) eb (omega (arith, l))))
+          };
+          more = λ q. omega arith;
+          in_log = omega arith;
+        }
+        go false eb = tried_at m sound a.trying a.current_word a.calm (quiet_from S Lawful B w g i m h m.seq m.owner a.current_word (λ l. not_open S Lawful B w g i m h m.seq (request_of w.words m.owner) eb (omega (arith, l))))
 
     pub try_cell_kept : IsSoundMeaning S.meaning Lawful (first_operation_cell S) S.cells → (x : ℕ) → HoldsAtPlace S B w.words w.batches i m (TryCell x) → KeepsGuarantee S Lawful B i w (after_counted_step S i m (TryCell x) w)
     try_cell_kept sound x a = assemble_read S Lawful B w g i h _ _ (take_word_at S m (data_word S w.words x) (TryCell x)) (same_words S Lawful B w g i m h (data_at S x)) (same_batches S Lawful B w g i m h) (
         go (nat_lt m.seq (seq_of (data_word S w.words x))) refl)
       where
         over : (b : Bool) → nat_lt m.tries MOST_TRIES ≡ b → HoldsAtPlace S B w.words w.batches i (end_try m b) (end_try m b).place
-        over true e = (fresh_as S Lawful B w g i m h m _ a.0.fresh refl refl refl refl refl, calm_more S Lawful B w g i m h m.seq (committed_seq w.words) a.1.upto a.2, a.0.reads, let z : m.tries < 4 = grind (arith, nat_tests) in omega arith)
-        over false e = (fresh_as S Lawful B w g i m h m _ a.0.fresh refl refl refl refl refl, calm_more S Lawful B w g i m h m.seq (committed_seq w.words) a.1.upto a.2, omega (arith, a.0.fresh.some), refl)
+        over true e = record {
+          fresh = fresh_as S Lawful B w g i m h m _ a.trying.fresh refl refl refl refl refl;
+          calm = calm_more S Lawful B w g i m h m.seq (committed_seq w.words) a.current_word.upto a.calm;
+          reads = a.trying.reads;
+          few = let z : m.tries < 4 = grind (arith, nat_tests) in omega arith;
+        }
+        over false e = record {
+          fresh = fresh_as S Lawful B w g i m h m _ a.trying.fresh refl refl refl refl refl;
+          calm = calm_more S Lawful B w g i m h m.seq (committed_seq w.words) a.current_word.upto a.calm;
+          more = omega (arith, a.trying.fresh.some);
+          script = refl;
+        }
 
         go : (b : Bool) → nat_lt m.seq (seq_of (data_word S w.words x)) ≡ b → HoldsAtPlace S B w.words w.batches i (after_try_cell S m x (data_word S w.words x) b) (after_try_cell S m x (data_word S w.words x) b).place
         go true e = over (nat_lt m.tries MOST_TRIES) refl
-        go false e = reads_at (record m { known = with_cell_known S m x (data_word S w.words x) }) sound (trying_as S Lawful B w g i m h m _ a.0 refl refl refl refl refl refl) a.1 a.2
-            (watch_more m.seq m.owner m a.1 a.3 x a.4 (not_newer m.seq (seq_of (data_word S w.words x)) e))
+        go false e = reads_at (record m { known = with_cell_known S m x (data_word S w.words x) }) sound (trying_as S Lawful B w g i m h m _ a.trying refl refl refl refl refl refl) a.current_word a.calm
+            (watch_more m.seq m.owner m a.current_word a.state x a.in_cells (not_newer m.seq (seq_of (data_word S w.words x)) e))

@@ -1,146 +1,54 @@
 -- The protocol invariant.
-use Rattle.std.specs.Prelude.{ℕ, ◌+◌, ◌*◌, List, [], length, Option, Some, None, true, false, ◌≡◌, ◌≤◌, ◌<◌, ◌⊎◌}
-use Rattle.std.proofs.Common.{get_or, take}
-use Rattle.of_mem.specs.Meaning.{is_marked}
-use Rattle.of_core.specs.declared.machine.trying.TheConstants.{MOST_TRIES}
-use Rattle.of_cell.specs.Words.{pack, seq_of, payload_of}
+use Rattle.std.specs.Prelude.{ℕ, ◌+◌, ◌*◌, List, length, ◌≡◌, ◌≤◌, ◌<◌}
+use Rattle.std.proofs.Common.{get_or}
+use Rattle.of_cell.specs.Words.{seq_of, payload_of}
 use Rattle.of_core.specs.declared.place.Place.{Place}
 use Rattle.of_core.specs.declared.place.Place.TheVariants.{Idle, TryCurrent, TryRequest, TryCell, StoreScript, StoreAnnouncement, LoadCurrent, LoadRequest, CopyLog, LookAgain, LoadOwnTicket, LoadShape, LoadReply, LoadAnnouncement, LoadTicket, LoadScript, LoadCell, RaiseOld, StoreLog, RaiseLog, StoreRequest, RaiseRequest, ExchangeCurrent, RaiseCurrent, LoadTarget, ExchangeTarget, ReloadTarget, RaiseTarget, CloseRequest, RaiseClosed}
-use Rattle.of_core.specs.declared.place.Outcome.{Outcome}
-use Rattle.of_core.specs.declared.place.Outcome.TheVariants.{Answered, Spent}
 use Rattle.std.specs.List.{All}
-use Rattle.of_core.specs.Table.{Setup, log_at, cell_count, ticket_cell, request_of, data_word, log_word_of, durable_request, announcement_of, script_words_of, committed_seq, durable_seq}
-use Rattle.of_core.specs.Machine.{CallState, log_entry, log_words, no_cell_known}
+use Rattle.of_core.specs.Table.{Setup, log_at, cell_count, log_word_of}
+use Rattle.of_core.specs.Machine.{CallState, log_words}
 use Rattle.of_core.specs.TableMoment.{Batch, Moment, TableStart}
-use Rattle.of_core.specs.History.{state_after, batch_at, numbers_after, last_ticket_by, HasCall}
+use Rattle.of_core.specs.History.{batch_at}
 use Rattle.of_core.specs.WordsMatch.{WasHeldByCell, IsRequest, IsLogWord, WordsMatchHistory}
-use Rattle.of_core.specs.Rounds.{KnowsOwnRequest, AnnouncesNothingNew, IsUnannounced, IsAnnounced, IsInRound, WasCurrent, IsInTry, KnowsClosedState, IsBetweenRounds, IsPastRequest, IsPastOwnTicket, HasNothingUnderWay, FindsOwnTicket, HasReadReplyUpTo}
-use Rattle.of_core.specs.Scan.{HasScannedUpTo, HasLoadedAnnouncement, HasLoadedScript, IsInScan}
-use Rattle.of_core.specs.Transaction.{IsApplying, IsCopyingLog, HasStoredLog, HasClosedDurably, IsStoringLog}
+use Rattle.of_core.specs.Transaction.{IsApplying, IsStoringLog}
+use Rattle.of_core.specs.Places.{IsAtRest, IsTryingCurrent, IsTryingRequest, IsTryingCell, IsStoringScript, IsStoringAnnouncement, IsLoadingCurrent, IsLoadingRequest, IsCopyingLogWord, IsLookingAgain, IsLoadingOwnTicket, IsLoadingShape, IsLoadingReply, IsAtCaller, IsLoadingTicket, IsLoadingScript, IsLoadingCell, IsRaisingOld, IsAtLogWord, IsRaisingRequest, IsExchangingCurrent, IsAtEntry, IsExchangingTarget, IsReloadingTarget, IsRaisingTarget, IsClosingRequest, IsRaisingClosed}
 use Rattle.of_core.specs.Order.{KeepsCallOrder}
 use Rattle.of_core.specs.Bound.{MachineIsWithinBound}
 use Rattle.of_core.specs.Least.{HasMadeLeastSteps}
 
--- what the last answer says
-abbrev pub LastOutcomeStands : Setup → TableStart → List ℕ → List Batch → ℕ → CallState
-    → Option Outcome → Type 0
-LastOutcomeStands S B ws bs i m None = Unit {0}
-LastOutcomeStands S B ws bs i m (Some (Answered s false raw steps)) =
-    (B.seq ≤ s) × (s ≤ durable_seq S ws) × (s ≤ committed_seq ws)
-    × (S.meaning.reply (numbers_after B bs s) m.op ≡ raw) × (S.meaning.reads_only m.op ≡ true)
-LastOutcomeStands S B ws bs i m (Some (Answered s true raw steps)) =
-    (B.seq < s) × (s ≤ durable_seq S ws) × (s ≤ committed_seq ws)
-    × HasCall S (batch_at B bs s).calls i m.made m.op raw
-LastOutcomeStands S B ws bs i m (Some (Spent s)) =
-    (last_ticket_by S B bs (committed_seq ws) i < m.made) × (s ≡ S.limit) × (committed_seq ws ≡ s)
-    × (s ≤ durable_seq S ws)
-
--- an idle machine: nothing of it is under way, and its last answer is in the history
-pub record IsAtRest (S : Setup) (B : TableStart) (ws : List ℕ) (bs : List Batch) (i : ℕ)
-    (m : CallState) : Type 0 where
-  pub caller : m.caller ≡ i
-  pub calm : HasNothingUnderWay S B ws bs i (committed_seq ws)
-  pub kept : KnowsOwnRequest B ws bs i m.kept
-  pub quieted : AnnouncesNothingNew S B ws bs i
-  pub upto : last_ticket_by S B bs (committed_seq ws) i ≤ m.made
-  pub older : seq_of (announcement_of S ws i) ≤ m.made
-  pub told : LastOutcomeStands S B ws bs i m m.answer
-
 -- what a place says of its machine
 abbrev pub HoldsAtPlace : Setup → TableStart → List ℕ → List Batch → ℕ → CallState → Place → Type 0
 HoldsAtPlace S B ws bs i m Idle = IsAtRest S B ws bs i m
-HoldsAtPlace S B ws bs i m TryCurrent =
-    IsUnannounced S B ws bs i m × HasNothingUnderWay S B ws bs i (committed_seq ws)
-    × (S.meaning.reads_only m.op ≡ true) × (m.tries < MOST_TRIES)
-HoldsAtPlace S B ws bs i m TryRequest =
-    IsInTry S B ws bs i m × WasCurrent S B ws bs m.seq m.owner
-    × HasNothingUnderWay S B ws bs i m.seq
-HoldsAtPlace S B ws bs i m (TryCell a) =
-    IsInTry S B ws bs i m × WasCurrent S B ws bs m.seq m.owner
-    × HasNothingUnderWay S B ws bs i m.seq × KnowsClosedState S B ws bs m.seq m.known
-    × (a < S.cells) × (get_or m.known a None ≡ None)
-HoldsAtPlace S B ws bs i m (StoreScript j) =
-    IsUnannounced S B ws bs i m × HasNothingUnderWay S B ws bs i (committed_seq ws)
-    × (j < length m.op) × (script_words_of S ws i j ≡ take j m.op)
-HoldsAtPlace S B ws bs i m StoreAnnouncement =
-    IsUnannounced S B ws bs i m × HasNothingUnderWay S B ws bs i (committed_seq ws)
-    × (script_words_of S ws i (length m.op) ≡ m.op)
-HoldsAtPlace S B ws bs i m LoadCurrent =
-    IsAnnounced S B ws bs i m × HasNothingUnderWay S B ws bs i (committed_seq ws)
-    × IsBetweenRounds ws m
-HoldsAtPlace S B ws bs i m LoadRequest =
-    IsInRound S B ws bs i m × HasNothingUnderWay S B ws bs i m.seq
-HoldsAtPlace S B ws bs i m (CopyLog x) =
-    IsCopyingLog S B ws bs i m x
-    × (request_of ws m.owner ≡ pack m.seq 0 → x < length (log_words (batch_at B bs m.seq).log))
-    × (x < 2 * S.cells + 1)
-HoldsAtPlace S B ws bs i m LookAgain =
-    IsCopyingLog S B ws bs i m (length m.copy)
-    × (request_of ws m.owner ≡ pack m.seq 0
-    → length m.copy ≡ length (log_words (batch_at B bs m.seq).log))
-HoldsAtPlace S B ws bs i m LoadOwnTicket =
-    IsPastRequest S B ws bs i m × HasNothingUnderWay S B ws bs i m.seq × (m.known ≡ no_cell_known S)
-    × (m.log ≡ []) × (m.calls ≡ []) × (m.scan ≡ 0)
-HoldsAtPlace S B ws bs i m LoadShape =
-    IsPastRequest S B ws bs i m × HasNothingUnderWay S B ws bs i m.seq
-    × FindsOwnTicket S (state_after B bs m.seq) i m
-HoldsAtPlace S B ws bs i m (LoadReply j) =
-    IsPastRequest S B ws bs i m × HasNothingUnderWay S B ws bs i m.seq
-    × FindsOwnTicket S (state_after B bs m.seq) i m
-    × HasReadReplyUpTo S (state_after B bs m.seq) i m j × (j < S.instrs)
-    × (is_marked m.raw.shape j ≡ true)
-HoldsAtPlace S B ws bs i m LoadAnnouncement =
-    IsPastOwnTicket S B ws bs i m × HasNothingUnderWay S B ws bs i m.seq × IsInScan S B ws bs i m
-    × (m.scan < S.callers)
-HoldsAtPlace S B ws bs i m LoadTicket =
-    IsPastOwnTicket S B ws bs i m × HasNothingUnderWay S B ws bs i m.seq × IsInScan S B ws bs i m
-    × (m.scan < S.callers) × HasLoadedAnnouncement S B ws bs i m.seq m.scan m.heard
-    × (get_or m.known (ticket_cell S m.scan) None ≡ None)
-HoldsAtPlace S B ws bs i m (LoadScript j) =
-    IsPastOwnTicket S B ws bs i m × HasNothingUnderWay S B ws bs i m.seq × IsInScan S B ws bs i m
-    × (m.scan < S.callers) × HasLoadedAnnouncement S B ws bs i m.seq m.scan m.heard
-    × HasLoadedScript S (state_after B bs m.seq) ws m.seq m.scan m.heard m.script j
-    × (j < payload_of m.heard)
-HoldsAtPlace S B ws bs i m (LoadCell a) =
-    IsPastOwnTicket S B ws bs i m × HasNothingUnderWay S B ws bs i m.seq × IsInScan S B ws bs i m
-    × (m.scan < S.callers) × HasLoadedAnnouncement S B ws bs i m.seq m.scan m.heard
-    × HasLoadedScript S (state_after B bs m.seq) ws m.seq m.scan m.heard m.script
-    (payload_of m.heard)
-    × (a < S.cells) × (get_or m.known a None ≡ None)
-HoldsAtPlace S B ws bs i m RaiseOld =
-    IsPastOwnTicket S B ws bs i m × HasNothingUnderWay S B ws bs i m.seq
-    × HasScannedUpTo S B ws bs i m.seq m.made m.op m.raw m.calls m.log S.callers
-HoldsAtPlace S B ws bs i m (StoreLog x) =
-    IsStoringLog S B ws bs i m x x × (x < length (log_words m.log))
-HoldsAtPlace S B ws bs i m (RaiseLog x) =
-    IsStoringLog S B ws bs i m (x + 1) x × (x < length (log_words m.log))
+HoldsAtPlace S B ws bs i m TryCurrent = IsTryingCurrent S B ws bs i m
+HoldsAtPlace S B ws bs i m TryRequest = IsTryingRequest S B ws bs i m
+HoldsAtPlace S B ws bs i m (TryCell a) = IsTryingCell S B ws bs i m a
+HoldsAtPlace S B ws bs i m (StoreScript j) = IsStoringScript S B ws bs i m j
+HoldsAtPlace S B ws bs i m StoreAnnouncement = IsStoringAnnouncement S B ws bs i m
+HoldsAtPlace S B ws bs i m LoadCurrent = IsLoadingCurrent S B ws bs i m
+HoldsAtPlace S B ws bs i m LoadRequest = IsLoadingRequest S B ws bs i m
+HoldsAtPlace S B ws bs i m (CopyLog x) = IsCopyingLogWord S B ws bs i m x
+HoldsAtPlace S B ws bs i m LookAgain = IsLookingAgain S B ws bs i m
+HoldsAtPlace S B ws bs i m LoadOwnTicket = IsLoadingOwnTicket S B ws bs i m
+HoldsAtPlace S B ws bs i m LoadShape = IsLoadingShape S B ws bs i m
+HoldsAtPlace S B ws bs i m (LoadReply j) = IsLoadingReply S B ws bs i m j
+HoldsAtPlace S B ws bs i m LoadAnnouncement = IsAtCaller S B ws bs i m
+HoldsAtPlace S B ws bs i m LoadTicket = IsLoadingTicket S B ws bs i m
+HoldsAtPlace S B ws bs i m (LoadScript j) = IsLoadingScript S B ws bs i m j
+HoldsAtPlace S B ws bs i m (LoadCell a) = IsLoadingCell S B ws bs i m a
+HoldsAtPlace S B ws bs i m RaiseOld = IsRaisingOld S B ws bs i m
+HoldsAtPlace S B ws bs i m (StoreLog x) = IsAtLogWord S B ws bs i m x x
+HoldsAtPlace S B ws bs i m (RaiseLog x) = IsAtLogWord S B ws bs i m (x + 1) x
 HoldsAtPlace S B ws bs i m StoreRequest =
     IsStoringLog S B ws bs i m (length (log_words m.log)) (length (log_words m.log))
-HoldsAtPlace S B ws bs i m RaiseRequest =
-    HasStoredLog S B ws bs i m (length (log_words m.log)) (length (log_words m.log))
-    × (request_of ws i ≡ pack (m.seq + 1) 0) × HasClosedDurably S B ws bs i
-HoldsAtPlace S B ws bs i m ExchangeCurrent =
-    HasStoredLog S B ws bs i m (length (log_words m.log)) (length (log_words m.log))
-    × (request_of ws i ≡ pack (m.seq + 1) 0) × (durable_request S ws i ≡ pack (m.seq + 1) 0)
+HoldsAtPlace S B ws bs i m RaiseRequest = IsRaisingRequest S B ws bs i m
+HoldsAtPlace S B ws bs i m ExchangeCurrent = IsExchangingCurrent S B ws bs i m
 HoldsAtPlace S B ws bs i m RaiseCurrent = IsApplying S B ws bs i m 0
-HoldsAtPlace S B ws bs i m (LoadTarget j) =
-    IsApplying S B ws bs i m j × (j < length m.log) × (m.seq ≤ durable_seq S ws)
-HoldsAtPlace S B ws bs i m (ExchangeTarget j f) =
-    IsApplying S B ws bs i m j × (j < length m.log) × (m.seq ≤ durable_seq S ws)
-    × (seq_of f < m.seq)
-    × ((data_word S ws (log_entry m j).0 ≡ f) ⊎ (m.seq ≤ seq_of (data_word S ws (log_entry m j).0)))
-HoldsAtPlace S B ws bs i m (ReloadTarget j) =
-    IsApplying S B ws bs i m j × (j < length m.log) × (m.seq ≤ durable_seq S ws)
-    × (m.seq ≤ seq_of (data_word S ws (log_entry m j).0))
-HoldsAtPlace S B ws bs i m (RaiseTarget j f) =
-    IsApplying S B ws bs i m j × (j < length m.log) × (m.seq ≤ durable_seq S ws)
-    × (m.seq ≤ seq_of f) × (f ≤ data_word S ws (log_entry m j).0)
-    × WasHeldByCell B ws bs (log_entry m j).0 f
-HoldsAtPlace S B ws bs i m CloseRequest =
-    IsApplying S B ws bs i m (length m.log) × (m.seq ≤ durable_seq S ws)
-HoldsAtPlace S B ws bs i m RaiseClosed =
-    IsApplying S B ws bs i m (length m.log) × (m.seq ≤ durable_seq S ws)
-    × (pack m.seq 0 < request_of ws m.owner)
+HoldsAtPlace S B ws bs i m (LoadTarget j) = IsAtEntry S B ws bs i m j
+HoldsAtPlace S B ws bs i m (ExchangeTarget j f) = IsExchangingTarget S B ws bs i m j f
+HoldsAtPlace S B ws bs i m (ReloadTarget j) = IsReloadingTarget S B ws bs i m j
+HoldsAtPlace S B ws bs i m (RaiseTarget j f) = IsRaisingTarget S B ws bs i m j f
+HoldsAtPlace S B ws bs i m CloseRequest = IsClosingRequest S B ws bs i m
+HoldsAtPlace S B ws bs i m RaiseClosed = IsRaisingClosed S B ws bs i m
 
 -- a word that the current-transaction cell has held
 abbrev pub WasHeldByCurrent : TableStart → List ℕ → List Batch → ℕ → Type 0

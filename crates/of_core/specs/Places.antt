@@ -1,0 +1,213 @@
+-- What each place says of its machine: m is the machine of caller i, at the place, where the words
+-- are ws and the history is bs. A fact has the same field name at every place that has it.
+use Rattle.std.specs.Prelude.{ℕ, ◌+◌, ◌*◌, List, [], length, Option, Some, None, true, false, ◌≡◌, ◌≤◌, ◌<◌, ◌⊎◌}
+use Rattle.std.proofs.Common.{get_or, take}
+use Rattle.of_mem.specs.Meaning.{is_marked}
+use Rattle.of_core.specs.declared.machine.trying.TheConstants.{MOST_TRIES}
+use Rattle.of_cell.specs.Words.{pack, seq_of, payload_of}
+use Rattle.of_core.specs.declared.place.Outcome.{Outcome}
+use Rattle.of_core.specs.declared.place.Outcome.TheVariants.{Answered, Spent}
+use Rattle.of_core.specs.Table.{Setup, ticket_cell, request_of, data_word, durable_request, announcement_of, script_words_of, committed_seq, durable_seq}
+use Rattle.of_core.specs.Machine.{CallState, log_entry, log_words, no_cell_known}
+use Rattle.of_core.specs.TableMoment.{Batch, TableStart}
+use Rattle.of_core.specs.History.{state_after, batch_at, numbers_after, last_ticket_by, HasCall}
+use Rattle.of_core.specs.WordsMatch.{WasHeldByCell}
+use Rattle.of_core.specs.Rounds.{KnowsOwnRequest, AnnouncesNothingNew, IsUnannounced, IsAnnounced, IsInRound, WasCurrent, IsInTry, KnowsClosedState, IsBetweenRounds, IsPastRequest, IsPastOwnTicket, HasNothingUnderWay, FindsOwnTicket, HasReadReplyUpTo}
+use Rattle.of_core.specs.Scan.{HasScannedUpTo, HasLoadedAnnouncement, HasLoadedScript, IsInScan}
+use Rattle.of_core.specs.Transaction.{IsApplying, IsCopyingLog, HasStoredLog, HasClosedDurably, IsStoringLog}
+
+-- what the last answer says
+abbrev pub LastOutcomeStands : Setup → TableStart → List ℕ → List Batch → ℕ → CallState
+    → Option Outcome → Type 0
+LastOutcomeStands S B ws bs i m None = Unit {0}
+LastOutcomeStands S B ws bs i m (Some (Answered s false raw steps)) =
+    (B.seq ≤ s) × (s ≤ durable_seq S ws) × (s ≤ committed_seq ws)
+    × (S.meaning.reply (numbers_after B bs s) m.op ≡ raw) × (S.meaning.reads_only m.op ≡ true)
+LastOutcomeStands S B ws bs i m (Some (Answered s true raw steps)) =
+    (B.seq < s) × (s ≤ durable_seq S ws) × (s ≤ committed_seq ws)
+    × HasCall S (batch_at B bs s).calls i m.made m.op raw
+LastOutcomeStands S B ws bs i m (Some (Spent s)) =
+    (last_ticket_by S B bs (committed_seq ws) i < m.made) × (s ≡ S.limit) × (committed_seq ws ≡ s)
+    × (s ≤ durable_seq S ws)
+
+module _ (S : Setup) (B : TableStart) (ws : List ℕ) (bs : List Batch) (i : ℕ) (m : CallState) where
+  -- Idle: nothing of it is under way, and its last answer is in the history
+  pub record IsAtRest : Type 0 where
+    pub caller : m.caller ≡ i
+    pub calm : HasNothingUnderWay S B ws bs i (committed_seq ws)
+    pub kept : KnowsOwnRequest B ws bs i m.kept
+    pub quieted : AnnouncesNothingNew S B ws bs i
+    pub upto : last_ticket_by S B bs (committed_seq ws) i ≤ m.made
+    pub older : seq_of (announcement_of S ws i) ≤ m.made
+    pub told : LastOutcomeStands S B ws bs i m m.answer
+
+  -- TryCurrent: the call only reads, and one more try of it is allowed
+  pub record IsTryingCurrent : Type 0 where
+    pub fresh : IsUnannounced S B ws bs i m
+    pub calm : HasNothingUnderWay S B ws bs i (committed_seq ws)
+    pub reads : S.meaning.reads_only m.op ≡ true
+    pub few : m.tries < MOST_TRIES
+
+  -- TryRequest: the try has loaded the current-transaction word
+  pub record IsTryingRequest : Type 0 where
+    pub trying : IsInTry S B ws bs i m
+    pub current_word : WasCurrent S B ws bs m.seq m.owner
+    pub calm : HasNothingUnderWay S B ws bs i m.seq
+
+  -- TryCell a: the transaction of the try isn't open, and its state lacks the cell a
+  pub record IsTryingCell (a : ℕ) : Type 0 where
+    pub trying : IsInTry S B ws bs i m
+    pub current_word : WasCurrent S B ws bs m.seq m.owner
+    pub calm : HasNothingUnderWay S B ws bs i m.seq
+    pub state : KnowsClosedState S B ws bs m.seq m.known
+    pub in_cells : a < S.cells
+    pub unknown : get_or m.known a None ≡ None
+
+  -- StoreScript j: the first j words of the call are stored
+  pub record IsStoringScript (j : ℕ) : Type 0 where
+    pub fresh : IsUnannounced S B ws bs i m
+    pub calm : HasNothingUnderWay S B ws bs i (committed_seq ws)
+    pub more : j < length m.op
+    pub script : script_words_of S ws i j ≡ take j m.op
+
+  -- StoreAnnouncement: all words of the call are stored
+  pub record IsStoringAnnouncement : Type 0 where
+    pub fresh : IsUnannounced S B ws bs i m
+    pub calm : HasNothingUnderWay S B ws bs i (committed_seq ws)
+    pub script : script_words_of S ws i (length m.op) ≡ m.op
+
+  -- LoadCurrent: the call is announced, and one more round is allowed
+  pub record IsLoadingCurrent : Type 0 where
+    pub begun : IsAnnounced S B ws bs i m
+    pub calm : HasNothingUnderWay S B ws bs i (committed_seq ws)
+    pub between : IsBetweenRounds ws m
+
+  -- LoadRequest: the round has loaded the current-transaction word
+  pub record IsLoadingRequest : Type 0 where
+    pub round : IsInRound S B ws bs i m
+    pub calm : HasNothingUnderWay S B ws bs i m.seq
+
+  -- CopyLog x: while the transaction is open, its log has a word x
+  pub record IsCopyingLogWord (x : ℕ) : Type 0 where
+    pub copies : IsCopyingLog S B ws bs i m x
+    pub more : request_of ws m.owner ≡ pack m.seq 0
+        → x < length (log_words (batch_at B bs m.seq).log)
+    pub in_log : x < 2 * S.cells + 1
+
+  -- LookAgain: if the transaction is still open, its whole log is copied
+  pub record IsLookingAgain : Type 0 where
+    pub copies : IsCopyingLog S B ws bs i m (length m.copy)
+    pub whole : request_of ws m.owner ≡ pack m.seq 0
+        → length m.copy ≡ length (log_words (batch_at B bs m.seq).log)
+
+  -- LoadOwnTicket: the transaction of the round isn't open, and nothing is known or scanned yet
+  pub record IsLoadingOwnTicket : Type 0 where
+    pub looks : IsPastRequest S B ws bs i m
+    pub calm : HasNothingUnderWay S B ws bs i m.seq
+    pub no_cell : m.known ≡ no_cell_known S
+    pub no_log : m.log ≡ []
+    pub no_calls : m.calls ≡ []
+    pub no_scan : m.scan ≡ 0
+
+  -- LoadShape: the ticket cell of the round's state has the call
+  pub record IsLoadingShape : Type 0 where
+    pub looks : IsPastRequest S B ws bs i m
+    pub calm : HasNothingUnderWay S B ws bs i m.seq
+    pub finds : FindsOwnTicket S (state_after B bs m.seq) i m
+
+  -- LoadReply j: the shape is read too, and the marked replies below j; it marks j
+  pub record IsLoadingReply (j : ℕ) : Type 0 where
+    pub looks : IsPastRequest S B ws bs i m
+    pub calm : HasNothingUnderWay S B ws bs i m.seq
+    pub finds : FindsOwnTicket S (state_after B bs m.seq) i m
+    pub reply : HasReadReplyUpTo S (state_after B bs m.seq) i m j
+    pub in_reply : j < S.instrs
+    pub marked : is_marked m.raw.shape j ≡ true
+
+  -- LoadAnnouncement: the round's state hasn't run the call, and its scan has come to a caller
+  pub record IsAtCaller : Type 0 where
+    pub past : IsPastOwnTicket S B ws bs i m
+    pub calm : HasNothingUnderWay S B ws bs i m.seq
+    pub scan : IsInScan S B ws bs i m
+    pub in_range : m.scan < S.callers
+
+  -- LoadTicket: that caller's announcement is loaded, and its ticket cell isn't known
+  pub record IsLoadingTicket : Type 0 where
+    pub scanning : IsAtCaller
+    pub heard : HasLoadedAnnouncement S B ws bs i m.seq m.scan m.heard
+    pub unknown : get_or m.known (ticket_cell S m.scan) None ≡ None
+
+  -- LoadScript j: what it announces is new, and the first j words of it are loaded
+  pub record IsLoadingScript (j : ℕ) : Type 0 where
+    pub scanning : IsAtCaller
+    pub heard : HasLoadedAnnouncement S B ws bs i m.seq m.scan m.heard
+    pub loaded : HasLoadedScript S (state_after B bs m.seq) ws m.seq m.scan m.heard m.script j
+    pub more : j < payload_of m.heard
+
+  -- LoadCell a: all words of it are loaded, and its run lacks the cell a
+  pub record IsLoadingCell (a : ℕ) : Type 0 where
+    pub scanning : IsAtCaller
+    pub heard : HasLoadedAnnouncement S B ws bs i m.seq m.scan m.heard
+    pub loaded : HasLoadedScript S (state_after B bs m.seq) ws m.seq m.scan m.heard m.script
+        (payload_of m.heard)
+    pub in_cells : a < S.cells
+    pub unknown : get_or m.known a None ≡ None
+
+  -- RaiseOld: all callers are scanned
+  pub record IsRaisingOld : Type 0 where
+    pub past : IsPastOwnTicket S B ws bs i m
+    pub calm : HasNothingUnderWay S B ws bs i m.seq
+    pub scan : HasScannedUpTo S B ws bs i m.seq m.made m.op m.raw m.calls m.log S.callers
+
+  -- StoreLog and RaiseLog: the first x log words are stored and the first z durable, and z is next
+  pub record IsAtLogWord (x z : ℕ) : Type 0 where
+    pub storing : IsStoringLog S B ws bs i m x z
+    pub more : z < length (log_words m.log)
+
+  -- RaiseRequest: the request asks for the next sequence, and the durable one closes each batch
+  pub record IsRaisingRequest : Type 0 where
+    pub stored : HasStoredLog S B ws bs i m (length (log_words m.log)) (length (log_words m.log))
+    pub asks : request_of ws i ≡ pack (m.seq + 1) 0
+    pub shut : HasClosedDurably S B ws bs i
+
+  -- ExchangeCurrent: the request asks for the next sequence, and is durable
+  pub record IsExchangingCurrent : Type 0 where
+    pub stored : HasStoredLog S B ws bs i m (length (log_words m.log)) (length (log_words m.log))
+    pub asks : request_of ws i ≡ pack (m.seq + 1) 0
+    pub raised : durable_request S ws i ≡ pack (m.seq + 1) 0
+
+  -- LoadTarget j: entry j is next, of a transaction that is durable
+  pub record IsAtEntry (j : ℕ) : Type 0 where
+    pub applies : IsApplying S B ws bs i m j
+    pub more : j < length m.log
+    pub durable : m.seq ≤ durable_seq S ws
+
+  -- ExchangeTarget j f: its cell held the older word f, and may have been applied since
+  pub record IsExchangingTarget (j f : ℕ) : Type 0 where
+    pub entry : IsAtEntry j
+    pub older : seq_of f < m.seq
+    pub found : (data_word S ws (log_entry m j).0 ≡ f)
+        ⊎ (m.seq ≤ seq_of (data_word S ws (log_entry m j).0))
+
+  -- ReloadTarget j: its cell is no older than the transaction
+  pub record IsReloadingTarget (j : ℕ) : Type 0 where
+    pub entry : IsAtEntry j
+    pub newer : m.seq ≤ seq_of (data_word S ws (log_entry m j).0)
+
+  -- RaiseTarget j f: its cell has held f, which is no older than the transaction
+  pub record IsRaisingTarget (j f : ℕ) : Type 0 where
+    pub entry : IsAtEntry j
+    pub newer : m.seq ≤ seq_of f
+    pub low : f ≤ data_word S ws (log_entry m j).0
+    pub held : WasHeldByCell B ws bs (log_entry m j).0 f
+
+  -- CloseRequest: all entries are applied
+  pub record IsClosingRequest : Type 0 where
+    pub applies : IsApplying S B ws bs i m (length m.log)
+    pub durable : m.seq ≤ durable_seq S ws
+
+  -- RaiseClosed: and the owner's request is closed
+  pub record IsRaisingClosed : Type 0 where
+    pub applies : IsApplying S B ws bs i m (length m.log)
+    pub durable : m.seq ≤ durable_seq S ws
+    pub closed : pack m.seq 0 < request_of ws m.owner
