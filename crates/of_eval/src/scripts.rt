@@ -6,7 +6,7 @@ ghost use Rattle.of_mem.specs.declared.plot.TheConstants.{MOST_BLOCKS};
 
 use crate::reply::reply_cells;
 use crate::step::word_reads;
-use crate::walk::{keep_sought, reach, run_words};
+use crate::walk::{keep_sought, reach, resume, run_words};
 use of_mem::{MOST_INSTRS, MaySuspend, Need, Part, Plot, RawReply, SuspendedRun, Work};
 use of_plan::Plan;
 
@@ -89,7 +89,9 @@ impl Work for Scripts {
         out: &mut RawReply,
     ) -> Result<(), Need> {
         let plot = self.plot();
-        if let Err(need) = reach(&plot, part, kept, op) {
+        resume(&plot, part, kept, op);
+        if let Err(need) = reach(&plot, part, kept) {
+            part.undo();
             return Err(need);
         }
         match run_words(&plot, part, kept, op) {

@@ -3,13 +3,14 @@
 ghost use Rattle.std.proofs.Common.{set};
 ghost use Rattle.std.specs.Prelude.{◌-◌, ◌≡◌, ◌≤◌, ◌<◌, [], length, IfOk, MatchResult, None};
 ghost use Rattle.of_mem.specs.Part.{Part};
+ghost use Rattle.of_mem.specs.Plots.{base};
 ghost use Rattle.of_mem.specs.Programs.{NeedsAt};
 ghost use Rattle.of_mem.specs.SuspendedRun.{IsSuspensionOf};
 ghost use Rattle.of_mem.specs.declared.work.TheConstants.{MOST_INSTRS};
 ghost use Rattle.of_mem.specs.Calls.{RunsProgram};
 ghost use Rattle.of_eval.specs.Calls.{script, in_cells};
 ghost use Rattle.of_eval.specs.Shapes.{IsWhole};
-ghost use Rattle.of_eval.specs.Resuming.{HoldsScript};
+ghost use Rattle.of_eval.specs.Resuming.{HoldsScript, MayResume};
 ghost use Rattle.of_eval.specs.Stored.{HasState};
 ghost use Rattle.of_eval.specs.Words.{IsOperation, reply_to};
 ghost use Rattle.of_store.specs.Store.{Aborted};
@@ -18,39 +19,45 @@ use crate::step::{run_word, word_seeks};
 use of_mem::{Need, Part, Plot, SuspendedRun};
 use of_script::{Abort, Cause, MOST_INSTRS, Reply};
 
-/// Walks towards the key that the next word looks for, where `kept` is of these words and has one.
-/// The error names a cell that is read and isn't known. A run that lacks one cell after the other
-/// of a bucket so costs the walk alone.
-pub(crate) fn reach(
-    plot: &Plot,
-    part: &mut Part,
-    kept: &SuspendedRun,
-    op: &[u64],
-) -> Result<(), Need>
-    requires stands { HasState plot.now part.old }
+/// Goes back to where `kept` stopped if it is of these words, and else begins them there.
+pub(crate) fn resume(plot: &Plot, part: &mut Part, kept: &mut SuspendedRun, op: &[u64])
     requires instrs { plot.now.instrs ≡ MOST_INSTRS }
     requires words { IsOperation op.now }
-    requires empty { part.old.script ≡ [] }
-    requires holds { HoldsScript kept.now part.old }
-    requires room { kept.now.room ≡ length part.old.known }
-    ensures part { part.new ≡ part.old }
-    ensures needs { MatchResult result (λ _. Unit {0})
-        (λ need. NeedsAt (script plot.now op.now) part.old need.addr) }
+    requires holds { HoldsScript kept.old part.old }
+    requires room { kept.old.room ≡ length part.old.known }
+    ensures of { IsSuspensionOf kept.new plot.now.callers plot.now.blocks op.now }
+    ensures goes { MayResume (base plot.now) plot.now.blocks kept.new part.old }
+    ensures part { part.new ≡ record part.old { script = kept.new.writes } }
+    ensures room { kept.new.room ≡ kept.old.room }
 {
-    let Some(key) = kept.sought() else {
-        return Ok(());
-    };
     if !kept.is_of(plot.callers, plot.blocks, op) {
-        return Ok(());
+        kept.begin(plot.callers, plot.blocks, op);
     }
     kept.restore(part);
-    let reached = of_map::reach(plot, part, key);
-    part.undo();
-    reached
 }
 
-/// Runs the words in order, to their end or to the first abort, from the first that hasn't run
-/// where `kept` is of them. The error names a cell that is read and isn't known.
+/// Walks towards the key that the next word looks for, where `kept` has one. The error names a cell
+/// that is read and isn't known. A run that lacks one cell after the other of a bucket so costs the
+/// walk alone.
+pub(crate) fn reach(plot: &Plot, part: &mut Part, kept: &SuspendedRun) -> Result<(), Need>
+    requires stands { HasState plot.now (record part.old { script = [] }) }
+    requires goes { MayResume (base plot.now) plot.now.blocks kept.now
+        (record part.old { script = [] }) }
+    requires written { part.old.script ≡ kept.now.writes }
+    requires few { length kept.now.words ≤ MOST_INSTRS }
+    ensures part { part.new ≡ part.old }
+    ensures needs { MatchResult result (λ _. Unit {0})
+        (λ need. NeedsAt (script plot.now kept.now.words) (record part.old { script = [] })
+        need.addr) }
+{
+    match kept.sought() {
+        None => Ok(()),
+        Some(key) => of_map::reach(plot, part, key),
+    }
+}
+
+/// Runs the words in order, to their end or to the first abort, from the first that hasn't run. The
+/// error names a cell that is read and isn't known.
 // out of line: most runs end in `reach`
 #[inline(never)]
 pub(crate) fn run_words(
@@ -59,23 +66,22 @@ pub(crate) fn run_words(
     kept: &mut SuspendedRun,
     op: &[u64],
 ) -> Result<Reply, Need>
-    requires stands { HasState plot.now part.old }
+    requires stands { HasState plot.now (record part.old { script = [] }) }
     requires instrs { plot.now.instrs ≡ MOST_INSTRS }
     requires words { IsOperation op.now }
-    requires empty { part.old.script ≡ [] }
-    requires holds { HoldsScript kept.old part.old }
+    requires of { IsSuspensionOf kept.old plot.now.callers plot.now.blocks op.now }
+    requires goes { MayResume (base plot.now) plot.now.blocks kept.old
+        (record part.old { script = [] }) }
+    requires written { part.old.script ≡ kept.old.writes }
     requires room { kept.old.room ≡ length part.old.known }
-    ensures runs { RunsProgram (script plot.now op.now) part.old part.new (in_cells result) }
+    ensures runs { RunsProgram (script plot.now op.now) (record part.old { script = [] }) part.new
+        (in_cells result) }
     ensures whole { IfOk result IsWhole }
     ensures of { IsSuspensionOf kept.new plot.now.callers plot.now.blocks op.now }
-    ensures holds { HoldsScript kept.new part.old }
+    ensures holds { HoldsScript kept.new (record part.old { script = [] }) }
     ensures room { kept.new.room ≡ kept.old.room }
 {
     let last = op.len() - 1;
-    if !kept.is_of(plot.callers, plot.blocks, op) {
-        kept.begin(plot.callers, plot.blocks, op);
-    }
-    kept.restore(part);
     for i in kept.done()..op.len() {
         match run_word(plot, part, op[i])? {
             Err(cause) => return Ok(aborted_reply(op.len(), i, cause)),

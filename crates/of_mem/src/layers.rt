@@ -69,20 +69,24 @@ impl Layers {
         requires { addr < length self.old.known }
         ensures { self.new ≡ learn self.old addr value }
     {
-        let over = self.written(addr);
+        if self.newest.get(addr).is_some() {
+            self.learn_under(addr, value);
+            return;
+        }
         self.known.set(addr, Some(value));
-        self.newest.set(addr, over.or(Some(value)));
+        self.newest.set(addr, Some(value));
     }
 
-    // What the script or else the batch wrote into a cell.
-    fn written(&self, addr: u32) -> Option<u32>
-        requires { addr < length self.now.known }
-        ensures { result
-            ≡ option_or (value_for self.now.script addr) (value_for self.now.batch addr) }
+    // Makes the number of a cell known that may have been written.
+    #[cold]
+    #[inline(never)]
+    fn learn_under(&mut self, addr: u32, value: u32)
+        requires { addr < length self.old.known }
+        ensures { self.new ≡ learn self.old addr value }
     {
-        // a cell that was written holds a number
-        self.newest.get(addr)?;
-        self.script.get(addr).or(self.batch.get(addr))
+        let over = self.script.get(addr).or(self.batch.get(addr));
+        self.known.set(addr, Some(value));
+        self.newest.set(addr, over.or(Some(value)));
     }
 
     /// Whether a cell's number is known.
@@ -194,6 +198,9 @@ impl Layers {
     }
 
     /// Lets these be what the script wrote.
+    // out of line: mostly the script has written them
+    #[cold]
+    #[inline(never)]
     pub fn set_script(&mut self, writes: &CellMap)
         requires { writes.now.room ≡ length self.old.known }
         ensures { self.new ≡ record self.old { script = writes.now.entries } }

@@ -1,67 +1,48 @@
-use Rattle.std.proofs.Common.{◌≡◌, ℕ, ◌<◌, ◌≤◌, arith, ap, sym, refl, ◌∙◌, ◌+◌, length, get_or, set, length-set, Ok}
+use Rattle.std.proofs.Common.{◌≡◌, ℕ, ◌<◌, ◌≤◌, arith, ap, sym, refl, ◌∙◌, ◌+◌, length, get_or, set, length-set, Ok, []}
 use Rattle.std.proofs.lemmas.Result.{err_from_is_err_and}
 use Rattle.of_mem.specs.Part.{Part}
 use Rattle.of_mem.specs.Plots.{base}
 use Rattle.of_mem.specs.Programs.{Ends, run_program}
 use Rattle.of_mem.specs.Calls.{RunsProgram}
-use Rattle.of_mem.specs.SuspendedRun.{IsSuspensionOf, begin_run}
+use Rattle.of_mem.specs.SuspendedRun.{IsSuspensionOf}
 use Rattle.of_script.specs.declared.instr.TheConstants.{MOST_INSTRS}
 use Rattle.of_store.proofs.Values.{small_values, none_left}
 use Rattle.of_eval.specs.ScriptPrograms.{InstrResult}
 use Rattle.of_eval.specs.Calls.{run_word}
 use Rattle.of_eval.specs.Resuming.{part_with, MayResume}
 use Rattle.of_eval.proofs.Walks.{ran_aborts, ran_lacks, ran_more, ran_ends}
-use Rattle.of_eval.proofs.Resumed.{begun_goes, after_word, goes_more, ran_so, of_store, has_store, goes_there, holds_so}
+use Rattle.of_eval.proofs.Resumed.{after_word, goes_more, ran_so, of_store, has_store, holds_so}
 use Rattle.of_eval.proofs.walk.run_words.Goals as goal
-use Rattle.of_eval.proofs.walk.run_words.Goals.{then-not-is_of, else-not-is_of}
 
 pub loop-i-init : goal.loop-i-init
-loop-i-init c = elim c.if-not-is_of.branch [
-  | then-not-is_of w ↦ (
-      let new : c.if-not-is_of.kept ≡ begin_run c.args.kept.now.room c.args.plot.now.callers c.args.plot.now.blocks c.args.op.now = w.kept-is ∙ w.begin.ensures in
-      let of : IsSuspensionOf c.if-not-is_of.kept c.args.plot.now.callers c.args.plot.now.blocks c.args.op.now = rw new (record { callers = refl; blocks = refl; words = refl }) in
-      let goes : MayResume (base c.args.plot.now) c.args.plot.now.blocks c.if-not-is_of.kept c.args.part.now = rw new (begun_goes (base c.args.plot.now) c.args.plot.now.blocks c.args.kept.now.room c.args.plot.now.callers c.args.plot.now.blocks c.args.op.now c.args.part.now c.requires.words.some) in
-      record {
-        of = of;
-        done = sym c.done-i.ensures.value;
-        below = omega (arith, c.done-i.ensures.value, goes.left, ap length of.words);
-        goes = goes;
-        part = c.restore.ensures;
-        room = ap (λ k. k.room) new;
-      })
-  | else-not-is_of w ↦ (
-      let was = c.is_of.ensures.0 w.if-not-is_of.false in
-      let of : IsSuspensionOf c.if-not-is_of.kept c.args.plot.now.callers c.args.plot.now.blocks c.args.op.now = rw w.kept-is was in
-      let goes : MayResume (base c.args.plot.now) c.args.plot.now.blocks c.if-not-is_of.kept c.args.part.now = rw w.kept-is (goes_there c.args.plot.now c.args.kept.now c.args.part.now c.args.op.now was c.requires.instrs c.requires.words.some c.requires.holds) in
-      record {
-        of = of;
-        done = sym c.done-i.ensures.value;
-        below = omega (arith, c.done-i.ensures.value, goes.left, ap length of.words);
-        goes = goes;
-        part = c.restore.ensures;
-        room = ap (λ k. k.room) w.kept-is;
-      })
-]
+loop-i-init c = record {
+  of = c.requires.of;
+  done = sym c.done-i.ensures.value;
+  below = omega (arith, c.done-i.ensures.value, c.requires.goes.left, ap length c.requires.of.words);
+  goes = c.requires.goes;
+  part = λ i. record c.args.part.now { script = c.requires.written i };
+  room = refl;
+}
 
 pub run_word-requires : goal.run_word-requires
-run_word-requires c = has_store c.args.plot.now c.loop-i.kept c.args.part.now c.loop-i.part c.loop-i.invariant.goes c.requires.stands c.requires.empty c.loop-i.invariant.part
+run_word-requires c = has_store c.args.plot.now c.loop-i.kept (record c.args.part.now { script = [] }) c.loop-i.part c.loop-i.invariant.goes c.requires.stands refl c.loop-i.invariant.part
 
 pub returns-in_err-cause-clause-runs : goal.returns-in_err-cause-clause-runs
 returns-in_err-cause-clause-runs c =
     let p = err_from_is_err_and c.from_residual.result c.from_residual.ensures.1 in
     rw (p.1, p.2) (record {
-      walk = ran_so (base c.args.plot.now) c.args.plot.now.blocks c.args.plot.now.few_blocks c.loop-i.kept c.args.part.now c.loop-i.invariant.goes c.requires.empty c.args.op.now c.loop-i.invariant.of.words c.requires.words.few c.loop-i.i c.loop-i.invariant.done c.loop-i.part c.loop-i.invariant.part
+      walk = ran_so (base c.args.plot.now) c.args.plot.now.blocks c.args.plot.now.few_blocks c.loop-i.kept (record c.args.part.now { script = [] }) c.loop-i.invariant.goes refl c.args.op.now c.loop-i.invariant.of.words c.requires.words.few c.loop-i.i c.loop-i.invariant.done c.loop-i.part c.loop-i.invariant.part
           ∙ ran_lacks (base c.args.plot.now) c.args.plot.now.blocks (length c.args.op.now) c.args.op.now c.loop-i.i c.loop-i-test.true c.loop-i.kept.values c.loop-i.part c.run_word.new.part _ c.in_err-cause.ensures.walk;
       known = c.in_err-cause.ensures.known ∙ ap (λ (x : Part). x.known) c.loop-i.invariant.part;
       batch = c.in_err-cause.ensures.batch ∙ ap (λ (x : Part). x.batch) c.loop-i.invariant.part;
     })
 
 pub returns-in_err-cause-clause-holds : goal.returns-in_err-cause-clause-holds
-returns-in_err-cause-clause-holds c = holds_so c.args.plot.now c.loop-i.kept c.args.part.now c.args.op.now c.loop-i.invariant.of c.requires.instrs c.loop-i.invariant.goes
+returns-in_err-cause-clause-holds c = holds_so c.args.plot.now c.loop-i.kept (record c.args.part.now { script = [] }) c.args.op.now c.loop-i.invariant.of c.requires.instrs c.loop-i.invariant.goes
 
 pub returns-in-Err-clause-runs : goal.returns-in-Err-clause-runs
 returns-in-Err-clause-runs c = rw c.aborted_reply.ensures (record {
-  walk = ran_so (base c.args.plot.now) c.args.plot.now.blocks c.args.plot.now.few_blocks c.loop-i.kept c.args.part.now c.loop-i.invariant.goes c.requires.empty c.args.op.now c.loop-i.invariant.of.words c.requires.words.few c.loop-i.i c.loop-i.invariant.done c.loop-i.part c.loop-i.invariant.part
+  walk = ran_so (base c.args.plot.now) c.args.plot.now.blocks c.args.plot.now.few_blocks c.loop-i.kept (record c.args.part.now { script = [] }) c.loop-i.invariant.goes refl c.args.op.now c.loop-i.invariant.of.words c.requires.words.few c.loop-i.i c.loop-i.invariant.done c.loop-i.part c.loop-i.invariant.part
       ∙ ran_aborts (base c.args.plot.now) c.args.plot.now.blocks (length c.args.op.now) c.args.op.now c.loop-i.i c.loop-i-test.true c.loop-i.kept.values c.loop-i.part c.run_word.new.part c.in-Err.cause
       (omega (arith, c.loop-i.invariant.goes.width, c.requires.words.few, c.loop-i-test.true)) (c.in_ok-cause.ensures.walk ∙ ap (λ (x : InstrResult). Ends x c.run_word.new.part) c.in-Err.is);
   known = c.in_ok-cause.ensures.known ∙ ap (λ (x : Part). x.known) c.loop-i.invariant.part;
@@ -69,7 +50,7 @@ returns-in-Err-clause-runs c = rw c.aborted_reply.ensures (record {
 })
 
 pub returns-in-Err-clause-holds : goal.returns-in-Err-clause-holds
-returns-in-Err-clause-holds c = holds_so c.args.plot.now c.loop-i.kept c.args.part.now c.args.op.now c.loop-i.invariant.of c.requires.instrs c.loop-i.invariant.goes
+returns-in-Err-clause-holds c = holds_so c.args.plot.now c.loop-i.kept (record c.args.part.now { script = [] }) c.args.op.now c.loop-i.invariant.of c.requires.instrs c.loop-i.invariant.goes
 
 pub loop-i-preserved : goal.loop-i-preserved
 loop-i-preserved c =
@@ -88,7 +69,7 @@ loop-i-preserved c =
       of = rw c.advance.ensures (record { callers = h.of.callers; blocks = h.of.blocks; words = words });
       done = rw c.advance.ensures (ap (λ (n : ℕ). n + 1) done);
       below = more;
-      goes = rw c.advance.ensures (goes_more (base c.args.plot.now) c.args.plot.now.blocks c.args.plot.now.few_blocks c.loop-i.kept c.args.part.now h.goes c.run_word.new.part c.in-Ok.value walk batch (of_store c.args.plot.now c.args.part.now c.requires.stands c.requires.empty) less few);
+      goes = rw c.advance.ensures (goes_more (base c.args.plot.now) c.args.plot.now.blocks c.args.plot.now.few_blocks c.loop-i.kept (record c.args.part.now { script = [] }) h.goes c.run_word.new.part c.in-Ok.value walk batch (of_store c.args.plot.now (record c.args.part.now { script = [] }) c.requires.stands refl) less few);
       part = rw c.advance.ensures (λ i. part_with (known i) (batch i) c.run_word.new.part.script);
       room = rw c.advance.ensures h.room;
     }
@@ -100,7 +81,7 @@ returns-in-Ok-clause-runs c =
     let room : c.loop-i.i < length c.loop-i.kept.values = omega (arith, h.goes.width, h.below, c.requires.words.few) in
     let runs : RunsProgram (run_word c.args.plot.now (get_or c.args.op.now c.loop-i.i 0)) c.loop-i.part c.run_word.new.part (Ok (Ok c.in-Ok.value)) = rw (← c.in-Ok.is) c.in_ok-cause.ensures in
     rw (c.answered_reply.ensures, c.values.ensures, ← c.if-i-last.true) (record {
-      walk = ran_so (base c.args.plot.now) c.args.plot.now.blocks c.args.plot.now.few_blocks c.loop-i.kept c.args.part.now h.goes c.requires.empty c.args.op.now h.of.words c.requires.words.few c.loop-i.i h.done c.loop-i.part h.part
+      walk = ran_so (base c.args.plot.now) c.args.plot.now.blocks c.args.plot.now.few_blocks c.loop-i.kept (record c.args.part.now { script = [] }) h.goes refl c.args.op.now h.of.words c.requires.words.few c.loop-i.i h.done c.loop-i.part h.part
           ∙ ran_more (base c.args.plot.now) c.args.plot.now.blocks (length c.args.op.now) c.args.op.now c.loop-i.i h.below c.loop-i.kept.values c.loop-i.part c.run_word.new.part c.in-Ok.value room runs.walk
           ∙ ran_ends (base c.args.plot.now) c.args.plot.now.blocks (length c.args.op.now) c.args.op.now (c.loop-i.i + 1) (set c.loop-i.kept.values c.loop-i.i c.in-Ok.value) c.run_word.new.part
           end (omega (arith, end)) (length-set c.loop-i.kept.values c.loop-i.i c.in-Ok.value ∙ h.goes.width) c.requires.words.few
@@ -119,7 +100,7 @@ returns-in-Ok-clause-whole c =
     let runs : RunsProgram (run_word c.args.plot.now (get_or c.args.op.now c.loop-i.i 0)) c.loop-i.part c.run_word.new.part (Ok (Ok c.in-Ok.value)) = rw (← c.in-Ok.is) c.in_ok-cause.ensures in
     let batch : c.run_word.new.part.batch ≡ c.args.part.now.batch = runs.batch ∙ ap (λ (x : Part). x.batch) here in
     let walk : run_program (run_word c.args.plot.now (get_or c.loop-i.kept.words c.loop-i.kept.done 0)) (part_with c.args.part.now.known c.args.part.now.batch c.loop-i.kept.writes) ≡ Ends (Ok c.in-Ok.value) c.run_word.new.part = rw (words, done, ← here) runs.walk in
-    let small = after_word (base c.args.plot.now) c.args.plot.now.blocks c.args.plot.now.few_blocks c.loop-i.kept c.args.part.now h.goes c.run_word.new.part c.in-Ok.value walk batch c.args.part.now.known (λ a w x. x) (of_store c.args.plot.now c.args.part.now c.requires.stands c.requires.empty) in
+    let small = after_word (base c.args.plot.now) c.args.plot.now.blocks c.args.plot.now.few_blocks c.loop-i.kept (record c.args.part.now { script = [] }) h.goes c.run_word.new.part c.in-Ok.value walk batch c.args.part.now.known (λ a w x. x) (of_store c.args.plot.now (record c.args.part.now { script = [] }) c.requires.stands refl) in
     rw (c.answered_reply.ensures, c.values.ensures, ← c.if-i-last.true) (record {
       some = c.requires.words.some;
       few = c.requires.words.few;
@@ -133,4 +114,4 @@ returns-in-Ok-clause-whole c =
     })
 
 pub returns-in-Ok-clause-holds : goal.returns-in-Ok-clause-holds
-returns-in-Ok-clause-holds c = holds_so c.args.plot.now c.loop-i.kept c.args.part.now c.args.op.now c.loop-i.invariant.of c.requires.instrs c.loop-i.invariant.goes
+returns-in-Ok-clause-holds c = holds_so c.args.plot.now c.loop-i.kept (record c.args.part.now { script = [] }) c.args.op.now c.loop-i.invariant.of c.requires.instrs c.loop-i.invariant.goes
