@@ -1,14 +1,13 @@
 -- The invariant speaks of no word behind the table's own.
-use Rattle.std.proofs.Common.{◌≡◌, ℕ, ◌+◌, ◌*◌, ◌-◌, ◌<◌, ◌≤◌, ◌⊎◌, inl, inr, List, get_or, set, sym, ◌∙◌, ap, subst, arith, length-set}
+use Rattle.std.proofs.Common.{◌≡◌, ℕ, ◌+◌, ◌*◌, ◌<◌, ◌≤◌, inl, List, get_or, set, sym, ap, subst, arith, length-set}
 use Rattle.std.proofs.lemmas.List.{get_or-set_other}
 use Rattle.of_cell.specs.Words.{seq_of}
-use Rattle.of_core.specs.Table.{Setup, words_before_members, durable_at, log_at, script_word_at, current_word, request_of, data_word, log_word_of, script_word, committed_seq, committed_owner, durable_seq}
+use Rattle.of_core.specs.Table.{Setup, words_before_members, durable_at, log_at, script_word_at, current_word, request_of, data_word, log_word_of, script_word}
 use Rattle.of_core.specs.TableMoment.{Moment, TableStart}
-use Rattle.of_core.specs.History.{data_word_after}
 use Rattle.of_core.specs.WordsMatch.{WordsMatchHistory, IsLastOpen, DataCellsMatchState, DurableWordsMatch, IsRequest}
 use Rattle.of_core.specs.Invariant.{MeetsInvariant, IsLoaded}
 use Rattle.of_core.proofs.Logs.{room_for}
-use Rattle.of_core.proofs.Touches.{Touches, durable_of, kinds_same, moves_of, shared_of}
+use Rattle.of_core.proofs.Touches.{Touches, open_of, data_same, durable_same, kinds_same, moves_of, shared_of}
 use Rattle.of_core.proofs.Stability.{at_stable, heard_as, loaded_stable, log_in}
 use Rattle.of_core.proofs.Ordering.{order_same}
 
@@ -49,27 +48,13 @@ module _ (S : Setup) (Lawful : List ℕ → Type 0) (B : TableStart) (w : Moment
   }
 
   open_same : IsLastOpen B w.words → IsLastOpen B vs
-  open_same o = record { any = rw current_same o.any; asks = rw current_same (req_same (committed_owner w.words) g.core.shared.counted.owner_in ∙ o.asks) }
+  open_same = open_of S Lawful B 0 w.words vs w.batches (touches 0) g.core.shared req_same
 
   data_cells : DataCellsMatchState S B vs w.batches
-  data_cells = record { each = λ y l. each y l (g.core.shared.data_cells.each y l) }
-    where
-      each : (y : ℕ) → y < S.cells → (data_word S w.words y ≡ data_word_after B w.batches (committed_seq w.words) y) ⊎ (IsLastOpen B w.words × (data_word S w.words y ≡ data_word_after B w.batches (committed_seq w.words - 1) y))
-          → (data_word S vs y ≡ data_word_after B w.batches (committed_seq vs) y) ⊎ (IsLastOpen B vs × (data_word S vs y ≡ data_word_after B w.batches (committed_seq vs - 1) y))
-      each y l (inl q) = inl (rw current_same (cell_same y l ∙ q))
-      each y l (inr (o, q)) = inr (open_same o, rw current_same (cell_same y l ∙ q))
+  data_cells = data_same S Lawful B 0 w.words vs w.batches (touches 0) g.core.shared cell_same open_same
 
   durable : DurableWordsMatch S B vs w.batches
-  durable = durable_of S Lawful B 0 w.words vs w.batches (touches 0) g.core.shared (λ y l. rw (cell_same y l) (g.core.shared.durable.fresh y l)) step (λ y l. cells (g.core.shared.durable.cells y l))
-      (λ k l u j o q y v. log_same j y (rw (← o) (g.core.shared.counted.owners k l u)) v)
-    where
-      step : (committed_seq w.words ≡ durable_seq S w.words) ⊎ ((committed_seq w.words ≡ durable_seq S w.words + 1) × IsLastOpen B w.words) → (committed_seq w.words ≡ durable_seq S w.words) ⊎ ((committed_seq w.words ≡ durable_seq S w.words + 1) × IsLastOpen B vs)
-      step (inl q) = inl q
-      step (inr q) = inr (q.0, open_same q.1)
-
-      cells : {p q r : Type 0} → p ⊎ (IsLastOpen B w.words × q × r) → p ⊎ (IsLastOpen B vs × q × r)
-      cells (inl d) = inl d
-      cells (inr d) = inr (open_same d.0, d.1, d.2)
+  durable = durable_same S Lawful B 0 w.words vs w.batches (touches 0) g.core.shared cell_same open_same (λ k l u j o q y v. log_same j y (rw (← o) (g.core.shared.counted.owners k l u)) v)
 
   shared : WordsMatchHistory S Lawful B vs w.batches
   shared = shared_of S Lawful B 0 w.words vs w.batches (touches 0) g.core.shared data_cells durable

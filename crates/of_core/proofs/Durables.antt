@@ -47,7 +47,7 @@ module _ (S : Setup) (Lawful : List ℕ → Type 0) (B : TableStart) (w : Moment
     applying x a = go n.helps a.mode
       where
         go : (b : Bool) → AppliesAs S B w.words w.batches j n b → Leveled
-        go true d = inl d.2.level
+        go true d = inl d.calm.level
         go false d = inr (inr (d, a.after, a.upto, a.committed))
 
     leveled : (p : Place) → HoldsAtPlace S B w.words w.batches j n p → Leveled
@@ -59,8 +59,8 @@ module _ (S : Setup) (Lawful : List ℕ → Type 0) (B : TableStart) (w : Moment
     leveled StoreAnnouncement a = inl a.calm.level
     leveled LoadCurrent a = inl a.calm.level
     leveled LoadRequest a = inl a.calm.level
-    leveled (CopyLog x) a = inl a.copies.calm.level
-    leveled LookAgain a = inl a.copies.calm.level
+    leveled (CopyLog x) a = inl a.copies.helping.calm.level
+    leveled LookAgain a = inl a.copies.helping.calm.level
     leveled LoadOwnTicket a = inl a.calm.level
     leveled LoadShape a = inl a.calm.level
     leveled (LoadReply x) a = inl a.calm.level
@@ -113,7 +113,7 @@ module _ (S : Setup) (Lawful : List ℕ → Type 0) (B : TableStart) (w : Moment
 
   -- a cell's words rise from state to state
   pub at_up : (k n a : ℕ) → B.seq ≤ k → k ≤ n → n ≤ committed_seq w.words → a < S.cells → data_word_after B w.batches k a ≤ data_word_after B w.batches n a
-  at_up k n a l u t a_in = go (rw e at (later_by S B w.batches g.shared.start (logs_of S Lawful B w g) (n - k) k a l (omega (arith, u, t, count)) a_in))
+  at_up k n a l u t a_in = go (rw e at (later_by S B w.batches g.shared.start (logs_of g) (n - k) k a l (omega (arith, u, t, count)) a_in))
     where
       e : k + (n - k) ≡ n
       e = omega (arith, u)
@@ -121,7 +121,7 @@ module _ (S : Setup) (Lawful : List ℕ → Type 0) (B : TableStart) (w : Moment
       go : (data_word_after B w.batches n a ≡ data_word_after B w.batches k a) ⊎ (k < seq_of (data_word_after B w.batches n a)) → data_word_after B w.batches k a ≤ data_word_after B w.batches n a
       go (inl q) = omega (arith, q)
       go (inr q) =
-          let z : seq_of (data_word_after B w.batches k a) ≤ k = old S B w.batches g.shared.start (logs_of S Lawful B w g) k a l (omega (arith, u, t, count)) a_in in
+          let z : seq_of (data_word_after B w.batches k a) ≤ k = old S B w.batches g.shared.start (logs_of g) k a l (omega (arith, u, t, count)) a_in in
           let less : data_word_after B w.batches k a < data_word_after B w.batches n a = seq_less (data_word_after B w.batches k a) (data_word_after B w.batches n a) (omega (arith, q, z)) in
           omega (arith, less)
 
@@ -136,7 +136,7 @@ module _ (S : Setup) (Lawful : List ℕ → Type 0) (B : TableStart) (w : Moment
       is = held.3
 
       late : durable_seq S w.words < k → (f ≤ data_word_after B w.batches (durable_seq S w.words) a) ⊎ (durable_seq S w.words < seq_of f)
-      late l = go (rw e at (later_by S B w.batches g.shared.start (logs_of S Lawful B w g) (k - durable_seq S w.words) (durable_seq S w.words) a g.shared.durable.from (omega (arith, l, held.2, count)) a_in))
+      late l = go (rw e at (later_by S B w.batches g.shared.start (logs_of g) (k - durable_seq S w.words) (durable_seq S w.words) a g.shared.durable.from (omega (arith, l, held.2, count)) a_in))
         where
           e : durable_seq S w.words + (k - durable_seq S w.words) ≡ k
           e = omega (arith, l)
@@ -249,7 +249,7 @@ module _ (S : Setup) (Lawful : List ℕ → Type 0) (B : TableStart) (w : Moment
     durables CloseRequest a c l = elsewhere (request_at m.owner) _ c (λ e. omega (arith, e, owner_in (length m.log) a.applies))
     durables RaiseOld a c l =
         let ci : m.caller ≡ i = a.past.looks.round.begun.caller in
-        raised (request_at m.caller) m.kept c l (omega (arith, ci, h)) (inl (rw ci (omega (arith, a.past.looks.round.begun.kept.0, a.calm.level))))
+        raised (request_at m.caller) m.kept c l (omega (arith, ci, h)) (inl (rw ci (omega (arith, a.past.looks.round.begun.kept.low, a.calm.level))))
     durables (RaiseLog x) a c l =
         let st = a.storing.stored in
         let ci : m.caller ≡ i = st.past.looks.round.begun.caller in

@@ -1,11 +1,11 @@
 -- A cell changes only if its durable word is at least its word. So of all words that it has held,
 -- only the present one may not be durable.
-use Rattle.std.proofs.Common.{◌≡◌, ℕ, zero, suc, ◌+◌, ◌*◌, ◌-◌, ◌<◌, ◌≤◌, ◌⊎◌, ◌==◌, inl, inr, List, [], ◌∷◌, length, get_or, set, max, refl, sym, ◌∙◌, ap, subst, arith, Bool, true, false, if◌then◌else◌}
+use Rattle.std.proofs.Common.{◌≡◌, ℕ, suc, ◌+◌, ◌*◌, ◌-◌, ◌<◌, ◌≤◌, ◌⊎◌, ◌==◌, inl, inr, List, [], ◌∷◌, length, get_or, set, max, refl, sym, ◌∙◌, ap, subst, arith, Bool, true, false, if◌then◌else◌}
 use Rattle.std.specs.List.{All}
 use Rattle.std.proofs.lemmas.Bool.{cases_eq, cases_lt}
 use Rattle.std.proofs.lemmas.Bool.Decides.{nat_tests}
 use Rattle.std.proofs.lemmas.List.{get_or-set_same, get_or-set_other, set-get_or, get_or_default}
-use Rattle.std.proofs.lemmas.List.Elements.{All-append}
+use Rattle.std.proofs.lemmas.List.Elements.{All-push}
 use Rattle.of_cell.specs.declared.word.TheConstants.{PAYLOADS}
 use Rattle.of_cell.specs.Words.{pack, seq_of, payload_of}
 use Rattle.of_cell.proofs.Order.{word_eta, seq_word}
@@ -95,7 +95,7 @@ module _ (S : Setup) (Lawful : List ℕ → Type 0) (B : TableStart) (w : Moment
   target_level a s a_in u old = go (g.shared.data_cells.each a a_in) (g.shared.durable.cells a a_in)
     where
       newest : (k : ℕ) → B.seq ≤ k → k ≤ committed_seq w.words → data_word S w.words a ≡ data_word_after B w.batches (committed_seq w.words) a → seq_of (data_word S w.words a) ≤ k → data_word S w.words a ≡ data_word_after B w.batches k a
-      newest k l t e o = by (rw z at (later_by S B w.batches g.shared.start (logs_of S Lawful B w g) (committed_seq w.words - k) k a l (omega (arith, t, count S Lawful B w g)) a_in))
+      newest k l t e o = by (rw z at (later_by S B w.batches g.shared.start (logs_of g) (committed_seq w.words - k) k a l (omega (arith, t, count S Lawful B w g)) a_in))
         where
           z : k + (committed_seq w.words - k) ≡ committed_seq w.words
           z = omega (arith, t)
@@ -327,12 +327,8 @@ module _ (S : Setup) where
       event_level (Raises c) may = evicted_level (c, get_or w.words c 0) (load_kept S Lawful B w g c may)
       event_level (Loads c) may = record {
         logs = v.logs;
-        loaded = All-append (λ (e : ℕ × ℕ). (e.1 ≤ durable_word S w.words e.0) ⊎ (e.1 ≡ get_or w.words e.0 0)) w.loaded ((c, get_or w.words c 0) ∷ []) v.loaded one;
+        loaded = All-push (λ (e : ℕ × ℕ). (e.1 ≤ durable_word S w.words e.0) ⊎ (e.1 ≡ get_or w.words e.0 0)) w.loaded (c, get_or w.words c 0) v.loaded (inr refl);
       }
-        where
-          one : All (λ (e : ℕ × ℕ). (e.1 ≤ durable_word S w.words e.0) ⊎ (e.1 ≡ get_or w.words e.0 0)) ((c, get_or w.words c 0) ∷ [])
-          one zero d l = inr refl
-          one (suc k) d l = absurd (omega arith)
       event_level (Begins i op) may = record { logs = λ j x l u. logs j x l u (cases_eq j i); loaded = v.loaded }
         where
           z : Moment
