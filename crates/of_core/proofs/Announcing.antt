@@ -27,7 +27,7 @@ said_below : (S : Setup) (ws vs : List ℕ) (c n : ℕ) → ((x : ℕ) → x < n
 said_below S ws vs c zero f = refl
 said_below S ws vs c (suc n) f = rw (said_below S ws vs c n (λ x l. f x (omega arith)), f n (omega arith)) refl
 
-module _ (S : Setup) (Lawful : List ℕ → Type 0) (B : TableStart) (w : Moment) (g : MeetsCore S Lawful B w) (i : ℕ) (m : CallState) (h : i < S.callers) where
+module _ {S : Setup} {Lawful : List ℕ → Type 0} {B : TableStart} {w : Moment} (g : MeetsCore S Lawful B w) {i : ℕ} (h : i < S.callers) (m : CallState) where
   -- word x of the machine's script row becomes v
   module _ (ci : m.caller ≡ i) (x v : ℕ) (x_in : x < S.instrs + 1) (quieted : AnnouncesNothingNew S B w.words w.batches i) where
     abbrev vs : List ℕ
@@ -61,7 +61,7 @@ module _ (S : Setup) (Lawful : List ℕ → Type 0) (B : TableStart) (w : Moment
     log_same : (j y : ℕ) → j < S.callers → y < 2 * S.cells + 1 → log_word_of S vs j y ≡ log_word_of S w.words j y
     log_same j y l u = below (log_at S j y) (omega (arith, log_in S j y l u))
 
-    touches : ((j : ℕ) → j < S.callers → (announcement_of S vs j ≡ announcement_of S w.words j) ⊎ ((j ≡ i) × ((k : ℕ) → B.seq < k → k ≤ committed_seq w.words → (batch_at B w.batches k).announcements j ≡ announcement_of S vs j → ⊥))) → Touches S Lawful B i w.words vs w.batches
+    touches : ((j : ℕ) → j < S.callers → (announcement_of S vs j ≡ announcement_of S w.words j) ⊎ ((j ≡ i) × ((k : ℕ) → B.seq < k → k ≤ committed_seq w.words → (batch_at B w.batches k).announcements j ≡ announcement_of S vs j → ⊥))) → Touches S B i w.words vs w.batches
     touches announcements = record {
       room = length-set w.words (script_word_at S m.caller x) v;
       current_word = current_same;
@@ -80,15 +80,15 @@ module _ (S : Setup) (Lawful : List ℕ → Type 0) (B : TableStart) (w : Moment
         says j y u (inr q) r = inl (others j y u (λ a b. q a))
         says j y u q (inr r) = inl (others j y u (λ a b. r b))
 
-    module _ (t : Touches S Lawful B i w.words vs w.batches) where
+    module _ (t : Touches S B i w.words vs w.batches) where
       open_same : IsLastOpen B w.words → IsLastOpen B vs
-      open_same = open_of S Lawful B i w.words vs w.batches t g.shared req_same
+      open_same = open_of t g.shared req_same
 
       data_cells : DataCellsMatchState S B vs w.batches
-      data_cells = data_same S Lawful B i w.words vs w.batches t g.shared cell_same open_same
+      data_cells = data_same t g.shared cell_same open_same
 
       durable : DurableWordsMatch S B vs w.batches
-      durable = durable_same S Lawful B i w.words vs w.batches t g.shared cell_same open_same (λ k l u j o q y v. log_same j y (rw (← o) (g.shared.counted.owners k l u)) v)
+      durable = durable_same t g.shared cell_same open_same (λ k l u j o q y v. log_same j y (rw (← o) (g.shared.counted.owners k l u)) v)
 
     calm : HasNothingUnderWay S B w.words w.batches i (committed_seq w.words) → HasNothingUnderWay S B vs w.batches i (committed_seq vs)
     calm c = record {
@@ -102,11 +102,11 @@ module _ (S : Setup) (Lawful : List ℕ → Type 0) (B : TableStart) (w : Moment
     keeps u k = record { low = rw (req_same i h) k.low; held = λ l. rw current_same (k.held l) }
 
     -- the rest of what has to be shown
-    stored : {rs : List Read} → (t : Touches S Lawful B i w.words vs w.batches) → AnnouncementsAreServed S B vs w.batches → (n : CallState) → HoldsAtPlace S B vs w.batches i n n.place
+    stored : {rs : List Read} → (t : Touches S B i w.words vs w.batches) → AnnouncementsAreServed S B vs w.batches → (n : CallState) → HoldsAtPlace S B vs w.batches i n n.place
         → KeepsGuarantee S Lawful B i w (record { words = vs; machines = set w.machines i n; batches = w.batches ++ []; reads = rs; loaded = w.loaded })
     stored t hd n a =
         rw (append-nil w.batches)
-        (assemble g h vs w.batches n (moves_of S Lawful B i w.words vs w.batches t g.shared) (shared_of S Lawful B i w.words vs w.batches t g.shared (data_cells t) (durable t) hd (kinds_same S Lawful B i w.words vs w.batches t g.shared (λ j l. subst (λ (y : ℕ). IsRequest B w.words w.batches j y) (sym (req_same j l)) (g.shared.kinds.requests j l)) log_same)) a)
+        (assemble g h vs w.batches n (moves_of t g.shared) (shared_of t g.shared (data_cells t) (durable t) hd (kinds_same t g.shared (λ j l. subst (λ (y : ℕ). IsRequest B w.words w.batches j y) (sym (req_same j l)) (g.shared.kinds.requests j l)) log_same)) a)
 
   pub store_script_kept : (j : ℕ) → HoldsAtPlace S B w.words w.batches i m (StoreScript j) → KeepsGuarantee S Lawful B i w (after_counted_step S i m (StoreScript j) w)
   store_script_kept j a = stored ci j v j_in f.quieted t heard (after_store_script m j (nat_lt (j + 1) (length m.op))) (go (nat_lt (j + 1) (length m.op)) refl)
@@ -129,7 +129,7 @@ module _ (S : Setup) (Lawful : List ℕ → Type 0) (B : TableStart) (w : Moment
       ann_same : (c : ℕ) → announcement_of S us c ≡ announcement_of S w.words c
       ann_same c = others ci j v j_in f.quieted c S.instrs (omega arith) (λ q r. omega (arith, a.more, f.words))
 
-      t : Touches S Lawful B i w.words us w.batches
+      t : Touches S B i w.words us w.batches
       t = touches ci j v j_in f.quieted (λ c l. inl (ann_same c))
 
       last_same : committed_seq us ≡ committed_seq w.words
@@ -234,7 +234,7 @@ module _ (S : Setup) (Lawful : List ℕ → Type 0) (B : TableStart) (w : Moment
           let y : (batch_at B w.batches k).announcements i ≡ announcement_of S us i = rw q at e in
           omega (arith, f.newer, now_seq, ap seq_of y)
 
-      t : Touches S Lawful B i w.words us w.batches
+      t : Touches S B i w.words us w.batches
       t = touches ci S.instrs v x_in f.quieted (λ c l. go c (cases_eq c i))
         where
           go : (c : ℕ) → (c ≡ i) ⊎ (c ≡ i → ⊥) → (announcement_of S us c ≡ announcement_of S w.words c) ⊎ ((c ≡ i) × ((k : ℕ) → B.seq < k → k ≤ committed_seq w.words → (batch_at B w.batches k).announcements c ≡ announcement_of S us c → ⊥))

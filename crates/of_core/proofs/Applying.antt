@@ -12,20 +12,17 @@ use Rattle.of_core.specs.Steps.{after_load_target, take_word_at}
 use Rattle.of_core.specs.TableMoment.{Read, Moment, TableStart, after_counted_step}
 use Rattle.of_core.specs.History.{batch_at, data_word_after}
 use Rattle.of_core.specs.WordsMatch.{WordsHaveTheirKind, IsRequest, IsLastOpen, DataCellsMatchState, IsEntry, DurableWordsMatch}
-use Rattle.of_core.specs.Transaction.{IsApplying}
 use Rattle.of_core.specs.Invariant.{HoldsAtPlace, MeetsCore}
 use Rattle.of_core.specs.Guarantees.{KeepsGuarantee}
 use Rattle.of_core.proofs.States.{old, named_at, named_later, unnamed, cases_named}
 use Rattle.of_core.proofs.Alike.{applies_as, entry_as}
 use Rattle.of_core.proofs.Assembling.{assemble, assemble_read, logs_of}
-use Rattle.of_core.proofs.Stability.{at_stable, floor_of}
+use Rattle.of_core.proofs.Stability.{entry_in, owner_in as owner_of, at_stable, floor_of}
 use Rattle.of_core.proofs.Touches.{Touches, step_open, cells_open, open_of, durable_of, heard_of, held_now, kinds_same, moves_of, request_same, shared_of}
 
-module _ (S : Setup) (Lawful : List ℕ → Type 0) (B : TableStart) where
-  module _ (w : Moment) (g : MeetsCore S Lawful B w) (i : ℕ) (m : CallState) (h : i < S.callers) where
-    target_in : (j : ℕ) → IsApplying S B w.words w.batches i m j → (k : ℕ) → k < length m.log → IsEntry S (log_entry m k)
-    target_in j p k l = let t = p.log.each k l in subst (λ (e : ℕ × ℕ). IsEntry S e) t.2 ((g.shared.counted.logs m.seq p.after p.upto).entries t.0 (0, 0) t.1)
-
+module _ {S : Setup} {Lawful : List ℕ → Type 0} {B : TableStart} where
+  -- the machine m of caller i, at its place
+  module _ {w : Moment} (g : MeetsCore S Lawful B w) {i : ℕ} (h : i < S.callers) (m : CallState) where
     pub load_target_kept : (j : ℕ) → HoldsAtPlace S B w.words w.batches i m (LoadTarget j) → KeepsGuarantee S Lawful B i w (after_counted_step S i m (LoadTarget j) w)
     load_target_kept j a = assemble_read g h (take_word_at S m found (LoadTarget j)) (set-get_or w.words (S.callers + 1 + (log_entry m j).0) 0) (append-nil w.batches) (
         go (nat_lt (seq_of found) m.seq) refl)
@@ -39,12 +36,12 @@ module _ (S : Setup) (Lawful : List ℕ → Type 0) (B : TableStart) where
           entry = entry_as a refl refl refl refl refl refl refl refl refl refl refl refl;
           newer = (let x : m.seq ≤ seq_of found = grind (arith, nat_tests) in x);
           low = omega arith;
-          held = held_now S Lawful B w g (log_entry m j).0 (target_in j a.applies j a.more).0;
+          held = held_now g (log_entry m j).0 (entry_in g.shared a.applies j a.more).0;
         }
 
     pub reload_target_kept : (j : ℕ) → HoldsAtPlace S B w.words w.batches i m (ReloadTarget j) → KeepsGuarantee S Lawful B i w (after_counted_step S i m (ReloadTarget j) w)
     reload_target_kept j a = assemble_read g h (take_word_at S m (data_word S w.words (log_entry m j).0) (ReloadTarget j)) (set-get_or w.words (S.callers + 1 + (log_entry m j).0) 0) (append-nil w.batches)
-        (record { entry = entry_as a.entry refl refl refl refl refl refl refl refl refl refl refl refl; newer = a.newer; low = omega arith; held = held_now S Lawful B w g (log_entry m j).0 (target_in j a.entry.applies j a.entry.more).0 })
+        (record { entry = entry_as a.entry refl refl refl refl refl refl refl refl refl refl refl refl; newer = a.newer; low = omega arith; held = held_now g (log_entry m j).0 (entry_in g.shared a.entry.applies j a.entry.more).0 })
 
     pub exchange_target_kept : (j f : ℕ) → HoldsAtPlace S B w.words w.batches i m (ExchangeTarget j f) → KeepsGuarantee S Lawful B i w (after_counted_step S i m (ExchangeTarget j f) w)
     exchange_target_kept j f a = go (found == f) refl
@@ -59,7 +56,7 @@ module _ (S : Setup) (Lawful : List ℕ → Type 0) (B : TableStart) where
         new = pack m.seq (log_entry m j).1
 
         e : IsEntry S (log_entry m j)
-        e = target_in j a.entry.applies j a.entry.more
+        e = entry_in g.shared a.entry.applies j a.entry.more
 
         n_is : committed_seq w.words ≡ B.seq + length w.batches
         n_is = g.shared.counted.count
@@ -82,7 +79,7 @@ module _ (S : Setup) (Lawful : List ℕ → Type 0) (B : TableStart) where
             newer y (inr z) = z
         go true q =
             rw (append-nil w.batches)
-            (assemble g h vs w.batches n (moves_of S Lawful B i w.words vs w.batches (touches i) g.shared) (shared_of S Lawful B i w.words vs w.batches (touches i) g.shared data_cells durable (heard_of S Lawful B i w.words vs w.batches (touches i) g.shared behind (λ p l. rw (log_kept_at p) (g.shared.heard.counts p l))) kinds)
+            (assemble g h vs w.batches n (moves_of (touches i) g.shared) (shared_of (touches i) g.shared data_cells durable (heard_of (touches i) g.shared behind (λ p l. rw (log_kept_at p) (g.shared.heard.counts p l))) kinds)
             (record { entry = entry_as kept.entry refl refl refl refl refl refl refl refl refl refl refl refl; newer = rw here (omega (arith, new_seq)) }))
           where
             vs : List ℕ
@@ -143,7 +140,7 @@ module _ (S : Setup) (Lawful : List ℕ → Type 0) (B : TableStart) where
             rises c (inl r) = rw r (omega (arith, here, seq_less found new (omega (arith, older, new_seq))))
             rises c (inr r) = omega (arith, elsewhere c r)
 
-            touches : (k : ℕ) → Touches S Lawful B k w.words vs w.batches
+            touches : (k : ℕ) → Touches S B k w.words vs w.batches
             touches k = record {
               room = length-set w.words (S.callers + 1 + x) new;
               current_word = current_same;
@@ -162,13 +159,13 @@ module _ (S : Setup) (Lawful : List ℕ → Type 0) (B : TableStart) where
                 cells_change y (inr r) = inl (cell_same y r)
 
             open_same : IsLastOpen B w.words → IsLastOpen B vs
-            open_same = open_of S Lawful B i w.words vs w.batches (touches i) g.shared req_same
+            open_same = open_of (touches i) g.shared req_same
 
             kinds : WordsHaveTheirKind S B vs w.batches
-            kinds = kinds_same S Lawful B i w.words vs w.batches (touches i) g.shared (λ k l. request_same S Lawful B i w.words vs w.batches (touches i) g.shared k l (req_same k l)) (λ k y l u. log_same k y)
+            kinds = kinds_same (touches i) g.shared (λ k l. request_same (touches i) g.shared k l (req_same k l)) (λ k y l u. log_same k y)
 
             kept : HoldsAtPlace S B vs w.batches i m (ExchangeTarget j f)
-            kept = at_stable S Lawful B (i + 1) w.words w.batches vs w.batches (moves_of S Lawful B (i + 1) w.words vs w.batches (touches (i + 1)) g.shared) g.shared i h (λ z. omega arith) m (ExchangeTarget j f) a
+            kept = at_stable S Lawful B (i + 1) w.words w.batches vs w.batches (moves_of (touches (i + 1)) g.shared) g.shared i h (λ z. omega arith) m (ExchangeTarget j f) a
 
             in_state : new ≡ data_word_after B w.batches (committed_seq w.words) x
             in_state = let t = a.entry.applies.log.each j a.entry.more in
@@ -185,7 +182,7 @@ module _ (S : Setup) (Lawful : List ℕ → Type 0) (B : TableStart) where
                 each y l (inr r) (inr d) = inr (open_same d.0, rw current_same (cell_same y r ∙ d.1))
 
             durable : DurableWordsMatch S B vs w.batches
-            durable = durable_of S Lawful B i w.words vs w.batches (touches i) g.shared (λ y l. fresh y l (cases_eq y x)) (step_open open_same) (λ y l. cells_open open_same (g.shared.durable.cells y l)) (λ k l u p o q y v. log_same p y)
+            durable = durable_of (touches i) g.shared (λ y l. fresh y l (cases_eq y x)) (step_open open_same) (λ y l. cells_open open_same (g.shared.durable.cells y l)) (λ k l u p o q y v. log_same p y)
               where
                 fresh : (y : ℕ) → y < S.cells → (y ≡ x) ⊎ (y ≡ x → ⊥) → seq_of (data_word S vs y) ≤ durable_seq S w.words
                 fresh y l (inl r) = rw (r, here, new_seq) a.entry.durable
@@ -204,7 +201,7 @@ module _ (S : Setup) (Lawful : List ℕ → Type 0) (B : TableStart) where
         n_is = g.shared.counted.count
 
         owner_in : m.owner < S.callers
-        owner_in = rw (← a.applies.committed) (g.shared.counted.owners m.seq a.applies.after a.applies.upto)
+        owner_in = owner_of g.shared a.applies
 
         go : {rs : List Read} → (b : Bool) → (found == pack m.seq 0) ≡ b
             → KeepsGuarantee S Lawful B i w (record { words = set w.words (m.owner + 1) (if b then pack m.seq 1 else found); machines = set w.machines i n; batches = w.batches ++ []; reads = rs; loaded = w.loaded })
@@ -215,7 +212,7 @@ module _ (S : Setup) (Lawful : List ℕ → Type 0) (B : TableStart) where
             (record { applies = applies_as a.applies refl refl refl refl refl refl refl refl refl refl refl refl a.applies.done; durable = a.durable; closed = omega arith })
         go true q =
             rw (append-nil w.batches)
-            (assemble g h vs w.batches n (moves_of S Lawful B i w.words vs w.batches (touches i) g.shared) (shared_of S Lawful B i w.words vs w.batches (touches i) g.shared data_cells durable (heard_of S Lawful B i w.words vs w.batches (touches i) g.shared behind (λ p l. rw (log_kept_at p) (g.shared.heard.counts p l))) kinds)
+            (assemble g h vs w.batches n (moves_of (touches i) g.shared) (shared_of (touches i) g.shared data_cells durable (heard_of (touches i) g.shared behind (λ p l. rw (log_kept_at p) (g.shared.heard.counts p l))) kinds)
             (record { applies = applies_as kept.applies refl refl refl refl refl refl refl refl refl refl refl refl kept.applies.done; durable = kept.durable; closed = rw here (word_more m.seq 0 1 (omega arith)) }))
           where
             was : found ≡ pack m.seq 0
@@ -262,7 +259,7 @@ module _ (S : Setup) (Lawful : List ℕ → Type 0) (B : TableStart) where
             rises c (inl r) = rw r (omega (arith, here, was, word_more m.seq 0 1 (omega arith)))
             rises c (inr r) = omega (arith, elsewhere c r)
 
-            touches : (k : ℕ) → Touches S Lawful B k w.words vs w.batches
+            touches : (k : ℕ) → Touches S B k w.words vs w.batches
             touches k = record {
               room = length-set w.words (m.owner + 1) (pack m.seq 1);
               current_word = current_same;
@@ -277,17 +274,17 @@ module _ (S : Setup) (Lawful : List ℕ → Type 0) (B : TableStart) where
             }
 
             is_request : (j : ℕ) → j < S.callers → (j ≡ m.owner) ⊎ (j ≡ m.owner → ⊥) → IsRequest B w.words w.batches j (request_of vs j)
-            is_request j l (inr r) = request_same S Lawful B i w.words vs w.batches (touches i) g.shared j l (elsewhere (j + 1) (omega arith))
+            is_request j l (inr r) = request_same (touches i) g.shared j l (elsewhere (j + 1) (omega arith))
             is_request j l (inl r) = λ b.
                 let e : request_of vs j ≡ pack m.seq 1 = ap (request_of vs) r ∙ here in
                 let f : seq_of (request_of vs j) ≡ m.seq = ap seq_of e ∙ seq_word m.seq 1 (omega arith) in
                 inr (ap payload_of e ∙ pay_word m.seq 1 (omega arith), rw f a.applies.upto, rw f (a.applies.committed ∙ sym r))
 
             kinds : WordsHaveTheirKind S B vs w.batches
-            kinds = kinds_same S Lawful B i w.words vs w.batches (touches i) g.shared (λ j l. is_request j l (cases_eq j m.owner)) (λ j y l u. elsewhere (log_at S j y) (omega (arith, owner_in)))
+            kinds = kinds_same (touches i) g.shared (λ j l. is_request j l (cases_eq j m.owner)) (λ j y l u. elsewhere (log_at S j y) (omega (arith, owner_in)))
 
             kept : HoldsAtPlace S B vs w.batches i m CloseRequest
-            kept = at_stable S Lawful B (i + 1) w.words w.batches vs w.batches (moves_of S Lawful B (i + 1) w.words vs w.batches (touches (i + 1)) g.shared) g.shared i h (λ z. omega arith) m CloseRequest a
+            kept = at_stable S Lawful B (i + 1) w.words w.batches vs w.batches (moves_of (touches (i + 1)) g.shared) g.shared i h (λ z. omega arith) m CloseRequest a
 
             -- the durable word of CUR has reached the batch
             d_is : durable_seq S w.words ≡ committed_seq w.words
@@ -320,7 +317,7 @@ module _ (S : Setup) (Lawful : List ℕ → Type 0) (B : TableStart) where
                 each x l (inr d) = whole x (data_word S w.words x) l (λ k u z. rw z at (a.applies.done k u).0) d.1
 
             durable : DurableWordsMatch S B vs w.batches
-            durable = durable_of S Lawful B i w.words vs w.batches (touches i) g.shared (λ y l. rw (cell_same y l) (g.shared.durable.fresh y l)) (λ q. inl (sym d_is)) (λ y l. cells y l (g.shared.durable.cells y l)) (λ k l u p o q y v. elsewhere (log_at S p y) (omega (arith, owner_in)))
+            durable = durable_of (touches i) g.shared (λ y l. rw (cell_same y l) (g.shared.durable.fresh y l)) (λ q. inl (sym d_is)) (λ y l. cells y l (g.shared.durable.cells y l)) (λ k l u p o q y v. elsewhere (log_at S p y) (omega (arith, owner_in)))
               where
                 cells : (y : ℕ) → y < S.cells → (durable_cell S w.words y ≡ data_word_after B w.batches (durable_seq S w.words) y) ⊎ (IsLastOpen B w.words × (committed_seq w.words ≡ durable_seq S w.words) × (durable_cell S w.words y ≡ data_word_after B w.batches (durable_seq S w.words - 1) y))
                     → (durable_cell S w.words y ≡ data_word_after B w.batches (durable_seq S w.words) y) ⊎ (IsLastOpen B vs × (committed_seq w.words ≡ durable_seq S w.words) × (durable_cell S w.words y ≡ data_word_after B w.batches (durable_seq S w.words - 1) y))

@@ -33,7 +33,7 @@ module _ (S : Setup) (Lawful : List ℕ → Type 0) (B : TableStart) (w : Moment
   script_same : (j y : ℕ) → j < S.callers → y < S.instrs + 1 → script_word S vs j y ≡ script_word S w.words j y
   script_same j y l u = below (script_word_at S j y) (let r : j * (S.instrs + 1) + (S.instrs + 1) ≤ S.callers * (S.instrs + 1) = room_for j S.callers (S.instrs + 1) l in omega arith)
 
-  touches : (i : ℕ) → Touches S Lawful B i w.words vs w.batches
+  touches : (i : ℕ) → Touches S B i w.words vs w.batches
   touches i = record {
     room = length-set w.words c v;
     current_word = current_same;
@@ -48,21 +48,21 @@ module _ (S : Setup) (Lawful : List ℕ → Type 0) (B : TableStart) (w : Moment
   }
 
   open_same : IsLastOpen B w.words → IsLastOpen B vs
-  open_same = open_of S Lawful B 0 w.words vs w.batches (touches 0) g.core.shared req_same
+  open_same = open_of (touches 0) g.core.shared req_same
 
   data_cells : DataCellsMatchState S B vs w.batches
-  data_cells = data_same S Lawful B 0 w.words vs w.batches (touches 0) g.core.shared cell_same open_same
+  data_cells = data_same (touches 0) g.core.shared cell_same open_same
 
   durable : DurableWordsMatch S B vs w.batches
-  durable = durable_same S Lawful B 0 w.words vs w.batches (touches 0) g.core.shared cell_same open_same (λ k l u j o q y v. log_same j y (rw (← o) (g.core.shared.counted.owners k l u)) v)
+  durable = durable_same (touches 0) g.core.shared cell_same open_same (λ k l u j o q y v. log_same j y (rw (← o) (g.core.shared.counted.owners k l u)) v)
 
   shared : WordsMatchHistory S Lawful B vs w.batches
-  shared = shared_of S Lawful B 0 w.words vs w.batches (touches 0) g.core.shared data_cells durable
+  shared = shared_of (touches 0) g.core.shared data_cells durable
       (heard_as S B w.words vs w.batches (λ j l. script_same j S.instrs l (omega arith)) (ap seq_of current_same) (λ j l. rw (log_same j 0 l (omega arith)) (g.core.shared.heard.counts j l)) g.core.shared.heard)
-      (kinds_same S Lawful B 0 w.words vs w.batches (touches 0) g.core.shared (λ j l. subst (λ (y : ℕ). IsRequest B w.words w.batches j y) (sym (req_same j l)) (g.core.shared.kinds.requests j l)) log_same)
+      (kinds_same (touches 0) g.core.shared (λ j l. subst (λ (y : ℕ). IsRequest B w.words w.batches j y) (sym (req_same j l)) (g.core.shared.kinds.requests j l)) log_same)
 
   pub beside_stays : (e : ℕ × ℕ) → IsLoaded S B w.words w.batches e → IsLoaded S B vs w.batches e
-  beside_stays e l = loaded_stable S Lawful B 0 w.words w.batches vs w.batches (moves_of S Lawful B 0 w.words vs w.batches (touches 0) g.core.shared) g.core.shared shared.kinds e l
+  beside_stays e l = loaded_stable S Lawful B 0 w.words w.batches vs w.batches (moves_of (touches 0) g.core.shared) g.core.shared shared.kinds e l
 
   pub beside_kept : MeetsInvariant S Lawful B (record w { words = vs })
   beside_kept = record {
@@ -70,7 +70,7 @@ module _ (S : Setup) (Lawful : List ℕ → Type 0) (B : TableStart) (w : Moment
       shared = shared;
       members = g.core.members;
       loaded = λ k d l. beside_stays (get_or w.loaded k d) (g.core.loaded k d l);
-      each = λ j n l q. at_stable S Lawful B (j + 1) w.words w.batches vs w.batches (moves_of S Lawful B (j + 1) w.words vs w.batches (touches (j + 1)) g.core.shared) g.core.shared j l (λ z. omega arith) n n.place (g.core.each j n l q);
+      each = λ j n l q. at_stable S Lawful B (j + 1) w.words w.batches vs w.batches (moves_of (touches (j + 1)) g.core.shared) g.core.shared j l (λ z. omega arith) n n.place (g.core.each j n l q);
     };
     within = g.within;
     late = g.late;

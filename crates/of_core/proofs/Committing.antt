@@ -28,8 +28,9 @@ use Rattle.of_core.proofs.Stability.{log_in}
 use Rattle.of_core.proofs.LongerHistory.{grown, ticket_new}
 use Rattle.of_core.proofs.Touches.{differ, equals}
 
-module _ (S : Setup) (Lawful : List ℕ → Type 0) (B : TableStart) where
-  module _ (w : Moment) (g : MeetsCore S Lawful B w) (i : ℕ) (m : CallState) (h : i < S.callers) where
+module _ {S : Setup} {Lawful : List ℕ → Type 0} {B : TableStart} where
+  -- the machine m of caller i, at its place
+  module _ {w : Moment} (g : MeetsCore S Lawful B w) {i : ℕ} (h : i < S.callers) (m : CallState) where
     -- the exchange of the current transaction
     pub exchange_current_kept : IsSoundMeaning S.meaning Lawful (first_operation_cell S) S.cells → HoldsAtPlace S B w.words w.batches i m ExchangeCurrent → KeepsGuarantee S Lawful B i w (after_counted_step S i m ExchangeCurrent w)
     exchange_current_kept sound a = go (current_word w.words == pack m.seq m.owner) refl

@@ -107,7 +107,7 @@ module _ (S : Setup) (Lawful : List ℕ → Type 0) (B : TableStart) (w : Moment
     place = h;
     low = omega arith;
     was_cur = λ q. rw q (omega (arith, g.core.shared.counted.count), g.core.shared.counted.owner, g.core.shared.counted.first);
-    held = λ a l q. rw q (held_now S Lawful B w g.core a l);
+    held = λ a l q. rw q (held_now g.core a l);
     request = λ j l q. subst (λ (k : ℕ). IsRequest B w.words w.batches j (get_or w.words k 0)) (sym q) (g.core.shared.kinds.requests j l);
     log = λ j x l u q. subst (λ (k : ℕ). IsLogWord B w.words w.batches j x (get_or w.words k 0) × (seq_of (get_or w.words k 0) ≡ seq_of (log_word_of S w.words j x) → get_or w.words k 0 ≡ log_word_of S w.words j x)) (sym q) (g.core.shared.kinds.logs j x l u, λ e. refl);
   }
@@ -116,14 +116,14 @@ module _ (S : Setup) (Lawful : List ℕ → Type 0) (B : TableStart) (w : Moment
   module _ (e : ℕ × ℕ) (h : IsLoaded S B w.words w.batches e) where
     pub evict_kept : MeetsInvariant S Lawful B (after_raise S w e)
     evict_kept = record {
-      core = raise_kept S Lawful B w g.core e.0 e.1 h;
+      core = raise_kept w g.core e.0 e.1 h;
       within = g.within;
       late = g.late;
       order = order_same S B w (after_raise S w e).words g.order (ap seq_of (current_same S Lawful B w.words w.batches g.core.shared e.0 e.1 h)) (seq_mono (durable_word S w.words 0) (durable_word S (after_raise S w e).words 0) (rises S Lawful B w.words w.batches g.core.shared e.0 e.1 h 0));
     }
 
     pub evict_stays : (d : ℕ × ℕ) → IsLoaded S B w.words w.batches d → IsLoaded S B (after_raise S w e).words w.batches d
-    evict_stays d l = loaded_raise S Lawful B w g.core e.0 e.1 h d l
+    evict_stays d l = loaded_raise w g.core e.0 e.1 h d l
 
   -- a cell is loaded for an eviction
   load_good : (c : ℕ) → c < cell_count S → MeetsInvariant S Lawful B (record w { loaded = w.loaded ++ (c, get_or w.words c 0) ∷ [] })

@@ -20,18 +20,19 @@ use Rattle.of_core.proofs.Assembling.{assemble, small_words}
 use Rattle.of_core.proofs.Stability.{log_in, same_row}
 use Rattle.of_core.proofs.Touches.{Touches, open_of, data_same, durable_same, heard_of, kinds_of, kinds_same, moves_of, over_of, past_of, request_same, shared_of}
 
-module _ (S : Setup) (Lawful : List ℕ → Type 0) (B : TableStart) where
-  module _ (w : Moment) (g : MeetsCore S Lawful B w) (i : ℕ) (m : CallState) (h : i < S.callers) where
+module _ {S : Setup} {Lawful : List ℕ → Type 0} {B : TableStart} where
+  -- the machine m of caller i, at its place
+  module _ {w : Moment} (g : MeetsCore S Lawful B w) {i : ℕ} (h : i < S.callers) (m : CallState) where
     -- the machine stores a word of its log
     pub store_log_kept : (x : ℕ) → HoldsAtPlace S B w.words w.batches i m (StoreLog x) → KeepsGuarantee S Lawful B i w (after_counted_step S i m (StoreLog x) w)
     store_log_kept x a =
         rw (append-nil w.batches)
-        (assemble g h vs w.batches (take_word_at S m (log_word_of S w.words m.caller x) (StoreLog x)) (moves_of S Lawful B i w.words vs w.batches touches g.shared)
-        (shared_of S Lawful B i w.words vs w.batches touches g.shared data_cells durable (heard_of S Lawful B i w.words vs w.batches touches g.shared behind counts) kinds) (record {
+        (assemble g h vs w.batches (take_word_at S m (log_word_of S w.words m.caller x) (StoreLog x)) (moves_of touches g.shared)
+        (shared_of touches g.shared data_cells durable (heard_of touches g.shared behind counts) kinds) (record {
           storing = record {
             stored = record {
-              past = past_of S Lawful B i w.words vs w.batches touches g.shared behind m h st.past _ refl refl refl refl refl refl refl refl refl;
-              over = over_of S Lawful B i w.words vs w.batches touches g.shared behind m.seq m.made m.op m.raw m.calls m.log S.callers st.over;
+              past = past_of touches g.shared behind m h st.past _ refl refl refl refl refl refl refl refl refl;
+              over = over_of touches g.shared behind m.seq m.made m.op m.raw m.calls m.log S.callers st.over;
               each = λ y l. stored y l (cases_eq y x);
               durable = λ y l. dur_same (log_at S i y) (log_in S i y h (omega (arith, x_in, l))) ∙ st.durable y l;
               rest = λ y l u. rw (log_row y u (λ q. omega arith)) (st.rest y (omega arith) u);
@@ -114,7 +115,7 @@ module _ (S : Setup) (Lawful : List ℕ → Type 0) (B : TableStart) where
         fits_word : (y : ℕ) → get_or (log_words m.log) y 0 < PAYLOADS
         fits_word y = small_words m.log g.shared.little st.over.over.is_log y
 
-        touches : (Touches S Lawful B) i w.words vs w.batches
+        touches : Touches S B i w.words vs w.batches
         touches = record {
           room = length-set w.words (log_at S m.caller x) new;
           current_word = current_same;
@@ -129,7 +130,7 @@ module _ (S : Setup) (Lawful : List ℕ → Type 0) (B : TableStart) where
         }
 
         kinds : WordsHaveTheirKind S B vs w.batches
-        kinds = kinds_of S Lawful B i w.words vs w.batches touches g.shared (λ j l. request_same S Lawful B i w.words vs w.batches touches g.shared j l (req_same j l)) (λ j y l u. is_log_word j y l u (cases_eq j i) (cases_eq y x)) (λ j y l u. sized j y l u (cases_eq j i) (cases_eq (2 * y + 1) x))
+        kinds = kinds_of touches g.shared (λ j l. request_same touches g.shared j l (req_same j l)) (λ j y l u. is_log_word j y l u (cases_eq j i) (cases_eq y x)) (λ j y l u. sized j y l u (cases_eq j i) (cases_eq (2 * y + 1) x))
           where
             is_log_word : (j y : ℕ) → j < S.callers → y < 2 * S.cells + 1 → (j ≡ i) ⊎ (j ≡ i → ⊥) → (y ≡ x) ⊎ (y ≡ x → ⊥) → IsLogWord B w.words w.batches j y (log_word_of S vs j y)
             is_log_word j y l u (inr q) r = subst (λ (v : ℕ). IsLogWord B w.words w.batches j y v) (sym (log_other j y u q)) (g.shared.kinds.logs j y l u)
@@ -150,13 +151,13 @@ module _ (S : Setup) (Lawful : List ℕ → Type 0) (B : TableStart) where
                 omega (arith, ap payload_of e, p, n, (st.over.over.is_log.entries y (0, 0) in_log).0)
 
         open_same : IsLastOpen B w.words → IsLastOpen B vs
-        open_same = open_of S Lawful B i w.words vs w.batches touches g.shared req_same
+        open_same = open_of touches g.shared req_same
 
         data_cells : DataCellsMatchState S B vs w.batches
-        data_cells = data_same S Lawful B i w.words vs w.batches touches g.shared cell_same open_same
+        data_cells = data_same touches g.shared cell_same open_same
 
         durable : DurableWordsMatch S B vs w.batches
-        durable = durable_same S Lawful B i w.words vs w.batches touches g.shared cell_same open_same logs
+        durable = durable_same touches g.shared cell_same open_same logs
           where
             -- an owner whose durable request is its batch's stores no log
             logs : (k : ℕ) → B.seq < k → k ≤ committed_seq w.words → (j : ℕ) → (batch_at B w.batches k).owner ≡ j → durable_request S w.words j ≡ pack k 0 → (y : ℕ) → y < 2 * S.cells + 1 → log_word_of S vs j y ≡ log_word_of S w.words j y
@@ -170,11 +171,11 @@ module _ (S : Setup) (Lawful : List ℕ → Type 0) (B : TableStart) where
     pub store_request_kept : HoldsAtPlace S B w.words w.batches i m StoreRequest → KeepsGuarantee S Lawful B i w (after_counted_step S i m StoreRequest w)
     store_request_kept a =
         rw (append-nil w.batches)
-        (assemble g h vs w.batches (take_word_at S m (request_of w.words m.caller) StoreRequest) (moves_of S Lawful B i w.words vs w.batches touches g.shared)
-        (shared_of S Lawful B i w.words vs w.batches touches g.shared data_cells durable (heard_of S Lawful B i w.words vs w.batches touches g.shared behind (λ j l. rw (log_same j 0) (g.shared.heard.counts j l))) (kinds_same S Lawful B i w.words vs w.batches touches g.shared (λ j l. request j l (cases_eq j i)) (λ j y l u. log_same j y))) (record {
+        (assemble g h vs w.batches (take_word_at S m (request_of w.words m.caller) StoreRequest) (moves_of touches g.shared)
+        (shared_of touches g.shared data_cells durable (heard_of touches g.shared behind (λ j l. rw (log_same j 0) (g.shared.heard.counts j l))) (kinds_same touches g.shared (λ j l. request j l (cases_eq j i)) (λ j y l u. log_same j y))) (record {
           stored = record {
-            past = past_of S Lawful B i w.words vs w.batches touches g.shared behind m h st.past _ refl refl refl refl refl refl refl refl refl;
-            over = over_of S Lawful B i w.words vs w.batches touches g.shared behind m.seq m.made m.op m.raw m.calls m.log S.callers st.over;
+            past = past_of touches g.shared behind m h st.past _ refl refl refl refl refl refl refl refl refl;
+            over = over_of touches g.shared behind m.seq m.made m.op m.raw m.calls m.log S.callers st.over;
             each = λ y l. log_same i y ∙ st.each y l;
             durable = λ y l. dur_same (log_at S i y) (log_in S i y h (omega (arith, length-log_words m.log, st.over.over.is_log.few, l))) ∙ st.durable y l;
             rest = λ y l u. rw (log_same i y) (st.rest y l u);
@@ -226,7 +227,7 @@ module _ (S : Setup) (Lawful : List ℕ → Type 0) (B : TableStart) where
         rises c (inl q) = rw q (omega (arith, here, up_here))
         rises c (inr q) = omega (arith, elsewhere c q)
 
-        touches : (Touches S Lawful B) i w.words vs w.batches
+        touches : Touches S B i w.words vs w.batches
         touches = record {
           room = length-set w.words (m.caller + 1) new;
           current_word = current_same;
@@ -241,7 +242,7 @@ module _ (S : Setup) (Lawful : List ℕ → Type 0) (B : TableStart) where
         }
 
         request : (j : ℕ) → j < S.callers → (j ≡ i) ⊎ (j ≡ i → ⊥) → IsRequest B w.words w.batches j (request_of vs j)
-        request j l (inr q) = request_same S Lawful B i w.words vs w.batches touches g.shared j l (req_same j q)
+        request j l (inr q) = request_same touches g.shared j l (req_same j q)
         request j l (inl q) = λ a. inl (ap payload_of (ap (request_of vs) q ∙ here) ∙ pay_word (m.seq + 1) 0 (omega arith))
 
         -- the open transaction isn't this caller's
@@ -256,7 +257,7 @@ module _ (S : Setup) (Lawful : List ℕ → Type 0) (B : TableStart) where
             go (inr q) = record { any = rw current_same o.any; asks = rw current_same (req_same (committed_owner w.words) q ∙ o.asks) }
 
         data_cells : DataCellsMatchState S B vs w.batches
-        data_cells = data_same S Lawful B i w.words vs w.batches touches g.shared cell_same open_same
+        data_cells = data_same touches g.shared cell_same open_same
 
         durable : DurableWordsMatch S B vs w.batches
-        durable = durable_same S Lawful B i w.words vs w.batches touches g.shared cell_same open_same (λ k l u j o q x v. log_same j x)
+        durable = durable_same touches g.shared cell_same open_same (λ k l u j o q x v. log_same j x)

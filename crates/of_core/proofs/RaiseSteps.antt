@@ -3,7 +3,6 @@ use Rattle.std.proofs.Common.{◌≡◌, ℕ, ◌+◌, ◌*◌, ◌<◌, ◌≤�
 use Rattle.std.proofs.lemmas.Bool.{cases_eq, cases_lt, cases_order}
 use Rattle.std.proofs.lemmas.Bool.Decides.{nat_tests}
 use Rattle.std.proofs.lemmas.List.{append-nil}
-use Rattle.of_cell.specs.declared.word.TheConstants.{PAYLOADS}
 use Rattle.of_cell.specs.Words.{pack, seq_of, payload_of}
 use Rattle.of_cell.proofs.Order.{seq_word, pay_word, seq_mono, word_later, word_next, word_eta}
 use Rattle.of_mem.specs.Meaning.{IsSoundMeaning}
@@ -25,9 +24,13 @@ use Rattle.of_core.proofs.Alike.{applies_as, past_to}
 use Rattle.of_core.proofs.Assembling.{assemble_read}
 use Rattle.of_core.proofs.Tries.{resumed_at}
 use Rattle.of_core.proofs.Rounds.{quiet_from}
-use Rattle.of_core.proofs.Stability.{at_stable, loaded_stable, log_in, same_row}
+use Rattle.of_core.proofs.Stability.{entry_in, owner_in as owner_of, at_stable, loaded_stable, log_in, same_row}
 
-module _ (S : Setup) (Lawful : List ℕ → Type 0) (B : TableStart) where
+-- what a raise to a word that the cell has held leaves
+abbrev pub raised : Setup → Moment → ℕ → ℕ → Moment
+raised S w c v = record { words = set w.words (durable_at S c) (max (durable_word S w.words c) v); machines = w.machines; batches = w.batches; reads = w.reads; loaded = w.loaded }
+
+module _ {S : Setup} {Lawful : List ℕ → Type 0} {B : TableStart} where
   -- a raise is no machine's, so it leaves what is true of each
   moves_raise : (ws : List ℕ) (bs : List Batch) (g : WordsMatchHistory S Lawful B ws bs) (c v : ℕ) (e : IsLoaded S B ws bs (c, v)) (i : ℕ) → Guarantees S B i ws bs (vs S Lawful B ws bs g c v e) bs
   moves_raise ws bs g c v e i = record {
@@ -51,14 +54,10 @@ module _ (S : Setup) (Lawful : List ℕ → Type 0) (B : TableStart) where
     low = low S Lawful B ws bs g c v e;
   }
 
-  -- what a raise to a word that the cell has held leaves
-  abbrev pub raised : Moment → ℕ → ℕ → Moment
-  raised w c v = record { words = set w.words (durable_at S c) (max (durable_word S w.words c) v); machines = w.machines; batches = w.batches; reads = w.reads; loaded = w.loaded }
-
-  pub loaded_raise : (w : Moment) → (g : MeetsCore S Lawful B w) → (c v : ℕ) → (e : IsLoaded S B w.words w.batches (c, v)) → (d : ℕ × ℕ) → IsLoaded S B w.words w.batches d → IsLoaded S B (raised w c v).words w.batches d
+  pub loaded_raise : (w : Moment) → (g : MeetsCore S Lawful B w) → (c v : ℕ) → (e : IsLoaded S B w.words w.batches (c, v)) → (d : ℕ × ℕ) → IsLoaded S B w.words w.batches d → IsLoaded S B (raised S w c v).words w.batches d
   loaded_raise w g c v e d l = loaded_stable S Lawful B 0 w.words w.batches (vs S Lawful B w.words w.batches g.shared c v e) w.batches (moves_raise w.words w.batches g.shared c v e 0) g.shared (raise_shared S Lawful B w.words w.batches g.shared c v e).kinds d l
 
-  pub raise_kept : (w : Moment) → MeetsCore S Lawful B w → (c v : ℕ) → IsLoaded S B w.words w.batches (c, v) → MeetsCore S Lawful B (raised w c v)
+  pub raise_kept : (w : Moment) → MeetsCore S Lawful B w → (c v : ℕ) → IsLoaded S B w.words w.batches (c, v) → MeetsCore S Lawful B (raised S w c v)
   raise_kept w g c v e = record {
     shared = raise_shared S Lawful B w.words w.batches g.shared c v e;
     members = g.members;
@@ -67,9 +66,9 @@ module _ (S : Setup) (Lawful : List ℕ → Type 0) (B : TableStart) where
   }
 
   -- the machine m of caller i raises
-  module _ (w : Moment) (g : MeetsCore S Lawful B w) (i : ℕ) (m : CallState) (h : i < S.callers) where
+  module _ {w : Moment} (g : MeetsCore S Lawful B w) {i : ℕ} (h : i < S.callers) (m : CallState) where
     -- what its place says stays behind the raise
-    stays : (p : Place) → HoldsAtPlace S B w.words w.batches i m p → (c v : ℕ) (e : IsLoaded S B w.words w.batches (c, v)) → HoldsAtPlace S B (raised w c v).words w.batches i m p
+    stays : (p : Place) → HoldsAtPlace S B w.words w.batches i m p → (c v : ℕ) (e : IsLoaded S B w.words w.batches (c, v)) → HoldsAtPlace S B (raised S w c v).words w.batches i m p
     stays p a c v e = at_stable S Lawful B (i + 1) w.words w.batches (vs S Lawful B w.words w.batches g.shared c v e) w.batches (moves_raise w.words w.batches g.shared c v e (i + 1)) g.shared i h (λ z. omega arith) m p a
 
     -- a word of one's request
@@ -85,7 +84,7 @@ module _ (S : Setup) (Lawful : List ℕ → Type 0) (B : TableStart) where
 
     -- behind the raise it goes on as n
     goes_on : {rs : List Read} → (p : Place) → HoldsAtPlace S B w.words w.batches i m p → (c v : ℕ) (e : IsLoaded S B w.words w.batches (c, v)) (n : CallState)
-        → (HoldsAtPlace S B (raised w c v).words w.batches i m p → v ≤ durable_word S (raised w c v).words c → (durable_word S (raised w c v).words c ≤ get_or (raised w c v).words c 0) → HoldsAtPlace S B (raised w c v).words w.batches i n n.place)
+        → (HoldsAtPlace S B (raised S w c v).words w.batches i m p → v ≤ durable_word S (raised S w c v).words c → (durable_word S (raised S w c v).words c ≤ get_or (raised S w c v).words c 0) → HoldsAtPlace S B (raised S w c v).words w.batches i n n.place)
         → KeepsGuarantee S Lawful B i w (record { words = set w.words (durable_at S c) (max (durable_word S w.words c) v); machines = set w.machines i n; batches = w.batches ++ []; reads = rs; loaded = w.loaded })
     goes_on p a c v e n f = record {
       core = (assemble_read (raise_kept w g c v e) h n refl (append-nil w.batches)
@@ -118,7 +117,7 @@ module _ (S : Setup) (Lawful : List ℕ → Type 0) (B : TableStart) where
     pub raise_log_kept : (x : ℕ) → HoldsAtPlace S B w.words w.batches i m (RaiseLog x) → KeepsGuarantee S Lawful B i w (after_counted_step S i m (RaiseLog x) w)
     raise_log_kept x a =
         goes_on (RaiseLog x) a (log_at S m.caller x) new loads
-        (take_word_at S m (durable_log S w.words m.caller x) (RaiseLog x)) (λ b u t. to (raised w (log_at S m.caller x) new).words (nat_lt (x + 1) (length (log_words m.log))) refl b u t)
+        (take_word_at S m (durable_log S w.words m.caller x) (RaiseLog x)) (λ b u t. to (raised S w (log_at S m.caller x) new).words (nat_lt (x + 1) (length (log_words m.log))) refl b u t)
       where
         new : ℕ
         new = pack (m.seq + 1) (get_or (log_words m.log) x 0)
@@ -185,7 +184,7 @@ module _ (S : Setup) (Lawful : List ℕ → Type 0) (B : TableStart) where
     pub raise_request_kept : HoldsAtPlace S B w.words w.batches i m RaiseRequest → KeepsGuarantee S Lawful B i w (after_counted_step S i m RaiseRequest w)
     raise_request_kept a =
         goes_on RaiseRequest a (request_at m.caller) new (subst (λ (j : ℕ). IsLoaded S B w.words w.batches (request_at j, new)) (sym ci) (req_loaded i new h (record { low = omega (arith, a.asks); held = is_open_word })))
-        (take_word_at S m (durable_request S w.words m.caller) RaiseRequest) (λ b u t. to (raised w (request_at m.caller) new).words b u t)
+        (take_word_at S m (durable_request S w.words m.caller) RaiseRequest) (λ b u t. to (raised S w (request_at m.caller) new).words b u t)
       where
         new : ℕ
         new = pack (m.seq + 1) 0
@@ -213,13 +212,13 @@ module _ (S : Setup) (Lawful : List ℕ → Type 0) (B : TableStart) where
 
     pub raise_current_kept : HoldsAtPlace S B w.words w.batches i m RaiseCurrent → KeepsGuarantee S Lawful B i w (after_counted_step S i m RaiseCurrent w)
     raise_current_kept a =
-        goes_on RaiseCurrent a 0 new loads (take_word_at S m (durable_word S w.words 0) RaiseCurrent) (λ b u t. to (raised w 0 new).words (nat_lt 0 (length m.log)) refl b u)
+        goes_on RaiseCurrent a 0 new loads (take_word_at S m (durable_word S w.words 0) RaiseCurrent) (λ b u t. to (raised S w 0 new).words (nat_lt 0 (length m.log)) refl b u)
       where
         new : ℕ
         new = pack m.seq m.owner
 
         owner_in : m.owner < S.callers
-        owner_in = rw (← a.committed) (g.shared.counted.owners m.seq a.after a.upto)
+        owner_in = owner_of g.shared a
 
         new_seq : seq_of new ≡ m.seq
         new_seq = seq_word m.seq m.owner (omega (arith, owner_in, g.shared.few))
@@ -253,13 +252,13 @@ module _ (S : Setup) (Lawful : List ℕ → Type 0) (B : TableStart) where
 
     pub raise_target_kept : (j f : ℕ) → HoldsAtPlace S B w.words w.batches i m (RaiseTarget j f) → KeepsGuarantee S Lawful B i w (after_counted_step S i m (RaiseTarget j f) w)
     raise_target_kept j f a =
-        goes_on (RaiseTarget j f) a (data_at S x) f loads (take_word_at S m (durable_cell S w.words x) (RaiseTarget j f)) (λ b u t. to (raised w (data_at S x) f).words (nat_lt (j + 1) (length m.log)) refl b u)
+        goes_on (RaiseTarget j f) a (data_at S x) f loads (take_word_at S m (durable_cell S w.words x) (RaiseTarget j f)) (λ b u t. to (raised S w (data_at S x) f).words (nat_lt (j + 1) (length m.log)) refl b u)
       where
         x : ℕ
         x = (log_entry m j).0
 
         x_in : x < S.cells
-        x_in = let t = a.entry.applies.log.each j a.entry.more in (subst (λ (e : ℕ × ℕ). (e.0 < S.cells) × (e.1 < PAYLOADS)) t.2 ((g.shared.counted.logs m.seq a.entry.applies.after a.entry.applies.upto).entries t.0 (0, 0) t.1)).0
+        x_in = (entry_in g.shared a.entry.applies j a.entry.more).0
 
         loads : IsLoaded S B w.words w.batches (data_at S x, f)
         loads = record {
@@ -287,9 +286,9 @@ module _ (S : Setup) (Lawful : List ℕ → Type 0) (B : TableStart) where
                 whole v = omega (arith, k.entry.more)
 
   -- behind the last raise of an apply a helper goes on with its round, and an owner's call is answered
-  left_close : (w : Moment) (g : MeetsCore S Lawful B w) (i : ℕ) (m : CallState) (h : i < S.callers) → IsSoundMeaning S.meaning Lawful (first_operation_cell S) S.cells → IsApplying S B w.words w.batches i m (length m.log) → m.seq ≤ durable_seq S w.words → pack m.seq 0 < request_of w.words m.owner → pack m.seq 1 ≤ durable_request S w.words m.owner
+  left_close : {w : Moment} (g : MeetsCore S Lawful B w) {i : ℕ} (h : i < S.callers) (m : CallState) → IsSoundMeaning S.meaning Lawful (first_operation_cell S) S.cells → IsApplying S B w.words w.batches i m (length m.log) → m.seq ≤ durable_seq S w.words → pack m.seq 0 < request_of w.words m.owner → pack m.seq 1 ≤ durable_request S w.words m.owner
       → (b d : Bool) → m.helps ≡ b → (m.rounds == 0) ≡ d → HoldsAtPlace S B w.words w.batches i (after_raise_closed S m b d) (after_raise_closed S m b d).place
-  left_close w g i m h sound a top above high b d eb ed = go b eb (subst (λ (x : Bool). AppliesAs S B w.words w.batches i m x) eb a.mode)
+  left_close {w} g {i} h m sound a top above high b d eb ed = go b eb (subst (λ (x : Bool). AppliesAs S B w.words w.batches i m x) eb a.mode)
     where
       go : (b : Bool) → m.helps ≡ b → AppliesAs S B w.words w.batches i m b → HoldsAtPlace S B w.words w.batches i (after_raise_closed S m b d) (after_raise_closed S m b d).place
       go true e q = resumed_at g h m sound q.helper q.current_word q.calm (quiet_from g h m.seq m.owner q.current_word (λ l z. omega arith)) d ed
@@ -329,13 +328,13 @@ module _ (S : Setup) (Lawful : List ℕ → Type 0) (B : TableStart) where
               shut k l u o (inr (inl z)) = omega (arith, closed, word_later k 0 (pack m.seq 1) (omega arith) (omega (arith, seq_word m.seq 1 (omega arith))))
               shut k l u o (inr (inr z)) = absurd (q.unowned k z u o)
 
-  pub raise_closed_kept : (w : Moment) (g : MeetsCore S Lawful B w) (i : ℕ) (m : CallState) (h : i < S.callers) → IsSoundMeaning S.meaning Lawful (first_operation_cell S) S.cells → HoldsAtPlace S B w.words w.batches i m RaiseClosed → KeepsGuarantee S Lawful B i w (after_counted_step S i m RaiseClosed w)
-  raise_closed_kept w g i m h sound a =
-      let g1 : MeetsCore S Lawful B (raised w (request_at m.owner) new) = raise_kept w g (request_at m.owner) new loads in
-      let b : HoldsAtPlace S B (raised w (request_at m.owner) new).words w.batches i m RaiseClosed = stays w g i m h RaiseClosed a (request_at m.owner) new loads in
+  pub raise_closed_kept : {w : Moment} (g : MeetsCore S Lawful B w) {i : ℕ} (h : i < S.callers) (m : CallState) → IsSoundMeaning S.meaning Lawful (first_operation_cell S) S.cells → HoldsAtPlace S B w.words w.batches i m RaiseClosed → KeepsGuarantee S Lawful B i w (after_counted_step S i m RaiseClosed w)
+  raise_closed_kept {w} g {i} h m sound a =
+      let g1 : MeetsCore S Lawful B (raised S w (request_at m.owner) new) = raise_kept w g (request_at m.owner) new loads in
+      let b : HoldsAtPlace S B (raised S w (request_at m.owner) new).words w.batches i m RaiseClosed = stays g h m RaiseClosed a (request_at m.owner) new loads in
       record {
         core = (assemble_read g1 h (after_raise_closed S m m.helps (m.rounds == 0)) refl (append-nil w.batches)
-            (left_close (raised w (request_at m.owner) new) g1 i m h sound b.applies b.durable b.closed (omega (arith, here S Lawful B w.words w.batches g.shared (request_at m.owner) new loads)) m.helps (m.rounds == 0) refl refl)).core;
+            (left_close g1 h m sound b.applies b.durable b.closed (omega (arith, here S Lawful B w.words w.batches g.shared (request_at m.owner) new loads)) m.helps (m.rounds == 0) refl refl)).core;
         moves = rw (append-nil w.batches) (moves_raise w.words w.batches g.shared (request_at m.owner) new loads i);
       }
     where
@@ -343,7 +342,7 @@ module _ (S : Setup) (Lawful : List ℕ → Type 0) (B : TableStart) where
       new = pack m.seq 1
 
       owner_in : m.owner < S.callers
-      owner_in = rw (← a.applies.committed) (g.shared.counted.owners m.seq a.applies.after a.applies.upto)
+      owner_in = owner_of g.shared a.applies
 
       loads : IsLoaded S B w.words w.batches (request_at m.owner, new)
       loads = record {

@@ -2,7 +2,6 @@
 use Rattle.std.proofs.Common.{◌≡◌, ℕ, zero, suc, ◌+◌, ◌-◌, ◌<◌, ◌≤◌, ◌⊎◌, inl, inr, List, length, get_or, Bool, true, false, ◌*◌, refl, sym, ◌∙◌, ap, subst, arith, Option, Some, None}
 use Rattle.std.specs.List.{All}
 use Rattle.std.proofs.lemmas.Bool.{cases_lt, cases_order}
-use Rattle.of_cell.specs.declared.word.TheConstants.{PAYLOADS}
 use Rattle.of_cell.proofs.Order.{seq_word, word_inj, seq_mono}
 use Rattle.of_cell.specs.Words.{pack, seq_of, payload_of}
 use Rattle.of_mem.specs.declared.work.RawReply.{RawReply}
@@ -14,7 +13,7 @@ use Rattle.of_core.specs.Table.{Setup, cell_count, request_at, data_at, log_at, 
 use Rattle.of_core.specs.Machine.{CallState, Call, log_entry, log_words}
 use Rattle.of_core.specs.TableMoment.{Batch, TableStart}
 use Rattle.of_core.specs.History.{state_after, batch_at, last_ticket_by, ticket_in_state}
-use Rattle.of_core.specs.WordsMatch.{AnnouncementsAreServed, WordsHaveTheirKind, IsRequest, IsLogWord, WordsMatchHistory, WasHeldByCell}
+use Rattle.of_core.specs.WordsMatch.{IsEntry, AnnouncementsAreServed, WordsHaveTheirKind, IsRequest, IsLogWord, WordsMatchHistory, WasHeldByCell}
 use Rattle.of_core.specs.Rounds.{KnowsOwnRequest, WasCurrent, IsInTry, MayHelp, KnowsClosedState, IsAnnounced, IsUnannounced, IsInRound, IsPastRequest, IsPastOwnTicket, HasOneOperation, AnnouncesNothingNew, HasNothingUnderWay}
 use Rattle.of_core.specs.Scan.{HasScannedUpTo, HasLoadedAnnouncement, HasLoadedScript, WasTakenByScan, IsAnnouncedCall}
 use Rattle.of_core.specs.Transaction.{IsHelping, IsApplying, AppliesAs, OwnsTransaction, IsStoringLog, IsCopyingLog, HasStoredLog, HasClosedDurably}
@@ -63,6 +62,14 @@ same_row j i k y x l u e = go (cases_order j i)
     go (inl q) = q
     go (inr (inl q)) = absurd (omega (arith, lower j i q))
     go (inr (inr q)) = absurd (omega (arith, lower i j q))
+
+-- the entries that a machine applies are of its batch's log, and its owner is a caller
+module _ {S : Setup} {Lawful : List ℕ → Type 0} {B : TableStart} {ws : List ℕ} {bs : List Batch} (shared : WordsMatchHistory S Lawful B ws bs) {i n : ℕ} {m : CallState} (a : IsApplying S B ws bs i m n) where
+  pub entry_in : (k : ℕ) → k < length m.log → IsEntry S (log_entry m k)
+  entry_in k l = let t = a.log.each k l in subst (λ (e : ℕ × ℕ). IsEntry S e) t.2 ((shared.counted.logs m.seq a.after a.upto).entries t.0 (0, 0) t.1)
+
+  pub owner_in : m.owner < S.callers
+  owner_in = rw (← a.committed) (shared.counted.owners m.seq a.after a.upto)
 
 module _ (S : Setup) (Lawful : List ℕ → Type 0) (B : TableStart) (i : ℕ) (ws : List ℕ) (bs : List Batch) (vs : List ℕ) (cs : List Batch) (v : Guarantees S B i ws bs vs cs) (shared : WordsMatchHistory S Lawful B ws bs) where
   grows : committed_seq ws ≤ committed_seq vs
@@ -443,9 +450,6 @@ module _ (S : Setup) (Lawful : List ℕ → Type 0) (B : TableStart) (i : ℕ) (
     mode_stable m true l u h = helping_stable m h
     mode_stable m false l u h = owns_stable m l u h
 
-    entry_in : (m : CallState) (n : ℕ) → IsApplying S B ws bs j m n → (k : ℕ) → k < length m.log → (log_entry m k).0 < S.cells
-    entry_in m n h k l = let t = h.log.each k l in (subst (λ (e : ℕ × ℕ). (e.0 < S.cells) × (e.1 < PAYLOADS)) t.2 ((shared.counted.logs m.seq h.after h.upto).entries t.0 (0, 0) t.1)).0
-
     applies_stable : (m : CallState) (n : ℕ) → n ≤ length m.log → IsApplying S B ws bs j m n → IsApplying S B vs cs j m n
     applies_stable m n fits h = let same = v.batches m.seq h.after h.upto in record {
       mode = mode_stable m m.helps h.after h.upto h.mode;
@@ -453,7 +457,7 @@ module _ (S : Setup) (Lawful : List ℕ → Type 0) (B : TableStart) (i : ℕ) (
       upto = omega (arith, h.upto, grows);
       committed = rw same h.committed;
       log = rw same h.log;
-      done = λ k l. let e = entry_in m n h k (omega arith) in (
+      done = λ k l. let e : (log_entry m k).0 < S.cells = (entry_in shared h k (omega arith)).0 in (
         omega (arith, seq_mono (data_word S ws (log_entry m k).0) (data_word S vs (log_entry m k).0) (cell_up (log_entry m k).0 e), (h.done k l).0),
         omega (arith, seq_mono (durable_cell S ws (log_entry m k).0) (durable_cell S vs (log_entry m k).0) (v.durs (data_at S (log_entry m k).0) (omega arith)), (h.done k l).1),
       );
@@ -598,7 +602,7 @@ module _ (S : Setup) (Lawful : List ℕ → Type 0) (B : TableStart) (i : ℕ) (
         }
     at_stable m RaiseCurrent h = applies_stable m 0 (omega arith) h
     at_stable m (LoadTarget n) h = entry_stable m n h
-    at_stable m (ExchangeTarget n f) h = record { entry = entry_stable m n h.entry; older = h.older; found = go h.found (v.changes (log_entry m n).0 (entry_in m n h.entry.applies n h.entry.more)) }
+    at_stable m (ExchangeTarget n f) h = record { entry = entry_stable m n h.entry; older = h.older; found = go h.found (v.changes (log_entry m n).0 (entry_in shared h.entry.applies n h.entry.more).0) }
       where
         go : (data_word S ws (log_entry m n).0 ≡ f) ⊎ (m.seq ≤ seq_of (data_word S ws (log_entry m n).0)) → (data_word S vs (log_entry m n).0 ≡ data_word S ws (log_entry m n).0) ⊎ (committed_seq ws ≤ seq_of (data_word S vs (log_entry m n).0))
             → (data_word S vs (log_entry m n).0 ≡ f) ⊎ (m.seq ≤ seq_of (data_word S vs (log_entry m n).0))
@@ -607,17 +611,17 @@ module _ (S : Setup) (Lawful : List ℕ → Type 0) (B : TableStart) (i : ℕ) (
         go x (inr y) = inr (omega (arith, h.entry.applies.upto))
     at_stable m (ReloadTarget n) h = record {
       entry = entry_stable m n h.entry;
-      newer = omega (arith, h.newer, seq_mono (data_word S ws (log_entry m n).0) (data_word S vs (log_entry m n).0) (cell_up (log_entry m n).0 (entry_in m n h.entry.applies n h.entry.more)));
+      newer = omega (arith, h.newer, seq_mono (data_word S ws (log_entry m n).0) (data_word S vs (log_entry m n).0) (cell_up (log_entry m n).0 (entry_in shared h.entry.applies n h.entry.more).0));
     }
     at_stable m (RaiseTarget n f) h = record {
       entry = entry_stable m n h.entry;
       newer = h.newer;
-      low = omega (arith, h.low, cell_up (log_entry m n).0 (entry_in m n h.entry.applies n h.entry.more));
+      low = omega (arith, h.low, cell_up (log_entry m n).0 (entry_in shared h.entry.applies n h.entry.more).0);
       held = held_stable (log_entry m n).0 f h.held;
     }
     at_stable m CloseRequest h = record { applies = applies_stable m (length m.log) (omega arith) h.applies; durable = omega (arith, h.durable, risen_up) }
     at_stable m RaiseClosed h =
-        let o : m.owner < S.callers = rw (← h.applies.committed) (shared.counted.owners m.seq h.applies.after h.applies.upto) in record {
+        let o : m.owner < S.callers = owner_in shared h.applies in record {
           applies = applies_stable m (length m.log) (omega arith) h.applies;
           durable = omega (arith, h.durable, risen_up);
           closed = omega (arith, h.closed, req_up m.owner o);

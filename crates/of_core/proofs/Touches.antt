@@ -25,7 +25,7 @@ module _ {B : TableStart} {ws vs : List ℕ} (stays : IsLastOpen B ws → IsLast
   cells_open (inl p) = inl p
   cells_open (inr p) = inr (stays p.0, p.1, p.2)
 
-module _ (S : Setup) (Lawful : List ℕ → Type 0) (B : TableStart) where
+module _ (S : Setup) (B : TableStart) where
   -- the last commit stays, cells rise, and no durable word changes
   pub record Touches (i : ℕ) (ws vs : List ℕ) (bs : List Batch) : Type 0 where
     pub room : length vs ≡ length ws
@@ -39,7 +39,8 @@ module _ (S : Setup) (Lawful : List ℕ → Type 0) (B : TableStart) where
     pub script_of : (j x : ℕ) → j < S.callers → x < S.instrs + 1 → (script_word S vs j x ≡ script_word S ws j x) ⊎ ((j ≡ i) × AnnouncesNothingNew S B ws bs j)
     pub announcements : (j : ℕ) → j < S.callers → (announcement_of S vs j ≡ announcement_of S ws j) ⊎ ((j ≡ i) × ((k : ℕ) → B.seq < k → k ≤ committed_seq ws → (batch_at B bs k).announcements j ≡ announcement_of S vs j → ⊥))
 
-  module _ (i : ℕ) (ws vs : List ℕ) (bs : List Batch) (t : Touches i ws vs bs) (s : WordsMatchHistory S Lawful B ws bs) where
+module _ {S : Setup} {Lawful : List ℕ → Type 0} {B : TableStart} where
+  module _ {i : ℕ} {ws vs : List ℕ} {bs : List Batch} (t : Touches S B i ws vs bs) (s : WordsMatchHistory S Lawful B ws bs) where
     pub last_same : committed_seq vs ≡ committed_seq ws
     last_same = ap seq_of t.current_word
 
@@ -221,7 +222,7 @@ module _ (S : Setup) (Lawful : List ℕ → Type 0) (B : TableStart) where
         met = λ after c l u z. rw (behind c S.instrs) (o.met after c l u (z ∙ behind c S.instrs));
       }
 
-  module _ (w : Moment) (g : MeetsCore S Lawful B w) where
+  module _ {w : Moment} (g : MeetsCore S Lawful B w) where
     -- what a data cell holds it has held
     pub held_now : (a : ℕ) → a < S.cells → WasHeldByCell B w.words w.batches a (data_word S w.words a)
     held_now a l = go (g.shared.data_cells.each a l)
