@@ -65,7 +65,7 @@ module _ (S : Setup) (Lawful : List ℕ → Type 0) (m : CallState) (found : ℕ
   helper_words (inr t) = t.fresh.some
 
   mode_words : (b : Bool) → b ≡ true → AppliesAs S h.start h.world.words h.world.batches h.caller m b → 1 ≤ length m.op
-  mode_words true e p = helper_words p.0
+  mode_words true e p = helper_words p.helper
   mode_words false e p = absurd (let z : ◌≡◌ {A = Bool} false true = e in cc)
 
   pub request_words : m.place ≡ TryRequest → 1 ≤ length m.op
@@ -75,14 +75,14 @@ module _ (S : Setup) (Lawful : List ℕ → Type 0) (m : CallState) (found : ℕ
   cell_words a q = (place_at (TryCell a) q).trying.fresh.some
 
   pub look_words : m.place ≡ LookAgain → 1 ≤ length m.op
-  look_words q = helper_words (place_at LookAgain q).copies.helper
+  look_words q = helper_words (place_at LookAgain q).copies.helping.helper
 
   pub closed_words : m.place ≡ RaiseClosed → m.helps ≡ true → 1 ≤ length m.op
   closed_words q e = mode_words m.helps e (place_at RaiseClosed q).applies.mode
 
   -- the log that is helped with
   pub copy_count : (x : ℕ) → m.place ≡ CopyLog x → get_or (with_log_word_copied m found) 0 0 ≤ S.cells
-  copy_count x q = rw (found_at (CopyLog x) q) (copied_count S Lawful h.start h.world h.good.core h.caller m h.in_range m x (place_at (CopyLog x) q).copies)
+  copy_count x q = rw (found_at (CopyLog x) q) (copied_count h.good.core h.in_range m x (place_at (CopyLog x) q).copies)
 
   pub look_log : m.place ≡ LookAgain → found ≡ pack m.seq 0 → (es : List (ℕ × ℕ)) × (m.copy ≡ log_words es) × IsLog S es
   look_log q e =
@@ -91,11 +91,11 @@ module _ (S : Setup) (Lawful : List ℕ → Type 0) (m : CallState) (found : ℕ
       let b = a.copies.copied (sym f ∙ e) in
       let es : List (ℕ × ℕ) = (batch_at h.start h.world.batches m.seq).log in
       let whole : length m.copy ≡ length (log_words es) = a.whole (sym f ∙ e) in
-      (es, b.1 ∙ take_all (length m.copy) (log_words es) (omega (arith, whole)), h.good.core.shared.counted.logs m.seq a.copies.after a.copies.current_word.upto)
+      (es, b.1 ∙ take_all (length m.copy) (log_words es) (omega (arith, whole)), h.good.core.shared.counted.logs m.seq a.copies.after a.copies.helping.current_word.upto)
 
   -- the state of a sequence that stands
   numbers_length : (s : ℕ) → h.start.seq ≤ s → s ≤ h.start.seq + length h.world.batches → length (numbers_after h.start h.world.batches s) ≡ S.cells
-  numbers_length s l u = length-map (state_after h.start h.world.batches s) payload_of ∙ state_length S h.start h.world.batches h.good.core.shared.start (logs_of S Lawful h.start h.world h.good.core) s l u
+  numbers_length s l u = length-map (state_after h.start h.world.batches s) payload_of ∙ state_length S h.start h.world.batches h.good.core.shared.start (logs_of h.good.core) s l u
 
   -- what is known behind a load in a try agrees with its state
   pub try_agrees : (x : ℕ) → m.place ≡ TryCell x → seq_of found ≤ m.seq → (xs : List ℕ) × (length xs ≡ S.cells) × Lawful xs × Agrees (with_cell_known S m x found) xs
@@ -107,7 +107,7 @@ module _ (S : Setup) (Lawful : List ℕ → Type 0) (m : CallState) (found : ℕ
         numbers_after h.start h.world.batches m.seq,
         numbers_length m.seq a.current_word.from upto,
         h.good.core.shared.stands.lawful m.seq a.current_word.from upto,
-        rw f (watch_more S Lawful h.start h.world h.good.core h.caller m h.in_range m.seq m.owner m a.current_word a.state x a.in_cells fresh).agrees,
+        rw f (watch_more h.good.core h.in_range m.seq m.owner m a.current_word a.state x a.in_cells fresh).agrees,
       )
 
   -- the announcement of the caller that the scan has come to
@@ -159,7 +159,7 @@ module _ (S : Setup) (Lawful : List ℕ → Type 0) (m : CallState) (found : ℕ
       → (xs : List ℕ) × (length xs ≡ S.cells) × Lawful xs × Agrees (overlaid n.known n.log) xs
   scan_agrees sound n p o =
       let xs : List ℕ = numbers_after h.start h.world.batches n.seq in
-      let upto : n.seq ≤ h.start.seq + length h.world.batches = at_risen S Lawful h.start h.world h.good.core h.caller m h.in_range n p.looks in
+      let upto : n.seq ≤ h.start.seq + length h.world.batches = at_risen h.good.core h.in_range n p.looks in
       let size : length xs ≡ S.cells = numbers_length n.seq p.looks.round.from upto in
       let lawful : Lawful xs = h.good.core.shared.stands.lawful n.seq p.looks.round.from upto in (
         with_writes_in xs n.log,
@@ -176,4 +176,4 @@ module _ (S : Setup) (Lawful : List ℕ → Type 0) (m : CallState) (found : ℕ
       let f : found ≡ data_word S h.world.words x = found_at (LoadCell x) q in
       let a = place_at (LoadCell x) q in
       let fresh : seq_of (data_word S h.world.words x) ≤ m.seq = rw (← f) l in
-      rw f (scan_agrees sound (record m { known = with_cell_known S m x (data_word S h.world.words x) }) (learn_past S Lawful h.start h.world h.good.core h.caller m h.in_range m a.scanning.past x a.in_cells fresh) a.scanning.scan)
+      rw f (scan_agrees sound (record m { known = with_cell_known S m x (data_word S h.world.words x) }) (learn_past h.good.core h.in_range m a.scanning.past x a.in_cells fresh) a.scanning.scan)

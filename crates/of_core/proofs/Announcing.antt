@@ -1,5 +1,5 @@
 -- A caller stores its script words and its announcement.
-use Rattle.std.proofs.Common.{◌≡◌, ℕ, zero, suc, ◌+◌, ◌*◌, ◌-◌, ◌<◌, ◌≤◌, ◌⊎◌, inl, inr, List, [], ◌∷◌, ◌++◌, length, get_or, set, take, refl, sym, ◌∙◌, ap, subst, arith, length-set, Bool, true, false, nat_lt, max}
+use Rattle.std.proofs.Common.{◌≡◌, ℕ, zero, suc, ◌+◌, ◌*◌, ◌<◌, ◌≤◌, ◌⊎◌, inl, inr, List, [], ◌∷◌, ◌++◌, length, get_or, set, take, refl, sym, ◌∙◌, ap, subst, arith, length-set, Bool, true, false, nat_lt, max}
 use Rattle.std.proofs.lemmas.Bool.{cases_eq}
 use Rattle.std.proofs.lemmas.Bool.Decides.{nat_tests}
 use Rattle.std.proofs.lemmas.List.{append-nil, take_more, take_all, get_or-set_same, get_or-set_other}
@@ -7,11 +7,11 @@ use Rattle.of_cell.specs.declared.word.TheConstants.{PAYLOADS}
 use Rattle.of_cell.specs.Words.{pack, seq_of, payload_of}
 use Rattle.of_cell.proofs.Order.{seq_word, pay_word}
 use Rattle.of_core.specs.declared.place.Place.TheVariants.{StoreScript, StoreAnnouncement}
-use Rattle.of_core.specs.Table.{Setup, cell_count, durable_at, request_at, log_at, script_word_at, script_words_of, script_word, announcement_of, current_word, request_of, data_word, log_word_of, durable_word, committed_seq, committed_owner, durable_seq}
+use Rattle.of_core.specs.Table.{Setup, cell_count, durable_at, request_at, log_at, script_word_at, script_words_of, script_word, announcement_of, current_word, request_of, data_word, log_word_of, durable_word, committed_seq}
 use Rattle.of_core.specs.Machine.{CallState, Call}
 use Rattle.of_core.specs.Steps.{after_store_script, take_word_at}
 use Rattle.of_core.specs.TableMoment.{Read, Moment, TableStart, after_counted_step}
-use Rattle.of_core.specs.History.{batch_at, data_word_after, last_ticket_by}
+use Rattle.of_core.specs.History.{batch_at, last_ticket_by}
 use Rattle.of_core.specs.WordsMatch.{IsRequest, AnnouncementsAreServed, IsLastOpen, DataCellsMatchState, DurableWordsMatch}
 use Rattle.of_core.specs.Rounds.{KnowsOwnRequest, IsUnannounced, HasNothingUnderWay, AnnouncesNothingNew}
 use Rattle.of_core.specs.Invariant.{HoldsAtPlace, MeetsCore}
@@ -21,13 +21,13 @@ use Rattle.of_core.proofs.Stability.{log_in, heard_as, same_row}
 use Rattle.of_core.proofs.Assembling.{assemble}
 use Rattle.of_core.proofs.Tests.{not_newer}
 use Rattle.of_core.proofs.Tickets.{ticket_upto, tickets_grow}
-use Rattle.of_core.proofs.Touches.{Touches, moves_of, shared_of, durable_of, kinds_same}
+use Rattle.of_core.proofs.Touches.{Touches, moves_of, shared_of, open_of, data_same, durable_same, kinds_same}
 
 said_below : (S : Setup) (ws vs : List ℕ) (c n : ℕ) → ((x : ℕ) → x < n → script_word S vs c x ≡ script_word S ws c x) → script_words_of S vs c n ≡ script_words_of S ws c n
 said_below S ws vs c zero f = refl
 said_below S ws vs c (suc n) f = rw (said_below S ws vs c n (λ x l. f x (omega arith)), f n (omega arith)) refl
 
-module _ (S : Setup) (Lawful : List ℕ → Type 0) (B : TableStart) (w : Moment) (g : MeetsCore S Lawful B w) (i : ℕ) (m : CallState) (h : i < S.callers) where
+module _ {S : Setup} {Lawful : List ℕ → Type 0} {B : TableStart} {w : Moment} (g : MeetsCore S Lawful B w) {i : ℕ} (h : i < S.callers) (m : CallState) where
   -- word x of the machine's script row becomes v
   module _ (ci : m.caller ≡ i) (x v : ℕ) (x_in : x < S.instrs + 1) (quieted : AnnouncesNothingNew S B w.words w.batches i) where
     abbrev vs : List ℕ
@@ -61,7 +61,7 @@ module _ (S : Setup) (Lawful : List ℕ → Type 0) (B : TableStart) (w : Moment
     log_same : (j y : ℕ) → j < S.callers → y < 2 * S.cells + 1 → log_word_of S vs j y ≡ log_word_of S w.words j y
     log_same j y l u = below (log_at S j y) (omega (arith, log_in S j y l u))
 
-    touches : ((j : ℕ) → j < S.callers → (announcement_of S vs j ≡ announcement_of S w.words j) ⊎ ((j ≡ i) × ((k : ℕ) → B.seq < k → k ≤ committed_seq w.words → (batch_at B w.batches k).announcements j ≡ announcement_of S vs j → ⊥))) → Touches S Lawful B i w.words vs w.batches
+    touches : ((j : ℕ) → j < S.callers → (announcement_of S vs j ≡ announcement_of S w.words j) ⊎ ((j ≡ i) × ((k : ℕ) → B.seq < k → k ≤ committed_seq w.words → (batch_at B w.batches k).announcements j ≡ announcement_of S vs j → ⊥))) → Touches S B i w.words vs w.batches
     touches announcements = record {
       room = length-set w.words (script_word_at S m.caller x) v;
       current_word = current_same;
@@ -80,28 +80,15 @@ module _ (S : Setup) (Lawful : List ℕ → Type 0) (B : TableStart) (w : Moment
         says j y u (inr q) r = inl (others j y u (λ a b. q a))
         says j y u q (inr r) = inl (others j y u (λ a b. r b))
 
-    open_same : IsLastOpen B w.words → IsLastOpen B vs
-    open_same o = record { any = rw current_same o.any; asks = rw current_same (req_same (committed_owner w.words) g.shared.counted.owner_in ∙ o.asks) }
+    module _ (t : Touches S B i w.words vs w.batches) where
+      open_same : IsLastOpen B w.words → IsLastOpen B vs
+      open_same = open_of t g.shared req_same
 
-    data_cells : DataCellsMatchState S B vs w.batches
-    data_cells = record { each = λ y l. each y l (g.shared.data_cells.each y l) }
-      where
-        each : (y : ℕ) → y < S.cells → (data_word S w.words y ≡ data_word_after B w.batches (committed_seq w.words) y) ⊎ (IsLastOpen B w.words × (data_word S w.words y ≡ data_word_after B w.batches (committed_seq w.words - 1) y))
-            → (data_word S vs y ≡ data_word_after B w.batches (committed_seq vs) y) ⊎ (IsLastOpen B vs × (data_word S vs y ≡ data_word_after B w.batches (committed_seq vs - 1) y))
-        each y l (inl q) = inl (rw current_same (cell_same y l ∙ q))
-        each y l (inr (o, q)) = inr (open_same o, rw current_same (cell_same y l ∙ q))
+      data_cells : DataCellsMatchState S B vs w.batches
+      data_cells = data_same t g.shared cell_same open_same
 
-    durable : Touches S Lawful B i w.words vs w.batches → DurableWordsMatch S B vs w.batches
-    durable t = durable_of S Lawful B i w.words vs w.batches t g.shared (λ y l. rw (cell_same y l) (g.shared.durable.fresh y l)) step (λ y l. cells (g.shared.durable.cells y l))
-        (λ k l u j o q y v. log_same j y (rw (← o) (g.shared.counted.owners k l u)) v)
-      where
-        step : (committed_seq w.words ≡ durable_seq S w.words) ⊎ ((committed_seq w.words ≡ durable_seq S w.words + 1) × IsLastOpen B w.words) → (committed_seq w.words ≡ durable_seq S w.words) ⊎ ((committed_seq w.words ≡ durable_seq S w.words + 1) × IsLastOpen B vs)
-        step (inl q) = inl q
-        step (inr q) = inr (q.0, open_same q.1)
-
-        cells : {p q r : Type 0} → p ⊎ (IsLastOpen B w.words × q × r) → p ⊎ (IsLastOpen B vs × q × r)
-        cells (inl d) = inl d
-        cells (inr d) = inr (open_same d.0, d.1, d.2)
+      durable : DurableWordsMatch S B vs w.batches
+      durable = durable_same t g.shared cell_same open_same (λ k l u j o q y v. log_same j y (rw (← o) (g.shared.counted.owners k l u)) v)
 
     calm : HasNothingUnderWay S B w.words w.batches i (committed_seq w.words) → HasNothingUnderWay S B vs w.batches i (committed_seq vs)
     calm c = record {
@@ -112,14 +99,14 @@ module _ (S : Setup) (Lawful : List ℕ → Type 0) (B : TableStart) (w : Moment
     }
 
     keeps : (u : ℕ) → KnowsOwnRequest B w.words w.batches i u → KnowsOwnRequest B vs w.batches i u
-    keeps u k = (rw (req_same i h) k.0, λ l. rw current_same (k.1 l))
+    keeps u k = record { low = rw (req_same i h) k.low; held = λ l. rw current_same (k.held l) }
 
     -- the rest of what has to be shown
-    stored : {rs : List Read} → (t : Touches S Lawful B i w.words vs w.batches) → AnnouncementsAreServed S B vs w.batches → (n : CallState) → HoldsAtPlace S B vs w.batches i n n.place
+    stored : {rs : List Read} → (t : Touches S B i w.words vs w.batches) → AnnouncementsAreServed S B vs w.batches → (n : CallState) → HoldsAtPlace S B vs w.batches i n n.place
         → KeepsGuarantee S Lawful B i w (record { words = vs; machines = set w.machines i n; batches = w.batches ++ []; reads = rs; loaded = w.loaded })
     stored t hd n a =
         rw (append-nil w.batches)
-        (assemble S Lawful B w g i h vs w.batches n (moves_of S Lawful B i w.words vs w.batches t g.shared) (shared_of S Lawful B i w.words vs w.batches t g.shared data_cells (durable t) hd (kinds_same S Lawful B i w.words vs w.batches t g.shared (λ j l. subst (λ (y : ℕ). IsRequest B w.words w.batches j y) (sym (req_same j l)) (g.shared.kinds.requests j l)) log_same)) a)
+        (assemble g h vs w.batches n (moves_of t g.shared) (shared_of t g.shared (data_cells t) (durable t) hd (kinds_same t g.shared (λ j l. subst (λ (y : ℕ). IsRequest B w.words w.batches j y) (sym (req_same j l)) (g.shared.kinds.requests j l)) log_same)) a)
 
   pub store_script_kept : (j : ℕ) → HoldsAtPlace S B w.words w.batches i m (StoreScript j) → KeepsGuarantee S Lawful B i w (after_counted_step S i m (StoreScript j) w)
   store_script_kept j a = stored ci j v j_in f.quieted t heard (after_store_script m j (nat_lt (j + 1) (length m.op))) (go (nat_lt (j + 1) (length m.op)) refl)
@@ -142,7 +129,7 @@ module _ (S : Setup) (Lawful : List ℕ → Type 0) (B : TableStart) (w : Moment
       ann_same : (c : ℕ) → announcement_of S us c ≡ announcement_of S w.words c
       ann_same c = others ci j v j_in f.quieted c S.instrs (omega arith) (λ q r. omega (arith, a.more, f.words))
 
-      t : Touches S Lawful B i w.words us w.batches
+      t : Touches S B i w.words us w.batches
       t = touches ci j v j_in f.quieted (λ c l. inl (ann_same c))
 
       last_same : committed_seq us ≡ committed_seq w.words
@@ -247,7 +234,7 @@ module _ (S : Setup) (Lawful : List ℕ → Type 0) (B : TableStart) (w : Moment
           let y : (batch_at B w.batches k).announcements i ≡ announcement_of S us i = rw q at e in
           omega (arith, f.newer, now_seq, ap seq_of y)
 
-      t : Touches S Lawful B i w.words us w.batches
+      t : Touches S B i w.words us w.batches
       t = touches ci S.instrs v x_in f.quieted (λ c l. go c (cases_eq c i))
         where
           go : (c : ℕ) → (c ≡ i) ⊎ (c ≡ i → ⊥) → (announcement_of S us c ≡ announcement_of S w.words c) ⊎ ((c ≡ i) × ((k : ℕ) → B.seq < k → k ≤ committed_seq w.words → (batch_at B w.batches k).announcements c ≡ announcement_of S us c → ⊥))

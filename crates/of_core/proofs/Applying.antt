@@ -6,100 +6,42 @@ use Rattle.std.proofs.lemmas.List.{append-nil, set-get_or, get_or-set_same, get_
 use Rattle.of_cell.specs.Words.{pack, seq_of, payload_of}
 use Rattle.of_cell.proofs.Order.{seq_less, seq_word, pay_word, word_more}
 use Rattle.of_core.specs.declared.place.Place.TheVariants.{LoadTarget, ExchangeTarget, ReloadTarget, CloseRequest}
-use Rattle.of_core.specs.Table.{Setup, script_word_at, cell_count, durable_at, log_at, script_word, current_word, request_of, data_word, log_word_of, durable_word, durable_cell, committed_seq, committed_owner, durable_seq}
+use Rattle.of_core.specs.Table.{Setup, script_word_at, cell_count, durable_at, log_at, script_word, current_word, request_of, data_word, log_word_of, durable_word, durable_cell, committed_seq, durable_seq}
 use Rattle.of_core.specs.Machine.{CallState, log_entry}
 use Rattle.of_core.specs.Steps.{after_load_target, take_word_at}
 use Rattle.of_core.specs.TableMoment.{Read, Moment, TableStart, after_counted_step}
 use Rattle.of_core.specs.History.{batch_at, data_word_after}
 use Rattle.of_core.specs.WordsMatch.{WordsHaveTheirKind, IsRequest, IsLastOpen, DataCellsMatchState, IsEntry, DurableWordsMatch}
-use Rattle.of_core.specs.Rounds.{MayHelp}
-use Rattle.of_core.specs.Transaction.{IsApplying, AppliesAs}
-use Rattle.of_core.specs.Places.{IsAtEntry}
 use Rattle.of_core.specs.Invariant.{HoldsAtPlace, MeetsCore}
 use Rattle.of_core.specs.Guarantees.{KeepsGuarantee}
 use Rattle.of_core.proofs.States.{old, named_at, named_later, unnamed, cases_named}
+use Rattle.of_core.proofs.Alike.{applies_as, entry_as}
 use Rattle.of_core.proofs.Assembling.{assemble, assemble_read, logs_of}
-use Rattle.of_core.proofs.Stability.{at_stable, floor_of}
-use Rattle.of_core.proofs.Touches.{Touches, durable_of, heard_of, held_now, kinds_same, moves_of, request_same, shared_of}
+use Rattle.of_core.proofs.Stability.{entry_in, owner_in as owner_of, at_stable, floor_of}
+use Rattle.of_core.proofs.Touches.{Touches, step_open, cells_open, open_of, durable_of, heard_of, held_now, kinds_same, moves_of, request_same, shared_of}
 
-module _ (S : Setup) (Lawful : List ℕ → Type 0) (B : TableStart) where
-  module _ (w : Moment) (g : MeetsCore S Lawful B w) (i : ℕ) (m : CallState) (h : i < S.callers) where
-    -- an applying machine goes on with what its place says of the words
-    applies_as : (xs : List ℕ) (j k : ℕ) → IsApplying S B xs w.batches i m j → (n : CallState)
-        → n.caller ≡ m.caller → n.made ≡ m.made → n.op ≡ m.op → n.seq ≡ m.seq → n.owner ≡ m.owner → n.log ≡ m.log → n.raw ≡ m.raw → n.helps ≡ m.helps → n.kept ≡ m.kept → n.rounds ≡ m.rounds → n.first ≡ m.first → n.tries ≡ m.tries → k ≤ j → IsApplying S B xs w.batches i n k
-    applies_as xs j k p n a b c d e f r hh kk rr ff tt1 le = record {
-      mode = mode_of m.helps n.helps hh p.mode;
-      after = rw d p.after;
-      upto = rw d p.upto;
-      committed = rw (d, e) p.committed;
-      log = rw (d, f) p.log;
-      done = rw (d, f) (λ y l. p.done y (omega arith));
-    }
-      where
-        helper : MayHelp S B xs w.batches i m → MayHelp S B xs w.batches i n
-        helper (inl q) = inl (record {
-          begun = record {
-            caller = a ∙ q.begun.caller;
-            ticket = rw b q.begun.ticket;
-            words = rw c q.begun.words;
-            some = rw c q.begun.some;
-            kept = rw kk q.begun.kept;
-            says = rw (b, c) q.begun.says;
-            script = rw c q.begun.script;
-            upto = rw b q.begun.upto;
-            beyond = rw b q.begun.beyond;
-            mine = rw (b, c) q.begun.mine;
-            known = rw (rr, ff) q.begun.known;
-          };
-          from = rw d q.from;
-          upto = rw d q.upto;
-          same = rw (d, e) q.same;
-          owner_in = rw e q.owner_in;
-          committed = rw (d, e) q.committed;
-          first = rw (d, e) q.first;
-          unowned = rw d q.unowned;
-          later = rw (d, rr, ff) q.later;
-          begun_one = rw rr q.begun_one;
-          few = rw rr q.few;
-        })
-        helper (inr q) = inr (record {
-          fresh = record { caller = a ∙ q.fresh.caller; ticket = rw b q.fresh.ticket; words = rw c q.fresh.words; some = rw c q.fresh.some; kept = rw kk q.fresh.kept; above = rw b q.fresh.above; quieted = q.fresh.quieted; newer = rw b q.fresh.newer; rounds = rr ∙ q.fresh.rounds };
-          reads = rw c q.reads;
-          few = rw tt1 q.few;
-        })
-
-        mode_of : (x y : Bool) → y ≡ x → AppliesAs S B xs w.batches i m x → AppliesAs S B xs w.batches i n y
-        mode_of true true z q = (helper q.0, rw (d, e) q.1, rw d q.2)
-        mode_of false false z q = record { caller = a ∙ q.caller; owner = e ∙ q.owner; says = rw b q.says; upto = rw b q.upto; reached = rw b q.reached; call = rw (b, c, d, r) q.call; asks = rw d q.asks; unowned = rw d q.unowned; logs = rw d q.logs }
-        mode_of true false z q = cc
-        mode_of false true z q = cc
-
-    entry_as : (xs : List ℕ) (j : ℕ) → IsAtEntry S B xs w.batches i m j → (n : CallState)
-        → n.caller ≡ m.caller → n.made ≡ m.made → n.op ≡ m.op → n.seq ≡ m.seq → n.owner ≡ m.owner → n.log ≡ m.log → n.raw ≡ m.raw → n.helps ≡ m.helps → n.kept ≡ m.kept → n.rounds ≡ m.rounds → n.first ≡ m.first → n.tries ≡ m.tries → IsAtEntry S B xs w.batches i n j
-    entry_as xs j p n a b c d e f r hh kk rr ff tt1 = record { applies = applies_as xs j j p.applies n a b c d e f r hh kk rr ff tt1 (omega arith); more = rw f p.more; durable = rw d p.durable }
-
-    target_in : (j : ℕ) → IsApplying S B w.words w.batches i m j → (k : ℕ) → k < length m.log → IsEntry S (log_entry m k)
-    target_in j p k l = let t = p.log.each k l in subst (λ (e : ℕ × ℕ). IsEntry S e) t.2 ((g.shared.counted.logs m.seq p.after p.upto).entries t.0 (0, 0) t.1)
-
+module _ {S : Setup} {Lawful : List ℕ → Type 0} {B : TableStart} where
+  -- the machine m of caller i, at its place
+  module _ {w : Moment} (g : MeetsCore S Lawful B w) {i : ℕ} (h : i < S.callers) (m : CallState) where
     pub load_target_kept : (j : ℕ) → HoldsAtPlace S B w.words w.batches i m (LoadTarget j) → KeepsGuarantee S Lawful B i w (after_counted_step S i m (LoadTarget j) w)
-    load_target_kept j a = assemble_read S Lawful B w g i h _ _ (take_word_at S m found (LoadTarget j)) (set-get_or w.words (S.callers + 1 + (log_entry m j).0) 0) (append-nil w.batches) (
+    load_target_kept j a = assemble_read g h (take_word_at S m found (LoadTarget j)) (set-get_or w.words (S.callers + 1 + (log_entry m j).0) 0) (append-nil w.batches) (
         go (nat_lt (seq_of found) m.seq) refl)
       where
         found : ℕ
         found = data_word S w.words (log_entry m j).0
 
         go : (b : Bool) → nat_lt (seq_of found) m.seq ≡ b → HoldsAtPlace S B w.words w.batches i (after_load_target m j found b) (after_load_target m j found b).place
-        go true e = record { entry = entry_as w.words j a _ refl refl refl refl refl refl refl refl refl refl refl refl; older = (let x : seq_of found < m.seq = grind (arith, nat_tests) in x); found = inl refl }
+        go true e = record { entry = entry_as a refl refl refl refl refl refl refl refl refl refl refl refl; older = (let x : seq_of found < m.seq = grind (arith, nat_tests) in x); found = inl refl }
         go false e = record {
-          entry = entry_as w.words j a _ refl refl refl refl refl refl refl refl refl refl refl refl;
+          entry = entry_as a refl refl refl refl refl refl refl refl refl refl refl refl;
           newer = (let x : m.seq ≤ seq_of found = grind (arith, nat_tests) in x);
           low = omega arith;
-          held = held_now S Lawful B w g (log_entry m j).0 (target_in j a.applies j a.more).0;
+          held = held_now g (log_entry m j).0 (entry_in g.shared a.applies j a.more).0;
         }
 
     pub reload_target_kept : (j : ℕ) → HoldsAtPlace S B w.words w.batches i m (ReloadTarget j) → KeepsGuarantee S Lawful B i w (after_counted_step S i m (ReloadTarget j) w)
-    reload_target_kept j a = assemble_read S Lawful B w g i h _ _ (take_word_at S m (data_word S w.words (log_entry m j).0) (ReloadTarget j)) (set-get_or w.words (S.callers + 1 + (log_entry m j).0) 0) (append-nil w.batches)
-        (record { entry = entry_as w.words j a.entry _ refl refl refl refl refl refl refl refl refl refl refl refl; newer = a.newer; low = omega arith; held = held_now S Lawful B w g (log_entry m j).0 (target_in j a.entry.applies j a.entry.more).0 })
+    reload_target_kept j a = assemble_read g h (take_word_at S m (data_word S w.words (log_entry m j).0) (ReloadTarget j)) (set-get_or w.words (S.callers + 1 + (log_entry m j).0) 0) (append-nil w.batches)
+        (record { entry = entry_as a.entry refl refl refl refl refl refl refl refl refl refl refl refl; newer = a.newer; low = omega arith; held = held_now g (log_entry m j).0 (entry_in g.shared a.entry.applies j a.entry.more).0 })
 
     pub exchange_target_kept : (j f : ℕ) → HoldsAtPlace S B w.words w.batches i m (ExchangeTarget j f) → KeepsGuarantee S Lawful B i w (after_counted_step S i m (ExchangeTarget j f) w)
     exchange_target_kept j f a = go (found == f) refl
@@ -114,7 +56,7 @@ module _ (S : Setup) (Lawful : List ℕ → Type 0) (B : TableStart) where
         new = pack m.seq (log_entry m j).1
 
         e : IsEntry S (log_entry m j)
-        e = target_in j a.entry.applies j a.entry.more
+        e = entry_in g.shared a.entry.applies j a.entry.more
 
         n_is : committed_seq w.words ≡ B.seq + length w.batches
         n_is = g.shared.counted.count
@@ -129,16 +71,16 @@ module _ (S : Setup) (Lawful : List ℕ → Type 0) (B : TableStart) where
             → KeepsGuarantee S Lawful B i w (record { words = set w.words (S.callers + 1 + x) (if b then new else found); machines = set w.machines i n; batches = w.batches ++ []; reads = rs; loaded = w.loaded })
         go false q =
             let y : found ≡ f → ⊥ = grind (arith, nat_tests) in
-            assemble_read S Lawful B w g i h _ _ n (set-get_or w.words (S.callers + 1 + x) 0) (append-nil w.batches)
-            (record { entry = entry_as w.words j a.entry n refl refl refl refl refl refl refl refl refl refl refl refl; newer = newer y a.found })
+            assemble_read g h n (set-get_or w.words (S.callers + 1 + x) 0) (append-nil w.batches)
+            (record { entry = entry_as a.entry refl refl refl refl refl refl refl refl refl refl refl refl; newer = newer y a.found })
           where
             newer : (found ≡ f → ⊥) → (found ≡ f) ⊎ (m.seq ≤ seq_of found) → m.seq ≤ seq_of found
             newer y (inl z) = absurd (y z)
             newer y (inr z) = z
         go true q =
             rw (append-nil w.batches)
-            (assemble S Lawful B w g i h vs w.batches n (moves_of S Lawful B i w.words vs w.batches (touches i) g.shared) (shared_of S Lawful B i w.words vs w.batches (touches i) g.shared data_cells durable (heard_of S Lawful B i w.words vs w.batches (touches i) g.shared behind (λ p l. rw (log_kept_at p) (g.shared.heard.counts p l))) kinds)
-            (record { entry = entry_as vs j kept.entry n refl refl refl refl refl refl refl refl refl refl refl refl; newer = rw here (omega (arith, new_seq)) }))
+            (assemble g h vs w.batches n (moves_of (touches i) g.shared) (shared_of (touches i) g.shared data_cells durable (heard_of (touches i) g.shared behind (λ p l. rw (log_kept_at p) (g.shared.heard.counts p l))) kinds)
+            (record { entry = entry_as kept.entry refl refl refl refl refl refl refl refl refl refl refl refl; newer = rw here (omega (arith, new_seq)) }))
           where
             vs : List ℕ
             vs = set w.words (S.callers + 1 + x) new
@@ -173,9 +115,6 @@ module _ (S : Setup) (Lawful : List ℕ → Type 0) (B : TableStart) where
             dur_same : (c : ℕ) → c < cell_count S → durable_word S vs c ≡ durable_word S w.words c
             dur_same c l = elsewhere (durable_at S c) (omega (arith, e.0))
 
-            open_same : IsLastOpen B w.words → IsLastOpen B vs
-            open_same o = record { any = rw current_same o.any; asks = rw current_same (req_same (committed_owner w.words) g.shared.counted.owner_in ∙ o.asks) }
-
             older : seq_of found < m.seq
             older = rw same a.older
 
@@ -190,7 +129,7 @@ module _ (S : Setup) (Lawful : List ℕ → Type 0) (B : TableStart) where
                 t = a.entry.applies.log.each j a.entry.more
 
                 from : (n : ℕ) → m.seq ≤ n → n ≤ B.seq + length w.batches → m.seq ≤ seq_of (data_word_after B w.batches n x)
-                from n l k = subst (λ (e : ℕ × ℕ). m.seq ≤ seq_of (data_word_after B w.batches n e.0)) t.2 (named_later S B w.batches g.shared.start (logs_of S Lawful B w g) m.seq n t.0 a.entry.applies.after l k t.1)
+                from n l k = subst (λ (e : ℕ × ℕ). m.seq ≤ seq_of (data_word_after B w.batches n e.0)) t.2 (named_later S B w.batches g.shared.start (logs_of g) m.seq n t.0 a.entry.applies.after l k t.1)
 
                 last_or : (found ≡ data_word_after B w.batches (committed_seq w.words) x) ⊎ (IsLastOpen B w.words × (found ≡ data_word_after B w.batches (committed_seq w.words - 1) x)) → (m.seq < committed_seq w.words) ⊎ (committed_seq w.words ≤ m.seq) → m.seq ≡ committed_seq w.words
                 last_or d (inr l) = omega (arith, a.entry.applies.upto)
@@ -201,7 +140,7 @@ module _ (S : Setup) (Lawful : List ℕ → Type 0) (B : TableStart) where
             rises c (inl r) = rw r (omega (arith, here, seq_less found new (omega (arith, older, new_seq))))
             rises c (inr r) = omega (arith, elsewhere c r)
 
-            touches : (k : ℕ) → Touches S Lawful B k w.words vs w.batches
+            touches : (k : ℕ) → Touches S B k w.words vs w.batches
             touches k = record {
               room = length-set w.words (S.callers + 1 + x) new;
               current_word = current_same;
@@ -219,15 +158,18 @@ module _ (S : Setup) (Lawful : List ℕ → Type 0) (B : TableStart) where
                 cells_change y (inl r) = inr (rw (r, here, new_seq) (omega (arith, is_last)))
                 cells_change y (inr r) = inl (cell_same y r)
 
+            open_same : IsLastOpen B w.words → IsLastOpen B vs
+            open_same = open_of (touches i) g.shared req_same
+
             kinds : WordsHaveTheirKind S B vs w.batches
-            kinds = kinds_same S Lawful B i w.words vs w.batches (touches i) g.shared (λ k l. request_same S Lawful B i w.words vs w.batches (touches i) g.shared k l (req_same k l)) (λ k y l u. log_same k y)
+            kinds = kinds_same (touches i) g.shared (λ k l. request_same (touches i) g.shared k l (req_same k l)) (λ k y l u. log_same k y)
 
             kept : HoldsAtPlace S B vs w.batches i m (ExchangeTarget j f)
-            kept = at_stable S Lawful B (i + 1) w.words w.batches vs w.batches (moves_of S Lawful B (i + 1) w.words vs w.batches (touches (i + 1)) g.shared) g.shared i h (λ z. omega arith) m (ExchangeTarget j f) a
+            kept = at_stable S Lawful B (i + 1) w.words w.batches vs w.batches (moves_of (touches (i + 1)) g.shared) g.shared i h (λ z. omega arith) m (ExchangeTarget j f) a
 
             in_state : new ≡ data_word_after B w.batches (committed_seq w.words) x
             in_state = let t = a.entry.applies.log.each j a.entry.more in
-                let q : data_word_after B w.batches m.seq x ≡ new = subst (λ (e : ℕ × ℕ). data_word_after B w.batches m.seq e.0 ≡ pack m.seq e.1) t.2 (named_at S B w.batches g.shared.start (logs_of S Lawful B w g) m.seq t.0 a.entry.applies.after (omega (arith, a.entry.applies.upto, n_is)) t.1) in
+                let q : data_word_after B w.batches m.seq x ≡ new = subst (λ (e : ℕ × ℕ). data_word_after B w.batches m.seq e.0 ≡ pack m.seq e.1) t.2 (named_at S B w.batches g.shared.start (logs_of g) m.seq t.0 a.entry.applies.after (omega (arith, a.entry.applies.upto, n_is)) t.1) in
                 rw (← is_last) (sym q)
 
             data_cells : DataCellsMatchState S B vs w.batches
@@ -240,19 +182,11 @@ module _ (S : Setup) (Lawful : List ℕ → Type 0) (B : TableStart) where
                 each y l (inr r) (inr d) = inr (open_same d.0, rw current_same (cell_same y r ∙ d.1))
 
             durable : DurableWordsMatch S B vs w.batches
-            durable = durable_of S Lawful B i w.words vs w.batches (touches i) g.shared (λ y l. fresh y l (cases_eq y x)) step (λ y l. cells (g.shared.durable.cells y l)) (λ k l u p o q y v. log_same p y)
+            durable = durable_of (touches i) g.shared (λ y l. fresh y l (cases_eq y x)) (step_open open_same) (λ y l. cells_open open_same (g.shared.durable.cells y l)) (λ k l u p o q y v. log_same p y)
               where
                 fresh : (y : ℕ) → y < S.cells → (y ≡ x) ⊎ (y ≡ x → ⊥) → seq_of (data_word S vs y) ≤ durable_seq S w.words
                 fresh y l (inl r) = rw (r, here, new_seq) a.entry.durable
                 fresh y l (inr r) = rw (cell_same y r) (g.shared.durable.fresh y l)
-
-                step : (committed_seq w.words ≡ durable_seq S w.words) ⊎ ((committed_seq w.words ≡ durable_seq S w.words + 1) × IsLastOpen B w.words) → (committed_seq w.words ≡ durable_seq S w.words) ⊎ ((committed_seq w.words ≡ durable_seq S w.words + 1) × IsLastOpen B vs)
-                step (inl q) = inl q
-                step (inr q) = inr (q.0, open_same q.1)
-
-                cells : {p q r : Type 0} → p ⊎ (IsLastOpen B w.words × q × r) → p ⊎ (IsLastOpen B vs × q × r)
-                cells (inl d) = inl d
-                cells (inr d) = inr (open_same d.0, d.1, d.2)
 
     pub close_request_kept : HoldsAtPlace S B w.words w.batches i m CloseRequest → KeepsGuarantee S Lawful B i w (after_counted_step S i m CloseRequest w)
     close_request_kept a = go (found == pack m.seq 0) refl
@@ -267,19 +201,19 @@ module _ (S : Setup) (Lawful : List ℕ → Type 0) (B : TableStart) where
         n_is = g.shared.counted.count
 
         owner_in : m.owner < S.callers
-        owner_in = rw (← a.applies.committed) (g.shared.counted.owners m.seq a.applies.after a.applies.upto)
+        owner_in = owner_of g.shared a.applies
 
         go : {rs : List Read} → (b : Bool) → (found == pack m.seq 0) ≡ b
             → KeepsGuarantee S Lawful B i w (record { words = set w.words (m.owner + 1) (if b then pack m.seq 1 else found); machines = set w.machines i n; batches = w.batches ++ []; reads = rs; loaded = w.loaded })
         go false q =
             let z : found ≡ pack m.seq 0 → ⊥ = grind (arith, nat_tests) in
             let f : pack m.seq 0 ≤ found = rw a.applies.committed at (floor_of S Lawful B w.words w.batches g.shared m.seq a.applies.after a.applies.upto) in
-            assemble_read S Lawful B w g i h _ _ n (set-get_or w.words (m.owner + 1) 0) (append-nil w.batches)
-            (record { applies = applies_as w.words (length m.log) (length m.log) a.applies n refl refl refl refl refl refl refl refl refl refl refl refl (omega arith); durable = a.durable; closed = omega arith })
+            assemble_read g h n (set-get_or w.words (m.owner + 1) 0) (append-nil w.batches)
+            (record { applies = applies_as a.applies refl refl refl refl refl refl refl refl refl refl refl refl a.applies.done; durable = a.durable; closed = omega arith })
         go true q =
             rw (append-nil w.batches)
-            (assemble S Lawful B w g i h vs w.batches n (moves_of S Lawful B i w.words vs w.batches (touches i) g.shared) (shared_of S Lawful B i w.words vs w.batches (touches i) g.shared data_cells durable (heard_of S Lawful B i w.words vs w.batches (touches i) g.shared behind (λ p l. rw (log_kept_at p) (g.shared.heard.counts p l))) kinds)
-            (record { applies = applies_as vs (length m.log) (length m.log) kept.applies n refl refl refl refl refl refl refl refl refl refl refl refl (omega arith); durable = kept.durable; closed = rw here (word_more m.seq 0 1 (omega arith)) }))
+            (assemble g h vs w.batches n (moves_of (touches i) g.shared) (shared_of (touches i) g.shared data_cells durable (heard_of (touches i) g.shared behind (λ p l. rw (log_kept_at p) (g.shared.heard.counts p l))) kinds)
+            (record { applies = applies_as kept.applies refl refl refl refl refl refl refl refl refl refl refl refl kept.applies.done; durable = kept.durable; closed = rw here (word_more m.seq 0 1 (omega arith)) }))
           where
             was : found ≡ pack m.seq 0
             was = grind (arith, nat_tests)
@@ -325,7 +259,7 @@ module _ (S : Setup) (Lawful : List ℕ → Type 0) (B : TableStart) where
             rises c (inl r) = rw r (omega (arith, here, was, word_more m.seq 0 1 (omega arith)))
             rises c (inr r) = omega (arith, elsewhere c r)
 
-            touches : (k : ℕ) → Touches S Lawful B k w.words vs w.batches
+            touches : (k : ℕ) → Touches S B k w.words vs w.batches
             touches k = record {
               room = length-set w.words (m.owner + 1) (pack m.seq 1);
               current_word = current_same;
@@ -340,17 +274,17 @@ module _ (S : Setup) (Lawful : List ℕ → Type 0) (B : TableStart) where
             }
 
             is_request : (j : ℕ) → j < S.callers → (j ≡ m.owner) ⊎ (j ≡ m.owner → ⊥) → IsRequest B w.words w.batches j (request_of vs j)
-            is_request j l (inr r) = request_same S Lawful B i w.words vs w.batches (touches i) g.shared j l (elsewhere (j + 1) (omega arith))
+            is_request j l (inr r) = request_same (touches i) g.shared j l (elsewhere (j + 1) (omega arith))
             is_request j l (inl r) = λ b.
                 let e : request_of vs j ≡ pack m.seq 1 = ap (request_of vs) r ∙ here in
                 let f : seq_of (request_of vs j) ≡ m.seq = ap seq_of e ∙ seq_word m.seq 1 (omega arith) in
                 inr (ap payload_of e ∙ pay_word m.seq 1 (omega arith), rw f a.applies.upto, rw f (a.applies.committed ∙ sym r))
 
             kinds : WordsHaveTheirKind S B vs w.batches
-            kinds = kinds_same S Lawful B i w.words vs w.batches (touches i) g.shared (λ j l. is_request j l (cases_eq j m.owner)) (λ j y l u. elsewhere (log_at S j y) (omega (arith, owner_in)))
+            kinds = kinds_same (touches i) g.shared (λ j l. is_request j l (cases_eq j m.owner)) (λ j y l u. elsewhere (log_at S j y) (omega (arith, owner_in)))
 
             kept : HoldsAtPlace S B vs w.batches i m CloseRequest
-            kept = at_stable S Lawful B (i + 1) w.words w.batches vs w.batches (moves_of S Lawful B (i + 1) w.words vs w.batches (touches (i + 1)) g.shared) g.shared i h (λ z. omega arith) m CloseRequest a
+            kept = at_stable S Lawful B (i + 1) w.words w.batches vs w.batches (moves_of (touches (i + 1)) g.shared) g.shared i h (λ z. omega arith) m CloseRequest a
 
             -- the durable word of CUR has reached the batch
             d_is : durable_seq S w.words ≡ committed_seq w.words
@@ -365,7 +299,7 @@ module _ (S : Setup) (Lawful : List ℕ → Type 0) (B : TableStart) where
             whole x v l newer q = named (cases_named (batch_at B w.batches m.seq).log x)
               where
                 before : seq_of (data_word_after B w.batches (committed_seq w.words - 1) x) ≤ committed_seq w.words - 1
-                before = old S B w.batches g.shared.start (logs_of S Lawful B w g) (committed_seq w.words - 1) x (omega (arith, is_last, a.applies.after)) (omega (arith, n_is)) l
+                before = old S B w.batches g.shared.start (logs_of g) (committed_seq w.words - 1) x (omega (arith, is_last, a.applies.after)) (omega (arith, n_is)) l
 
                 named : ((k : ℕ) × (k < length (batch_at B w.batches m.seq).log) × ((get_or (batch_at B w.batches m.seq).log k (0, 0)).0 ≡ x)) ⊎ ((k : ℕ) → k < length (batch_at B w.batches m.seq).log → (get_or (batch_at B w.batches m.seq).log k (0, 0)).0 ≡ x → ⊥)
                     → v ≡ data_word_after B w.batches (committed_seq w.words) x
@@ -373,7 +307,7 @@ module _ (S : Setup) (Lawful : List ℕ → Type 0) (B : TableStart) where
                     let t = a.applies.log.all k.0 k.1 in
                     let y : m.seq ≤ seq_of v = newer t.0 t.1 (ap (λ (e : ℕ × ℕ). e.0) t.2 ∙ k.2) in
                     absurd (omega (arith, before, ap seq_of q, is_last, a.applies.after))
-                named (inr away) = q ∙ sym (rw is_last at (unnamed S B w.batches g.shared.start (logs_of S Lawful B w g) m.seq x a.applies.after (omega (arith, a.applies.upto, n_is)) away))
+                named (inr away) = q ∙ sym (rw is_last at (unnamed S B w.batches g.shared.start (logs_of g) m.seq x a.applies.after (omega (arith, a.applies.upto, n_is)) away))
 
             data_cells : DataCellsMatchState S B vs w.batches
             data_cells = record { each = λ x l. inl (rw current_same (cell_same x l ∙ each x l (g.shared.data_cells.each x l))) }
@@ -383,7 +317,7 @@ module _ (S : Setup) (Lawful : List ℕ → Type 0) (B : TableStart) where
                 each x l (inr d) = whole x (data_word S w.words x) l (λ k u z. rw z at (a.applies.done k u).0) d.1
 
             durable : DurableWordsMatch S B vs w.batches
-            durable = durable_of S Lawful B i w.words vs w.batches (touches i) g.shared (λ y l. rw (cell_same y l) (g.shared.durable.fresh y l)) (λ q. inl (sym d_is)) (λ y l. cells y l (g.shared.durable.cells y l)) (λ k l u p o q y v. elsewhere (log_at S p y) (omega (arith, owner_in)))
+            durable = durable_of (touches i) g.shared (λ y l. rw (cell_same y l) (g.shared.durable.fresh y l)) (λ q. inl (sym d_is)) (λ y l. cells y l (g.shared.durable.cells y l)) (λ k l u p o q y v. elsewhere (log_at S p y) (omega (arith, owner_in)))
               where
                 cells : (y : ℕ) → y < S.cells → (durable_cell S w.words y ≡ data_word_after B w.batches (durable_seq S w.words) y) ⊎ (IsLastOpen B w.words × (committed_seq w.words ≡ durable_seq S w.words) × (durable_cell S w.words y ≡ data_word_after B w.batches (durable_seq S w.words - 1) y))
                     → (durable_cell S w.words y ≡ data_word_after B w.batches (durable_seq S w.words) y) ⊎ (IsLastOpen B vs × (committed_seq w.words ≡ durable_seq S w.words) × (durable_cell S w.words y ≡ data_word_after B w.batches (durable_seq S w.words - 1) y))

@@ -1,14 +1,13 @@
 -- The invariant speaks of no word behind the table's own.
-use Rattle.std.proofs.Common.{◌≡◌, ℕ, ◌+◌, ◌*◌, ◌-◌, ◌<◌, ◌≤◌, ◌⊎◌, inl, inr, List, get_or, set, sym, ◌∙◌, ap, subst, arith, length-set}
+use Rattle.std.proofs.Common.{◌≡◌, ℕ, ◌+◌, ◌*◌, ◌<◌, ◌≤◌, inl, List, get_or, set, sym, ap, subst, arith, length-set}
 use Rattle.std.proofs.lemmas.List.{get_or-set_other}
 use Rattle.of_cell.specs.Words.{seq_of}
-use Rattle.of_core.specs.Table.{Setup, words_before_members, durable_at, log_at, script_word_at, current_word, request_of, data_word, log_word_of, script_word, committed_seq, committed_owner, durable_seq}
+use Rattle.of_core.specs.Table.{Setup, words_before_members, durable_at, log_at, script_word_at, current_word, request_of, data_word, log_word_of, script_word}
 use Rattle.of_core.specs.TableMoment.{Moment, TableStart}
-use Rattle.of_core.specs.History.{data_word_after}
 use Rattle.of_core.specs.WordsMatch.{WordsMatchHistory, IsLastOpen, DataCellsMatchState, DurableWordsMatch, IsRequest}
 use Rattle.of_core.specs.Invariant.{MeetsInvariant, IsLoaded}
 use Rattle.of_core.proofs.Logs.{room_for}
-use Rattle.of_core.proofs.Touches.{Touches, durable_of, kinds_same, moves_of, shared_of}
+use Rattle.of_core.proofs.Touches.{Touches, open_of, data_same, durable_same, kinds_same, moves_of, shared_of}
 use Rattle.of_core.proofs.Stability.{at_stable, heard_as, loaded_stable, log_in}
 use Rattle.of_core.proofs.Ordering.{order_same}
 
@@ -34,7 +33,7 @@ module _ (S : Setup) (Lawful : List ℕ → Type 0) (B : TableStart) (w : Moment
   script_same : (j y : ℕ) → j < S.callers → y < S.instrs + 1 → script_word S vs j y ≡ script_word S w.words j y
   script_same j y l u = below (script_word_at S j y) (let r : j * (S.instrs + 1) + (S.instrs + 1) ≤ S.callers * (S.instrs + 1) = room_for j S.callers (S.instrs + 1) l in omega arith)
 
-  touches : (i : ℕ) → Touches S Lawful B i w.words vs w.batches
+  touches : (i : ℕ) → Touches S B i w.words vs w.batches
   touches i = record {
     room = length-set w.words c v;
     current_word = current_same;
@@ -49,35 +48,21 @@ module _ (S : Setup) (Lawful : List ℕ → Type 0) (B : TableStart) (w : Moment
   }
 
   open_same : IsLastOpen B w.words → IsLastOpen B vs
-  open_same o = record { any = rw current_same o.any; asks = rw current_same (req_same (committed_owner w.words) g.core.shared.counted.owner_in ∙ o.asks) }
+  open_same = open_of (touches 0) g.core.shared req_same
 
   data_cells : DataCellsMatchState S B vs w.batches
-  data_cells = record { each = λ y l. each y l (g.core.shared.data_cells.each y l) }
-    where
-      each : (y : ℕ) → y < S.cells → (data_word S w.words y ≡ data_word_after B w.batches (committed_seq w.words) y) ⊎ (IsLastOpen B w.words × (data_word S w.words y ≡ data_word_after B w.batches (committed_seq w.words - 1) y))
-          → (data_word S vs y ≡ data_word_after B w.batches (committed_seq vs) y) ⊎ (IsLastOpen B vs × (data_word S vs y ≡ data_word_after B w.batches (committed_seq vs - 1) y))
-      each y l (inl q) = inl (rw current_same (cell_same y l ∙ q))
-      each y l (inr (o, q)) = inr (open_same o, rw current_same (cell_same y l ∙ q))
+  data_cells = data_same (touches 0) g.core.shared cell_same open_same
 
   durable : DurableWordsMatch S B vs w.batches
-  durable = durable_of S Lawful B 0 w.words vs w.batches (touches 0) g.core.shared (λ y l. rw (cell_same y l) (g.core.shared.durable.fresh y l)) step (λ y l. cells (g.core.shared.durable.cells y l))
-      (λ k l u j o q y v. log_same j y (rw (← o) (g.core.shared.counted.owners k l u)) v)
-    where
-      step : (committed_seq w.words ≡ durable_seq S w.words) ⊎ ((committed_seq w.words ≡ durable_seq S w.words + 1) × IsLastOpen B w.words) → (committed_seq w.words ≡ durable_seq S w.words) ⊎ ((committed_seq w.words ≡ durable_seq S w.words + 1) × IsLastOpen B vs)
-      step (inl q) = inl q
-      step (inr q) = inr (q.0, open_same q.1)
-
-      cells : {p q r : Type 0} → p ⊎ (IsLastOpen B w.words × q × r) → p ⊎ (IsLastOpen B vs × q × r)
-      cells (inl d) = inl d
-      cells (inr d) = inr (open_same d.0, d.1, d.2)
+  durable = durable_same (touches 0) g.core.shared cell_same open_same (λ k l u j o q y v. log_same j y (rw (← o) (g.core.shared.counted.owners k l u)) v)
 
   shared : WordsMatchHistory S Lawful B vs w.batches
-  shared = shared_of S Lawful B 0 w.words vs w.batches (touches 0) g.core.shared data_cells durable
+  shared = shared_of (touches 0) g.core.shared data_cells durable
       (heard_as S B w.words vs w.batches (λ j l. script_same j S.instrs l (omega arith)) (ap seq_of current_same) (λ j l. rw (log_same j 0 l (omega arith)) (g.core.shared.heard.counts j l)) g.core.shared.heard)
-      (kinds_same S Lawful B 0 w.words vs w.batches (touches 0) g.core.shared (λ j l. subst (λ (y : ℕ). IsRequest B w.words w.batches j y) (sym (req_same j l)) (g.core.shared.kinds.requests j l)) log_same)
+      (kinds_same (touches 0) g.core.shared (λ j l. subst (λ (y : ℕ). IsRequest B w.words w.batches j y) (sym (req_same j l)) (g.core.shared.kinds.requests j l)) log_same)
 
   pub beside_stays : (e : ℕ × ℕ) → IsLoaded S B w.words w.batches e → IsLoaded S B vs w.batches e
-  beside_stays e l = loaded_stable S Lawful B 0 w.words w.batches vs w.batches (moves_of S Lawful B 0 w.words vs w.batches (touches 0) g.core.shared) g.core.shared shared.kinds e l
+  beside_stays e l = loaded_stable S Lawful B 0 w.words w.batches vs w.batches (moves_of (touches 0) g.core.shared) g.core.shared shared.kinds e l
 
   pub beside_kept : MeetsInvariant S Lawful B (record w { words = vs })
   beside_kept = record {
@@ -85,7 +70,7 @@ module _ (S : Setup) (Lawful : List ℕ → Type 0) (B : TableStart) (w : Moment
       shared = shared;
       members = g.core.members;
       loaded = λ k d l. beside_stays (get_or w.loaded k d) (g.core.loaded k d l);
-      each = λ j n l q. at_stable S Lawful B (j + 1) w.words w.batches vs w.batches (moves_of S Lawful B (j + 1) w.words vs w.batches (touches (j + 1)) g.core.shared) g.core.shared j l (λ z. omega arith) n n.place (g.core.each j n l q);
+      each = λ j n l q. at_stable S Lawful B (j + 1) w.words w.batches vs w.batches (moves_of (touches (j + 1)) g.core.shared) g.core.shared j l (λ z. omega arith) n n.place (g.core.each j n l q);
     };
     within = g.within;
     late = g.late;

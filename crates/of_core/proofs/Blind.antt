@@ -1,5 +1,5 @@
 -- A step is on no durable word, or it is a raise, which goes on the same whatever it finds.
-use Rattle.std.proofs.Common.{◌≡◌, ℕ, ◌+◌, ◌<◌, ◌≤◌, ◌⊎◌, inl, inr, List, [], length, get_or, refl, ap, arith}
+use Rattle.std.proofs.Common.{◌≡◌, ℕ, ◌+◌, ◌<◌, ◌≤◌, ◌⊎◌, inl, inr, List, [], get_or, refl, ap, arith}
 use Rattle.of_core.specs.declared.place.Place.{Place}
 use Rattle.of_core.specs.declared.place.Place.TheVariants.{Idle, TryCurrent, TryRequest, TryCell, StoreScript, StoreAnnouncement, LoadCurrent, LoadRequest, CopyLog, LookAgain, LoadOwnTicket, LoadShape, LoadReply, LoadAnnouncement, LoadTicket, LoadScript, LoadCell, RaiseOld, StoreLog, RaiseLog, StoreRequest, RaiseRequest, ExchangeCurrent, RaiseCurrent, LoadTarget, ExchangeTarget, ReloadTarget, RaiseTarget, CloseRequest, RaiseClosed}
 use Rattle.of_core.specs.Table.{Setup, cell_count, durable_at, log_at, ticket_cell}
@@ -10,7 +10,7 @@ use Rattle.of_core.specs.Invariant.{HoldsAtPlace, MeetsCore}
 use Rattle.of_core.specs.Laws.{IsRaise, GoesBlindly}
 use Rattle.of_core.proofs.Logs.{length-log_words, room_for}
 use Rattle.of_core.proofs.Stability.{log_in}
-use Rattle.of_core.proofs.Durables.{owner_in, entry_in}
+use Rattle.of_core.proofs.Stability.{owner_in, entry_in}
 
 module _ (S : Setup) (Lawful : List ℕ → Type 0) (B : TableStart) (w : Moment) (g : MeetsCore S Lawful B w) (i : ℕ) (m : CallState) (h : i < S.callers) where
   abbrev Off : Place → Type 0
@@ -30,8 +30,8 @@ module _ (S : Setup) (Lawful : List ℕ → Type 0) (B : TableStart) (w : Moment
   blind ExchangeCurrent a = inl (λ c l e. omega (arith, e))
   blind TryRequest a = inl (λ c l e. omega (arith, e, a.current_word.owner_in))
   blind LoadRequest a = inl (λ c l e. omega (arith, e, a.round.owner_in))
-  blind LookAgain a = inl (λ c l e. omega (arith, e, a.copies.current_word.owner_in))
-  blind (CopyLog x) a = inl (λ c l e. omega (arith, e, log_in S m.owner x a.copies.current_word.owner_in a.in_log))
+  blind LookAgain a = inl (λ c l e. omega (arith, e, a.copies.helping.current_word.owner_in))
+  blind (CopyLog x) a = inl (λ c l e. omega (arith, e, log_in S m.owner x a.copies.helping.current_word.owner_in a.in_log))
   blind (TryCell x) a = inl (λ c l e. omega (arith, e, a.in_cells))
   blind (LoadCell x) a = inl (λ c l e. omega (arith, e, a.in_cells))
   blind LoadOwnTicket a = inl (λ c l e. omega (arith, e, own_cells i h, ap (ticket_cell S) a.looks.round.begun.caller))
@@ -47,10 +47,10 @@ module _ (S : Setup) (Lawful : List ℕ → Type 0) (B : TableStart) (w : Moment
       let ci : m.caller ≡ i = st.past.looks.round.begun.caller in
       inl (λ c l e. omega (arith, e, ap (λ (k : ℕ). log_at S k x) ci, log_in S i x h (omega (arith, length-log_words m.log, st.over.over.is_log.few, a.more))))
   blind StoreRequest a = inl (λ c l e. omega (arith, e, a.stored.past.looks.round.begun.caller, h))
-  blind (LoadTarget x) a = inl (λ c l e. omega (arith, e, entry_in S Lawful B w g i m h x x a.applies a.more))
-  blind (ExchangeTarget x f) a = inl (λ c l e. omega (arith, e, entry_in S Lawful B w g i m h x x a.entry.applies a.entry.more))
-  blind (ReloadTarget x) a = inl (λ c l e. omega (arith, e, entry_in S Lawful B w g i m h x x a.entry.applies a.entry.more))
-  blind CloseRequest a = inl (λ c l e. omega (arith, e, owner_in S Lawful B w g i m h (length m.log) a.applies))
+  blind (LoadTarget x) a = inl (λ c l e. omega (arith, e, (entry_in g.shared a.applies x a.more).0))
+  blind (ExchangeTarget x f) a = inl (λ c l e. omega (arith, e, (entry_in g.shared a.entry.applies x a.entry.more).0))
+  blind (ReloadTarget x) a = inl (λ c l e. omega (arith, e, (entry_in g.shared a.entry.applies x a.entry.more).0))
+  blind CloseRequest a = inl (λ c l e. omega (arith, e, owner_in g.shared a.applies))
   blind RaiseOld a = inr (tt, λ n k. refl, λ ws n. refl)
   blind (RaiseLog x) a = inr (tt, λ n k. refl, λ ws n. refl)
   blind RaiseRequest a = inr (tt, λ n k. refl, λ ws n. refl)

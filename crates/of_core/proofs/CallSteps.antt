@@ -166,8 +166,8 @@ module _ (S : Setup) (Lawful : List ℕ → Type 0) (sound : IsSoundMeaning S.me
           mine = caller_at S Lawful B w g.core j m h m.place (g.core.each j m h (own S Lawful B w g j h))
 
           go : (o : Outcome) → LastOutcomeStands S B v.words v.batches j d (Some o) → TellsWithinBound S (Some o) → TellsLeastSteps S d.op (Some o) → TellsOutcome S m d o → OutcomeStands S B v j d.made d.op o
-          go (Answered s true raw steps) a b l u = (a.0, a.1, a.3, l, b)
-          go (Answered s false raw steps) a b l u = (a.1, (length w.reads, omega (arith, length-append w.reads (step_reads m d), ap length u.2), placed), a.4, l, b)
+          go (Answered s true raw steps) a b l u = (a.from, a.durable, a.call, l, b)
+          go (Answered s false raw steps) a b l u = (a.durable, (length w.reads, omega (arith, length-append w.reads (step_reads m d), ap length u.2), placed), a.reads, l, b)
             where
               r : Read
               r = record { caller = m.caller; ticket = m.made; op = m.op; raw = raw; seq = s }
@@ -177,13 +177,13 @@ module _ (S : Setup) (Lawful : List ℕ → Type 0) (sound : IsSoundMeaning S.me
 
               placed : get_or (w.reads ++ step_reads m d) (length w.reads) no_read ≡ record { caller = j; ticket = d.made; op = d.op; raw = raw; seq = s }
               placed = ap (λ (rs : List Read). get_or (w.reads ++ rs) (length w.reads) no_read) u.2 ∙ get_or_push w.reads r no_read (length w.reads) refl ∙ same
-          go (Spent s) a b l u = (a.1, omega (arith, a.1, a.3, step_grows.limit), not_run)
+          go (Spent s) a b l u = (a.limit, omega (arith, a.limit, a.durable, step_grows.limit), not_run)
             where
               not_run : (k : ℕ) → B.seq < k → k ≤ B.seq + length v.batches → (y : ℕ) (e : Call) → y < length (batch_at B v.batches k).calls → (get_or (batch_at B v.batches k).calls y e).caller ≡ j → (get_or (batch_at B v.batches k).calls y e).ticket < d.made
               not_run k l u y e z q =
                   let p : (get_or (batch_at B v.batches k).calls y e).ticket ≤ last_ticket_by S B v.batches (committed_seq v.words) (get_or (batch_at B v.batches k).calls y e).caller =
                   ticket_upto S Lawful B v.batches good.core.shared.stands k (committed_seq v.words) l (omega (arith, u, last_is S Lawful B v good)) (omega (arith, last_is S Lawful B v good)) y e z in
-                  omega (arith, p, a.0, ap (last_ticket_by S B v.batches (committed_seq v.words)) q)
+                  omega (arith, p, a.left, ap (last_ticket_by S B v.batches (committed_seq v.words)) q)
 
       -- it comes behind the outcomes from before
       beyond_now : IsOpen m.place → (o : Outcome) → TellsOutcome S m d o → OutcomeStands S B v j d.made d.op o → (x : ℕ) → x < length outs → IsNotBefore (outcome_seq (get_or outs x no_outcome)) o

@@ -39,7 +39,7 @@ module _ (S : Setup) (Lawful : List ℕ → Type 0) (sound : IsSoundMeaning S.me
         back = omega (arith, p.from)
 
         here : length (numbers_after B w.batches r.seq) ≡ S.cells
-        here = length-map (state_after B w.batches r.seq) payload_of ∙ state_length S B w.batches g.shared.start (logs_of S Lawful B w g) r.seq p.from (omega (arith, p.upto))
+        here = length-map (state_after B w.batches r.seq) payload_of ∙ state_length S B w.batches g.shared.start (logs_of g) r.seq p.from (omega (arith, p.upto))
 
         there : length (numbers_after_batches S.meaning (map payload_of B.cells) (take (r.seq - B.seq) w.batches)) ≡ S.cells
         there = replay_length S Lawful sound B (map payload_of B.cells) (take (r.seq - B.seq) w.batches) (length-map B.cells payload_of ∙ g.shared.start.size)
@@ -94,15 +94,15 @@ module _ (S : Setup) (Lawful : List ℕ → Type 0) (sound : IsSoundMeaning S.me
 
         told_is : (i : ℕ) (m : CallState) → i < S.callers → (o : Option Outcome) → TellsWithinBound S o → LastOutcomeStands S B w.words w.batches i m o → OutcomeIsInHistory S B w i m o
         told_is i m h None v t = tt
-        told_is i m h (Some (Answered s true raw n)) v t = (v, t.0, t.1, t.3)
-        told_is i m h (Some (Answered s false raw n)) v t = (v, t.0, t.1, t.3, t.4)
+        told_is i m h (Some (Answered s true raw n)) v t = (v, t.from, t.durable, t.call)
+        told_is i m h (Some (Answered s false raw n)) v t = (v, t.from, t.durable, t.reply, t.reads)
         told_is i m h (Some (Spent s)) v0 t = (
-          t.1,
-          sym g.shared.counted.count ∙ t.2,
+          t.limit,
+          sym g.shared.counted.count ∙ t.last,
           λ k l u y d v q. let p : (get_or (batch_at B w.batches k).calls y d).ticket ≤ last_ticket_by S B w.batches (committed_seq w.words) (get_or (batch_at B w.batches k).calls y d).caller =
-              ticket_upto S Lawful B w.batches g.shared.stands k (committed_seq w.words) l (omega (arith, t.2)) (omega (arith, g.shared.counted.count)) y d v in
-              omega (arith, p, t.0, ap (last_ticket_by S B w.batches (committed_seq w.words)) q),
-          t.3,
+              ticket_upto S Lawful B w.batches g.shared.stands k (committed_seq w.words) l (omega (arith, t.last)) (omega (arith, g.shared.counted.count)) y d v in
+              omega (arith, p, t.left, ap (last_ticket_by S B w.batches (committed_seq w.words)) q),
+          t.durable,
         )
 
         -- a call in a batch is no newer than what its caller has begun
@@ -167,7 +167,7 @@ module _ (S : Setup) (Lawful : List ℕ → Type 0) (sound : IsSoundMeaning S.me
         owner_in (inr q) = rw (g.shared.durable.owner (omega (arith, q))) (g.shared.counted.owners (durable_seq S w.words) (omega (arith, q)) upto_last)
 
         old_words : (a : ℕ) → a < S.cells → seq_of (recovered_data S.callers S.cells (durable_word S w.words) a) ≤ durable_seq S w.words
-        old_words a l = rw (claim S Lawful B w g a l) (old S B w.batches g.shared.start (logs_of S Lawful B w g) (durable_seq S w.words) a g.shared.durable.from (reach g.shared.durable.step) l)
+        old_words a l = rw (claim S Lawful B w g a l) (old S B w.batches g.shared.start (logs_of g) (durable_seq S w.words) a g.shared.durable.from (reach g.shared.durable.step) l)
 
         data_held : (a : ℕ) → (durable_cell S w.words a ≡ data_word_after B w.batches (durable_seq S w.words) a) ⊎ (IsLastOpen B w.words × (committed_seq w.words ≡ durable_seq S w.words) × (durable_cell S w.words a ≡ data_word_after B w.batches (durable_seq S w.words - 1) a)) → WasHeldByCell B w.words w.batches a (durable_cell S w.words a)
         data_held a (inl q) = (durable_seq S w.words, g.shared.durable.from, upto_last, q)

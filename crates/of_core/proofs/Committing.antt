@@ -28,8 +28,9 @@ use Rattle.of_core.proofs.Stability.{log_in}
 use Rattle.of_core.proofs.LongerHistory.{grown, ticket_new}
 use Rattle.of_core.proofs.Touches.{differ, equals}
 
-module _ (S : Setup) (Lawful : List ℕ → Type 0) (B : TableStart) where
-  module _ (w : Moment) (g : MeetsCore S Lawful B w) (i : ℕ) (m : CallState) (h : i < S.callers) where
+module _ {S : Setup} {Lawful : List ℕ → Type 0} {B : TableStart} where
+  -- the machine m of caller i, at its place
+  module _ {w : Moment} (g : MeetsCore S Lawful B w) {i : ℕ} (h : i < S.callers) (m : CallState) where
     -- the exchange of the current transaction
     pub exchange_current_kept : IsSoundMeaning S.meaning Lawful (first_operation_cell S) S.cells → HoldsAtPlace S B w.words w.batches i m ExchangeCurrent → KeepsGuarantee S Lawful B i w (after_counted_step S i m ExchangeCurrent w)
     exchange_current_kept sound a = go (current_word w.words == pack m.seq m.owner) refl
@@ -41,7 +42,7 @@ module _ (S : Setup) (Lawful : List ℕ → Type 0) (B : TableStart) where
         round = st.past.looks.round
 
         log_old : (y : ℕ) → y < 2 * S.cells + 1 → (y < length (log_words m.log)) ⊎ (length (log_words m.log) ≤ y) → seq_of (log_word_of S w.words i y) ≤ m.seq + 1
-        log_old y u (inl l) = omega (arith, ap seq_of (st.each y l), seq_word (m.seq + 1) (get_or (log_words m.log) y 0) (small_words S Lawful B m.log g.shared.little st.over.over.is_log y))
+        log_old y u (inl l) = omega (arith, ap seq_of (st.each y l), seq_word (m.seq + 1) (get_or (log_words m.log) y 0) (small_words m.log g.shared.little st.over.over.is_log y))
         log_old y u (inr l) = omega (arith, st.rest y l u)
 
         ci : m.caller ≡ i
@@ -50,9 +51,9 @@ module _ (S : Setup) (Lawful : List ℕ → Type 0) (B : TableStart) where
         go : {rs : List Read} → (b : Bool) → (current_word w.words == pack m.seq m.owner) ≡ b
             → KeepsGuarantee S Lawful B i w (record { words = set w.words 0 (if b then pack (m.seq + 1) m.caller else current_word w.words); machines = set w.machines i (after_commit_exchange m b); batches = w.batches ++ one_batch S w.words m b; reads = rs; loaded = w.loaded })
         go false q =
-            assemble_read S Lawful B w g i h _ _ (after_commit_exchange m false) (set-get_or w.words 0 0) (append-nil w.batches)
+            assemble_read g h (after_commit_exchange m false) (set-get_or w.words 0 0) (append-nil w.batches)
             (record {
-              begun = begun_as S Lawful B w g i m h m _ round.begun refl refl refl refl refl refl;
+              begun = begun_as round.begun refl refl refl refl refl refl;
               calm = calm (later_now (cases_lt m.seq (committed_seq w.words)));
               between = between (later_now (cases_lt m.seq (committed_seq w.words)));
             })
@@ -68,7 +69,7 @@ module _ (S : Setup) (Lawful : List ℕ → Type 0) (B : TableStart) where
                 absurd (ne (sym z))
 
             between : m.seq < committed_seq w.words → IsBetweenRounds w.words (next_round m)
-            between l = record { few = two_rounds S Lawful B w g i m h m st.past; later = λ z. omega (arith, round.later) }
+            between l = record { few = two_rounds g h m st.past; later = λ z. omega (arith, round.later) }
 
             calm : m.seq < committed_seq w.words → HasNothingUnderWay S B w.words w.batches i (committed_seq w.words)
             calm l = record {
@@ -82,7 +83,7 @@ module _ (S : Setup) (Lawful : List ℕ → Type 0) (B : TableStart) where
                 shut k u o (inl v) = absurd (round.unowned k v u o)
                 shut k u o (inr v) = omega (arith, a.asks, seq_less (pack k 0) (pack (m.seq + 1) 0) (omega (arith, seq_word k 0 (omega arith), seq_word (m.seq + 1) 0 (omega arith))))
         go true q =
-            assemble S Lawful B w g i h vs cs n moves shared
+            assemble g h vs cs n moves shared
             (record {
               mode = record {
                 caller = ci;
@@ -160,12 +161,12 @@ module _ (S : Setup) (Lawful : List ℕ → Type 0) (B : TableStart) where
             own_is = st.over.own is_last h
 
             stands : StatesFollowBatches S Lawful B cs
-            stands = grown S Lawful sound B w.batches g.shared.start (logs_of S Lawful B w g) g.shared.own_in g.shared.stands b m.seq n_at st.over.over st.over.taken st.over.ordered (omega (arith, own_is.1))
+            stands = grown S Lawful sound B w.batches g.shared.start (logs_of g) g.shared.own_in g.shared.stands b m.seq n_at st.over.over st.over.taken st.over.ordered (omega (arith, own_is.1))
 
             -- a ticket cell stays, or takes the ticket that its caller announces
             ticket_how : (j : ℕ) → j < S.callers → (last_ticket_by S B cs (m.seq + 1) j ≡ last_ticket_by S B w.batches m.seq j)
                 ⊎ ((y : ℕ) × (y < length m.calls) × ((get_or m.calls y no_call).caller ≡ j) × (last_ticket_by S B cs (m.seq + 1) j ≡ (get_or m.calls y no_call).ticket))
-            ticket_how j l = ticket_new S Lawful sound B w.batches g.shared.start (logs_of S Lawful B w g) g.shared.own_in g.shared.stands b m.seq n_at st.over.over st.over.taken st.over.ordered (omega (arith, own_is.1)) j l
+            ticket_how j l = ticket_new S Lawful sound B w.batches g.shared.start (logs_of g) g.shared.own_in g.shared.stands b m.seq n_at st.over.over st.over.taken st.over.ordered (omega (arith, own_is.1)) j l
 
             call_ticket : (y : ℕ) → y < length m.calls → seq_of (announcement_of S w.words (get_or m.calls y no_call).caller) ≡ (get_or m.calls y no_call).ticket
             call_ticket y l = ap seq_of (st.over.announced is_last y no_call l).says ∙ seq_word (get_or m.calls y no_call).ticket (length (get_or m.calls y no_call).op) (omega (arith, (st.over.taken y no_call l).words, g.shared.narrow))
@@ -436,7 +437,7 @@ module _ (S : Setup) (Lawful : List ℕ → Type 0) (B : TableStart) where
 
                 -- a log word with the new batch's sequence is stored and durable
                 stored_word : (x v : ℕ) → x < length (log_words m.log) → v ≡ pack (m.seq + 1) (get_or (log_words m.log) x 0) → (x < length (log_words m.log)) × (payload_of v ≡ get_or (log_words m.log) x 0)
-                stored_word x v l e = (l, ap payload_of e ∙ pay_word (m.seq + 1) (get_or (log_words m.log) x 0) (small_words S Lawful B m.log g.shared.little is_log x))
+                stored_word x v l e = (l, ap payload_of e ∙ pay_word (m.seq + 1) (get_or (log_words m.log) x 0) (small_words m.log g.shared.little is_log x))
 
                 table : (x : ℕ) {v : ℕ} → x < 2 * S.cells + 1 → v ≡ log_word_of S w.words i x → seq_of v ≡ m.seq + 1 → (x < length (log_words m.log)) × (payload_of v ≡ get_or (log_words m.log) x 0)
                 table x {v} u e q = pick (cases_lt x (length (log_words m.log)))

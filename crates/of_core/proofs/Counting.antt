@@ -7,11 +7,11 @@ use Rattle.of_core.specs.Machine.{CallState, log_words}
 use Rattle.of_core.specs.Steps.{with_step_counted}
 use Rattle.of_core.specs.TableMoment.{Moment, TableStart, one_batch}
 use Rattle.of_core.specs.History.{state_after}
-use Rattle.of_core.specs.Rounds.{IsInTry, MayHelp, IsUnannounced, IsAnnounced, IsInRound, IsPastRequest, IsPastOwnTicket, FindsOwnTicket, HasReadReplyUpTo}
-use Rattle.of_core.specs.Transaction.{AppliesAs, IsApplying, IsCopyingLog, HasStoredLog, IsStoringLog}
+use Rattle.of_core.specs.Rounds.{IsInTry, IsUnannounced, IsAnnounced, IsInRound, IsPastRequest, IsPastOwnTicket, FindsOwnTicket, HasReadReplyUpTo}
+use Rattle.of_core.specs.Transaction.{IsHelping, AppliesAs, IsApplying, IsCopyingLog, HasStoredLog, IsStoringLog}
 use Rattle.of_core.specs.Places.{IsAtCaller, IsAtEntry}
 use Rattle.of_core.specs.Invariant.{HoldsAtPlace, MeetsCore}
-use Rattle.of_core.proofs.Alike.{begun_as, round_as, looks_as, past_as, fresh_as, trying_as, helper_as}
+use Rattle.of_core.proofs.Alike.{begun_as, round_as, looks_as, past_as, fresh_as, trying_as, helping_as}
 
 -- and it commits the same
 pub same_batch : (S : Setup) (ws : List ℕ) (m : CallState) (b : Bool) → one_batch S ws (record m { steps = m.steps + 1 }) b ≡ one_batch S ws m b
@@ -23,25 +23,25 @@ module _ (S : Setup) (Lawful : List ℕ → Type 0) (B : TableStart) (w : Moment
   now = record m { steps = m.steps + 1 }
 
   fresh : IsUnannounced S B w.words w.batches i m → IsUnannounced S B w.words w.batches i now
-  fresh p = fresh_as S Lawful B w g i m h m now p refl refl refl refl refl
+  fresh p = fresh_as p refl refl refl refl refl
 
   trying : IsInTry S B w.words w.batches i m → IsInTry S B w.words w.batches i now
-  trying p = trying_as S Lawful B w g i m h m now p refl refl refl refl refl refl
+  trying p = trying_as p refl refl refl refl refl refl
 
   begun : IsAnnounced S B w.words w.batches i m → IsAnnounced S B w.words w.batches i now
-  begun p = begun_as S Lawful B w g i m h m now p refl refl refl refl refl refl
+  begun p = begun_as p refl refl refl refl refl refl
 
   round : IsInRound S B w.words w.batches i m → IsInRound S B w.words w.batches i now
-  round p = round_as S Lawful B w g i m h m now p refl refl refl refl refl refl refl refl
+  round p = round_as p refl refl refl refl refl refl refl refl
 
-  helper : MayHelp S B w.words w.batches i m → MayHelp S B w.words w.batches i now
-  helper p = helper_as S Lawful B w g i m h m now p refl refl refl refl refl refl refl refl refl
+  helping : IsHelping S B w.words w.batches i m → IsHelping S B w.words w.batches i now
+  helping p = helping_as p refl refl refl refl refl refl refl refl refl
 
   looks : IsPastRequest S B w.words w.batches i m → IsPastRequest S B w.words w.batches i now
-  looks p = looks_as S Lawful B w g i m h m now p refl refl refl refl refl refl refl refl refl
+  looks p = looks_as p refl refl refl refl refl refl refl refl refl
 
   past : IsPastOwnTicket S B w.words w.batches i m → IsPastOwnTicket S B w.words w.batches i now
-  past p = past_as S Lawful B w g i m h m now p refl refl refl refl refl refl refl refl refl
+  past p = past_as p refl refl refl refl refl refl refl refl refl
 
   found : (st : List ℕ) → FindsOwnTicket S st i m → FindsOwnTicket S st i now
   found st p = record { heard = p.heard; there = p.there }
@@ -50,7 +50,7 @@ module _ (S : Setup) (Lawful : List ℕ → Type 0) (B : TableStart) (w : Moment
   read st j p = record { shape = p.shape; replies = p.replies; rest = p.rest; many = p.many }
 
   copies : (x : ℕ) → IsCopyingLog S B w.words w.batches i m x → IsCopyingLog S B w.words w.batches i now x
-  copies x p = record { helper = helper p.helper; current_word = p.current_word; calm = p.calm; helps = p.helps; after = p.after; many = p.many; count = p.count; copied = p.copied }
+  copies x p = record { helping = helping p.helping; helps = p.helps; after = p.after; many = p.many; count = p.count; copied = p.copied }
 
   stored : (x z : ℕ) → HasStoredLog S B w.words w.batches i m x z → HasStoredLog S B w.words w.batches i now x z
   stored x z p = record { past = past p.past; over = p.over; each = p.each; durable = p.durable; rest = p.rest }
@@ -59,7 +59,7 @@ module _ (S : Setup) (Lawful : List ℕ → Type 0) (B : TableStart) (w : Moment
   logs x z p = record { stored = stored x z p.stored; own = p.own; level = p.level; shut = p.shut }
 
   mode : (b : Bool) → AppliesAs S B w.words w.batches i m b → AppliesAs S B w.words w.batches i now b
-  mode true p = (helper p.0, p.1, p.2)
+  mode true p = helping p
   mode false p = record { caller = p.caller; owner = p.owner; says = p.says; upto = p.upto; reached = p.reached; call = p.call; asks = p.asks; unowned = p.unowned; logs = p.logs }
 
   applies : (j : ℕ) → IsApplying S B w.words w.batches i m j → IsApplying S B w.words w.batches i now j

@@ -1,5 +1,5 @@
 -- A step leaves each durable word as it was, or makes it the word that its cell holds.
-use Rattle.std.proofs.Common.{◌≡◌, ℕ, ◌+◌, ◌*◌, ◌-◌, ◌<◌, ◌≤◌, ◌⊎◌, inl, inr, List, length, get_or, set, max, sym, ◌∙◌, ap, subst, arith, Bool, true, false}
+use Rattle.std.proofs.Common.{◌≡◌, ℕ, ◌+◌, ◌*◌, ◌-◌, ◌<◌, ◌≤◌, ◌⊎◌, inl, inr, List, length, get_or, set, max, sym, ◌∙◌, ap, arith, Bool, true, false}
 use Rattle.std.proofs.lemmas.Bool.{cases_eq, cases_lt, cases_order}
 use Rattle.std.proofs.lemmas.List.{get_or-set_same, get_or-set_other, set-get_or, get_or_default}
 use Rattle.of_cell.specs.declared.word.TheConstants.{PAYLOADS}
@@ -18,7 +18,7 @@ use Rattle.of_core.specs.Invariant.{HoldsAtPlace, MeetsCore}
 use Rattle.of_core.specs.Events.{machine_in}
 use Rattle.of_core.proofs.States.{later_by, old}
 use Rattle.of_core.proofs.Logs.{length-log_words}
-use Rattle.of_core.proofs.Stability.{log_in}
+use Rattle.of_core.proofs.Stability.{entry_in, owner_in, log_in}
 use Rattle.of_core.proofs.Assembling.{logs_of}
 
 -- closed and open requests of an older and a newer batch
@@ -47,7 +47,7 @@ module _ (S : Setup) (Lawful : List ℕ → Type 0) (B : TableStart) (w : Moment
     applying x a = go n.helps a.mode
       where
         go : (b : Bool) → AppliesAs S B w.words w.batches j n b → Leveled
-        go true d = inl d.2.level
+        go true d = inl d.calm.level
         go false d = inr (inr (d, a.after, a.upto, a.committed))
 
     leveled : (p : Place) → HoldsAtPlace S B w.words w.batches j n p → Leveled
@@ -59,8 +59,8 @@ module _ (S : Setup) (Lawful : List ℕ → Type 0) (B : TableStart) (w : Moment
     leveled StoreAnnouncement a = inl a.calm.level
     leveled LoadCurrent a = inl a.calm.level
     leveled LoadRequest a = inl a.calm.level
-    leveled (CopyLog x) a = inl a.copies.calm.level
-    leveled LookAgain a = inl a.copies.calm.level
+    leveled (CopyLog x) a = inl a.copies.helping.calm.level
+    leveled LookAgain a = inl a.copies.helping.calm.level
     leveled LoadOwnTicket a = inl a.calm.level
     leveled LoadShape a = inl a.calm.level
     leveled (LoadReply x) a = inl a.calm.level
@@ -113,7 +113,7 @@ module _ (S : Setup) (Lawful : List ℕ → Type 0) (B : TableStart) (w : Moment
 
   -- a cell's words rise from state to state
   pub at_up : (k n a : ℕ) → B.seq ≤ k → k ≤ n → n ≤ committed_seq w.words → a < S.cells → data_word_after B w.batches k a ≤ data_word_after B w.batches n a
-  at_up k n a l u t a_in = go (rw e at (later_by S B w.batches g.shared.start (logs_of S Lawful B w g) (n - k) k a l (omega (arith, u, t, count)) a_in))
+  at_up k n a l u t a_in = go (rw e at (later_by S B w.batches g.shared.start (logs_of g) (n - k) k a l (omega (arith, u, t, count)) a_in))
     where
       e : k + (n - k) ≡ n
       e = omega (arith, u)
@@ -121,7 +121,7 @@ module _ (S : Setup) (Lawful : List ℕ → Type 0) (B : TableStart) (w : Moment
       go : (data_word_after B w.batches n a ≡ data_word_after B w.batches k a) ⊎ (k < seq_of (data_word_after B w.batches n a)) → data_word_after B w.batches k a ≤ data_word_after B w.batches n a
       go (inl q) = omega (arith, q)
       go (inr q) =
-          let z : seq_of (data_word_after B w.batches k a) ≤ k = old S B w.batches g.shared.start (logs_of S Lawful B w g) k a l (omega (arith, u, t, count)) a_in in
+          let z : seq_of (data_word_after B w.batches k a) ≤ k = old S B w.batches g.shared.start (logs_of g) k a l (omega (arith, u, t, count)) a_in in
           let less : data_word_after B w.batches k a < data_word_after B w.batches n a = seq_less (data_word_after B w.batches k a) (data_word_after B w.batches n a) (omega (arith, q, z)) in
           omega (arith, less)
 
@@ -136,7 +136,7 @@ module _ (S : Setup) (Lawful : List ℕ → Type 0) (B : TableStart) (w : Moment
       is = held.3
 
       late : durable_seq S w.words < k → (f ≤ data_word_after B w.batches (durable_seq S w.words) a) ⊎ (durable_seq S w.words < seq_of f)
-      late l = go (rw e at (later_by S B w.batches g.shared.start (logs_of S Lawful B w g) (k - durable_seq S w.words) (durable_seq S w.words) a g.shared.durable.from (omega (arith, l, held.2, count)) a_in))
+      late l = go (rw e at (later_by S B w.batches g.shared.start (logs_of g) (k - durable_seq S w.words) (durable_seq S w.words) a g.shared.durable.from (omega (arith, l, held.2, count)) a_in))
         where
           e : durable_seq S w.words + (k - durable_seq S w.words) ≡ k
           e = omega (arith, l)
@@ -195,18 +195,12 @@ module _ (S : Setup) (Lawful : List ℕ → Type 0) (B : TableStart) (w : Moment
         go (inl e) (inl q) = inl (omega (arith, now e, q, ap (durable_word S w.words) e))
         go (inl e) (inr q) = inr (omega (arith, now e, q, g.shared.durable.low c l, ap (λ (x : ℕ). get_or w.words x 0) e))
 
-    pub owner_in : (x : ℕ) → IsApplying S B w.words w.batches i m x → m.owner < S.callers
-    owner_in x a = rw (← a.committed) (g.shared.counted.owners m.seq a.after a.upto)
-
-    pub entry_in : (x y : ℕ) → IsApplying S B w.words w.batches i m x → y < length m.log → (log_entry m y).0 < S.cells
-    entry_in x y a l = let t = a.log.each y l in (subst (λ (e : ℕ × ℕ). e.0 < S.cells) t.2 ((g.shared.counted.logs m.seq a.after a.upto).entries t.0 (0, 0) t.1).0)
-
     -- the current-transaction word of the batch that is applied
     current_held : IsApplying S B w.words w.batches i m 0 → (pack m.seq m.owner ≤ durable_word S w.words 0) ⊎ (pack m.seq m.owner ≡ get_or w.words 0 0)
     current_held a = go (cases_order m.seq (committed_seq w.words))
       where
         small : m.owner < PAYLOADS
-        small = omega (arith, owner_in 0 a, g.shared.few)
+        small = omega (arith, owner_in g.shared a, g.shared.few)
 
         below : m.seq ≤ durable_seq S w.words → (m.seq ≡ durable_seq S w.words) ⊎ ((m.seq < durable_seq S w.words) ⊎ (durable_seq S w.words < m.seq)) → pack m.seq m.owner ≤ durable_word S w.words 0
         below l (inl e) =
@@ -233,7 +227,7 @@ module _ (S : Setup) (Lawful : List ℕ → Type 0) (B : TableStart) (w : Moment
       where
         go : (pack m.seq 1 ≡ request_of w.words m.owner) ⊎ ((pack m.seq 1 < request_of w.words m.owner) ⊎ (request_of w.words m.owner < pack m.seq 1)) → (pack m.seq 1 ≤ durable_request S w.words m.owner) ⊎ (pack m.seq 1 ≡ request_of w.words m.owner)
         go (inl e) = inr e
-        go (inr (inl u)) = inl (closed_low m.owner m.seq (owner_in x a) a.after a.upto a.committed u)
+        go (inr (inl u)) = inl (closed_low m.owner m.seq (owner_in g.shared a) a.after a.upto a.committed u)
         go (inr (inr u)) = absurd (omega (arith, u, l, word_next m.seq 0))
 
     durables : (p : Place) → HoldsAtPlace S B w.words w.batches i m p → (c : ℕ) → c < cell_count S → Stays (words_after (want_at S m p) w.words) c
@@ -245,11 +239,11 @@ module _ (S : Setup) (Lawful : List ℕ → Type 0) (B : TableStart) (w : Moment
         elsewhere (log_at S m.caller x) _ c (λ e. omega (arith, e, ap (λ (k : ℕ). log_at S k x) ci, log_in S i x h (omega (arith, length-log_words m.log, st.over.over.is_log.few, a.more))))
     durables StoreRequest a c l = elsewhere (request_at m.caller) _ c (λ e. omega (arith, e, a.stored.past.looks.round.begun.caller, h))
     durables ExchangeCurrent a c l = elsewhere 0 _ c (λ e. omega (arith, e))
-    durables (ExchangeTarget x f) a c l = elsewhere (data_at S (log_entry m x).0) _ c (λ e. omega (arith, e, entry_in x x a.entry.applies a.entry.more))
-    durables CloseRequest a c l = elsewhere (request_at m.owner) _ c (λ e. omega (arith, e, owner_in (length m.log) a.applies))
+    durables (ExchangeTarget x f) a c l = elsewhere (data_at S (log_entry m x).0) _ c (λ e. omega (arith, e, (entry_in g.shared a.entry.applies x a.entry.more).0))
+    durables CloseRequest a c l = elsewhere (request_at m.owner) _ c (λ e. omega (arith, e, owner_in g.shared a.applies))
     durables RaiseOld a c l =
         let ci : m.caller ≡ i = a.past.looks.round.begun.caller in
-        raised (request_at m.caller) m.kept c l (omega (arith, ci, h)) (inl (rw ci (omega (arith, a.past.looks.round.begun.kept.0, a.calm.level))))
+        raised (request_at m.caller) m.kept c l (omega (arith, ci, h)) (inl (rw ci (omega (arith, a.past.looks.round.begun.kept.low, a.calm.level))))
     durables (RaiseLog x) a c l =
         let st = a.storing.stored in
         let ci : m.caller ≡ i = st.past.looks.round.begun.caller in
@@ -260,9 +254,9 @@ module _ (S : Setup) (Lawful : List ℕ → Type 0) (B : TableStart) (w : Moment
         raised (request_at m.caller) _ c l (omega (arith, ci, h)) (inr (rw ci (sym a.asks)))
     durables RaiseCurrent a c l = raised 0 _ c l (omega arith) (current_held a)
     durables (RaiseTarget x f) a c l =
-        let y_in : (log_entry m x).0 < S.cells = entry_in x x a.entry.applies a.entry.more in
+        let y_in : (log_entry m x).0 < S.cells = (entry_in g.shared a.entry.applies x a.entry.more).0 in
         raised (data_at S (log_entry m x).0) f c l (omega (arith, y_in)) (held_low (log_entry m x).0 f y_in a.low a.held)
-    durables RaiseClosed a c l = raised (request_at m.owner) _ c l (omega (arith, owner_in (length m.log) a.applies)) (closed_held (length m.log) a.applies a.closed)
+    durables RaiseClosed a c l = raised (request_at m.owner) _ c l (omega (arith, owner_in g.shared a.applies)) (closed_held (length m.log) a.applies a.closed)
     durables p a c l = inl (ap (λ (vs : List ℕ). durable_word S vs c) (set-get_or w.words (word_of (want_at S m p)) 0))
 
     pub step_durables : get_or w.machines i m ≡ m → (n : ℕ) → IsFoundBy (want S m) w.words n → (c : ℕ) → c < cell_count S → Stays (after_step S i m n w).words c

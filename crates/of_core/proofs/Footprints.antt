@@ -23,6 +23,8 @@ use Rattle.of_core.proofs.OwnReply.{done_now}
 use Rattle.of_core.proofs.Scans.{ticket_in_cells}
 use Rattle.of_core.proofs.Happenings.{event_good}
 use Rattle.of_core.proofs.InTime.{steps_rise, of_machine, now_open}
+use Rattle.of_core.proofs.Unknown.{none_known}
+use Rattle.of_core.proofs.StepSums.{fewer, row_cost, first_row, next_sum, done_sum, known_sum, known_sum0, again_sum, again_sum0, try_lost, cell_learnt, word_stored, words_stored, word_copied, words_copied, still_open, now_closed, round_lost, shape_read, reply_read, replies_skipped, row_heard, row_begun, row_skipped, word_loaded, words_loaded, log_word_stored, log_word_raised, log_raised, older_found, newer_found, entry_exchanged, entry_raised, entries_raised, request_closed, apply_ended}
 
 -- nothing is known at first
 knowns_none : (n : ℕ) → knowns (replicate n None) ≡ 0
@@ -39,9 +41,6 @@ knowns_set (Some x ∷ ks) (suc a) v l e = omega (arith, knowns_set ks a v (omeg
 
 one_more : (r q : ℕ) → (r + 1) * q ≡ r * q + q
 one_more r q = grind arith
-
-row_cost : (n s q : ℕ) → s + 1 < n → (n - (s + 1) - 1) * q + q ≡ (n - s - 1) * q
-row_cost n s q l = let e : n - s - 1 ≡ n - (s + 1) - 1 + 1 = omega arith in rw e (sym (one_more (n - (s + 1) - 1) q))
 
 -- What is left of a try or a round, and behind it.
 module _ (S : Setup) (W R : ℕ) where
@@ -132,30 +131,6 @@ opens_sparing S W R m op = go (S.meaning.reads_only op)
     go true = record { copies = tt; few = few; steps = first (length op) (apply_steps W) (try_steps W R) (round_steps S W R) }
     go false = record { copies = tt; few = few; steps = sum (length op) (apply_steps W) (try_steps W R) (round_steps S W R) }
 
-next_sum : (st k x y u t r l : ℕ) → x + k ≡ y → st + (y + u + t + r) ≤ l → st + (k + (x + u + t + r)) ≤ l
-next_sum st k x y u t r l e h = omega arith
-
-done_sum : (st y u t r l : ℕ) → st + (y + u + t + r) ≤ l → st + (t + r) ≤ l
-done_sum st y u t r l h = omega arith
-
--- one cell more is known
-known_sum : (st a y u v t r l : ℕ) → v + 1 ≡ u → st + (a + (y + u + t + r)) ≤ l → st + 1 + (a + (y + v + t + r)) ≤ l
-known_sum st a y u v t r l e h = omega arith
-
-known_sum0 : (st y u v t r l : ℕ) → v + 1 ≡ u → st + (y + u + t + r) ≤ l → st + 1 + (y + v + t + r) ≤ l
-known_sum0 st y u v t r l e h = omega arith
-
--- the round begins again
-again_sum : (st a y u t r l : ℕ) → 1 ≤ t → st + (a + (y + u + t + r)) ≤ l → st + 1 + r ≤ l
-again_sum st a y u t r l k h = omega arith
-
-again_sum0 : (st y u t r l : ℕ) → 1 ≤ t → st + (y + u + t + r) ≤ l → st + 1 + r ≤ l
-again_sum0 st y u t r l k h = omega arith
-
--- one step less is left
-fewer : (s a b l : ℕ) → s + a ≤ l → b + 1 ≤ a → s + 1 + b ≤ l
-fewer s a b l h k = omega arith
-
 module _ (S : Setup) (W R : ℕ) where
   -- the scan goes on behind the caller that it has come to
   next_sparing : (n : CallState) → Few S n → n.scan < S.callers → n.steps + scan_left S W R n ≤ allowed S W R n → (b : Bool) → nat_lt (n.scan + 1) S.callers ≡ b → Spares S W R (next_scanned_caller n b) (next_scanned_caller n b).place
@@ -168,14 +143,8 @@ module _ (S : Setup) (W R : ℕ) where
   next_sparing n f l h false e = record { copies = tt; few = f; steps = done_sum n.steps ((S.callers - n.scan - 1) * (S.instrs + 1)) (R - knowns n.known) (store_steps W) (apply_steps W) (allowed S W R n) h }
 
   weighed_sparing : (n : CallState) → Few S n → n.scan < S.callers → n.steps + (S.instrs + scan_left S W R n) ≤ allowed S W R n → (b : Bool) → Spares S W R (weigh S n b) (weigh S n b).place
-  weighed_sparing n f l h true = record { copies = tt; few = f; steps = same n.steps S.instrs (scan_left S W R n) (allowed S W R n) h }
-    where
-      same : (s k x l : ℕ) → s + (k + x) ≤ l → s + (k - 0 + x) ≤ l
-      same s k x l h = omega arith
-  weighed_sparing n f l h false = next_sparing n f l (less n.steps S.instrs (scan_left S W R n) (allowed S W R n) h) (nat_lt (n.scan + 1) S.callers) refl
-    where
-      less : (s k x l : ℕ) → s + (k + x) ≤ l → s + x ≤ l
-      less s k x l h = omega arith
+  weighed_sparing n f l h true = record { copies = tt; few = f; steps = row_begun n.steps S.instrs (scan_left S W R n) (allowed S W R n) h }
+  weighed_sparing n f l h false = next_sparing n f l (row_skipped n.steps S.instrs (scan_left S W R n) (allowed S W R n) h) (nat_lt (n.scan + 1) S.callers) refl
 
   ran_sparing : (n : CallState) → Few S n → n.scan < S.callers → n.steps + scan_left S W R n ≤ allowed S W R n → (r : WalkEnd) → Spares S W R (after_script_run S n r) (after_script_run S n r).place
   ran_sparing n f l h (Needs a) = record { copies = tt; few = f; steps = h }
@@ -186,10 +155,7 @@ module _ (S : Setup) (W R : ℕ) where
     where
       none : (s y l : ℕ) → s + y ≤ l → 0 + 0 ≤ l
       none s y l h = omega arith
-  asks_sparing n x f h (Some k) g = record { copies = tt; few = f; steps = sum n.steps S.instrs x k (allowed S W R n) h (g k refl) }
-    where
-      sum : (s i x k l : ℕ) → s + (i - x) ≤ l → x ≤ k → s + (i - k) ≤ l
-      sum s i x k l h f = omega arith
+  asks_sparing n x f h (Some k) g = record { copies = tt; few = f; steps = replies_skipped n.steps S.instrs x k (allowed S W R n) h (g k refl) }
 
   reads_sparing : (n : CallState) → Few S n → n.steps + (R - knowns n.known + announced S W R n) ≤ allowed S W R n → Spares S W R (read_on S n) (read_on S n).place
   reads_sparing n f h = go (S.meaning.walk n.known n.op)
@@ -269,33 +235,21 @@ module _ (S : Setup) (W R : ℕ) where
         one : R - knowns (with_cell_known S m x found) + 1 ≡ R - knowns m.known
         one = learns (TryCell x) x found e refl (omega (arith, a.state.all, a.in_cells)) a.unknown
 
-        again : (s u v r l : ℕ) → v + 1 ≡ u → s + (u + r) ≤ l → s + 1 + r ≤ l
-        again s u v r l e h = omega arith
-
         aloud : (s u v y r l : ℕ) → v + 1 ≡ u → s + (u + (y + 1 + r)) ≤ l → s + 1 + (y - 0 + 1 + r) ≤ l
         aloud s u v y r l e h = omega arith
 
-        less : (s u v r l : ℕ) → v + 1 ≡ u → s + (u + r) ≤ l → s + 1 + (v + r) ≤ l
-        less s u v r l e h = omega arith
-
         over : (b : Bool) → Spares S W R (end_try now b) (end_try now b).place
-        over true = record { copies = tt; few = t.few; steps = again m.steps (R - knowns m.known) (R - knowns (with_cell_known S m x found)) (announced S W R m) (allowed S W R m) one t.steps }
+        over true = record { copies = tt; few = t.few; steps = try_lost m.steps (R - knowns m.known) (R - knowns (with_cell_known S m x found)) (announced S W R m) (allowed S W R m) one t.steps }
         over false = record { copies = tt; few = t.few; steps = aloud m.steps (R - knowns m.known) (R - knowns (with_cell_known S m x found)) (length m.op) (apply_steps W) (allowed S W R m) one t.steps }
 
         go : (b : Bool) → Spares S W R (after_try_cell S now x found b) (after_try_cell S now x found b).place
         go true = over (nat_lt m.tries MOST_TRIES)
-        go false = reads_sparing (record now { known = with_cell_known S m x found }) t.few (less m.steps (R - knowns m.known) (R - knowns (with_cell_known S m x found)) (announced S W R m) (allowed S W R m) one t.steps)
+        go false = reads_sparing (record now { known = with_cell_known S m x found }) t.few (cell_learnt m.steps (R - knowns m.known) (R - knowns (with_cell_known S m x found)) (announced S W R m) (allowed S W R m) one t.steps)
     sparing (StoreScript j) o a t e v = go (nat_lt (j + 1) (length m.op))
       where
-        more : (s i j x l : ℕ) → j < i → s + (i - j + 1 + x) ≤ l → s + 1 + (i - (j + 1) + 1 + x) ≤ l
-        more s i j x l k h = omega arith
-
-        last : (s i j x l : ℕ) → j < i → s + (i - j + 1 + x) ≤ l → s + 1 + (1 + x) ≤ l
-        last s i j x l k h = omega arith
-
         go : (b : Bool) → Spares S W R (after_store_script now j b) (after_store_script now j b).place
-        go true = record { copies = tt; few = t.few; steps = more m.steps (length m.op) j (apply_steps W) (allowed S W R m) a.more t.steps }
-        go false = record { copies = tt; few = t.few; steps = last m.steps (length m.op) j (apply_steps W) (allowed S W R m) a.more t.steps }
+        go true = record { copies = tt; few = t.few; steps = word_stored m.steps (length m.op) j (apply_steps W) (allowed S W R m) a.more t.steps }
+        go false = record { copies = tt; few = t.few; steps = words_stored m.steps (length m.op) j (apply_steps W) (allowed S W R m) a.more t.steps }
     sparing StoreAnnouncement o a t e v = record { copies = tt; few = t.few; steps = fewer m.steps (1 + apply_steps W) (apply_steps W) (allowed S W R m) t.steps (omega arith) }
     sparing LoadCurrent o a t e v = record {
       copies = tt;
@@ -326,12 +280,6 @@ module _ (S : Setup) (W R : ℕ) where
         found : ℕ
         found = get_or w.words (word_of (want_at S m (CopyLog x))) 0
 
-        more : (s c x k r l : ℕ) → x < c → s + (c - x + 1 + k + r) ≤ l → s + 1 + (c - (x + 1) + 1 + k + r) ≤ l
-        more s c x k r l z h = omega arith
-
-        last : (s c x k r l : ℕ) → x < c → s + (c - x + 1 + k + r) ≤ l → s + 1 + (1 + k + r) ≤ l
-        last s c x k r l z h = omega arith
-
         under : (x n c : ℕ) → x < 2 * n + 1 → n ≤ c → x < 2 * c + 1
         under x n c l k = omega arith
 
@@ -339,31 +287,22 @@ module _ (S : Setup) (W R : ℕ) where
         go true q v = record {
           copies = under (x + 1) (get_or (with_log_word_copied m found) 0 0) W (is_newer (x + 1) (2 * get_or (with_log_word_copied m found) 0 0 + 1) q) v.copy;
           few = t.few;
-          steps = more m.steps (2 * W + 1) x (apply_steps W) (helped S W R m (m.rounds == 0)) (allowed S W R m) t.copies t.steps;
+          steps = word_copied m.steps (2 * W + 1) x (apply_steps W) (helped S W R m (m.rounds == 0)) (allowed S W R m) t.copies t.steps;
         }
-        go false q v = record { copies = tt; few = t.few; steps = last m.steps (2 * W + 1) x (apply_steps W) (helped S W R m (m.rounds == 0)) (allowed S W R m) t.copies t.steps }
+        go false q v = record { copies = tt; few = t.few; steps = words_copied m.steps (2 * W + 1) x (apply_steps W) (helped S W R m (m.rounds == 0)) (allowed S W R m) t.copies t.steps }
     sparing LookAgain o a t e v = go (get_or w.words (m.owner + 1) 0 == pack m.seq 0) (m.rounds == 0) t.steps
       where
-        opens : (s k r l : ℕ) → s + (1 + k + r) ≤ l → s + 1 + (k + r) ≤ l
-        opens s k r l h = omega arith
-
-        closed : (s k r l : ℕ) → s + (1 + k + r) ≤ l → s + 1 + r ≤ l
-        closed s k r l h = omega arith
-
         helping : (b : Bool) → b ≡ true → m.steps + 1 + (apply_steps W + behind_apply S W R m b) ≤ allowed S W R m
-        helping true q = opens m.steps (apply_steps W) (helped S W R m (m.rounds == 0)) (allowed S W R m) t.steps
+        helping true q = still_open m.steps (apply_steps W) (helped S W R m (m.rounds == 0)) (allowed S W R m) t.steps
         helping false q = cc
 
         go : (b d : Bool) → m.steps + (1 + apply_steps W + helped S W R m d) ≤ allowed S W R m → Spares S W R (after_look_again S now b d) (after_look_again S now b d).place
         go true d z = record { copies = tt; few = t.few; steps = helping m.helps a.copies.helps }
-        go false d z = resumed_sparing now d t.few (closed m.steps (apply_steps W) (helped S W R m d) (allowed S W R m) z)
+        go false d z = resumed_sparing now d t.few (now_closed m.steps (apply_steps W) (helped S W R m d) (allowed S W R m) z)
     sparing LoadOwnTicket o a t e v = go (nat_lt m.seq (seq_of found)) (payload_of found == m.made) (m.seq == S.limit)
       where
         found : ℕ
         found = get_or w.words (word_of (want_at S m LoadOwnTicket)) 0
-
-        newer : (s x r l : ℕ) → 1 ≤ x → s + (x + r) ≤ l → s + 1 + r ≤ l
-        newer s x r l z h = omega arith
 
         shape : (s k r p d x l : ℕ) → k + 1 ≤ p → 1 ≤ d → s + (r + p + d + x) ≤ l → s + 1 + (k + 1) ≤ l
         shape s k r p d x l z q h = omega arith
@@ -371,79 +310,58 @@ module _ (S : Setup) (W R : ℕ) where
         call : (s k r p u y d x l : ℕ) → u + 1 ≡ r → k + y ≡ p → s + (r + p + d + x) ≤ l → s + 1 + (k + (y + u + d + x)) ≤ l
         call s k r p u y d x l z q h = omega arith
 
-        one_row : (n s q : ℕ) → s ≡ 0 → 0 < n → q + (n - s - 1) * q ≡ n * q
-        one_row (suc n) s q e l = rw e (grind arith)
-        one_row zero s q e l = absurd (omega arith)
-
         none : (s x l : ℕ) → s + x ≤ l → 0 + 0 ≤ l
         none s x l h = omega arith
 
         cells_in : ticket_cell S m.caller < S.cells
-        cells_in = rw a.looks.round.begun.caller (ticket_in_cells S Lawful B w g i m h i h)
-
-        none_of : (n y : ℕ) → get_or {A = Option ℕ} (replicate n None) y None ≡ None
-        none_of zero y = refl
-        none_of (suc n) zero = refl
-        none_of (suc n) (suc y) = none_of n y
-
-        none_at : (ks : List (Option ℕ)) → ks ≡ no_cell_known S → get_or ks (ticket_cell S m.caller) None ≡ None
-        none_at ks q = rw q (none_of S.cells (ticket_cell S m.caller))
+        cells_in = rw a.looks.round.begun.caller (ticket_in_cells g h i h)
 
         known_one : R - knowns (with_cell_known S m (ticket_cell S m.caller) found) + 1 ≡ R
-        known_one = learns LoadOwnTicket (ticket_cell S m.caller) found e refl (omega (arith, a.looks.all, cells_in)) (none_at m.known a.no_cell) ∙ all (knowns m.known) (ap knowns a.no_cell ∙ knowns_none S.cells)
+        known_one = learns LoadOwnTicket (ticket_cell S m.caller) found e refl (omega (arith, a.looks.all, cells_in)) (rw a.no_cell (none_known S.cells (ticket_cell S m.caller))) ∙ all (knowns m.known) (ap knowns a.no_cell ∙ knowns_none S.cells)
           where
             all : (k : ℕ) → k ≡ 0 → R - k ≡ R
             all k e = omega arith
 
         go : (b c d : Bool) → Spares S W R (after_own_ticket S now found b c d) (after_own_ticket S now found b c d).place
-        go true c d = record { copies = tt; few = t.few; steps = newer m.steps (behind_help S W R) (apply_steps W) (allowed S W R m) (omega arith) t.steps }
+        go true c d = record { copies = tt; few = t.few; steps = round_lost m.steps (behind_help S W R) (apply_steps W) (allowed S W R m) (omega arith) t.steps }
         go false true d = record { copies = tt; few = t.few; steps = shape m.steps S.instrs R (S.callers * (S.instrs + 1)) (store_steps W) (apply_steps W) (allowed S W R m) words_row (omega arith) t.steps }
         go false false true = record { copies = tt; few = t.few; steps = none m.steps (behind_help S W R + apply_steps W) (allowed S W R m) t.steps }
         go false false false = record {
           copies = tt;
           few = t.few;
           steps = call m.steps (S.instrs + 1) R (S.callers * (S.instrs + 1)) (R - knowns (with_cell_known S m (ticket_cell S m.caller) found)) ((S.callers - m.scan - 1) * (S.instrs + 1)) (store_steps W) (apply_steps W) (allowed S W R m)
-              known_one (one_row S.callers m.scan (S.instrs + 1) a.no_scan (omega arith)) t.steps;
+              known_one (first_row S.callers m.scan (S.instrs + 1) a.no_scan (omega arith)) t.steps;
         }
     sparing LoadShape o a t e v = go (nat_lt m.seq (seq_of found)) refl
       where
         found : ℕ
         found = data_word S w.words (shape_cell S m.caller)
 
-        same : (s i l : ℕ) → s + (i + 1) ≤ l → s + 1 + (i - 0) ≤ l
-        same s i l h = omega arith
-
         fresh : seq_of (data_word S w.words (shape_cell S m.caller)) ≤ m.seq
-        fresh = rw a.looks.round.begun.caller (own_row_old S Lawful B w g i m h m a.looks (done_now S Lawful B w g i m h m a.finds) (shape_cell S i) (omega arith, omega arith))
+        fresh = rw a.looks.round.begun.caller (own_row_old g h m a.looks (done_now g h m a.finds) (shape_cell S i) (omega arith, omega arith))
 
         go : (b : Bool) → nat_lt m.seq (seq_of found) ≡ b → Spares S W R (after_load_shape S now found b) (after_load_shape S now found b).place
         go true q = let z : m.seq < seq_of found = is_newer m.seq (seq_of found) q in absurd (omega (arith, fresh))
-        go false q = asks_sparing (with_shape S now found) 0 t.few (same m.steps S.instrs (allowed S W R m) t.steps) (first_marked_place (payload_of found) 0 S.instrs) (λ k z. omega arith)
+        go false q = asks_sparing (with_shape S now found) 0 t.few (shape_read m.steps S.instrs (allowed S W R m) t.steps) (first_marked_place (payload_of found) 0 S.instrs) (λ k z. omega arith)
     sparing (LoadReply j) o a t e v = go (nat_lt m.seq (seq_of found)) refl
       where
         found : ℕ
         found = data_word S w.words (reply_cell S m.caller j)
 
         fresh : seq_of (data_word S w.words (reply_cell S m.caller j)) ≤ m.seq
-        fresh = rw a.looks.round.begun.caller (own_row_old S Lawful B w g i m h m a.looks (done_now S Lawful B w g i m h m a.finds) (reply_cell S i j) (omega arith, omega (arith, a.in_reply)))
-
-        less : (s i j l : ℕ) → j < i → s + (i - j) ≤ l → s + 1 + (i - (j + 1)) ≤ l
-        less s i j l z h = omega arith
+        fresh = rw a.looks.round.begun.caller (own_row_old g h m a.looks (done_now g h m a.finds) (reply_cell S i j) (omega arith, omega (arith, a.in_reply)))
 
         go : (b : Bool) → nat_lt m.seq (seq_of found) ≡ b → Spares S W R (after_load_reply S now j found b) (after_load_reply S now j found b).place
         go true q = let z : m.seq < seq_of found = is_newer m.seq (seq_of found) q in absurd (omega (arith, fresh))
-        go false q = asks_sparing (with_reply now j found) (j + 1) t.few (less m.steps S.instrs j (allowed S W R m) a.in_reply t.steps) (first_marked_place m.raw.shape (j + 1) (S.instrs - j - 1)) (λ k z. (mark_some m.raw.shape (j + 1) (S.instrs - j - 1) k z).0)
+        go false q = asks_sparing (with_reply now j found) (j + 1) t.few (reply_read m.steps S.instrs j (allowed S W R m) a.in_reply t.steps) (first_marked_place m.raw.shape (j + 1) (S.instrs - j - 1)) (λ k z. (mark_some m.raw.shape (j + 1) (S.instrs - j - 1) k z).0)
     sparing LoadAnnouncement o a t e v = go (get_or m.known (ticket_cell S m.scan) None)
       where
         found : ℕ
         found = get_or w.words (word_of (want_at S m LoadAnnouncement)) 0
 
-        less : (s k x l : ℕ) → s + (k + 1 + x) ≤ l → s + 1 + (k + x) ≤ l
-        less s k x l h = omega arith
-
         go : (r : Option ℕ) → Spares S W R (after_announcement S now found r) (after_announcement S now found r).place
-        go None = record { copies = tt; few = t.few; steps = less m.steps S.instrs (scan_left S W R m) (allowed S W R m) t.steps }
-        go (Some x) = weighed_sparing (record now { heard = found }) t.few a.in_range (less m.steps S.instrs (scan_left S W R m) (allowed S W R m) t.steps) (nat_lt x (seq_of found))
+        go None = record { copies = tt; few = t.few; steps = row_heard m.steps S.instrs (scan_left S W R m) (allowed S W R m) t.steps }
+        go (Some x) = weighed_sparing (record now { heard = found }) t.few a.in_range (row_heard m.steps S.instrs (scan_left S W R m) (allowed S W R m) t.steps) (nat_lt x (seq_of found))
     sparing LoadTicket o a t e v = go (nat_lt m.seq (seq_of found))
       where
         found : ℕ
@@ -453,7 +371,7 @@ module _ (S : Setup) (W R : ℕ) where
         go true = record { copies = tt; few = t.few; steps = again_sum m.steps S.instrs ((S.callers - m.scan - 1) * (S.instrs + 1)) (R - knowns m.known) (store_steps W) (apply_steps W) (allowed S W R m) (omega arith) t.steps }
         go false = weighed_sparing (record now { known = with_cell_known S m (ticket_cell S m.scan) found }) t.few a.scanning.in_range
             (known_sum m.steps S.instrs ((S.callers - m.scan - 1) * (S.instrs + 1)) (R - knowns m.known) (R - knowns (with_cell_known S m (ticket_cell S m.scan) found)) (store_steps W) (apply_steps W) (allowed S W R m)
-            (learns LoadTicket (ticket_cell S m.scan) found e refl (omega (arith, a.scanning.past.looks.all, ticket_in_cells S Lawful B w g i m h m.scan a.scanning.in_range)) a.unknown) t.steps)
+            (learns LoadTicket (ticket_cell S m.scan) found e refl (omega (arith, a.scanning.past.looks.all, ticket_in_cells g h m.scan a.scanning.in_range)) a.unknown) t.steps)
             (nat_lt (payload_of found) (seq_of m.heard))
     sparing (LoadScript j) o a t e v = go (nat_lt (j + 1) (payload_of m.heard))
       where
@@ -463,15 +381,9 @@ module _ (S : Setup) (W R : ℕ) where
         j_in : j < S.instrs
         j_in = omega (arith, a.more, a.heard.small)
 
-        more : (s i j x l : ℕ) → j < i → s + (i - j + x) ≤ l → s + 1 + (i - (j + 1) + x) ≤ l
-        more s i j x l z h = omega arith
-
-        last : (s i j x l : ℕ) → j < i → s + (i - j + x) ≤ l → s + 1 + x ≤ l
-        last s i j x l z h = omega arith
-
         go : (b : Bool) → Spares S W R (after_load_script S now j found b) (after_load_script S now j found b).place
-        go true = record { copies = tt; few = t.few; steps = more m.steps S.instrs j (scan_left S W R m) (allowed S W R m) j_in t.steps }
-        go false = ran_sparing (record now { script = with_script_word m found }) t.few a.scanning.in_range (last m.steps S.instrs j (scan_left S W R m) (allowed S W R m) j_in t.steps) (S.meaning.walk (overlaid m.known m.log) (with_script_word m found))
+        go true = record { copies = tt; few = t.few; steps = word_loaded m.steps S.instrs j (scan_left S W R m) (allowed S W R m) j_in t.steps }
+        go false = ran_sparing (record now { script = with_script_word m found }) t.few a.scanning.in_range (words_loaded m.steps S.instrs j (scan_left S W R m) (allowed S W R m) j_in t.steps) (S.meaning.walk (overlaid m.known m.log) (with_script_word m found))
     sparing (LoadCell x) o a t e v = go (nat_lt m.seq (seq_of found))
       where
         found : ℕ
@@ -487,10 +399,7 @@ module _ (S : Setup) (W R : ℕ) where
       where
         sum : (s c r l : ℕ) → s + (store_steps c + r) ≤ l → s + 1 + (2 * (2 * c + 1 - 0) + 3 + r) ≤ l
         sum s c r l h = omega arith
-    sparing (StoreLog x) o a t e v = record { copies = tt; few = t.few; steps = sum m.steps (2 * (2 * W + 1 - x)) (apply_steps W) (allowed S W R m) t.steps }
-      where
-        sum : (s y r l : ℕ) → s + (y + 3 + r) ≤ l → s + 1 + (y + 2 + r) ≤ l
-        sum s y r l h = omega arith
+    sparing (StoreLog x) o a t e v = record { copies = tt; few = t.few; steps = log_word_stored m.steps (2 * (2 * W + 1 - x)) (apply_steps W) (allowed S W R m) t.steps }
     sparing (RaiseLog x) o a t e v = go (nat_lt (x + 1) (length (log_words m.log)))
       where
         x_in : x < 2 * W + 1
@@ -499,15 +408,9 @@ module _ (S : Setup) (W R : ℕ) where
             sum : (x n k c : ℕ) → k ≡ 2 * n + 1 → n ≤ c → x < k → x < 2 * c + 1
             sum x n k c e l z = omega arith
 
-        more : (s c x r l : ℕ) → x < c → s + (2 * (c - x) + 2 + r) ≤ l → s + 1 + (2 * (c - (x + 1)) + 3 + r) ≤ l
-        more s c x r l z h = omega arith
-
-        last : (s c x r l : ℕ) → x < c → s + (2 * (c - x) + 2 + r) ≤ l → s + 1 + (3 + r) ≤ l
-        last s c x r l z h = omega arith
-
         go : (b : Bool) → Spares S W R (after_raise_log now x b) (after_raise_log now x b).place
-        go true = record { copies = tt; few = t.few; steps = more m.steps (2 * W + 1) x (apply_steps W) (allowed S W R m) x_in t.steps }
-        go false = record { copies = tt; few = t.few; steps = last m.steps (2 * W + 1) x (apply_steps W) (allowed S W R m) x_in t.steps }
+        go true = record { copies = tt; few = t.few; steps = log_word_raised m.steps (2 * W + 1) x (apply_steps W) (allowed S W R m) x_in t.steps }
+        go false = record { copies = tt; few = t.few; steps = log_raised m.steps (2 * W + 1) x (apply_steps W) (allowed S W R m) x_in t.steps }
     sparing StoreRequest o a t e v = record { copies = tt; few = t.few; steps = fewer m.steps (3 + apply_steps W) (2 + apply_steps W) (allowed S W R m) t.steps (omega arith) }
     sparing RaiseRequest o a t e v = record { copies = tt; few = t.few; steps = fewer m.steps (2 + apply_steps W) (1 + apply_steps W) (allowed S W R m) t.steps (omega arith) }
     sparing ExchangeCurrent o a t e v = go (get_or w.words 0 0 == pack m.seq m.owner)
@@ -534,19 +437,10 @@ module _ (S : Setup) (W R : ℕ) where
         found : ℕ
         found = get_or w.words (word_of (want_at S m (LoadTarget j))) 0
 
-        older : (s y r l : ℕ) → s + (y + 2 + r) ≤ l → s + 1 + (y + 1 + r) ≤ l
-        older s y r l h = omega arith
-
-        newer : (s y r l : ℕ) → s + (y + 2 + r) ≤ l → s + 1 + (y - 1 + r) ≤ l
-        newer s y r l h = omega arith
-
         go : (b : Bool) → Spares S W R (after_load_target now j found b) (after_load_target now j found b).place
-        go true = record { copies = tt; few = t.few; steps = older m.steps (4 * (W - j)) (behind_apply S W R m m.helps) (allowed S W R m) t.steps }
-        go false = record { copies = tt; few = t.few; steps = newer m.steps (4 * (W - j)) (behind_apply S W R m m.helps) (allowed S W R m) t.steps }
-    sparing (ExchangeTarget j f) o a t e v = record { copies = tt; few = t.few; steps = sum m.steps (4 * (W - j)) (behind_apply S W R m m.helps) (allowed S W R m) t.steps }
-      where
-        sum : (s y r l : ℕ) → s + (y + 1 + r) ≤ l → s + 1 + (y + r) ≤ l
-        sum s y r l h = omega arith
+        go true = record { copies = tt; few = t.few; steps = older_found m.steps (4 * (W - j)) (behind_apply S W R m m.helps) (allowed S W R m) t.steps }
+        go false = record { copies = tt; few = t.few; steps = newer_found m.steps (4 * (W - j)) (behind_apply S W R m m.helps) (allowed S W R m) t.steps }
+    sparing (ExchangeTarget j f) o a t e v = record { copies = tt; few = t.few; steps = entry_exchanged m.steps (4 * (W - j)) (behind_apply S W R m m.helps) (allowed S W R m) t.steps }
     sparing (ReloadTarget j) o a t e v = record { copies = tt; few = t.few; steps = sum m.steps W j (length m.log) (behind_apply S W R m m.helps) (allowed S W R m) a.entry.more u.log t.steps }
       where
         sum : (s c j n r l : ℕ) → j < n → n ≤ c → s + (4 * (c - j) + r) ≤ l → s + 1 + (4 * (c - j) - 1 + r) ≤ l
@@ -556,29 +450,17 @@ module _ (S : Setup) (W R : ℕ) where
         j_in : j < W
         j_in = omega (arith, a.entry.more, u.log)
 
-        more : (s c j r l : ℕ) → j < c → s + (4 * (c - j) - 1 + r) ≤ l → s + 1 + (4 * (c - (j + 1)) + 2 + r) ≤ l
-        more s c j r l z h = omega arith
-
-        last : (s c j r l : ℕ) → j < c → s + (4 * (c - j) - 1 + r) ≤ l → s + 1 + (2 + r) ≤ l
-        last s c j r l z h = omega arith
-
         go : (b : Bool) → Spares S W R (next_entry now j b) (next_entry now j b).place
-        go true = record { copies = tt; few = t.few; steps = more m.steps W j (behind_apply S W R m m.helps) (allowed S W R m) j_in t.steps }
-        go false = record { copies = tt; few = t.few; steps = last m.steps W j (behind_apply S W R m m.helps) (allowed S W R m) j_in t.steps }
-    sparing CloseRequest o a t e v = record { copies = tt; few = t.few; steps = sum m.steps (behind_apply S W R m m.helps) (allowed S W R m) t.steps }
-      where
-        sum : (s r l : ℕ) → s + (2 + r) ≤ l → s + 1 + (1 + r) ≤ l
-        sum s r l h = omega arith
+        go true = record { copies = tt; few = t.few; steps = entry_raised m.steps W j (behind_apply S W R m m.helps) (allowed S W R m) j_in t.steps }
+        go false = record { copies = tt; few = t.few; steps = entries_raised m.steps W j (behind_apply S W R m m.helps) (allowed S W R m) j_in t.steps }
+    sparing CloseRequest o a t e v = record { copies = tt; few = t.few; steps = request_closed m.steps (behind_apply S W R m m.helps) (allowed S W R m) t.steps }
     sparing RaiseClosed o a t e v = go m.helps (m.rounds == 0) refl t.steps
       where
-        sum : (s r l : ℕ) → s + (1 + r) ≤ l → s + 1 + r ≤ l
-        sum s r l h = omega arith
-
         none : (l : ℕ) → 0 + 0 ≤ l
         none l = omega arith
 
         go : (b d : Bool) → (m.rounds == 0) ≡ d → m.steps + (1 + behind_apply S W R m b) ≤ allowed S W R m → Spares S W R (after_raise_closed S now b d) (after_raise_closed S now b d).place
-        go true d q z = resumed_sparing now d t.few (subst (λ (x : Bool). m.steps + 1 + helped S W R m x ≤ allowed S W R m) q (sum m.steps (helped S W R m (m.rounds == 0)) (allowed S W R m) z))
+        go true d q z = resumed_sparing now d t.few (subst (λ (x : Bool). m.steps + 1 + helped S W R m x ≤ allowed S W R m) q (apply_ended m.steps (helped S W R m (m.rounds == 0)) (allowed S W R m) z))
         go false d q z = record { copies = tt; few = t.few; steps = none (allowed S W R m) }
 
     -- an open call has a step left

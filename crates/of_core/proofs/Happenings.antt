@@ -1,5 +1,5 @@
 -- Every event keeps the invariant.
-use Rattle.std.proofs.Common.{◌≡◌, ℕ, zero, suc, ◌+◌, ◌<◌, ◌≤◌, ◌⊎◌, inl, inr, List, [], ◌∷◌, ◌++◌, length, get_or, set, refl, sym, ◌∙◌, ap, subst, arith, Bool, true, false}
+use Rattle.std.proofs.Common.{◌≡◌, ℕ, ◌+◌, ◌<◌, ◌≤◌, ◌⊎◌, inl, inr, List, [], ◌∷◌, ◌++◌, length, get_or, set, refl, sym, ◌∙◌, ap, subst, arith, Bool, true, false}
 use Rattle.std.proofs.lemmas.Bool.{cases_eq}
 use Rattle.std.proofs.lemmas.List.{append-nil, get_or-set_same, get_or-set_other, get_or_default}
 use Rattle.of_cell.specs.declared.word.TheConstants.{PAYLOADS}
@@ -30,7 +30,7 @@ use Rattle.of_core.proofs.Least.{opened_late}
 use Rattle.of_core.proofs.StepKept.{step_kept}
 use Rattle.of_core.proofs.RaiseSteps.{raise_kept, loaded_raise}
 use Rattle.of_core.proofs.Touches.{held_now}
-use Rattle.std.proofs.lemmas.List.Elements.{All-append}
+use Rattle.std.proofs.lemmas.List.Elements.{All-push}
 
 module _ (S : Setup) (Lawful : List ℕ → Type 0) (B : TableStart) (w : Moment) (g : MeetsInvariant S Lawful B w) where
   -- a call begins, by the idle machine m or by a fresh one in its place
@@ -46,20 +46,20 @@ module _ (S : Setup) (Lawful : List ℕ → Type 0) (B : TableStart) (w : Moment
 
     alike : MayReplace S m d → Alike d
     alike (inl e) = subst Alike (sym e) record { caller = at_rest.caller; made = refl; kept = at_rest.kept }
-    alike (inr q) = subst Alike (sym q.1) record { caller = at_rest.caller; made = refl; kept = (omega arith, λ l. absurd (omega (arith, l, seq_zero))) }
+    alike (inr q) = subst Alike (sym q.1) record { caller = at_rest.caller; made = refl; kept = record { low = omega arith; held = λ l. absurd (omega (arith, l, seq_zero)) } }
 
     fresh : (p : Place) → IsUnannounced S B w.words w.batches i (record (begin_call S d op) { place = p })
     fresh p =
         let r = at_rest in
         let a = alike takes in
-        record { caller = a.caller; ticket = ticket; words = few; some = some; kept = (omega arith, λ l. absurd (omega (arith, l, seq_zero))); above = omega (arith, r.upto, a.made); quieted = r.quieted; newer = omega (arith, r.older, a.made); rounds = refl }
+        record { caller = a.caller; ticket = ticket; words = few; some = some; kept = record { low = omega arith; held = λ l. absurd (omega (arith, l, seq_zero)) }; above = omega (arith, r.upto, a.made); quieted = r.quieted; newer = omega (arith, r.older, a.made); rounds = refl }
 
     at_first : (b : Bool) → S.meaning.reads_only op ≡ b → HoldsAtPlace S B w.words w.batches i (record (begin_call S d op) { place = first_place b }) (first_place b)
     at_first true e = record { fresh = fresh TryCurrent; calm = at_rest.calm; reads = e; few = omega arith }
     at_first false e = record { fresh = fresh (StoreScript 0); calm = at_rest.calm; more = omega arith; script = refl }
 
     begun_core : MeetsCore S Lawful B (after_begin S i d op w)
-    begun_core = (assemble S Lawful B w g.core i h w.words w.batches (begin_call S d op) (moves_not S Lawful B i w.words w.batches g.core.shared) g.core.shared (at_first (S.meaning.reads_only op) refl)).core
+    begun_core = (assemble g.core h w.words w.batches (begin_call S d op) (moves_not i g.core.shared) g.core.shared (at_first (S.meaning.reads_only op) refl)).core
 
     begun_orderly : Orderly S B i w.words m (begin_call S d op) w.words w.batches []
     begun_orderly = record { older = λ r q. older (S.meaning.reads_only op) r (older_upto m r (is_idle m.place) q); trying = λ t. absurd (not_trying (S.meaning.reads_only op) t); answers = inl refl }
@@ -74,7 +74,7 @@ module _ (S : Setup) (Lawful : List ℕ → Type 0) (B : TableStart) (w : Moment
 
     begun_order : KeepsCallOrder S B (after_begin S i d op w)
     begun_order = subst (λ (rs : List Read). KeepsCallOrder S B (record { words = w.words; machines = set w.machines i (begin_call S d op); batches = w.batches; reads = rs; loaded = w.loaded })) (append-nil w.reads)
-        (order_after S Lawful B w g.core g.order i m (begin_call S d op) h own w.words w.batches [] (moves_not S Lawful B i w.words w.batches g.core.shared) g.core.shared begun_orderly)
+        (order_after S Lawful B w g.core g.order i m (begin_call S d op) h own w.words w.batches [] (moves_not i g.core.shared) g.core.shared begun_orderly)
 
     pub begin_kept : MeetsInvariant S Lawful B (after_begin S i d op w)
     begin_kept = record { core = begun_core; order = begun_order; within = λ j n l q. go j n l q (cases_eq j i); late = λ j n l q. late_go j n l q (cases_eq j i) }
@@ -107,7 +107,7 @@ module _ (S : Setup) (Lawful : List ℕ → Type 0) (B : TableStart) (w : Moment
     place = h;
     low = omega arith;
     was_cur = λ q. rw q (omega (arith, g.core.shared.counted.count), g.core.shared.counted.owner, g.core.shared.counted.first);
-    held = λ a l q. rw q (held_now S Lawful B w g.core a l);
+    held = λ a l q. rw q (held_now g.core a l);
     request = λ j l q. subst (λ (k : ℕ). IsRequest B w.words w.batches j (get_or w.words k 0)) (sym q) (g.core.shared.kinds.requests j l);
     log = λ j x l u q. subst (λ (k : ℕ). IsLogWord B w.words w.batches j x (get_or w.words k 0) × (seq_of (get_or w.words k 0) ≡ seq_of (log_word_of S w.words j x) → get_or w.words k 0 ≡ log_word_of S w.words j x)) (sym q) (g.core.shared.kinds.logs j x l u, λ e. refl);
   }
@@ -116,14 +116,14 @@ module _ (S : Setup) (Lawful : List ℕ → Type 0) (B : TableStart) (w : Moment
   module _ (e : ℕ × ℕ) (h : IsLoaded S B w.words w.batches e) where
     pub evict_kept : MeetsInvariant S Lawful B (after_raise S w e)
     evict_kept = record {
-      core = raise_kept S Lawful B w g.core e.0 e.1 h;
+      core = raise_kept w g.core e.0 e.1 h;
       within = g.within;
       late = g.late;
       order = order_same S B w (after_raise S w e).words g.order (ap seq_of (current_same S Lawful B w.words w.batches g.core.shared e.0 e.1 h)) (seq_mono (durable_word S w.words 0) (durable_word S (after_raise S w e).words 0) (rises S Lawful B w.words w.batches g.core.shared e.0 e.1 h 0));
     }
 
     pub evict_stays : (d : ℕ × ℕ) → IsLoaded S B w.words w.batches d → IsLoaded S B (after_raise S w e).words w.batches d
-    evict_stays d l = loaded_raise S Lawful B w g.core e.0 e.1 h d l
+    evict_stays d l = loaded_raise w g.core e.0 e.1 h d l
 
   -- a cell is loaded for an eviction
   load_good : (c : ℕ) → c < cell_count S → MeetsInvariant S Lawful B (record w { loaded = w.loaded ++ (c, get_or w.words c 0) ∷ [] })
@@ -132,16 +132,12 @@ module _ (S : Setup) (Lawful : List ℕ → Type 0) (B : TableStart) (w : Moment
       shared = g.core.shared;
       members = g.core.members;
       each = g.core.each;
-      loaded = All-append (IsLoaded S B w.words w.batches) w.loaded ((c, get_or w.words c 0) ∷ []) g.core.loaded (λ k d l. one k d l);
+      loaded = All-push (IsLoaded S B w.words w.batches) w.loaded (c, get_or w.words c 0) g.core.loaded (load_kept c h);
     };
     within = g.within;
     late = g.late;
     order = record { ordered = g.order.ordered; behind = g.order.behind };
   }
-    where
-      one : (k : ℕ) (d : ℕ × ℕ) → k < 1 → IsLoaded S B w.words w.batches (get_or {A = ℕ × ℕ} ((c, get_or w.words c 0) ∷ []) k d)
-      one zero d l = load_kept c h
-      one (suc k) d l = absurd (omega arith)
 
   pub event_good : IsSoundMeaning S.meaning Lawful (first_operation_cell S) S.cells → (e : Event) → MayHappen S w e → MeetsInvariant S Lawful B (after_event S w e)
   event_good sound (Turns i) h = step_kept S Lawful sound B w g i (machine_in w i) h (get_or_default w.machines i (machine_in w i) no_machine (omega (arith, g.core.members))) (word_found S w.words (machine_in w i)) (found_now S w.words (machine_in w i))

@@ -1,9 +1,9 @@
 -- Each durable word of a moment is one that its cell has held.
-use Rattle.std.proofs.Common.{◌≡◌, ℕ, zero, suc, ◌+◌, ◌*◌, ◌<◌, ◌≤◌, ◌⊎◌, inl, inr, List, [], ◌∷◌, ◌++◌, length, get_or, max, refl, sym, ◌∙◌, ap, subst, arith, append_assoc}
+use Rattle.std.proofs.Common.{◌≡◌, ℕ, ◌+◌, ◌*◌, ◌<◌, ◌≤◌, ◌⊎◌, inl, inr, List, [], ◌∷◌, ◌++◌, length, get_or, max, refl, sym, ◌∙◌, ap, subst, arith, append_assoc}
 use Rattle.std.specs.List.{All}
 use Rattle.std.proofs.lemmas.Bool.{cases_eq, cases_lt}
 use Rattle.std.proofs.lemmas.List.{append-nil, length-append, take_all, take-append-le, get_or-set_same, get_or-set_other, get_or_default}
-use Rattle.std.proofs.lemmas.List.Elements.{All-append}
+use Rattle.std.proofs.lemmas.List.Elements.{All-push}
 use Rattle.of_mem.specs.declared.work.TheConstants.{MOST_INSTRS}
 use Rattle.of_cell.specs.declared.word.TheConstants.{PAYLOADS}
 use Rattle.of_mem.specs.Meaning.{IsSoundMeaning}
@@ -14,15 +14,12 @@ use Rattle.of_core.specs.TableMoment.{Moment, TableStart}
 use Rattle.of_core.specs.WordsMatch.{MayStart}
 use Rattle.of_core.specs.Invariant.{MeetsInvariant}
 use Rattle.of_core.specs.Events.{Event, Begins, Turns, Loads, Evicts, Raises, after_raise, machine_in, after_event, MayHappen, after_events, HasStood, IsSchedule, opening_moment}
+use Rattle.of_core.proofs.Parts.{run_append}
 use Rattle.of_core.proofs.Starts.{words_hold}
 use Rattle.of_core.proofs.Openings.{start_good}
 use Rattle.of_core.proofs.Found.{found_now}
 use Rattle.of_core.proofs.Durables.{step_durables}
 use Rattle.of_core.proofs.Happenings.{event_good}
-
-run_append : (S : Setup) (w : Moment) (es ds : List Event) → after_events S w (es ++ ds) ≡ after_events S (after_events S w es) ds
-run_append S w [] ds = refl
-run_append S w (e ∷ es) ds = run_append S (after_event S w e) es ds
 
 module _ (S : Setup) (first : Moment) where
   -- what has stood stands in a longer schedule too
@@ -81,12 +78,8 @@ module _ (S : Setup) (first : Moment) where
     stood_after es w g h (Loads x) may = record {
       is = is_now Lawful sound B es w g h (Loads x);
       durables = λ c l. durable_before Lawful sound B es w g h (Loads x) c (durable_word S w.words c) l refl;
-      loaded = All-append (λ (e : ℕ × ℕ). HasStood S first (es ++ Loads x ∷ []) e.0 e.1) w.loaded ((x, get_or w.words x 0) ∷ []) (loaded_before Lawful sound B es w g h (Loads x)) one;
+      loaded = All-push (λ (e : ℕ × ℕ). HasStood S first (es ++ Loads x ∷ []) e.0 e.1) w.loaded (x, get_or w.words x 0) (loaded_before Lawful sound B es w g h (Loads x)) (cell_before Lawful sound B es w g h (Loads x) x (get_or w.words x 0) refl);
     }
-      where
-        one : All (λ (e : ℕ × ℕ). HasStood S first (es ++ Loads x ∷ []) e.0 e.1) ((x, get_or w.words x 0) ∷ [])
-        one zero d l = cell_before Lawful sound B es w g h (Loads x) x (get_or w.words x 0) refl
-        one (suc k) d l = absurd (omega arith)
     stood_after es w g h (Evicts k) may =
         let d : ℕ × ℕ = get_or w.loaded k (0, 0) in
         record {

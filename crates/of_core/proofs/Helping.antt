@@ -18,14 +18,15 @@ use Rattle.of_core.specs.Transaction.{IsReorderingOf, IsApplying, AppliesAs, IsC
 use Rattle.of_core.specs.Invariant.{HoldsAtPlace, MeetsCore}
 use Rattle.of_core.specs.Guarantees.{KeepsGuarantee}
 use Rattle.of_core.proofs.Logs.{turned_is, length-log_words}
-use Rattle.of_core.proofs.Alike.{helper_as}
-use Rattle.of_core.proofs.Assembling.{assemble_read, log_back, same_batches, same_words, small_words}
+use Rattle.of_core.proofs.Alike.{helping_as}
+use Rattle.of_core.proofs.Puts.{log_of_words}
+use Rattle.of_core.proofs.Assembling.{assemble_read, same_batches, same_words, small_words}
 use Rattle.of_core.proofs.Rounds.{quiet_from}
 use Rattle.of_core.proofs.Tries.{resumed_at}
 
-module _ (S : Setup) (Lawful : List ℕ → Type 0) (B : TableStart) where
-  -- the machine m of caller i, at its place
-  module _ (w : Moment) (g : MeetsCore S Lawful B w) (i : ℕ) (m : CallState) (h : i < S.callers) where
+module _ {S : Setup} {Lawful : List ℕ → Type 0} {B : TableStart} where
+  -- the machine of caller i
+  module _ {w : Moment} (g : MeetsCore S Lawful B w) {i : ℕ} (h : i < S.callers) where
     -- where the last transaction is open, its owner's log words are its log
     pub logged : IsLastOpen B w.words → (x : ℕ) → x < length (log_words (batch_at B w.batches (committed_seq w.words)).log) → log_word_of S w.words (committed_owner w.words) x ≡ pack (committed_seq w.words) (get_or (log_words (batch_at B w.batches (committed_seq w.words)).log) x 0)
     logged o x l =
@@ -61,14 +62,14 @@ module _ (S : Setup) (Lawful : List ℕ → Type 0) (B : TableStart) where
         count_of (inl z) =
             let e : get_or (n.copy ++ payload_of found ∷ []) 0 0 ≡ payload_of found = get_or_push n.copy (payload_of found) 0 0 (c.many ∙ z) in
             let f : payload_of (log_word_of S w.words n.owner x) ≡ payload_of (log_word_of S w.words n.owner 0) = ap (λ (k : ℕ). payload_of (log_word_of S w.words n.owner k)) z in
-            omega (arith, e, f, g.shared.heard.counts n.owner c.current_word.owner_in)
+            omega (arith, e, f, g.shared.heard.counts n.owner c.helping.current_word.owner_in)
         count_of (inr z) =
             let e : get_or (n.copy ++ payload_of found ∷ []) 0 0 ≡ get_or n.copy 0 0 = get_or_append_left n.copy (payload_of found ∷ []) 0 0 (omega (arith, c.many)) in
             omega (arith, e, c.count (omega arith))
 
     -- a value of a log word fits its payload
-    pub copy_log_kept : (x : ℕ) → HoldsAtPlace S B w.words w.batches i m (CopyLog x) → KeepsGuarantee S Lawful B i w (after_counted_step S i m (CopyLog x) w)
-    copy_log_kept x a = assemble_read S Lawful B w g i h _ _ (take_word_at S m found (CopyLog x)) (same_words S Lawful B w g i m h (log_at S m.owner x)) (same_batches S Lawful B w g i m h) (
+    pub copy_log_kept : (m : CallState) → (x : ℕ) → HoldsAtPlace S B w.words w.batches i m (CopyLog x) → KeepsGuarantee S Lawful B i w (after_counted_step S i m (CopyLog x) w)
+    copy_log_kept m x a = assemble_read g h (take_word_at S m found (CopyLog x)) (same_words w (log_at S m.owner x)) (same_batches w) (
         go (nat_lt (x + 1) (2 * get_or (with_log_word_copied m found) 0 0 + 1)) refl)
       where
         found : ℕ
@@ -87,13 +88,13 @@ module _ (S : Setup) (Lawful : List ℕ → Type 0) (B : TableStart) where
         count = copied_count m x c
 
         log_is : IsLog S (batch_at B w.batches m.seq).log
-        log_is = g.shared.counted.logs m.seq c.after c.current_word.upto
+        log_is = g.shared.counted.logs m.seq c.after c.helping.current_word.upto
 
         more : request_of w.words m.owner ≡ pack m.seq 0 → (with_log_word_copied m found ≡ take (x + 1) ls) × (x + 1 ≤ length ls)
         more q =
             let u : x < length ls = a.more q in
-            let e : found ≡ pack m.seq (get_or ls x 0) = copied_word m x c.current_word c.after q u in
-            let v : payload_of found ≡ get_or ls x 0 = ap payload_of e ∙ pay_word m.seq (get_or ls x 0) (small_words S Lawful B (batch_at B w.batches m.seq).log g.shared.little log_is x) in
+            let e : found ≡ pack m.seq (get_or ls x 0) = copied_word m x c.helping.current_word c.after q u in
+            let v : payload_of found ≡ get_or ls x 0 = ap payload_of e ∙ pay_word m.seq (get_or ls x 0) (small_words (batch_at B w.batches m.seq).log g.shared.little log_is x) in
             ((rw v (ap (λ (ys : List ℕ). ys ++ get_or ls x 0 ∷ []) (c.copied q).1)) ∙ sym (take_more ls x 0 u), omega arith)
 
         size : request_of w.words m.owner ≡ pack m.seq 0 → 2 * get_or (with_log_word_copied m found) 0 0 + 1 ≡ length ls
@@ -103,12 +104,12 @@ module _ (S : Setup) (Lawful : List ℕ → Type 0) (B : TableStart) where
 
         go : (b : Bool) → nat_lt (x + 1) (2 * get_or (with_log_word_copied m found) 0 0 + 1) ≡ b → HoldsAtPlace S B w.words w.batches i (after_copy_log m x found b) (after_copy_log m x found b).place
         go true e = record {
-          copies = record { helper = helper_as S Lawful B w g i m h m _ c.helper refl refl refl refl refl refl refl refl refl; current_word = c.current_word; calm = c.calm; helps = c.helps; after = c.after; many = longer; count = λ l. count; copied = λ q. ((more q).1, (more q).0) };
+          copies = record { helping = helping_as c.helping refl refl refl refl refl refl refl refl refl; helps = c.helps; after = c.after; many = longer; count = λ l. count; copied = λ q. ((more q).1, (more q).0) };
           more = λ q. let z : x + 1 < 2 * get_or (with_log_word_copied m found) 0 0 + 1 = grind (arith, nat_tests) in omega (arith, size q);
           in_log = let z : x + 1 < 2 * get_or (with_log_word_copied m found) 0 0 + 1 = grind (arith, nat_tests) in omega (arith, count);
         }
         go false e = record {
-          copies = record { helper = helper_as S Lawful B w g i m h m _ c.helper refl refl refl refl refl refl refl refl refl; current_word = c.current_word; calm = c.calm; helps = c.helps; after = c.after; many = refl; count = λ l. count; copied = λ q. (omega (arith, whole q), (more q).0 ∙ ap (λ (k : ℕ). take k ls) (sym (got_length q))) };
+          copies = record { helping = helping_as c.helping refl refl refl refl refl refl refl refl refl; helps = c.helps; after = c.after; many = refl; count = λ l. count; copied = λ q. (omega (arith, whole q), (more q).0 ∙ ap (λ (k : ℕ). take k ls) (sym (got_length q))) };
           whole = whole;
         }
           where
@@ -121,8 +122,8 @@ module _ (S : Setup) (Lawful : List ℕ → Type 0) (B : TableStart) where
             whole : request_of w.words m.owner ≡ pack m.seq 0 → length (with_log_word_copied m found) ≡ length ls
             whole q = omega (arith, got_length q, size q, past, (more q).1)
 
-    pub look_again_kept : IsSoundMeaning S.meaning Lawful (first_operation_cell S) S.cells → HoldsAtPlace S B w.words w.batches i m LookAgain → KeepsGuarantee S Lawful B i w (after_counted_step S i m LookAgain w)
-    look_again_kept sound a = assemble_read S Lawful B w g i h _ _ (take_word_at S m found LookAgain) (same_words S Lawful B w g i m h (m.owner + 1)) (same_batches S Lawful B w g i m h) (
+    pub look_again_kept : (m : CallState) → IsSoundMeaning S.meaning Lawful (first_operation_cell S) S.cells → HoldsAtPlace S B w.words w.batches i m LookAgain → KeepsGuarantee S Lawful B i w (after_counted_step S i m LookAgain w)
+    look_again_kept m sound a = assemble_read g h (take_word_at S m found LookAgain) (same_words w (m.owner + 1)) (same_batches w) (
         go (found == pack m.seq 0) (m.rounds == 0) refl refl)
       where
         found : ℕ
@@ -137,24 +138,24 @@ module _ (S : Setup) (Lawful : List ℕ → Type 0) (B : TableStart) where
         is_log : found ≡ pack m.seq 0 → log ≡ log_of m.copy
         is_log q =
             let e : m.copy ≡ log_words log = (c.copied q).1 ∙ take_all (length m.copy) (log_words log) (omega (arith, a.whole q)) in
-            sym (ap log_of e ∙ log_back S Lawful B log)
+            sym (ap log_of e ∙ log_of_words log)
 
         applies : (n : CallState) → n.caller ≡ m.caller → n.made ≡ m.made → n.op ≡ m.op → n.seq ≡ m.seq → n.owner ≡ m.owner → IsReorderingOf log n.log → n.helps ≡ true → n.kept ≡ m.kept → n.rounds ≡ m.rounds → n.first ≡ m.first → n.tries ≡ m.tries → IsApplying S B w.words w.batches i n 0
         applies n a1 b1 c1 d1 e1 f1 h1 x1 r1 s1 t1 = record {
           mode = mode_of n.helps h1;
           after = rw d1 c.after;
-          upto = rw d1 c.current_word.upto;
-          committed = rw (d1, e1) (c.current_word.committed c.after);
+          upto = rw d1 c.helping.current_word.upto;
+          committed = rw (d1, e1) (c.helping.current_word.committed c.after);
           log = rw d1 f1;
           done = λ k l. absurd (omega arith);
         }
           where
             mode_of : (b : Bool) → b ≡ true → AppliesAs S B w.words w.batches i n b
-            mode_of true e = (helper_as S Lawful B w g i m h m n c.helper a1 b1 c1 d1 e1 x1 r1 s1 t1, rw (d1, e1) c.current_word, rw d1 c.calm)
+            mode_of true e = helping_as c.helping a1 b1 c1 d1 e1 x1 r1 s1 t1
             mode_of false e = cc
 
         go : (b d : Bool) → (found == pack m.seq 0) ≡ b → (m.rounds == 0) ≡ d → HoldsAtPlace S B w.words w.batches i (after_look_again S m b d) (after_look_again S m b d).place
         go true d eb ed =
             let q : found ≡ pack m.seq 0 = grind (arith, nat_tests) in
             applies _ refl refl refl refl refl (rw (is_log q) (turned_is (S.begins m.caller (length (log_of m.copy))) (log_of m.copy))) c.helps refl refl refl refl
-        go false d eb ed = resumed_at S Lawful B w g i m h m sound c.helper c.current_word c.calm (quiet_from S Lawful B w g i m h m.seq m.owner c.current_word (λ l. (let y : found ≡ pack m.seq 0 → ⊥ = grind (arith, nat_tests) in y))) d ed
+        go false d eb ed = resumed_at g h m sound c.helping.helper c.helping.current_word c.helping.calm (quiet_from g h m.seq m.owner c.helping.current_word (λ l. (let y : found ≡ pack m.seq 0 → ⊥ = grind (arith, nat_tests) in y))) d ed

@@ -1,11 +1,11 @@
 -- A cell changes only if its durable word is at least its word. So of all words that it has held,
 -- only the present one may not be durable.
-use Rattle.std.proofs.Common.{◌≡◌, ℕ, zero, suc, ◌+◌, ◌*◌, ◌-◌, ◌<◌, ◌≤◌, ◌⊎◌, ◌==◌, inl, inr, List, [], ◌∷◌, length, get_or, set, max, refl, sym, ◌∙◌, ap, subst, arith, Bool, true, false, if◌then◌else◌}
+use Rattle.std.proofs.Common.{◌≡◌, ℕ, suc, ◌+◌, ◌*◌, ◌-◌, ◌<◌, ◌≤◌, ◌⊎◌, ◌==◌, inl, inr, List, [], ◌∷◌, length, get_or, set, max, refl, sym, ◌∙◌, ap, subst, arith, Bool, true, false, if◌then◌else◌}
 use Rattle.std.specs.List.{All}
 use Rattle.std.proofs.lemmas.Bool.{cases_eq, cases_lt}
 use Rattle.std.proofs.lemmas.Bool.Decides.{nat_tests}
 use Rattle.std.proofs.lemmas.List.{get_or-set_same, get_or-set_other, set-get_or, get_or_default}
-use Rattle.std.proofs.lemmas.List.Elements.{All-append}
+use Rattle.std.proofs.lemmas.List.Elements.{All-push}
 use Rattle.of_cell.specs.declared.word.TheConstants.{PAYLOADS}
 use Rattle.of_cell.specs.Words.{pack, seq_of, payload_of}
 use Rattle.of_cell.proofs.Order.{word_eta, seq_word}
@@ -26,12 +26,12 @@ use Rattle.of_core.specs.Events.{Event, Begins, Turns, Loads, Evicts, Raises, af
 use Rattle.of_core.specs.Raised.{lower_changes, pending_among, pending}
 use Rattle.of_core.proofs.States.{later_by}
 use Rattle.of_core.proofs.Logs.{length-log_words}
-use Rattle.of_core.proofs.Stability.{log_in}
+use Rattle.of_core.proofs.Stability.{entry_in, owner_in, log_in}
 use Rattle.of_core.proofs.Assembling.{logs_of}
 use Rattle.of_core.proofs.Starts.{words_hold}
 use Rattle.of_core.proofs.Openings.{start_good}
 use Rattle.of_core.proofs.Found.{found_now}
-use Rattle.of_core.proofs.Durables.{step_durables, at_up, upto_last, count, owner_in, entry_in}
+use Rattle.of_core.proofs.Durables.{step_durables, at_up, upto_last, count}
 use Rattle.of_core.proofs.StepKept.{step_moves}
 use Rattle.of_core.proofs.Raises.{rises, low}
 use Rattle.of_core.proofs.Happenings.{event_good, load_kept}
@@ -95,7 +95,7 @@ module _ (S : Setup) (Lawful : List ℕ → Type 0) (B : TableStart) (w : Moment
   target_level a s a_in u old = go (g.shared.data_cells.each a a_in) (g.shared.durable.cells a a_in)
     where
       newest : (k : ℕ) → B.seq ≤ k → k ≤ committed_seq w.words → data_word S w.words a ≡ data_word_after B w.batches (committed_seq w.words) a → seq_of (data_word S w.words a) ≤ k → data_word S w.words a ≡ data_word_after B w.batches k a
-      newest k l t e o = by (rw z at (later_by S B w.batches g.shared.start (logs_of S Lawful B w g) (committed_seq w.words - k) k a l (omega (arith, t, count S Lawful B w g)) a_in))
+      newest k l t e o = by (rw z at (later_by S B w.batches g.shared.start (logs_of g) (committed_seq w.words - k) k a l (omega (arith, t, count S Lawful B w g)) a_in))
         where
           z : k + (committed_seq w.words - k) ≡ committed_seq w.words
           z = omega (arith, t)
@@ -137,7 +137,7 @@ module _ (S : Setup) (Lawful : List ℕ → Type 0) (B : TableStart) (w : Moment
       changed (request_at m.caller) _ c (rw ci (omega (arith, a.level)))
   cells ExchangeCurrent a f c l = exchanged 0 (pack m.seq m.owner) (pack (m.seq + 1) m.caller) c (current_level a)
   cells (ExchangeTarget x o) a f c l =
-      exchanged (data_at S (log_entry m x).0) o (pack m.seq (log_entry m x).1) c (λ e. target_level (log_entry m x).0 m.seq (entry_in S Lawful B w g i m h x x a.entry.applies a.entry.more) a.entry.durable (omega (arith, ap seq_of e, a.older)))
+      exchanged (data_at S (log_entry m x).0) o (pack m.seq (log_entry m x).1) c (λ e. target_level (log_entry m x).0 m.seq (entry_in g.shared a.entry.applies x a.entry.more).0 a.entry.durable (omega (arith, ap seq_of e, a.older)))
   cells CloseRequest a f c l =
       exchanged (request_at m.owner) (pack m.seq 0) (pack m.seq 1) c (λ e. omega (arith, e, rw a.applies.committed at (g.shared.durable.floor m.seq a.applies.after a.applies.upto)))
   cells RaiseOld a f c l = inl (elsewhere (durable_at S (request_at m.caller)) _ c (λ e. omega (arith, e, l)))
@@ -174,9 +174,9 @@ module _ (S : Setup) (Lawful : List ℕ → Type 0) (B : TableStart) (w : Moment
       keeps_level _ x n StoreRequest (elsewhere (request_at m.caller) _ (log_at S i x) (λ e. omega (arith, e, a.stored.past.looks.round.begun.caller, h))) (d (log_at S i x) (log_in S i x h u)) (f x u)
   own_logs ExchangeCurrent a f d n x u = keeps_level _ x n ExchangeCurrent (elsewhere 0 _ (log_at S i x) (λ e. omega (arith, e))) (d (log_at S i x) (log_in S i x h u)) (f x u)
   own_logs (ExchangeTarget y o) a f d n x u =
-      keeps_level _ x n (ExchangeTarget y o) (elsewhere (data_at S (log_entry m y).0) _ (log_at S i x) (λ e. omega (arith, e, entry_in S Lawful B w g i m h y y a.entry.applies a.entry.more))) (d (log_at S i x) (log_in S i x h u)) (f x u)
+      keeps_level _ x n (ExchangeTarget y o) (elsewhere (data_at S (log_entry m y).0) _ (log_at S i x) (λ e. omega (arith, e, (entry_in g.shared a.entry.applies y a.entry.more).0))) (d (log_at S i x) (log_in S i x h u)) (f x u)
   own_logs CloseRequest a f d n x u =
-      keeps_level _ x n CloseRequest (elsewhere (request_at m.owner) _ (log_at S i x) (λ e. omega (arith, e, owner_in S Lawful B w g i m h (length m.log) a.applies))) (d (log_at S i x) (log_in S i x h u)) (f x u)
+      keeps_level _ x n CloseRequest (elsewhere (request_at m.owner) _ (log_at S i x) (λ e. omega (arith, e, owner_in g.shared a.applies))) (d (log_at S i x) (log_in S i x h u)) (f x u)
   own_logs RaiseOld a f d n x u = keeps_level _ x n RaiseOld (elsewhere (durable_at S (request_at m.caller)) _ (log_at S i x) (λ e. omega (arith, e, log_in S i x h u))) (d (log_at S i x) (log_in S i x h u)) (f x u)
   own_logs (RaiseLog y) a f d n x u = go (cases_eq x y) (f x u)
     where
@@ -327,12 +327,8 @@ module _ (S : Setup) where
       event_level (Raises c) may = evicted_level (c, get_or w.words c 0) (load_kept S Lawful B w g c may)
       event_level (Loads c) may = record {
         logs = v.logs;
-        loaded = All-append (λ (e : ℕ × ℕ). (e.1 ≤ durable_word S w.words e.0) ⊎ (e.1 ≡ get_or w.words e.0 0)) w.loaded ((c, get_or w.words c 0) ∷ []) v.loaded one;
+        loaded = All-push (λ (e : ℕ × ℕ). (e.1 ≤ durable_word S w.words e.0) ⊎ (e.1 ≡ get_or w.words e.0 0)) w.loaded (c, get_or w.words c 0) v.loaded (inr refl);
       }
-        where
-          one : All (λ (e : ℕ × ℕ). (e.1 ≤ durable_word S w.words e.0) ⊎ (e.1 ≡ get_or w.words e.0 0)) ((c, get_or w.words c 0) ∷ [])
-          one zero d l = inr refl
-          one (suc k) d l = absurd (omega arith)
       event_level (Begins i op) may = record { logs = λ j x l u. logs j x l u (cases_eq j i); loaded = v.loaded }
         where
           z : Moment

@@ -294,7 +294,7 @@ module _ (S : Setup) (Lawful : List ℕ → Type 0) (sound : IsSoundMeaning S.me
   numbers_found a low l = found_is a l ∙ sym (get_or-map payload_of (state_after B w.batches durable) a 0 0 (omega (arith, l, state_long))) ∙ same_from ∙ ap (λ (xs : List ℕ). get_or xs a 0) (sym (order_leads S.meaning bs B.seq w.reads start (legal_front S.meaning start w.batches n claim.legal) leads).1)
     where
       state_long : length (state_after B w.batches durable) ≡ S.cells
-      state_long = state_length S B w.batches good.core.shared.start (logs_of S Lawful B w good.core) durable claim.from claim.reaches
+      state_long = state_length S B w.batches good.core.shared.start (logs_of good.core) durable claim.from claim.reaches
 
       same : SameFrom (first_operation_cell S) (numbers_after B w.batches durable) (numbers_after_batches S.meaning start bs)
       same = rw n_is at (claim.state n (omega (arith, n_is, claim.reaches)))
@@ -338,7 +338,7 @@ module _ (S : Setup) (Lawful : List ℕ → Type 0) (sound : IsSoundMeaning S.me
           stands = call_stands h.number h.place h.from h.upto h.among
 
           own_is : (a : ℕ) → IsCellOfCaller S i a → data_word_after B w.batches durable a ≡ data_word_after B w.batches h.number a
-          own_is a r = later S B w.batches good.core.shared.start (logs_of S Lawful B w good.core) h.number durable a (omega (arith, h.from)) h.upto claim.reaches (omega (arith, r, own_in i member)) (h.old a r)
+          own_is a r = later S B w.batches good.core.shared.start (logs_of good.core) h.number durable a (omega (arith, h.from)) h.upto claim.reaches (omega (arith, r, own_in i member)) (h.old a r)
 
           now : last_ticket_by S B w.batches h.number c.caller ≡ c.ticket
           now = (good.core.shared.stands.now h.number h.from (omega (arith, h.upto, claim.reaches)) h.place no_call h.among).1

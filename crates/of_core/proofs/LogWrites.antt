@@ -1,16 +1,16 @@
 -- A machine stores its log and its request.
-use Rattle.std.proofs.Common.{◌≡◌, ℕ, ◌+◌, ◌*◌, ◌-◌, ◌<◌, ◌≤◌, ◌⊎◌, inl, inr, List, length, get_or, set, refl, sym, ◌∙◌, ap, subst, arith, length-set}
+use Rattle.std.proofs.Common.{◌≡◌, ℕ, ◌+◌, ◌*◌, ◌<◌, ◌≤◌, ◌⊎◌, inl, inr, List, length, get_or, set, refl, sym, ◌∙◌, ap, subst, arith, length-set}
 use Rattle.std.proofs.lemmas.Bool.{cases_eq}
 use Rattle.std.proofs.lemmas.List.{append-nil, get_or-set_same, get_or-set_other}
 use Rattle.of_cell.specs.declared.word.TheConstants.{PAYLOADS}
 use Rattle.of_cell.specs.Words.{pack, seq_of, payload_of}
 use Rattle.of_cell.proofs.Order.{seq_less, seq_word, pay_word, seq_from, word_above}
 use Rattle.of_core.specs.declared.place.Place.TheVariants.{StoreLog, StoreRequest}
-use Rattle.of_core.specs.Table.{Setup, script_word_at, cell_count, durable_at, request_at, log_at, script_word, current_word, request_of, data_word, log_word_of, durable_word, durable_request, committed_seq, committed_owner, durable_seq}
+use Rattle.of_core.specs.Table.{Setup, script_word_at, cell_count, durable_at, request_at, log_at, script_word, current_word, request_of, data_word, log_word_of, durable_word, durable_request, committed_seq, committed_owner}
 use Rattle.of_core.specs.Machine.{CallState, log_entry, log_words}
 use Rattle.of_core.specs.Steps.{take_word_at}
 use Rattle.of_core.specs.TableMoment.{Moment, TableStart, after_counted_step}
-use Rattle.of_core.specs.History.{batch_at, data_word_after}
+use Rattle.of_core.specs.History.{batch_at}
 use Rattle.of_core.specs.WordsMatch.{WordsHaveTheirKind, IsRequest, IsLogWord, IsLastOpen, DataCellsMatchState, DurableWordsMatch}
 use Rattle.of_core.specs.Transaction.{HasStoredLog}
 use Rattle.of_core.specs.Invariant.{HoldsAtPlace, MeetsCore}
@@ -18,20 +18,21 @@ use Rattle.of_core.specs.Guarantees.{KeepsGuarantee}
 use Rattle.of_core.proofs.Logs.{words_at, length-log_words}
 use Rattle.of_core.proofs.Assembling.{assemble, small_words}
 use Rattle.of_core.proofs.Stability.{log_in, same_row}
-use Rattle.of_core.proofs.Touches.{Touches, durable_of, heard_of, kinds_of, kinds_same, moves_of, over_of, past_of, request_same, shared_of}
+use Rattle.of_core.proofs.Touches.{Touches, open_of, data_same, durable_same, heard_of, kinds_of, kinds_same, moves_of, over_of, past_of, request_same, shared_of}
 
-module _ (S : Setup) (Lawful : List ℕ → Type 0) (B : TableStart) where
-  module _ (w : Moment) (g : MeetsCore S Lawful B w) (i : ℕ) (m : CallState) (h : i < S.callers) where
+module _ {S : Setup} {Lawful : List ℕ → Type 0} {B : TableStart} where
+  -- the machine m of caller i, at its place
+  module _ {w : Moment} (g : MeetsCore S Lawful B w) {i : ℕ} (h : i < S.callers) (m : CallState) where
     -- the machine stores a word of its log
     pub store_log_kept : (x : ℕ) → HoldsAtPlace S B w.words w.batches i m (StoreLog x) → KeepsGuarantee S Lawful B i w (after_counted_step S i m (StoreLog x) w)
     store_log_kept x a =
         rw (append-nil w.batches)
-        (assemble S Lawful B w g i h vs w.batches (take_word_at S m (log_word_of S w.words m.caller x) (StoreLog x)) (moves_of S Lawful B i w.words vs w.batches touches g.shared)
-        (shared_of S Lawful B i w.words vs w.batches touches g.shared data_cells durable (heard_of S Lawful B i w.words vs w.batches touches g.shared behind counts) kinds) (record {
+        (assemble g h vs w.batches (take_word_at S m (log_word_of S w.words m.caller x) (StoreLog x)) (moves_of touches g.shared)
+        (shared_of touches g.shared data_cells durable (heard_of touches g.shared behind counts) kinds) (record {
           storing = record {
             stored = record {
-              past = past_of S Lawful B i w.words vs w.batches touches g.shared behind m h st.past _ refl refl refl refl refl refl refl refl refl;
-              over = over_of S Lawful B i w.words vs w.batches touches g.shared behind m.seq m.made m.op m.raw m.calls m.log S.callers st.over;
+              past = past_of touches g.shared behind m h st.past _ refl refl refl refl refl refl refl refl refl;
+              over = over_of touches g.shared behind m.seq m.made m.op m.raw m.calls m.log S.callers st.over;
               each = λ y l. stored y l (cases_eq y x);
               durable = λ y l. dur_same (log_at S i y) (log_in S i y h (omega (arith, x_in, l))) ∙ st.durable y l;
               rest = λ y l u. rw (log_row y u (λ q. omega arith)) (st.rest y (omega arith) u);
@@ -112,9 +113,9 @@ module _ (S : Setup) (Lawful : List ℕ → Type 0) (B : TableStart) where
         log_how j y l u (inl q) (inl r) = inr (rw (q, r, here) (omega (arith, st.rest x (omega arith) x_in, seq_from (m.seq + 1) (get_or (log_words m.log) x 0) new (omega arith))))
 
         fits_word : (y : ℕ) → get_or (log_words m.log) y 0 < PAYLOADS
-        fits_word y = small_words S Lawful B m.log g.shared.little st.over.over.is_log y
+        fits_word y = small_words m.log g.shared.little st.over.over.is_log y
 
-        touches : (Touches S Lawful B) i w.words vs w.batches
+        touches : Touches S B i w.words vs w.batches
         touches = record {
           room = length-set w.words (log_at S m.caller x) new;
           current_word = current_same;
@@ -129,7 +130,7 @@ module _ (S : Setup) (Lawful : List ℕ → Type 0) (B : TableStart) where
         }
 
         kinds : WordsHaveTheirKind S B vs w.batches
-        kinds = kinds_of S Lawful B i w.words vs w.batches touches g.shared (λ j l. request_same S Lawful B i w.words vs w.batches touches g.shared j l (req_same j l)) (λ j y l u. is_log_word j y l u (cases_eq j i) (cases_eq y x)) (λ j y l u. sized j y l u (cases_eq j i) (cases_eq (2 * y + 1) x))
+        kinds = kinds_of touches g.shared (λ j l. request_same touches g.shared j l (req_same j l)) (λ j y l u. is_log_word j y l u (cases_eq j i) (cases_eq y x)) (λ j y l u. sized j y l u (cases_eq j i) (cases_eq (2 * y + 1) x))
           where
             is_log_word : (j y : ℕ) → j < S.callers → y < 2 * S.cells + 1 → (j ≡ i) ⊎ (j ≡ i → ⊥) → (y ≡ x) ⊎ (y ≡ x → ⊥) → IsLogWord B w.words w.batches j y (log_word_of S vs j y)
             is_log_word j y l u (inr q) r = subst (λ (v : ℕ). IsLogWord B w.words w.batches j y v) (sym (log_other j y u q)) (g.shared.kinds.logs j y l u)
@@ -150,27 +151,14 @@ module _ (S : Setup) (Lawful : List ℕ → Type 0) (B : TableStart) where
                 omega (arith, ap payload_of e, p, n, (st.over.over.is_log.entries y (0, 0) in_log).0)
 
         open_same : IsLastOpen B w.words → IsLastOpen B vs
-        open_same o = record { any = rw current_same o.any; asks = rw current_same (req_same (committed_owner w.words) g.shared.counted.owner_in ∙ o.asks) }
+        open_same = open_of touches g.shared req_same
 
         data_cells : DataCellsMatchState S B vs w.batches
-        data_cells = record { each = λ y l. each y l (g.shared.data_cells.each y l) }
-          where
-            each : (y : ℕ) → y < S.cells → (data_word S w.words y ≡ data_word_after B w.batches (committed_seq w.words) y) ⊎ (IsLastOpen B w.words × (data_word S w.words y ≡ data_word_after B w.batches (committed_seq w.words - 1) y))
-                → (data_word S vs y ≡ data_word_after B w.batches (committed_seq vs) y) ⊎ (IsLastOpen B vs × (data_word S vs y ≡ data_word_after B w.batches (committed_seq vs - 1) y))
-            each y l (inl q) = inl (rw current_same (cell_same y l ∙ q))
-            each y l (inr (o, q)) = inr (open_same o, rw current_same (cell_same y l ∙ q))
+        data_cells = data_same touches g.shared cell_same open_same
 
         durable : DurableWordsMatch S B vs w.batches
-        durable = durable_of S Lawful B i w.words vs w.batches touches g.shared (λ y l. rw (cell_same y l) (g.shared.durable.fresh y l)) step (λ y l. cells (g.shared.durable.cells y l)) logs
+        durable = durable_same touches g.shared cell_same open_same logs
           where
-            step : (committed_seq w.words ≡ durable_seq S w.words) ⊎ ((committed_seq w.words ≡ durable_seq S w.words + 1) × IsLastOpen B w.words) → (committed_seq w.words ≡ durable_seq S w.words) ⊎ ((committed_seq w.words ≡ durable_seq S w.words + 1) × IsLastOpen B vs)
-            step (inl q) = inl q
-            step (inr q) = inr (q.0, open_same q.1)
-
-            cells : {p q r : Type 0} → p ⊎ (IsLastOpen B w.words × q × r) → p ⊎ (IsLastOpen B vs × q × r)
-            cells (inl d) = inl d
-            cells (inr d) = inr (open_same d.0, d.1, d.2)
-
             -- an owner whose durable request is its batch's stores no log
             logs : (k : ℕ) → B.seq < k → k ≤ committed_seq w.words → (j : ℕ) → (batch_at B w.batches k).owner ≡ j → durable_request S w.words j ≡ pack k 0 → (y : ℕ) → y < 2 * S.cells + 1 → log_word_of S vs j y ≡ log_word_of S w.words j y
             logs k l u j o q y v = log_other j y v (λ e. let z : pack k 0 < request_of w.words i = a.storing.shut k l u (o ∙ e) in let r : durable_request S w.words i ≡ pack k 0 = rw e at q in omega (arith, a.storing.level))
@@ -183,11 +171,11 @@ module _ (S : Setup) (Lawful : List ℕ → Type 0) (B : TableStart) where
     pub store_request_kept : HoldsAtPlace S B w.words w.batches i m StoreRequest → KeepsGuarantee S Lawful B i w (after_counted_step S i m StoreRequest w)
     store_request_kept a =
         rw (append-nil w.batches)
-        (assemble S Lawful B w g i h vs w.batches (take_word_at S m (request_of w.words m.caller) StoreRequest) (moves_of S Lawful B i w.words vs w.batches touches g.shared)
-        (shared_of S Lawful B i w.words vs w.batches touches g.shared data_cells durable (heard_of S Lawful B i w.words vs w.batches touches g.shared behind (λ j l. rw (log_same j 0) (g.shared.heard.counts j l))) (kinds_same S Lawful B i w.words vs w.batches touches g.shared (λ j l. request j l (cases_eq j i)) (λ j y l u. log_same j y))) (record {
+        (assemble g h vs w.batches (take_word_at S m (request_of w.words m.caller) StoreRequest) (moves_of touches g.shared)
+        (shared_of touches g.shared data_cells durable (heard_of touches g.shared behind (λ j l. rw (log_same j 0) (g.shared.heard.counts j l))) (kinds_same touches g.shared (λ j l. request j l (cases_eq j i)) (λ j y l u. log_same j y))) (record {
           stored = record {
-            past = past_of S Lawful B i w.words vs w.batches touches g.shared behind m h st.past _ refl refl refl refl refl refl refl refl refl;
-            over = over_of S Lawful B i w.words vs w.batches touches g.shared behind m.seq m.made m.op m.raw m.calls m.log S.callers st.over;
+            past = past_of touches g.shared behind m h st.past _ refl refl refl refl refl refl refl refl refl;
+            over = over_of touches g.shared behind m.seq m.made m.op m.raw m.calls m.log S.callers st.over;
             each = λ y l. log_same i y ∙ st.each y l;
             durable = λ y l. dur_same (log_at S i y) (log_in S i y h (omega (arith, length-log_words m.log, st.over.over.is_log.few, l))) ∙ st.durable y l;
             rest = λ y l u. rw (log_same i y) (st.rest y l u);
@@ -239,7 +227,7 @@ module _ (S : Setup) (Lawful : List ℕ → Type 0) (B : TableStart) where
         rises c (inl q) = rw q (omega (arith, here, up_here))
         rises c (inr q) = omega (arith, elsewhere c q)
 
-        touches : (Touches S Lawful B) i w.words vs w.batches
+        touches : Touches S B i w.words vs w.batches
         touches = record {
           room = length-set w.words (m.caller + 1) new;
           current_word = current_same;
@@ -254,7 +242,7 @@ module _ (S : Setup) (Lawful : List ℕ → Type 0) (B : TableStart) where
         }
 
         request : (j : ℕ) → j < S.callers → (j ≡ i) ⊎ (j ≡ i → ⊥) → IsRequest B w.words w.batches j (request_of vs j)
-        request j l (inr q) = request_same S Lawful B i w.words vs w.batches touches g.shared j l (req_same j q)
+        request j l (inr q) = request_same touches g.shared j l (req_same j q)
         request j l (inl q) = λ a. inl (ap payload_of (ap (request_of vs) q ∙ here) ∙ pay_word (m.seq + 1) 0 (omega arith))
 
         -- the open transaction isn't this caller's
@@ -269,20 +257,7 @@ module _ (S : Setup) (Lawful : List ℕ → Type 0) (B : TableStart) where
             go (inr q) = record { any = rw current_same o.any; asks = rw current_same (req_same (committed_owner w.words) q ∙ o.asks) }
 
         data_cells : DataCellsMatchState S B vs w.batches
-        data_cells = record { each = λ x l. go x l (g.shared.data_cells.each x l) }
-          where
-            go : (x : ℕ) → x < S.cells → (data_word S w.words x ≡ data_word_after B w.batches (committed_seq w.words) x) ⊎ (IsLastOpen B w.words × (data_word S w.words x ≡ data_word_after B w.batches (committed_seq w.words - 1) x))
-                → (data_word S vs x ≡ data_word_after B w.batches (committed_seq vs) x) ⊎ (IsLastOpen B vs × (data_word S vs x ≡ data_word_after B w.batches (committed_seq vs - 1) x))
-            go x l (inl q) = inl (rw current_same (cell_same x l ∙ q))
-            go x l (inr (o, q)) = inr (open_same o, rw current_same (cell_same x l ∙ q))
+        data_cells = data_same touches g.shared cell_same open_same
 
         durable : DurableWordsMatch S B vs w.batches
-        durable = durable_of S Lawful B i w.words vs w.batches touches g.shared (λ y l. rw (cell_same y l) (g.shared.durable.fresh y l)) step (λ y l. cells (g.shared.durable.cells y l)) (λ k l u j o q x v. log_same j x)
-          where
-            step : (committed_seq w.words ≡ durable_seq S w.words) ⊎ ((committed_seq w.words ≡ durable_seq S w.words + 1) × IsLastOpen B w.words) → (committed_seq w.words ≡ durable_seq S w.words) ⊎ ((committed_seq w.words ≡ durable_seq S w.words + 1) × IsLastOpen B vs)
-            step (inl q) = inl q
-            step (inr q) = inr (q.0, open_same q.1)
-
-            cells : {p q r : Type 0} → p ⊎ (IsLastOpen B w.words × q × r) → p ⊎ (IsLastOpen B vs × q × r)
-            cells (inl d) = inl d
-            cells (inr d) = inr (open_same d.0, d.1, d.2)
+        durable = durable_same touches g.shared cell_same open_same (λ k l u j o q x v. log_same j x)

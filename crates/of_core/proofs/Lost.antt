@@ -247,17 +247,17 @@ module _ (S : Setup) (Lawful : List ℕ → Type 0) (sound : IsSoundMeaning S.me
 
       by_outcome : HasTried S B low j w.batches m → (x : Outcome) → LastOutcomeStands S B v.words v.batches j d (Some x) → IsLate low x
       by_outcome a (Answered s false raw steps) t = tt
-      by_outcome a (Spent s) t = omega (arith, a.0, t.1, few S Lawful B w g)
+      by_outcome a (Spent s) t = omega (arith, a.0, t.limit, few S Lawful B w g)
       by_outcome a (Answered s true raw steps) t = at (cases_lt (low + MOST_TRIES) s)
         where
           stands : StatesFollowBatches S Lawful B v.batches
           stands = good_v.core.shared.stands
 
           upto : s ≤ B.seq + length v.batches
-          upto = omega (arith, t.2, last_is S Lawful B v good_v)
+          upto = omega (arith, t.upto, last_is S Lawful B v good_v)
 
           ticket : last_ticket_by S B v.batches s j ≡ d.made
-          ticket = ap (last_ticket_by S B v.batches s) (sym t.3.caller) ∙ (stands.now s t.0 upto t.3.place no_call t.3.among).1 ∙ t.3.ticket
+          ticket = ap (last_ticket_by S B v.batches s) (sym t.call.caller) ∙ (stands.now s t.from upto t.call.place no_call t.call.among).1 ∙ t.call.ticket
 
           at : (low + MOST_TRIES < s) ⊎ (s ≤ low + MOST_TRIES) → low + MOST_TRIES < s
           at (inl c) = c
@@ -267,7 +267,7 @@ module _ (S : Setup) (Lawful : List ℕ → Type 0) (sound : IsSoundMeaning S.me
             step.made,
             a.1,
             same_ticket S B low j w.batches (step_batches S w.words m n) (low + MOST_TRIES) a.0,
-            tickets_grow S Lawful B v.batches stands s (low + MOST_TRIES) j (omega (arith, t.0)) c (omega (arith, a.0, length-append w.batches (step_batches S w.words m n))) h,
+            tickets_grow S Lawful B v.batches stands s (low + MOST_TRIES) j (omega (arith, t.from)) c (omega (arith, a.0, length-append w.batches (step_batches S w.words m n))) h,
           ))
 
       go : Leaves S B w j m n m.place d → IsLate low o

@@ -28,7 +28,7 @@ module _ (S : Setup) (Lawful : List ℕ → Type 0) (B : TableStart) (w : Moment
   applying j a = go m.helps a.mode
     where
       go : (b : Bool) → AppliesAs S B w.words w.batches i m b → Holds
-      go true d = helping d.0
+      go true d = helping d.helper
       go false d = inr (inr (d, a.after, a.upto))
 
   open_holds : (p : Place) → IsOpen p → HoldsAtPlace S B w.words w.batches i m p → Holds
@@ -40,8 +40,8 @@ module _ (S : Setup) (Lawful : List ℕ → Type 0) (B : TableStart) (w : Moment
   open_holds StoreAnnouncement o a = inl a.fresh
   open_holds LoadCurrent o a = inr (inl a.begun)
   open_holds LoadRequest o a = inr (inl a.round.begun)
-  open_holds (CopyLog x) o a = helping a.copies.helper
-  open_holds LookAgain o a = helping a.copies.helper
+  open_holds (CopyLog x) o a = helping a.copies.helping.helper
+  open_holds LookAgain o a = helping a.copies.helping.helper
   open_holds LoadOwnTicket o a = inr (inl a.looks.round.begun)
   open_holds LoadShape o a = inr (inl a.looks.round.begun)
   open_holds (LoadReply j) o a = inr (inl a.looks.round.begun)

@@ -160,7 +160,7 @@ module _ (S : Setup) (Lawful : List ℕ → Type 0) (sound : IsSoundMeaning S.me
     loaded = λ k d l. absurd (omega arith);
     each = λ i m h e. subst (λ (x : CallState). HoldsAtPlace S B ws [] i x x.place) (sym (idle_at S (start_ticket S B) i m h) ∙ e) (record {
       caller = refl;
-      kept = (omega arith, λ l. absurd (omega (arith, l, seq_zero)));
+      kept = record { low = omega arith; held = λ l. absurd (omega (arith, l, seq_zero)) };
       calm = record {
         own = omega (arith, request_seq i h, last_is);
         level = level (request_at i) (omega arith);

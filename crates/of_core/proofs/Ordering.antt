@@ -81,14 +81,14 @@ module _ (S : Setup) (Lawful : List ℕ → Type 0) (B : TableStart) (ws : List 
     helper_tries z (inr t) = t
 
     mode_tries : (b : Bool) → m.helps ≡ b → (m.helps ≡ true) × (m.rounds ≡ 0) → AppliesAs S B ws bs j m b → IsInTry S B ws bs j m × WasCurrent S B ws bs m.seq m.owner
-    mode_tries true e q a = (helper_tries q.1 a.0, a.1)
+    mode_tries true e q a = (helper_tries q.1 a.helper, a.current_word)
     mode_tries false e q a = let z : false ≡ true = sym e ∙ q.0 in cc
 
     pub tries_at : (p : Place) → HoldsAtPlace S B ws bs j m p → HasBegunTry m p → IsInTry S B ws bs j m × WasCurrent S B ws bs m.seq m.owner
     tries_at TryRequest a q = (a.trying, a.current_word)
     tries_at (TryCell x) a q = (a.trying, a.current_word)
-    tries_at (CopyLog x) a q = (helper_tries q a.copies.helper, a.copies.current_word)
-    tries_at LookAgain a q = (helper_tries q a.copies.helper, a.copies.current_word)
+    tries_at (CopyLog x) a q = (helper_tries q a.copies.helping.helper, a.copies.helping.current_word)
+    tries_at LookAgain a q = (helper_tries q a.copies.helping.helper, a.copies.helping.current_word)
     tries_at RaiseCurrent a q = mode_tries m.helps refl q a.mode
     tries_at (LoadTarget k) a q = mode_tries m.helps refl q a.applies.mode
     tries_at (ExchangeTarget k f) a q = mode_tries m.helps refl q a.entry.applies.mode
@@ -128,7 +128,7 @@ module _ (S : Setup) (Lawful : List ℕ → Type 0) (B : TableStart) (ws : List 
     helper_says n (inr t) = absurd (n t.fresh.quieted)
 
     mode_says : (b : Bool) → (AnnouncesNothingNew S B ws bs j → ⊥) → AppliesAs S B ws bs j m b → seq_of (announcement_of S ws j) ≡ m.made
-    mode_says true n a = helper_says n a.0
+    mode_says true n a = helper_says n a.helper
     mode_says false n a = a.says
 
     announces_at : (p : Place) → HoldsAtPlace S B ws bs j m p → (AnnouncesNothingNew S B ws bs j → ⊥) → IsOpen p × (seq_of (announcement_of S ws j) ≡ m.made)
@@ -140,8 +140,8 @@ module _ (S : Setup) (Lawful : List ℕ → Type 0) (B : TableStart) (ws : List 
     announces_at StoreAnnouncement a n = absurd (n a.fresh.quieted)
     announces_at LoadCurrent a n = (refl, begun_says a.begun)
     announces_at LoadRequest a n = (refl, begun_says a.round.begun)
-    announces_at (CopyLog x) a n = (refl, helper_says n a.copies.helper)
-    announces_at LookAgain a n = (refl, helper_says n a.copies.helper)
+    announces_at (CopyLog x) a n = (refl, helper_says n a.copies.helping.helper)
+    announces_at LookAgain a n = (refl, helper_says n a.copies.helping.helper)
     announces_at LoadOwnTicket a n = (refl, begun_says a.looks.round.begun)
     announces_at LoadShape a n = (refl, begun_says a.looks.round.begun)
     announces_at (LoadReply k) a n = (refl, begun_says a.looks.round.begun)
@@ -413,7 +413,7 @@ module _ (S : Setup) (Lawful : List ℕ → Type 0) (B : TableStart) (w : Moment
           seq = c.1;
           trying = c.0;
           was_open = was_open;
-          is_read = record { caller = rw at_rest.caller h; from = t.0; upto = t.1; only = t.4; reply = t.3 };
+          is_read = record { caller = rw at_rest.caller h; from = t.from; upto = t.durable; only = t.reads; reply = t.reply };
           older = subst (λ (b : Bool). WasMadeBefore d (record { caller = d.caller; ticket = d.made; op = d.op; raw = raw; seq = s }) b) (sym e) (omega arith);
           still = same_last (f.tries c.0) shared.counted.count;
         },

@@ -3,7 +3,7 @@ use Rattle.std.proofs.Common.{◌≡◌, ℕ, zero, suc, ◌+◌, ◌-◌, ◌*�
 use Rattle.std.specs.List.{All}
 use Rattle.std.proofs.lemmas.Bool.{cases_eq, cases_lt}
 use Rattle.std.proofs.lemmas.Bool.Decides.{nat_tests}
-use Rattle.std.proofs.lemmas.List.Elements.{All-append}
+use Rattle.std.proofs.lemmas.List.Elements.{All-push}
 use Rattle.std.proofs.lemmas.List.{get_or_append_left, get_or-append_right, get_or-set_same, get_or-set_other, set-set, set_comm, get_or_past, get_or-take, length-take, get_or_push, get_or_default}
 use Rattle.std.proofs.lemmas.Bool.{eqb-true as same_num, eqb-false as other_num}
 use Rattle.of_mem.specs.declared.work.TheConstants.{LEAST_ABORT, MOST_INSTRS}
@@ -248,7 +248,7 @@ module _ (S : Setup) (Lawful : List ℕ → Type 0) (sound : IsSoundMeaning S.me
       is_log = record { entries = entries; once = once; few = once_few S new entries once };
       effect = effect;
       replies = replies_push S.meaning xs cs call o.replies (sound.reply_from (numbers_after_calls S.meaning xs cs) (with_writes_in xs ds) op (calls_length xs cs size) left_length (sym o.effect) ∙ f.reply);
-      own = All-append (LogsOwnCells S new) cs (call ∷ []) (λ k d l. old_own (get_or cs k d) (others k d l) (o.own k d l)) (λ k d l. one k d l);
+      own = All-push (LogsOwnCells S new) cs call (λ k d l. old_own (get_or cs k d) (others k d l) (o.own k d l)) one;
       rows = λ j l u. row j (put_all_from ds all j l) u;
     }
       where
@@ -314,14 +314,13 @@ module _ (S : Setup) (Lawful : List ℕ → Type 0) (sound : IsSoundMeaning S.me
         named : LogsOwnCells S own call
         named = own_names S c t op r narrow f.marks f.rest
 
-        one : (k : ℕ) (d : Call) → k < 1 → LogsOwnCells S new (get_or (call ∷ []) k d)
-        one zero d l = record {
+        one : LogsOwnCells S new call
+        one = record {
           ticket = put_names_all ds all (ticket_cell S c) t w.once (names_right es own (ticket_cell S c) t named.ticket);
           shape = put_names_all ds all (shape_cell S c) r.shape w.once (names_right es own (shape_cell S c) r.shape named.shape);
           replies = λ y u m. put_names_all ds all (reply_cell S c y) (get_or r.values y 0) w.once (names_right es own (reply_cell S c y) (get_or r.values y 0) (named.replies y u m));
           rest = named.rest;
         }
-        one (suc k) d l = absurd (omega arith)
 
         last_call : get_or (cs ++ call ∷ []) (length cs) no_call ≡ call
         last_call = get_or_push cs call no_call (length cs) refl

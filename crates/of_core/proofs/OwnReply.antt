@@ -1,6 +1,6 @@
 -- One's own ticket is looked for, and where the call is in the history its reply is read.
 use Rattle.std.proofs.Common.{◌≡◌, ℕ, ◌+◌, ◌-◌, ◌<◌, ◌≤◌, ◌⊎◌, ◌==◌, inl, inr, List, [], get_or, set, refl, sym, ◌∙◌, ap, arith, length-set, Option, Some, None, Bool, true, false, nat_lt}
-use Rattle.std.proofs.lemmas.Bool.{cases_eq, cases_lt}
+use Rattle.std.proofs.lemmas.Bool.{cases_eq, cases_lt, eqb-true}
 use Rattle.std.proofs.lemmas.Bool.Decides.{nat_tests}
 use Rattle.std.proofs.lemmas.List.{length-replicate, get_or-replicate, get_or-set_same, get_or-set_other}
 use Rattle.of_cell.specs.declared.word.TheConstants.{PAYLOADS}
@@ -10,7 +10,7 @@ use Rattle.of_mem.specs.Meaning.{is_marked}
 use Rattle.of_mem.specs.declared.work.RawReply.{RawReply}
 use Rattle.of_core.specs.declared.place.Place.TheVariants.{Idle, LoadOwnTicket, LoadShape, LoadReply}
 use Rattle.of_core.specs.Table.{Setup, data_at, ticket_cell, shape_cell, reply_cell, data_word, committed_seq}
-use Rattle.of_core.specs.Machine.{CallState, Call, with_cell_known, no_call}
+use Rattle.of_core.specs.Machine.{CallState, Call, no_call}
 use Rattle.of_core.specs.Steps.{take_word_at, end_from_own_cells, next_reply_place, after_own_ticket, with_shape, after_load_shape, with_reply, after_load_reply, first_marked_place}
 use Rattle.of_core.specs.TableMoment.{Moment, TableStart, after_counted_step}
 use Rattle.of_core.specs.History.{state_after, batch_at, data_word_after, HasCall, OwnCellsShowLast, IsNewestCall, IsCellOfCaller, last_ticket_by}
@@ -23,12 +23,12 @@ use Rattle.of_core.proofs.Assembling.{assemble_read, same_batches, same_words}
 use Rattle.of_core.proofs.Rounds.{again, at_risen, cell_of, grows_to, learn, own_row_old, own_seq, round_risen, row_in, third_done}
 use Rattle.of_core.proofs.Tests.{differ, mark_none, mark_some, not_newer}
 
-module _ (S : Setup) (Lawful : List ℕ → Type 0) (B : TableStart) where
-  -- the machine m of caller i, at its place
-  module _ (w : Moment) (g : MeetsCore S Lawful B w) (i : ℕ) (m : CallState) (h : i < S.callers) where
+module _ {S : Setup} {Lawful : List ℕ → Type 0} {B : TableStart} where
+  -- the machine of caller i
+  module _ {w : Moment} (g : MeetsCore S Lawful B w) {i : ℕ} (h : i < S.callers) where
     -- the last call up to the round is the open one, where one's own ticket cell has its ticket
     found_call : (n : CallState) → IsPastRequest S B w.words w.batches i n → FindsOwnTicket S (state_after B w.batches n.seq) i n → IsNewestCall S B w.batches n.seq i
-    found_call n p f = go (g.shared.stands.last n.seq i p.round.from (at_risen S Lawful B w g i m h n p) h)
+    found_call n p f = go (g.shared.stands.last n.seq i p.round.from (at_risen g h n p) h)
       where
         go : OwnCellsShowLast S B w.batches n.seq i → IsNewestCall S B w.batches n.seq i
         go (inl q) =
@@ -46,12 +46,17 @@ module _ (S : Setup) (Lawful : List ℕ → Type 0) (B : TableStart) where
         → HoldsAtPlace S B w.words w.batches i (end_from_own_cells n) Idle
     told_at n p o f shape replies rest = record {
       caller = p.round.begun.caller;
-      calm = calm_more S Lawful B w g i m h n.seq (committed_seq w.words) p.round.upto o;
+      calm = calm_more p.round.upto o;
       kept = p.round.begun.kept;
-      quieted = inl (omega (arith, own_seq S Lawful B w g i m h n p.round.begun, done_now n f, grows_to S Lawful B w g i m h n.seq p.round.from p.round.upto));
+      quieted = inl (omega (arith, own_seq g h n p.round.begun, done_now n f, grows_to g h n.seq p.round.from p.round.upto));
       upto = p.round.begun.upto;
-      older = omega (arith, own_seq S Lawful B w g i m h n p.round.begun);
-      told = (rw number c.from, rw number (omega (arith, c.upto, round_risen S Lawful B w g i m h n p)), rw number (omega (arith, c.upto, p.round.upto)), rw number has);
+      older = omega (arith, own_seq g h n p.round.begun);
+      told = record {
+        from = rw number c.from;
+        durable = rw number (omega (arith, c.upto, round_risen g h n p));
+        upto = rw number (omega (arith, c.upto, p.round.upto));
+        call = rw number has;
+      };
     }
       where
         c : IsNewestCall S B w.batches n.seq i
@@ -61,7 +66,7 @@ module _ (S : Setup) (Lawful : List ℕ → Type 0) (B : TableStart) where
         d = get_or (batch_at B w.batches c.number).calls c.place no_call
 
         is_in : (d.caller < S.callers) × (last_ticket_by S B w.batches c.number d.caller ≡ d.ticket)
-        is_in = g.shared.stands.now c.number c.from (omega (arith, c.upto, at_risen S Lawful B w g i m h n p)) c.place no_call c.among
+        is_in = g.shared.stands.now c.number c.from (omega (arith, c.upto, at_risen g h n p)) c.place no_call c.among
 
         small : d.ticket < PAYLOADS
         small = rw (← is_in.1) (pay_small (data_word_after B w.batches c.number (ticket_cell S d.caller)))
@@ -102,7 +107,7 @@ module _ (S : Setup) (Lawful : List ℕ → Type 0) (B : TableStart) where
         go y v k (inr z) = absurd (mark_none n.raw.shape j (S.instrs - j) e y z (omega arith) k)
     asks_at n j l p o f u (Some x) e =
         let s = mark_some n.raw.shape j (S.instrs - j) x e in record {
-          looks = looks_as S Lawful B w g i m h n _ p refl refl refl refl refl refl refl refl refl;
+          looks = looks_as p refl refl refl refl refl refl refl refl refl;
           calm = o;
           finds = record { heard = f.heard; there = f.there };
           reply = record { shape = u.shape; many = u.many; rest = u.rest; replies = λ y v k. go y v k (cases_lt y j) s.2 };
@@ -114,8 +119,8 @@ module _ (S : Setup) (Lawful : List ℕ → Type 0) (B : TableStart) where
         go y v k (inl z) t = u.replies y z k
         go y v k (inr z) t = absurd (t y z v k)
 
-    pub load_shape_kept : HoldsAtPlace S B w.words w.batches i m LoadShape → KeepsGuarantee S Lawful B i w (after_counted_step S i m LoadShape w)
-    load_shape_kept a = assemble_read S Lawful B w g i h _ _ (take_word_at S m (data_word S w.words (shape_cell S m.caller)) LoadShape) (same_words S Lawful B w g i m h (data_at S (shape_cell S m.caller))) (same_batches S Lawful B w g i m h) (
+    pub load_shape_kept : (m : CallState) → HoldsAtPlace S B w.words w.batches i m LoadShape → KeepsGuarantee S Lawful B i w (after_counted_step S i m LoadShape w)
+    load_shape_kept m a = assemble_read g h (take_word_at S m (data_word S w.words (shape_cell S m.caller)) LoadShape) (same_words w (data_at S (shape_cell S m.caller))) (same_batches w) (
         go (nat_lt m.seq (seq_of found)) refl)
       where
         found : ℕ
@@ -125,22 +130,22 @@ module _ (S : Setup) (Lawful : List ℕ → Type 0) (B : TableStart) where
         ci = a.looks.round.begun.caller
 
         x_in : shape_cell S i < S.cells
-        x_in = row_in S Lawful B w g i m h (shape_cell S i) (omega arith, omega arith)
+        x_in = row_in g h (shape_cell S i) (omega arith, omega arith)
 
         fresh : seq_of (data_word S w.words (shape_cell S m.caller)) ≤ m.seq
-        fresh = rw ci (own_row_old S Lawful B w g i m h m a.looks (done_now m a.finds) (shape_cell S i) (omega arith, omega arith))
+        fresh = rw ci (own_row_old g h m a.looks (done_now m a.finds) (shape_cell S i) (omega arith, omega arith))
 
         is : data_word S w.words (shape_cell S m.caller) ≡ data_word_after B w.batches m.seq (shape_cell S i)
-        is = rw ci (cell_of S Lawful B w g i m h m a.looks (shape_cell S i) x_in (rw ci at fresh))
+        is = rw ci (cell_of g h m a.looks (shape_cell S i) x_in (rw ci at fresh))
 
         go : (b : Bool) → nat_lt m.seq (seq_of found) ≡ b → HoldsAtPlace S B w.words w.batches i (after_load_shape S m found b) (after_load_shape S m found b).place
         go true e = let z : m.seq < seq_of found = grind (arith, nat_tests) in absurd (omega (arith, fresh))
         go false e =
-            asks_at (with_shape S m found) 0 (omega arith) (looks_as S Lawful B w g i m h m _ a.looks refl refl refl refl refl refl refl refl refl) a.calm (record { heard = a.finds.heard; there = a.finds.there })
+            asks_at (with_shape S m found) 0 (omega arith) (looks_as a.looks refl refl refl refl refl refl refl refl refl) a.calm (record { heard = a.finds.heard; there = a.finds.there })
             (record { shape = ap payload_of is; replies = λ y l. absurd (omega arith); rest = λ y l k. get_or-replicate S.instrs y 0 0 l; many = length-replicate S.instrs 0 }) (first_marked_place (payload_of found) 0 S.instrs) (ap (first_marked_place (payload_of found) 0) (omega arith))
 
-    pub load_reply_kept : (j : ℕ) → HoldsAtPlace S B w.words w.batches i m (LoadReply j) → KeepsGuarantee S Lawful B i w (after_counted_step S i m (LoadReply j) w)
-    load_reply_kept j a = assemble_read S Lawful B w g i h _ _ (take_word_at S m (data_word S w.words (reply_cell S m.caller j)) (LoadReply j)) (same_words S Lawful B w g i m h (data_at S (reply_cell S m.caller j))) (same_batches S Lawful B w g i m h) (
+    pub load_reply_kept : (m : CallState) → (j : ℕ) → HoldsAtPlace S B w.words w.batches i m (LoadReply j) → KeepsGuarantee S Lawful B i w (after_counted_step S i m (LoadReply j) w)
+    load_reply_kept m j a = assemble_read g h (take_word_at S m (data_word S w.words (reply_cell S m.caller j)) (LoadReply j)) (same_words w (data_at S (reply_cell S m.caller j))) (same_batches w) (
         go (nat_lt m.seq (seq_of found)) refl)
       where
         found : ℕ
@@ -153,15 +158,15 @@ module _ (S : Setup) (Lawful : List ℕ → Type 0) (B : TableStart) where
         in_row = (omega arith, omega (arith, a.in_reply))
 
         fresh : seq_of (data_word S w.words (reply_cell S m.caller j)) ≤ m.seq
-        fresh = rw ci (own_row_old S Lawful B w g i m h m a.looks (done_now m a.finds) (reply_cell S i j) in_row)
+        fresh = rw ci (own_row_old g h m a.looks (done_now m a.finds) (reply_cell S i j) in_row)
 
         is : data_word S w.words (reply_cell S m.caller j) ≡ data_word_after B w.batches m.seq (reply_cell S i j)
-        is = rw ci (cell_of S Lawful B w g i m h m a.looks (reply_cell S i j) (row_in S Lawful B w g i m h (reply_cell S i j) in_row) (rw ci at fresh))
+        is = rw ci (cell_of g h m a.looks (reply_cell S i j) (row_in g h (reply_cell S i j) in_row) (rw ci at fresh))
 
         go : (b : Bool) → nat_lt m.seq (seq_of found) ≡ b → HoldsAtPlace S B w.words w.batches i (after_load_reply S m j found b) (after_load_reply S m j found b).place
         go true e = let z : m.seq < seq_of found = grind (arith, nat_tests) in absurd (omega (arith, fresh))
         go false e =
-            asks_at (with_reply m j found) (j + 1) (omega (arith, a.in_reply)) (looks_as S Lawful B w g i m h m _ a.looks refl refl refl refl refl refl refl refl refl) a.calm (record { heard = a.finds.heard; there = a.finds.there })
+            asks_at (with_reply m j found) (j + 1) (omega (arith, a.in_reply)) (looks_as a.looks refl refl refl refl refl refl refl refl refl) a.calm (record { heard = a.finds.heard; there = a.finds.there })
             (record { shape = a.reply.shape; replies = λ y l k. read y l k (cases_eq y j); rest = λ y l k. unread y l k (cases_eq y j); many = length-set m.raw.values j (payload_of found) ∙ a.reply.many }) (first_marked_place m.raw.shape (j + 1) (S.instrs - j - 1)) (ap (first_marked_place m.raw.shape (j + 1)) (omega arith))
           where
             read : (y : ℕ) → y < j + 1 → is_marked m.raw.shape y ≡ true → (y ≡ j) ⊎ (y ≡ j → ⊥) → get_or (set m.raw.values j (payload_of found)) y 0 ≡ payload_of (data_word_after B w.batches m.seq (reply_cell S i y))
@@ -184,8 +189,8 @@ module _ (S : Setup) (Lawful : List ℕ → Type 0) (B : TableStart) where
       met = λ l c u. absurd (omega arith);
     })
 
-    pub own_ticket_kept : HoldsAtPlace S B w.words w.batches i m LoadOwnTicket → KeepsGuarantee S Lawful B i w (after_counted_step S i m LoadOwnTicket w)
-    own_ticket_kept a = assemble_read S Lawful B w g i h _ _ (take_word_at S m (data_word S w.words (ticket_cell S m.caller)) LoadOwnTicket) (same_words S Lawful B w g i m h (data_at S (ticket_cell S m.caller))) (same_batches S Lawful B w g i m h) (
+    pub own_ticket_kept : (m : CallState) → HoldsAtPlace S B w.words w.batches i m LoadOwnTicket → KeepsGuarantee S Lawful B i w (after_counted_step S i m LoadOwnTicket w)
+    own_ticket_kept m a = assemble_read g h (take_word_at S m (data_word S w.words (ticket_cell S m.caller)) LoadOwnTicket) (same_words w (data_at S (ticket_cell S m.caller))) (same_batches w) (
         go (nat_lt m.seq (seq_of found)) (payload_of found == m.made) (m.seq == S.limit) refl refl refl)
       where
         found : ℕ
@@ -198,49 +203,48 @@ module _ (S : Setup) (Lawful : List ℕ → Type 0) (B : TableStart) where
         in_row = (omega arith, omega arith)
 
         x_in : ticket_cell S i < S.cells
-        x_in = row_in S Lawful B w g i m h (ticket_cell S i) in_row
+        x_in = row_in g h (ticket_cell S i) in_row
 
         is : seq_of (data_word S w.words (ticket_cell S m.caller)) ≤ m.seq → data_word S w.words (ticket_cell S m.caller) ≡ data_word_after B w.batches m.seq (ticket_cell S i)
-        is l = rw ci (cell_of S Lawful B w g i m h m a.looks (ticket_cell S i) x_in (rw ci at l))
+        is l = rw ci (cell_of g h m a.looks (ticket_cell S i) x_in (rw ci at l))
 
         go : (b c d : Bool) → nat_lt m.seq (seq_of found) ≡ b → (payload_of found == m.made) ≡ c → (m.seq == S.limit) ≡ d → HoldsAtPlace S B w.words w.batches i (after_own_ticket S m found b c d) (after_own_ticket S m found b c d).place
         go true c d eb ec ed =
             let z : m.seq < seq_of found = grind (arith, nat_tests) in
             let z' : m.seq < seq_of (data_word S w.words (ticket_cell S i)) = rw ci at z in
-            again S Lawful B w g i m h m a.looks.round a.calm (few z' (cases_eq m.rounds 3)) (ticket_cell S i) x_in z'
+            again g h m a.looks.round a.calm (few z' (cases_eq m.rounds 3)) (ticket_cell S i) x_in z'
           where
             few : m.seq < seq_of (data_word S w.words (ticket_cell S i)) → (m.rounds ≡ 3) ⊎ (m.rounds ≡ 3 → ⊥) → m.rounds ≤ 2
-            few z (inl q) = absurd (omega (arith, z, own_row_old S Lawful B w g i m h m a.looks (third_done S Lawful B w g i m h m a.looks.round q) (ticket_cell S i) in_row))
+            few z (inl q) = absurd (omega (arith, z, own_row_old g h m a.looks (third_done g h m a.looks.round q) (ticket_cell S i) in_row))
             few z (inr q) = omega (arith, a.looks.round.few)
         go false true d eb ec ed =
             let fresh : seq_of found ≤ m.seq = grind (arith, nat_tests) in
-            record { looks = looks_as S Lawful B w g i m h m _ a.looks refl refl refl refl refl refl refl refl refl; calm = a.calm; finds = record { heard = is fresh; there = equal (payload_of found) m.made ec } }
-          where
-            equal : (x y : ℕ) → (x == y) ≡ true → x ≡ y
-            equal x y e = grind (arith, nat_tests)
+            record { looks = looks_as a.looks refl refl refl refl refl refl refl refl refl; calm = a.calm; finds = record { heard = is fresh; there = eqb-true (payload_of found) m.made ec } }
         go false false true eb ec ed = record {
           caller = ci;
-          calm = calm_more S Lawful B w g i m h m.seq (committed_seq w.words) a.looks.round.upto a.calm;
+          calm = calm_more a.looks.round.upto a.calm;
           kept = a.looks.round.begun.kept;
           quieted = inr (omega (arith, at_limit, a.looks.round.upto, g.shared.counted.limit));
           upto = a.looks.round.begun.upto;
-          older = omega (arith, own_seq S Lawful B w g i m h m a.looks.round.begun);
-          told = (omega (arith, differ (payload_of found) m.made ec, ap payload_of (is (not_newer m.seq (seq_of found) eb)), ap (λ (k : ℕ). last_ticket_by S B w.batches k i) at_last, a.looks.round.begun.upto), at_limit, sym at_last, round_risen S Lawful B w g i m h m a.looks);
+          older = omega (arith, own_seq g h m a.looks.round.begun);
+          told = record {
+            left = omega (arith, differ (payload_of found) m.made ec, ap payload_of (is (not_newer m.seq (seq_of found) eb)), ap (λ (k : ℕ). last_ticket_by S B w.batches k i) at_last, a.looks.round.begun.upto);
+            limit = at_limit;
+            last = sym at_last;
+            durable = round_risen g h m a.looks;
+          };
         }
           where
             at_limit : m.seq ≡ S.limit
-            at_limit = equal m.seq S.limit ed
-              where
-                equal : (x y : ℕ) → (x == y) ≡ true → x ≡ y
-                equal x y e = grind (arith, nat_tests)
+            at_limit = eqb-true m.seq S.limit ed
 
             at_last : m.seq ≡ committed_seq w.words
             at_last = omega (arith, at_limit, a.looks.round.upto, g.shared.counted.limit)
         go false false false eb ec ed = record {
           past = record {
-            looks = looks_as S Lawful B w g i m h (record m { known = with_cell_known S m (ticket_cell S m.caller) found }) _ (learn S Lawful B w g i m h m a.looks (ticket_cell S m.caller) (rw ci x_in) fresh) refl refl refl refl refl refl refl refl refl;
+            looks = looks_as (learn g h m a.looks (ticket_cell S m.caller) (rw ci x_in) fresh) refl refl refl refl refl refl refl refl refl;
             under = omega (arith, differ m.seq S.limit ed, a.looks.round.upto, g.shared.counted.limit);
-            left = omega (arith, differ (payload_of found) m.made ec, ap payload_of (is fresh), a.looks.round.begun.upto, grows_to S Lawful B w g i m h m.seq a.looks.round.from a.looks.round.upto);
+            left = omega (arith, differ (payload_of found) m.made ec, ap payload_of (is fresh), a.looks.round.begun.upto, grows_to g h m.seq a.looks.round.from a.looks.round.upto);
           };
           calm = a.calm;
           scan = over_none m.made m.op m.raw m.seq m.calls m.log m.scan a.no_calls a.no_log a.no_scan;

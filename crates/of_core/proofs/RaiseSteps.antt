@@ -3,7 +3,6 @@ use Rattle.std.proofs.Common.{◌≡◌, ℕ, ◌+◌, ◌*◌, ◌<◌, ◌≤�
 use Rattle.std.proofs.lemmas.Bool.{cases_eq, cases_lt, cases_order}
 use Rattle.std.proofs.lemmas.Bool.Decides.{nat_tests}
 use Rattle.std.proofs.lemmas.List.{append-nil}
-use Rattle.of_cell.specs.declared.word.TheConstants.{PAYLOADS}
 use Rattle.of_cell.specs.Words.{pack, seq_of, payload_of}
 use Rattle.of_cell.proofs.Order.{seq_word, pay_word, seq_mono, word_later, word_next, word_eta}
 use Rattle.of_mem.specs.Meaning.{IsSoundMeaning}
@@ -15,18 +14,23 @@ use Rattle.of_core.specs.Steps.{after_raise_log, next_entry, after_raise_current
 use Rattle.of_core.specs.TableMoment.{Read, Moment, Batch, TableStart, after_counted_step}
 use Rattle.of_core.specs.History.{batch_at}
 use Rattle.of_core.specs.WordsMatch.{IsRequest, IsLogWord, WordsMatchHistory, WasHeldByCell}
-use Rattle.of_core.specs.Rounds.{MayHelp, KnowsOwnRequest, IsAnnounced, IsInRound, IsPastOwnTicket, HasNothingUnderWay}
+use Rattle.of_core.specs.Rounds.{KnowsOwnRequest, HasNothingUnderWay}
 use Rattle.of_core.specs.Transaction.{IsApplying, AppliesAs, IsStoringLog}
 use Rattle.of_core.specs.Invariant.{HoldsAtPlace, MeetsCore, IsLoaded}
 use Rattle.of_core.specs.Guarantees.{KeepsGuarantee, Guarantees}
 use Rattle.of_core.proofs.Logs.{length-log_words}
 use Rattle.of_core.proofs.Raises.{vs, behind, table, here, rises, low, current_same, req_same, cell_same, log_same, raise_shared}
+use Rattle.of_core.proofs.Alike.{applies_as, past_to}
 use Rattle.of_core.proofs.Assembling.{assemble_read}
 use Rattle.of_core.proofs.Tries.{resumed_at}
 use Rattle.of_core.proofs.Rounds.{quiet_from}
-use Rattle.of_core.proofs.Stability.{at_stable, loaded_stable, log_in, same_row}
+use Rattle.of_core.proofs.Stability.{entry_in, owner_in as owner_of, at_stable, loaded_stable, log_in, same_row}
 
-module _ (S : Setup) (Lawful : List ℕ → Type 0) (B : TableStart) where
+-- what a raise to a word that the cell has held leaves
+abbrev pub raised : Setup → Moment → ℕ → ℕ → Moment
+raised S w c v = record { words = set w.words (durable_at S c) (max (durable_word S w.words c) v); machines = w.machines; batches = w.batches; reads = w.reads; loaded = w.loaded }
+
+module _ {S : Setup} {Lawful : List ℕ → Type 0} {B : TableStart} where
   -- a raise is no machine's, so it leaves what is true of each
   moves_raise : (ws : List ℕ) (bs : List Batch) (g : WordsMatchHistory S Lawful B ws bs) (c v : ℕ) (e : IsLoaded S B ws bs (c, v)) (i : ℕ) → Guarantees S B i ws bs (vs S Lawful B ws bs g c v e) bs
   moves_raise ws bs g c v e i = record {
@@ -50,14 +54,10 @@ module _ (S : Setup) (Lawful : List ℕ → Type 0) (B : TableStart) where
     low = low S Lawful B ws bs g c v e;
   }
 
-  -- what a raise to a word that the cell has held leaves
-  abbrev pub raised : Moment → ℕ → ℕ → Moment
-  raised w c v = record { words = set w.words (durable_at S c) (max (durable_word S w.words c) v); machines = w.machines; batches = w.batches; reads = w.reads; loaded = w.loaded }
-
-  pub loaded_raise : (w : Moment) → (g : MeetsCore S Lawful B w) → (c v : ℕ) → (e : IsLoaded S B w.words w.batches (c, v)) → (d : ℕ × ℕ) → IsLoaded S B w.words w.batches d → IsLoaded S B (raised w c v).words w.batches d
+  pub loaded_raise : (w : Moment) → (g : MeetsCore S Lawful B w) → (c v : ℕ) → (e : IsLoaded S B w.words w.batches (c, v)) → (d : ℕ × ℕ) → IsLoaded S B w.words w.batches d → IsLoaded S B (raised S w c v).words w.batches d
   loaded_raise w g c v e d l = loaded_stable S Lawful B 0 w.words w.batches (vs S Lawful B w.words w.batches g.shared c v e) w.batches (moves_raise w.words w.batches g.shared c v e 0) g.shared (raise_shared S Lawful B w.words w.batches g.shared c v e).kinds d l
 
-  pub raise_kept : (w : Moment) → MeetsCore S Lawful B w → (c v : ℕ) → IsLoaded S B w.words w.batches (c, v) → MeetsCore S Lawful B (raised w c v)
+  pub raise_kept : (w : Moment) → MeetsCore S Lawful B w → (c v : ℕ) → IsLoaded S B w.words w.batches (c, v) → MeetsCore S Lawful B (raised S w c v)
   raise_kept w g c v e = record {
     shared = raise_shared S Lawful B w.words w.batches g.shared c v e;
     members = g.members;
@@ -66,72 +66,30 @@ module _ (S : Setup) (Lawful : List ℕ → Type 0) (B : TableStart) where
   }
 
   -- the machine m of caller i raises
-  module _ (w : Moment) (g : MeetsCore S Lawful B w) (i : ℕ) (m : CallState) (h : i < S.callers) where
+  module _ {w : Moment} (g : MeetsCore S Lawful B w) {i : ℕ} (h : i < S.callers) (m : CallState) where
     -- what its place says stays behind the raise
-    stays : (p : Place) → HoldsAtPlace S B w.words w.batches i m p → (c v : ℕ) (e : IsLoaded S B w.words w.batches (c, v)) → HoldsAtPlace S B (raised w c v).words w.batches i m p
+    stays : (p : Place) → HoldsAtPlace S B w.words w.batches i m p → (c v : ℕ) (e : IsLoaded S B w.words w.batches (c, v)) → HoldsAtPlace S B (raised S w c v).words w.batches i m p
     stays p a c v e = at_stable S Lawful B (i + 1) w.words w.batches (vs S Lawful B w.words w.batches g.shared c v e) w.batches (moves_raise w.words w.batches g.shared c v e (i + 1)) g.shared i h (λ z. omega arith) m p a
 
     -- a word of one's request
     req_loaded : (j v : ℕ) → j < S.callers → KnowsOwnRequest B w.words w.batches j v → IsLoaded S B w.words w.batches (request_at j, v)
     req_loaded j v l u = record {
       place = omega arith;
-      low = u.0;
+      low = u.low;
       was_cur = λ q. absurd (omega arith);
       held = λ a k q. absurd (omega arith);
-      request = λ y k q. let e : j ≡ y = omega arith in subst (λ (z : ℕ). IsRequest B w.words w.batches z v) e u.1;
+      request = λ y k q. let e : j ≡ y = omega arith in subst (λ (z : ℕ). IsRequest B w.words w.batches z v) e u.held;
       log = λ y x k t q. absurd (omega arith);
     }
 
     -- behind the raise it goes on as n
     goes_on : {rs : List Read} → (p : Place) → HoldsAtPlace S B w.words w.batches i m p → (c v : ℕ) (e : IsLoaded S B w.words w.batches (c, v)) (n : CallState)
-        → (HoldsAtPlace S B (raised w c v).words w.batches i m p → v ≤ durable_word S (raised w c v).words c → (durable_word S (raised w c v).words c ≤ get_or (raised w c v).words c 0) → HoldsAtPlace S B (raised w c v).words w.batches i n n.place)
+        → (HoldsAtPlace S B (raised S w c v).words w.batches i m p → v ≤ durable_word S (raised S w c v).words c → (durable_word S (raised S w c v).words c ≤ get_or (raised S w c v).words c 0) → HoldsAtPlace S B (raised S w c v).words w.batches i n n.place)
         → KeepsGuarantee S Lawful B i w (record { words = set w.words (durable_at S c) (max (durable_word S w.words c) v); machines = set w.machines i n; batches = w.batches ++ []; reads = rs; loaded = w.loaded })
     goes_on p a c v e n f = record {
-      core = (assemble_read S Lawful B (raised w c v) (raise_kept w g c v e) i h _ _ n refl (append-nil w.batches)
+      core = (assemble_read (raise_kept w g c v e) h n refl (append-nil w.batches)
           (f (stays p a c v e) (omega (arith, here S Lawful B w.words w.batches g.shared c v e)) (low S Lawful B w.words w.batches g.shared c v e c e.place))).core;
       moves = rw (append-nil w.batches) (moves_raise w.words w.batches g.shared c v e i);
-    }
-
-    begun_to : (xs : List ℕ) (n : CallState) → IsAnnounced S B xs w.batches i m → n.caller ≡ m.caller → n.made ≡ m.made → n.op ≡ m.op → n.rounds ≡ m.rounds → n.first ≡ m.first → KnowsOwnRequest B xs w.batches i n.kept → IsAnnounced S B xs w.batches i n
-    begun_to xs n p a b o r f k = record {
-      caller = a ∙ p.caller;
-      ticket = rw b p.ticket;
-      words = rw o p.words;
-      some = rw o p.some;
-      kept = k;
-      says = rw (b, o) p.says;
-      script = rw o p.script;
-      upto = rw b p.upto;
-      beyond = rw b p.beyond;
-      mine = rw (b, o) p.mine;
-      known = rw (r, f) p.known;
-    }
-
-    round_to : (xs : List ℕ) (n : CallState) → IsInRound S B xs w.batches i m → n.caller ≡ m.caller → n.made ≡ m.made → n.op ≡ m.op → n.seq ≡ m.seq → n.owner ≡ m.owner → n.rounds ≡ m.rounds → n.first ≡ m.first → KnowsOwnRequest B xs w.batches i n.kept → IsInRound S B xs w.batches i n
-    round_to xs n p a b o c d r f k = record {
-      begun = begun_to xs n p.begun a b o r f k;
-      from = rw c p.from;
-      upto = rw c p.upto;
-      same = rw (c, d) p.same;
-      owner_in = rw d p.owner_in;
-      committed = rw (c, d) p.committed;
-      first = rw (c, d) p.first;
-      unowned = rw c p.unowned;
-      later = rw (c, r, f) p.later;
-      begun_one = rw r p.begun_one;
-      few = rw r p.few;
-    }
-
-    past_to : (xs : List ℕ) (n : CallState) → IsPastOwnTicket S B xs w.batches i m → n.caller ≡ m.caller → n.made ≡ m.made → n.op ≡ m.op → n.seq ≡ m.seq → n.owner ≡ m.owner → n.rounds ≡ m.rounds → n.first ≡ m.first → n.known ≡ m.known → KnowsOwnRequest B xs w.batches i n.kept → IsPastOwnTicket S B xs w.batches i n
-    past_to xs n p a b o c d r f e k = record {
-      looks = record {
-        round = round_to xs n p.looks.round a b o c d r f k;
-        quiet = rw c p.looks.quiet;
-        agrees = rw (c, e) p.looks.agrees;
-        all = rw e p.looks.all;
-      };
-      under = rw c p.under;
-      left = rw (b, c) p.left;
     }
 
     pub raise_old_kept : HoldsAtPlace S B w.words w.batches i m RaiseOld → KeepsGuarantee S Lawful B i w (after_counted_step S i m RaiseOld w)
@@ -143,7 +101,7 @@ module _ (S : Setup) (Lawful : List ℕ → Type 0) (B : TableStart) where
         to xs b = record {
           storing = record {
             stored = record {
-              past = past_to xs _ b.past refl refl refl refl refl refl refl refl b.past.looks.round.begun.kept;
+              past = past_to b.past refl refl refl refl refl refl refl refl b.past.looks.round.begun.kept;
               over = b.scan;
               each = λ y l. absurd (omega arith);
               durable = λ y l. absurd (omega arith);
@@ -159,7 +117,7 @@ module _ (S : Setup) (Lawful : List ℕ → Type 0) (B : TableStart) where
     pub raise_log_kept : (x : ℕ) → HoldsAtPlace S B w.words w.batches i m (RaiseLog x) → KeepsGuarantee S Lawful B i w (after_counted_step S i m (RaiseLog x) w)
     raise_log_kept x a =
         goes_on (RaiseLog x) a (log_at S m.caller x) new loads
-        (take_word_at S m (durable_log S w.words m.caller x) (RaiseLog x)) (λ b u t. to (raised w (log_at S m.caller x) new).words (nat_lt (x + 1) (length (log_words m.log))) refl b u t)
+        (take_word_at S m (durable_log S w.words m.caller x) (RaiseLog x)) (λ b u t. to (raised S w (log_at S m.caller x) new).words (nat_lt (x + 1) (length (log_words m.log))) refl b u t)
       where
         new : ℕ
         new = pack (m.seq + 1) (get_or (log_words m.log) x 0)
@@ -202,7 +160,7 @@ module _ (S : Setup) (Lawful : List ℕ → Type 0) (B : TableStart) where
             logs : (n : CallState) (z : ℕ) → z ≡ x + 1 → n.caller ≡ m.caller → n.made ≡ m.made → n.op ≡ m.op → n.seq ≡ m.seq → n.owner ≡ m.owner → n.known ≡ m.known → n.kept ≡ m.kept → n.log ≡ m.log → n.raw ≡ m.raw → n.rounds ≡ m.rounds → n.first ≡ m.first → n.calls ≡ m.calls → IsStoringLog S B xs w.batches i n z z
             logs n z zx a1 b1 c1 d1 e1 f1 k1 g1 h1 r1 s1 t1 = record {
               stored = record {
-                past = past_to xs n k.storing.stored.past a1 b1 c1 d1 e1 r1 s1 f1 (rw k1 k.storing.stored.past.looks.round.begun.kept);
+                past = past_to k.storing.stored.past a1 b1 c1 d1 e1 r1 s1 f1 (rw k1 k.storing.stored.past.looks.round.begun.kept);
                 over = rw (d1, b1, c1, h1, t1, g1) k.storing.stored.over;
                 each = λ y l. k.storing.stored.each y (omega arith) ∙ sym (same_word y);
                 durable = λ y l. upto y (omega arith) (cases_eq y x) ∙ sym (same_word y);
@@ -225,8 +183,8 @@ module _ (S : Setup) (Lawful : List ℕ → Type 0) (B : TableStart) where
 
     pub raise_request_kept : HoldsAtPlace S B w.words w.batches i m RaiseRequest → KeepsGuarantee S Lawful B i w (after_counted_step S i m RaiseRequest w)
     raise_request_kept a =
-        goes_on RaiseRequest a (request_at m.caller) new (subst (λ (j : ℕ). IsLoaded S B w.words w.batches (request_at j, new)) (sym ci) (req_loaded i new h (omega (arith, a.asks), is_open_word)))
-        (take_word_at S m (durable_request S w.words m.caller) RaiseRequest) (λ b u t. to (raised w (request_at m.caller) new).words b u t)
+        goes_on RaiseRequest a (request_at m.caller) new (subst (λ (j : ℕ). IsLoaded S B w.words w.batches (request_at j, new)) (sym ci) (req_loaded i new h (record { low = omega (arith, a.asks); held = is_open_word })))
+        (take_word_at S m (durable_request S w.words m.caller) RaiseRequest) (λ b u t. to (raised S w (request_at m.caller) new).words b u t)
       where
         new : ℕ
         new = pack (m.seq + 1) 0
@@ -242,7 +200,7 @@ module _ (S : Setup) (Lawful : List ℕ → Type 0) (B : TableStart) where
             let u' : new ≤ durable_request S xs i = rw ci at u in
             let t' : durable_request S xs i ≤ request_of xs i = rw ci at t in record {
               stored = record {
-                past = past_to xs _ b.stored.past refl refl refl refl refl refl refl refl (omega (arith, b.asks), λ l. inl (pay_word (m.seq + 1) 0 (omega arith)));
+                past = past_to b.stored.past refl refl refl refl refl refl refl refl (record { low = omega (arith, b.asks); held = λ l. inl (pay_word (m.seq + 1) 0 (omega arith)) });
                 over = b.stored.over;
                 each = b.stored.each;
                 durable = b.stored.durable;
@@ -252,42 +210,15 @@ module _ (S : Setup) (Lawful : List ℕ → Type 0) (B : TableStart) where
               raised = omega (arith, u', t', b.asks);
             }
 
-    -- what is applied doesn't speak of the place
-    applies_to : (xs : List ℕ) (j k : ℕ) → IsApplying S B xs w.batches i m j → (n : CallState)
-        → n.caller ≡ m.caller → n.made ≡ m.made → n.op ≡ m.op → n.seq ≡ m.seq → n.owner ≡ m.owner → n.log ≡ m.log → n.raw ≡ m.raw → n.helps ≡ m.helps → n.kept ≡ m.kept → n.rounds ≡ m.rounds → n.first ≡ m.first → n.tries ≡ m.tries
-        → ((y : ℕ) → y < k → (m.seq ≤ seq_of (data_word S xs (log_entry m y).0)) × (m.seq ≤ seq_of (durable_cell S xs (log_entry m y).0))) → IsApplying S B xs w.batches i n k
-    applies_to xs j k p n a b c d e f r hh kk rr ff tt1 done = record {
-      mode = mode_of m.helps n.helps hh p.mode;
-      after = rw d p.after;
-      upto = rw d p.upto;
-      committed = rw (d, e) p.committed;
-      log = rw (d, f) p.log;
-      done = rw (d, f) done;
-    }
-      where
-        helper : MayHelp S B xs w.batches i m → MayHelp S B xs w.batches i n
-        helper (inl q) = inl (round_to xs n q a b c d e rr ff (rw kk q.begun.kept))
-        helper (inr q) = inr (record {
-          fresh = record { caller = a ∙ q.fresh.caller; ticket = rw b q.fresh.ticket; words = rw c q.fresh.words; some = rw c q.fresh.some; kept = rw kk q.fresh.kept; above = rw b q.fresh.above; quieted = q.fresh.quieted; newer = rw b q.fresh.newer; rounds = rr ∙ q.fresh.rounds };
-          reads = rw c q.reads;
-          few = rw tt1 q.few;
-        })
-
-        mode_of : (x y : Bool) → y ≡ x → AppliesAs S B xs w.batches i m x → AppliesAs S B xs w.batches i n y
-        mode_of true true z q = (helper q.0, rw (d, e) q.1, rw d q.2)
-        mode_of false false z q = record { caller = a ∙ q.caller; owner = e ∙ q.owner; says = rw b q.says; upto = rw b q.upto; reached = rw b q.reached; call = rw (b, c, d, r) q.call; asks = rw d q.asks; unowned = rw d q.unowned; logs = rw d q.logs }
-        mode_of true false z q = cc
-        mode_of false true z q = cc
-
     pub raise_current_kept : HoldsAtPlace S B w.words w.batches i m RaiseCurrent → KeepsGuarantee S Lawful B i w (after_counted_step S i m RaiseCurrent w)
     raise_current_kept a =
-        goes_on RaiseCurrent a 0 new loads (take_word_at S m (durable_word S w.words 0) RaiseCurrent) (λ b u t. to (raised w 0 new).words (nat_lt 0 (length m.log)) refl b u)
+        goes_on RaiseCurrent a 0 new loads (take_word_at S m (durable_word S w.words 0) RaiseCurrent) (λ b u t. to (raised S w 0 new).words (nat_lt 0 (length m.log)) refl b u)
       where
         new : ℕ
         new = pack m.seq m.owner
 
         owner_in : m.owner < S.callers
-        owner_in = rw (← a.committed) (g.shared.counted.owners m.seq a.after a.upto)
+        owner_in = owner_of g.shared a
 
         new_seq : seq_of new ≡ m.seq
         new_seq = seq_word m.seq m.owner (omega (arith, owner_in, g.shared.few))
@@ -314,20 +245,20 @@ module _ (S : Setup) (Lawful : List ℕ → Type 0) (B : TableStart) where
         }
 
         to : (xs : List ℕ) (b : Bool) → nat_lt 0 (length m.log) ≡ b → IsApplying S B xs w.batches i m 0 → new ≤ durable_word S xs 0 → HoldsAtPlace S B xs w.batches i (after_raise_current m b) (after_raise_current m b).place
-        to xs true e k u = record { applies = applies_to xs 0 0 k _ refl refl refl refl refl refl refl refl refl refl refl refl k.done; more = (let z : 0 < length m.log = grind (arith, nat_tests) in z); durable = omega (arith, new_seq, seq_mono new (durable_word S xs 0) u) }
+        to xs true e k u = record { applies = applies_as k refl refl refl refl refl refl refl refl refl refl refl refl k.done; more = (let z : 0 < length m.log = grind (arith, nat_tests) in z); durable = omega (arith, new_seq, seq_mono new (durable_word S xs 0) u) }
         to xs false e k u =
             let z : length m.log ≡ 0 = grind (arith, nat_tests) in
-            record { applies = applies_to xs 0 (length m.log) k _ refl refl refl refl refl refl refl refl refl refl refl refl (λ y l. absurd (omega arith)); durable = omega (arith, new_seq, seq_mono new (durable_word S xs 0) u) }
+            record { applies = applies_as k refl refl refl refl refl refl refl refl refl refl refl refl (λ y l. absurd (omega arith)); durable = omega (arith, new_seq, seq_mono new (durable_word S xs 0) u) }
 
     pub raise_target_kept : (j f : ℕ) → HoldsAtPlace S B w.words w.batches i m (RaiseTarget j f) → KeepsGuarantee S Lawful B i w (after_counted_step S i m (RaiseTarget j f) w)
     raise_target_kept j f a =
-        goes_on (RaiseTarget j f) a (data_at S x) f loads (take_word_at S m (durable_cell S w.words x) (RaiseTarget j f)) (λ b u t. to (raised w (data_at S x) f).words (nat_lt (j + 1) (length m.log)) refl b u)
+        goes_on (RaiseTarget j f) a (data_at S x) f loads (take_word_at S m (durable_cell S w.words x) (RaiseTarget j f)) (λ b u t. to (raised S w (data_at S x) f).words (nat_lt (j + 1) (length m.log)) refl b u)
       where
         x : ℕ
         x = (log_entry m j).0
 
         x_in : x < S.cells
-        x_in = let t = a.entry.applies.log.each j a.entry.more in (subst (λ (e : ℕ × ℕ). (e.0 < S.cells) × (e.1 < PAYLOADS)) t.2 ((g.shared.counted.logs m.seq a.entry.applies.after a.entry.applies.upto).entries t.0 (0, 0) t.1)).0
+        x_in = (entry_in g.shared a.entry.applies j a.entry.more).0
 
         loads : IsLoaded S B w.words w.batches (data_at S x, f)
         loads = record {
@@ -347,28 +278,28 @@ module _ (S : Setup) (Lawful : List ℕ → Type 0) (B : TableStart) where
             done y l (inr q) = k.entry.applies.done y (omega arith)
 
             by : (b : Bool) → nat_lt (j + 1) (length m.log) ≡ b → HoldsAtPlace S B xs w.batches i (next_entry m j b) (next_entry m j b).place
-            by true e = record { applies = applies_to xs j (j + 1) k.entry.applies _ refl refl refl refl refl refl refl refl refl refl refl refl (λ y l. done y l (cases_eq y j)); more = (let z : j + 1 < length m.log = grind (arith, nat_tests) in z); durable = k.entry.durable }
+            by true e = record { applies = applies_as k.entry.applies refl refl refl refl refl refl refl refl refl refl refl refl (λ y l. done y l (cases_eq y j)); more = (let z : j + 1 < length m.log = grind (arith, nat_tests) in z); durable = k.entry.durable }
             by false e = let z : length m.log ≡ j + 1 = whole (let z : length m.log ≤ j + 1 = grind (arith, nat_tests) in z) in
-                record { applies = applies_to xs j (length m.log) k.entry.applies _ refl refl refl refl refl refl refl refl refl refl refl refl (λ y l. done y (omega arith) (cases_eq y j)); durable = k.entry.durable }
+                record { applies = applies_as k.entry.applies refl refl refl refl refl refl refl refl refl refl refl refl (λ y l. done y (omega arith) (cases_eq y j)); durable = k.entry.durable }
               where
                 whole : length m.log ≤ j + 1 → length m.log ≡ j + 1
                 whole v = omega (arith, k.entry.more)
 
   -- behind the last raise of an apply a helper goes on with its round, and an owner's call is answered
-  left_close : (w : Moment) (g : MeetsCore S Lawful B w) (i : ℕ) (m : CallState) (h : i < S.callers) → IsSoundMeaning S.meaning Lawful (first_operation_cell S) S.cells → IsApplying S B w.words w.batches i m (length m.log) → m.seq ≤ durable_seq S w.words → pack m.seq 0 < request_of w.words m.owner → pack m.seq 1 ≤ durable_request S w.words m.owner
+  left_close : {w : Moment} (g : MeetsCore S Lawful B w) {i : ℕ} (h : i < S.callers) (m : CallState) → IsSoundMeaning S.meaning Lawful (first_operation_cell S) S.cells → IsApplying S B w.words w.batches i m (length m.log) → m.seq ≤ durable_seq S w.words → pack m.seq 0 < request_of w.words m.owner → pack m.seq 1 ≤ durable_request S w.words m.owner
       → (b d : Bool) → m.helps ≡ b → (m.rounds == 0) ≡ d → HoldsAtPlace S B w.words w.batches i (after_raise_closed S m b d) (after_raise_closed S m b d).place
-  left_close w g i m h sound a top above high b d eb ed = go b eb (subst (λ (x : Bool). AppliesAs S B w.words w.batches i m x) eb a.mode)
+  left_close {w} g {i} h m sound a top above high b d eb ed = go b eb (subst (λ (x : Bool). AppliesAs S B w.words w.batches i m x) eb a.mode)
     where
       go : (b : Bool) → m.helps ≡ b → AppliesAs S B w.words w.batches i m b → HoldsAtPlace S B w.words w.batches i (after_raise_closed S m b d) (after_raise_closed S m b d).place
-      go true e q = resumed_at S Lawful B w g i m h m sound q.0 q.1 q.2 (quiet_from S Lawful B w g i m h m.seq m.owner q.1 (λ l z. omega arith)) d ed
+      go true e q = resumed_at g h m sound q.helper q.current_word q.calm (quiet_from g h m.seq m.owner q.current_word (λ l z. omega arith)) d ed
       go false e q = record {
         caller = q.caller;
         calm = calm;
-        kept = (omega (arith, closed), λ l. inr (pay_word m.seq 1 (omega arith), rw (seq_word m.seq 1 (omega arith)) a.upto, rw (seq_word m.seq 1 (omega arith)) (a.committed ∙ q.owner)));
+        kept = record { low = omega (arith, closed); held = λ l. inr (pay_word m.seq 1 (omega arith), rw (seq_word m.seq 1 (omega arith)) a.upto, rw (seq_word m.seq 1 (omega arith)) (a.committed ∙ q.owner)) };
         quieted = inl (omega (arith, q.says, q.reached));
         upto = q.upto;
         older = omega (arith, q.says);
-        told = (a.after, top, a.upto, q.call);
+        told = record { from = a.after; durable = top; upto = a.upto; call = q.call };
       }
         where
           above' : pack m.seq 0 < request_of w.words i
@@ -397,13 +328,13 @@ module _ (S : Setup) (Lawful : List ℕ → Type 0) (B : TableStart) where
               shut k l u o (inr (inl z)) = omega (arith, closed, word_later k 0 (pack m.seq 1) (omega arith) (omega (arith, seq_word m.seq 1 (omega arith))))
               shut k l u o (inr (inr z)) = absurd (q.unowned k z u o)
 
-  pub raise_closed_kept : (w : Moment) (g : MeetsCore S Lawful B w) (i : ℕ) (m : CallState) (h : i < S.callers) → IsSoundMeaning S.meaning Lawful (first_operation_cell S) S.cells → HoldsAtPlace S B w.words w.batches i m RaiseClosed → KeepsGuarantee S Lawful B i w (after_counted_step S i m RaiseClosed w)
-  raise_closed_kept w g i m h sound a =
-      let g1 : MeetsCore S Lawful B (raised w (request_at m.owner) new) = raise_kept w g (request_at m.owner) new loads in
-      let b : HoldsAtPlace S B (raised w (request_at m.owner) new).words w.batches i m RaiseClosed = stays w g i m h RaiseClosed a (request_at m.owner) new loads in
+  pub raise_closed_kept : {w : Moment} (g : MeetsCore S Lawful B w) {i : ℕ} (h : i < S.callers) (m : CallState) → IsSoundMeaning S.meaning Lawful (first_operation_cell S) S.cells → HoldsAtPlace S B w.words w.batches i m RaiseClosed → KeepsGuarantee S Lawful B i w (after_counted_step S i m RaiseClosed w)
+  raise_closed_kept {w} g {i} h m sound a =
+      let g1 : MeetsCore S Lawful B (raised S w (request_at m.owner) new) = raise_kept w g (request_at m.owner) new loads in
+      let b : HoldsAtPlace S B (raised S w (request_at m.owner) new).words w.batches i m RaiseClosed = stays g h m RaiseClosed a (request_at m.owner) new loads in
       record {
-        core = (assemble_read S Lawful B (raised w (request_at m.owner) new) g1 i h _ _ (after_raise_closed S m m.helps (m.rounds == 0)) refl (append-nil w.batches)
-            (left_close (raised w (request_at m.owner) new) g1 i m h sound b.applies b.durable b.closed (omega (arith, here S Lawful B w.words w.batches g.shared (request_at m.owner) new loads)) m.helps (m.rounds == 0) refl refl)).core;
+        core = (assemble_read g1 h (after_raise_closed S m m.helps (m.rounds == 0)) refl (append-nil w.batches)
+            (left_close g1 h m sound b.applies b.durable b.closed (omega (arith, here S Lawful B w.words w.batches g.shared (request_at m.owner) new loads)) m.helps (m.rounds == 0) refl refl)).core;
         moves = rw (append-nil w.batches) (moves_raise w.words w.batches g.shared (request_at m.owner) new loads i);
       }
     where
@@ -411,7 +342,7 @@ module _ (S : Setup) (Lawful : List ℕ → Type 0) (B : TableStart) where
       new = pack m.seq 1
 
       owner_in : m.owner < S.callers
-      owner_in = rw (← a.applies.committed) (g.shared.counted.owners m.seq a.applies.after a.applies.upto)
+      owner_in = owner_of g.shared a.applies
 
       loads : IsLoaded S B w.words w.batches (request_at m.owner, new)
       loads = record {

@@ -25,14 +25,14 @@ module _ (S : Setup) (Lawful : List ℕ → Type 0) (B : TableStart) (w : Moment
   st = state_after B w.batches (durable_seq S w.words)
 
   long : length st ≡ S.cells
-  long = state_length S B w.batches g.core.shared.start (logs_of S Lawful B w g.core) (durable_seq S w.words) sound.from sound.reaches
+  long = state_length S B w.batches g.core.shared.start (logs_of g.core) (durable_seq S w.words) sound.from sound.reaches
 
   -- no word of the state is newer than its sequence
   none_newer : (a : ℕ) → seq_of (get_or st a 0) ≤ durable_seq S w.words
   none_newer a = go (cases_lt a S.cells)
     where
       go : (a < S.cells) ⊎ (S.cells ≤ a) → seq_of (get_or st a 0) ≤ durable_seq S w.words
-      go (inl l) = old S B w.batches g.core.shared.start (logs_of S Lawful B w g.core) (durable_seq S w.words) a sound.from sound.reaches l
+      go (inl l) = old S B w.batches g.core.shared.start (logs_of g.core) (durable_seq S w.words) a sound.from sound.reaches l
       go (inr l) = rw (get_or_past st a 0 (omega (arith, long)), seq_zero) (omega arith)
 
   -- the state that recovery finds is a start that may be

@@ -138,7 +138,7 @@ module _ (S : Setup) (Lawful : List ℕ → Type 0) (B : TableStart) (w : Moment
           go : IsOf a → durable_cell S w.words a ≡ data_word_after B w.batches d a
           go (inl q) = q
           go (inr q) =
-              let o : seq_of (data_word_after B w.batches (d - 1) a) ≤ d - 1 = old S B w.batches g.shared.start (logs_of S Lawful B w g) (d - 1) a (omega (arith, after)) (omega (arith, d_in, n_is)) l in
+              let o : seq_of (data_word_after B w.batches (d - 1) a) ≤ d - 1 = old S B w.batches g.shared.start (logs_of g) (d - 1) a (omega (arith, after)) (omega (arith, d_in, n_is)) l in
               absurd (omega (arith, m, o, ap seq_of q.2, after))
 
       -- so is one that the log doesn't name
@@ -147,7 +147,7 @@ module _ (S : Setup) (Lawful : List ℕ → Type 0) (B : TableStart) (w : Moment
         where
           go : IsOf a → durable_cell S w.words a ≡ data_word_after B w.batches d a
           go (inl q) = q
-          go (inr q) = q.2 ∙ sym (unnamed S B w.batches g.shared.start (logs_of S Lawful B w g) d a after (omega (arith, d_in, n_is)) (λ j u e. n j (omega arith) u e))
+          go (inr q) = q.2 ∙ sym (unnamed S B w.batches g.shared.start (logs_of g) d a after (omega (arith, d_in, n_is)) (λ j u e. n j (omega arith) u e))
 
       -- and each other one takes the value of its entry
       abbrev given : Option ℕ → ℕ
@@ -155,7 +155,7 @@ module _ (S : Setup) (Lawful : List ℕ → Type 0) (B : TableStart) (w : Moment
 
       entry_given : (o : Option ℕ) → Found log here a 0 o → given o ≡ data_word_after B w.batches d a
       entry_given o (inl k) =
-          ap given k.3 ∙ ap (pack d) (valued log here k.0 k.1) ∙ sym (named_at S B w.batches g.shared.start (logs_of S Lawful B w g) d k.0 after (omega (arith, d_in, n_is)) k.1) ∙ ap (data_word_after B w.batches d) k.2
+          ap given k.3 ∙ ap (pack d) (valued log here k.0 k.1) ∙ sym (named_at S B w.batches g.shared.start (logs_of g) d k.0 after (omega (arith, d_in, n_is)) k.1) ∙ ap (data_word_after B w.batches d) k.2
       entry_given o (inr n) = ap given n.0 ∙ other n.1
 
       replayed : replayed_data S.callers S.cells row (entry_count S.callers S.cells row) a ≡ data_word_after B w.batches d a

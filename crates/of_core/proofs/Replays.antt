@@ -46,7 +46,7 @@ module _ (S : Setup) (Lawful : List ℕ → Type 0) (sound : IsSoundMeaning S.me
         let p = upto d (omega arith) in
         let l : d < length w.batches = omega arith in
         let t : take (suc d) w.batches ≡ take d w.batches ++ get_or w.batches d no_batch ∷ [] = sym (ap (λ (k : ℕ). take k w.batches) (suc_is d)) ∙ take_more w.batches d no_batch l in
-        let here : length (numbers_after B w.batches (B.seq + d)) ≡ S.cells = length-map (state_after B w.batches (B.seq + d)) payload_of ∙ state_length S B w.batches g.shared.start (logs_of S Lawful B w g) (B.seq + d) (omega arith) (omega arith) in
+        let here : length (numbers_after B w.batches (B.seq + d)) ≡ S.cells = length-map (state_after B w.batches (B.seq + d)) payload_of ∙ state_length S B w.batches g.shared.start (logs_of g) (B.seq + d) (omega arith) (omega arith) in
         let e : B.seq + suc d ≡ B.seq + d + 1 = omega arith in
         let b : batch_at B w.batches (B.seq + d + 1) ≡ get_or w.batches d no_batch = batch_is B w.batches d in
         let leads : SameFrom (first_operation_cell S) (numbers_after B w.batches (B.seq + d + 1)) (numbers_after_calls S.meaning (numbers_after B w.batches (B.seq + d)) (get_or w.batches d no_batch).calls) = rw b at (g.shared.stands.leads (B.seq + d) (omega arith) (omega arith)) in

@@ -1,5 +1,5 @@
 -- A data cell keeps its word, or gets one of a later transaction.
-use Rattle.std.proofs.Common.{◌≡◌, ◌⊎◌, inl, inr, ℕ, ◌<◌, ◌≤◌, ◌==◌, List, [], ◌∷◌, length, get_or, set, refl, ◌∙◌, ap, arith, Bool, true, false, if◌then◌else◌}
+use Rattle.std.proofs.Common.{◌≡◌, ◌⊎◌, inl, inr, ℕ, ◌<◌, ◌≤◌, ◌==◌, List, [], ◌∷◌, get_or, set, refl, ◌∙◌, ap, arith, Bool, true, false, if◌then◌else◌}
 use Rattle.std.proofs.lemmas.Bool.{cases_eq}
 use Rattle.std.proofs.lemmas.Bool.Decides.{nat_tests}
 use Rattle.std.proofs.lemmas.List.{get_or-set_other, set-get_or, get_or_default}
@@ -15,7 +15,7 @@ use Rattle.of_core.specs.Invariant.{HoldsAtPlace, MeetsCore, MeetsInvariant}
 use Rattle.of_core.specs.Guarantees.{Guarantees}
 use Rattle.of_core.specs.Events.{Event, Begins, Turns, Loads, Evicts, Raises, machine_in, after_event, MayHappen, after_events, IsSchedule}
 use Rattle.of_core.proofs.Found.{found_now}
-use Rattle.of_core.proofs.Durables.{owner_in, entry_in}
+use Rattle.of_core.proofs.Stability.{owner_in, entry_in}
 use Rattle.of_core.proofs.StepKept.{step_moves}
 use Rattle.of_core.proofs.Happenings.{event_good}
 
@@ -45,8 +45,8 @@ module _ (S : Setup) (Lawful : List ℕ → Type 0) (B : TableStart) (w : Moment
   cells_at (StoreLog x) q = elsewhere (log_at S m.caller x) _ (λ e. omega (arith, e, l))
   cells_at StoreRequest q = elsewhere (request_at m.caller) _ (λ e. omega (arith, e, h, q.stored.past.looks.round.begun.caller))
   cells_at ExchangeCurrent q = elsewhere 0 _ (λ e. omega (arith, e))
-  cells_at (ExchangeTarget x o) q = exchanged (log_entry m x).0 m.seq o (pack m.seq (log_entry m x).1) (entry_in S Lawful B w g i m h x x q.entry.applies q.entry.more) q.older q.entry.applies.upto
-  cells_at CloseRequest q = elsewhere (request_at m.owner) _ (λ e. omega (arith, e, owner_in S Lawful B w g i m h (length m.log) q.applies))
+  cells_at (ExchangeTarget x o) q = exchanged (log_entry m x).0 m.seq o (pack m.seq (log_entry m x).1) (entry_in g.shared q.entry.applies x q.entry.more).0 q.older q.entry.applies.upto
+  cells_at CloseRequest q = elsewhere (request_at m.owner) _ (λ e. omega (arith, e, owner_in g.shared q.applies))
   cells_at RaiseOld q = elsewhere (durable_at S (request_at m.caller)) _ (λ e. omega (arith, e, l))
   cells_at (RaiseLog x) q = elsewhere (durable_at S (log_at S m.caller x)) _ (λ e. omega (arith, e, l))
   cells_at RaiseRequest q = elsewhere (durable_at S (request_at m.caller)) _ (λ e. omega (arith, e, l))

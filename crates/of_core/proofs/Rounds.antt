@@ -1,13 +1,13 @@
 -- A round begins: the current-transaction word and its request are loaded. What a round may rest on: a third one meets its call, no cell of a call that is done is newer, and cells that are not newer are those of its state.
-use Rattle.std.proofs.Common.{◌≡◌, ℕ, ◌+◌, ◌-◌, ◌<◌, ◌≤◌, ◌⊎◌, ◌==◌, inl, inr, List, length, get_or, refl, sym, ◌∙◌, ap, arith, length-set, Option, Some, None, Bool, true, false}
-use Rattle.std.proofs.lemmas.Bool.{cases_eq, cases_lt}
+use Rattle.std.proofs.Common.{◌≡◌, ℕ, ◌+◌, ◌-◌, ◌<◌, ◌≤◌, ◌⊎◌, ◌==◌, inl, inr, List, length, get_or, refl, sym, ◌∙◌, ap, arith, length-set, Some, None, Bool, true, false}
+use Rattle.std.proofs.lemmas.Bool.{cases_eq}
 use Rattle.std.proofs.lemmas.Bool.Decides.{nat_tests}
-use Rattle.std.proofs.lemmas.List.{length-replicate, get_or-replicate, get_or_past, get_or-set_same, get_or-set_other}
+use Rattle.std.proofs.lemmas.List.{length-replicate, get_or-set_same, get_or-set_other}
 use Rattle.of_cell.specs.Words.{pack, seq_of, payload_of}
 use Rattle.of_cell.proofs.Order.{seq_word}
 use Rattle.of_core.specs.declared.place.Place.TheVariants.{Idle, LoadCurrent, LoadRequest, LoadOwnTicket}
 use Rattle.of_core.specs.Table.{Setup, announcement_of, current_word, request_of, data_word, committed_seq, committed_owner, durable_seq}
-use Rattle.of_core.specs.Machine.{CallState, no_cell_known, with_cell_known}
+use Rattle.of_core.specs.Machine.{CallState, with_cell_known}
 use Rattle.of_core.specs.Steps.{after_load_request, enter, is_request_open, take_word_at, next_round, first_round_seq}
 use Rattle.of_core.specs.TableMoment.{Moment, TableStart, after_counted_step}
 use Rattle.of_core.specs.History.{batch_at, data_word_after, IsCellOfCaller, last_ticket_by, numbers_after}
@@ -20,16 +20,17 @@ use Rattle.of_core.proofs.Logs.{room_for}
 use Rattle.of_core.proofs.Tickets.{tickets_grow, row_old}
 use Rattle.of_core.proofs.Stability.{floor_of}
 use Rattle.of_core.proofs.Alike.{begun_as, calm_more, round_as}
+use Rattle.of_core.proofs.Unknown.{known_not}
 use Rattle.of_core.proofs.Assembling.{assemble_read, logs_of, number_at, same_batches, same_words}
 
-module _ (S : Setup) (Lawful : List ℕ → Type 0) (B : TableStart) where
-  -- the machine m of caller i, at its place
-  module _ (w : Moment) (g : MeetsCore S Lawful B w) (i : ℕ) (m : CallState) (h : i < S.callers) where
-    pub idle_kept : HoldsAtPlace S B w.words w.batches i m m.place → KeepsGuarantee S Lawful B i w (after_counted_step S i m Idle w)
-    idle_kept a = assemble_read S Lawful B w g i h _ _ m (same_words S Lawful B w g i m h 0) (same_batches S Lawful B w g i m h) a
+module _ {S : Setup} {Lawful : List ℕ → Type 0} {B : TableStart} where
+  -- the machine of caller i
+  module _ {w : Moment} (g : MeetsCore S Lawful B w) {i : ℕ} (h : i < S.callers) where
+    pub idle_kept : (m : CallState) → HoldsAtPlace S B w.words w.batches i m m.place → KeepsGuarantee S Lawful B i w (after_counted_step S i m Idle w)
+    idle_kept m a = assemble_read g h m (same_words w 0) (same_batches w) a
 
-    pub load_current_kept : HoldsAtPlace S B w.words w.batches i m LoadCurrent → KeepsGuarantee S Lawful B i w (after_counted_step S i m LoadCurrent w)
-    load_current_kept a = assemble_read S Lawful B w g i h _ _ (take_word_at S m (current_word w.words) LoadCurrent) (same_words S Lawful B w g i m h 0) (same_batches S Lawful B w g i m h) (record { round = go (m.rounds == 0) refl; calm = a.calm })
+    pub load_current_kept : (m : CallState) → HoldsAtPlace S B w.words w.batches i m LoadCurrent → KeepsGuarantee S Lawful B i w (after_counted_step S i m LoadCurrent w)
+    load_current_kept m a = assemble_read g h (take_word_at S m (current_word w.words) LoadCurrent) (same_words w 0) (same_batches w) (record { round = go (m.rounds == 0) refl; calm = a.calm })
       where
         go : (b : Bool) → (m.rounds == 0) ≡ b → IsInRound S B w.words w.batches i (record m { place = LoadRequest; seq = committed_seq w.words; owner = committed_owner w.words; rounds = m.rounds + 1; first = first_round_seq m (committed_seq w.words) b })
         go b e = record {
@@ -95,8 +96,8 @@ module _ (S : Setup) (Lawful : List ℕ → Type 0) (B : TableStart) where
     cell_upto x l = go (g.shared.data_cells.each x l)
       where
         go : (data_word S w.words x ≡ data_word_after B w.batches (committed_seq w.words) x) ⊎ (IsLastOpen B w.words × (data_word S w.words x ≡ data_word_after B w.batches (committed_seq w.words - 1) x)) → seq_of (data_word S w.words x) ≤ committed_seq w.words
-        go (inl q) = rw q (old S B w.batches g.shared.start (logs_of S Lawful B w g) (committed_seq w.words) x (omega (arith, n_is)) (omega (arith, n_is)) l)
-        go (inr q) = rw q.1 (omega (arith, old S B w.batches g.shared.start (logs_of S Lawful B w g) (committed_seq w.words - 1) x (omega (arith, q.0.any)) (omega (arith, n_is)) l))
+        go (inl q) = rw q (old S B w.batches g.shared.start (logs_of g) (committed_seq w.words) x (omega (arith, n_is)) (omega (arith, n_is)) l)
+        go (inr q) = rw q.1 (omega (arith, old S B w.batches g.shared.start (logs_of g) (committed_seq w.words - 1) x (omega (arith, q.0.any)) (omega (arith, n_is)) l))
 
     pub row_in : (a : ℕ) → IsCellOfCaller S i a → a < S.cells
     row_in a r = omega (arith, r, room_for i S.callers (S.instrs + 2) h, g.shared.own_in)
@@ -106,7 +107,7 @@ module _ (S : Setup) (Lawful : List ℕ → Type 0) (B : TableStart) where
     own_row_old n p t a r = go (g.shared.data_cells.each a (row_in a r))
       where
         at_k : (k : ℕ) → n.seq ≤ k → k ≤ committed_seq w.words → seq_of (data_word_after B w.batches k a) ≤ n.seq
-        at_k k l u = row_old S Lawful B w.batches g.shared.stands g.shared.start (logs_of S Lawful B w g) g.shared.own_in n.seq k i a p.round.from l (omega (arith, n_is)) h
+        at_k k l u = row_old S Lawful B w.batches g.shared.stands g.shared.start (logs_of g) g.shared.own_in n.seq k i a p.round.from l (omega (arith, n_is)) h
             (omega (arith, t, p.round.begun.upto, tickets_grow S Lawful B w.batches g.shared.stands k (committed_seq w.words) i (omega (arith, p.round.from)) u (omega (arith, n_is)) h)) r
 
         go : (data_word S w.words a ≡ data_word_after B w.batches (committed_seq w.words) a) ⊎ (IsLastOpen B w.words × (data_word S w.words a ≡ data_word_after B w.batches (committed_seq w.words - 1) a)) → seq_of (data_word S w.words a) ≤ n.seq
@@ -118,8 +119,8 @@ module _ (S : Setup) (Lawful : List ℕ → Type 0) (B : TableStart) where
     -- a round that met a newer cell begins again
     pub again : (n : CallState) → IsInRound S B w.words w.batches i n → HasNothingUnderWay S B w.words w.batches i n.seq → n.rounds ≤ 2 → (x : ℕ) → x < S.cells → n.seq < seq_of (data_word S w.words x) → HoldsAtPlace S B w.words w.batches i (next_round n) LoadCurrent
     again n p c few x l u = record {
-      begun = begun_as S Lawful B w g i m h n _ p.begun refl refl refl refl refl refl;
-      calm = calm_more S Lawful B w g i m h n.seq (committed_seq w.words) p.upto c;
+      begun = begun_as p.begun refl refl refl refl refl refl;
+      calm = calm_more p.upto c;
       between = record { few = few; later = λ z. omega (arith, p.later, cell_upto x l) };
     }
 
@@ -128,9 +129,9 @@ module _ (S : Setup) (Lawful : List ℕ → Type 0) (B : TableStart) where
         → (n.seq ≡ committed_seq w.words → B.seq < n.seq → pack n.seq 0 < request_of w.words (committed_owner w.words)) → HoldsAtPlace S B w.words w.batches i (enter S n) LoadOwnTicket
     entered_at n p o quiet = record {
       looks = record {
-        round = round_as S Lawful B w g i m h n _ p refl refl refl refl refl refl refl refl;
+        round = round_as p refl refl refl refl refl refl refl refl;
         quiet = quiet;
-        agrees = λ x v q. absurd (elim_none v (sym (unknown_at x (cases_lt x S.cells)) ∙ q));
+        agrees = λ x v q. absurd (known_not S.cells x v q);
         all = length-replicate S.cells None;
       };
       calm = o;
@@ -139,13 +140,6 @@ module _ (S : Setup) (Lawful : List ℕ → Type 0) (B : TableStart) where
       no_calls = refl;
       no_scan = refl;
     }
-      where
-        unknown_at : (x : ℕ) → (x < S.cells) ⊎ (S.cells ≤ x) → get_or (no_cell_known S) x None ≡ None
-        unknown_at x (inl l) = get_or-replicate S.cells x None None l
-        unknown_at x (inr l) = get_or_past (no_cell_known S) x None (rw length-replicate l)
-
-        elim_none : (v : ℕ) → ◌≡◌ {A = Option ℕ} None (Some v) → ⊥
-        elim_none v q = cc
 
     -- a request that was found not to be open is above
     pub quiet_from : (s o : ℕ) → WasCurrent S B w.words w.batches s o → (B.seq < s → request_of w.words o ≡ pack s 0 → ⊥) → s ≡ committed_seq w.words → B.seq < s → pack s 0 < request_of w.words (committed_owner w.words)
@@ -167,24 +161,26 @@ module _ (S : Setup) (Lawful : List ℕ → Type 0) (B : TableStart) where
     pub opened_is : (s f : ℕ) → is_request_open s f ≡ true → (0 < s) × (f ≡ pack s 0)
     opened_is s f e = (grind (arith, nat_tests), grind (arith, nat_tests))
 
-    pub load_request_kept : HoldsAtPlace S B w.words w.batches i m LoadRequest → KeepsGuarantee S Lawful B i w (after_counted_step S i m LoadRequest w)
-    load_request_kept a = assemble_read S Lawful B w g i h _ _ (take_word_at S m (request_of w.words m.owner) LoadRequest) (same_words S Lawful B w g i m h (m.owner + 1)) (same_batches S Lawful B w g i m h) (
+    -- a transaction that was found open isn't the start
+    pub opened_after : (s o : ℕ) → WasCurrent S B w.words w.batches s o → is_request_open s (request_of w.words o) ≡ true → B.seq < s
+    opened_after s o p e = go (opened_is s (request_of w.words o) e) (cases_eq s B.seq)
+      where
+        go : (0 < s) × (request_of w.words o ≡ pack s 0) → (s ≡ B.seq) ⊎ (s ≡ B.seq → ⊥) → B.seq < s
+        go q (inl e) =
+            let z : pack B.seq 0 < request_of w.words B.owner = g.shared.requests.floor (omega (arith, q.0)) in
+            absurd (omega (arith, q.1, ap (λ (k : ℕ). pack k 0) e, ap (request_of w.words) (p.first e)))
+        go q (inr e) = omega (arith, p.from)
+
+    pub load_request_kept : (m : CallState) → HoldsAtPlace S B w.words w.batches i m LoadRequest → KeepsGuarantee S Lawful B i w (after_counted_step S i m LoadRequest w)
+    load_request_kept m a = assemble_read g h (take_word_at S m (request_of w.words m.owner) LoadRequest) (same_words w (m.owner + 1)) (same_batches w) (
         go (is_request_open m.seq (request_of w.words m.owner)) refl)
       where
-        after : (0 < m.seq) × (request_of w.words m.owner ≡ pack m.seq 0) → (m.seq ≡ B.seq) ⊎ (m.seq ≡ B.seq → ⊥) → B.seq < m.seq
-        after q (inl e) =
-            let z : pack B.seq 0 < request_of w.words B.owner = g.shared.requests.floor (omega (arith, q.0)) in
-            absurd (omega (arith, q.1, ap (λ (k : ℕ). pack k 0) e, ap (request_of w.words) (a.round.first e)))
-        after q (inr e) = omega (arith, a.round.from)
-
         go : (b : Bool) → is_request_open m.seq (request_of w.words m.owner) ≡ b → HoldsAtPlace S B w.words w.batches i (after_load_request S m b) (after_load_request S m b).place
         go true eb = record {
           copies = record {
-            helper = inl (round_as S Lawful B w g i m h m _ a.round refl refl refl refl refl refl refl refl);
-            current_word = current_of m a.round;
-            calm = a.calm;
+            helping = record { helper = inl (round_as a.round refl refl refl refl refl refl refl refl); current_word = current_of m a.round; calm = a.calm };
             helps = refl;
-            after = after (opened_is m.seq (request_of w.words m.owner) eb) (cases_eq m.seq B.seq);
+            after = opened_after m.seq m.owner (current_of m a.round) eb;
             many = refl;
             count = λ l. absurd (omega arith);
             copied = λ q. (omega arith, refl);
@@ -199,22 +195,22 @@ module _ (S : Setup) (Lawful : List ℕ → Type 0) (B : TableStart) where
     cell_of n p x l o = go (g.shared.data_cells.each x l)
       where
         go : (data_word S w.words x ≡ data_word_after B w.batches (committed_seq w.words) x) ⊎ (IsLastOpen B w.words × (data_word S w.words x ≡ data_word_after B w.batches (committed_seq w.words - 1) x)) → data_word S w.words x ≡ data_word_after B w.batches n.seq x
-        go (inl q) = q ∙ later S B w.batches g.shared.start (logs_of S Lawful B w g) n.seq (committed_seq w.words) x p.round.from p.round.upto (omega arith) l (rw (← q) o)
+        go (inl q) = q ∙ later S B w.batches g.shared.start (logs_of g) n.seq (committed_seq w.words) x p.round.from p.round.upto (omega arith) l (rw (← q) o)
         go (inr (op, q)) =
             let ne : n.seq ≡ committed_seq w.words → ⊥ = λ e. let z : pack n.seq 0 < request_of w.words (committed_owner w.words) = p.quiet e (omega (arith, op.any)) in omega (arith, op.asks, ap (λ (k : ℕ). pack k 0) e) in
-            q ∙ later S B w.batches g.shared.start (logs_of S Lawful B w g) n.seq (committed_seq w.words - 1) x p.round.from (omega (arith, p.round.upto)) (omega arith) l (rw (← q) o)
+            q ∙ later S B w.batches g.shared.start (logs_of g) n.seq (committed_seq w.words - 1) x p.round.from (omega (arith, p.round.upto)) (omega arith) l (rw (← q) o)
 
     -- a machine that has loaded the cell x, no newer than its round, knows it
     pub learn : (n : CallState) → IsPastRequest S B w.words w.batches i n → (x : ℕ) → x < S.cells → seq_of (data_word S w.words x) ≤ n.seq → IsPastRequest S B w.words w.batches i (record n { known = with_cell_known S n x (data_word S w.words x) })
     learn n p x l fresh = record {
-      round = round_as S Lawful B w g i m h n _ p.round refl refl refl refl refl refl refl refl;
+      round = round_as p.round refl refl refl refl refl refl refl refl;
       quiet = p.quiet;
       agrees = λ y v q. knows y v q (cases_eq y x);
       all = length-set n.known x (Some (payload_of (data_word S w.words x))) ∙ p.all;
     }
       where
         this : get_or (numbers_after B w.batches n.seq) x 0 ≡ payload_of (data_word S w.words x)
-        this = number_at S Lawful B w.batches n.seq x ∙ ap payload_of (sym (cell_of n p x l fresh))
+        this = number_at B w.batches n.seq x ∙ ap payload_of (sym (cell_of n p x l fresh))
 
         knows : (y v : ℕ) → get_or (with_cell_known S n x (data_word S w.words x)) y None ≡ Some v → (y ≡ x) ⊎ (y ≡ x → ⊥) → get_or (numbers_after B w.batches n.seq) y 0 ≡ v
         knows y v q (inl e) =

@@ -1,10 +1,10 @@
 -- All announcements are looked through, and the calls that are new are run.
-use Rattle.std.proofs.Common.{◌≡◌, ℕ, zero, suc, ◌+◌, ◌<◌, ◌≤◌, ◌⊎◌, ◌==◌, inl, inr, List, [], ◌∷◌, ◌++◌, length, get_or, refl, sym, ◌∙◌, ap, subst, arith, length-append, Option, Some, None, Bool, true, false, nat_lt}
+use Rattle.std.proofs.Common.{◌≡◌, ℕ, suc, ◌+◌, ◌<◌, ◌≤◌, ◌⊎◌, ◌==◌, inl, inr, List, [], ◌∷◌, ◌++◌, length, get_or, refl, sym, ◌∙◌, ap, subst, arith, length-append, Option, Some, None, Bool, true, false, nat_lt}
 use Rattle.std.specs.List.{All}
 use Rattle.std.proofs.lemmas.Bool.{cases_eq, cases_lt, eqb-true}
 use Rattle.std.proofs.lemmas.Bool.Decides.{nat_tests}
 use Rattle.std.proofs.lemmas.List.{length-map, get_or_push, get_or_append_left}
-use Rattle.std.proofs.lemmas.List.Elements.{All-append}
+use Rattle.std.proofs.lemmas.List.Elements.{All-push}
 use Rattle.of_cell.specs.Words.{pack, seq_of, payload_of}
 use Rattle.of_cell.proofs.Order.{seq_word, pay_word, word_eta}
 use Rattle.of_mem.specs.Meaning.{WalkEnd, Needs, Gives, WalkFits, IsFinishedWalk, IsSoundMeaning, with_writes_in}
@@ -25,14 +25,14 @@ use Rattle.of_core.specs.Guarantees.{KeepsGuarantee}
 use Rattle.of_core.proofs.States.{state_length}
 use Rattle.of_core.proofs.Logs.{room_for}
 use Rattle.of_core.proofs.Overlays.{extended, walk_fits, over_unknown}
-use Rattle.of_core.proofs.Alike.{past_as}
+use Rattle.of_core.proofs.Alike.{past_as, scanning_as}
 use Rattle.of_core.proofs.Assembling.{assemble_read, logs_of, number_at, same_batches, same_words}
 use Rattle.of_core.proofs.Rounds.{again, at_risen, cell_of, learn_past, own_seq, two_rounds}
 use Rattle.of_core.proofs.Tests.{differ, is_newer, not_newer}
 
-module _ (S : Setup) (Lawful : List ℕ → Type 0) (B : TableStart) where
-  -- the machine m of caller i, at its place
-  module _ (w : Moment) (g : MeetsCore S Lawful B w) (i : ℕ) (m : CallState) (h : i < S.callers) where
+module _ {S : Setup} {Lawful : List ℕ → Type 0} {B : TableStart} where
+  -- the machine of caller i
+  module _ {w : Moment} (g : MeetsCore S Lawful B w) {i : ℕ} (h : i < S.callers) where
     -- the scan goes on behind a caller whose announcement is done
     skip_over : (made : ℕ) (op : List ℕ) (raw : RawReply) (s : ℕ) (cs : List Call) (es : List (ℕ × ℕ)) (n heard : ℕ) → (n ≡ i → ⊥) → HasLoadedAnnouncement S B w.words w.batches i s n heard → seq_of heard ≤ last_ticket_by S B w.batches s n
         → HasScannedUpTo S B w.words w.batches i s made op raw cs es n → HasScannedUpTo S B w.words w.batches i s made op raw cs es (n + 1)
@@ -54,18 +54,14 @@ module _ (S : Setup) (Lawful : List ℕ → Type 0) (B : TableStart) where
             let y : announcement_of S w.words n ≡ heard = l.stood after z' in
             inl (rw e (omega (arith, done, ap seq_of y)))
 
-    -- what was learnt or loaded is no matter to the scan
-    scanning_as : (n d : CallState) → IsAtCaller S B w.words w.batches i n → IsPastOwnTicket S B w.words w.batches i d → d.made ≡ n.made → d.op ≡ n.op → d.seq ≡ n.seq → d.raw ≡ n.raw → d.calls ≡ n.calls → d.log ≡ n.log → d.scan ≡ n.scan → IsAtCaller S B w.words w.batches i d
-    scanning_as n d p past a b c e f l q = record { past = past; calm = rw c p.calm; scan = rw (c, a, b, e, f, l, q) p.scan; in_range = rw q p.in_range }
-
     next_at : (n : CallState) → IsPastOwnTicket S B w.words w.batches i n → HasNothingUnderWay S B w.words w.batches i n.seq → HasScannedUpTo S B w.words w.batches i n.seq n.made n.op n.raw n.calls n.log (n.scan + 1) → n.scan < S.callers
         → (b : Bool) → nat_lt (n.scan + 1) S.callers ≡ b → HoldsAtPlace S B w.words w.batches i (next_scanned_caller n b) (next_scanned_caller n b).place
-    next_at n p o v l true e = record { past = past_as S Lawful B w g i m h n _ p refl refl refl refl refl refl refl refl refl; calm = o; scan = v; in_range = (let z : n.scan + 1 < S.callers = grind (arith, nat_tests) in z) }
+    next_at n p o v l true e = record { past = past_as p refl refl refl refl refl refl refl refl refl; calm = o; scan = v; in_range = (let z : n.scan + 1 < S.callers = grind (arith, nat_tests) in z) }
     next_at n p o v l false e =
         let z : S.callers ≤ n.scan + 1 = not_newer (n.scan + 1) S.callers e in
         let q : n.scan + 1 ≡ S.callers = omega arith in
         record {
-          past = past_as S Lawful B w g i m h n _ p refl refl refl refl refl refl refl refl refl;
+          past = past_as p refl refl refl refl refl refl refl refl refl;
           calm = o;
           scan = subst (λ (k : ℕ). HasScannedUpTo S B w.words w.batches i n.seq n.made n.op n.raw n.calls n.log k) q v;
         }
@@ -75,7 +71,7 @@ module _ (S : Setup) (Lawful : List ℕ → Type 0) (B : TableStart) where
     weighed_at n p hs t q true e =
         let z : t < seq_of n.heard = grind (arith, nat_tests) in
         record {
-          scanning = scanning_as n _ p (past_as S Lawful B w g i m h n _ p.past refl refl refl refl refl refl refl refl refl) refl refl refl refl refl refl refl;
+          scanning = scanning_as p (past_as p.past refl refl refl refl refl refl refl refl refl) refl refl refl refl refl refl refl;
           heard = hs;
           loaded = record { new = omega (arith, q); words = λ k. refl; many = refl; within = omega arith };
           more = hs.some (omega arith);
@@ -88,7 +84,7 @@ module _ (S : Setup) (Lawful : List ℕ → Type 0) (B : TableStart) where
         not_own k z =
             let x : announcement_of S w.words i ≡ n.heard = rw k at (hs.own k) in
             let y : last_ticket_by S B w.batches n.seq n.scan ≡ last_ticket_by S B w.batches n.seq i = ap (λ (c : ℕ). last_ticket_by S B w.batches n.seq c) k in
-            omega (arith, own_seq S Lawful B w g i m h n p.past.looks.round.begun, ap seq_of x, p.past.left, q, y)
+            omega (arith, own_seq g h n p.past.looks.round.begun, ap seq_of x, p.past.left, q, y)
 
     hears_now : (s c : ℕ) → c < S.callers → HasLoadedAnnouncement S B w.words w.batches i s c (announcement_of S w.words c)
     hears_now s c l = record { own = λ q. refl; ticket = g.shared.heard.tickets c l; fresh = λ e t. refl; stood = λ a q. refl; small = g.shared.heard.small c l; some = g.shared.heard.some c l }
@@ -96,21 +92,21 @@ module _ (S : Setup) (Lawful : List ℕ → Type 0) (B : TableStart) where
     pub ticket_in_cells : (c : ℕ) → c < S.callers → ticket_cell S c < S.cells
     ticket_in_cells c l = omega (arith, room_for c S.callers (S.instrs + 2) l, g.shared.own_in)
 
-    pub load_announcement_kept : HoldsAtPlace S B w.words w.batches i m LoadAnnouncement → KeepsGuarantee S Lawful B i w (after_counted_step S i m LoadAnnouncement w)
-    load_announcement_kept a = assemble_read S Lawful B w g i h _ _ (take_word_at S m found LoadAnnouncement) (same_words S Lawful B w g i m h (script_word_at S m.scan S.instrs)) (same_batches S Lawful B w g i m h) (
+    pub load_announcement_kept : (m : CallState) → HoldsAtPlace S B w.words w.batches i m LoadAnnouncement → KeepsGuarantee S Lawful B i w (after_counted_step S i m LoadAnnouncement w)
+    load_announcement_kept m a = assemble_read g h (take_word_at S m found LoadAnnouncement) (same_words w (script_word_at S m.scan S.instrs)) (same_batches w) (
         go (get_or m.known (ticket_cell S m.scan) None) refl)
       where
         found : ℕ
         found = announcement_of S w.words m.scan
 
         go : (r : Option ℕ) → get_or m.known (ticket_cell S m.scan) None ≡ r → HoldsAtPlace S B w.words w.batches i (after_announcement S m found r) (after_announcement S m found r).place
-        go None e = record { scanning = scanning_as m _ a (past_as S Lawful B w g i m h m _ a.past refl refl refl refl refl refl refl refl refl) refl refl refl refl refl refl refl; heard = hears_now m.seq m.scan a.in_range; unknown = e }
+        go None e = record { scanning = scanning_as a (past_as a.past refl refl refl refl refl refl refl refl refl) refl refl refl refl refl refl refl; heard = hears_now m.seq m.scan a.in_range; unknown = e }
         go (Some v) e =
-            weighed_at (record m { heard = found }) (scanning_as m _ a (past_as S Lawful B w g i m h m _ a.past refl refl refl refl refl refl refl refl refl) refl refl refl refl refl refl refl) (hears_now m.seq m.scan a.in_range) v
-            (sym (a.past.looks.agrees (ticket_cell S m.scan) v e) ∙ number_at S Lawful B w.batches m.seq (ticket_cell S m.scan)) (nat_lt v (seq_of found)) refl
+            weighed_at (record m { heard = found }) (scanning_as a (past_as a.past refl refl refl refl refl refl refl refl refl) refl refl refl refl refl refl refl) (hears_now m.seq m.scan a.in_range) v
+            (sym (a.past.looks.agrees (ticket_cell S m.scan) v e) ∙ number_at B w.batches m.seq (ticket_cell S m.scan)) (nat_lt v (seq_of found)) refl
 
-    pub load_ticket_kept : HoldsAtPlace S B w.words w.batches i m LoadTicket → KeepsGuarantee S Lawful B i w (after_counted_step S i m LoadTicket w)
-    load_ticket_kept a = assemble_read S Lawful B w g i h _ _ (take_word_at S m found LoadTicket) (same_words S Lawful B w g i m h (data_at S (ticket_cell S m.scan))) (same_batches S Lawful B w g i m h) (
+    pub load_ticket_kept : (m : CallState) → HoldsAtPlace S B w.words w.batches i m LoadTicket → KeepsGuarantee S Lawful B i w (after_counted_step S i m LoadTicket w)
+    load_ticket_kept m a = assemble_read g h (take_word_at S m found LoadTicket) (same_words w (data_at S (ticket_cell S m.scan))) (same_batches w) (
         go (nat_lt m.seq (seq_of found)) refl)
       where
         x : ℕ
@@ -120,10 +116,10 @@ module _ (S : Setup) (Lawful : List ℕ → Type 0) (B : TableStart) where
         found = data_word S w.words (ticket_cell S m.scan)
 
         go : (b : Bool) → nat_lt m.seq (seq_of found) ≡ b → HoldsAtPlace S B w.words w.batches i (after_load_ticket S m found b) (after_load_ticket S m found b).place
-        go true e = again S Lawful B w g i m h m a.scanning.past.looks.round a.scanning.calm (two_rounds S Lawful B w g i m h m a.scanning.past) x (ticket_in_cells m.scan a.scanning.in_range) (let z : m.seq < seq_of found = grind (arith, nat_tests) in z)
+        go true e = again g h m a.scanning.past.looks.round a.scanning.calm (two_rounds g h m a.scanning.past) x (ticket_in_cells m.scan a.scanning.in_range) (let z : m.seq < seq_of found = grind (arith, nat_tests) in z)
         go false e =
-            weighed_at (record m { known = with_cell_known S m x found }) (scanning_as m _ a.scanning (learn_past S Lawful B w g i m h m a.scanning.past x (ticket_in_cells m.scan a.scanning.in_range) (not_newer m.seq (seq_of found) e)) refl refl refl refl refl refl refl) a.heard (payload_of found)
-            (ap payload_of (cell_of S Lawful B w g i m h m a.scanning.past.looks x (ticket_in_cells m.scan a.scanning.in_range) (not_newer m.seq (seq_of found) e))) (nat_lt (payload_of found) (seq_of m.heard)) refl
+            weighed_at (record m { known = with_cell_known S m x found }) (scanning_as a.scanning (learn_past g h m a.scanning.past x (ticket_in_cells m.scan a.scanning.in_range) (not_newer m.seq (seq_of found) e)) refl refl refl refl refl refl refl) a.heard (payload_of found)
+            (ap payload_of (cell_of g h m a.scanning.past.looks x (ticket_in_cells m.scan a.scanning.in_range) (not_newer m.seq (seq_of found) e))) (nat_lt (payload_of found) (seq_of m.heard)) refl
 
     rising_push : (cs : List Call) (c : Call) → CallersRise cs → All (λ (d : Call). d.caller < c.caller) cs → CallersRise (cs ++ c ∷ [])
     rising_push cs c r below j k l u = go (cases_lt k (length cs))
@@ -136,13 +132,6 @@ module _ (S : Setup) (Lawful : List ℕ → Type 0) (B : TableStart) where
         go (inr v) =
             let e : length cs ≡ k = omega (arith, k_in) in
             rw (get_or_append_left cs (c ∷ []) no_call j (omega arith), get_or_push cs c no_call k e) (below j no_call (omega arith))
-
-    all_push : (P : Call → Type 0) (cs : List Call) (c : Call) → All P cs → P c → All P (cs ++ c ∷ [])
-    all_push P cs c a p = All-append P cs (c ∷ []) a one
-      where
-        one : (k : ℕ) (d : Call) → k < 1 → P (get_or (c ∷ []) k d)
-        one zero d l = p
-        one (suc k) d l = absurd (omega arith)
 
     said_more : (c n : ℕ) → script_words_of S w.words c n ++ script_word S w.words c n ∷ [] ≡ script_words_of S w.words c (n + 1)
     said_more c n = ap (script_words_of S w.words c) (suc_is n)
@@ -168,22 +157,22 @@ module _ (S : Setup) (Lawful : List ℕ → Type 0) (B : TableStart) where
         xs = numbers_after B w.batches n.seq
 
         size : length (numbers_after B w.batches n.seq) ≡ S.cells
-        size = length-map (state_after B w.batches n.seq) payload_of ∙ state_length S B w.batches g.shared.start (logs_of S Lawful B w g) n.seq p.looks.round.from (at_risen S Lawful B w g i m h n p.looks)
+        size = length-map (state_after B w.batches n.seq) payload_of ∙ state_length S B w.batches g.shared.start (logs_of g) n.seq p.looks.round.from (at_risen g h n p.looks)
 
         lawful : Lawful (numbers_after B w.batches n.seq)
-        lawful = g.shared.stands.lawful n.seq p.looks.round.from (at_risen S Lawful B w g i m h n p.looks)
+        lawful = g.shared.stands.lawful n.seq p.looks.round.from (at_risen g h n p.looks)
 
         go : (r : WalkEnd) → S.meaning.walk (overlaid n.known n.log) n.script ≡ r → WalkFits S.meaning (first_operation_cell S) S.cells (overlaid n.known n.log) (with_writes_in xs n.log) n.script (S.meaning.walk (overlaid n.known n.log) n.script) → HoldsAtPlace S B w.words w.batches i (after_script_run S n r) (after_script_run S n r).place
         go (Needs a) e f =
             let f' = rw e at f in record {
-              scanning = scanning_as n _ at (past_as S Lawful B w g i m h n _ p refl refl refl refl refl refl refl refl refl) refl refl refl refl refl refl refl;
+              scanning = scanning_as at (past_as p refl refl refl refl refl refl refl refl refl) refl refl refl refl refl refl refl;
               heard = hs;
               loaded = rs;
               in_cells = f'.1;
               unknown = over_unknown n.known n.log a f'.2;
             }
         go (Gives es r) e f =
-            next_at (with_call_run S n es r) (past_as S Lawful B w g i m h n _ p refl refl refl refl refl refl refl refl refl) at.calm (ran_over (rw e at f)) l (nat_lt (n.scan + 1) S.callers) refl
+            next_at (with_call_run S n es r) (past_as p refl refl refl refl refl refl refl refl refl) at.calm (ran_over (rw e at f)) l (nat_lt (n.scan + 1) S.callers) refl
           where
             call : Call
             call = call_as_run n r
@@ -197,10 +186,10 @@ module _ (S : Setup) (Lawful : List ℕ → Type 0) (B : TableStart) where
             ran_over : IsFinishedWalk S.meaning (first_operation_cell S) S.cells (with_writes_in xs n.log) n.script es r → HasScannedUpTo S B w.words w.batches i n.seq n.made n.op (own_reply_or r n.raw (n.scan == n.caller)) (n.calls ++ call_as_run n r ∷ []) (put_all n.log (es ++ own_cells (ticket_cell S n.scan) (seq_of n.heard) (length n.script) r)) (n.scan + 1)
             ran_over f = record {
               over = extended S Lawful sound xs n.calls n.log size lawful v.over n.scan (seq_of n.heard) n.script es r l hs.ticket few g.shared.own_in g.shared.narrow v.below f;
-              taken = all_push (WasTakenByScan S (state_after B w.batches n.seq)) n.calls call v.taken (record { caller = l; above = rs.new; words = few });
-              below = all_push (λ (c : Call). c.caller < n.scan + 1) n.calls call (λ k d u. omega (arith, v.below k d u)) (omega arith);
+              taken = All-push (WasTakenByScan S (state_after B w.batches n.seq)) n.calls call v.taken (record { caller = l; above = rs.new; words = few });
+              below = All-push (λ (c : Call). c.caller < n.scan + 1) n.calls call (λ k d u. omega (arith, v.below k d u)) (omega arith);
               ordered = rising_push n.calls call v.ordered v.below;
-              announced = λ q. all_push (IsAnnouncedCall S w.words) n.calls call (v.announced q) (this q);
+              announced = λ q. All-push (IsAnnouncedCall S w.words) n.calls call (v.announced q) (this q);
               own = λ q u. own q u (cases_eq n.scan i);
               met = λ after c u t z. met after c u t z (cases_eq c n.scan);
             }
@@ -263,8 +252,8 @@ module _ (S : Setup) (Lawful : List ℕ → Type 0) (B : TableStart) where
                     let y : announcement_of S w.words n.scan ≡ n.heard = hs.stood after z' in
                     inr (length n.calls, rw length-append (omega arith), ap (λ (d : Call). d.caller) s ∙ sym e, ap (λ (d : Call). d.ticket) s ∙ sym (ap seq_of y) ∙ ap (λ (x : ℕ). seq_of (announcement_of S w.words x)) (sym e))
 
-    pub load_script_kept : IsSoundMeaning S.meaning Lawful (first_operation_cell S) S.cells → (j : ℕ) → HoldsAtPlace S B w.words w.batches i m (LoadScript j) → KeepsGuarantee S Lawful B i w (after_counted_step S i m (LoadScript j) w)
-    load_script_kept sound j a = assemble_read S Lawful B w g i h _ _ (take_word_at S m found (LoadScript j)) (same_words S Lawful B w g i m h (script_word_at S m.scan j)) (same_batches S Lawful B w g i m h) (
+    pub load_script_kept : (m : CallState) → IsSoundMeaning S.meaning Lawful (first_operation_cell S) S.cells → (j : ℕ) → HoldsAtPlace S B w.words w.batches i m (LoadScript j) → KeepsGuarantee S Lawful B i w (after_counted_step S i m (LoadScript j) w)
+    load_script_kept m sound j a = assemble_read g h (take_word_at S m found (LoadScript j)) (same_words w (script_word_at S m.scan j)) (same_batches w) (
         go (nat_lt (j + 1) (payload_of m.heard)) refl)
       where
         found : ℕ
@@ -280,19 +269,19 @@ module _ (S : Setup) (Lawful : List ℕ → Type 0) (B : TableStart) where
 
         go : (b : Bool) → nat_lt (j + 1) (payload_of m.heard) ≡ b → HoldsAtPlace S B w.words w.batches i (after_load_script S m j found b) (after_load_script S m j found b).place
         go true e = record {
-          scanning = scanning_as m _ a.scanning (past_as S Lawful B w g i m h m _ a.scanning.past refl refl refl refl refl refl refl refl refl) refl refl refl refl refl refl refl;
+          scanning = scanning_as a.scanning (past_as a.scanning.past refl refl refl refl refl refl refl refl refl) refl refl refl refl refl refl refl;
           heard = a.heard;
           loaded = reads (j + 1) refl;
           more = (let z : j + 1 < payload_of m.heard = grind (arith, nat_tests) in z);
         }
         go false e =
-            runs_at (record m { script = with_script_word m found }) sound (scanning_as m _ a.scanning (past_as S Lawful B w g i m h m _ a.scanning.past refl refl refl refl refl refl refl refl refl) refl refl refl refl refl refl refl) a.heard
+            runs_at (record m { script = with_script_word m found }) sound (scanning_as a.scanning (past_as a.scanning.past refl refl refl refl refl refl refl refl refl) refl refl refl refl refl refl refl) a.heard
             (reads (payload_of m.heard) (omega (arith, not_newer (j + 1) (payload_of m.heard) e, a.more)))
 
-    pub load_cell_kept : IsSoundMeaning S.meaning Lawful (first_operation_cell S) S.cells → (x : ℕ) → HoldsAtPlace S B w.words w.batches i m (LoadCell x) → KeepsGuarantee S Lawful B i w (after_counted_step S i m (LoadCell x) w)
-    load_cell_kept sound x a = assemble_read S Lawful B w g i h _ _ (take_word_at S m (data_word S w.words x) (LoadCell x)) (same_words S Lawful B w g i m h (data_at S x)) (same_batches S Lawful B w g i m h) (
+    pub load_cell_kept : (m : CallState) → IsSoundMeaning S.meaning Lawful (first_operation_cell S) S.cells → (x : ℕ) → HoldsAtPlace S B w.words w.batches i m (LoadCell x) → KeepsGuarantee S Lawful B i w (after_counted_step S i m (LoadCell x) w)
+    load_cell_kept m sound x a = assemble_read g h (take_word_at S m (data_word S w.words x) (LoadCell x)) (same_words w (data_at S x)) (same_batches w) (
         go (nat_lt m.seq (seq_of (data_word S w.words x))) refl)
       where
         go : (b : Bool) → nat_lt m.seq (seq_of (data_word S w.words x)) ≡ b → HoldsAtPlace S B w.words w.batches i (after_load_cell S m x (data_word S w.words x) b) (after_load_cell S m x (data_word S w.words x) b).place
-        go true e = again S Lawful B w g i m h m a.scanning.past.looks.round a.scanning.calm (two_rounds S Lawful B w g i m h m a.scanning.past) x a.in_cells (is_newer m.seq (seq_of (data_word S w.words x)) e)
-        go false e = runs_at (record m { known = with_cell_known S m x (data_word S w.words x) }) sound (scanning_as m _ a.scanning (learn_past S Lawful B w g i m h m a.scanning.past x a.in_cells (not_newer m.seq (seq_of (data_word S w.words x)) e)) refl refl refl refl refl refl refl) a.heard a.loaded
+        go true e = again g h m a.scanning.past.looks.round a.scanning.calm (two_rounds g h m a.scanning.past) x a.in_cells (is_newer m.seq (seq_of (data_word S w.words x)) e)
+        go false e = runs_at (record m { known = with_cell_known S m x (data_word S w.words x) }) sound (scanning_as a.scanning (learn_past g h m a.scanning.past x a.in_cells (not_newer m.seq (seq_of (data_word S w.words x)) e)) refl refl refl refl refl refl refl) a.heard a.loaded

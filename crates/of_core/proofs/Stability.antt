@@ -2,7 +2,6 @@
 use Rattle.std.proofs.Common.{◌≡◌, ℕ, zero, suc, ◌+◌, ◌-◌, ◌<◌, ◌≤◌, ◌⊎◌, inl, inr, List, length, get_or, Bool, true, false, ◌*◌, refl, sym, ◌∙◌, ap, subst, arith, Option, Some, None}
 use Rattle.std.specs.List.{All}
 use Rattle.std.proofs.lemmas.Bool.{cases_lt, cases_order}
-use Rattle.of_cell.specs.declared.word.TheConstants.{PAYLOADS}
 use Rattle.of_cell.proofs.Order.{seq_word, word_inj, seq_mono}
 use Rattle.of_cell.specs.Words.{pack, seq_of, payload_of}
 use Rattle.of_mem.specs.declared.work.RawReply.{RawReply}
@@ -14,10 +13,10 @@ use Rattle.of_core.specs.Table.{Setup, cell_count, request_at, data_at, log_at, 
 use Rattle.of_core.specs.Machine.{CallState, Call, log_entry, log_words}
 use Rattle.of_core.specs.TableMoment.{Batch, TableStart}
 use Rattle.of_core.specs.History.{state_after, batch_at, last_ticket_by, ticket_in_state}
-use Rattle.of_core.specs.WordsMatch.{AnnouncementsAreServed, WordsHaveTheirKind, IsRequest, IsLogWord, WordsMatchHistory, WasHeldByCell}
-use Rattle.of_core.specs.Rounds.{WasCurrent, IsInTry, MayHelp, KnowsClosedState, IsAnnounced, IsUnannounced, IsInRound, IsPastRequest, IsPastOwnTicket, HasOneOperation, AnnouncesNothingNew, HasNothingUnderWay}
+use Rattle.of_core.specs.WordsMatch.{IsEntry, AnnouncementsAreServed, WordsHaveTheirKind, IsRequest, IsLogWord, WordsMatchHistory, WasHeldByCell}
+use Rattle.of_core.specs.Rounds.{KnowsOwnRequest, WasCurrent, IsInTry, MayHelp, KnowsClosedState, IsAnnounced, IsUnannounced, IsInRound, IsPastRequest, IsPastOwnTicket, HasOneOperation, AnnouncesNothingNew, HasNothingUnderWay}
 use Rattle.of_core.specs.Scan.{HasScannedUpTo, HasLoadedAnnouncement, HasLoadedScript, WasTakenByScan, IsAnnouncedCall}
-use Rattle.of_core.specs.Transaction.{IsApplying, AppliesAs, OwnsTransaction, IsStoringLog, IsCopyingLog, HasStoredLog, HasClosedDurably}
+use Rattle.of_core.specs.Transaction.{IsHelping, IsApplying, AppliesAs, OwnsTransaction, IsStoringLog, IsCopyingLog, HasStoredLog, HasClosedDurably}
 use Rattle.of_core.specs.Places.{LastOutcomeStands, IsAtCaller, IsAtEntry}
 use Rattle.of_core.specs.Invariant.{HoldsAtPlace, WasHeldByCurrent, IsLoaded}
 use Rattle.of_core.specs.Guarantees.{Guarantees}
@@ -63,6 +62,14 @@ same_row j i k y x l u e = go (cases_order j i)
     go (inl q) = q
     go (inr (inl q)) = absurd (omega (arith, lower j i q))
     go (inr (inr q)) = absurd (omega (arith, lower i j q))
+
+-- the entries that a machine applies are of its batch's log, and its owner is a caller
+module _ {S : Setup} {Lawful : List ℕ → Type 0} {B : TableStart} {ws : List ℕ} {bs : List Batch} (shared : WordsMatchHistory S Lawful B ws bs) {i n : ℕ} {m : CallState} (a : IsApplying S B ws bs i m n) where
+  pub entry_in : (k : ℕ) → k < length m.log → IsEntry S (log_entry m k)
+  entry_in k l = let t = a.log.each k l in subst (λ (e : ℕ × ℕ). IsEntry S e) t.2 ((shared.counted.logs m.seq a.after a.upto).entries t.0 (0, 0) t.1)
+
+  pub owner_in : m.owner < S.callers
+  owner_in = rw (← a.committed) (shared.counted.owners m.seq a.after a.upto)
 
 module _ (S : Setup) (Lawful : List ℕ → Type 0) (B : TableStart) (i : ℕ) (ws : List ℕ) (bs : List Batch) (vs : List ℕ) (cs : List Batch) (v : Guarantees S B i ws bs vs cs) (shared : WordsMatchHistory S Lawful B ws bs) where
   grows : committed_seq ws ≤ committed_seq vs
@@ -255,13 +262,16 @@ module _ (S : Setup) (Lawful : List ℕ → Type 0) (B : TableStart) (i : ℕ) (
         go (inl q) = omega arith
         go (inr q) = omega (arith, q.0)
 
+    kept_stable : (u : ℕ) → KnowsOwnRequest B ws bs j u → KnowsOwnRequest B vs cs j u
+    kept_stable u h = record { low = omega (arith, h.low, req_up j member); held = request_stable j u h.held }
+
     fresh_stable : (m : CallState) → IsUnannounced S B ws bs j m → IsUnannounced S B vs cs j m
     fresh_stable m h = record {
       caller = h.caller;
       ticket = h.ticket;
       words = h.words;
       some = h.some;
-      kept = (omega (arith, h.kept.0, req_up j member), request_stable j m.kept h.kept.1);
+      kept = kept_stable m.kept h.kept;
       rounds = h.rounds;
       above = let z : last_ticket_by S B cs (committed_seq vs) j ≤ m.made - 1 = under_stable (m.made - 1) (omega (arith, h.newer)) (omega (arith, h.above)) in omega (arith, h.above);
       quieted = quieted_stable h.quieted;
@@ -287,7 +297,7 @@ module _ (S : Setup) (Lawful : List ℕ → Type 0) (B : TableStart) (i : ℕ) (
       ticket = h.ticket;
       words = h.words;
       some = h.some;
-      kept = (omega (arith, h.kept.0, req_up j member), request_stable j m.kept h.kept.1);
+      kept = kept_stable m.kept h.kept;
       says = ann_same ∙ h.says;
       script = said_same (length m.op) h.words ∙ h.script;
       upto = under_stable m.made (omega (arith, ap seq_of h.says, seq_word m.made (length m.op) (omega (arith, h.words, shared.narrow)))) h.upto;
@@ -433,12 +443,12 @@ module _ (S : Setup) (Lawful : List ℕ → Type 0) (B : TableStart) (i : ℕ) (
         go (inl a) (inr q) = let s : m.seq ≡ committed_seq ws = (word_inj m.seq 0 (committed_seq ws) 0 (omega arith) (omega arith) (sym a ∙ q.2)).0 in inr (q.3 ∙ ap (λ (k : ℕ). pack k 1) (sym s))
         go (inr a) (inr q) = let z : ◌≡◌ {A = ℕ} 1 0 = (word_inj m.seq 1 (committed_seq ws) 0 (omega arith) (omega arith) (sym a ∙ q.2)).1 in absurd (omega arith)
 
-    mode_stable : (m : CallState) (b : Bool) → B.seq < m.seq → m.seq ≤ committed_seq ws → AppliesAs S B ws bs j m b → AppliesAs S B vs cs j m b
-    mode_stable m true l u h = (helper_stable m h.0, current_stable m.seq m.owner h.1, calm_at m.seq h.2)
-    mode_stable m false l u h = owns_stable m l u h
+    helping_stable : (m : CallState) → IsHelping S B ws bs j m → IsHelping S B vs cs j m
+    helping_stable m h = record { helper = helper_stable m h.helper; current_word = current_stable m.seq m.owner h.current_word; calm = calm_at m.seq h.calm }
 
-    entry_in : (m : CallState) (n : ℕ) → IsApplying S B ws bs j m n → (k : ℕ) → k < length m.log → (log_entry m k).0 < S.cells
-    entry_in m n h k l = let t = h.log.each k l in (subst (λ (e : ℕ × ℕ). (e.0 < S.cells) × (e.1 < PAYLOADS)) t.2 ((shared.counted.logs m.seq h.after h.upto).entries t.0 (0, 0) t.1)).0
+    mode_stable : (m : CallState) (b : Bool) → B.seq < m.seq → m.seq ≤ committed_seq ws → AppliesAs S B ws bs j m b → AppliesAs S B vs cs j m b
+    mode_stable m true l u h = helping_stable m h
+    mode_stable m false l u h = owns_stable m l u h
 
     applies_stable : (m : CallState) (n : ℕ) → n ≤ length m.log → IsApplying S B ws bs j m n → IsApplying S B vs cs j m n
     applies_stable m n fits h = let same = v.batches m.seq h.after h.upto in record {
@@ -447,7 +457,7 @@ module _ (S : Setup) (Lawful : List ℕ → Type 0) (B : TableStart) (i : ℕ) (
       upto = omega (arith, h.upto, grows);
       committed = rw same h.committed;
       log = rw same h.log;
-      done = λ k l. let e = entry_in m n h k (omega arith) in (
+      done = λ k l. let e : (log_entry m k).0 < S.cells = (entry_in shared h k (omega arith)).0 in (
         omega (arith, seq_mono (data_word S ws (log_entry m k).0) (data_word S vs (log_entry m k).0) (cell_up (log_entry m k).0 e), (h.done k l).0),
         omega (arith, seq_mono (durable_cell S ws (log_entry m k).0) (durable_cell S vs (log_entry m k).0) (v.durs (data_at S (log_entry m k).0) (omega arith)), (h.done k l).1),
       );
@@ -465,14 +475,12 @@ module _ (S : Setup) (Lawful : List ℕ → Type 0) (B : TableStart) (i : ℕ) (
 
     copies_stable : (m : CallState) (x : ℕ) → IsCopyingLog S B ws bs j m x → IsCopyingLog S B vs cs j m x
     copies_stable m x h = record {
-      helper = helper_stable m h.helper;
-      current_word = current_stable m.seq m.owner h.current_word;
-      calm = calm_at m.seq h.calm;
+      helping = helping_stable m h.helping;
       helps = h.helps;
       after = h.after;
       many = h.many;
       count = h.count;
-      copied = λ q. rw (v.batches m.seq h.after h.current_word.upto) (h.copied (open_before m h.current_word h.after q));
+      copied = λ q. rw (v.batches m.seq h.after h.helping.current_word.upto) (h.copied (open_before m h.helping.current_word h.after q));
     }
 
     stored_stable : (m : CallState) (x z : ℕ) → x ≤ length (log_words m.log) → z ≤ x → HasStoredLog S B ws bs j m x z → HasStoredLog S B vs cs j m x z
@@ -500,11 +508,15 @@ module _ (S : Setup) (Lawful : List ℕ → Type 0) (B : TableStart) (i : ℕ) (
 
     told_stable : (m : CallState) (o : Option Outcome) → seq_of (announcement_of S ws j) ≤ m.made → LastOutcomeStands S B ws bs j m o → LastOutcomeStands S B vs cs j m o
     told_stable m None a h = tt
-    told_stable m (Some (Answered s false raw steps)) a h = (h.0, omega (arith, h.1, risen_up), omega (arith, h.2, grows), rw (v.states s h.0 h.2) h.3, h.4)
-    told_stable m (Some (Answered s true raw steps)) a h = (h.0, omega (arith, h.1, risen_up), omega (arith, h.2, grows), rw (v.batches s h.0 h.2) h.3)
+    told_stable m (Some (Answered s false raw steps)) a h = record { from = h.from; durable = omega (arith, h.durable, risen_up); upto = omega (arith, h.upto, grows); reply = rw (v.states s h.from h.upto) h.reply; reads = h.reads }
+    told_stable m (Some (Answered s true raw steps)) a h = record { from = h.from; durable = omega (arith, h.durable, risen_up); upto = omega (arith, h.upto, grows); call = rw (v.batches s h.from h.upto) h.call }
     told_stable m (Some (Spent s)) a h =
-        let e : committed_seq vs ≡ committed_seq ws = omega (arith, h.1, h.2, v.limit, grows) in
-        (rw (ap (λ (k : ℕ). last_ticket_by S B cs k j) e, tick_same (committed_seq ws) j from_start (omega arith)) h.0, h.1, e ∙ h.2, omega (arith, h.3, risen_up))
+        let e : committed_seq vs ≡ committed_seq ws = omega (arith, h.limit, h.last, v.limit, grows) in record {
+          left = rw (ap (λ (k : ℕ). last_ticket_by S B cs k j) e, tick_same (committed_seq ws) j from_start (omega arith)) h.left;
+          limit = h.limit;
+          last = e ∙ h.last;
+          durable = omega (arith, h.durable, risen_up);
+        }
 
     -- a request that waits for its exchange isn't closed by another
     waits : (m : CallState) → IsInRound S B ws bs j m → request_of ws j ≡ pack (m.seq + 1) 0 → request_of vs j ≡ request_of ws j
@@ -520,7 +532,7 @@ module _ (S : Setup) (Lawful : List ℕ → Type 0) (B : TableStart) (i : ℕ) (
     at_stable m Idle h = record {
       caller = h.caller;
       calm = calm_now h.calm;
-      kept = (omega (arith, h.kept.0, req_up j member), request_stable j m.kept h.kept.1);
+      kept = kept_stable m.kept h.kept;
       quieted = quieted_stable h.quieted;
       upto = under_stable m.made h.older h.upto;
       older = omega (arith, h.older, ann_seq);
@@ -546,12 +558,12 @@ module _ (S : Setup) (Lawful : List ℕ → Type 0) (B : TableStart) (i : ℕ) (
     at_stable m LoadRequest h = record { round = round_stable m h.round; calm = calm_at m.seq h.calm }
     at_stable m (CopyLog x) h = record {
       copies = copies_stable m x h.copies;
-      more = λ q. rw (v.batches m.seq h.copies.after h.copies.current_word.upto) (h.more (open_before m h.copies.current_word h.copies.after q));
+      more = λ q. rw (v.batches m.seq h.copies.after h.copies.helping.current_word.upto) (h.more (open_before m h.copies.helping.current_word h.copies.after q));
       in_log = h.in_log;
     }
     at_stable m LookAgain h = record {
       copies = copies_stable m (length m.copy) h.copies;
-      whole = λ q. rw (v.batches m.seq h.copies.after h.copies.current_word.upto) (h.whole (open_before m h.copies.current_word h.copies.after q));
+      whole = λ q. rw (v.batches m.seq h.copies.after h.copies.helping.current_word.upto) (h.whole (open_before m h.copies.helping.current_word h.copies.after q));
     }
     at_stable m LoadOwnTicket h = record { looks = looks_stable m h.looks; calm = calm_at m.seq h.calm; no_cell = h.no_cell; no_log = h.no_log; no_calls = h.no_calls; no_scan = h.no_scan }
     at_stable m LoadShape h = record { looks = looks_stable m h.looks; calm = calm_at m.seq h.calm; finds = rw (v.states m.seq h.looks.round.from h.looks.round.upto) h.finds }
@@ -590,7 +602,7 @@ module _ (S : Setup) (Lawful : List ℕ → Type 0) (B : TableStart) (i : ℕ) (
         }
     at_stable m RaiseCurrent h = applies_stable m 0 (omega arith) h
     at_stable m (LoadTarget n) h = entry_stable m n h
-    at_stable m (ExchangeTarget n f) h = record { entry = entry_stable m n h.entry; older = h.older; found = go h.found (v.changes (log_entry m n).0 (entry_in m n h.entry.applies n h.entry.more)) }
+    at_stable m (ExchangeTarget n f) h = record { entry = entry_stable m n h.entry; older = h.older; found = go h.found (v.changes (log_entry m n).0 (entry_in shared h.entry.applies n h.entry.more).0) }
       where
         go : (data_word S ws (log_entry m n).0 ≡ f) ⊎ (m.seq ≤ seq_of (data_word S ws (log_entry m n).0)) → (data_word S vs (log_entry m n).0 ≡ data_word S ws (log_entry m n).0) ⊎ (committed_seq ws ≤ seq_of (data_word S vs (log_entry m n).0))
             → (data_word S vs (log_entry m n).0 ≡ f) ⊎ (m.seq ≤ seq_of (data_word S vs (log_entry m n).0))
@@ -599,17 +611,17 @@ module _ (S : Setup) (Lawful : List ℕ → Type 0) (B : TableStart) (i : ℕ) (
         go x (inr y) = inr (omega (arith, h.entry.applies.upto))
     at_stable m (ReloadTarget n) h = record {
       entry = entry_stable m n h.entry;
-      newer = omega (arith, h.newer, seq_mono (data_word S ws (log_entry m n).0) (data_word S vs (log_entry m n).0) (cell_up (log_entry m n).0 (entry_in m n h.entry.applies n h.entry.more)));
+      newer = omega (arith, h.newer, seq_mono (data_word S ws (log_entry m n).0) (data_word S vs (log_entry m n).0) (cell_up (log_entry m n).0 (entry_in shared h.entry.applies n h.entry.more).0));
     }
     at_stable m (RaiseTarget n f) h = record {
       entry = entry_stable m n h.entry;
       newer = h.newer;
-      low = omega (arith, h.low, cell_up (log_entry m n).0 (entry_in m n h.entry.applies n h.entry.more));
+      low = omega (arith, h.low, cell_up (log_entry m n).0 (entry_in shared h.entry.applies n h.entry.more).0);
       held = held_stable (log_entry m n).0 f h.held;
     }
     at_stable m CloseRequest h = record { applies = applies_stable m (length m.log) (omega arith) h.applies; durable = omega (arith, h.durable, risen_up) }
     at_stable m RaiseClosed h =
-        let o : m.owner < S.callers = rw (← h.applies.committed) (shared.counted.owners m.seq h.applies.after h.applies.upto) in record {
+        let o : m.owner < S.callers = owner_in shared h.applies in record {
           applies = applies_stable m (length m.log) (omega arith) h.applies;
           durable = omega (arith, h.durable, risen_up);
           closed = omega (arith, h.closed, req_up m.owner o);

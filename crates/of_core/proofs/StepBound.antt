@@ -20,6 +20,8 @@ use Rattle.of_core.proofs.Tests.{differ, mark_some}
 use Rattle.of_core.proofs.Rounds.{own_row_old}
 use Rattle.of_core.proofs.OwnReply.{done_now}
 use Rattle.of_core.proofs.Scans.{ticket_in_cells}
+use Rattle.of_core.proofs.Unknown.{none_known}
+use Rattle.of_core.proofs.StepSums.{fewer, row_cost, first_row, next_sum, done_sum, known_sum, known_sum0, again_sum, again_sum0, try_lost, cell_learnt, word_stored, words_stored, word_copied, words_copied, still_open, now_closed, round_lost, shape_read, reply_read, replies_skipped, row_heard, row_begun, row_skipped, word_loaded, words_loaded, log_word_stored, log_word_raised, log_raised, older_found, newer_found, entry_exchanged, entry_raised, entries_raised, request_closed, apply_ended}
 
 unknowns_all : (n : ℕ) → unknown_cell_count (replicate n None) ≡ n
 unknowns_all zero = refl
@@ -45,36 +47,6 @@ round_cost zero q l = omega arith
 round_cost (suc zero) q l = omega arith
 round_cost (suc (suc zero)) q l = omega arith
 round_cost (suc (suc (suc r))) q l = absurd (omega arith)
-
-row_cost : (n s q : ℕ) → s + 1 < n → (n - (s + 1) - 1) * q + q ≡ (n - s - 1) * q
-row_cost n s q l = let e : n - s - 1 ≡ n - (s + 1) - 1 + 1 = omega arith in rw e (plus (n - (s + 1) - 1))
-  where
-    plus : (d : ℕ) → d * q + q ≡ (d + 1) * q
-    plus d = grind arith
-
--- one step less is left
-fewer : (s a b l : ℕ) → s + a ≤ l → b + 1 ≤ a → s + 1 + b ≤ l
-fewer s a b l h k = omega arith
-
-next_sum : (st k x y u t r l : ℕ) → x + k ≡ y → st + (y + u + t + r) ≤ l → st + (k + (x + u + t + r)) ≤ l
-next_sum st k x y u t r l e h = omega arith
-
-done_sum : (st y u t r l : ℕ) → st + (y + u + t + r) ≤ l → st + (t + r) ≤ l
-done_sum st y u t r l h = omega arith
-
--- one cell more is known
-known_sum : (st a y u v t r l : ℕ) → v + 1 ≡ u → st + (a + (y + u + t + r)) ≤ l → st + 1 + (a + (y + v + t + r)) ≤ l
-known_sum st a y u v t r l e h = omega arith
-
-known_sum0 : (st y u v t r l : ℕ) → v + 1 ≡ u → st + (y + u + t + r) ≤ l → st + 1 + (y + v + t + r) ≤ l
-known_sum0 st y u v t r l e h = omega arith
-
-again_sum0 : (st y u t r l : ℕ) → 1 ≤ t → st + (y + u + t + r) ≤ l → st + 1 + r ≤ l
-again_sum0 st y u t r l k h = omega arith
-
--- the round begins again
-again_sum : (st a y u t r l : ℕ) → 1 ≤ t → st + (a + (y + u + t + r)) ≤ l → st + 1 + r ≤ l
-again_sum st a y u t r l k h = omega arith
 
 -- a whole round
 round_sum : (st m p x q l : ℕ) → x + (11 * m + p + 13) ≡ q → st + (q + (4 * m + 3)) ≤ l → st + 1 + (6 * m + 6 + (5 * m + p + 6 + (x + (4 * m + 3)))) ≤ l
@@ -105,14 +77,8 @@ module _ (S : Setup) where
   next_within n l h false e = record { told = λ q. cc; steps = done_sum n.steps ((S.callers - n.scan - 1) * (S.instrs + 1)) (unknown_cell_count n.known) (4 * S.cells + 6) (steps_left_in_rounds S n) (bound S) h }
 
   weighed_within : (n : CallState) → n.scan < S.callers → n.steps + (S.instrs + steps_left_in_scan S n) ≤ bound S → (b : Bool) → MachineIsWithinBound S (weigh S n b) (weigh S n b).place
-  weighed_within n l h true = record { told = λ q. cc; steps = same n.steps S.instrs (steps_left_in_scan S n) (bound S) h }
-    where
-      same : (s k x l : ℕ) → s + (k + x) ≤ l → s + (k - 0 + x) ≤ l
-      same s k x l h = omega arith
-  weighed_within n l h false = next_within n l (less n.steps S.instrs (steps_left_in_scan S n) (bound S) h) (nat_lt (n.scan + 1) S.callers) refl
-    where
-      less : (s k x l : ℕ) → s + (k + x) ≤ l → s + x ≤ l
-      less s k x l h = omega arith
+  weighed_within n l h true = record { told = λ q. cc; steps = row_begun n.steps S.instrs (steps_left_in_scan S n) (bound S) h }
+  weighed_within n l h false = next_within n l (row_skipped n.steps S.instrs (steps_left_in_scan S n) (bound S) h) (nat_lt (n.scan + 1) S.callers) refl
 
   ran_within : (n : CallState) → n.scan < S.callers → n.steps + steps_left_in_scan S n ≤ bound S → (r : WalkEnd) → MachineIsWithinBound S (after_script_run S n r) (after_script_run S n r).place
   ran_within n l h (Needs a) = record { told = λ q. cc; steps = h }
@@ -120,10 +86,7 @@ module _ (S : Setup) where
 
   asks_within : (n : CallState) (x j : ℕ) → n.steps + (S.instrs - x) ≤ bound S → x ≤ j → (r : Option ℕ) → ((k : ℕ) → r ≡ Some k → x ≤ k) → MachineIsWithinBound S (next_reply_place n r) (next_reply_place n r).place
   asks_within n x j h l None f = record { steps = omega arith; told = λ q. omega arith }
-  asks_within n x j h l (Some k) f = record { told = λ q. cc; steps = sum n.steps S.instrs x k (bound S) h (f k refl) }
-    where
-      sum : (s i x k l : ℕ) → s + (i - x) ≤ l → x ≤ k → s + (i - k) ≤ l
-      sum s i x k l h f = omega arith
+  asks_within n x j h l (Some k) f = record { told = λ q. cc; steps = replies_skipped n.steps S.instrs x k (bound S) h (f k refl) }
 
   reads_within : (n : CallState) → n.steps + (unknown_cell_count n.known + steps_left_in_tries S n) ≤ bound S → MachineIsWithinBound S (read_on S n) (read_on S n).place
   reads_within n h = go (S.meaning.walk n.known n.op)
@@ -184,36 +147,24 @@ module _ (S : Setup) where
         one : unknown_cell_count (with_cell_known S m x found) + 1 ≡ unknown_cell_count m.known
         one = unknowns_set m.known x (payload_of found) (omega (arith, a.state.all, a.in_cells)) a.unknown
 
-        again : (s u v r l : ℕ) → v + 1 ≡ u → s + (u + r) ≤ l → s + 1 + r ≤ l
-        again s u v r l e h = omega arith
-
         aloud : (s u v x y r l : ℕ) → v + 1 ≡ u → s + (u + (x + (y + 1 + r))) ≤ l → s + 1 + (y - 0 + 1 + r) ≤ l
         aloud s u v x y r l e h = omega arith
 
-        less : (s u v r l : ℕ) → v + 1 ≡ u → s + (u + r) ≤ l → s + 1 + (v + r) ≤ l
-        less s u v r l e h = omega arith
-
         over : (b : Bool) → MachineIsWithinBound S (end_try now b) (end_try now b).place
-        over true = record { told = λ q. cc; steps = again m.steps (unknown_cell_count m.known) (unknown_cell_count (with_cell_known S m x found)) (steps_left_in_tries S m) (bound S) one t.steps }
+        over true = record { told = λ q. cc; steps = try_lost m.steps (unknown_cell_count m.known) (unknown_cell_count (with_cell_known S m x found)) (steps_left_in_tries S m) (bound S) one t.steps }
         over false = record { told = λ q. cc; steps = aloud m.steps (unknown_cell_count m.known) (unknown_cell_count (with_cell_known S m x found)) ((MOST_TRIES - m.tries) * (7 * S.cells + 7)) S.instrs (3 * lost_round_steps S + steps_to_apply S) (bound S) one t.steps }
 
         go : (b : Bool) → MachineIsWithinBound S (after_try_cell S now x found b) (after_try_cell S now x found b).place
         go true = over (nat_lt m.tries MOST_TRIES)
-        go false = reads_within (record now { known = with_cell_known S m x found }) (less m.steps (unknown_cell_count m.known) (unknown_cell_count (with_cell_known S m x found)) (steps_left_in_tries S m) (bound S) one t.steps)
+        go false = reads_within (record now { known = with_cell_known S m x found }) (cell_learnt m.steps (unknown_cell_count m.known) (unknown_cell_count (with_cell_known S m x found)) (steps_left_in_tries S m) (bound S) one t.steps)
     within (StoreScript j) a t e = go (nat_lt (j + 1) (length m.op))
       where
-        more : (s i j x l : ℕ) → j < i → s + (i - j + 1 + x) ≤ l → s + 1 + (i - (j + 1) + 1 + x) ≤ l
-        more s i j x l k h = omega arith
-
-        last : (s i j x l : ℕ) → j < i → s + (i - j + 1 + x) ≤ l → s + 1 + (1 + x) ≤ l
-        last s i j x l k h = omega arith
-
         j_in : j < S.instrs
         j_in = omega (arith, a.more, a.fresh.words)
 
         go : (b : Bool) → MachineIsWithinBound S (after_store_script now j b) (after_store_script now j b).place
-        go true = record { told = λ q. cc; steps = more m.steps S.instrs j (3 * lost_round_steps S + steps_to_apply S) (bound S) j_in t.steps }
-        go false = record { told = λ q. cc; steps = last m.steps S.instrs j (3 * lost_round_steps S + steps_to_apply S) (bound S) j_in t.steps }
+        go true = record { told = λ q. cc; steps = word_stored m.steps S.instrs j (3 * lost_round_steps S + steps_to_apply S) (bound S) j_in t.steps }
+        go false = record { told = λ q. cc; steps = words_stored m.steps S.instrs j (3 * lost_round_steps S + steps_to_apply S) (bound S) j_in t.steps }
     within StoreAnnouncement a t e = record { told = λ q. cc; steps = sum m.steps m.rounds (lost_round_steps S) (steps_to_apply S) (bound S) a.fresh.rounds t.steps }
       where
         sum : (s r q x l : ℕ) → r ≡ 0 → s + (1 + (3 * q + x)) ≤ l → s + 1 + ((3 - r) * q + x) ≤ l
@@ -239,37 +190,22 @@ module _ (S : Setup) where
         found : ℕ
         found = get_or w.words (word_of (want_at S m (CopyLog x))) 0
 
-        more : (s c x k r l : ℕ) → x < c → s + (c - x + 1 + k + r) ≤ l → s + 1 + (c - (x + 1) + 1 + k + r) ≤ l
-        more s c x k r l z h = omega arith
-
-        last : (s c x k r l : ℕ) → x < c → s + (c - x + 1 + k + r) ≤ l → s + 1 + (1 + k + r) ≤ l
-        last s c x k r l z h = omega arith
-
         go : (b : Bool) → MachineIsWithinBound S (after_copy_log now x found b) (after_copy_log now x found b).place
-        go true = record { told = λ q. cc; steps = more m.steps (2 * S.cells + 1) x (steps_to_apply S) (steps_left_after_help S m (m.rounds == 0)) (bound S) a.in_log t.steps }
-        go false = record { told = λ q. cc; steps = last m.steps (2 * S.cells + 1) x (steps_to_apply S) (steps_left_after_help S m (m.rounds == 0)) (bound S) a.in_log t.steps }
+        go true = record { told = λ q. cc; steps = word_copied m.steps (2 * S.cells + 1) x (steps_to_apply S) (steps_left_after_help S m (m.rounds == 0)) (bound S) a.in_log t.steps }
+        go false = record { told = λ q. cc; steps = words_copied m.steps (2 * S.cells + 1) x (steps_to_apply S) (steps_left_after_help S m (m.rounds == 0)) (bound S) a.in_log t.steps }
     within LookAgain a t e = go (get_or w.words (m.owner + 1) 0 == pack m.seq 0) (m.rounds == 0) t.steps
       where
-        opens : (s k r l : ℕ) → s + (1 + k + r) ≤ l → s + 1 + (k + r) ≤ l
-        opens s k r l h = omega arith
-
-        closed : (s k r l : ℕ) → s + (1 + k + r) ≤ l → s + 1 + r ≤ l
-        closed s k r l h = omega arith
-
         helping : (b : Bool) → b ≡ true → m.steps + 1 + (steps_to_apply S + steps_left_after_apply S m b) ≤ bound S
-        helping true q = opens m.steps (steps_to_apply S) (steps_left_after_help S m (m.rounds == 0)) (bound S) t.steps
+        helping true q = still_open m.steps (steps_to_apply S) (steps_left_after_help S m (m.rounds == 0)) (bound S) t.steps
         helping false q = cc
 
         go : (b d : Bool) → m.steps + (1 + steps_to_apply S + steps_left_after_help S m d) ≤ bound S → MachineIsWithinBound S (after_look_again S now b d) (after_look_again S now b d).place
         go true d u = record { told = λ q. cc; steps = helping m.helps a.copies.helps }
-        go false d u = resumed_within now d (closed m.steps (steps_to_apply S) (steps_left_after_help S m d) (bound S) u)
+        go false d u = resumed_within now d (now_closed m.steps (steps_to_apply S) (steps_left_after_help S m d) (bound S) u)
     within LoadOwnTicket a t e = go (nat_lt m.seq (seq_of found)) (payload_of found == m.made) (m.seq == S.limit)
       where
         found : ℕ
         found = get_or w.words (word_of (want_at S m LoadOwnTicket)) 0
-
-        newer : (s x r l : ℕ) → 1 ≤ x → s + (x + r) ≤ l → s + 1 + r ≤ l
-        newer s x r l z h = omega arith
 
         shape : (s k c p r l : ℕ) → k + 1 ≤ p → s + (5 * c + p + 6 + r) ≤ l → s + 1 + (k + 1) ≤ l
         shape s k c p r l z h = omega arith
@@ -277,72 +213,51 @@ module _ (S : Setup) where
         call : (s k c p u y r l : ℕ) → u + 1 ≡ c → k + y ≡ p → s + (5 * c + p + 6 + r) ≤ l → s + 1 + (k + (y + u + (4 * c + 6) + r)) ≤ l
         call s k c p u y r l z q h = omega arith
 
-        one_row : (n s q : ℕ) → s ≡ 0 → 0 < n → q + (n - s - 1) * q ≡ n * q
-        one_row (suc n) s q e l = rw e (grind arith)
-        one_row zero s q e l = absurd (omega arith)
-
         cells_in : ticket_cell S m.caller < S.cells
-        cells_in = rw a.looks.round.begun.caller (ticket_in_cells S Lawful B w g i m h i h)
+        cells_in = rw a.looks.round.begun.caller (ticket_in_cells g h i h)
 
         known_one : unknown_cell_count (with_cell_known S m (ticket_cell S m.caller) found) + 1 ≡ S.cells
-        known_one = unknowns_set m.known (ticket_cell S m.caller) (payload_of found) (omega (arith, a.looks.all, cells_in)) (none_at m.known a.no_cell) ∙ ap unknown_cell_count a.no_cell ∙ unknowns_all S.cells
-          where
-            none_of : (n y : ℕ) → get_or {A = Option ℕ} (replicate n None) y None ≡ None
-            none_of zero y = refl
-            none_of (suc n) zero = refl
-            none_of (suc n) (suc y) = none_of n y
-
-            none_at : (ks : List (Option ℕ)) → ks ≡ no_cell_known S → get_or ks (ticket_cell S m.caller) None ≡ None
-            none_at ks q = rw q (none_of S.cells (ticket_cell S m.caller))
+        known_one = unknowns_set m.known (ticket_cell S m.caller) (payload_of found) (omega (arith, a.looks.all, cells_in)) (rw a.no_cell (none_known S.cells (ticket_cell S m.caller))) ∙ ap unknown_cell_count a.no_cell ∙ unknowns_all S.cells
 
         go : (b c d : Bool) → MachineIsWithinBound S (after_own_ticket S now found b c d) (after_own_ticket S now found b c d).place
-        go true c d = record { told = λ q. cc; steps = newer m.steps (round_steps_after_help S) (steps_left_in_rounds S m) (bound S) (omega arith) t.steps }
+        go true c d = record { told = λ q. cc; steps = round_lost m.steps (round_steps_after_help S) (steps_left_in_rounds S m) (bound S) (omega arith) t.steps }
         go false true d = record { told = λ q. cc; steps = shape m.steps S.instrs S.cells (S.callers * (S.instrs + 1)) (steps_left_in_rounds S m) (bound S) words_row t.steps }
         go false false true = record { steps = omega arith; told = λ q. tt }
         go false false false = record {
           told = λ q. cc;
           steps = call m.steps (S.instrs + 1) S.cells (S.callers * (S.instrs + 1)) (unknown_cell_count (with_cell_known S m (ticket_cell S m.caller) found)) ((S.callers - m.scan - 1) * (S.instrs + 1)) (steps_left_in_rounds S m) (bound S)
-              known_one (one_row S.callers m.scan (S.instrs + 1) a.no_scan (omega arith)) t.steps;
+              known_one (first_row S.callers m.scan (S.instrs + 1) a.no_scan (omega arith)) t.steps;
         }
     within LoadShape a t e = go (nat_lt m.seq (seq_of found)) refl
       where
         found : ℕ
         found = data_word S w.words (shape_cell S m.caller)
 
-        same : (s i l : ℕ) → s + (i + 1) ≤ l → s + 1 + (i - 0) ≤ l
-        same s i l h = omega arith
-
         fresh : seq_of (data_word S w.words (shape_cell S m.caller)) ≤ m.seq
-        fresh = rw a.looks.round.begun.caller (own_row_old S Lawful B w g i m h m a.looks (done_now S Lawful B w g i m h m a.finds) (shape_cell S i) (omega arith, omega arith))
+        fresh = rw a.looks.round.begun.caller (own_row_old g h m a.looks (done_now g h m a.finds) (shape_cell S i) (omega arith, omega arith))
 
         go : (b : Bool) → nat_lt m.seq (seq_of found) ≡ b → MachineIsWithinBound S (after_load_shape S now found b) (after_load_shape S now found b).place
         go true q = let z : m.seq < seq_of found = grind (arith, nat_tests) in absurd (omega (arith, fresh))
-        go false q = asks_within (with_shape S now found) 0 0 (same m.steps S.instrs (bound S) t.steps) (omega arith) (first_marked_place (payload_of found) 0 S.instrs) (λ k z. omega arith)
+        go false q = asks_within (with_shape S now found) 0 0 (shape_read m.steps S.instrs (bound S) t.steps) (omega arith) (first_marked_place (payload_of found) 0 S.instrs) (λ k z. omega arith)
     within (LoadReply j) a t e = go (nat_lt m.seq (seq_of found)) refl
       where
         found : ℕ
         found = data_word S w.words (reply_cell S m.caller j)
 
         fresh : seq_of (data_word S w.words (reply_cell S m.caller j)) ≤ m.seq
-        fresh = rw a.looks.round.begun.caller (own_row_old S Lawful B w g i m h m a.looks (done_now S Lawful B w g i m h m a.finds) (reply_cell S i j) (omega arith, omega (arith, a.in_reply)))
-
-        less : (s i j l : ℕ) → j < i → s + (i - j) ≤ l → s + 1 + (i - (j + 1)) ≤ l
-        less s i j l z h = omega arith
+        fresh = rw a.looks.round.begun.caller (own_row_old g h m a.looks (done_now g h m a.finds) (reply_cell S i j) (omega arith, omega (arith, a.in_reply)))
 
         go : (b : Bool) → nat_lt m.seq (seq_of found) ≡ b → MachineIsWithinBound S (after_load_reply S now j found b) (after_load_reply S now j found b).place
         go true q = let z : m.seq < seq_of found = grind (arith, nat_tests) in absurd (omega (arith, fresh))
-        go false q = asks_within (with_reply now j found) (j + 1) (j + 1) (less m.steps S.instrs j (bound S) a.in_reply t.steps) (omega arith) (first_marked_place m.raw.shape (j + 1) (S.instrs - j - 1)) (λ k z. (mark_some m.raw.shape (j + 1) (S.instrs - j - 1) k z).0)
+        go false q = asks_within (with_reply now j found) (j + 1) (j + 1) (reply_read m.steps S.instrs j (bound S) a.in_reply t.steps) (omega arith) (first_marked_place m.raw.shape (j + 1) (S.instrs - j - 1)) (λ k z. (mark_some m.raw.shape (j + 1) (S.instrs - j - 1) k z).0)
     within LoadAnnouncement a t e = go (get_or m.known (ticket_cell S m.scan) None)
       where
         found : ℕ
         found = get_or w.words (word_of (want_at S m LoadAnnouncement)) 0
 
-        less : (s k x l : ℕ) → s + (k + 1 + x) ≤ l → s + 1 + (k + x) ≤ l
-        less s k x l h = omega arith
-
         go : (r : Option ℕ) → MachineIsWithinBound S (after_announcement S now found r) (after_announcement S now found r).place
-        go None = record { told = λ q. cc; steps = less m.steps S.instrs (steps_left_in_scan S m) (bound S) t.steps }
-        go (Some v) = weighed_within (record now { heard = found }) a.in_range (less m.steps S.instrs (steps_left_in_scan S m) (bound S) t.steps) (nat_lt v (seq_of found))
+        go None = record { told = λ q. cc; steps = row_heard m.steps S.instrs (steps_left_in_scan S m) (bound S) t.steps }
+        go (Some v) = weighed_within (record now { heard = found }) a.in_range (row_heard m.steps S.instrs (steps_left_in_scan S m) (bound S) t.steps) (nat_lt v (seq_of found))
     within LoadTicket a t e = go (nat_lt m.seq (seq_of found))
       where
         found : ℕ
@@ -352,7 +267,7 @@ module _ (S : Setup) where
         go true = record { told = λ q. cc; steps = again_sum m.steps S.instrs ((S.callers - m.scan - 1) * (S.instrs + 1)) (unknown_cell_count m.known) (4 * S.cells + 6) (steps_left_in_rounds S m) (bound S) (omega arith) t.steps }
         go false = weighed_within (record now { known = with_cell_known S m (ticket_cell S m.scan) found }) a.scanning.in_range
             (known_sum m.steps S.instrs ((S.callers - m.scan - 1) * (S.instrs + 1)) (unknown_cell_count m.known) (unknown_cell_count (with_cell_known S m (ticket_cell S m.scan) found)) (4 * S.cells + 6) (steps_left_in_rounds S m) (bound S)
-            (unknowns_set m.known (ticket_cell S m.scan) (payload_of found) (omega (arith, a.scanning.past.looks.all, ticket_in_cells S Lawful B w g i m h m.scan a.scanning.in_range)) a.unknown) t.steps)
+            (unknowns_set m.known (ticket_cell S m.scan) (payload_of found) (omega (arith, a.scanning.past.looks.all, ticket_in_cells g h m.scan a.scanning.in_range)) a.unknown) t.steps)
             (nat_lt (payload_of found) (seq_of m.heard))
     within (LoadScript j) a t e = go (nat_lt (j + 1) (payload_of m.heard))
       where
@@ -362,15 +277,9 @@ module _ (S : Setup) where
         j_in : j < S.instrs
         j_in = omega (arith, a.more, a.heard.small)
 
-        more : (s i j x l : ℕ) → j < i → s + (i - j + x) ≤ l → s + 1 + (i - (j + 1) + x) ≤ l
-        more s i j x l z h = omega arith
-
-        last : (s i j x l : ℕ) → j < i → s + (i - j + x) ≤ l → s + 1 + x ≤ l
-        last s i j x l z h = omega arith
-
         go : (b : Bool) → MachineIsWithinBound S (after_load_script S now j found b) (after_load_script S now j found b).place
-        go true = record { told = λ q. cc; steps = more m.steps S.instrs j (steps_left_in_scan S m) (bound S) j_in t.steps }
-        go false = ran_within (record now { script = with_script_word m found }) a.scanning.in_range (last m.steps S.instrs j (steps_left_in_scan S m) (bound S) j_in t.steps) (S.meaning.walk (overlaid m.known m.log) (with_script_word m found))
+        go true = record { told = λ q. cc; steps = word_loaded m.steps S.instrs j (steps_left_in_scan S m) (bound S) j_in t.steps }
+        go false = ran_within (record now { script = with_script_word m found }) a.scanning.in_range (words_loaded m.steps S.instrs j (steps_left_in_scan S m) (bound S) j_in t.steps) (S.meaning.walk (overlaid m.known m.log) (with_script_word m found))
     within (LoadCell x) a t e = go (nat_lt m.seq (seq_of found))
       where
         found : ℕ
@@ -386,24 +295,15 @@ module _ (S : Setup) where
       where
         sum : (s c r l : ℕ) → s + (4 * c + 6 + r) ≤ l → s + 1 + (2 * (2 * c + 1 - 0) + 3 + r) ≤ l
         sum s c r l h = omega arith
-    within (StoreLog x) a t e = record { told = λ q. cc; steps = sum m.steps (2 * (2 * S.cells + 1 - x)) (steps_left_in_rounds S m) (bound S) t.steps }
-      where
-        sum : (s y r l : ℕ) → s + (y + 3 + r) ≤ l → s + 1 + (y + 2 + r) ≤ l
-        sum s y r l h = omega arith
+    within (StoreLog x) a t e = record { told = λ q. cc; steps = log_word_stored m.steps (2 * (2 * S.cells + 1 - x)) (steps_left_in_rounds S m) (bound S) t.steps }
     within (RaiseLog x) a t e = go (nat_lt (x + 1) (length (log_words m.log)))
       where
         x_in : x < 2 * S.cells + 1
         x_in = omega (arith, length-log_words m.log, a.storing.stored.over.over.is_log.few, a.more)
 
-        more : (s c x r l : ℕ) → x < c → s + (2 * (c - x) + 2 + r) ≤ l → s + 1 + (2 * (c - (x + 1)) + 3 + r) ≤ l
-        more s c x r l z h = omega arith
-
-        last : (s c x r l : ℕ) → x < c → s + (2 * (c - x) + 2 + r) ≤ l → s + 1 + (3 + r) ≤ l
-        last s c x r l z h = omega arith
-
         go : (b : Bool) → MachineIsWithinBound S (after_raise_log now x b) (after_raise_log now x b).place
-        go true = record { told = λ q. cc; steps = more m.steps (2 * S.cells + 1) x (steps_left_in_rounds S m) (bound S) x_in t.steps }
-        go false = record { told = λ q. cc; steps = last m.steps (2 * S.cells + 1) x (steps_left_in_rounds S m) (bound S) x_in t.steps }
+        go true = record { told = λ q. cc; steps = log_word_raised m.steps (2 * S.cells + 1) x (steps_left_in_rounds S m) (bound S) x_in t.steps }
+        go false = record { told = λ q. cc; steps = log_raised m.steps (2 * S.cells + 1) x (steps_left_in_rounds S m) (bound S) x_in t.steps }
     within StoreRequest a t e = record { told = λ q. cc; steps = fewer m.steps (3 + steps_left_in_rounds S m) (2 + steps_left_in_rounds S m) (bound S) t.steps (omega arith) }
     within RaiseRequest a t e = record { told = λ q. cc; steps = fewer m.steps (2 + steps_left_in_rounds S m) (1 + steps_left_in_rounds S m) (bound S) t.steps (omega arith) }
     within ExchangeCurrent a t e = go (get_or w.words 0 0 == pack m.seq m.owner)
@@ -430,19 +330,10 @@ module _ (S : Setup) where
         found : ℕ
         found = get_or w.words (word_of (want_at S m (LoadTarget j))) 0
 
-        older : (s y r l : ℕ) → s + (y + 2 + r) ≤ l → s + 1 + (y + 1 + r) ≤ l
-        older s y r l h = omega arith
-
-        newer : (s y r l : ℕ) → s + (y + 2 + r) ≤ l → s + 1 + (y - 1 + r) ≤ l
-        newer s y r l h = omega arith
-
         go : (b : Bool) → MachineIsWithinBound S (after_load_target now j found b) (after_load_target now j found b).place
-        go true = record { told = λ q. cc; steps = older m.steps (4 * (S.cells - j)) (steps_left_after_apply S m m.helps) (bound S) t.steps }
-        go false = record { told = λ q. cc; steps = newer m.steps (4 * (S.cells - j)) (steps_left_after_apply S m m.helps) (bound S) t.steps }
-    within (ExchangeTarget j f) a t e = record { told = λ q. cc; steps = sum m.steps (4 * (S.cells - j)) (steps_left_after_apply S m m.helps) (bound S) t.steps }
-      where
-        sum : (s y r l : ℕ) → s + (y + 1 + r) ≤ l → s + 1 + (y + r) ≤ l
-        sum s y r l h = omega arith
+        go true = record { told = λ q. cc; steps = older_found m.steps (4 * (S.cells - j)) (steps_left_after_apply S m m.helps) (bound S) t.steps }
+        go false = record { told = λ q. cc; steps = newer_found m.steps (4 * (S.cells - j)) (steps_left_after_apply S m m.helps) (bound S) t.steps }
+    within (ExchangeTarget j f) a t e = record { told = λ q. cc; steps = entry_exchanged m.steps (4 * (S.cells - j)) (steps_left_after_apply S m m.helps) (bound S) t.steps }
     within (ReloadTarget j) a t e = record { told = λ q. cc; steps = sum m.steps S.cells j (steps_left_after_apply S m m.helps) (bound S) (omega (arith, a.entry.more, n_cells j a.entry.applies)) t.steps }
       where
         sum : (s c j r l : ℕ) → j < c → s + (4 * (c - j) + r) ≤ l → s + 1 + (4 * (c - j) - 1 + r) ≤ l
@@ -452,27 +343,15 @@ module _ (S : Setup) where
         j_in : j < S.cells
         j_in = omega (arith, a.entry.more, n_cells j a.entry.applies)
 
-        more : (s c j r l : ℕ) → j < c → s + (4 * (c - j) - 1 + r) ≤ l → s + 1 + (4 * (c - (j + 1)) + 2 + r) ≤ l
-        more s c j r l z h = omega arith
-
-        last : (s c j r l : ℕ) → j < c → s + (4 * (c - j) - 1 + r) ≤ l → s + 1 + (2 + r) ≤ l
-        last s c j r l z h = omega arith
-
         go : (b : Bool) → MachineIsWithinBound S (next_entry now j b) (next_entry now j b).place
-        go true = record { told = λ q. cc; steps = more m.steps S.cells j (steps_left_after_apply S m m.helps) (bound S) j_in t.steps }
-        go false = record { told = λ q. cc; steps = last m.steps S.cells j (steps_left_after_apply S m m.helps) (bound S) j_in t.steps }
-    within CloseRequest a t e = record { told = λ q. cc; steps = sum m.steps (steps_left_after_apply S m m.helps) (bound S) t.steps }
-      where
-        sum : (s r l : ℕ) → s + (2 + r) ≤ l → s + 1 + (1 + r) ≤ l
-        sum s r l h = omega arith
+        go true = record { told = λ q. cc; steps = entry_raised m.steps S.cells j (steps_left_after_apply S m m.helps) (bound S) j_in t.steps }
+        go false = record { told = λ q. cc; steps = entries_raised m.steps S.cells j (steps_left_after_apply S m m.helps) (bound S) j_in t.steps }
+    within CloseRequest a t e = record { told = λ q. cc; steps = request_closed m.steps (steps_left_after_apply S m m.helps) (bound S) t.steps }
     within RaiseClosed a t e = go m.helps (m.rounds == 0) refl t.steps
       where
-        sum : (s r l : ℕ) → s + (1 + r) ≤ l → s + 1 + r ≤ l
-        sum s r l h = omega arith
-
         sum0 : (s l : ℕ) → s + (1 + 0) ≤ l → s + 1 ≤ l
         sum0 s l h = omega arith
 
         go : (b d : Bool) → (m.rounds == 0) ≡ d → m.steps + (1 + steps_left_after_apply S m b) ≤ bound S → MachineIsWithinBound S (after_raise_closed S now b d) (after_raise_closed S now b d).place
-        go true d q u = resumed_within now d (subst (λ (x : Bool). m.steps + 1 + steps_left_after_help S m x ≤ bound S) q (sum m.steps (steps_left_after_help S m (m.rounds == 0)) (bound S) u))
+        go true d q u = resumed_within now d (subst (λ (x : Bool). m.steps + 1 + steps_left_after_help S m x ≤ bound S) q (apply_ended m.steps (steps_left_after_help S m (m.rounds == 0)) (bound S) u))
         go false d q u = record { steps = omega arith; told = λ q. sum0 m.steps (bound S) u }

@@ -1,7 +1,5 @@
 -- A step that changes a cell, and neither the current-transaction word nor a durable word: what it guarantees the others, and which facts of words and history stay.
-use Rattle.std.proofs.Common.{◌≡◌, ℕ, zero, suc, ◌+◌, ◌*◌, ◌-◌, ◌<◌, ◌≤◌, ◌⊎◌, ◌==◌, inl, inr, List, [], ◌∷◌, length, get_or, refl, sym, ◌∙◌, ap, subst, arith, true, false}
-use Rattle.std.specs.List.{All}
-use Rattle.std.proofs.lemmas.Bool.Decides.{nat_tests}
+use Rattle.std.proofs.Common.{◌≡◌, ℕ, ◌+◌, ◌*◌, ◌-◌, ◌<◌, ◌≤◌, ◌⊎◌, inl, inr, List, length, get_or, refl, sym, ◌∙◌, ap, subst, arith}
 pub use Rattle.std.proofs.lemmas.Bool.{eqb-false as differ, eqb-true as equals}
 use Rattle.of_cell.specs.Words.{pack, seq_of, payload_of}
 use Rattle.of_mem.specs.declared.work.RawReply.{RawReply}
@@ -17,11 +15,17 @@ use Rattle.of_core.specs.Guarantees.{Guarantees}
 use Rattle.of_core.proofs.Logs.{length-log_words}
 use Rattle.of_core.proofs.Stability.{log_in, heard_as, said_as}
 
-all_one : {X : Type 0} (P : X → Type 0) (x : X) → P x → All P (x ∷ [])
-all_one P x h zero d l = h
-all_one P x h (suc k) d l = absurd (omega arith)
+-- what is said of a transaction that is still open
+module _ {B : TableStart} {ws vs : List ℕ} (stays : IsLastOpen B ws → IsLastOpen B vs) where
+  pub step_open : {P Q : Type 0} → P ⊎ (Q × IsLastOpen B ws) → P ⊎ (Q × IsLastOpen B vs)
+  step_open (inl p) = inl p
+  step_open (inr p) = inr (p.0, stays p.1)
 
-module _ (S : Setup) (Lawful : List ℕ → Type 0) (B : TableStart) where
+  pub cells_open : {P Q R : Type 0} → P ⊎ (IsLastOpen B ws × Q × R) → P ⊎ (IsLastOpen B vs × Q × R)
+  cells_open (inl p) = inl p
+  cells_open (inr p) = inr (stays p.0, p.1, p.2)
+
+module _ (S : Setup) (B : TableStart) where
   -- the last commit stays, cells rise, and no durable word changes
   pub record Touches (i : ℕ) (ws vs : List ℕ) (bs : List Batch) : Type 0 where
     pub room : length vs ≡ length ws
@@ -35,7 +39,8 @@ module _ (S : Setup) (Lawful : List ℕ → Type 0) (B : TableStart) where
     pub script_of : (j x : ℕ) → j < S.callers → x < S.instrs + 1 → (script_word S vs j x ≡ script_word S ws j x) ⊎ ((j ≡ i) × AnnouncesNothingNew S B ws bs j)
     pub announcements : (j : ℕ) → j < S.callers → (announcement_of S vs j ≡ announcement_of S ws j) ⊎ ((j ≡ i) × ((k : ℕ) → B.seq < k → k ≤ committed_seq ws → (batch_at B bs k).announcements j ≡ announcement_of S vs j → ⊥))
 
-  module _ (i : ℕ) (ws vs : List ℕ) (bs : List Batch) (t : Touches i ws vs bs) (s : WordsMatchHistory S Lawful B ws bs) where
+module _ {S : Setup} {Lawful : List ℕ → Type 0} {B : TableStart} where
+  module _ {i : ℕ} {ws vs : List ℕ} {bs : List Batch} (t : Touches S B i ws vs bs) (s : WordsMatchHistory S Lawful B ws bs) where
     pub last_same : committed_seq vs ≡ committed_seq ws
     last_same = ap seq_of t.current_word
 
@@ -112,6 +117,23 @@ module _ (S : Setup) (Lawful : List ℕ → Type 0) (B : TableStart) where
             let p = s.durable.logs k l u j o q' x v m z in
             (logs k l u j o q' x x_in ∙ p.0, t.durs (log_at S j x) (log_in S j x j_in x_in) ∙ p.1)
 
+    -- where no request changes, the last transaction is open as before
+    pub open_of : ((j : ℕ) → j < S.callers → request_of vs j ≡ request_of ws j) → IsLastOpen B ws → IsLastOpen B vs
+    open_of same o = record { any = rw t.current_word o.any; asks = rw t.current_word (same (committed_owner ws) s.counted.owner_in ∙ o.asks) }
+
+    -- where no data cell changes, nor whether the last transaction is open
+    module _ (same : (a : ℕ) → a < S.cells → data_word S vs a ≡ data_word S ws a) (stays : IsLastOpen B ws → IsLastOpen B vs) where
+      pub data_same : DataCellsMatchState S B vs bs
+      data_same = record { each = λ a l. each a l (s.data_cells.each a l) }
+        where
+          each : (a : ℕ) → a < S.cells → (data_word S ws a ≡ data_word_after B bs (committed_seq ws) a) ⊎ (IsLastOpen B ws × (data_word S ws a ≡ data_word_after B bs (committed_seq ws - 1) a))
+              → (data_word S vs a ≡ data_word_after B bs (committed_seq vs) a) ⊎ (IsLastOpen B vs × (data_word S vs a ≡ data_word_after B bs (committed_seq vs - 1) a))
+          each a l (inl q) = inl (rw t.current_word (same a l ∙ q))
+          each a l (inr (o, q)) = inr (stays o, rw t.current_word (same a l ∙ q))
+
+      pub durable_same : ((k : ℕ) → B.seq < k → k ≤ committed_seq ws → (j : ℕ) → (batch_at B bs k).owner ≡ j → durable_request S ws j ≡ pack k 0 → (x : ℕ) → x < 2 * S.cells + 1 → log_word_of S vs j x ≡ log_word_of S ws j x) → DurableWordsMatch S B vs bs
+      durable_same logs = durable_of (λ a l. rw (same a l) (s.durable.fresh a l)) (step_open stays) (λ a l. cells_open stays (s.durable.cells a l)) logs
+
     pub request_as : (j v : ℕ) → IsRequest B ws bs j v → IsRequest B vs bs j v
     request_as j v h l = rw t.current_word (h l)
 
@@ -150,7 +172,7 @@ module _ (S : Setup) (Lawful : List ℕ → Type 0) (B : TableStart) where
         ticket = rw b p.ticket;
         words = rw o p.words;
         some = rw o p.some;
-        kept = rw x (omega (arith, p.kept.0, t.rise (i + 1) (omega arith)), request_as i m.kept p.kept.1);
+        kept = rw x (record { low = omega (arith, p.kept.low, t.rise (i + 1) (omega arith)); held = request_as i m.kept p.kept.held });
         says = rw (b, o) (behind i S.instrs ∙ p.says);
         script = rw o (said_as S ws vs i (length m.op) (behind i) ∙ p.script);
         upto = rw (b, t.current_word) p.upto;
@@ -200,7 +222,7 @@ module _ (S : Setup) (Lawful : List ℕ → Type 0) (B : TableStart) where
         met = λ after c l u z. rw (behind c S.instrs) (o.met after c l u (z ∙ behind c S.instrs));
       }
 
-  module _ (w : Moment) (g : MeetsCore S Lawful B w) where
+  module _ {w : Moment} (g : MeetsCore S Lawful B w) where
     -- what a data cell holds it has held
     pub held_now : (a : ℕ) → a < S.cells → WasHeldByCell B w.words w.batches a (data_word S w.words a)
     held_now a l = go (g.shared.data_cells.each a l)

@@ -1,8 +1,8 @@
 -- A read is tried before it is announced.
 use Rattle.std.proofs.Common.{◌≡◌, ℕ, ◌+◌, ◌-◌, ◌<◌, ◌≤◌, ◌⊎◌, ◌==◌, inl, inr, List, length, get_or, refl, sym, ◌∙◌, ap, arith, length-set, Option, Some, None, Bool, true, false, nat_lt}
-use Rattle.std.proofs.lemmas.Bool.{cases_eq, cases_lt}
+use Rattle.std.proofs.lemmas.Bool.{cases_eq}
 use Rattle.std.proofs.lemmas.Bool.Decides.{nat_tests}
-use Rattle.std.proofs.lemmas.List.{length-map, length-replicate, get_or-replicate, get_or_past, get_or-set_same, get_or-set_other}
+use Rattle.std.proofs.lemmas.List.{length-map, length-replicate, get_or-set_same, get_or-set_other}
 use Rattle.of_core.specs.declared.machine.trying.TheConstants.{MOST_TRIES}
 use Rattle.of_cell.specs.Words.{pack, seq_of, payload_of}
 use Rattle.of_mem.specs.Meaning.{WalkEnd, Needs, Gives, WalkFits, IsSoundMeaning}
@@ -18,22 +18,23 @@ use Rattle.of_core.specs.Invariant.{HoldsAtPlace, MeetsCore}
 use Rattle.of_core.specs.Guarantees.{KeepsGuarantee}
 use Rattle.of_core.proofs.States.{state_length, later}
 use Rattle.of_core.proofs.Alike.{calm_more, fresh_as, trying_as}
+use Rattle.of_core.proofs.Unknown.{known_not}
 use Rattle.of_core.proofs.Assembling.{assemble_read, logs_of, number_at, same_batches, same_words}
-use Rattle.of_core.proofs.Rounds.{entered_at, n_is, not_open, opened_is, quiet_from}
+use Rattle.of_core.proofs.Rounds.{entered_at, n_is, not_open, opened_after, quiet_from}
 use Rattle.of_core.proofs.Tests.{differ, not_newer}
 
-module _ (S : Setup) (Lawful : List ℕ → Type 0) (B : TableStart) where
-  -- the machine m of caller i, at its place
-  module _ (w : Moment) (g : MeetsCore S Lawful B w) (i : ℕ) (m : CallState) (h : i < S.callers) where
+module _ {S : Setup} {Lawful : List ℕ → Type 0} {B : TableStart} where
+  -- the machine of caller i
+  module _ {w : Moment} (g : MeetsCore S Lawful B w) {i : ℕ} (h : i < S.callers) where
     -- a cell that isn't newer than a round or a try is that of its state
     cell_seen : (s o : ℕ) (known : List (Option ℕ)) → WasCurrent S B w.words w.batches s o → KnowsClosedState S B w.words w.batches s known → (x : ℕ) → x < S.cells → seq_of (data_word S w.words x) ≤ s → data_word S w.words x ≡ data_word_after B w.batches s x
     cell_seen s o known c p x l fresh = go (g.shared.data_cells.each x l)
       where
         go : (data_word S w.words x ≡ data_word_after B w.batches (committed_seq w.words) x) ⊎ (IsLastOpen B w.words × (data_word S w.words x ≡ data_word_after B w.batches (committed_seq w.words - 1) x)) → data_word S w.words x ≡ data_word_after B w.batches s x
-        go (inl q) = q ∙ later S B w.batches g.shared.start (logs_of S Lawful B w g) s (committed_seq w.words) x c.from c.upto (omega (arith, n_is S Lawful B w g i m h)) l (rw (← q) fresh)
+        go (inl q) = q ∙ later S B w.batches g.shared.start (logs_of g) s (committed_seq w.words) x c.from c.upto (omega (arith, n_is g h)) l (rw (← q) fresh)
         go (inr (op, q)) =
             let ne : s ≡ committed_seq w.words → ⊥ = λ e. let z : pack s 0 < request_of w.words (committed_owner w.words) = p.quiet e (omega (arith, op.any)) in omega (arith, op.asks, ap (λ (k : ℕ). pack k 0) e) in
-            q ∙ later S B w.batches g.shared.start (logs_of S Lawful B w g) s (committed_seq w.words - 1) x c.from (omega (arith, c.upto)) (omega (arith, n_is S Lawful B w g i m h)) l (rw (← q) fresh)
+            q ∙ later S B w.batches g.shared.start (logs_of g) s (committed_seq w.words - 1) x c.from (omega (arith, c.upto)) (omega (arith, n_is g h)) l (rw (← q) fresh)
 
     -- a try that has seen a cell of its state knows one more
     pub watch_more : (s o : ℕ) (n : CallState) → WasCurrent S B w.words w.batches s o → KnowsClosedState S B w.words w.batches s n.known → (x : ℕ) → x < S.cells → seq_of (data_word S w.words x) ≤ s
@@ -41,7 +42,7 @@ module _ (S : Setup) (Lawful : List ℕ → Type 0) (B : TableStart) where
     watch_more s o n c p x l fresh = record { quiet = p.quiet; agrees = λ y v q. knows y v q (cases_eq y x); all = length-set n.known x (Some (payload_of (data_word S w.words x))) ∙ p.all }
       where
         this : get_or (numbers_after B w.batches s) x 0 ≡ payload_of (data_word S w.words x)
-        this = number_at S Lawful B w.batches s x ∙ ap payload_of (sym (cell_seen s o n.known c p x l fresh))
+        this = number_at B w.batches s x ∙ ap payload_of (sym (cell_seen s o n.known c p x l fresh))
 
         knows : (y v : ℕ) → get_or (with_cell_known S n x (data_word S w.words x)) y None ≡ Some v → (y ≡ x) ⊎ (y ≡ x → ⊥) → get_or (numbers_after B w.batches s) y 0 ≡ v
         knows y v q (inl e) =
@@ -66,53 +67,43 @@ module _ (S : Setup) (Lawful : List ℕ → Type 0) (B : TableStart) where
     reads_at n sound p c o k = go (S.meaning.walk n.known n.op) refl (sound.walks n.known xs n.op size (g.shared.stands.lawful n.seq c.from upto) k.agrees)
       where
         upto : n.seq ≤ B.seq + length w.batches
-        upto = omega (arith, c.upto, n_is S Lawful B w g i m h)
+        upto = omega (arith, c.upto, n_is g h)
 
         xs : List ℕ
         xs = numbers_after B w.batches n.seq
 
         size : length (numbers_after B w.batches n.seq) ≡ S.cells
-        size = length-map (state_after B w.batches n.seq) payload_of ∙ state_length S B w.batches g.shared.start (logs_of S Lawful B w g) n.seq c.from upto
+        size = length-map (state_after B w.batches n.seq) payload_of ∙ state_length S B w.batches g.shared.start (logs_of g) n.seq c.from upto
 
         go : (r : WalkEnd) → S.meaning.walk n.known n.op ≡ r → WalkFits S.meaning (first_operation_cell S) S.cells n.known xs n.op (S.meaning.walk n.known n.op) → HoldsAtPlace S B w.words w.batches i (after_read_run n r) (after_read_run n r).place
-        go (Needs a) e f = let f' = rw e at f in record { trying = trying_as S Lawful B w g i m h n _ p refl refl refl refl refl refl; current_word = c; calm = o; state = k; in_cells = f'.1; unknown = f'.2 }
+        go (Needs a) e f = let f' = rw e at f in record { trying = trying_as p refl refl refl refl refl refl; current_word = c; calm = o; state = k; in_cells = f'.1; unknown = f'.2 }
         go (Gives es r) e f = record {
           caller = p.fresh.caller;
-          calm = calm_more S Lawful B w g i m h n.seq (committed_seq w.words) c.upto o;
+          calm = calm_more c.upto o;
           kept = p.fresh.kept;
           quieted = p.fresh.quieted;
           upto = omega (arith, p.fresh.above);
           older = omega (arith, p.fresh.newer);
-          told = (c.from, seen_risen n.seq n.owner n.known c k, c.upto, (rw e at f).reply, p.reads);
+          told = record { from = c.from; durable = seen_risen n.seq n.owner n.known c k; upto = c.upto; reply = (rw e at f).reply; reads = p.reads };
         }
-
-    none_known : (x v : ℕ) → get_or (no_cell_known S) x None ≡ Some v → ⊥
-    none_known x v q = elim_none (sym (unknown_at (cases_lt x S.cells)) ∙ q)
-      where
-        unknown_at : (x < S.cells) ⊎ (S.cells ≤ x) → get_or (no_cell_known S) x None ≡ None
-        unknown_at (inl l) = get_or-replicate S.cells x None None l
-        unknown_at (inr l) = get_or_past (no_cell_known S) x None (rw length-replicate l)
-
-        elim_none : ◌≡◌ {A = Option ℕ} None (Some v) → ⊥
-        elim_none q = cc
 
     tried_at : (n : CallState) → IsSoundMeaning S.meaning Lawful (first_operation_cell S) S.cells → IsInTry S B w.words w.batches i n → WasCurrent S B w.words w.batches n.seq n.owner → HasNothingUnderWay S B w.words w.batches i n.seq
         → (n.seq ≡ committed_seq w.words → B.seq < n.seq → pack n.seq 0 < request_of w.words (committed_owner w.words)) → HoldsAtPlace S B w.words w.batches i (begin_reading S n) (begin_reading S n).place
-    tried_at n sound p c o quiet = reads_at (record n { known = no_cell_known S; helps = false }) sound (trying_as S Lawful B w g i m h n _ p refl refl refl refl refl refl) c o
-        (record { quiet = quiet; agrees = λ x v q. absurd (none_known x v q); all = length-replicate S.cells None })
+    tried_at n sound p c o quiet = reads_at (record n { known = no_cell_known S; helps = false }) sound (trying_as p refl refl refl refl refl refl) c o
+        (record { quiet = quiet; agrees = λ x v q. absurd (known_not S.cells x v q); all = length-replicate S.cells None })
 
     pub resumed_at : (n : CallState) → IsSoundMeaning S.meaning Lawful (first_operation_cell S) S.cells → MayHelp S B w.words w.batches i n → WasCurrent S B w.words w.batches n.seq n.owner → HasNothingUnderWay S B w.words w.batches i n.seq
         → (n.seq ≡ committed_seq w.words → B.seq < n.seq → pack n.seq 0 < request_of w.words (committed_owner w.words)) → (b : Bool) → (n.rounds == 0) ≡ b → HoldsAtPlace S B w.words w.batches i (resume S n b) (resume S n b).place
     resumed_at n sound (inl p) c o quiet true e = let z : n.rounds ≡ 0 = grind (arith, nat_tests) in absurd (omega (arith, p.begun_one))
-    resumed_at n sound (inl p) c o quiet false e = entered_at S Lawful B w g i m h n p o quiet
+    resumed_at n sound (inl p) c o quiet false e = entered_at g h n p o quiet
     resumed_at n sound (inr p) c o quiet true e = tried_at n sound p c o quiet
     resumed_at n sound (inr p) c o quiet false e = absurd (differ n.rounds 0 e p.fresh.rounds)
 
-    pub try_current_kept : HoldsAtPlace S B w.words w.batches i m TryCurrent → KeepsGuarantee S Lawful B i w (after_counted_step S i m TryCurrent w)
-    try_current_kept a = assemble_read S Lawful B w g i h _ _ (take_word_at S m (current_word w.words) TryCurrent) (same_words S Lawful B w g i m h 0) (same_batches S Lawful B w g i m h) (record {
-      trying = record { fresh = fresh_as S Lawful B w g i m h m _ a.fresh refl refl refl refl refl; reads = a.reads; few = omega (arith, a.few) };
+    pub try_current_kept : (m : CallState) → HoldsAtPlace S B w.words w.batches i m TryCurrent → KeepsGuarantee S Lawful B i w (after_counted_step S i m TryCurrent w)
+    try_current_kept m a = assemble_read g h (take_word_at S m (current_word w.words) TryCurrent) (same_words w 0) (same_batches w) (record {
+      trying = record { fresh = fresh_as a.fresh refl refl refl refl refl; reads = a.reads; few = omega (arith, a.few) };
       current_word = record {
-        from = omega (arith, n_is S Lawful B w g i m h);
+        from = omega (arith, n_is g h);
         upto = omega arith;
         same = λ e. refl;
         owner_in = g.shared.counted.owner_in;
@@ -122,24 +113,16 @@ module _ (S : Setup) (Lawful : List ℕ → Type 0) (B : TableStart) where
       calm = a.calm;
     })
 
-    pub try_request_kept : IsSoundMeaning S.meaning Lawful (first_operation_cell S) S.cells → HoldsAtPlace S B w.words w.batches i m TryRequest → KeepsGuarantee S Lawful B i w (after_counted_step S i m TryRequest w)
-    try_request_kept sound a = assemble_read S Lawful B w g i h _ _ (take_word_at S m (request_of w.words m.owner) TryRequest) (same_words S Lawful B w g i m h (m.owner + 1)) (same_batches S Lawful B w g i m h) (
+    pub try_request_kept : (m : CallState) → IsSoundMeaning S.meaning Lawful (first_operation_cell S) S.cells → HoldsAtPlace S B w.words w.batches i m TryRequest → KeepsGuarantee S Lawful B i w (after_counted_step S i m TryRequest w)
+    try_request_kept m sound a = assemble_read g h (take_word_at S m (request_of w.words m.owner) TryRequest) (same_words w (m.owner + 1)) (same_batches w) (
         go (is_request_open m.seq (request_of w.words m.owner)) refl)
       where
-        after : (0 < m.seq) × (request_of w.words m.owner ≡ pack m.seq 0) → (m.seq ≡ B.seq) ⊎ (m.seq ≡ B.seq → ⊥) → B.seq < m.seq
-        after q (inl e) =
-            let z : pack B.seq 0 < request_of w.words B.owner = g.shared.requests.floor (omega (arith, q.0)) in
-            absurd (omega (arith, q.1, ap (λ (k : ℕ). pack k 0) e, ap (request_of w.words) (a.current_word.first e)))
-        after q (inr e) = omega (arith, a.current_word.from)
-
         go : (b : Bool) → is_request_open m.seq (request_of w.words m.owner) ≡ b → HoldsAtPlace S B w.words w.batches i (after_try_request S m b) (after_try_request S m b).place
         go true eb = record {
           copies = record {
-            helper = inr (trying_as S Lawful B w g i m h m _ a.trying refl refl refl refl refl refl);
-            current_word = a.current_word;
-            calm = a.calm;
+            helping = record { helper = inr (trying_as a.trying refl refl refl refl refl refl); current_word = a.current_word; calm = a.calm };
             helps = refl;
-            after = after (opened_is S Lawful B w g i m h m.seq (request_of w.words m.owner) eb) (cases_eq m.seq B.seq);
+            after = opened_after g h m.seq m.owner a.current_word eb;
             many = refl;
             count = λ l. absurd (omega arith);
             copied = λ q. (omega arith, refl);
@@ -147,27 +130,27 @@ module _ (S : Setup) (Lawful : List ℕ → Type 0) (B : TableStart) where
           more = λ q. omega arith;
           in_log = omega arith;
         }
-        go false eb = tried_at m sound a.trying a.current_word a.calm (quiet_from S Lawful B w g i m h m.seq m.owner a.current_word (λ l. not_open S Lawful B w g i m h m.seq (request_of w.words m.owner) eb (omega (arith, l))))
+        go false eb = tried_at m sound a.trying a.current_word a.calm (quiet_from g h m.seq m.owner a.current_word (λ l. not_open g h m.seq (request_of w.words m.owner) eb (omega (arith, l))))
 
-    pub try_cell_kept : IsSoundMeaning S.meaning Lawful (first_operation_cell S) S.cells → (x : ℕ) → HoldsAtPlace S B w.words w.batches i m (TryCell x) → KeepsGuarantee S Lawful B i w (after_counted_step S i m (TryCell x) w)
-    try_cell_kept sound x a = assemble_read S Lawful B w g i h _ _ (take_word_at S m (data_word S w.words x) (TryCell x)) (same_words S Lawful B w g i m h (data_at S x)) (same_batches S Lawful B w g i m h) (
+    pub try_cell_kept : (m : CallState) → IsSoundMeaning S.meaning Lawful (first_operation_cell S) S.cells → (x : ℕ) → HoldsAtPlace S B w.words w.batches i m (TryCell x) → KeepsGuarantee S Lawful B i w (after_counted_step S i m (TryCell x) w)
+    try_cell_kept m sound x a = assemble_read g h (take_word_at S m (data_word S w.words x) (TryCell x)) (same_words w (data_at S x)) (same_batches w) (
         go (nat_lt m.seq (seq_of (data_word S w.words x))) refl)
       where
         over : (b : Bool) → nat_lt m.tries MOST_TRIES ≡ b → HoldsAtPlace S B w.words w.batches i (end_try m b) (end_try m b).place
         over true e = record {
-          fresh = fresh_as S Lawful B w g i m h m _ a.trying.fresh refl refl refl refl refl;
-          calm = calm_more S Lawful B w g i m h m.seq (committed_seq w.words) a.current_word.upto a.calm;
+          fresh = fresh_as a.trying.fresh refl refl refl refl refl;
+          calm = calm_more a.current_word.upto a.calm;
           reads = a.trying.reads;
           few = let z : m.tries < 4 = grind (arith, nat_tests) in omega arith;
         }
         over false e = record {
-          fresh = fresh_as S Lawful B w g i m h m _ a.trying.fresh refl refl refl refl refl;
-          calm = calm_more S Lawful B w g i m h m.seq (committed_seq w.words) a.current_word.upto a.calm;
+          fresh = fresh_as a.trying.fresh refl refl refl refl refl;
+          calm = calm_more a.current_word.upto a.calm;
           more = omega (arith, a.trying.fresh.some);
           script = refl;
         }
 
         go : (b : Bool) → nat_lt m.seq (seq_of (data_word S w.words x)) ≡ b → HoldsAtPlace S B w.words w.batches i (after_try_cell S m x (data_word S w.words x) b) (after_try_cell S m x (data_word S w.words x) b).place
         go true e = over (nat_lt m.tries MOST_TRIES) refl
-        go false e = reads_at (record m { known = with_cell_known S m x (data_word S w.words x) }) sound (trying_as S Lawful B w g i m h m _ a.trying refl refl refl refl refl refl) a.current_word a.calm
+        go false e = reads_at (record m { known = with_cell_known S m x (data_word S w.words x) }) sound (trying_as a.trying refl refl refl refl refl refl) a.current_word a.calm
             (watch_more m.seq m.owner m a.current_word a.state x a.in_cells (not_newer m.seq (seq_of (data_word S w.words x)) e))

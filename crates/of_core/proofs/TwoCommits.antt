@@ -108,7 +108,7 @@ module _ (S : Setup) (Lawful : List ℕ → Type 0) (sound : IsSoundMeaning S.me
       }
         where
           at_number : last_ticket_by S B w.batches k i ≡ last_ticket_by S B w.batches h.number i
-          at_number = ap payload_of (later S B w.batches g.core.shared.start (logs_of S Lawful B w g.core) h.number k (ticket_cell S i) (omega (arith, h.from)) h.upto u in_cells (h.old (ticket_cell S i) (omega arith, omega arith)))
+          at_number = ap payload_of (later S B w.batches g.core.shared.start (logs_of g.core) h.number k (ticket_cell S i) (omega (arith, h.from)) h.upto u in_cells (h.old (ticket_cell S i) (omega arith, omega arith)))
 
           is_now : last_ticket_by S B w.batches h.number i ≡ (get_or (batch_at B w.batches h.number).calls h.place no_call).ticket
           is_now = ap (last_ticket_by S B w.batches h.number) (sym h.caller) ∙ (g.core.shared.stands.now h.number h.from (omega (arith, h.upto, u)) h.place no_call h.among).1

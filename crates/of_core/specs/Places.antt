@@ -2,6 +2,7 @@
 -- are ws and the history is bs. A fact has the same field name at every place that has it.
 use Rattle.std.specs.Prelude.{ℕ, ◌+◌, ◌*◌, List, [], length, Option, Some, None, true, false, ◌≡◌, ◌≤◌, ◌<◌, ◌⊎◌}
 use Rattle.std.proofs.Common.{get_or, take}
+use Rattle.of_mem.specs.declared.work.RawReply.{RawReply}
 use Rattle.of_mem.specs.Meaning.{is_marked}
 use Rattle.of_core.specs.declared.machine.trying.TheConstants.{MOST_TRIES}
 use Rattle.of_cell.specs.Words.{pack, seq_of, payload_of}
@@ -16,21 +17,36 @@ use Rattle.of_core.specs.Rounds.{KnowsOwnRequest, AnnouncesNothingNew, IsUnannou
 use Rattle.of_core.specs.Scan.{HasScannedUpTo, HasLoadedAnnouncement, HasLoadedScript, IsInScan}
 use Rattle.of_core.specs.Transaction.{IsApplying, IsCopyingLog, HasStoredLog, HasClosedDurably, IsStoringLog}
 
--- what the last answer says
-abbrev pub LastOutcomeStands : Setup → TableStart → List ℕ → List Batch → ℕ → CallState
-    → Option Outcome → Type 0
-LastOutcomeStands S B ws bs i m None = Unit {0}
-LastOutcomeStands S B ws bs i m (Some (Answered s false raw steps)) =
-    (B.seq ≤ s) × (s ≤ durable_seq S ws) × (s ≤ committed_seq ws)
-    × (S.meaning.reply (numbers_after B bs s) m.op ≡ raw) × (S.meaning.reads_only m.op ≡ true)
-LastOutcomeStands S B ws bs i m (Some (Answered s true raw steps)) =
-    (B.seq < s) × (s ≤ durable_seq S ws) × (s ≤ committed_seq ws)
-    × HasCall S (batch_at B bs s).calls i m.made m.op raw
-LastOutcomeStands S B ws bs i m (Some (Spent s)) =
-    (last_ticket_by S B bs (committed_seq ws) i < m.made) × (s ≡ S.limit) × (committed_seq ws ≡ s)
-    × (s ≤ durable_seq S ws)
-
 module _ (S : Setup) (B : TableStart) (ws : List ℕ) (bs : List Batch) (i : ℕ) (m : CallState) where
+  -- its call has read the state of s
+  pub record WasReadAt (s : ℕ) (raw : RawReply) : Type 0 where
+    pub from : B.seq ≤ s
+    pub durable : s ≤ durable_seq S ws
+    pub upto : s ≤ committed_seq ws
+    pub reply : S.meaning.reply (numbers_after B bs s) m.op ≡ raw
+    pub reads : S.meaning.reads_only m.op ≡ true
+
+  -- its call is in batch s
+  pub record WasRunInBatch (s : ℕ) (raw : RawReply) : Type 0 where
+    pub from : B.seq < s
+    pub durable : s ≤ durable_seq S ws
+    pub upto : s ≤ committed_seq ws
+    pub call : HasCall S (batch_at B bs s).calls i m.made m.op raw
+
+  -- its call was not run, and s is the last sequence
+  pub record WasSpentAt (s : ℕ) : Type 0 where
+    pub left : last_ticket_by S B bs (committed_seq ws) i < m.made
+    pub limit : s ≡ S.limit
+    pub last : committed_seq ws ≡ s
+    pub durable : s ≤ durable_seq S ws
+
+  -- what its last answer says
+  abbrev pub LastOutcomeStands : Option Outcome → Type 0
+  LastOutcomeStands None = Unit {0}
+  LastOutcomeStands (Some (Answered s false raw steps)) = WasReadAt s raw
+  LastOutcomeStands (Some (Answered s true raw steps)) = WasRunInBatch s raw
+  LastOutcomeStands (Some (Spent s)) = WasSpentAt s
+
   -- Idle: nothing of it is under way, and its last answer is in the history
   pub record IsAtRest : Type 0 where
     pub caller : m.caller ≡ i
@@ -39,7 +55,7 @@ module _ (S : Setup) (B : TableStart) (ws : List ℕ) (bs : List Batch) (i : ℕ
     pub quieted : AnnouncesNothingNew S B ws bs i
     pub upto : last_ticket_by S B bs (committed_seq ws) i ≤ m.made
     pub older : seq_of (announcement_of S ws i) ≤ m.made
-    pub told : LastOutcomeStands S B ws bs i m m.answer
+    pub told : LastOutcomeStands m.answer
 
   -- TryCurrent: the call only reads, and one more try of it is allowed
   pub record IsTryingCurrent : Type 0 where

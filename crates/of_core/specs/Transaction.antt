@@ -1,5 +1,5 @@
 -- What the invariant says of one's own log and request, and of a transaction that is copied or
--- applied.
+-- applied. The words are ws, the history is bs, from the start B, and m is the machine of caller i.
 use Rattle.std.specs.Prelude.{ℕ, ◌+◌, ◌*◌, List, length, Bool, true, false, ◌≡◌, ◌≤◌, ◌<◌, ◌⊎◌}
 use Rattle.std.proofs.Common.{get_or, take}
 use Rattle.of_cell.specs.Words.{pack, seq_of}
@@ -10,26 +10,6 @@ use Rattle.of_core.specs.History.{batch_at, last_ticket_by, HasCall}
 use Rattle.of_core.specs.Rounds.{WasCurrent, MayHelp, IsPastOwnTicket, HasNothingUnderWay}
 use Rattle.of_core.specs.Scan.{HasScannedUpTo}
 
--- the owner of batch m.seq, after its exchange
-pub record OwnsTransaction (S : Setup) (B : TableStart) (ws : List ℕ) (bs : List Batch) (i : ℕ)
-    (m : CallState) : Type 0 where
-  pub caller : m.caller ≡ i
-  pub owner : m.owner ≡ i
-  pub says : seq_of (announcement_of S ws i) ≡ m.made
-  pub upto : last_ticket_by S B bs (committed_seq ws) i ≤ m.made
-  pub reached : m.made ≤ last_ticket_by S B bs (committed_seq ws) i
-  pub call : HasCall S (batch_at B bs m.seq).calls i m.made m.op m.raw
-  pub asks : (request_of ws i ≡ pack m.seq 0) ⊎ (request_of ws i ≡ pack m.seq 1)
-  pub unowned : (k : ℕ) → m.seq < k → k ≤ committed_seq ws → (batch_at B bs k).owner ≡ i → ⊥
-  pub logs : (y : ℕ) → y < 2 * S.cells + 1 → seq_of (log_word_of S ws i y) ≤ m.seq
-
--- who applies: a helper in its round, or the owner
-abbrev pub AppliesAs : Setup → TableStart → List ℕ → List Batch → ℕ → CallState → Bool → Type 0
-AppliesAs S B ws bs i m true =
-    MayHelp S B ws bs i m × WasCurrent S B ws bs m.seq m.owner
-    × HasNothingUnderWay S B ws bs i m.seq
-AppliesAs S B ws bs i m false = OwnsTransaction S B ws bs i m
-
 -- the second list has the entries of the first, in some order
 pub record IsReorderingOf (es ds : List (ℕ × ℕ)) : Type 0 where
   pub many : length ds ≡ length es
@@ -38,55 +18,73 @@ pub record IsReorderingOf (es ds : List (ℕ × ℕ)) : Type 0 where
   pub all : (k : ℕ) → k < length es
       → (j : ℕ) × (j < length ds) × (get_or ds j (0, 0) ≡ get_or es k (0, 0))
 
--- m.log has the entries of batch m.seq's log, and its first entries up to j are in the cells and
--- durable
-pub record IsApplying (S : Setup) (B : TableStart) (ws : List ℕ) (bs : List Batch) (i : ℕ)
-    (m : CallState) (j : ℕ) : Type 0 where
-  pub mode : AppliesAs S B ws bs i m m.helps
-  pub after : B.seq < m.seq
-  pub upto : m.seq ≤ committed_seq ws
-  pub committed : (batch_at B bs m.seq).owner ≡ m.owner
-  pub log : IsReorderingOf (batch_at B bs m.seq).log m.log
-  pub done : (k : ℕ) → k < j
-      → (m.seq ≤ seq_of (data_word S ws (log_entry m k).0))
-      × (m.seq ≤ seq_of (durable_cell S ws (log_entry m k).0))
+module _ (S : Setup) (B : TableStart) (ws : List ℕ) (bs : List Batch) (i : ℕ) where
+  -- the owner of batch m.seq, after its exchange
+  pub record OwnsTransaction (m : CallState) : Type 0 where
+    pub caller : m.caller ≡ i
+    pub owner : m.owner ≡ i
+    pub says : seq_of (announcement_of S ws i) ≡ m.made
+    pub upto : last_ticket_by S B bs (committed_seq ws) i ≤ m.made
+    pub reached : m.made ≤ last_ticket_by S B bs (committed_seq ws) i
+    pub call : HasCall S (batch_at B bs m.seq).calls i m.made m.op m.raw
+    pub asks : (request_of ws i ≡ pack m.seq 0) ⊎ (request_of ws i ≡ pack m.seq 1)
+    pub unowned : (k : ℕ) → m.seq < k → k ≤ committed_seq ws → (batch_at B bs k).owner ≡ i → ⊥
+    pub logs : (y : ℕ) → y < 2 * S.cells + 1 → seq_of (log_word_of S ws i y) ≤ m.seq
 
--- a helper has loaded x log words of m.owner. While the request is still open, they are those of
--- the batch's log
-pub record IsCopyingLog (S : Setup) (B : TableStart) (ws : List ℕ) (bs : List Batch) (i : ℕ)
-    (m : CallState) (x : ℕ) : Type 0 where
-  pub helper : MayHelp S B ws bs i m
-  pub current_word : WasCurrent S B ws bs m.seq m.owner
-  pub calm : HasNothingUnderWay S B ws bs i m.seq
-  pub helps : m.helps ≡ true
-  pub after : B.seq < m.seq
-  pub many : length m.copy ≡ x
-  pub count : 1 ≤ x → get_or m.copy 0 0 ≤ S.cells
-  pub copied : request_of ws m.owner ≡ pack m.seq 0
-      → (x ≤ length (log_words (batch_at B bs m.seq).log))
-      × (m.copy ≡ take x (log_words (batch_at B bs m.seq).log))
+  -- a helper: in a round or a try, with nothing of its own under way
+  pub record IsHelping (m : CallState) : Type 0 where
+    pub helper : MayHelp S B ws bs i m
+    pub current_word : WasCurrent S B ws bs m.seq m.owner
+    pub calm : HasNothingUnderWay S B ws bs i m.seq
 
--- the first x log words are stored, and the first z are durable
-pub record HasStoredLog (S : Setup) (B : TableStart) (ws : List ℕ) (bs : List Batch) (i : ℕ)
-    (m : CallState) (x z : ℕ) : Type 0 where
-  pub past : IsPastOwnTicket S B ws bs i m
-  pub over : HasScannedUpTo S B ws bs i m.seq m.made m.op m.raw m.calls m.log S.callers
-  pub each : (y : ℕ) → y < x
-      → log_word_of S ws i y ≡ pack (m.seq + 1) (get_or (log_words m.log) y 0)
-  pub durable : (y : ℕ) → y < z
-      → durable_log S ws i y ≡ pack (m.seq + 1) (get_or (log_words m.log) y 0)
-  pub rest : (y : ℕ) → x ≤ y → y < 2 * S.cells + 1 → seq_of (log_word_of S ws i y) ≤ m.seq
+  -- who applies: a helper, or the owner
+  abbrev pub AppliesAs : CallState → Bool → Type 0
+  AppliesAs m true = IsHelping m
+  AppliesAs m false = OwnsTransaction m
 
--- each of caller i's batches is closed durably
-abbrev pub HasClosedDurably : Setup → TableStart → List ℕ → List Batch → ℕ → Type 0
-HasClosedDurably S B ws bs i = (k : ℕ) → B.seq < k → k ≤ committed_seq ws
-    → (batch_at B bs k).owner ≡ i → pack k 0 < durable_request S ws i
+  -- m.log has the entries of batch m.seq's log, and its first entries up to j are in the cells and
+  -- durable
+  pub record IsApplying (m : CallState) (j : ℕ) : Type 0 where
+    pub mode : AppliesAs m m.helps
+    pub after : B.seq < m.seq
+    pub upto : m.seq ≤ committed_seq ws
+    pub committed : (batch_at B bs m.seq).owner ≡ m.owner
+    pub log : IsReorderingOf (batch_at B bs m.seq).log m.log
+    pub done : (k : ℕ) → k < j
+        → (m.seq ≤ seq_of (data_word S ws (log_entry m k).0))
+        × (m.seq ≤ seq_of (durable_cell S ws (log_entry m k).0))
 
--- a machine that stores its log still has its old request
-pub record IsStoringLog (S : Setup) (B : TableStart) (ws : List ℕ) (bs : List Batch) (i : ℕ)
-    (m : CallState) (x z : ℕ) : Type 0 where
-  pub stored : HasStoredLog S B ws bs i m x z
-  pub own : seq_of (request_of ws i) ≤ m.seq
-  pub level : durable_request S ws i ≡ request_of ws i
-  pub shut : (k : ℕ) → B.seq < k → k ≤ committed_seq ws → (batch_at B bs k).owner ≡ i
-      → pack k 0 < request_of ws i
+  -- a helper has loaded x log words of m.owner. While the request is still open, they are those of
+  -- the batch's log
+  pub record IsCopyingLog (m : CallState) (x : ℕ) : Type 0 where
+    pub helping : IsHelping m
+    pub helps : m.helps ≡ true
+    pub after : B.seq < m.seq
+    pub many : length m.copy ≡ x
+    pub count : 1 ≤ x → get_or m.copy 0 0 ≤ S.cells
+    pub copied : request_of ws m.owner ≡ pack m.seq 0
+        → (x ≤ length (log_words (batch_at B bs m.seq).log))
+        × (m.copy ≡ take x (log_words (batch_at B bs m.seq).log))
+
+  -- the first x log words are stored, and the first z are durable
+  pub record HasStoredLog (m : CallState) (x z : ℕ) : Type 0 where
+    pub past : IsPastOwnTicket S B ws bs i m
+    pub over : HasScannedUpTo S B ws bs i m.seq m.made m.op m.raw m.calls m.log S.callers
+    pub each : (y : ℕ) → y < x
+        → log_word_of S ws i y ≡ pack (m.seq + 1) (get_or (log_words m.log) y 0)
+    pub durable : (y : ℕ) → y < z
+        → durable_log S ws i y ≡ pack (m.seq + 1) (get_or (log_words m.log) y 0)
+    pub rest : (y : ℕ) → x ≤ y → y < 2 * S.cells + 1 → seq_of (log_word_of S ws i y) ≤ m.seq
+
+  -- each of caller i's batches is closed durably
+  abbrev pub HasClosedDurably : Type 0
+  HasClosedDurably = (k : ℕ) → B.seq < k → k ≤ committed_seq ws
+      → (batch_at B bs k).owner ≡ i → pack k 0 < durable_request S ws i
+
+  -- a machine that stores its log still has its old request
+  pub record IsStoringLog (m : CallState) (x z : ℕ) : Type 0 where
+    pub stored : HasStoredLog m x z
+    pub own : seq_of (request_of ws i) ≤ m.seq
+    pub level : durable_request S ws i ≡ request_of ws i
+    pub shut : (k : ℕ) → B.seq < k → k ≤ committed_seq ws → (batch_at B bs k).owner ≡ i
+        → pack k 0 < request_of ws i
