@@ -1,4 +1,1 @@
-pub mod Register
-pub mod Sound
-pub mod Rows
 pub mod ThreeCallers

@@ -1,11 +1,10 @@
-//! Cells that stand for a store, and cells at fault. With one caller and scripts of 16 instructions
+//! Cells at fault. With one caller and scripts of 16 instructions
 //! the registers begin at cell 18; fresh is cell 34, the free list's front 35, the keys' count 36,
 //! the buckets' fronts begin at 37, the queues' heads, tails and lengths at 69, and the blocks at
 //! 81.
 
-use of_eval::{LawErr, Scripts, lawful};
-use of_mem::{MOST_INSTRS, Plot, RawReply, Work, Workspace};
-use of_script::REGISTERS;
+use of_eval::{LawErr, lawful};
+use of_mem::Plot;
 use std::test::Fail;
 
 /// The data cells of one caller and two blocks.
@@ -26,20 +25,6 @@ fn laid(numbers: &[(usize, u32)]) -> [u32; CELLS] {
         }
     }
     cells
-}
-
-#[test]
-fn zeros_are_the_empty_store(rt: HostRuntime) -> Result<(), Fail> {
-    let plot = Plot {
-        callers: 1,
-        instrs: 16,
-        blocks: 0,
-    };
-    let store = lawful(rt.alloc(), &plot, &[0; 81])?;
-    assert_eq!(rt; *store.registers(), [0; REGISTERS]);
-    assert_eq!(rt; store.keys(), 0);
-    assert_eq!(rt; store.room(), 0);
-    Ok(())
 }
 
 #[test]
@@ -86,37 +71,5 @@ fn the_first_cell_at_fault_is_named(rt: HostRuntime) -> Result<(), Fail> {
             Err(e) => assert_eq!(rt; e, LawErr::Unlawful { cell }),
         }
     }
-    Ok(())
-}
-
-#[test]
-fn a_run_leaves_a_store(rt: HostRuntime) -> Result<(), Fail> {
-    let scripts = Scripts {
-        callers: 1,
-        blocks: 2,
-    };
-    let mut space = Workspace::new(rt.alloc(), CELLS as u32)?;
-    for cell in 0..CELLS as u32 {
-        space.learn(cell, 0);
-    }
-    let mut out = RawReply {
-        shape: 0,
-        values: [0; MOST_INSTRS],
-    };
-    // put 5 7; push 1 9
-    let words = [4_611_686_029_164_806_151, 242_665_652_233];
-    assert_eq!(rt; scripts.run(&mut space, &words, &mut out), Ok(()));
-    let mut cells = [0; CELLS];
-    for i in 0..space.pending_len() {
-        let (cell, number) = space.pending(i);
-        if (cell as usize) < CELLS {
-            cells[cell as usize] = number;
-        }
-    }
-    let store = lawful(rt.alloc(), &PLOT, &cells)?;
-    assert_eq!(rt; store.key(5), Some(7));
-    assert_eq!(rt; store.keys(), 1);
-    assert_eq!(rt; store.queue(1).get(0).copied(), Some(9));
-    assert_eq!(rt; store.queue(1).len(), 1);
     Ok(())
 }

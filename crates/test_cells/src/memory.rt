@@ -1,7 +1,6 @@
 //! Partial memory, what a work keeps over it, and the places of the data cells.
 
-use of_eval::Scripts;
-use of_mem::{Need, Part, Plot, SuspendedRun, Workspace};
+use of_mem::{Need, Part, Plot, SuspendedRun};
 use std::test::Fail;
 
 #[test]
@@ -14,23 +13,6 @@ fn a_read_gives_the_newest_number(rt: HostRuntime) -> Result<(), Fail> {
     assert_eq!(rt; part.read(2), Ok(1));
     part.undo();
     assert_eq!(rt; part.read(2), Ok(9));
-    Ok(())
-}
-
-#[test]
-fn writes_are_kept_in_order(rt: HostRuntime) -> Result<(), Fail> {
-    let mut part = Part::new(rt.alloc(), 100)?;
-    part.write(7, 1);
-    part.write(5, 2);
-    part.write(7, 3);
-    assert_eq!(rt; part.pending_len(), 2);
-    assert_eq!(rt; part.pending(0), (7, 3));
-    assert_eq!(rt; part.pending(1), (5, 2));
-    part.keep();
-    assert_eq!(rt; part.pending_len(), 0);
-    assert_eq!(rt; part.read(7), Ok(3));
-    part.clear();
-    assert_eq!(rt; part.read(7), Err(Need { addr: 7 }));
     Ok(())
 }
 
@@ -49,45 +31,6 @@ fn undo_shows_what_lay_under(rt: HostRuntime) -> Result<(), Fail> {
     part.write(9, 6);
     part.undo();
     assert_eq!(rt; part.read(9), Err(Need { addr: 9 }));
-    Ok(())
-}
-
-#[test]
-fn clear_forgets_each_number_and_learns_anew(rt: HostRuntime) -> Result<(), Fail> {
-    let mut part = Part::new(rt.alloc(), 3)?;
-    part.learn(2, 0);
-    part.learn(1, 5);
-    assert_eq!(rt;
-        (part.read(0), part.read(1), part.read(2)),
-        (Err(Need { addr: 0 }), Ok(5), Ok(0))
-    );
-    part.clear();
-    assert_eq!(rt;
-        (part.read(1), part.read(2)),
-        (Err(Need { addr: 1 }), Err(Need { addr: 2 }))
-    );
-    part.learn(2, 7);
-    assert_eq!(rt; part.read(2), Ok(7));
-    assert_eq!(rt; part.read(1), Err(Need { addr: 1 }));
-    Ok(())
-}
-
-#[test]
-fn a_workspace_is_a_memory(rt: HostRuntime) -> Result<(), Fail> {
-    let mut space: Workspace<Scripts> = Workspace::new(rt.alloc(), 100)?;
-    assert_eq!(rt; space.read(2), Err(Need { addr: 2 }));
-    space.learn(2, 9);
-    space.write(2, 1);
-    assert_eq!(rt; space.read(2), Ok(1));
-    space.undo();
-    assert_eq!(rt; space.read(2), Ok(9));
-    space.write(7, 3);
-    assert_eq!(rt; space.pending_len(), 1);
-    assert_eq!(rt; space.pending(0), (7, 3));
-    space.keep();
-    assert_eq!(rt; space.read(7), Ok(3));
-    space.clear();
-    assert_eq!(rt; space.read(7), Err(Need { addr: 7 }));
     Ok(())
 }
 
@@ -118,18 +61,22 @@ fn the_cells_lie_as_laid_out(rt: HostRuntime) {
         instrs: 16,
         blocks: 4,
     };
-    assert_eq!(rt; plot.cells(), 111);
-    assert_eq!(rt;
-        (plot.ticket(1), plot.shape(1), plot.reply(1, 15)),
-        (18, 19, 35)
-    );
-    assert_eq!(rt;
-        (plot.register(3), plot.fresh(), plot.free(), plot.keys()),
-        (39, 52, 53, 54)
-    );
-    assert_eq!(rt;
-        (plot.bucket(31), plot.head(3), plot.tail(3), plot.length(3)),
-        (86, 96, 97, 98)
-    );
-    assert_eq!(rt; (plot.block(0, 0), plot.block(3, 2)), (99, 110));
+    let of_callers = [
+        plot.cells(),
+        plot.ticket(1),
+        plot.shape(1),
+        plot.reply(1, 15),
+    ];
+    assert_eq!(rt; of_callers, [111, 18, 19, 35]);
+    let of_keys = [
+        plot.register(3),
+        plot.fresh(),
+        plot.free(),
+        plot.keys(),
+        plot.bucket(31),
+    ];
+    assert_eq!(rt; of_keys, [39, 52, 53, 54, 86]);
+    let of_queues = [plot.head(3), plot.tail(3), plot.length(3)];
+    assert_eq!(rt; of_queues, [96, 97, 98]);
+    assert_eq!(rt; [plot.block(0, 0), plot.block(3, 2)], [99, 110]);
 }

@@ -1,4 +1,4 @@
-//! Recovery and renumbering of a worked row, and of what either leaves that stops midway.
+//! Recovery and renumbering of a worked row.
 
 use of_cell::{Shape, pack};
 use of_recover::laws::{recovered_cells, recovered_twice};
@@ -18,21 +18,6 @@ fn row(request: u64, count: u64, first: u64) -> [u64; 9] {
         first,
         pack(2, 1),
         pack(2, 9),
-    ]
-}
-
-// The same cells; the transaction sets data cell 1 and then data cell 0.
-fn midway(request: u64, data_0: u64, data_1: u64) -> [u64; 9] {
-    [
-        pack(2, 0),
-        request,
-        data_0,
-        data_1,
-        pack(2, 2),
-        pack(2, 1),
-        pack(2, 7),
-        pack(2, 0),
-        pack(2, 8),
     ]
 }
 
@@ -74,27 +59,6 @@ fn recovers(rt: HostRuntime) {
     }
 }
 
-// What a recovery leaves that stops after each of its writes, and the next one.
-#[test]
-fn recovers_midway(rt: HostRuntime) {
-    let shape = Shape::new(1, 8, 2).expect(&rt, "in range");
-    assert_eq!(rt; shape.callers, 1);
-    assert_eq!(rt; shape.cells, 2);
-    let ended = midway(pack(2, 1), pack(2, 8), pack(2, 7));
-    // data cell 1, then data cell 0, as the log has them; and then the request
-    let rows = [
-        midway(pack(2, 0), pack(1, 5), pack(1, 6)),
-        midway(pack(2, 0), pack(1, 5), pack(2, 7)),
-        midway(pack(2, 0), pack(2, 8), pack(2, 7)),
-        ended,
-    ];
-    for words in rows {
-        let mut durable = words;
-        recover(&shape, &mut durable);
-        assert_eq!(rt; durable, ended);
-    }
-}
-
 // Recovery changes nothing in the row, and renumbering asks for a recovered one. One caller and
 // two data cells: the current transaction, its closed request, the two data cells, and a log of
 // a count and two entries.
@@ -119,39 +83,4 @@ fn renumbers(rt: HostRuntime) {
     recover(&shape, &mut durable);
     renumber(&shape, &mut durable);
     assert_eq!(rt; durable, [0, 0, 5, 7, 0, 0, 0, 0, 0]);
-}
-
-// What a renumbering leaves that stops after each of its writes, and the next one. The cells are
-// the same.
-#[test]
-fn renumbers_midway(rt: HostRuntime) {
-    let shape = Shape::new(1, 8, 2).expect(&rt, "in range");
-    assert_eq!(rt; shape.callers, 1);
-    assert_eq!(rt; shape.cells, 2);
-    let anew = [0, 0, 5, 7, 0, 0, 0, 0, 0];
-    let mut left = [
-        pack(2, 0),
-        pack(2, 1),
-        pack(1, 5),
-        pack(2, 7),
-        pack(2, 1),
-        pack(2, 1),
-        pack(2, 7),
-        pack(1, 1),
-        pack(1, 6),
-    ];
-    for made in 0..10 {
-        let mut durable = left;
-        recovered_cells(&shape, &durable);
-        recovered_twice(&shape, &durable);
-        // recovery changes nothing in what is left
-        recover(&shape, &mut durable);
-        assert_eq!(rt; durable, left);
-        renumber(&shape, &mut durable);
-        assert_eq!(rt; durable, anew);
-        // the next write is that of the last cell that has its old word
-        if made < 9 {
-            left[8 - made] = anew[8 - made];
-        }
-    }
 }

@@ -1,11 +1,10 @@
 //! Replies and the cells that hold them, and runs of scripts.
 
-ghost use Rattle.std.specs.Prelude.{◌≤◌};
 ghost use Rattle.of_eval.specs.Words.{IsOperation};
 
 use of_eval::{Scripts, reply_cells, reply_of};
-use of_mem::{Need, Part, RawReply, SuspendedRun, Work, Workspace};
-use of_script::{Abort, Cause, MOST_INSTRS, Reply, parse, to_words};
+use of_mem::{Part, RawReply, SuspendedRun, Work};
+use of_script::{Abort, Cause, MOST_INSTRS, Reply};
 use std::alloc::Global;
 use std::test::Fail;
 
@@ -67,51 +66,6 @@ fn other_cells_hold_no_reply(rt: HostRuntime) {
     }
 }
 
-#[test]
-fn a_run_asks_for_what_it_reads(rt: HostRuntime) -> Result<(), Fail> {
-    let scripts = Scripts {
-        callers: 1,
-        blocks: 1,
-    };
-    let mut space = Workspace::new(rt.alloc(), scripts.cells())?;
-    let mut out = RawReply {
-        shape: 0,
-        values: [0; MOST_INSTRS],
-    };
-    // put 5 7
-    let put = [4_611_686_029_164_806_151];
-    assert_eq!(rt;
-        scripts.run(&mut space, &put, &mut out),
-        Err(Need { addr: 42 })
-    );
-    assert_eq!(rt; space.pending_len(), 0);
-    Ok(())
-}
-
-/// The reply to an operation and its writes over cells of zeros, of which the first so many are
-/// known. Each other one is made known when the run asks for it.
-fn over_zeros(alloc: Global, op: &[u64], known: u32) -> Result<(RawReply, Vec<(u32, u32)>), Fail>
-    requires words { IsOperation op.now }
-    requires few { known ≤ 87 }
-{
-    let mut space = Workspace::new(alloc, CELLS)?;
-    for cell in 0..known {
-        space.learn(cell, 0);
-    }
-    let mut out = NO_REPLY;
-    for _asked in 0..=CELLS {
-        match SCRIPTS.run(&mut space, op, &mut out) {
-            Ok(()) => break,
-            Err(need) => space.learn(need.addr, 0),
-        }
-    }
-    let mut writes = Vec::new(alloc);
-    for i in 0..space.pending_len() {
-        writes.push(space.pending(i))?;
-    }
-    Ok((out, writes))
-}
-
 /// The cells that a run over zeros asks for, each with how many words have run by then.
 fn asked(alloc: Global, op: &[u64]) -> Result<Vec<(u32, usize)>, Fail>
     requires { IsOperation op.now }
@@ -130,30 +84,6 @@ fn asked(alloc: Global, op: &[u64]) -> Result<Vec<(u32, usize)>, Fail>
         }
     }
     Ok(seen)
-}
-
-#[test]
-fn a_run_that_asks_ends_as_one_that_knows(rt: HostRuntime) -> Result<(), Fail> {
-    for text in [
-        "store 3 7; load 3; add 3 1; sub 3 8",
-        "store 0 2147483647; put 1 1; add 0 1",
-        "push 0 4; sub 5 1",
-        "put 5 7; put 37 8; get 5; get 37; get 69; count",
-        "put 5 7; need 5 7; del 5; need 37 8",
-        "put 5 7; put 37 8; del 37; put 6 1; first; next 5; drop-below 6; count",
-        "push 0 1; push 3 2; len 3; pop 3; pop 3; push 3 3; push 3 4; count",
-        "load 1; get 1; len 0; count; first; next 0; drop-below 9; put 33 1; put 1 2; get 33",
-    ] {
-        let script = parse(text.as_bytes())?;
-        let mut words = [0; MOST_INSTRS];
-        to_words(&script, &mut words);
-        let op = &words[..script.len() as usize];
-        let want = over_zeros(rt.alloc(), op, CELLS)?;
-        let got = over_zeros(rt.alloc(), op, 0)?;
-        assert_eq!(rt; got.0, want.0, "{text}");
-        assert_eq!(rt; got.1.as_slice(), want.1.as_slice(), "{text}");
-    }
-    Ok(())
 }
 
 #[test]

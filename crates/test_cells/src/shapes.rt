@@ -1,4 +1,4 @@
-//! The words of cells, and the numbers and places of a table's cells.
+//! The words of cells, and the places of a table's cells.
 
 use of_cell::{Shape, pack, payload_of, seq_of};
 
@@ -14,34 +14,6 @@ fn words(rt: HostRuntime) {
         assert_eq!(rt; pack(seq, payload), word);
         assert_eq!(rt; seq_of(word), seq);
         assert_eq!(rt; payload_of(word), payload);
-    }
-}
-
-#[test]
-fn numbers(rt: HostRuntime) {
-    // callers, script words and data cells; cells, and words of the table
-    let rows = [(16, 16, 1887, 62_304, 124_881), (1, 16, 81, 246, 510)];
-    for (callers, instrs, cells, durable_cells, words) in rows {
-        let shape = Shape::new(callers, instrs, cells).expect(&rt, "in range");
-        assert_eq!(rt; shape.durable_cells(), durable_cells);
-        assert_eq!(rt; shape.words(), words);
-    }
-}
-
-#[test]
-fn ranges(rt: HostRuntime) {
-    let rows = [
-        (1, 1, 1, true),
-        (16, 16, 4096, true),
-        (0, 1, 1, false),
-        (17, 1, 1, false),
-        (1, 0, 1, false),
-        (1, 17, 1, false),
-        (1, 1, 0, false),
-        (1, 1, 4097, false),
-    ];
-    for (callers, instrs, cells, fits) in rows {
-        assert_eq!(rt; Shape::new(callers, instrs, cells).is_some(), fits);
     }
 }
 

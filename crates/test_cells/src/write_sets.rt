@@ -1,4 +1,4 @@
-//! Write-sets: what was written first, all room taken, and no room.
+//! Write-sets: what was written first, and all room taken.
 
 use of_wset::WriteSet;
 use std::test::Fail;
@@ -39,12 +39,5 @@ fn full(rt: HostRuntime) -> Result<(), Fail> {
         }
         assert_eq!(rt; set.get(room), None);
     }
-    Ok(())
-}
-
-#[test]
-fn no_room(rt: HostRuntime) -> Result<(), Fail> {
-    let set = WriteSet::new(rt.alloc(), 0)?;
-    assert_eq!(rt; set.get(0), None);
     Ok(())
 }

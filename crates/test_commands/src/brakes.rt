@@ -3,7 +3,7 @@
 
 ghost use Rattle.std.specs.Prelude.{◌≤◌};
 
-use crate::tests::expect;
+use crate::top::{BRAKES, told};
 use of_brake::{Brake, Fuel, Pattern, hold_pair};
 use of_io::{MemSink, MemSource};
 use of_plan::Ending;
@@ -12,9 +12,6 @@ use std::alloc::{AllocError, Global};
 use std::process::Abort;
 use std::test::Fail;
 use std::thread::Threads;
-
-/// How many brakes the top call takes.
-const BRAKES: usize = 16;
 
 /// How often a holder looks for its teller's flag at most.
 const TURNS: u64 = 1_000_000_000;
@@ -80,7 +77,7 @@ fn run_under<R: Threads + Sync + AllocGlobal>(
     plan: &str,
     brakes: Vec<Box<dyn Brake + Send>>,
 ) -> Result<Option<(Vec<Ending>, Vec<u8>)>, Fail> {
-    if brakes.len() != BRAKES {
+    if brakes.len() != BRAKES as usize {
         return Ok(None);
     }
     let alloc = rt.alloc();
@@ -115,13 +112,15 @@ fn ends_so<R: Abort + Threads + Sync + AllocGlobal>(
     assert_eq!(rt; endings.as_slice(), wanted, "{case}");
     let mut both = Vec::from_slice(rt.alloc(), plan.as_bytes())?;
     both.extend_from_slice(printed.as_slice())?;
-    let legal = "legal report\n";
-    expect(rt, case, &["check"], both, (&[], &[]), status::DONE, legal)
+    let (told, text) = told(rt, &["check"], both.as_slice(), &[], &[])?;
+    assert_eq!(rt; told, status::DONE, "{case}");
+    assert_eq!(rt; text.as_slice(), b"legal report\n".as_slice(), "{case}");
+    Ok(())
 }
 
 /// Adds brakes that tell their steps left, up to as many as the top call takes.
 fn fill(alloc: Global, brakes: &mut Vec<Box<dyn Brake + Send>>) -> Result<(), AllocError> {
-    for _ in brakes.len()..BRAKES {
+    for _ in brakes.len()..BRAKES as usize {
         let brake: Box<dyn Brake + Send> = Box::new(alloc, Fuel::new())?;
         brakes.push(brake)?;
     }

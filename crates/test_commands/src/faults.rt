@@ -1,9 +1,7 @@
 //! Sources and sinks that take and give 16 bytes a call, and fail at each of their calls in turn.
 
-use crate::tests::answer;
-use of_io::{MemSink, MemSource};
+use crate::top::{PIECE, told};
 use of_tool::status;
-use std::alloc::Global;
 use std::process::Abort;
 use std::test::Fail;
 use std::thread::Threads;
@@ -32,36 +30,41 @@ script 0 store 3 7; add 3 1
 end
 ";
 
-// Each command that reads a plan and runs its callers, with what it reads.
-const READERS: [(&str, &str); 4] = [
+// A plan and a legal report of it.
+const REPORT: &str = "\
+onefile plan 1
+callers 1
+blocks 0
+script 0 store 3 7; add 3 1
+end
+onefile report 1
+entry 1 0 0 run none 8
+caller 0 done 1 1 0
+seq 1
+register 3 8
+end
+";
+
+// An image without cells, and one of version 1.
+const IMAGE: &str = "onefile image 2\ncallers 1\nblocks 0\nend\n";
+
+const EARLIER: &str = "onefile image 1\ncallers 1\nblocks 0\nend\n";
+
+// Each command that reads something, with what it reads.
+const READERS: [(&str, &str); 9] = [
     ("serial", PLAN),
     ("play", PLAN),
     ("run", PLAN),
     ("continue", LIFE),
+    ("check", REPORT),
+    ("image", PLAN),
+    ("recover", IMAGE),
+    ("renumber", IMAGE),
+    ("migrate", EARLIER),
 ];
-
-// How many bytes a read gives and a write takes at most.
-const PIECE: usize = 16;
 
 // More reads and writes than any of these calls makes.
 const MOST_CALLS: u64 = 1000;
-
-// The status of the words over this input, and what was written, where the source and the sink fail
-// at calls of these numbers.
-fn told<R: Threads + Sync + AllocGlobal>(
-    rt: &R,
-    words: &[&str],
-    text: &str,
-    reads: &[u64],
-    writes: &[u64],
-) -> Result<(u8, Vec<u8>), Fail> {
-    let alloc = rt.alloc();
-    let input = Vec::from_slice(alloc, text.as_bytes())?;
-    let mut source = MemSource::new(input, PIECE, Vec::from_slice(alloc, reads)?);
-    let mut sink = MemSink::new(alloc, 1000, PIECE, Vec::from_slice(alloc, writes)?)?;
-    let status = answer(rt, words, &mut source, &mut sink)?;
-    Ok((status, Vec::from_slice(alloc, sink.bytes())?))
-}
 
 // Each read in turn fails.
 fn each_read_fails<R: Abort + Threads + Sync + AllocGlobal>(
@@ -70,7 +73,7 @@ fn each_read_fails<R: Abort + Threads + Sync + AllocGlobal>(
     input: &str,
 ) -> Result<(), Fail> {
     for number in 0..MOST_CALLS {
-        let (status, text) = told(rt, words, input, &[number], &[])?;
+        let (status, text) = told(rt, words, input.as_bytes(), &[number], &[])?;
         if status == status::DONE {
             assert!(rt; number > input.len() as u64 / PIECE as u64, "{number}");
             return Ok(());
@@ -91,10 +94,10 @@ fn each_write_fails<R: Abort + Threads + Sync + AllocGlobal>(
     words: &[&str],
     input: &str,
 ) -> Result<(), Fail> {
-    let (done, whole) = told(rt, words, input, &[], &[])?;
+    let (done, whole) = told(rt, words, input.as_bytes(), &[], &[])?;
     assert_eq!(rt; done, status::DONE);
     for number in 0..MOST_CALLS {
-        let (status, text) = told(rt, words, input, &[], &[number])?;
+        let (status, text) = told(rt, words, input.as_bytes(), &[], &[number])?;
         if status == status::DONE {
             assert_eq!(rt; text.as_slice(), whole.as_slice(), "{number}");
             return Ok(());
@@ -119,5 +122,10 @@ fn writes_fail(rt: HostRuntime) -> Result<(), Fail> {
     for (word, input) in READERS {
         each_write_fails(&rt, &[word], input)?;
     }
-    each_write_fails(&rt, &["load", "2", "3"], "")
+    each_write_fails(&rt, &["load", "2", "3"], "")?;
+    // the line that says that a read has failed is not written either
+    let told = told(&rt, &["serial"], PLAN.as_bytes(), &[0], &[0])?;
+    assert_eq!(rt; told.0, status::WRITE_FAULT);
+    assert!(rt; told.1.is_empty());
+    Ok(())
 }

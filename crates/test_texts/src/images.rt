@@ -1,31 +1,10 @@
-//! Images that are read, recovered, printed, begun anew and moved from version 1, and texts that
-//! are refused.
+//! Texts that are refused as images, and what says why.
 
-use of_image::{ImageErr, image_parse, image_print, migrate, recovered_print, renumbered_print};
-use of_mem::{MOST_INSTRS, Plot};
+use of_image::{ImageErr, image_parse};
 use std::alloc::Global;
 use std::test::Fail;
 
-// One caller has stored 7 in register 3, and its transaction is still open.
-const OPEN: &str = "\
-onefile image 2
-callers 1
-blocks 0
-cell 0 1 0
-cell 1 1 0
-cell 83 1 4
-cell 84 1 21
-cell 85 1 7
-cell 86 1 2
-cell 87 1 0
-cell 88 1 1
-cell 89 1 65536
-cell 90 1 0
-cell 91 1 1
-end
-";
-
-// The same in version 1.
+// An image of version 1.
 const OPEN_EARLIER: &str = "\
 onefile image 1
 callers 1
@@ -41,20 +20,6 @@ cell 80 1 1
 cell 81 1 65536
 cell 82 1 0
 cell 83 1 1
-end
-";
-
-// And recovered, in version 2.
-const CLOSED: &str = "\
-onefile image 2
-callers 1
-blocks 0
-cell 0 1 0
-cell 1 1 1
-cell 2 1 1
-cell 3 1 65536
-cell 4 1 0
-cell 23 1 7
 end
 ";
 
@@ -81,44 +46,6 @@ onefile image 2
 callers 1
 blocks 0
 ";
-
-#[test]
-fn recovers_and_begins_anew(rt: HostRuntime) -> Result<(), Fail> {
-    let image = image_parse(rt.alloc(), OPEN.as_bytes())?;
-    assert_eq!(rt; image.recovered.seq, 1);
-    assert!(rt; image.recovered.replayed);
-    let found = recovered_print(rt.alloc(), &image)?;
-    let wanted = "onefile recovered 1\nseq 1\nticket 0 1\nregister 3 7\nend\n";
-    assert_eq!(rt; found.as_slice(), wanted.as_bytes());
-    let anew = renumbered_print(rt.alloc(), &image)?;
-    let image = image_parse(rt.alloc(), &anew)?;
-    let found = recovered_print(rt.alloc(), &image)?;
-    let wanted = "onefile recovered 1\nseq 0\nticket 0 1\nregister 3 7\nend\n";
-    assert_eq!(rt; found.as_slice(), wanted.as_bytes());
-    Ok(())
-}
-
-#[test]
-fn moves_a_version_1_image(rt: HostRuntime) -> Result<(), Fail> {
-    let moved = migrate(rt.alloc(), OPEN_EARLIER.as_bytes())?;
-    assert_eq!(rt; moved.as_slice(), CLOSED.as_bytes());
-    Ok(())
-}
-
-#[test]
-fn prints_the_durable_words(rt: HostRuntime) -> Result<(), Fail> {
-    let plot = Plot {
-        callers: 1,
-        instrs: MOST_INSTRS as u32,
-        blocks: 0,
-    };
-    let words = vec![in rt.alloc(); 1 << 32; 510]?;
-    let text = image_print(rt.alloc(), &plot, &words)?;
-    let image = image_parse(rt.alloc(), &text)?;
-    assert_eq!(rt; image.durable.len(), 246);
-    assert_eq!(rt; image.ticket(0), 0);
-    Ok(())
-}
 
 // The refusal of a text, where there is one.
 fn refusal(alloc: Global, text: &[u8]) -> Option<ImageErr> {

@@ -1,10 +1,9 @@
-//! Plans that are read and printed, the lines at which texts are refused, the two parts of an
-//! input, and plans of loads.
+//! Plans that are read and printed, the lines at which texts are refused, and plans of loads.
 
 ghost use Rattle.std.specs.Prelude.{◌≡◌, IfOk, MatchResult};
 ghost use Rattle.of_plan.specs.declared.parser.PlanErr.TheVariants.{Memory};
 
-use of_plan::{GREATEST_LIMIT, Item, Plan, PlanErr, generate, parse, parts, print};
+use of_plan::{Plan, PlanErr, generate, parse, print};
 use std::alloc::{AllocError, Global};
 use std::test::Fail;
 
@@ -127,49 +126,6 @@ end
         let again = printed_and_read(rt.alloc(), &plan)??;
         let out = print(rt.alloc(), &again)?;
         assert_eq!(rt; out.as_slice(), printed.as_bytes());
-    }
-    Ok(())
-}
-
-#[test]
-fn shows_what_it_holds(rt: HostRuntime) -> Result<(), Fail> {
-    let text = "\
-onefile plan 1
-callers 2
-blocks 7
-script 1 count
-script 1 load 4
-stop 0 30
-turns 1 5
-end";
-    let plan = parse(rt.alloc(), text.as_bytes())?;
-    assert_eq!(rt; plan.blocks(), 7);
-    assert_eq!(rt; plan.limit(), GREATEST_LIMIT);
-    assert_eq!(rt; plan.callers(), 2);
-    assert_eq!(rt; plan.scripts(0).len(), 0);
-    assert_eq!(rt; plan.scripts(1).len(), 2);
-    assert_eq!(rt; plan.stop(0), Some(30));
-    assert_eq!(rt; plan.stop(1), None);
-    let turns = Item::Turns {
-        caller: 1,
-        count: 5,
-    };
-    assert_eq!(rt; plan.schedule(), [turns].as_slice());
-    Ok(())
-}
-
-#[test]
-fn parts_of_inputs(rt: HostRuntime) -> Result<(), Fail> {
-    for (input, first, second) in [
-        ("a\nend\nb\nend\n", "a\nend\n", "b\nend\n"),
-        ("a\n  end \n\n", "a\n  end \n", "\n"),
-        ("end ;\nend;\nend", "end ;\nend;\nend", ""),
-        ("the end\nend 1\nend\n", "the end\nend 1\nend\n", ""),
-        ("", "", ""),
-    ] {
-        let (one, two) = parts(input.as_bytes());
-        assert_eq!(rt; one, first.as_bytes(), "{input}");
-        assert_eq!(rt; two, second.as_bytes(), "{input}");
     }
     Ok(())
 }

@@ -2,12 +2,9 @@
 
 ghost use Rattle.std.specs.Prelude.{◌≤◌};
 
-use crate::call_threads::run_two;
 use crate::calls::{Act, End, alone, call, go_on, make_act, renewed};
 use crate::doors::{relieved, relieved_beside};
 use of_brake::{Brake, Fuel, Pattern};
-use of_cell::payload_of;
-use of_eval::Scripts;
 use of_row::Taken;
 use std::alloc::{AllocError, Global};
 use std::test::Fail;
@@ -169,36 +166,6 @@ fn a_newcomer_calls_beside_another(rt: HostRuntime) -> Result<(), Fail> {
     assert!(rt;
         replies == [8, 9] || replies == [9, 8],
         "they ended as {one:?} and {other:?}"
-    );
-    Ok(())
-}
-
-/// Whether both calls were answered, and register 3 holds what the later one of them left.
-fn answered(ends: [End; 2], scripts: &Scripts, words: &[u64]) -> bool {
-    let cell = 1 + scripts.callers + scripts.plot().register(3);
-    let Some(word) = words.get(cell as usize) else {
-        return false;
-    };
-    let register = payload_of(*word);
-    ends.iter().all(|end| matches!(end, End::Answered(..))) && (register == 7 || register == 8)
-}
-
-#[test]
-fn a_caller_waits_for_the_other(rt: HostRuntime) -> Result<(), Fail> {
-    let two = Scripts {
-        callers: 2,
-        blocks: 0,
-    };
-    let calls = [STORE_3_7, ADD_3_1];
-    let (ends, words) = run_two(&rt, rt.alloc(), two, calls, false)?;
-    assert!(rt;
-        answered(ends, &two, words.as_slice()),
-        "caller 0 is held: {ends:?}"
-    );
-    let (ends, words) = run_two(&rt, rt.alloc(), two, calls, true)?;
-    assert!(rt;
-        answered(ends, &two, words.as_slice()),
-        "caller 1 is held: {ends:?}"
     );
     Ok(())
 }

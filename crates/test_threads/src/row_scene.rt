@@ -4,9 +4,8 @@
 ghost use Rattle.std.specs.Prelude.{◌≡◌, ◌≤◌, ◌<◌, IfSome, IfOk};
 ghost use Rattle.of_mem.specs.Plots.{data_cell_count};
 ghost use Rattle.test_threads.specs.Rows.{IsRowOf, IsStepperOf, MayEvict};
-ghost use Rattle.test_threads.specs.Starts.{alone, MayStartFrom};
 
-use crate::rows::{row_from, row_of, shape_for};
+use crate::rows::{row_of, shape_for};
 use crate::stepper::{Stepper, enrolled, turns};
 use of_brake::{Brake, Fuel};
 use of_cell::Shape;
@@ -95,46 +94,6 @@ pub fn row_after(
     Ok((row.close(pass).0, last))
 }
 
-/// What so many turns of caller 0 tell.
-fn turns_of_first(
-    alloc: Global,
-    row: &Row<Scripts>,
-    pass: Pass,
-    scripts: Scripts,
-    limit: u32,
-    calls: &[u64],
-    count: u32,
-) -> Result<Option<Outcome>, AllocError>
-    requires row { IsRowOf row.now scripts limit }
-    requires limit { limit ≤ 4294967294 }
-    requires pass { MayEvict row.now pass }
-{
-    let mut brake: Box<dyn Brake + Send> = Box::new(alloc, Fuel::new())?;
-    let (mut caller, pass) = enrolled(alloc, row, pass, 0, scripts, limit)?;
-    let last = turns(row, &mut caller, calls, count, &mut brake);
-    let _ = row.join(pass, caller.member);
-    Ok(last)
-}
-
-/// What so many turns of one caller tell, on a row that starts behind the first of these calls.
-pub fn told_from(
-    alloc: Global,
-    limit: u32,
-    durable: [u64; 246],
-    calls: &[u64],
-    count: u32,
-) -> Result<Option<Outcome>, AllocError>
-    requires limit { limit ≤ 4294967294 }
-    requires row { MayStartFrom alone limit durable }
-{
-    let scripts = Scripts {
-        callers: 1,
-        blocks: 0,
-    };
-    let (row, pass) = row_from(alloc, scripts, limit, durable)?;
-    turns_of_first(alloc, &row, pass, scripts, limit, calls, count)
-}
-
 /// Caller 1, where there are two.
 fn another(
     alloc: Global,
@@ -187,28 +146,6 @@ fn bank_turns(bank: &mut Bank<Scripts>, caller: u32, calls: &[u64], count: u32) 
         }
     }
     last
-}
-
-/// How the last call ended in so many turns on a bank that starts behind the first of these calls,
-/// and the words that they leave.
-pub fn bank_from(
-    alloc: Global,
-    limit: u32,
-    durable: [u64; 246],
-    calls: &[u64],
-    count: u32,
-) -> Result<(Option<Outcome>, Vec<u64>), AllocError>
-    requires limit { limit ≤ 4294967294 }
-    requires row { MayStartFrom alone limit durable }
-{
-    let scripts = Scripts {
-        callers: 1,
-        blocks: 0,
-    };
-    let shape = shape_for(&scripts.plot());
-    let mut bank = Bank::start(alloc, shape, limit, scripts, durable.as_slice())?;
-    let last = bank_turns(&mut bank, 0, calls, count);
-    Ok((last, bank.words()))
 }
 
 /// Makes an event on a bank of this shape.

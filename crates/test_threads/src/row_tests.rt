@@ -1,13 +1,7 @@
-//! Worked schedules on a row and on a bank, and two callers of a row in threads of their own.
+//! Worked schedules on a row and on a bank.
 
-ghost use Rattle.std.specs.Prelude.{◌≤◌};
-ghost use Rattle.test_threads.specs.Starts.{alone, MayStartFrom};
-
-use crate::row_scene::{Event, bank_after, bank_from, row_after, told_from};
-use crate::row_threads::run_two;
-use crate::rows::shape_for;
-use crate::starts::{behind_a_batch, with_a_store};
-use of_cell::{GREATEST_LIMIT, Shape, pack, payload_of};
+use crate::row_scene::{Event, bank_after, row_after};
+use of_cell::GREATEST_LIMIT;
 use of_core::Outcome;
 use of_eval::Scripts;
 use std::alloc::{AllocError, Global};
@@ -188,108 +182,5 @@ fn worked_schedules(rt: HostRuntime) -> Result<(), Fail> {
         let told = compared(rt.alloc(), it.callers, it.limit, it.calls, it.events)?;
         assert_eq!(rt; told, Some(it.wanted), "{}", it.name);
     }
-    Ok(())
-}
-
-/// How the last call ended in so many turns of one caller that starts behind a store of 7 in
-/// register 3, and adds 1 there. None where a row and a bank end otherwise.
-fn started(
-    alloc: Global,
-    limit: u32,
-    durable: [u64; 246],
-    count: u32,
-) -> Result<Option<Left>, AllocError>
-    requires limit { limit ≤ 4294967294 }
-    requires row { MayStartFrom alone limit durable }
-{
-    let calls = [STORE_3_7, ADD_3_1];
-    let of_row = left_by(told_from(alloc, limit, durable, calls.as_slice(), count)?);
-    let (last, _words) = bank_from(alloc, limit, durable, calls.as_slice(), count)?;
-    Ok(if left_by(last) == of_row {
-        Some(of_row)
-    } else {
-        None
-    })
-}
-
-/// The data cells that such a call leaves in a batch with this sequence: the caller's ticket and
-/// reply, and the register.
-fn added(seq: u32) -> [u64; 81] {
-    let mut cells = [0; 81];
-    cells[0] = pack(seq, 2);
-    cells[1] = pack(seq, NUMBER);
-    cells[2] = pack(seq, 8);
-    cells[21] = pack(seq, 8);
-    cells
-}
-
-/// Whether the words behind the first two, which stand for the table, begin with these.
-fn holds(words: &[u64], cells: &[u64; 81]) -> bool {
-    words.len() >= 83 && words[2..83] == cells[..]
-}
-
-#[test]
-fn a_table_that_starts_behind_a_batch(rt: HostRuntime) -> Result<(), Fail> {
-    let durable = behind_a_batch(5);
-    assert_eq!(rt; started(rt.alloc(), 5, durable, 48)?, Some(Left::Open));
-    let wanted = Left::Answered(2, NUMBER, 8, 49);
-    assert_eq!(rt; started(rt.alloc(), 5, durable, 49)?, Some(wanted));
-    let calls = [STORE_3_7, ADD_3_1];
-    let (_, words) = bank_from(rt.alloc(), 5, durable, calls.as_slice(), 49)?;
-    assert!(rt; holds(words.as_slice(), &added(2)));
-    Ok(())
-}
-
-#[test]
-fn a_table_that_starts_with_a_store(rt: HostRuntime) -> Result<(), Fail> {
-    let durable = with_a_store(5);
-    assert_eq!(rt; started(rt.alloc(), 5, durable, 48)?, Some(Left::Open));
-    let wanted = Left::Answered(1, NUMBER, 8, 49);
-    assert_eq!(rt; started(rt.alloc(), 5, durable, 49)?, Some(wanted));
-    let calls = [STORE_3_7, ADD_3_1];
-    let (_, words) = bank_from(rt.alloc(), 5, durable, calls.as_slice(), 49)?;
-    assert!(rt; holds(words.as_slice(), &added(1)));
-    Ok(())
-}
-
-#[test]
-fn a_table_that_starts_at_its_limit(rt: HostRuntime) -> Result<(), Fail> {
-    let durable = behind_a_batch(1);
-    // the script, the announcement, the current word, its request, and one's own ticket
-    assert_eq!(rt; started(rt.alloc(), 1, durable, 4)?, Some(Left::Open));
-    assert_eq!(rt; started(rt.alloc(), 1, durable, 5)?, Some(Left::Spent(1)));
-    Ok(())
-}
-
-/// The number that a data cell holds. None where there is no such cell.
-fn number(shape: &Shape, words: &[u64], cell: u32) -> Option<u32> {
-    if cell >= shape.cells {
-        return None;
-    }
-    let word = words.get(shape.data_cell(cell) as usize).copied()?;
-    Some(payload_of(word))
-}
-
-#[test]
-fn two_callers_in_threads(rt: HostRuntime) -> Result<(), Fail> {
-    let calls = [
-        [STORE_3_7, ADD_3_1].as_slice(),
-        [ADD_4_1, ADD_4_1].as_slice(),
-    ];
-    let scripts = Scripts {
-        callers: 2,
-        blocks: 0,
-    };
-    let plot = scripts.plot();
-    let shape = shape_for(&plot);
-    let (words, _pass) = run_two(&rt, rt.alloc(), scripts, 100, calls)?;
-    // all calls are in the history, and the registers hold what they left
-    let words = words.as_slice();
-    assert_eq!(rt; number(&shape, words, plot.ticket(0)), Some(2));
-    assert_eq!(rt; number(&shape, words, plot.ticket(1)), Some(2));
-    assert_eq!(rt; number(&shape, words, plot.register(3)), Some(8));
-    assert_eq!(rt; number(&shape, words, plot.register(4)), Some(2));
-    // both numbers are taken
-    assert_eq!(rt; words.get(shape.members_word() as usize).copied(), Some(3));
     Ok(())
 }

@@ -1,10 +1,9 @@
-//! Rows of scripts: of zeros, and from durable words.
+//! Rows of scripts that begin at zeros.
 
 ghost use Rattle.std.specs.Prelude.{◌≡◌, ◌≤◌, IfOk};
 ghost use Rattle.of_mem.specs.Plots.{data_cell_count};
 ghost use Rattle.of_row.specs.Passes.{IsFirst};
-ghost use Rattle.test_threads.specs.Rows.{IsRowOf, IsAtZeros};
-ghost use Rattle.test_threads.specs.Starts.{MayStartFrom};
+ghost use Rattle.test_threads.specs.Rows.{IsRowOf};
 
 use of_cell::Shape;
 use of_eval::Scripts;
@@ -33,26 +32,8 @@ pub fn row_of(
 ) -> Result<(Row<Scripts>, Pass), AllocError>
     requires limit { limit ≤ 4294967294 }
     ensures row { IfOk result (λ r. IsRowOf r.0 scripts limit) }
-    ensures start { IfOk result (λ r. IsAtZeros r.0) }
     ensures pass { IfOk result (λ r. IsFirst r.0 r.1) }
 {
     let (row, pass) = Row::new(alloc, shape_for(&scripts.plot()), limit, scripts)?;
-    Ok((row, pass))
-}
-
-/// A row of scripts that starts from a durable row, with its first pass.
-pub fn row_from(
-    alloc: Global,
-    scripts: Scripts,
-    limit: u32,
-    durable: [u64; 246],
-) -> Result<(Row<Scripts>, Pass), AllocError>
-    requires limit { limit ≤ 4294967294 }
-    requires row { MayStartFrom scripts limit durable }
-    ensures row { IfOk result (λ r. IsRowOf r.0 scripts limit) }
-    ensures pass { IfOk result (λ r. IsFirst r.0 r.1) }
-{
-    let shape = shape_for(&scripts.plot());
-    let (row, pass) = Row::start(alloc, shape, limit, scripts, durable.as_slice())?;
     Ok((row, pass))
 }

@@ -1,7 +1,0 @@
-use Rattle.std.proofs.Common.{ℕ, List, subst, sym}
-use Rattle.test_threads.specs.Starts.{alone, MayStartFrom}
-use Rattle.test_threads.proofs.Starting.{starts_at_zero}
-use Rattle.test_threads.proofs.starts.with_a_store.Goals as goal
-
-pub returns : goal.returns
-returns c = subst (λ (row : List ℕ). MayStartFrom alone c.args.limit row) (sym c.stored.ensures) (starts_at_zero c.args.limit)
