@@ -1,7 +1,7 @@
 -- The words of a table at its start, place by place.
 use Rattle.std.proofs.Common.{◌≡◌, ℕ, zero, suc, ◌+◌, ◌*◌, ◌-◌, ◌<◌, ◌≤◌, ◌⊎◌, inl, inr, List, [], ◌∷◌, ◌++◌, length, get_or, set, replicate, refl, sym, ◌∙◌, ap, arith, length-append, length-set, length-drop, length-take-le, drop, take, map}
-use Rattle.std.proofs.lemmas.Bool.{cases_lt, cases_eq}
-use Rattle.std.proofs.lemmas.List.{length-replicate, get_or-replicate, get_or_past, get_or_append_left, get_or-append_right, get_or-set_same, get_or-set_other, set-get_or, replicate-append-replicate, length-map, ext_get_or, get_or-take, get_or-drop, append_assoc, take_all}
+use Rattle.std.proofs.lemmas.Bool.{cases_eq}
+use Rattle.std.proofs.lemmas.List.{length-replicate, get_or_append_left, get_or-append_right, get_or-set_same, get_or-set_other, set-get_or, replicate-append-replicate, length-map, ext_get_or, get_or-take, get_or-drop, append_assoc, take_all}
 use Rattle.std.specs.Prelude.{slice_range}
 use Rattle.of_cell.specs.Words.{pack, seq_of, payload_of}
 use Rattle.of_cell.specs.declared.word.TheConstants.{PAYLOADS}
@@ -14,14 +14,7 @@ use Rattle.of_core.specs.WordsMatch.{IsStart, MayStart}
 use Rattle.of_core.specs.Events.{zero_start, start_ticket}
 use Rattle.of_core.specs.Laws.{HoldsStart}
 use Rattle.of_core.specs.Starts.{closed_request, first_cells, first_words, start_from_durable}
-
--- a list of zeros has 0 everywhere
-pub zero_at : (n x : ℕ) → get_or {A = ℕ} (replicate n 0) x 0 ≡ 0
-zero_at n x = go (cases_lt x n)
-  where
-    go : (x < n) ⊎ (n ≤ x) → get_or {A = ℕ} (replicate n 0) x 0 ≡ 0
-    go (inl l) = get_or-replicate n x 0 0 l
-    go (inr l) = get_or_past (replicate n 0) x 0 (rw length-replicate l)
+use Rattle.of_core.proofs.Unknown.{zero_at}
 
 -- the closed request has its sequence, and is above the open one
 pub closed_seq : (s : ℕ) → seq_of (closed_request s) ≡ s
