@@ -1,11 +1,10 @@
 -- The facts of a place hold of every machine with the same fields.
 use Rattle.std.proofs.Common.{◌≡◌, ℕ, ◌<◌, ◌≤◌, inl, inr, List, ◌∙◌, arith, Bool, true, false}
-use Rattle.of_cell.specs.Words.{seq_of}
-use Rattle.of_core.specs.Table.{Setup, data_word, durable_cell}
+use Rattle.of_core.specs.Table.{Setup}
 use Rattle.of_core.specs.Machine.{CallState, log_entry}
 use Rattle.of_core.specs.TableMoment.{Batch, TableStart}
 use Rattle.of_core.specs.Rounds.{KnowsOwnRequest, IsInTry, MayHelp, IsUnannounced, IsAnnounced, IsInRound, IsPastRequest, IsPastOwnTicket, HasNothingUnderWay}
-use Rattle.of_core.specs.Transaction.{IsHelping, AppliesAs, IsApplying}
+use Rattle.of_core.specs.Transaction.{IsApplied, IsHelping, AppliesAs, IsApplying}
 use Rattle.of_core.specs.Places.{IsAtCaller, IsAtEntry}
 
 module _ {S : Setup} {B : TableStart} {ws : List ℕ} {bs : List Batch} {i : ℕ} where
@@ -81,7 +80,7 @@ module _ {S : Setup} {B : TableStart} {ws : List ℕ} {bs : List Batch} {i : ℕ
 
     -- an applying machine goes on with the entries that are done
     pub applies_as : {j k : ℕ} → IsApplying S B ws bs i n j → q.caller ≡ n.caller → q.made ≡ n.made → q.op ≡ n.op → q.seq ≡ n.seq → q.owner ≡ n.owner → q.log ≡ n.log → q.raw ≡ n.raw → q.helps ≡ n.helps → q.kept ≡ n.kept → q.rounds ≡ n.rounds → q.first ≡ n.first → q.tries ≡ n.tries
-        → ((y : ℕ) → y < k → (n.seq ≤ seq_of (data_word S ws (log_entry n y).0)) × (n.seq ≤ seq_of (durable_cell S ws (log_entry n y).0))) → IsApplying S B ws bs i q k
+        → ((y : ℕ) → y < k → IsApplied S ws n.seq (log_entry n y).0) → IsApplying S B ws bs i q k
     applies_as p a b o c d l w h x r f t done = record {
       mode = mode n.helps q.helps h p.mode;
       after = rw c p.after;

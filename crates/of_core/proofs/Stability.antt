@@ -445,10 +445,10 @@ module _ (S : Setup) (Lawful : List ℕ → Type 0) (B : TableStart) (i : ℕ) (
       upto = omega (arith, h.upto, grows);
       committed = rw same h.committed;
       log = rw same h.log;
-      done = λ k l. let e : (log_entry m k).0 < S.cells = (entry_in shared h k (omega arith)).0 in (
-        omega (arith, seq_mono (data_word S ws (log_entry m k).0) (data_word S vs (log_entry m k).0) (cell_up (log_entry m k).0 e), (h.done k l).0),
-        omega (arith, seq_mono (durable_cell S ws (log_entry m k).0) (durable_cell S vs (log_entry m k).0) (v.durs (data_at S (log_entry m k).0) (omega arith)), (h.done k l).1),
-      );
+      done = λ k l. let e : (log_entry m k).0 < S.cells = (entry_in shared h k (omega arith)).0 in record {
+        cell = omega (arith, seq_mono (data_word S ws (log_entry m k).0) (data_word S vs (log_entry m k).0) (cell_up (log_entry m k).0 e), (h.done k l).cell);
+        durable = omega (arith, seq_mono (durable_cell S ws (log_entry m k).0) (durable_cell S vs (log_entry m k).0) (v.durs (data_at S (log_entry m k).0) (omega arith)), (h.done k l).durable);
+      };
     }
 
     entry_stable : (m : CallState) (n : ℕ) → IsAtEntry S B ws bs j m n → IsAtEntry S B vs cs j m n
