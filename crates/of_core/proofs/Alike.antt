@@ -1,11 +1,10 @@
 -- The facts of a place hold of every machine with the same fields.
 use Rattle.std.proofs.Common.{◌≡◌, ℕ, ◌<◌, ◌≤◌, inl, inr, List, ◌∙◌, arith, Bool, true, false}
-use Rattle.of_cell.specs.Words.{seq_of}
-use Rattle.of_core.specs.Table.{Setup, data_word, durable_cell}
+use Rattle.of_core.specs.Table.{Setup}
 use Rattle.of_core.specs.Machine.{CallState, log_entry}
 use Rattle.of_core.specs.TableMoment.{Batch, TableStart}
 use Rattle.of_core.specs.Rounds.{KnowsOwnRequest, IsInTry, MayHelp, IsUnannounced, IsAnnounced, IsInRound, IsPastRequest, IsPastOwnTicket, HasNothingUnderWay}
-use Rattle.of_core.specs.Transaction.{IsHelping, AppliesAs, IsApplying}
+use Rattle.of_core.specs.Transaction.{IsApplied, IsHelping, AppliesAs, IsApplying}
 use Rattle.of_core.specs.Places.{IsAtCaller, IsAtEntry}
 
 module _ {S : Setup} {B : TableStart} {ws : List ℕ} {bs : List Batch} {i : ℕ} where
@@ -33,12 +32,7 @@ module _ {S : Setup} {B : TableStart} {ws : List ℕ} {bs : List Batch} {i : ℕ
     pub round_to : IsInRound S B ws bs i n → q.caller ≡ n.caller → q.made ≡ n.made → q.op ≡ n.op → q.seq ≡ n.seq → q.owner ≡ n.owner → q.rounds ≡ n.rounds → q.first ≡ n.first → KnowsOwnRequest B ws bs i q.kept → IsInRound S B ws bs i q
     round_to p a b o c d r f k = record {
       begun = begun_to p.begun a b o r f k;
-      from = rw c p.from;
-      upto = rw c p.upto;
-      same = rw (c, d) p.same;
-      owner_in = rw d p.owner_in;
-      committed = rw (c, d) p.committed;
-      first = rw (c, d) p.first;
+      current_word = rw (c, d) p.current_word;
       unowned = rw c p.unowned;
       later = rw (c, r, f) p.later;
       begun_one = rw r p.begun_one;
@@ -49,9 +43,7 @@ module _ {S : Setup} {B : TableStart} {ws : List ℕ} {bs : List Batch} {i : ℕ
     past_to p a b o c d r f e k = record {
       looks = record {
         round = round_to p.looks.round a b o c d r f k;
-        quiet = rw c p.looks.quiet;
-        agrees = rw (c, e) p.looks.agrees;
-        all = rw e p.looks.all;
+        state = rw (c, e) p.looks.state;
       };
       under = rw c p.under;
       left = rw (b, c) p.left;
@@ -64,7 +56,7 @@ module _ {S : Setup} {B : TableStart} {ws : List ℕ} {bs : List Batch} {i : ℕ
     round_as p a b o c d x r f = round_to p a b o c d r f (rw x p.begun.kept)
 
     pub looks_as : IsPastRequest S B ws bs i n → q.caller ≡ n.caller → q.made ≡ n.made → q.op ≡ n.op → q.seq ≡ n.seq → q.owner ≡ n.owner → q.kept ≡ n.kept → q.rounds ≡ n.rounds → q.first ≡ n.first → q.known ≡ n.known → IsPastRequest S B ws bs i q
-    looks_as p a b o c d x r f e = record { round = round_as p.round a b o c d x r f; quiet = rw c p.quiet; agrees = rw (c, e) p.agrees; all = rw e p.all }
+    looks_as p a b o c d x r f e = record { round = round_as p.round a b o c d x r f; state = rw (c, e) p.state }
 
     pub past_as : IsPastOwnTicket S B ws bs i n → q.caller ≡ n.caller → q.made ≡ n.made → q.op ≡ n.op → q.seq ≡ n.seq → q.owner ≡ n.owner → q.kept ≡ n.kept → q.rounds ≡ n.rounds → q.first ≡ n.first → q.known ≡ n.known → IsPastOwnTicket S B ws bs i q
     past_as p a b o c d x r f e = past_to p a b o c d r f e (rw x p.looks.round.begun.kept)
@@ -88,7 +80,7 @@ module _ {S : Setup} {B : TableStart} {ws : List ℕ} {bs : List Batch} {i : ℕ
 
     -- an applying machine goes on with the entries that are done
     pub applies_as : {j k : ℕ} → IsApplying S B ws bs i n j → q.caller ≡ n.caller → q.made ≡ n.made → q.op ≡ n.op → q.seq ≡ n.seq → q.owner ≡ n.owner → q.log ≡ n.log → q.raw ≡ n.raw → q.helps ≡ n.helps → q.kept ≡ n.kept → q.rounds ≡ n.rounds → q.first ≡ n.first → q.tries ≡ n.tries
-        → ((y : ℕ) → y < k → (n.seq ≤ seq_of (data_word S ws (log_entry n y).0)) × (n.seq ≤ seq_of (durable_cell S ws (log_entry n y).0))) → IsApplying S B ws bs i q k
+        → ((y : ℕ) → y < k → IsApplied S ws n.seq (log_entry n y).0) → IsApplying S B ws bs i q k
     applies_as p a b o c d l w h x r f t done = record {
       mode = mode n.helps q.helps h p.mode;
       after = rw c p.after;

@@ -24,8 +24,7 @@ use Rattle.of_core.proofs.Logs.{room_for}
 use Rattle.of_core.proofs.States.{state_length}
 use Rattle.of_core.proofs.Assembling.{logs_of}
 use Rattle.of_core.proofs.Overlays.{left_lawful, left_agrees, left_length}
-use Rattle.of_core.proofs.Rounds.{at_risen, learn_past}
-use Rattle.of_core.proofs.Tries.{watch_more}
+use Rattle.of_core.proofs.Rounds.{at_risen, learn_past, watch_more}
 use Rattle.of_core.proofs.Helping.{copied_count}
 
 -- a call's steps are still counted
@@ -160,12 +159,12 @@ module _ (S : Setup) (Lawful : List ℕ → Type 0) (m : CallState) (found : ℕ
   scan_agrees sound n p o =
       let xs : List ℕ = numbers_after h.start h.world.batches n.seq in
       let upto : n.seq ≤ h.start.seq + length h.world.batches = at_risen h.good.core h.in_range n p.looks in
-      let size : length xs ≡ S.cells = numbers_length n.seq p.looks.round.from upto in
-      let lawful : Lawful xs = h.good.core.shared.stands.lawful n.seq p.looks.round.from upto in (
+      let size : length xs ≡ S.cells = numbers_length n.seq p.looks.round.current_word.from upto in
+      let lawful : Lawful xs = h.good.core.shared.stands.lawful n.seq p.looks.round.current_word.from upto in (
         with_writes_in xs n.log,
         left_length S Lawful sound xs n.calls n.log size lawful o.over,
         left_lawful S Lawful sound xs n.calls n.log size lawful o.over,
-        left_agrees S Lawful sound xs n.calls n.log size lawful o.over n.known p.looks.agrees,
+        left_agrees S Lawful sound xs n.calls n.log size lawful o.over n.known p.looks.state.agrees,
       )
 
   pub script_agrees : IsSoundMeaning S.meaning Lawful (first_operation_cell S) S.cells → (j : ℕ) → m.place ≡ LoadScript j → (xs : List ℕ) × (length xs ≡ S.cells) × Lawful xs × Agrees (overlaid m.known m.log) xs

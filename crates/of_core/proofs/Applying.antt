@@ -314,7 +314,7 @@ module _ {S : Setup} {Lawful : List ℕ → Type 0} {B : TableStart} where
               where
                 each : (x : ℕ) → x < S.cells → (data_word S w.words x ≡ data_word_after B w.batches (committed_seq w.words) x) ⊎ (IsLastOpen B w.words × (data_word S w.words x ≡ data_word_after B w.batches (committed_seq w.words - 1) x)) → data_word S w.words x ≡ data_word_after B w.batches (committed_seq w.words) x
                 each x l (inl d) = d
-                each x l (inr d) = whole x (data_word S w.words x) l (λ k u z. rw z at (a.applies.done k u).0) d.1
+                each x l (inr d) = whole x (data_word S w.words x) l (λ k u z. rw z at (a.applies.done k u).cell) d.1
 
             durable : DurableWordsMatch S B vs w.batches
             durable = durable_of (touches i) g.shared (λ y l. rw (cell_same y l) (g.shared.durable.fresh y l)) (λ q. inl (sym d_is)) (λ y l. cells y l (g.shared.durable.cells y l)) (λ k l u p o q y v. elsewhere (log_at S p y) (omega (arith, owner_in)))
@@ -322,4 +322,4 @@ module _ {S : Setup} {Lawful : List ℕ → Type 0} {B : TableStart} where
                 cells : (y : ℕ) → y < S.cells → (durable_cell S w.words y ≡ data_word_after B w.batches (durable_seq S w.words) y) ⊎ (IsLastOpen B w.words × (committed_seq w.words ≡ durable_seq S w.words) × (durable_cell S w.words y ≡ data_word_after B w.batches (durable_seq S w.words - 1) y))
                     → (durable_cell S w.words y ≡ data_word_after B w.batches (durable_seq S w.words) y) ⊎ (IsLastOpen B vs × (committed_seq w.words ≡ durable_seq S w.words) × (durable_cell S w.words y ≡ data_word_after B w.batches (durable_seq S w.words - 1) y))
                 cells y l (inl d) = inl d
-                cells y l (inr d) = inl (whole y (durable_cell S w.words y) l (λ k u z. rw z at (a.applies.done k u).1) (d.2 ∙ ap (λ (k : ℕ). data_word_after B w.batches (k - 1) y) d_is) ∙ ap (λ (k : ℕ). data_word_after B w.batches k y) (sym d_is))
+                cells y l (inr d) = inl (whole y (durable_cell S w.words y) l (λ k u z. rw z at (a.applies.done k u).durable) (d.2 ∙ ap (λ (k : ℕ). data_word_after B w.batches (k - 1) y) d_is) ∙ ap (λ (k : ℕ). data_word_after B w.batches k y) (sym d_is))

@@ -229,18 +229,18 @@ module _ (S : Setup) (Lawful : List ℕ → Type 0) (B : TableStart) (w : Moment
       by l t = subst (λ (xs : List ℕ). LeadTo S xs [] m.calls m.log) (sym (same_numbers more m.seq l)) t
 
       go : (p : Place) → HoldsAtPlace S B w.words w.batches i m p → Collects S B w.batches m p → Collects S B (w.batches ++ more) m p
-      go LoadOwnTicket a t = by a.looks.round.upto t
-      go LoadAnnouncement a t = by a.past.looks.round.upto t
-      go LoadTicket a t = by a.scanning.past.looks.round.upto t
-      go (LoadScript j) a t = by a.scanning.past.looks.round.upto t
-      go (LoadCell x) a t = (by a.scanning.past.looks.round.upto t.0, t.1)
+      go LoadOwnTicket a t = by a.looks.round.current_word.upto t
+      go LoadAnnouncement a t = by a.past.looks.round.current_word.upto t
+      go LoadTicket a t = by a.scanning.past.looks.round.current_word.upto t
+      go (LoadScript j) a t = by a.scanning.past.looks.round.current_word.upto t
+      go (LoadCell x) a t = (by a.scanning.past.looks.round.current_word.upto t.0, t.1)
       go (TryCell x) a t = t
-      go RaiseOld a t = by a.past.looks.round.upto t
-      go (StoreLog x) a t = by a.storing.stored.past.looks.round.upto t
-      go (RaiseLog x) a t = by a.storing.stored.past.looks.round.upto t
-      go StoreRequest a t = by a.stored.past.looks.round.upto t
-      go RaiseRequest a t = by a.stored.past.looks.round.upto t
-      go ExchangeCurrent a t = by a.stored.past.looks.round.upto t
+      go RaiseOld a t = by a.past.looks.round.current_word.upto t
+      go (StoreLog x) a t = by a.storing.stored.past.looks.round.current_word.upto t
+      go (RaiseLog x) a t = by a.storing.stored.past.looks.round.current_word.upto t
+      go StoreRequest a t = by a.stored.past.looks.round.current_word.upto t
+      go RaiseRequest a t = by a.stored.past.looks.round.current_word.upto t
+      go ExchangeCurrent a t = by a.stored.past.looks.round.current_word.upto t
       go p a t = tt
 
   -- what a batch is that is committed behind these
@@ -266,7 +266,7 @@ module _ (S : Setup) (Lawful : List ℕ → Type 0) (B : TableStart) (w : Moment
           found = grind (arith, nat_tests)
 
           is : m.seq ≡ committed_seq w.words
-          is = sym (ap seq_of (sym f ∙ found) ∙ seq_word m.seq m.owner (omega (arith, a.stored.past.looks.round.owner_in, g.shared.few)))
+          is = sym (ap seq_of (sym f ∙ found) ∙ seq_word m.seq m.owner (omega (arith, a.stored.past.looks.round.current_word.owner_in, g.shared.few)))
 
           own : (y : ℕ) × (y < length m.calls) × (get_or m.calls y no_call ≡ record { caller = i; ticket = m.made; op = m.op; raw = m.raw })
           own = a.stored.over.own is h

@@ -29,7 +29,7 @@ module _ (S : Setup) (Lawful : List ℕ → Type 0) (B : TableStart) (w : Moment
   blind LoadCurrent a = inl (λ c l e. omega (arith, e))
   blind ExchangeCurrent a = inl (λ c l e. omega (arith, e))
   blind TryRequest a = inl (λ c l e. omega (arith, e, a.current_word.owner_in))
-  blind LoadRequest a = inl (λ c l e. omega (arith, e, a.round.owner_in))
+  blind LoadRequest a = inl (λ c l e. omega (arith, e, a.round.current_word.owner_in))
   blind LookAgain a = inl (λ c l e. omega (arith, e, a.copies.helping.current_word.owner_in))
   blind (CopyLog x) a = inl (λ c l e. omega (arith, e, log_in S m.owner x a.copies.helping.current_word.owner_in a.in_log))
   blind (TryCell x) a = inl (λ c l e. omega (arith, e, a.in_cells))

@@ -131,19 +131,19 @@ module _ (S : Setup) (Lawful : List ℕ → Type 0) (sound : IsSoundMeaning S.me
 
         knows : (i : ℕ) (m : CallState) (p : Place) → HoldsAtPlace S B w.words w.batches i m p → knows_state p ≡ true → Agrees m.known (numbers_after B w.batches m.seq)
         knows i m (TryCell x) a q = a.state.agrees
-        knows i m LoadOwnTicket a q = a.looks.agrees
-        knows i m LoadShape a q = a.looks.agrees
-        knows i m (LoadReply j) a q = a.looks.agrees
-        knows i m LoadAnnouncement a q = a.past.looks.agrees
-        knows i m LoadTicket a q = a.scanning.past.looks.agrees
-        knows i m (LoadScript j) a q = a.scanning.past.looks.agrees
-        knows i m (LoadCell x) a q = a.scanning.past.looks.agrees
-        knows i m RaiseOld a q = a.past.looks.agrees
-        knows i m (StoreLog x) a q = a.storing.stored.past.looks.agrees
-        knows i m (RaiseLog x) a q = a.storing.stored.past.looks.agrees
-        knows i m StoreRequest a q = a.stored.past.looks.agrees
-        knows i m RaiseRequest a q = a.stored.past.looks.agrees
-        knows i m ExchangeCurrent a q = a.stored.past.looks.agrees
+        knows i m LoadOwnTicket a q = a.looks.state.agrees
+        knows i m LoadShape a q = a.looks.state.agrees
+        knows i m (LoadReply j) a q = a.looks.state.agrees
+        knows i m LoadAnnouncement a q = a.past.looks.state.agrees
+        knows i m LoadTicket a q = a.scanning.past.looks.state.agrees
+        knows i m (LoadScript j) a q = a.scanning.past.looks.state.agrees
+        knows i m (LoadCell x) a q = a.scanning.past.looks.state.agrees
+        knows i m RaiseOld a q = a.past.looks.state.agrees
+        knows i m (StoreLog x) a q = a.storing.stored.past.looks.state.agrees
+        knows i m (RaiseLog x) a q = a.storing.stored.past.looks.state.agrees
+        knows i m StoreRequest a q = a.stored.past.looks.state.agrees
+        knows i m RaiseRequest a q = a.stored.past.looks.state.agrees
+        knows i m ExchangeCurrent a q = a.stored.past.looks.state.agrees
         knows i m p a q = cc
 
         reads_own : (i : ℕ) (m : CallState) (p : Place) → HoldsAtPlace S B w.words w.batches i m p → OwnCellsAreOfState S (state_after B w.batches m.seq) i m p

@@ -64,8 +64,8 @@ module _ {S : Setup} {Lawful : List ℕ → Type 0} {B : TableStart} where
             later_now : (m.seq < committed_seq w.words) ⊎ (committed_seq w.words ≤ m.seq) → m.seq < committed_seq w.words
             later_now (inl l) = l
             later_now (inr l) =
-                let e : m.seq ≡ committed_seq w.words = omega (arith, round.upto) in
-                let z : pack m.seq m.owner ≡ current_word w.words = ap (λ (k : ℕ). pack k m.owner) e ∙ ap (pack (committed_seq w.words)) (round.same e) ∙ word_eta (current_word w.words) in
+                let e : m.seq ≡ committed_seq w.words = omega (arith, round.current_word.upto) in
+                let z : pack m.seq m.owner ≡ current_word w.words = ap (λ (k : ℕ). pack k m.owner) e ∙ ap (pack (committed_seq w.words)) (round.current_word.same e) ∙ word_eta (current_word w.words) in
                 absurd (ne (sym z))
 
             between : m.seq < committed_seq w.words → IsBetweenRounds w.words (next_round m)
@@ -96,7 +96,7 @@ module _ {S : Setup} {Lawful : List ℕ → Type 0} {B : TableStart} where
                 unowned = λ k l u. absurd (omega (arith, new_last));
                 logs = λ y u. rw (elsewhere (log_at S i y) (omega arith)) (log_old y u (cases_lt y (length (log_words m.log))));
               };
-              after = omega (arith, round.from);
+              after = omega (arith, round.current_word.from);
               upto = omega (arith, new_last);
               committed = rw new_batch refl;
               log = rw new_batch (turned_same m.log);
@@ -122,7 +122,7 @@ module _ {S : Setup} {Lawful : List ℕ → Type 0} {B : TableStart} where
             was = equals (current_word w.words) (pack m.seq m.owner) q
 
             is_last : m.seq ≡ committed_seq w.words
-            is_last = sym (ap seq_of was ∙ seq_word m.seq m.owner (omega (arith, round.owner_in, g.shared.few)))
+            is_last = sym (ap seq_of was ∙ seq_word m.seq m.owner (omega (arith, round.current_word.owner_in, g.shared.few)))
 
             here : current_word vs ≡ pack (m.seq + 1) m.caller
             here = get_or-set_same w.words 0 (pack (m.seq + 1) m.caller) 0 (omega (arith, g.shared.room))
@@ -173,7 +173,7 @@ module _ {S : Setup} {Lawful : List ℕ → Type 0} {B : TableStart} where
 
             -- the batch's call of a caller has its ticket in the new state
             call_now : (y : ℕ) → y < length m.calls → last_ticket_by S B cs (m.seq + 1) (get_or m.calls y no_call).caller ≡ (get_or m.calls y no_call).ticket
-            call_now y l = ((subst (λ (c : Batch). All (λ (d : Call). (d.caller < S.callers) × (last_ticket_by S B cs (m.seq + 1) d.caller ≡ d.ticket)) c.calls) new_batch (stands.now (m.seq + 1) (omega (arith, round.from)) (omega (arith, longer, n_at)))) y no_call l).1
+            call_now y l = ((subst (λ (c : Batch). All (λ (d : Call). (d.caller < S.callers) × (last_ticket_by S B cs (m.seq + 1) d.caller ≡ d.ticket)) c.calls) new_batch (stands.now (m.seq + 1) (omega (arith, round.current_word.from)) (omega (arith, longer, n_at)))) y no_call l).1
 
             own_says : seq_of (announcement_of S vs i) ≡ m.made
             own_says = ap seq_of (elsewhere (script_word_at S i S.instrs) (omega arith) ∙ round.begun.says) ∙ seq_word m.made (length m.op) (omega (arith, round.begun.words, g.shared.narrow))
@@ -269,14 +269,14 @@ module _ {S : Setup} {Lawful : List ℕ → Type 0} {B : TableStart} where
             asks = ap (request_of vs) (new_holder ∙ ci) ∙ elsewhere (i + 1) (omega arith) ∙ a.asks ∙ ap (λ (k : ℕ). pack k 0) (sym new_last)
 
             opened : IsLastOpen B vs
-            opened = record { any = omega (arith, new_last, round.from, is_last, longer); asks = asks }
+            opened = record { any = omega (arith, new_last, round.current_word.from, is_last, longer); asks = asks }
 
             counted : CountsBatches S B vs cs
             counted = record {
               count = omega (arith, new_last, longer, is_last);
               limit = omega (arith, new_last, st.past.under, is_last, longer);
               owner = λ l. rw (new_last, new_batch) new_holder;
-              first = λ l. absurd (omega (arith, new_last, round.from, l));
+              first = λ l. absurd (omega (arith, new_last, round.current_word.from, l));
               owner_in = rw (new_holder, ci) h;
               owners = λ k l u. owners k l (which k u);
               logs = λ k l u. logs k l (which k u);
@@ -291,7 +291,7 @@ module _ {S : Setup} {Lawful : List ℕ → Type 0} {B : TableStart} where
                 logs k l (inr u) = rw (u, new_batch) is_log
 
             closed_now : IsLastOpen B w.words → ⊥
-            closed_now o = let z : pack m.seq 0 < request_of w.words (committed_owner w.words) = st.past.looks.quiet is_last (omega (arith, o.any, is_last)) in omega (arith, o.asks, ap (λ (k : ℕ). pack k 0) is_last)
+            closed_now o = let z : pack m.seq 0 < request_of w.words (committed_owner w.words) = st.past.looks.state.quiet is_last (omega (arith, o.any, is_last)) in omega (arith, o.asks, ap (λ (k : ℕ). pack k 0) is_last)
 
             d_is : durable_seq S w.words ≡ m.seq
             d_is = d_of g.shared.durable.step
@@ -353,7 +353,7 @@ module _ {S : Setup} {Lawful : List ℕ → Type 0} {B : TableStart} where
 
                 each : (x : ℕ) → x < S.cells → (data_word S w.words x ≡ data_word_after B w.batches (committed_seq w.words) x) ⊎ (IsLastOpen B w.words × (data_word S w.words x ≡ data_word_after B w.batches (committed_seq w.words - 1) x)) → data_word S vs x ≡ data_word_after B cs (committed_seq vs - 1) x
                 each x l (inl d) = rw (back, states (committed_seq w.words) (omega (arith, is_last, longer, new_last))) (elsewhere (S.callers + 1 + x) (omega (arith, is_last, longer, new_last)) ∙ d)
-                each x l (inr d) = let z : pack m.seq 0 < request_of w.words (committed_owner w.words) = st.past.looks.quiet is_last (omega (arith, d.0.any, is_last, longer, new_last)) in
+                each x l (inr d) = let z : pack m.seq 0 < request_of w.words (committed_owner w.words) = st.past.looks.state.quiet is_last (omega (arith, d.0.any, is_last, longer, new_last)) in
                     absurd (omega (arith, d.0.asks, ap (λ (k : ℕ). pack k 0) is_last, longer, new_last))
 
             requests : RequestsMatchBatches S B vs cs
@@ -364,7 +364,7 @@ module _ {S : Setup} {Lawful : List ℕ → Type 0} {B : TableStart} where
                 closed k l (inr u) v =
                     let e : k ≡ m.seq = omega (arith, is_last, longer, new_last) in
                     let o : committed_owner w.words ≡ (batch_at B w.batches k).owner = rw (e, is_last) (g.shared.counted.owner (omega (arith, is_last, longer, new_last))) in
-                    rw (batches k l v, elsewhere ((batch_at B w.batches k).owner + 1) (omega (arith, is_last, longer, new_last)), ← o, e) (st.past.looks.quiet is_last (omega (arith, is_last, longer, new_last)))
+                    rw (batches k l v, elsewhere ((batch_at B w.batches k).owner + 1) (omega (arith, is_last, longer, new_last)), ← o, e) (st.past.looks.state.quiet is_last (omega (arith, is_last, longer, new_last)))
 
             heard : AnnouncementsAreServed S B vs cs
             heard = record {
@@ -400,8 +400,8 @@ module _ {S : Setup} {Lawful : List ℕ → Type 0} {B : TableStart} where
                     subst (λ (x : ℕ). seq_of (announcement_of S w.words j) ≤ last_ticket_by S B cs (x + 1) j) (sym e) (met_now (st.over.met (omega (arith, l, e)) j t t q'))
                   where
                     met_now : (seq_of (announcement_of S w.words j) ≤ last_ticket_by S B w.batches m.seq j) ⊎ ((y : ℕ) × (y < length m.calls) × ((get_or m.calls y no_call).caller ≡ j) × ((get_or m.calls y no_call).ticket ≡ seq_of (announcement_of S w.words j))) → seq_of (announcement_of S w.words j) ≤ last_ticket_by S B cs (m.seq + 1) j
-                    met_now (inl z) = let y : last_ticket_by S B cs m.seq j ≤ last_ticket_by S B cs (m.seq + 1) j = stands.grow m.seq j round.from (omega (arith, longer, n_at)) t in
-                        let x : last_ticket_by S B cs m.seq j ≡ last_ticket_by S B w.batches m.seq j = ap (λ (xs : List ℕ). ticket_in_state S xs j) (states m.seq round.upto) in
+                    met_now (inl z) = let y : last_ticket_by S B cs m.seq j ≤ last_ticket_by S B cs (m.seq + 1) j = stands.grow m.seq j round.current_word.from (omega (arith, longer, n_at)) t in
+                        let x : last_ticket_by S B cs m.seq j ≡ last_ticket_by S B w.batches m.seq j = ap (λ (xs : List ℕ). ticket_in_state S xs j) (states m.seq round.current_word.upto) in
                         omega arith
                     met_now (inr z) = let y : last_ticket_by S B cs (m.seq + 1) j ≡ (get_or m.calls z.0 no_call).ticket = rw z.2 at (call_now z.0 z.1) in omega (arith, z.3)
 

@@ -23,7 +23,7 @@ use Rattle.of_core.proofs.OwnReply.{done_now}
 use Rattle.of_core.proofs.Scans.{ticket_in_cells}
 use Rattle.of_core.proofs.Happenings.{event_good}
 use Rattle.of_core.proofs.InTime.{steps_rise, of_machine, now_open}
-use Rattle.of_core.proofs.Unknown.{none_known}
+use Rattle.of_mem.proofs.Lists.{none_at}
 use Rattle.of_core.proofs.StepSums.{fewer, row_cost, first_row, next_sum, done_sum, known_sum, known_sum0, again_sum, again_sum0, try_lost, cell_learnt, word_stored, words_stored, word_copied, words_copied, still_open, now_closed, round_lost, shape_read, reply_read, replies_skipped, row_heard, row_begun, row_skipped, word_loaded, words_loaded, log_word_stored, log_word_raised, log_raised, older_found, newer_found, entry_exchanged, entry_raised, entries_raised, request_closed, apply_ended}
 
 -- nothing is known at first
@@ -317,7 +317,7 @@ module _ (S : Setup) (W R : ℕ) where
         cells_in = rw a.looks.round.begun.caller (ticket_in_cells g h i h)
 
         known_one : R - knowns (with_cell_known S m (ticket_cell S m.caller) found) + 1 ≡ R
-        known_one = learns LoadOwnTicket (ticket_cell S m.caller) found e refl (omega (arith, a.looks.all, cells_in)) (rw a.no_cell (none_known S.cells (ticket_cell S m.caller))) ∙ all (knowns m.known) (ap knowns a.no_cell ∙ knowns_none S.cells)
+        known_one = learns LoadOwnTicket (ticket_cell S m.caller) found e refl (omega (arith, a.looks.state.all, cells_in)) (rw a.no_cell (none_at S.cells (ticket_cell S m.caller))) ∙ all (knowns m.known) (ap knowns a.no_cell ∙ knowns_none S.cells)
           where
             all : (k : ℕ) → k ≡ 0 → R - k ≡ R
             all k e = omega arith
@@ -371,7 +371,7 @@ module _ (S : Setup) (W R : ℕ) where
         go true = record { copies = tt; few = t.few; steps = again_sum m.steps S.instrs ((S.callers - m.scan - 1) * (S.instrs + 1)) (R - knowns m.known) (store_steps W) (apply_steps W) (allowed S W R m) (omega arith) t.steps }
         go false = weighed_sparing (record now { known = with_cell_known S m (ticket_cell S m.scan) found }) t.few a.scanning.in_range
             (known_sum m.steps S.instrs ((S.callers - m.scan - 1) * (S.instrs + 1)) (R - knowns m.known) (R - knowns (with_cell_known S m (ticket_cell S m.scan) found)) (store_steps W) (apply_steps W) (allowed S W R m)
-            (learns LoadTicket (ticket_cell S m.scan) found e refl (omega (arith, a.scanning.past.looks.all, ticket_in_cells g h m.scan a.scanning.in_range)) a.unknown) t.steps)
+            (learns LoadTicket (ticket_cell S m.scan) found e refl (omega (arith, a.scanning.past.looks.state.all, ticket_in_cells g h m.scan a.scanning.in_range)) a.unknown) t.steps)
             (nat_lt (payload_of found) (seq_of m.heard))
     sparing (LoadScript j) o a t e v = go (nat_lt (j + 1) (payload_of m.heard))
       where
@@ -393,7 +393,7 @@ module _ (S : Setup) (W R : ℕ) where
         go true = record { copies = tt; few = t.few; steps = again_sum0 m.steps ((S.callers - m.scan - 1) * (S.instrs + 1)) (R - knowns m.known) (store_steps W) (apply_steps W) (allowed S W R m) (omega arith) t.steps }
         go false = ran_sparing (record now { known = with_cell_known S m x found }) t.few a.scanning.in_range
             (known_sum0 m.steps ((S.callers - m.scan - 1) * (S.instrs + 1)) (R - knowns m.known) (R - knowns (with_cell_known S m x found)) (store_steps W) (apply_steps W) (allowed S W R m)
-            (learns (LoadCell x) x found e refl (omega (arith, a.scanning.past.looks.all, a.in_cells)) a.unknown) t.steps)
+            (learns (LoadCell x) x found e refl (omega (arith, a.scanning.past.looks.state.all, a.in_cells)) a.unknown) t.steps)
             (S.meaning.walk (overlaid (with_cell_known S m x found) m.log) m.script)
     sparing RaiseOld o a t e v = record { copies = tt; few = t.few; steps = sum m.steps W (apply_steps W) (allowed S W R m) t.steps }
       where

@@ -72,7 +72,7 @@ module _ (S : Setup) (Lawful : List ℕ → Type 0) (B : TableStart) (w : Moment
   current_level a e = go g.shared.durable.step (cases_lt B.seq (committed_seq w.words))
     where
       is : committed_seq w.words ≡ m.seq
-      is = ap seq_of e ∙ seq_word m.seq m.owner (omega (arith, a.stored.past.looks.round.owner_in, g.shared.few))
+      is = ap seq_of e ∙ seq_word m.seq m.owner (omega (arith, a.stored.past.looks.round.current_word.owner_in, g.shared.few))
 
       same : (committed_seq w.words ≡ durable_seq S w.words) → committed_owner w.words ≡ payload_of (durable_word S w.words 0) → current_word w.words ≤ durable_word S w.words 0
       same q o =
@@ -86,7 +86,7 @@ module _ (S : Setup) (Lawful : List ℕ → Type 0) (B : TableStart) (w : Moment
           let f : committed_seq w.words ≡ B.seq = omega (arith, l, q, g.shared.durable.from) in
           same q (g.shared.counted.first f ∙ sym (g.shared.durable.first (omega (arith, q, f))))
       go (inr q) l =
-          let z : pack m.seq 0 < request_of w.words (committed_owner w.words) = a.stored.past.looks.quiet (sym is) (omega (arith, is, q.1.any)) in
+          let z : pack m.seq 0 < request_of w.words (committed_owner w.words) = a.stored.past.looks.state.quiet (sym is) (omega (arith, is, q.1.any)) in
           let o : request_of w.words (committed_owner w.words) ≡ pack m.seq 0 = q.1.asks ∙ ap (λ (k : ℕ). pack k 0) is in
           absurd (omega (arith, z, o))
 

@@ -6,7 +6,7 @@ use Rattle.std.proofs.lemmas.Map.Made.{IsDistinct-from_AllPairs}
 use Rattle.std.proofs.lemmas.List.Folds.{Any-from_list_any}
 use Rattle.std.proofs.lemmas.Bool.Decides.{Decides-eqb, nat_tests}
 use Rattle.std.proofs.lemmas.Bool.{cases_lt}
-use Rattle.std.proofs.lemmas.List.Elements.{All-append}
+use Rattle.std.proofs.lemmas.List.Elements.{All-append, All-tail}
 use Rattle.std.proofs.lemmas.List.{get_or_append_left, get_or-append_right, get_or-drop, length-drop, drop-set-lt, map-set, get_or-take, length-take, length-map, get_or-map}
 use Rattle.of_cell.specs.declared.word.TheConstants.{PAYLOADS}
 use Rattle.of_cell.specs.Words.{pack, payload_of}
@@ -19,7 +19,6 @@ use Rattle.of_core.specs.Machine.{cells_from, own_cells, flat_entries, log_words
 use Rattle.of_core.specs.History.{with_log_applied}
 use Rattle.of_core.specs.WordsMatch.{IsEntry, IsLog}
 use Rattle.of_core.specs.Transaction.{IsReorderingOf}
-use Rattle.of_core.proofs.States.{all_tail}
 
 pub written_append : (xs : List ℕ) (es ds : List (ℕ × ℕ)) → with_writes_in xs (es ++ ds) ≡ with_writes_in (with_writes_in xs es) ds
 written_append xs [] ds = refl
@@ -27,12 +26,12 @@ written_append xs (e ∷ es) ds = written_append (set xs e.0 e.1) es ds
 
 pub drop_written : (n : ℕ) (xs : List ℕ) (es : List (ℕ × ℕ)) → All (λ (e : ℕ × ℕ). e.0 < n) es → drop n (with_writes_in xs es) ≡ drop n xs
 drop_written n xs [] h = refl
-drop_written n xs (e ∷ es) h = drop_written n (set xs e.0 e.1) es (all_tail (λ (e : ℕ × ℕ). e.0 < n) e es h) ∙ drop-set-lt n xs e.0 e.1 (h 0 (0, 0) (omega arith))
+drop_written n xs (e ∷ es) h = drop_written n (set xs e.0 e.1) es (All-tail (λ (e : ℕ × ℕ). e.0 < n) e es h) ∙ drop-set-lt n xs e.0 e.1 (h 0 (0, 0) (omega arith))
 
 pub pay_changed : (k : ℕ) (ws : List ℕ) (es : List (ℕ × ℕ)) → All (λ (e : ℕ × ℕ). e.1 < PAYLOADS) es → map payload_of (with_log_applied k ws es) ≡ with_writes_in (map payload_of ws) es
 pay_changed k ws [] h = refl
 pay_changed k ws (e ∷ es) h =
-    pay_changed k (set ws e.0 (pack k e.1)) es (all_tail (λ (e : ℕ × ℕ). e.1 < PAYLOADS) e es h)
+    pay_changed k (set ws e.0 (pack k e.1)) es (All-tail (λ (e : ℕ × ℕ). e.1 < PAYLOADS) e es h)
     ∙ ap (λ (xs : List ℕ). with_writes_in xs es) (map-set payload_of ws e.0 (pack k e.1) ∙ ap (λ (v : ℕ). set (map payload_of ws) e.0 v) (pay_word k e.1 (h 0 (0, 0) (omega arith))))
 
 pub length-written : (xs : List ℕ) (es : List (ℕ × ℕ)) → length (with_writes_in xs es) ≡ length xs

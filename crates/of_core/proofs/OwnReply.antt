@@ -28,7 +28,7 @@ module _ {S : Setup} {Lawful : List ℕ → Type 0} {B : TableStart} where
   module _ {w : Moment} (g : MeetsCore S Lawful B w) {i : ℕ} (h : i < S.callers) where
     -- the last call up to the round is the open one, where one's own ticket cell has its ticket
     found_call : (n : CallState) → IsPastRequest S B w.words w.batches i n → FindsOwnTicket S (state_after B w.batches n.seq) i n → IsNewestCall S B w.batches n.seq i
-    found_call n p f = go (g.shared.stands.last n.seq i p.round.from (at_risen g h n p) h)
+    found_call n p f = go (g.shared.stands.last n.seq i p.round.current_word.from (at_risen g h n p) h)
       where
         go : OwnCellsShowLast S B w.batches n.seq i → IsNewestCall S B w.batches n.seq i
         go (inl q) =
@@ -46,15 +46,15 @@ module _ {S : Setup} {Lawful : List ℕ → Type 0} {B : TableStart} where
         → HoldsAtPlace S B w.words w.batches i (end_from_own_cells n) Idle
     told_at n p o f shape replies rest = record {
       caller = p.round.begun.caller;
-      calm = calm_more p.round.upto o;
+      calm = calm_more p.round.current_word.upto o;
       kept = p.round.begun.kept;
-      quieted = inl (omega (arith, own_seq g h n p.round.begun, done_now n f, grows_to g h n.seq p.round.from p.round.upto));
+      quieted = inl (omega (arith, own_seq g h n p.round.begun, done_now n f, grows_to g h n.seq p.round.current_word.from p.round.current_word.upto));
       upto = p.round.begun.upto;
       older = omega (arith, own_seq g h n p.round.begun);
       told = record {
         from = rw number c.from;
         durable = rw number (omega (arith, c.upto, round_risen g h n p));
-        upto = rw number (omega (arith, c.upto, p.round.upto));
+        upto = rw number (omega (arith, c.upto, p.round.current_word.upto));
         call = rw number has;
       };
     }
@@ -93,7 +93,7 @@ module _ {S : Setup} {Lawful : List ℕ → Type 0} {B : TableStart} where
           among = c.among;
           caller = c.caller;
           ticket = ticket;
-          same = p.round.begun.mine c.number c.from (omega (arith, c.upto, p.round.upto)) c.place no_call c.among c.caller ticket;
+          same = p.round.begun.mine c.number c.from (omega (arith, c.upto, p.round.current_word.upto)) c.place no_call c.among c.caller ticket;
           reply = (same_shape, λ y l. same_number y l (is_marked n.raw.shape y) refl);
         }
 
@@ -222,9 +222,9 @@ module _ {S : Setup} {Lawful : List ℕ → Type 0} {B : TableStart} where
             record { looks = looks_as a.looks refl refl refl refl refl refl refl refl refl; calm = a.calm; finds = record { heard = is fresh; there = eqb-true (payload_of found) m.made ec } }
         go false false true eb ec ed = record {
           caller = ci;
-          calm = calm_more a.looks.round.upto a.calm;
+          calm = calm_more a.looks.round.current_word.upto a.calm;
           kept = a.looks.round.begun.kept;
-          quieted = inr (omega (arith, at_limit, a.looks.round.upto, g.shared.counted.limit));
+          quieted = inr (omega (arith, at_limit, a.looks.round.current_word.upto, g.shared.counted.limit));
           upto = a.looks.round.begun.upto;
           older = omega (arith, own_seq g h m a.looks.round.begun);
           told = record {
@@ -239,12 +239,12 @@ module _ {S : Setup} {Lawful : List ℕ → Type 0} {B : TableStart} where
             at_limit = eqb-true m.seq S.limit ed
 
             at_last : m.seq ≡ committed_seq w.words
-            at_last = omega (arith, at_limit, a.looks.round.upto, g.shared.counted.limit)
+            at_last = omega (arith, at_limit, a.looks.round.current_word.upto, g.shared.counted.limit)
         go false false false eb ec ed = record {
           past = record {
             looks = looks_as (learn g h m a.looks (ticket_cell S m.caller) (rw ci x_in) fresh) refl refl refl refl refl refl refl refl refl;
-            under = omega (arith, differ m.seq S.limit ed, a.looks.round.upto, g.shared.counted.limit);
-            left = omega (arith, differ (payload_of found) m.made ec, ap payload_of (is fresh), a.looks.round.begun.upto, grows_to g h m.seq a.looks.round.from a.looks.round.upto);
+            under = omega (arith, differ m.seq S.limit ed, a.looks.round.current_word.upto, g.shared.counted.limit);
+            left = omega (arith, differ (payload_of found) m.made ec, ap payload_of (is fresh), a.looks.round.begun.upto, grows_to g h m.seq a.looks.round.current_word.from a.looks.round.current_word.upto);
           };
           calm = a.calm;
           scan = over_none m.made m.op m.raw m.seq m.calls m.log m.scan a.no_calls a.no_log a.no_scan;

@@ -1,7 +1,6 @@
 -- Filling a log: the puts of write-set and partial memory are those of the definitions, and where no cell stands twice they list the entries one behind the other.
-use Rattle.std.proofs.Common.{◌≡◌, ℕ, zero, suc, ◌+◌, ◌-◌, ◌*◌, ◌/◌, ◌%◌, ◌^◌, ◌<◌, ◌≤◌, ◌==◌, List, [], ◌∷◌, ◌++◌, length, get_or, take, drop, Option, Some, None, if◌then◌else◌, Bool, true, false, refl, ap, ◌∙◌, sym, subst, arith, append_assoc, length-append, replicate, ◌⊎◌, inl, inr}
-use Rattle.std.proofs.lemmas.List.{get_or_append_left, get_or_push, append-nil, take_more, length-replicate, get_or-replicate, get_or_past, get_or-drop, get_or-take, length-take, length-drop, length-take-le, drop_all, take_all, drop-append-le}
-use Rattle.std.proofs.lemmas.Bool.{cases_lt}
+use Rattle.std.proofs.Common.{◌≡◌, ℕ, zero, suc, ◌+◌, ◌-◌, ◌*◌, ◌/◌, ◌%◌, ◌^◌, ◌<◌, ◌≤◌, ◌==◌, List, [], ◌∷◌, ◌++◌, length, get_or, take, drop, Option, Some, None, if◌then◌else◌, Bool, true, false, refl, ap, ◌∙◌, sym, subst, arith, append_assoc, length-append, replicate}
+use Rattle.std.proofs.lemmas.List.{get_or_append_left, get_or_push, append-nil, take_more, length-replicate, get_or-drop, get_or-take, length-take, length-drop, length-take-le, drop_all, take_all, drop-append-le}
 use Rattle.std.proofs.lemmas.Bool.{eq-eqb as same_test, ne_eqb as other_test}
 use Rattle.of_wset.specs.WriteSet as wset
 use Rattle.of_cell.specs.declared.word.TheConstants.{PAYLOADS}
@@ -14,6 +13,7 @@ use Rattle.of_mem.specs.declared.work.RawReply.{RawReply}
 use Rattle.of_core.specs.declared.place.Place.{Place}
 use Rattle.of_core.specs.Machine.{CallState, flat_entries, log_words, entries_of_words, log_of, own_cells, cells_from, entries_going_round}
 use Rattle.of_core.specs.Steps.{after_read_run, first_marked_place}
+use Rattle.of_mem.proofs.Lists.{zero_at}
 use Rattle.of_core.proofs.Unknown.{known_not}
 use Rattle.of_core.proofs.Logs.{whole_log, once_append}
 
@@ -63,14 +63,7 @@ log_of_words es = go es
 
 -- a list of zeros is lawful, and agrees with nothing known
 pub zeros_agree : (M : Meaning) (Lawful : List ℕ → Type 0) (b n : ℕ) → IsSoundMeaning M Lawful b n → (k : ℕ) → (xs : List ℕ) × (length xs ≡ n) × Lawful xs × Agrees (replicate k None) xs
-zeros_agree M Lawful b n s k = (replicate n 0, length-replicate n 0, s.zeros (replicate n 0) (length-replicate n 0) zero_at, λ a v e. absurd (known_not k a v e))
-  where
-    zero_at : (a : ℕ) → get_or {A = ℕ} (replicate n 0) a 0 ≡ 0
-    zero_at a = go (cases_lt a n)
-      where
-        go : (a < n) ⊎ (n ≤ a) → get_or {A = ℕ} (replicate n 0) a 0 ≡ 0
-        go (inl l) = get_or-replicate n a 0 0 l
-        go (inr l) = get_or_past (replicate n 0) a 0 (rw length-replicate l)
+zeros_agree M Lawful b n s k = (replicate n 0, length-replicate n 0, s.zeros (replicate n 0) (length-replicate n 0) (zero_at n), λ a v e. absurd (known_not k a v e))
 
 -- a work's rules for the setup of its machines
 pub sound_at : (S : Setup) (M : Meaning) (Lawful : List ℕ → Type 0) (many size : ℕ) → many ≡ S.callers → size ≡ S.cells → S.instrs ≡ MOST_INSTRS → IsSoundMeaning M Lawful (many * (MOST_INSTRS + 2)) size → IsSoundMeaning M Lawful (first_operation_cell S) S.cells

@@ -15,7 +15,7 @@ use Rattle.of_core.specs.TableMoment.{Read, Moment, Batch, TableStart, after_cou
 use Rattle.of_core.specs.History.{batch_at}
 use Rattle.of_core.specs.WordsMatch.{IsRequest, IsLogWord, WordsMatchHistory, WasHeldByCell}
 use Rattle.of_core.specs.Rounds.{KnowsOwnRequest, HasNothingUnderWay}
-use Rattle.of_core.specs.Transaction.{IsApplying, AppliesAs, IsStoringLog}
+use Rattle.of_core.specs.Transaction.{IsApplied, IsApplying, AppliesAs, IsStoringLog}
 use Rattle.of_core.specs.Invariant.{HoldsAtPlace, MeetsCore, IsLoaded}
 use Rattle.of_core.specs.Guarantees.{KeepsGuarantee, Guarantees}
 use Rattle.of_core.proofs.Logs.{length-log_words}
@@ -273,8 +273,8 @@ module _ {S : Setup} {Lawful : List ℕ → Type 0} {B : TableStart} where
         to : (xs : List ℕ) (b : Bool) → nat_lt (j + 1) (length m.log) ≡ b → HoldsAtPlace S B xs w.batches i m (RaiseTarget j f) → f ≤ durable_word S xs (data_at S x) → HoldsAtPlace S B xs w.batches i (next_entry m j b) (next_entry m j b).place
         to xs b e k u = by b e
           where
-            done : (y : ℕ) → y < j + 1 → (y ≡ j) ⊎ (y ≡ j → ⊥) → (m.seq ≤ seq_of (data_word S xs (log_entry m y).0)) × (m.seq ≤ seq_of (durable_cell S xs (log_entry m y).0))
-            done y l (inl q) = rw q (omega (arith, k.newer, seq_mono f (data_word S xs x) k.low), omega (arith, k.newer, seq_mono f (durable_cell S xs x) u))
+            done : (y : ℕ) → y < j + 1 → (y ≡ j) ⊎ (y ≡ j → ⊥) → IsApplied S xs m.seq (log_entry m y).0
+            done y l (inl q) = rw q (record { cell = omega (arith, k.newer, seq_mono f (data_word S xs x) k.low); durable = omega (arith, k.newer, seq_mono f (durable_cell S xs x) u) })
             done y l (inr q) = k.entry.applies.done y (omega arith)
 
             by : (b : Bool) → nat_lt (j + 1) (length m.log) ≡ b → HoldsAtPlace S B xs w.batches i (next_entry m j b) (next_entry m j b).place

@@ -1,5 +1,5 @@
 -- A round begins: the current-transaction word and its request are loaded. What a round may rest on: a third one meets its call, no cell of a call that is done is newer, and cells that are not newer are those of its state.
-use Rattle.std.proofs.Common.{◌≡◌, ℕ, ◌+◌, ◌-◌, ◌<◌, ◌≤◌, ◌⊎◌, ◌==◌, inl, inr, List, length, get_or, refl, sym, ◌∙◌, ap, arith, length-set, Some, None, Bool, true, false}
+use Rattle.std.proofs.Common.{Option, ◌≡◌, ℕ, ◌+◌, ◌-◌, ◌<◌, ◌≤◌, ◌⊎◌, ◌==◌, inl, inr, List, length, get_or, refl, sym, ◌∙◌, ap, arith, length-set, Some, None, Bool, true, false}
 use Rattle.std.proofs.lemmas.Bool.{cases_eq}
 use Rattle.std.proofs.lemmas.Bool.Decides.{nat_tests}
 use Rattle.std.proofs.lemmas.List.{length-replicate, get_or-set_same, get_or-set_other}
@@ -12,7 +12,7 @@ use Rattle.of_core.specs.Steps.{after_load_request, enter, is_request_open, take
 use Rattle.of_core.specs.TableMoment.{Moment, TableStart, after_counted_step}
 use Rattle.of_core.specs.History.{batch_at, data_word_after, IsCellOfCaller, last_ticket_by, numbers_after}
 use Rattle.of_core.specs.WordsMatch.{IsLastOpen}
-use Rattle.of_core.specs.Rounds.{WasCurrent, IsAnnounced, IsInRound, IsPastRequest, IsPastOwnTicket, HasNothingUnderWay}
+use Rattle.of_core.specs.Rounds.{KnowsClosedState, WasCurrent, IsAnnounced, IsInRound, IsPastRequest, IsPastOwnTicket, HasNothingUnderWay}
 use Rattle.of_core.specs.Invariant.{HoldsAtPlace, MeetsCore}
 use Rattle.of_core.specs.Guarantees.{KeepsGuarantee}
 use Rattle.of_core.proofs.States.{later, old}
@@ -47,12 +47,14 @@ module _ {S : Setup} {Lawful : List ℕ → Type 0} {B : TableStart} where
             mine = a.begun.mine;
             known = λ l. known b e;
           };
-          from = omega (arith, g.shared.counted.count);
-          upto = omega arith;
-          same = λ e. refl;
-          owner_in = g.shared.counted.owner_in;
-          committed = λ l. sym (g.shared.counted.owner l);
-          first = g.shared.counted.first;
+          current_word = record {
+            from = omega (arith, g.shared.counted.count);
+            upto = omega arith;
+            same = λ e. refl;
+            owner_in = g.shared.counted.owner_in;
+            committed = λ l. sym (g.shared.counted.owner l);
+            first = g.shared.counted.first;
+          };
           unowned = λ k l u. absurd (omega arith);
           later = from b e;
           begun_one = omega arith;
@@ -81,8 +83,8 @@ module _ {S : Setup} {Lawful : List ℕ → Type 0} {B : TableStart} where
     third_done n p q =
         let from : B.seq ≤ n.first = (p.begun.known p.begun_one).0 in
         let met : seq_of (announcement_of S w.words i) ≤ last_ticket_by S B w.batches (n.first + 1 + 1) i =
-        g.shared.heard.met (n.first + 1) i (omega arith) (omega (arith, p.later, p.upto)) h ((p.begun.known p.begun_one).1 (n.first + 1) (omega arith) (omega (arith, p.later, p.upto))) in
-        omega (arith, own_seq n p.begun, met, tickets_grow S Lawful B w.batches g.shared.stands (n.first + 1 + 1) n.seq i (omega arith) (omega (arith, p.later)) (omega (arith, p.upto, n_is)) h)
+        g.shared.heard.met (n.first + 1) i (omega arith) (omega (arith, p.later, p.current_word.upto)) h ((p.begun.known p.begun_one).1 (n.first + 1) (omega arith) (omega (arith, p.later, p.current_word.upto))) in
+        omega (arith, own_seq n p.begun, met, tickets_grow S Lawful B w.batches g.shared.stands (n.first + 1 + 1) n.seq i (omega arith) (omega (arith, p.later)) (omega (arith, p.current_word.upto, n_is)) h)
 
     pub two_rounds : (n : CallState) → IsPastOwnTicket S B w.words w.batches i n → n.rounds ≤ 2
     two_rounds n p = go (cases_eq n.rounds 3)
@@ -107,20 +109,20 @@ module _ {S : Setup} {Lawful : List ℕ → Type 0} {B : TableStart} where
     own_row_old n p t a r = go (g.shared.data_cells.each a (row_in a r))
       where
         at_k : (k : ℕ) → n.seq ≤ k → k ≤ committed_seq w.words → seq_of (data_word_after B w.batches k a) ≤ n.seq
-        at_k k l u = row_old S Lawful B w.batches g.shared.stands g.shared.start (logs_of g) g.shared.own_in n.seq k i a p.round.from l (omega (arith, n_is)) h
-            (omega (arith, t, p.round.begun.upto, tickets_grow S Lawful B w.batches g.shared.stands k (committed_seq w.words) i (omega (arith, p.round.from)) u (omega (arith, n_is)) h)) r
+        at_k k l u = row_old S Lawful B w.batches g.shared.stands g.shared.start (logs_of g) g.shared.own_in n.seq k i a p.round.current_word.from l (omega (arith, n_is)) h
+            (omega (arith, t, p.round.begun.upto, tickets_grow S Lawful B w.batches g.shared.stands k (committed_seq w.words) i (omega (arith, p.round.current_word.from)) u (omega (arith, n_is)) h)) r
 
         go : (data_word S w.words a ≡ data_word_after B w.batches (committed_seq w.words) a) ⊎ (IsLastOpen B w.words × (data_word S w.words a ≡ data_word_after B w.batches (committed_seq w.words - 1) a)) → seq_of (data_word S w.words a) ≤ n.seq
-        go (inl q) = rw q (at_k (committed_seq w.words) p.round.upto (omega arith))
+        go (inl q) = rw q (at_k (committed_seq w.words) p.round.current_word.upto (omega arith))
         go (inr (op, q)) =
-            let ne : n.seq ≡ committed_seq w.words → ⊥ = λ e. let z : pack n.seq 0 < request_of w.words (committed_owner w.words) = p.quiet e (omega (arith, op.any)) in omega (arith, op.asks, ap (λ (k : ℕ). pack k 0) e) in
-            rw q (at_k (committed_seq w.words - 1) (omega (arith, p.round.upto)) (omega arith))
+            let ne : n.seq ≡ committed_seq w.words → ⊥ = λ e. let z : pack n.seq 0 < request_of w.words (committed_owner w.words) = p.state.quiet e (omega (arith, op.any)) in omega (arith, op.asks, ap (λ (k : ℕ). pack k 0) e) in
+            rw q (at_k (committed_seq w.words - 1) (omega (arith, p.round.current_word.upto)) (omega arith))
 
     -- a round that met a newer cell begins again
     pub again : (n : CallState) → IsInRound S B w.words w.batches i n → HasNothingUnderWay S B w.words w.batches i n.seq → n.rounds ≤ 2 → (x : ℕ) → x < S.cells → n.seq < seq_of (data_word S w.words x) → HoldsAtPlace S B w.words w.batches i (next_round n) LoadCurrent
     again n p c few x l u = record {
       begun = begun_as p.begun refl refl refl refl refl refl;
-      calm = calm_more p.upto c;
+      calm = calm_more p.current_word.upto c;
       between = record { few = few; later = λ z. omega (arith, p.later, cell_upto x l) };
     }
 
@@ -130,9 +132,7 @@ module _ {S : Setup} {Lawful : List ℕ → Type 0} {B : TableStart} where
     entered_at n p o quiet = record {
       looks = record {
         round = round_as p refl refl refl refl refl refl refl refl;
-        quiet = quiet;
-        agrees = λ x v q. absurd (known_not S.cells x v q);
-        all = length-replicate S.cells None;
+        state = record { quiet = quiet; agrees = λ x v q. absurd (known_not S.cells x v q); all = length-replicate S.cells None };
       };
       calm = o;
       no_cell = refl;
@@ -151,9 +151,6 @@ module _ {S : Setup} {Lawful : List ℕ → Type 0} {B : TableStart} where
       where
         above : pack s 0 ≤ request_of w.words o → (request_of w.words o ≡ pack s 0 → ⊥) → pack s 0 < request_of w.words o
         above x y = omega arith
-
-    pub current_of : (n : CallState) → IsInRound S B w.words w.batches i n → WasCurrent S B w.words w.batches n.seq n.owner
-    current_of n p = record { from = p.from; upto = p.upto; same = p.same; owner_in = p.owner_in; committed = p.committed; first = p.first }
 
     pub not_open : (s f : ℕ) → is_request_open s f ≡ false → 0 < s → f ≡ pack s 0 → ⊥
     not_open s f e p q = grind (arith, nat_tests)
@@ -178,9 +175,9 @@ module _ {S : Setup} {Lawful : List ℕ → Type 0} {B : TableStart} where
         go : (b : Bool) → is_request_open m.seq (request_of w.words m.owner) ≡ b → HoldsAtPlace S B w.words w.batches i (after_load_request S m b) (after_load_request S m b).place
         go true eb = record {
           copies = record {
-            helping = record { helper = inl (round_as a.round refl refl refl refl refl refl refl refl); current_word = current_of m a.round; calm = a.calm };
+            helping = record { helper = inl (round_as a.round refl refl refl refl refl refl refl refl); current_word = a.round.current_word; calm = a.calm };
             helps = refl;
-            after = opened_after m.seq m.owner (current_of m a.round) eb;
+            after = opened_after m.seq m.owner a.round.current_word eb;
             many = refl;
             count = λ l. absurd (omega arith);
             copied = λ q. (omega arith, refl);
@@ -188,50 +185,56 @@ module _ {S : Setup} {Lawful : List ℕ → Type 0} {B : TableStart} where
           more = λ q. omega arith;
           in_log = omega arith;
         }
-        go false eb = entered_at m a.round a.calm (quiet_from m.seq m.owner (current_of m a.round) (λ l. not_open m.seq (request_of w.words m.owner) eb (omega (arith, l))))
+        go false eb = entered_at m a.round a.calm (quiet_from m.seq m.owner a.round.current_word (λ l. not_open m.seq (request_of w.words m.owner) eb (omega (arith, l))))
 
-    -- a cell that isn't newer than the round is that of the round's state
-    pub cell_of : (n : CallState) → IsPastRequest S B w.words w.batches i n → (x : ℕ) → x < S.cells → seq_of (data_word S w.words x) ≤ n.seq → data_word S w.words x ≡ data_word_after B w.batches n.seq x
-    cell_of n p x l o = go (g.shared.data_cells.each x l)
+    -- a cell that isn't newer than a round or a try is that of its state
+    pub cell_seen : (s o : ℕ) (known : List (Option ℕ)) → WasCurrent S B w.words w.batches s o → KnowsClosedState S B w.words w.batches s known → (x : ℕ) → x < S.cells → seq_of (data_word S w.words x) ≤ s → data_word S w.words x ≡ data_word_after B w.batches s x
+    cell_seen s o known c p x l fresh = go (g.shared.data_cells.each x l)
       where
-        go : (data_word S w.words x ≡ data_word_after B w.batches (committed_seq w.words) x) ⊎ (IsLastOpen B w.words × (data_word S w.words x ≡ data_word_after B w.batches (committed_seq w.words - 1) x)) → data_word S w.words x ≡ data_word_after B w.batches n.seq x
-        go (inl q) = q ∙ later S B w.batches g.shared.start (logs_of g) n.seq (committed_seq w.words) x p.round.from p.round.upto (omega arith) l (rw (← q) o)
+        go : (data_word S w.words x ≡ data_word_after B w.batches (committed_seq w.words) x) ⊎ (IsLastOpen B w.words × (data_word S w.words x ≡ data_word_after B w.batches (committed_seq w.words - 1) x)) → data_word S w.words x ≡ data_word_after B w.batches s x
+        go (inl q) = q ∙ later S B w.batches g.shared.start (logs_of g) s (committed_seq w.words) x c.from c.upto (omega (arith, n_is)) l (rw (← q) fresh)
         go (inr (op, q)) =
-            let ne : n.seq ≡ committed_seq w.words → ⊥ = λ e. let z : pack n.seq 0 < request_of w.words (committed_owner w.words) = p.quiet e (omega (arith, op.any)) in omega (arith, op.asks, ap (λ (k : ℕ). pack k 0) e) in
-            q ∙ later S B w.batches g.shared.start (logs_of g) n.seq (committed_seq w.words - 1) x p.round.from (omega (arith, p.round.upto)) (omega arith) l (rw (← q) o)
+            let ne : s ≡ committed_seq w.words → ⊥ = λ e. let z : pack s 0 < request_of w.words (committed_owner w.words) = p.quiet e (omega (arith, op.any)) in omega (arith, op.asks, ap (λ (k : ℕ). pack k 0) e) in
+            q ∙ later S B w.batches g.shared.start (logs_of g) s (committed_seq w.words - 1) x c.from (omega (arith, c.upto)) (omega (arith, n_is)) l (rw (← q) fresh)
 
-    -- a machine that has loaded the cell x, no newer than its round, knows it
-    pub learn : (n : CallState) → IsPastRequest S B w.words w.batches i n → (x : ℕ) → x < S.cells → seq_of (data_word S w.words x) ≤ n.seq → IsPastRequest S B w.words w.batches i (record n { known = with_cell_known S n x (data_word S w.words x) })
-    learn n p x l fresh = record {
-      round = round_as p.round refl refl refl refl refl refl refl refl;
-      quiet = p.quiet;
-      agrees = λ y v q. knows y v q (cases_eq y x);
-      all = length-set n.known x (Some (payload_of (data_word S w.words x))) ∙ p.all;
-    }
+    -- a try that has seen a cell of its state knows one more
+    pub watch_more : (s o : ℕ) (n : CallState) → WasCurrent S B w.words w.batches s o → KnowsClosedState S B w.words w.batches s n.known → (x : ℕ) → x < S.cells → seq_of (data_word S w.words x) ≤ s
+        → KnowsClosedState S B w.words w.batches s (with_cell_known S n x (data_word S w.words x))
+    watch_more s o n c p x l fresh = record { quiet = p.quiet; agrees = λ y v q. knows y v q (cases_eq y x); all = length-set n.known x (Some (payload_of (data_word S w.words x))) ∙ p.all }
       where
-        this : get_or (numbers_after B w.batches n.seq) x 0 ≡ payload_of (data_word S w.words x)
-        this = number_at B w.batches n.seq x ∙ ap payload_of (sym (cell_of n p x l fresh))
+        this : get_or (numbers_after B w.batches s) x 0 ≡ payload_of (data_word S w.words x)
+        this = number_at B w.batches s x ∙ ap payload_of (sym (cell_seen s o n.known c p x l fresh))
 
-        knows : (y v : ℕ) → get_or (with_cell_known S n x (data_word S w.words x)) y None ≡ Some v → (y ≡ x) ⊎ (y ≡ x → ⊥) → get_or (numbers_after B w.batches n.seq) y 0 ≡ v
+        knows : (y v : ℕ) → get_or (with_cell_known S n x (data_word S w.words x)) y None ≡ Some v → (y ≡ x) ⊎ (y ≡ x → ⊥) → get_or (numbers_after B w.batches s) y 0 ≡ v
         knows y v q (inl e) =
-            let s : get_or (with_cell_known S n x (data_word S w.words x)) x None ≡ Some (payload_of (data_word S w.words x)) = get_or-set_same n.known x (Some (payload_of (data_word S w.words x))) None (omega (arith, p.all)) in
-            let t : Some v ≡ Some (payload_of (data_word S w.words x)) = sym (rw e at q) ∙ s in
+            let z : get_or (with_cell_known S n x (data_word S w.words x)) x None ≡ Some (payload_of (data_word S w.words x)) = get_or-set_same n.known x (Some (payload_of (data_word S w.words x))) None (omega (arith, p.all, l)) in
+            let t : Some v ≡ Some (payload_of (data_word S w.words x)) = sym (rw e at q) ∙ z in
             let u : v ≡ payload_of (data_word S w.words x) = cc in
             rw e (this ∙ sym u)
         knows y v q (inr e) = p.agrees y v (sym (get_or-set_other n.known x y (Some (payload_of (data_word S w.words x))) None e) ∙ q)
 
+    -- and the durable sequence has reached it
+    pub seen_risen : (s o : ℕ) (known : List (Option ℕ)) → WasCurrent S B w.words w.batches s o → KnowsClosedState S B w.words w.batches s known → s ≤ durable_seq S w.words
+    seen_risen s o known c p = go g.shared.durable.step
+      where
+        go : (committed_seq w.words ≡ durable_seq S w.words) ⊎ ((committed_seq w.words ≡ durable_seq S w.words + 1) × IsLastOpen B w.words) → s ≤ durable_seq S w.words
+        go (inl q) = omega (arith, c.upto)
+        go (inr (q, op)) =
+            let ne : s ≡ committed_seq w.words → ⊥ = λ e. let z : pack s 0 < request_of w.words (committed_owner w.words) = p.quiet e (omega (arith, op.any)) in omega (arith, op.asks, ap (λ (k : ℕ). pack k 0) e) in
+            omega (arith, c.upto)
+
+    pub cell_of : (n : CallState) → IsPastRequest S B w.words w.batches i n → (x : ℕ) → x < S.cells → seq_of (data_word S w.words x) ≤ n.seq → data_word S w.words x ≡ data_word_after B w.batches n.seq x
+    cell_of n p x l o = cell_seen n.seq n.owner n.known p.round.current_word p.state x l o
+
+    -- a machine that has loaded the cell x, no newer than its round, knows it
+    pub learn : (n : CallState) → IsPastRequest S B w.words w.batches i n → (x : ℕ) → x < S.cells → seq_of (data_word S w.words x) ≤ n.seq → IsPastRequest S B w.words w.batches i (record n { known = with_cell_known S n x (data_word S w.words x) })
+    learn n p x l fresh = record { round = round_as p.round refl refl refl refl refl refl refl refl; state = watch_more n.seq n.owner n p.round.current_word p.state x l fresh }
+
     pub learn_past : (n : CallState) → IsPastOwnTicket S B w.words w.batches i n → (x : ℕ) → x < S.cells → seq_of (data_word S w.words x) ≤ n.seq → IsPastOwnTicket S B w.words w.batches i (record n { known = with_cell_known S n x (data_word S w.words x) })
     learn_past n p x l fresh = record { looks = learn n p.looks x l fresh; under = p.under; left = p.left }
 
-    -- what is so of s ≤ n where s isn't open: the durable word of CUR has reached it
     pub round_risen : (n : CallState) → IsPastRequest S B w.words w.batches i n → n.seq ≤ durable_seq S w.words
-    round_risen n p = go g.shared.durable.step
-      where
-        go : (committed_seq w.words ≡ durable_seq S w.words) ⊎ ((committed_seq w.words ≡ durable_seq S w.words + 1) × IsLastOpen B w.words) → n.seq ≤ durable_seq S w.words
-        go (inl q) = omega (arith, p.round.upto)
-        go (inr (q, op)) =
-            let ne : n.seq ≡ committed_seq w.words → ⊥ = λ e. let z : pack n.seq 0 < request_of w.words (committed_owner w.words) = p.quiet e (omega (arith, op.any)) in omega (arith, op.asks, ap (λ (k : ℕ). pack k 0) e) in
-            omega (arith, p.round.upto)
+    round_risen n p = seen_risen n.seq n.owner n.known p.round.current_word p.state
 
     pub at_risen : (n : CallState) → IsPastRequest S B w.words w.batches i n → n.seq ≤ B.seq + length w.batches
-    at_risen n p = omega (arith, p.round.upto, n_is)
+    at_risen n p = omega (arith, p.round.current_word.upto, n_is)

@@ -103,7 +103,7 @@ module _ {S : Setup} {Lawful : List ℕ → Type 0} {B : TableStart} where
         go None e = record { scanning = scanning_as a (past_as a.past refl refl refl refl refl refl refl refl refl) refl refl refl refl refl refl refl; heard = hears_now m.seq m.scan a.in_range; unknown = e }
         go (Some v) e =
             weighed_at (record m { heard = found }) (scanning_as a (past_as a.past refl refl refl refl refl refl refl refl refl) refl refl refl refl refl refl refl) (hears_now m.seq m.scan a.in_range) v
-            (sym (a.past.looks.agrees (ticket_cell S m.scan) v e) ∙ number_at B w.batches m.seq (ticket_cell S m.scan)) (nat_lt v (seq_of found)) refl
+            (sym (a.past.looks.state.agrees (ticket_cell S m.scan) v e) ∙ number_at B w.batches m.seq (ticket_cell S m.scan)) (nat_lt v (seq_of found)) refl
 
     pub load_ticket_kept : (m : CallState) → HoldsAtPlace S B w.words w.batches i m LoadTicket → KeepsGuarantee S Lawful B i w (after_counted_step S i m LoadTicket w)
     load_ticket_kept m a = assemble_read g h (take_word_at S m found LoadTicket) (same_words w (data_at S (ticket_cell S m.scan))) (same_batches w) (
@@ -142,7 +142,7 @@ module _ {S : Setup} {Lawful : List ℕ → Type 0} {B : TableStart} where
     -- the call that the scan has come to is run, as far as its cells are known
     runs_at : (n : CallState) → IsSoundMeaning S.meaning Lawful (first_operation_cell S) S.cells → IsAtCaller S B w.words w.batches i n → HasLoadedAnnouncement S B w.words w.batches i n.seq n.scan n.heard
         → HasLoadedScript S (state_after B w.batches n.seq) w.words n.seq n.scan n.heard n.script (payload_of n.heard) → HoldsAtPlace S B w.words w.batches i (run_script S n) (run_script S n).place
-    runs_at n sound at hs rs = go (S.meaning.walk (overlaid n.known n.log) n.script) refl (walk_fits S Lawful sound xs n.calls n.log size lawful v.over n.known n.script p.looks.agrees)
+    runs_at n sound at hs rs = go (S.meaning.walk (overlaid n.known n.log) n.script) refl (walk_fits S Lawful sound xs n.calls n.log size lawful v.over n.known n.script p.looks.state.agrees)
       where
         p : IsPastOwnTicket S B w.words w.batches i n
         p = at.past
@@ -157,10 +157,10 @@ module _ {S : Setup} {Lawful : List ℕ → Type 0} {B : TableStart} where
         xs = numbers_after B w.batches n.seq
 
         size : length (numbers_after B w.batches n.seq) ≡ S.cells
-        size = length-map (state_after B w.batches n.seq) payload_of ∙ state_length S B w.batches g.shared.start (logs_of g) n.seq p.looks.round.from (at_risen g h n p.looks)
+        size = length-map (state_after B w.batches n.seq) payload_of ∙ state_length S B w.batches g.shared.start (logs_of g) n.seq p.looks.round.current_word.from (at_risen g h n p.looks)
 
         lawful : Lawful (numbers_after B w.batches n.seq)
-        lawful = g.shared.stands.lawful n.seq p.looks.round.from (at_risen g h n p.looks)
+        lawful = g.shared.stands.lawful n.seq p.looks.round.current_word.from (at_risen g h n p.looks)
 
         go : (r : WalkEnd) → S.meaning.walk (overlaid n.known n.log) n.script ≡ r → WalkFits S.meaning (first_operation_cell S) S.cells (overlaid n.known n.log) (with_writes_in xs n.log) n.script (S.meaning.walk (overlaid n.known n.log) n.script) → HoldsAtPlace S B w.words w.batches i (after_script_run S n r) (after_script_run S n r).place
         go (Needs a) e f =

@@ -318,21 +318,6 @@ module _ (S : Setup) (Lawful : List ℕ → Type 0) (B : TableStart) (i : ℕ) (
         go (inl new) q = other (sym q ∙ v.newer_owner k new u)
         go (inr past) q = h k l past (rw (v.batches k (omega arith) past) at q)
 
-    round_stable : (m : CallState) → IsInRound S B ws bs j m → IsInRound S B vs cs j m
-    round_stable m h = let g = grows in record {
-      begun = begun_stable m h.begun;
-      from = h.from;
-      owner_in = h.owner_in;
-      upto = omega (arith, h.upto);
-      same = λ e. let q : committed_seq vs ≡ committed_seq ws = omega (arith, h.upto) in h.same (e ∙ q) ∙ sym (v.same q);
-      committed = λ l. rw (v.batches m.seq l h.upto) (h.committed l);
-      first = h.first;
-      unowned = unowned_stable m.seq h.from h.unowned;
-      later = h.later;
-      begun_one = h.begun_one;
-      few = h.few;
-    }
-
     current_stable : (s o : ℕ) → WasCurrent S B ws bs s o → WasCurrent S B vs cs s o
     current_stable s o h = let g = grows in record {
       from = h.from;
@@ -341,6 +326,16 @@ module _ (S : Setup) (Lawful : List ℕ → Type 0) (B : TableStart) (i : ℕ) (
       same = λ e. let q : committed_seq vs ≡ committed_seq ws = omega (arith, h.upto) in h.same (e ∙ q) ∙ sym (v.same q);
       committed = λ l. rw (v.batches s l h.upto) (h.committed l);
       first = h.first;
+    }
+
+    round_stable : (m : CallState) → IsInRound S B ws bs j m → IsInRound S B vs cs j m
+    round_stable m h = record {
+      begun = begun_stable m h.begun;
+      current_word = current_stable m.seq m.owner h.current_word;
+      unowned = unowned_stable m.seq h.current_word.from h.unowned;
+      later = h.later;
+      begun_one = h.begun_one;
+      few = h.few;
     }
 
     trying_stable : (m : CallState) → IsInTry S B ws bs j m → IsInTry S B vs cs j m
@@ -360,26 +355,19 @@ module _ (S : Setup) (Lawful : List ℕ → Type 0) (B : TableStart) (i : ℕ) (
     }
 
     looks_stable : (m : CallState) → IsPastRequest S B ws bs j m → IsPastRequest S B vs cs j m
-    looks_stable m h = let g = grows in let u = h.round.upto in record {
-      round = round_stable m h.round;
-      quiet = λ e l. let q : committed_seq vs ≡ committed_seq ws = omega arith in
-          let p : pack m.seq 0 < request_of ws (committed_owner ws) = h.quiet (e ∙ q) l in
-          rw (v.same q) (omega (arith, req_up (committed_owner ws) shared.counted.owner_in));
-      agrees = rw (v.states m.seq h.round.from h.round.upto) h.agrees;
-      all = h.all;
-    }
+    looks_stable m h = record { round = round_stable m h.round; state = watches_stable m.seq m.known h.round.current_word.from h.round.current_word.upto h.state }
 
     past_stable : (m : CallState) → IsPastOwnTicket S B ws bs j m → IsPastOwnTicket S B vs cs j m
-    past_stable m h = record { looks = looks_stable m h.looks; under = h.under; left = rw (v.states m.seq h.looks.round.from h.looks.round.upto) h.left }
+    past_stable m h = record { looks = looks_stable m h.looks; under = h.under; left = rw (v.states m.seq h.looks.round.current_word.from h.looks.round.current_word.upto) h.left }
 
     scans_stable : (m : CallState) (n : ℕ) → IsPastOwnTicket S B ws bs j m → HasScannedUpTo S B ws bs j m.seq m.made m.op m.raw m.calls m.log n → HasScannedUpTo S B vs cs j m.seq m.made m.op m.raw m.calls m.log n
-    scans_stable m n p h = over_stable m.seq p.looks.round.from p.looks.round.upto p.under j m.made m.op m.raw m.calls m.log n h
+    scans_stable m n p h = over_stable m.seq p.looks.round.current_word.from p.looks.round.current_word.upto p.under j m.made m.op m.raw m.calls m.log n h
 
     heard_stable : (m : CallState) → IsAtCaller S B ws bs j m → HasLoadedAnnouncement S B ws bs j m.seq m.scan m.heard → HasLoadedAnnouncement S B vs cs j m.seq m.scan m.heard
-    heard_stable m p h = hears_stable m.seq p.past.looks.round.from p.past.looks.round.upto p.past.under j m.scan m.heard p.in_range (λ q. rw q ann_same) h
+    heard_stable m p h = hears_stable m.seq p.past.looks.round.current_word.from p.past.looks.round.current_word.upto p.past.under j m.scan m.heard p.in_range (λ q. rw q ann_same) h
 
     script_stable : (m : CallState) (n : ℕ) → IsAtCaller S B ws bs j m → HasLoadedAnnouncement S B ws bs j m.seq m.scan m.heard → HasLoadedScript S (state_after B bs m.seq) ws m.seq m.scan m.heard m.script n → HasLoadedScript S (state_after B cs m.seq) vs m.seq m.scan m.heard m.script n
-    script_stable m n p h r = reads_stable m.seq p.past.looks.round.from p.past.looks.round.upto p.past.under j m.scan m.heard n m.script p.in_range h r
+    script_stable m n p h r = reads_stable m.seq p.past.looks.round.current_word.from p.past.looks.round.current_word.upto p.past.under j m.scan m.heard n m.script p.in_range h r
 
     -- the durable word of a cell that stays, and that has reached its cell, stays
     level_stable : (c : ℕ) → c < cell_count S → get_or vs c 0 ≡ get_or ws c 0 → durable_word S ws c ≡ get_or ws c 0 → durable_word S vs c ≡ durable_word S ws c
@@ -457,10 +445,10 @@ module _ (S : Setup) (Lawful : List ℕ → Type 0) (B : TableStart) (i : ℕ) (
       upto = omega (arith, h.upto, grows);
       committed = rw same h.committed;
       log = rw same h.log;
-      done = λ k l. let e : (log_entry m k).0 < S.cells = (entry_in shared h k (omega arith)).0 in (
-        omega (arith, seq_mono (data_word S ws (log_entry m k).0) (data_word S vs (log_entry m k).0) (cell_up (log_entry m k).0 e), (h.done k l).0),
-        omega (arith, seq_mono (durable_cell S ws (log_entry m k).0) (durable_cell S vs (log_entry m k).0) (v.durs (data_at S (log_entry m k).0) (omega arith)), (h.done k l).1),
-      );
+      done = λ k l. let e : (log_entry m k).0 < S.cells = (entry_in shared h k (omega arith)).0 in record {
+        cell = omega (arith, seq_mono (data_word S ws (log_entry m k).0) (data_word S vs (log_entry m k).0) (cell_up (log_entry m k).0 e), (h.done k l).cell);
+        durable = omega (arith, seq_mono (durable_cell S ws (log_entry m k).0) (durable_cell S vs (log_entry m k).0) (v.durs (data_at S (log_entry m k).0) (omega arith)), (h.done k l).durable);
+      };
     }
 
     entry_stable : (m : CallState) (n : ℕ) → IsAtEntry S B ws bs j m n → IsAtEntry S B vs cs j m n
@@ -566,12 +554,12 @@ module _ (S : Setup) (Lawful : List ℕ → Type 0) (B : TableStart) (i : ℕ) (
       whole = λ q. rw (v.batches m.seq h.copies.after h.copies.helping.current_word.upto) (h.whole (open_before m h.copies.helping.current_word h.copies.after q));
     }
     at_stable m LoadOwnTicket h = record { looks = looks_stable m h.looks; calm = calm_at m.seq h.calm; no_cell = h.no_cell; no_log = h.no_log; no_calls = h.no_calls; no_scan = h.no_scan }
-    at_stable m LoadShape h = record { looks = looks_stable m h.looks; calm = calm_at m.seq h.calm; finds = rw (v.states m.seq h.looks.round.from h.looks.round.upto) h.finds }
+    at_stable m LoadShape h = record { looks = looks_stable m h.looks; calm = calm_at m.seq h.calm; finds = rw (v.states m.seq h.looks.round.current_word.from h.looks.round.current_word.upto) h.finds }
     at_stable m (LoadReply y) h = record {
       looks = looks_stable m h.looks;
       calm = calm_at m.seq h.calm;
-      finds = rw (v.states m.seq h.looks.round.from h.looks.round.upto) h.finds;
-      reply = rw (v.states m.seq h.looks.round.from h.looks.round.upto) h.reply;
+      finds = rw (v.states m.seq h.looks.round.current_word.from h.looks.round.current_word.upto) h.finds;
+      reply = rw (v.states m.seq h.looks.round.current_word.from h.looks.round.current_word.upto) h.reply;
       in_reply = h.in_reply;
       marked = h.marked;
     }

@@ -20,7 +20,7 @@ use Rattle.of_core.proofs.Tests.{differ, mark_some}
 use Rattle.of_core.proofs.Rounds.{own_row_old}
 use Rattle.of_core.proofs.OwnReply.{done_now}
 use Rattle.of_core.proofs.Scans.{ticket_in_cells}
-use Rattle.of_core.proofs.Unknown.{none_known}
+use Rattle.of_mem.proofs.Lists.{none_at}
 use Rattle.of_core.proofs.StepSums.{fewer, row_cost, first_row, next_sum, done_sum, known_sum, known_sum0, again_sum, again_sum0, try_lost, cell_learnt, word_stored, words_stored, word_copied, words_copied, still_open, now_closed, round_lost, shape_read, reply_read, replies_skipped, row_heard, row_begun, row_skipped, word_loaded, words_loaded, log_word_stored, log_word_raised, log_raised, older_found, newer_found, entry_exchanged, entry_raised, entries_raised, request_closed, apply_ended}
 
 unknowns_all : (n : ℕ) → unknown_cell_count (replicate n None) ≡ n
@@ -217,7 +217,7 @@ module _ (S : Setup) where
         cells_in = rw a.looks.round.begun.caller (ticket_in_cells g h i h)
 
         known_one : unknown_cell_count (with_cell_known S m (ticket_cell S m.caller) found) + 1 ≡ S.cells
-        known_one = unknowns_set m.known (ticket_cell S m.caller) (payload_of found) (omega (arith, a.looks.all, cells_in)) (rw a.no_cell (none_known S.cells (ticket_cell S m.caller))) ∙ ap unknown_cell_count a.no_cell ∙ unknowns_all S.cells
+        known_one = unknowns_set m.known (ticket_cell S m.caller) (payload_of found) (omega (arith, a.looks.state.all, cells_in)) (rw a.no_cell (none_at S.cells (ticket_cell S m.caller))) ∙ ap unknown_cell_count a.no_cell ∙ unknowns_all S.cells
 
         go : (b c d : Bool) → MachineIsWithinBound S (after_own_ticket S now found b c d) (after_own_ticket S now found b c d).place
         go true c d = record { told = λ q. cc; steps = round_lost m.steps (round_steps_after_help S) (steps_left_in_rounds S m) (bound S) (omega arith) t.steps }
@@ -267,7 +267,7 @@ module _ (S : Setup) where
         go true = record { told = λ q. cc; steps = again_sum m.steps S.instrs ((S.callers - m.scan - 1) * (S.instrs + 1)) (unknown_cell_count m.known) (4 * S.cells + 6) (steps_left_in_rounds S m) (bound S) (omega arith) t.steps }
         go false = weighed_within (record now { known = with_cell_known S m (ticket_cell S m.scan) found }) a.scanning.in_range
             (known_sum m.steps S.instrs ((S.callers - m.scan - 1) * (S.instrs + 1)) (unknown_cell_count m.known) (unknown_cell_count (with_cell_known S m (ticket_cell S m.scan) found)) (4 * S.cells + 6) (steps_left_in_rounds S m) (bound S)
-            (unknowns_set m.known (ticket_cell S m.scan) (payload_of found) (omega (arith, a.scanning.past.looks.all, ticket_in_cells g h m.scan a.scanning.in_range)) a.unknown) t.steps)
+            (unknowns_set m.known (ticket_cell S m.scan) (payload_of found) (omega (arith, a.scanning.past.looks.state.all, ticket_in_cells g h m.scan a.scanning.in_range)) a.unknown) t.steps)
             (nat_lt (payload_of found) (seq_of m.heard))
     within (LoadScript j) a t e = go (nat_lt (j + 1) (payload_of m.heard))
       where
@@ -289,7 +289,7 @@ module _ (S : Setup) where
         go true = record { told = λ q. cc; steps = again_sum0 m.steps ((S.callers - m.scan - 1) * (S.instrs + 1)) (unknown_cell_count m.known) (4 * S.cells + 6) (steps_left_in_rounds S m) (bound S) (omega arith) t.steps }
         go false = ran_within (record now { known = with_cell_known S m x found }) a.scanning.in_range
             (known_sum0 m.steps ((S.callers - m.scan - 1) * (S.instrs + 1)) (unknown_cell_count m.known) (unknown_cell_count (with_cell_known S m x found)) (4 * S.cells + 6) (steps_left_in_rounds S m) (bound S)
-            (unknowns_set m.known x (payload_of found) (omega (arith, a.scanning.past.looks.all, a.in_cells)) a.unknown) t.steps)
+            (unknowns_set m.known x (payload_of found) (omega (arith, a.scanning.past.looks.state.all, a.in_cells)) a.unknown) t.steps)
             (S.meaning.walk (overlaid (with_cell_known S m x found) m.log) m.script)
     within RaiseOld a t e = record { told = λ q. cc; steps = sum m.steps S.cells (steps_left_in_rounds S m) (bound S) t.steps }
       where

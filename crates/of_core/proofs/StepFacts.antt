@@ -78,7 +78,7 @@ module _ (S : Setup) (Lawful : List ℕ → Type 0) (B : TableStart) (w : Moment
   asks_facts p e r u x a b c s v k y (Some j) = on p (next_reply_place x (Some j)) a b c e (omega (arith, r, s)) (λ q. absurd q) (omega (arith, k), y)
 
   heard_old : IsPastRequest S B w.words w.batches i m → FindsOwnTicket S (state_after B w.batches m.seq) i m → seq_of m.heard ≤ m.seq
-  heard_old p f = omega (arith, ap seq_of f.heard, old S B w.batches g.shared.start (logs_of g) m.seq (ticket_cell S i) p.round.from (at_risen g h m p) (ticket_in_cells g h i h))
+  heard_old p f = omega (arith, ap seq_of f.heard, old S B w.batches g.shared.start (logs_of g) m.seq (ticket_cell S i) p.round.current_word.from (at_risen g h m p) (ticket_in_cells g h i h))
 
   pub step_facts : (p : Place) → IsOpen p → HoldsAtPlace S B w.words w.batches i m p → IsStepAtPlace S m n p (take_word_at S (with_step_counted p m) n p) (step_batches_at S w.words m n p)
   step_facts Idle o a = cc

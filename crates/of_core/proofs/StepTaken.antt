@@ -90,7 +90,7 @@ module _ (S : Setup) (Lawful : List ℕ → Type 0) (B : TableStart) (w : Moment
       let c = facts.commits l in
       let x = subst (λ (p : Place). HoldsAtPlace S B w.words w.batches i m p) c.0 a in
       let y : n ≡ get_or w.words 0 0 = subst (λ (p : Place). IsFoundBy (want_at S m p) w.words n) c.0 f in
-      let owner : m.owner < PAYLOADS = omega (arith, x.stored.past.looks.round.owner_in, g.core.shared.few) in
+      let owner : m.owner < PAYLOADS = omega (arith, x.stored.past.looks.round.current_word.owner_in, g.core.shared.few) in
       let z : committed_seq w.words ≡ m.seq = ap seq_of (sym y ∙ c.1) ∙ seq_word m.seq m.owner owner in
       ap (rests_on_seq_at m) c.0 ∙ sym z ∙ g.core.shared.counted.count
 

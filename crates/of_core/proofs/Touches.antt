@@ -184,12 +184,14 @@ module _ {S : Setup} {Lawful : List ℕ → Type 0} {B : TableStart} where
       pub round_of : (m : CallState) → i < S.callers → IsInRound S B ws bs i m → (n : CallState) → n.caller ≡ m.caller → n.made ≡ m.made → n.op ≡ m.op → n.seq ≡ m.seq → n.owner ≡ m.owner → n.kept ≡ m.kept → n.rounds ≡ m.rounds → n.first ≡ m.first → IsInRound S B vs bs i n
       round_of m h p n a b o c d x r f = record {
         begun = begun_of m h p.begun n a b o x r f;
-        from = rw c p.from;
-        upto = rw (c, t.current_word) p.upto;
-        same = rw (c, d, t.current_word) p.same;
-        owner_in = rw d p.owner_in;
-        committed = rw (c, d) p.committed;
-        first = rw (c, d) p.first;
+        current_word = record {
+          from = rw c p.current_word.from;
+          upto = rw (c, t.current_word) p.current_word.upto;
+          same = rw (c, d, t.current_word) p.current_word.same;
+          owner_in = rw d p.current_word.owner_in;
+          committed = rw (c, d) p.current_word.committed;
+          first = rw (c, d) p.current_word.first;
+        };
         unowned = rw (c, t.current_word) p.unowned;
         later = rw (c, r, f) p.later;
         begun_one = rw r p.begun_one;
@@ -200,9 +202,11 @@ module _ {S : Setup} {Lawful : List ℕ → Type 0} {B : TableStart} where
       past_of m h p n a b o c d x r f e = record {
         looks = record {
           round = round_of m h p.looks.round n a b o c d x r f;
-          quiet = λ q l. let y : pack m.seq 0 < request_of ws (committed_owner ws) = p.looks.quiet (sym c ∙ q ∙ last_same) (rw c at l) in rw (c, t.current_word) (omega (arith, t.rise (committed_owner ws + 1) (omega (arith, s.counted.owner_in))));
-          agrees = rw (c, e) p.looks.agrees;
-          all = rw e p.looks.all;
+          state = record {
+            quiet = λ q l. let y : pack m.seq 0 < request_of ws (committed_owner ws) = p.looks.state.quiet (sym c ∙ q ∙ last_same) (rw c at l) in rw (c, t.current_word) (omega (arith, t.rise (committed_owner ws + 1) (omega (arith, s.counted.owner_in))));
+            agrees = rw (c, e) p.looks.state.agrees;
+            all = rw e p.looks.state.all;
+          };
         };
         under = rw c p.under;
         left = rw (b, c) p.left;

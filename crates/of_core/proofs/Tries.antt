@@ -1,66 +1,29 @@
 -- A read is tried before it is announced.
-use Rattle.std.proofs.Common.{◌≡◌, ℕ, ◌+◌, ◌-◌, ◌<◌, ◌≤◌, ◌⊎◌, ◌==◌, inl, inr, List, length, get_or, refl, sym, ◌∙◌, ap, arith, length-set, Option, Some, None, Bool, true, false, nat_lt}
-use Rattle.std.proofs.lemmas.Bool.{cases_eq}
+use Rattle.std.proofs.Common.{◌≡◌, ℕ, ◌+◌, ◌<◌, ◌≤◌, ◌==◌, inl, inr, List, length, refl, sym, ◌∙◌, arith, None, Bool, true, false, nat_lt}
 use Rattle.std.proofs.lemmas.Bool.Decides.{nat_tests}
-use Rattle.std.proofs.lemmas.List.{length-map, length-replicate, get_or-set_same, get_or-set_other}
+use Rattle.std.proofs.lemmas.List.{length-map, length-replicate}
 use Rattle.of_core.specs.declared.machine.trying.TheConstants.{MOST_TRIES}
 use Rattle.of_cell.specs.Words.{pack, seq_of, payload_of}
 use Rattle.of_mem.specs.Meaning.{WalkEnd, Needs, Gives, WalkFits, IsSoundMeaning}
 use Rattle.of_core.specs.declared.place.Place.TheVariants.{TryCurrent, TryRequest, TryCell}
-use Rattle.of_core.specs.Table.{Setup, data_at, first_operation_cell, current_word, request_of, data_word, committed_seq, committed_owner, durable_seq}
+use Rattle.of_core.specs.Table.{Setup, data_at, first_operation_cell, current_word, request_of, data_word, committed_seq, committed_owner}
 use Rattle.of_core.specs.Machine.{CallState, no_cell_known, with_cell_known}
 use Rattle.of_core.specs.Steps.{read_on, after_read_run, begin_reading, resume, after_try_request, end_try, after_try_cell, is_request_open, take_word_at}
 use Rattle.of_core.specs.TableMoment.{Moment, TableStart, after_counted_step}
-use Rattle.of_core.specs.History.{state_after, data_word_after, numbers_after}
-use Rattle.of_core.specs.WordsMatch.{IsLastOpen}
+use Rattle.of_core.specs.History.{state_after, numbers_after}
 use Rattle.of_core.specs.Rounds.{WasCurrent, IsInTry, MayHelp, KnowsClosedState, HasNothingUnderWay}
 use Rattle.of_core.specs.Invariant.{HoldsAtPlace, MeetsCore}
 use Rattle.of_core.specs.Guarantees.{KeepsGuarantee}
-use Rattle.of_core.proofs.States.{state_length, later}
+use Rattle.of_core.proofs.States.{state_length}
 use Rattle.of_core.proofs.Alike.{calm_more, fresh_as, trying_as}
 use Rattle.of_core.proofs.Unknown.{known_not}
-use Rattle.of_core.proofs.Assembling.{assemble_read, logs_of, number_at, same_batches, same_words}
-use Rattle.of_core.proofs.Rounds.{entered_at, n_is, not_open, opened_after, quiet_from}
+use Rattle.of_core.proofs.Assembling.{assemble_read, logs_of, same_batches, same_words}
+use Rattle.of_core.proofs.Rounds.{watch_more, seen_risen, entered_at, n_is, not_open, opened_after, quiet_from}
 use Rattle.of_core.proofs.Tests.{differ, not_newer}
 
 module _ {S : Setup} {Lawful : List ℕ → Type 0} {B : TableStart} where
   -- the machine of caller i
   module _ {w : Moment} (g : MeetsCore S Lawful B w) {i : ℕ} (h : i < S.callers) where
-    -- a cell that isn't newer than a round or a try is that of its state
-    cell_seen : (s o : ℕ) (known : List (Option ℕ)) → WasCurrent S B w.words w.batches s o → KnowsClosedState S B w.words w.batches s known → (x : ℕ) → x < S.cells → seq_of (data_word S w.words x) ≤ s → data_word S w.words x ≡ data_word_after B w.batches s x
-    cell_seen s o known c p x l fresh = go (g.shared.data_cells.each x l)
-      where
-        go : (data_word S w.words x ≡ data_word_after B w.batches (committed_seq w.words) x) ⊎ (IsLastOpen B w.words × (data_word S w.words x ≡ data_word_after B w.batches (committed_seq w.words - 1) x)) → data_word S w.words x ≡ data_word_after B w.batches s x
-        go (inl q) = q ∙ later S B w.batches g.shared.start (logs_of g) s (committed_seq w.words) x c.from c.upto (omega (arith, n_is g h)) l (rw (← q) fresh)
-        go (inr (op, q)) =
-            let ne : s ≡ committed_seq w.words → ⊥ = λ e. let z : pack s 0 < request_of w.words (committed_owner w.words) = p.quiet e (omega (arith, op.any)) in omega (arith, op.asks, ap (λ (k : ℕ). pack k 0) e) in
-            q ∙ later S B w.batches g.shared.start (logs_of g) s (committed_seq w.words - 1) x c.from (omega (arith, c.upto)) (omega (arith, n_is g h)) l (rw (← q) fresh)
-
-    -- a try that has seen a cell of its state knows one more
-    pub watch_more : (s o : ℕ) (n : CallState) → WasCurrent S B w.words w.batches s o → KnowsClosedState S B w.words w.batches s n.known → (x : ℕ) → x < S.cells → seq_of (data_word S w.words x) ≤ s
-        → KnowsClosedState S B w.words w.batches s (with_cell_known S n x (data_word S w.words x))
-    watch_more s o n c p x l fresh = record { quiet = p.quiet; agrees = λ y v q. knows y v q (cases_eq y x); all = length-set n.known x (Some (payload_of (data_word S w.words x))) ∙ p.all }
-      where
-        this : get_or (numbers_after B w.batches s) x 0 ≡ payload_of (data_word S w.words x)
-        this = number_at B w.batches s x ∙ ap payload_of (sym (cell_seen s o n.known c p x l fresh))
-
-        knows : (y v : ℕ) → get_or (with_cell_known S n x (data_word S w.words x)) y None ≡ Some v → (y ≡ x) ⊎ (y ≡ x → ⊥) → get_or (numbers_after B w.batches s) y 0 ≡ v
-        knows y v q (inl e) =
-            let z : get_or (with_cell_known S n x (data_word S w.words x)) x None ≡ Some (payload_of (data_word S w.words x)) = get_or-set_same n.known x (Some (payload_of (data_word S w.words x))) None (omega (arith, p.all, l)) in
-            let t : Some v ≡ Some (payload_of (data_word S w.words x)) = sym (rw e at q) ∙ z in
-            let u : v ≡ payload_of (data_word S w.words x) = cc in
-            rw e (this ∙ sym u)
-        knows y v q (inr e) = p.agrees y v (sym (get_or-set_other n.known x y (Some (payload_of (data_word S w.words x))) None e) ∙ q)
-
-    seen_risen : (s o : ℕ) (known : List (Option ℕ)) → WasCurrent S B w.words w.batches s o → KnowsClosedState S B w.words w.batches s known → s ≤ durable_seq S w.words
-    seen_risen s o known c p = go g.shared.durable.step
-      where
-        go : (committed_seq w.words ≡ durable_seq S w.words) ⊎ ((committed_seq w.words ≡ durable_seq S w.words + 1) × IsLastOpen B w.words) → s ≤ durable_seq S w.words
-        go (inl q) = omega (arith, c.upto)
-        go (inr (q, op)) =
-            let ne : s ≡ committed_seq w.words → ⊥ = λ e. let z : pack s 0 < request_of w.words (committed_owner w.words) = p.quiet e (omega (arith, op.any)) in omega (arith, op.asks, ap (λ (k : ℕ). pack k 0) e) in
-            omega (arith, c.upto)
-
     -- a try goes on by its walk
     reads_at : (n : CallState) → IsSoundMeaning S.meaning Lawful (first_operation_cell S) S.cells → IsInTry S B w.words w.batches i n → WasCurrent S B w.words w.batches n.seq n.owner → HasNothingUnderWay S B w.words w.batches i n.seq → KnowsClosedState S B w.words w.batches n.seq n.known
         → HoldsAtPlace S B w.words w.batches i (read_on S n) (read_on S n).place
@@ -84,7 +47,7 @@ module _ {S : Setup} {Lawful : List ℕ → Type 0} {B : TableStart} where
           quieted = p.fresh.quieted;
           upto = omega (arith, p.fresh.above);
           older = omega (arith, p.fresh.newer);
-          told = record { from = c.from; durable = seen_risen n.seq n.owner n.known c k; upto = c.upto; reply = (rw e at f).reply; reads = p.reads };
+          told = record { from = c.from; durable = seen_risen g h n.seq n.owner n.known c k; upto = c.upto; reply = (rw e at f).reply; reads = p.reads };
         }
 
     tried_at : (n : CallState) → IsSoundMeaning S.meaning Lawful (first_operation_cell S) S.cells → IsInTry S B w.words w.batches i n → WasCurrent S B w.words w.batches n.seq n.owner → HasNothingUnderWay S B w.words w.batches i n.seq
@@ -153,4 +116,4 @@ module _ {S : Setup} {Lawful : List ℕ → Type 0} {B : TableStart} where
         go : (b : Bool) → nat_lt m.seq (seq_of (data_word S w.words x)) ≡ b → HoldsAtPlace S B w.words w.batches i (after_try_cell S m x (data_word S w.words x) b) (after_try_cell S m x (data_word S w.words x) b).place
         go true e = over (nat_lt m.tries MOST_TRIES) refl
         go false e = reads_at (record m { known = with_cell_known S m x (data_word S w.words x) }) sound (trying_as a.trying refl refl refl refl refl refl) a.current_word a.calm
-            (watch_more m.seq m.owner m a.current_word a.state x a.in_cells (not_newer m.seq (seq_of (data_word S w.words x)) e))
+            (watch_more g h m.seq m.owner m a.current_word a.state x a.in_cells (not_newer m.seq (seq_of (data_word S w.words x)) e))

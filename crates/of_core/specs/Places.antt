@@ -70,7 +70,7 @@ module _ (S : Setup) (B : TableStart) (ws : List ℕ) (bs : List Batch) (i : ℕ
     pub current_word : WasCurrent S B ws bs m.seq m.owner
     pub calm : HasNothingUnderWay S B ws bs i m.seq
 
-  -- TryCell a: the transaction of the try isn't open, and its state lacks the cell a
+  -- TryCell a: the transaction of the try isn't open, and its run needs the cell a
   pub record IsTryingCell (a : ℕ) : Type 0 where
     pub trying : IsInTry S B ws bs i m
     pub current_word : WasCurrent S B ws bs m.seq m.owner
@@ -160,7 +160,7 @@ module _ (S : Setup) (B : TableStart) (ws : List ℕ) (bs : List Batch) (i : ℕ
     pub loaded : HasLoadedScript S (state_after B bs m.seq) ws m.seq m.scan m.heard m.script j
     pub more : j < payload_of m.heard
 
-  -- LoadCell a: all words of it are loaded, and its run lacks the cell a
+  -- LoadCell a: all words of it are loaded, and its run needs the cell a
   pub record IsLoadingCell (a : ℕ) : Type 0 where
     pub scanning : IsAtCaller
     pub heard : HasLoadedAnnouncement S B ws bs i m.seq m.scan m.heard
@@ -175,7 +175,7 @@ module _ (S : Setup) (B : TableStart) (ws : List ℕ) (bs : List Batch) (i : ℕ
     pub calm : HasNothingUnderWay S B ws bs i m.seq
     pub scan : HasScannedUpTo S B ws bs i m.seq m.made m.op m.raw m.calls m.log S.callers
 
-  -- StoreLog and RaiseLog: the first x log words are stored and the first z durable, and z is next
+  -- StoreLog and RaiseLog: x words of the log are stored and z durable, and there is a word z
   pub record IsAtLogWord (x z : ℕ) : Type 0 where
     pub storing : IsStoringLog S B ws bs i m x z
     pub more : z < length (log_words m.log)
@@ -192,13 +192,13 @@ module _ (S : Setup) (B : TableStart) (ws : List ℕ) (bs : List Batch) (i : ℕ
     pub asks : request_of ws i ≡ pack (m.seq + 1) 0
     pub raised : durable_request S ws i ≡ pack (m.seq + 1) 0
 
-  -- LoadTarget j: entry j is next, of a transaction that is durable
+  -- LoadTarget j: the entries below j are applied, and the transaction is durable
   pub record IsAtEntry (j : ℕ) : Type 0 where
     pub applies : IsApplying S B ws bs i m j
     pub more : j < length m.log
     pub durable : m.seq ≤ durable_seq S ws
 
-  -- ExchangeTarget j f: its cell held the older word f, and may have been applied since
+  -- ExchangeTarget j f: its cell held the older word f, and holds it still or is applied
   pub record IsExchangingTarget (j f : ℕ) : Type 0 where
     pub entry : IsAtEntry j
     pub older : seq_of f < m.seq
@@ -210,7 +210,7 @@ module _ (S : Setup) (B : TableStart) (ws : List ℕ) (bs : List Batch) (i : ℕ
     pub entry : IsAtEntry j
     pub newer : m.seq ≤ seq_of (data_word S ws (log_entry m j).0)
 
-  -- RaiseTarget j f: its cell has held f, which is no older than the transaction
+  -- RaiseTarget j f: its cell has held f, and f is no older than the transaction
   pub record IsRaisingTarget (j f : ℕ) : Type 0 where
     pub entry : IsAtEntry j
     pub newer : m.seq ≤ seq_of f

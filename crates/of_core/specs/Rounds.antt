@@ -88,34 +88,30 @@ module _ (S : Setup) (B : TableStart) (ws : List ℕ) (bs : List Batch) where
         × ((k : ℕ) → m.first < k → k ≤ committed_seq ws
         → (batch_at B bs k).announcements i ≡ announcement_of S ws i)
 
+  -- the current-transaction word was (s, o) at some moment
+  pub record WasCurrent (s o : ℕ) : Type 0 where
+    -- s is a sequence that stands
+    pub from : B.seq ≤ s
+    pub upto : s ≤ committed_seq ws
+    -- while it is the last one, o is the last owner
+    pub same : s ≡ committed_seq ws → o ≡ committed_owner ws
+    pub owner_in : o < S.callers
+    -- and o is that batch's owner, or the start's
+    pub committed : B.seq < s → (batch_at B bs s).owner ≡ o
+    pub first : s ≡ B.seq → o ≡ B.owner
+
   -- a round at m.seq
   pub record IsInRound (i : ℕ) (m : CallState) : Type 0 where
     -- the call is announced
     pub begun : IsAnnounced i m
-    -- the round is at a sequence that stands
-    pub from : B.seq ≤ m.seq
-    pub upto : m.seq ≤ committed_seq ws
-    -- while that is the last one, its owner is the one that was loaded
-    pub same : m.seq ≡ committed_seq ws → m.owner ≡ committed_owner ws
-    pub owner_in : m.owner < S.callers
-    -- and it is that batch's owner
-    pub committed : B.seq < m.seq → (batch_at B bs m.seq).owner ≡ m.owner
-    pub first : m.seq ≡ B.seq → m.owner ≡ B.owner
+    -- the round has loaded sequence and owner
+    pub current_word : WasCurrent m.seq m.owner
     -- one has committed nothing since
     pub unowned : (k : ℕ) → m.seq < k → k ≤ committed_seq ws → (batch_at B bs k).owner ≡ i → ⊥
     -- each round is at a later sequence
     pub later : m.first + m.rounds ≤ m.seq + 1
     pub begun_one : 1 ≤ m.rounds
     pub few : m.rounds ≤ 3
-
-  -- the current-transaction word was (s, o) at some moment
-  pub record WasCurrent (s o : ℕ) : Type 0 where
-    pub from : B.seq ≤ s
-    pub upto : s ≤ committed_seq ws
-    pub same : s ≡ committed_seq ws → o ≡ committed_owner ws
-    pub owner_in : o < S.callers
-    pub committed : B.seq < s → (batch_at B bs s).owner ≡ o
-    pub first : s ≡ B.seq → o ≡ B.owner
 
   -- a try of a read
   pub record IsInTry (i : ℕ) (m : CallState) : Type 0 where
@@ -127,21 +123,18 @@ module _ (S : Setup) (B : TableStart) (ws : List ℕ) (bs : List Batch) where
   abbrev pub MayHelp : ℕ → CallState → Type 0
   MayHelp i m = IsInRound i m ⊎ IsInTry i m
 
-  -- past the look at the request, a try or a round knows cells of its state
+  -- past the look at the request: the transaction of s isn't open, and some cells are known
   pub record KnowsClosedState (s : ℕ) (known : List (Option ℕ)) : Type 0 where
+    -- the transaction of s is closed, or a later one stands
     pub quiet : s ≡ committed_seq ws → B.seq < s → pack s 0 < request_of ws (committed_owner ws)
+    -- what is known of cells is of the state of s
     pub agrees : Agrees known (numbers_after B bs s)
     pub all : length known ≡ S.cells
 
-  -- past the look at the request: the transaction of the round's sequence isn't open
+  -- a round past the look at the request
   pub record IsPastRequest (i : ℕ) (m : CallState) : Type 0 where
     pub round : IsInRound i m
-    -- the transaction of that sequence is closed, or a later one stands
-    pub quiet : m.seq ≡ committed_seq ws → B.seq < m.seq
-        → pack m.seq 0 < request_of ws (committed_owner ws)
-    -- what is known of cells is of its state
-    pub agrees : Agrees m.known (numbers_after B bs m.seq)
-    pub all : length m.known ≡ S.cells
+    pub state : KnowsClosedState m.seq m.known
 
   -- past the look at one's own ticket: the call isn't in the history up to m.seq, and it isn't the
   -- last

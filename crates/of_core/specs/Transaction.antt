@@ -18,6 +18,11 @@ pub record IsReorderingOf (es ds : List (ℕ × ℕ)) : Type 0 where
   pub all : (k : ℕ) → k < length es
       → (j : ℕ) × (j < length ds) × (get_or ds j (0, 0) ≡ get_or es k (0, 0))
 
+-- the data cell a and its durable word are no older than s
+pub record IsApplied (S : Setup) (ws : List ℕ) (s a : ℕ) : Type 0 where
+  pub cell : s ≤ seq_of (data_word S ws a)
+  pub durable : s ≤ seq_of (durable_cell S ws a)
+
 module _ (S : Setup) (B : TableStart) (ws : List ℕ) (bs : List Batch) (i : ℕ) where
   -- the owner of batch m.seq, after its exchange
   pub record OwnsTransaction (m : CallState) : Type 0 where
@@ -42,17 +47,14 @@ module _ (S : Setup) (B : TableStart) (ws : List ℕ) (bs : List Batch) (i : ℕ
   AppliesAs m true = IsHelping m
   AppliesAs m false = OwnsTransaction m
 
-  -- m.log has the entries of batch m.seq's log, and its first entries up to j are in the cells and
-  -- durable
+  -- m.log has the entries of batch m.seq's log, and those below j are applied
   pub record IsApplying (m : CallState) (j : ℕ) : Type 0 where
     pub mode : AppliesAs m m.helps
     pub after : B.seq < m.seq
     pub upto : m.seq ≤ committed_seq ws
     pub committed : (batch_at B bs m.seq).owner ≡ m.owner
     pub log : IsReorderingOf (batch_at B bs m.seq).log m.log
-    pub done : (k : ℕ) → k < j
-        → (m.seq ≤ seq_of (data_word S ws (log_entry m k).0))
-        × (m.seq ≤ seq_of (durable_cell S ws (log_entry m k).0))
+    pub done : (k : ℕ) → k < j → IsApplied S ws m.seq (log_entry m k).0
 
   -- a helper has loaded x log words of m.owner. While the request is still open, they are those of
   -- the batch's log
