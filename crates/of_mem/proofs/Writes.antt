@@ -1,11 +1,12 @@
 -- Writes as pairs: what pairs in order of first writing leave, and that no cell stands in them twice.
-use Rattle.std.proofs.Common.{◌≡◌, ◌≢◌, ℕ, zero, suc, ◌+◌, ◌-◌, ◌<◌, ◌==◌, inl, inr, Bool, true, false, if◌then◌else◌, List, [], ◌∷◌, length, get_or, set, take, drop, refl, sym, ◌∙◌, ap, subst, arith, length-set}
+use Rattle.std.proofs.Common.{◌≡◌, ◌≢◌, ℕ, zero, suc, ◌+◌, ◌-◌, ◌<◌, ◌≤◌, ◌==◌, inl, inr, Bool, true, false, if◌then◌else◌, List, [], ◌∷◌, length, get_or, set, take, drop, refl, sym, ◌∙◌, ap, subst, arith, length-set}
 use Rattle.std.specs.List.{All, AllByRecursion as Each}
 use Rattle.std.proofs.lemmas.Bool.{cases_lt}
 use Rattle.std.proofs.lemmas.Bool.Decides.{nat_tests}
-use Rattle.std.proofs.lemmas.List.{set_comm, drop-set-lt, drop-set-add, take_more, length-take, get_or-take}
+use Rattle.std.proofs.lemmas.List.{set_comm, drop-set-lt, drop-set-add, take_more, length-take, get_or-take, take_all}
 use Rattle.of_mem.specs.CellMap.{put_pair, put_all, IsAbsent}
 use Rattle.of_mem.specs.Meaning.{with_writes_in, HasDistinctCells, SameFrom}
+use Rattle.of_mem.proofs.Cells.{put_all_take}
 use Rattle.of_mem.proofs.Indexed.{put-absent}
 
 absent_tail : (e : ℕ × ℕ) (es : List (ℕ × ℕ)) (a : ℕ) → IsAbsent (e ∷ es) a → IsAbsent es a
@@ -121,3 +122,16 @@ put_next es once i l = put-absent (take i es) (get_or es i (0, 0)).0 (get_or es 
         let same : get_or (take i es) k (0, 0) ≡ get_or es k (0, 0) = get_or-take i es k (0, 0) n in
         let j : k ≡ i = once k i (omega arith) l (ap (λ (x : ℕ × ℕ). x.0) (sym same) ∙ e) in
         omega arith
+
+-- entries for distinct cells over nothing are themselves
+pub put_all_once : (es : List (ℕ × ℕ)) → HasDistinctCells es → put_all [] es ≡ es
+put_all_once es once = ap (put_all []) (sym (take_all (length es) es (omega arith))) ∙ go (length es) (omega arith) ∙ take_all (length es) es (omega arith)
+  where
+    go : (i : ℕ) → i ≤ length es → put_all [] (take i es) ≡ take i es
+    go zero l = refl
+    go (suc i) l =
+        let next : i + 1 ≡ suc i = omega arith in
+        subst (λ (n : ℕ). put_all [] (take n es) ≡ take n es) next (
+        put_all_take [] es i (0, 0) l
+        ∙ ap (λ (ds : List (ℕ × ℕ)). put_pair ds (get_or es i (0, 0)).0 (get_or es i (0, 0)).1) (go i (omega (arith, l)))
+        ∙ put_next es once i l)

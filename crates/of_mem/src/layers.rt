@@ -11,6 +11,7 @@ use crate::part::Need;
 use crate::slots::Slots;
 use std::alloc::{AllocError, Global};
 use std::marker::Model;
+use std::mem;
 
 // The cells that are known, what a batch of scripts wrote over them, and what a script wrote over
 // both. A contract sees what `Part` shows of them.
@@ -152,7 +153,13 @@ impl Layers {
     pub fn keep(&mut self)
         ensures { self.new ≡ keep self.old }
     {
-        for i in 0..self.script.len() {
+        let count = self.script.len();
+        // over an empty batch the script's writes are the batch's
+        if self.batch.len() == 0 {
+            mem::swap(&mut self.batch, &mut self.script);
+            return;
+        }
+        for i in 0..count {
             let (addr, value) = self.script.entry(i);
             self.batch.put(addr, value);
         }

@@ -1,8 +1,11 @@
-use Rattle.std.proofs.Common.{◌≡◌, ◌∙◌, ap, ℕ, ◌<◌, ◌+◌, List, length, get_or, take, arith}
+use Rattle.std.proofs.Common.{◌≡◌, ◌∙◌, ap, refl, sym, subst, ℕ, ◌<◌, ◌+◌, List, [], ◌∷◌, length, get_or, take, arith}
 use Rattle.of_mem.specs.CellMap.{put_pair, put_all}
-use Rattle.of_mem.specs.Part.{Part}
+use Rattle.of_mem.specs.Meaning.{HasDistinctCells}
+use Rattle.of_mem.specs.Newest.{HasNewest}
+use Rattle.of_mem.specs.Part.{Part, keep}
 use Rattle.of_mem.proofs.Cells.{put_all_take}
 use Rattle.std.proofs.lemmas.List.{take_all}
+use Rattle.of_mem.proofs.Writes.{put_all_once}
 use Rattle.of_mem.proofs.Newest.{newest_kept}
 use Rattle.of_mem.proofs.layers.Layers.keep.Goals as goal
 
@@ -10,13 +13,36 @@ pub loop-i-preserved : goal.loop-i-preserved
 loop-i-preserved c =
     let script : List (ℕ × ℕ) = c.self.inside.script.entries in
     let first : List (ℕ × ℕ) = c.self.inside.batch.entries in
-    let here : c.loop-i.i < length script = omega (arith, c.len-i-end.ensures.value) in
+    let here : c.loop-i.i < length script = omega (arith, c.len-count.ensures.value) in
     let more : put_all first (take (c.loop-i.i + 1) script) ≡ put_pair (put_all first (take c.loop-i.i script)) (get_or script c.loop-i.i (0, 0)).0 (get_or script c.loop-i.i (0, 0)).1 = put_all_take first script c.loop-i.i (0, 0) here in
     record { written = cc; batch = cc; script = cc; known = cc; newest = c.loop-i.invariant.newest }
+
+pub invariant_of-self-2 : goal.invariant_of-self-2
+invariant_of-self-2 c =
+    let p : Part = record { known = c.self.inside.known; batch = c.self.inside.batch.entries; script = c.self.inside.script.entries } in
+    let all : take c.loop-i.i p.script ≡ p.script = take_all c.loop-i.i p.script (omega (arith, c.len-count.ensures.value, c.loop-i-test.false)) in
+    let batch : c.loop-i.self-inside.batch.entries ≡ put_all p.batch p.script = c.loop-i.invariant.written ∙ ap (put_all p.batch) all in
+    (cc, cc, rw (c.clear.ensures.entries, batch, c.loop-i.invariant.known, c.loop-i.invariant.newest) (newest_kept p c.self.inside.script.room _ c.len-count.ensures.map c.self.invariant.2))
+
+-- over an empty batch the script's entries are all
+swapped : (p : Part) → HasDistinctCells p.script → p.batch ≡ [] → put_all p.batch p.script ≡ p.script
+swapped p once none = ap (λ (es : List (ℕ × ℕ)). put_all es p.script) none ∙ put_all_once p.script once
+
+none_there : (es : List (ℕ × ℕ)) → length es ≡ 0 → es ≡ []
+none_there [] e = refl
+none_there (e ∷ es) q = absurd (omega (arith, q))
 
 pub invariant_of-self : goal.invariant_of-self
 invariant_of-self c =
     let p : Part = record { known = c.self.inside.known; batch = c.self.inside.batch.entries; script = c.self.inside.script.entries } in
-    let all : take c.loop-i.i p.script ≡ p.script = take_all c.loop-i.i p.script (omega (arith, c.len-i-end.ensures.value, c.loop-i-test.false)) in
-    let batch : c.loop-i.self-inside.batch.entries ≡ put_all p.batch p.script = c.loop-i.invariant.written ∙ ap (put_all p.batch) all in
-    (cc, cc, rw (c.clear.ensures.entries, batch, c.loop-i.invariant.known, c.loop-i.invariant.newest) (newest_kept p c.self.inside.script.room _ c.len-i-end.ensures.map c.self.invariant.2))
+    let none : p.batch ≡ [] = none_there p.batch (sym c.len.ensures.value ∙ c.if-len-eq0.true) in
+    let kept : HasNewest (keep p) c.self.inside.newest = newest_kept p c.self.inside.script.room _ c.len-count.ensures.map c.self.invariant.2 in
+    let held : HasNewest (record p { batch = p.script; script = [] }) c.self.inside.newest = subst (λ (es : List (ℕ × ℕ)). HasNewest (record p { batch = es; script = [] }) c.self.inside.newest) (swapped p c.len-count.ensures.map.once none) kept in
+    rw (c.swap.ensures.x_after, c.swap.ensures.y_after) (c.self.invariant.1, c.self.invariant.0, subst (λ (es : List (ℕ × ℕ)). HasNewest (record p { batch = p.script; script = es }) c.self.inside.newest) (sym none) held)
+
+pub returns-then-len-eq0 : goal.returns-then-len-eq0
+returns-then-len-eq0 c =
+    let p : Part = record { known = c.self.inside.known; batch = c.self.inside.batch.entries; script = c.self.inside.script.entries } in
+    let none : p.batch ≡ [] = none_there p.batch (sym c.len.ensures.value ∙ c.if-len-eq0.true) in
+    let all : put_all p.batch p.script ≡ p.script = swapped p c.len-count.ensures.map.once none in
+    rw (← c.self.view_is, c.swap.ensures.x_after, c.swap.ensures.y_after) (λ i. record p { batch = sym all i; script = none i })
