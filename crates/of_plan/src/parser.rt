@@ -64,7 +64,7 @@ pub fn parse(alloc: Global, text: &[u8]) -> Result<Plan, PlanErr>
     ensures only { (plan : Plan) → SpellsPlan text.now plan
         → MatchResult result (λ p. p ≡ plan) (λ e. e ≡ Memory) }
 {
-    let mut reading = Reading::new(alloc);
+    let mut reading = Reading::new(alloc, text.len());
     let mut number: u64 = 0;
     let mut rest = text;
     loop {

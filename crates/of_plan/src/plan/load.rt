@@ -38,7 +38,7 @@ fn load_scripts(alloc: Global, caller: u32, count: u32) -> Result<Vec<Script>, A
     requires count { count ≤ MOST_SCRIPTS }
     ensures { IfOk result (λ scripts. scripts.items ≡ load_scripts count caller) }
 {
-    let mut scripts = Vec::new(alloc);
+    let mut scripts = Vec::with_capacity(alloc, count as usize)?;
     for index in 0..count {
         scripts.push(load_script(caller, index))?;
     }

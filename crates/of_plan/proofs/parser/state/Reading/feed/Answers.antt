@@ -13,11 +13,11 @@ take-requires c =
 pub returns-in-Some-read_scriptless : goal.returns-in-Some-read_scriptless
 returns-in-Some-read_scriptless c =
     fed_plain c.take.result _ (line_of_scriptless c.in-Some-read_scriptless.line) _ _
-    (subst (λ (ws : List (List ℕ)). SpellsLine plan_language ws (line_of_scriptless c.in-Some-read_scriptless.line)) (sym c.in-Some.ensures.words)
+    (subst (λ (ws : List (List ℕ)). SpellsLine plan_language ws (line_of_scriptless c.in-Some-read_scriptless.line)) (sym c.in-Some-word.ensures.words)
     (plain_is (Some (line_of_scriptless c.in-Some-read_scriptless.line)) _ _ _ _ c.in-Some-read_scriptless.ensures c.if-first-eq35.false c.as_slice.ensures c.eq.ensures c.if-eq.false))
     c.take.ensures
 
 pub returns-in-None : goal.returns-in-None
 returns-in-None c = inl
-    (subst (SpellsNoLine plan_language) (sym c.in-Some.ensures.words)
+    (subst (SpellsNoLine plan_language) (sym c.in-Some-word.ensures.words)
     (plain_is None _ _ _ _ c.in-None.ensures c.if-first-eq35.false c.as_slice.ensures c.eq.ensures c.if-eq.false))

@@ -1,4 +1,4 @@
-use Rattle.std.proofs.Common.{◌≡◌, ◌∙◌, inl, inr, ap, List, ℕ, ◌∷◌}
+use Rattle.std.proofs.Common.{◌≡◌, ◌∙◌, inl, inr, refl, ap, List, ℕ, ◌∷◌}
 use Rattle.std.specs.Prelude.{decimal}
 use Rattle.of_script.specs.Text.{text_words, script_words}
 use Rattle.of_plan.specs.declared.parser.line.BodyLine.TheVariants.{Script}
@@ -14,16 +14,16 @@ returns-in_default c = inl (no_number _ c.in_default.ensures.words)
 
 pub returns-then-not-begin_entry : goal.returns-then-not-begin_entry
 returns-then-not-begin_entry c =
-    let is : ScriptLine (text_words c.args.rest.now) (Body (Script c.in-Some.caller c.in-Ok.script)) = (number_and _ _ _ c.in-Some.ensures.words ∙ ap (λ (ws : List (List ℕ)). decimal c.in-Some.caller ∷ ws) c.in-Ok.ensures.ok.each, c.in-Some.ensures.small, c.in-Ok.ensures.ok.fits) in
-    inr (Body (Script c.in-Some.caller c.in-Ok.script), is, rw c.if-not-begin_entry.true at (c.begin_entry.ensures (Script c.in-Some.caller c.in-Ok.script)))
+    let is : ScriptLine (text_words c.args.rest.now) (Body (Script c.in-Some.caller c.parse_into.new.script)) = (number_and _ _ _ c.in-Some.ensures.words ∙ ap (λ (ws : List (List ℕ)). decimal c.in-Some.caller ∷ ws) (c.if-not-parse_into.ensures.ok refl).each, c.in-Some.ensures.small, (c.if-not-parse_into.ensures.ok refl).fits) in
+    inr (Body (Script c.in-Some.caller c.parse_into.new.script), is, rw c.if-not-begin_entry.true at (c.begin_entry.ensures (Script c.in-Some.caller c.parse_into.new.script)))
 
-pub returns-else-not-begin_entry : goal.returns-else-not-begin_entry
-returns-else-not-begin_entry c =
-    let is : ScriptLine (text_words c.args.rest.now) (Body (Script c.in-Some.caller c.in-Ok.script)) = (number_and _ _ _ c.in-Some.ensures.words ∙ ap (λ (ws : List (List ℕ)). decimal c.in-Some.caller ∷ ws) c.in-Ok.ensures.ok.each, c.in-Some.ensures.small, c.in-Ok.ensures.ok.fits) in
-    script_leads c.take_script.result _ _ _ _ is (entry_leads c.take_script.result _ (reading_value c.begin_entry.new.self) _ (Script c.in-Some.caller c.in-Ok.script) (rw c.if-not-begin_entry.false at (c.begin_entry.ensures (Script c.in-Some.caller c.in-Ok.script))) c.take_script.ensures)
+pub returns : goal.returns
+returns c =
+    let is : ScriptLine (text_words c.args.rest.now) (Body (Script c.in-Some.caller c.parse_into.new.script)) = (number_and _ _ _ c.in-Some.ensures.words ∙ ap (λ (ws : List (List ℕ)). decimal c.in-Some.caller ∷ ws) (c.if-not-parse_into.ensures.ok refl).each, c.in-Some.ensures.small, (c.if-not-parse_into.ensures.ok refl).fits) in
+    script_leads c.take_script.result _ _ _ _ is (entry_leads c.take_script.result _ (reading_value c.begin_entry.new.self) _ (Script c.in-Some.caller c.parse_into.new.script) (rw c.if-not-begin_entry.false at (c.begin_entry.ensures (Script c.in-Some.caller c.parse_into.new.script))) c.take_script.ensures)
 
-pub returns-in-Err : goal.returns-in-Err
-returns-in-Err c = inl (λ d script small fits e.
+pub returns-then-not-parse_into : goal.returns-then-not-parse_into
+returns-then-not-parse_into c = inl (λ d script small fits e.
     let number = number_and _ _ _ c.in-Some.ensures.words in
     let each : text_words c.in-Some.rest.now ≡ script_words script = cc in
-    let wrong = c.in-Err.ensures.only script (record { fits = fits; each = each }) in absurd cc)
+    let wrong = c.if-not-parse_into.ensures.only script (record { fits = fits; each = each }) in absurd cc)
