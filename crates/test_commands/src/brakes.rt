@@ -3,7 +3,7 @@
 
 ghost use Rattle.std.specs.Prelude.{◌≤◌};
 
-use crate::top::{BRAKES, told};
+use crate::top::told;
 use of_brake::{Brake, Fuel, Pattern, hold_pair};
 use of_io::{MemSink, MemSource};
 use of_plan::Ending;
@@ -12,6 +12,9 @@ use std::alloc::{AllocError, Global};
 use std::process::Abort;
 use std::test::Fail;
 use std::thread::Threads;
+
+/// How many brakes the top call takes.
+const BRAKES: usize = 16;
 
 /// How often a holder looks for its teller's flag at most.
 const TURNS: u64 = 1_000_000_000;
@@ -77,7 +80,7 @@ fn run_under<R: Threads + Sync + AllocGlobal>(
     plan: &str,
     brakes: Vec<Box<dyn Brake + Send>>,
 ) -> Result<Option<(Vec<Ending>, Vec<u8>)>, Fail> {
-    if brakes.len() != BRAKES as usize {
+    if brakes.len() != BRAKES {
         return Ok(None);
     }
     let alloc = rt.alloc();
@@ -120,7 +123,7 @@ fn ends_so<R: Abort + Threads + Sync + AllocGlobal>(
 
 /// Adds brakes that tell their steps left, up to as many as the top call takes.
 fn fill(alloc: Global, brakes: &mut Vec<Box<dyn Brake + Send>>) -> Result<(), AllocError> {
-    for _ in brakes.len()..BRAKES as usize {
+    for _ in brakes.len()..BRAKES {
         let brake: Box<dyn Brake + Send> = Box::new(alloc, Fuel::new())?;
         brakes.push(brake)?;
     }

@@ -8,7 +8,7 @@ use std::test::Fail;
 use std::thread::Threads;
 
 /// How many brakes the top call takes.
-pub const BRAKES: u32 = 16;
+const BRAKES: u32 = 16;
 
 /// How many bytes a read gives and a write takes at most.
 pub const PIECE: usize = 16;
