@@ -1,7 +1,6 @@
-use Rattle.std.proofs.Common.{◌≡◌, ℕ, [], ◌∷◌, ◌++◌, length, subst, ◌∙◌, ap, arith}
+use Rattle.std.proofs.Common.{[], ◌∷◌, ◌++◌, subst, arith}
 use Rattle.std.proofs.lemmas.List.{length-append}
 use Rattle.of_script.specs.Text.{IsFault}
-use Rattle.of_script.specs.declared.instr.TheConstants.{MOST_INSTRS}
 use Rattle.of_script.proofs.ByPieces.{read_more, read_fault, read_ninth, last_fault, cut_first, is_none, has_some}
 use Rattle.of_script.proofs.read.fault.Goals as goal
 

@@ -1,6 +1,5 @@
-use Rattle.std.proofs.Common.{◌≡◌, ℕ, List, [], ◌∷◌, length, sym, ap, subst, ◌∙◌, arith}
-use Rattle.of_script.specs.declared.instr.TheConstants.{MOST_INSTRS}
-use Rattle.of_script.specs.Text.{text_words, semicolon_byte, SpellsScript}
+use Rattle.std.proofs.Common.{◌≡◌, ℕ, List, ◌∷◌, sym, ap, subst, ◌∙◌, arith}
+use Rattle.of_script.specs.Text.{text_words, semicolon_byte}
 use Rattle.of_script.proofs.Instrs.{front_takes}
 use Rattle.of_script.proofs.InOnePass.{IsAhead, first_ahead, one_ahead, all_read, no_first, no_next, no_mark, no_room, word_same, word_other}
 use Rattle.of_script.proofs.read.parse_into.Goals as goal
