@@ -24,7 +24,8 @@ fn limit_of(steps: u64) -> Option<u64>
 }
 
 // The code of what a call has come to, which the reply tells. `open_code` is the code if a call is
-// open that must not be, or none is.
+// open that must not be, or none is. If it weren't inlined, the answer would be moved for it first.
+#[inline(always)]
 fn code_of(ended: &Result<Answer, RunErr>, open_code: u32, reply: &mut CReply) -> u32
     ensures tells { Tells open_code ended.now result reply.new }
     ensures stays { LeavesReply result reply.old reply.new }
