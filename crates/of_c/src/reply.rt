@@ -51,6 +51,7 @@ fn number_of(value: Option<u32>) -> u32
 }
 
 // Writes which values are numbers, and the numbers.
+#[inline(always)]
 fn write_values(
     values: &[Option<u32>; MOST_INSTRS],
     given: &mut [u32; MOST_INSTRS],
@@ -82,6 +83,7 @@ impl CReply {
     ghost use Rattle.of_c.specs.Replies.{ShowsReply, ShowsAnswer};
 
     /// Writes what a script answered.
+    #[inline(always)]
     pub(crate) fn show(&mut self, reply: &Reply)
         ensures { ShowsReply reply.now self.new }
     {
@@ -100,6 +102,7 @@ impl CReply {
     }
 
     /// Writes the answer of a call.
+    #[inline(always)]
     pub(crate) fn tell(&mut self, answer: &Answer)
         ensures { ShowsAnswer answer.now self.new }
     {
