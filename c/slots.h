@@ -9,8 +9,10 @@ static inline int claim(onefile_guarded *one) {
   return __atomic_exchange_n(&one->busy, 1, __ATOMIC_SEQ_CST) == 0;
 }
 
+/* The next to take it sees all that was written before this. No fence is needed after it: it would
+ * cost as much as the exchange. */
 static inline void release(onefile_guarded *one) {
-  __atomic_store_n(&one->busy, 0, __ATOMIC_SEQ_CST);
+  __atomic_store_n(&one->busy, 0, __ATOMIC_RELEASE);
 }
 
 /* Takes both, or none. */

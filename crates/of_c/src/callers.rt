@@ -1,6 +1,6 @@
 //! What C does with a caller: calls of scripts.
 
-ghost use Rattle.std.specs.Prelude.{◌≡◌, ◌≢◌};
+ghost use Rattle.std.specs.Prelude.{◌≡◌, ◌≢◌, None, Some};
 ghost use Rattle.of_script.specs.Text.{IsFault};
 ghost use Rattle.of_c.specs.declared.codes.TheConstants.{CALL_OPEN, NO_CALL, NO_SCRIPT};
 ghost use Rattle.of_c.specs.Calls.{step_limit, Tells, CallsScript, GoesOn, CallsHeld, CallsSlot};
@@ -24,22 +24,23 @@ fn limit_of(steps: u64) -> Option<u64>
 }
 
 // The code of what a call has come to, which the reply tells. `open_code` is the code if a call is
-// open that must not be, or none is.
-fn code_of(ended: Result<Answer, RunErr>, open_code: u32, reply: &mut CReply) -> u32
-    ensures tells { Tells open_code ended result reply.new }
+// open that must not be, or none is. If it weren't inlined, the answer would be moved for it first.
+#[inline(always)]
+fn code_of(ended: &Result<Answer, RunErr>, open_code: u32, reply: &mut CReply) -> u32
+    ensures tells { Tells open_code ended.now result reply.new }
     ensures stays { LeavesReply result reply.old reply.new }
 {
     match ended {
         Ok(answer) => {
-            reply.tell(&answer);
+            reply.tell(answer);
             DONE
         }
         Err(RunErr::Stopped { asked }) => {
-            reply.steps = asked;
+            reply.steps = *asked;
             STOPPED
         }
         Err(RunErr::Spent { seq }) => {
-            reply.seq = seq;
+            reply.seq = *seq;
             SPENT
         }
         Err(RunErr::Open) => open_code,
@@ -48,15 +49,20 @@ fn code_of(ended: Result<Answer, RunErr>, open_code: u32, reply: &mut CReply) ->
 }
 
 impl Seat {
-    // Runs a script, for at most so many steps.
-    fn run(&mut self, script: &Script, limit: Option<u64>) -> Result<Answer, RunErr>
-        ensures { CallsScript script.now limit self.old.handle result self.new.handle }
+    // Runs a script to its answer.
+    fn run(&mut self, script: &Script) -> Result<Answer, RunErr>
+        ensures { CallsScript script.now None self.old.handle result self.new.handle }
     {
         surely::<Handle, OfHandle>(&self.handle);
-        match limit {
-            Some(steps) => self.handle.run_within(script, steps),
-            None => self.handle.run(script),
-        }
+        self.handle.run(script)
+    }
+
+    // Runs a script, for at most so many steps.
+    fn run_within(&mut self, script: &Script, steps: u64) -> Result<Answer, RunErr>
+        ensures { CallsScript script.now (Some steps) self.old.handle result self.new.handle }
+    {
+        surely::<Handle, OfHandle>(&self.handle);
+        self.handle.run_within(script, steps)
     }
 
     // Goes on with the open call, for at most so many steps.
@@ -78,7 +84,11 @@ fn run_held(held: &mut Held, script: &Script, limit: Option<u64>, reply: &mut CR
     ensures stays { LeavesReply result reply.old reply.new }
 {
     match held {
-        Held::Caller(seat) => code_of(seat.run(script, limit), CALL_OPEN, reply),
+        // Each arm hands on what its call answers, which spares moving it.
+        Held::Caller(seat) => match limit {
+            Some(steps) => code_of(&seat.run_within(script, steps), CALL_OPEN, reply),
+            None => code_of(&seat.run(script), CALL_OPEN, reply),
+        },
         _ => EMPTY,
     }
 }
@@ -89,7 +99,7 @@ fn go_on_held(held: &mut Held, limit: Option<u64>, reply: &mut CReply) -> u32
     ensures stays { LeavesReply result reply.old reply.new }
 {
     match held {
-        Held::Caller(seat) => code_of(seat.go_on(limit), NO_CALL, reply),
+        Held::Caller(seat) => code_of(&seat.go_on(limit), NO_CALL, reply),
         _ => EMPTY,
     }
 }

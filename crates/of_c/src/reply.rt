@@ -50,18 +50,20 @@ fn number_of(value: Option<u32>) -> u32
     }
 }
 
-// Which values are numbers.
-fn flags_of(values: [Option<u32>; MOST_INSTRS]) -> [u32; MOST_INSTRS]
-    ensures { ShowsEach given_flag values result }
+// Writes which values are numbers, and the numbers.
+#[inline(always)]
+fn write_values(
+    values: &[Option<u32>; MOST_INSTRS],
+    given: &mut [u32; MOST_INSTRS],
+    numbers: &mut [u32; MOST_INSTRS],
+)
+    ensures given { ShowsEach given_flag values.now given.new }
+    ensures numbers { ShowsEach given_number values.now numbers.new }
 {
-    values.map(|value| flag_of(value))
-}
-
-// The numbers.
-fn numbers_of(values: [Option<u32>; MOST_INSTRS]) -> [u32; MOST_INSTRS]
-    ensures { ShowsEach given_number values result }
-{
-    values.map(|value| number_of(value))
+    for place in 0..MOST_INSTRS {
+        given[place] = flag_of(values[place]);
+        numbers[place] = number_of(values[place]);
+    }
 }
 
 // The number of a cause.
@@ -81,12 +83,12 @@ impl CReply {
     ghost use Rattle.of_c.specs.Replies.{ShowsReply, ShowsAnswer};
 
     /// Writes what a script answered.
+    #[inline(always)]
     pub(crate) fn show(&mut self, reply: &Reply)
         ensures { ShowsReply reply.now self.new }
     {
         self.len = u32::from(reply.len);
-        self.given = flags_of(reply.values);
-        self.values = numbers_of(reply.values);
+        write_values(&reply.values, &mut self.given, &mut self.values);
         match reply.abort {
             Some(Abort { place, cause }) => {
                 self.place = u32::from(place);
@@ -100,6 +102,7 @@ impl CReply {
     }
 
     /// Writes the answer of a call.
+    #[inline(always)]
     pub(crate) fn tell(&mut self, answer: &Answer)
         ensures { ShowsAnswer answer.now self.new }
     {

@@ -174,7 +174,7 @@ fn ticket_held(held: &Held, number: u32, ticket: &mut u32) -> u32
     }
 }
 
-/// How many calls of a caller are held.
+/// The number of the last call of a caller that is held; 0 if none is.
 #[unsafe(no_mangle)]
 pub extern "C" fn of_c_ticket(alloc: Global, saved: &mut Slot, number: u32, ticket: &mut u32) -> u32
     ensures read { result ≡ DONE → HasCallerWith saved.old.raw.held number
