@@ -12,8 +12,8 @@ use crate::held::{Held, Seat};
 use crate::reply::CReply;
 use crate::slot::Slot;
 use crate::truth::{OfHandle, surely};
-use of_memory::{Answer, Handle, RunErr, Script, ScriptErr, parse};
-use of_script::from_words;
+use of_memory::{Answer, Handle, Instr, RunErr, Script, ScriptErr, parse};
+use of_script::from_words_into;
 use std::alloc::Global;
 
 // As many steps as C says; the greatest number is no end.
@@ -139,10 +139,11 @@ pub extern "C" fn of_c_call(
     ensures same { AreNoScript words.now → caller.new.raw.held ≡ caller.old.raw.held }
     ensures stays { LeavesReply result reply.old reply.new }
 {
-    match from_words(words) {
-        Some(script) => run_in(alloc, caller, &script, limit_of(steps), reply),
-        None => NO_SCRIPT,
+    let mut script = Script::one(Instr::Count);
+    if !from_words_into(words, &mut script) {
+        return NO_SCRIPT;
     }
+    run_in(alloc, caller, &script, limit_of(steps), reply)
 }
 
 /// Runs the script that a text spells, for at most so many steps. If it spells none, the reply's
