@@ -1,0 +1,4 @@
+pub mod Called
+pub mod Seats
+pub mod Closing
+pub mod Holding

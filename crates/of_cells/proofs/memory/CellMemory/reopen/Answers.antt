@@ -1,0 +1,17 @@
+use Rattle.std.proofs.Common.{ap, ◌∙◌}
+use Rattle.of_row.specs.Rows.{start_for}
+use Rattle.of_cells.specs.Serving.{cells_at_start, made_before}
+use Rattle.of_cells.proofs.Holding.{cells_on, tickets_on}
+use Rattle.of_cells.proofs.memory.CellMemory.reopen.Goals as goal
+
+pub returns-clause-goes_on : goal.returns-clause-goes_on
+returns-clause-goes_on g c =
+    let d = c.args.saved.now in
+    ap (cells_at_start g.W.Work.meaning) c.in_ok-memory.ensures.row
+    ∙ cells_on g.W.Work.meaning c.in_ok-row.row (start_for d.shape d.row.items) (c.in_ok-row.ensures.start ∙ ap (start_for d.shape) c.deref.ensures.value)
+
+pub returns-clause-tickets : goal.returns-clause-tickets
+returns-clause-tickets g c n =
+    let d = c.args.saved.now in
+    ap (λ r. made_before g.W.Work.meaning r n) c.in_ok-memory.ensures.row
+    ∙ tickets_on g.W.Work.meaning c.in_ok-row.row (start_for d.shape d.row.items) (c.in_ok-row.ensures.start ∙ ap (start_for d.shape) c.deref.ensures.value) n

@@ -1,0 +1,70 @@
+-- A serial history of operations on a list of cells. An entry is a call as it was run: its caller,
+-- the number that it has among its caller's calls, its words and its reply.
+use Rattle.std.specs.Prelude.{◌≡◌, ℕ, ◌+◌, ◌<◌, ◌≤◌, ◌⊎◌, false, List, length}
+use Rattle.std.specs.List.{All}
+use Rattle.std.proofs.Common.{get_or}
+use Rattle.of_mem.specs.Meaning.{Meaning}
+use Rattle.of_mem.specs.declared.work.RawReply.{RawReply}
+use Rattle.of_mem.specs.declared.work.TheConstants.{MOST_INSTRS}
+use Rattle.of_core.specs.declared.place.Outcome.{Outcome}
+use Rattle.of_core.specs.declared.place.Outcome.TheVariants.{Answered, Spent}
+use Rattle.of_core.specs.Machine.{Call, no_call}
+use Rattle.of_core.specs.Claim.{IsNewerCall}
+use Rattle.of_core.specs.History.{CallsHaveReplies, numbers_after_calls}
+use Rattle.of_row.specs.Views.{EndedCall, no_ended}
+
+-- the operations run one after the other from these cells, and each has the reply that it meets
+abbrev pub IsSerial : Meaning → (cells : List ℕ) → List Call → Type 0
+IsSerial M cells h = CallsHaveReplies M cells h
+
+-- the cells after them
+abbrev pub cells_after : Meaning → (cells : List ℕ) → List Call → List ℕ
+cells_after M cells h = numbers_after_calls M cells h
+
+-- each call is there once at most, and the calls of each caller in the order in which it made them
+abbrev pub StandsInOrder : List Call → Type 0
+StandsInOrder h =
+    (p q : ℕ) → p < q → q < length h → IsNewerCall (get_or h p no_call) (get_or h q no_call)
+
+-- the two replies have one shape, and the same numbers
+abbrev pub SameReply : RawReply → RawReply → Type 0
+SameReply r q =
+    (r.shape ≡ q.shape) × ((y : ℕ) → y < MOST_INSTRS → get_or r.values y 0 ≡ get_or q.values y 0)
+
+-- the history has this call, with this reply
+pub record HasEntry (h : List Call) (caller ticket : ℕ) (op : List ℕ) (raw : RawReply)
+    : Type 0 where
+  pub place : ℕ
+  pub among : place < length h
+  pub caller_is : (get_or h place no_call).caller ≡ caller
+  pub ticket_is : (get_or h place no_call).ticket ≡ ticket
+  pub words : (get_or h place no_call).op ≡ op
+  pub reply : SameReply raw (get_or h place no_call).raw
+
+-- The history has the call with its reply; it has no call that was spent.
+abbrev pub ExplainsEnd : List Call → (caller ticket : ℕ) → (op : List ℕ) → Outcome → Type 0
+ExplainsEnd h c t op (Answered seq announced raw steps) = HasEntry h c t op raw
+ExplainsEnd h c t op (Spent seq) = All (λ (e : Call). e.caller ≡ c → e.ticket ≡ t → ⊥) h
+
+-- so it is of each of these calls of a caller, the first of which has the number after n
+abbrev pub ExplainsAll : List Call → (caller n : ℕ) → List EndedCall → Type 0
+ExplainsAll h c n es =
+    (y : ℕ) → y < length es
+    → ExplainsEnd h c (n + y + 1) (get_or es y no_ended).op (get_or es y no_ended).outcome
+
+-- the entry is one of these calls, the first of which has the number after n, or the one after
+-- them, which is open
+abbrev pub IsOneOf : (n : ℕ) → List EndedCall → (IsOpenCall : List ℕ → Type 0) → Call → Type 0
+IsOneOf n es IsOpenCall e =
+    ((y : ℕ) × (y < length es) × (e.ticket ≡ n + y + 1) × (e.op ≡ (get_or es y no_ended).op))
+    ⊎ ((e.ticket ≡ n + length es + 1) × IsOpenCall e.op)
+
+-- so is each entry of the caller
+abbrev pub HasOnly : List Call → (caller n : ℕ) → List EndedCall → (IsOpenCall : List ℕ → Type 0)
+    → Type 0
+HasOnly h c n es IsOpenCall = All (λ (e : Call). e.caller ≡ c → IsOneOf n es IsOpenCall e) h
+
+-- no call of the caller that may write is later than this one
+abbrev pub IsUpTo : Meaning → List Call → (caller ticket : ℕ) → Type 0
+IsUpTo M h c t =
+    All (λ (e : Call). e.caller ≡ c → M.reads_only e.op ≡ false → e.ticket ≤ t) h

@@ -1,0 +1,129 @@
+-- A memory of cells that a program has opened, and what its close leaves.
+use Rattle.std.specs.Prelude.{◌≡◌, ◌≢◌, ℕ, ◌<◌, ◌≤◌, ◌⊎◌, List, [], Some, None, length}
+use Rattle.std.specs.Arc.{arc_value}
+use Rattle.std.specs.List.{All}
+use Rattle.std.proofs.Common.{get_or}
+use Rattle.of_cell.specs.declared.word.TheConstants.{GREATEST_LIMIT}
+use Rattle.of_mem.specs.Meaning.{Meaning}
+use Rattle.of_core.specs.Machine.{Call}
+use Rattle.of_row.specs.declared.row.Row.{Row}
+use Rattle.of_row.specs.Rows.{key_of, IsRowPass}
+use Rattle.of_row.specs.Views.{EndedCall}
+use Rattle.of_caller.specs.declared.caller.Caller.{Caller}
+use Rattle.of_cells.specs.declared.error.EnrolErr.{EnrolErr}
+use Rattle.of_cells.specs.declared.error.EnrolErr.TheVariants.{OutOfMemory, NoCaller, Enrolled}
+use Rattle.of_cells.specs.declared.error.OpenErr.{OpenErr}
+use Rattle.of_cells.specs.declared.error.OpenErr.TheVariants.{OutOfMemory as NoRoom, Limit}
+use Rattle.of_cells.specs.declared.memory.CellMemory.{CellMemory}
+use Rattle.of_cells.specs.declared.handle.CellHandle.{CellHandle}
+use Rattle.of_cells.specs.declared.saved.SavedCells.{SavedCells}
+use Rattle.of_cells.specs.History.{IsSerial, cells_after, StandsInOrder, ExplainsAll, HasOnly, IsUpTo}
+use Rattle.of_cells.specs.Called.{IsOpenAt}
+use Rattle.of_cells.specs.Serving.{ServeAll, AllHere, ended_of, cells_at_start, made_before}
+use Rattle.of_cells.specs.Saving.{SavedHolds, TellsLast, saved_ticket}
+use Rattle.of_cells.specs.Handles.{home_of}
+
+abbrev pub row_of : {W : Type 0} → CellMemory W → Row W
+row_of m = arc_value m.row
+
+-- it is open
+pub record IsCellMemory {W : Type 0} (meaning : W → Meaning) (m : CellMemory W) : Type 0 where
+  pub pass : IsRowPass (row_of m) m.pass
+  pub each : length m.callers.items ≡ (key_of (row_of m)).callers
+  pub serve : ServeAll meaning (row_of m) m.callers.items
+
+-- the work whose operations it runs
+abbrev pub work_of : {W : Type 0} → CellMemory W → W
+work_of m = (key_of (row_of m)).work
+
+-- how many callers it has
+abbrev pub callers_of : {W : Type 0} → CellMemory W → ℕ
+callers_of m = (key_of (row_of m)).callers
+
+-- the last sequence that may be committed in it
+abbrev pub limit_of : {W : Type 0} → CellMemory W → ℕ
+limit_of m = (key_of (row_of m)).limit
+
+-- the numbers of the data cells with which it was opened
+abbrev pub cells_before : {W : Type 0} → (W → Meaning) → CellMemory W → List ℕ
+cells_before meaning m = cells_at_start meaning (row_of m)
+
+-- how many calls of a caller it was opened with
+abbrev pub tickets_before : {W : Type 0} → (W → Meaning) → CellMemory W → ℕ → ℕ
+tickets_before meaning m n = made_before meaning (row_of m) n
+
+-- no handle of this number is out, and since the memory was opened these calls of its number have
+-- ended
+pub record HasMadeOf {W : Type 0} (m : CellMemory W) (n : ℕ) (es : List EndedCall) : Type 0 where
+  pub caller : Caller W
+  pub here : get_or m.callers.items n None ≡ Some caller
+  pub made : ended_of caller ≡ es
+
+-- and its call of this operation is open
+pub record HasOpenOf {W : Type 0} (m : CellMemory W) (n : ℕ) (op : List ℕ) : Type 0 where
+  pub caller : Caller W
+  pub here : get_or m.callers.items n None ≡ Some caller
+  pub opened : IsOpenAt op caller
+
+-- no number has made a call
+abbrev pub HasMadeNothing : {W : Type 0} → CellMemory W → Type 0
+HasMadeNothing m = (n : ℕ) → n < callers_of m → HasMadeOf m n []
+
+-- no call is open
+abbrev pub HasNoneOpen : {W : Type 0} → CellMemory W → Type 0
+HasNoneOpen m = (n : ℕ) (op : List ℕ) → HasOpenOf m n op → ⊥
+
+-- no handle is out
+abbrev pub HasNoHandleOut : {W : Type 0} → CellMemory W → Type 0
+HasNoHandleOut m = AllHere m.callers.items (length m.callers.items)
+
+-- the handle is the memory's
+abbrev pub IsFrom : {W : Type 0} → CellMemory W → CellHandle W → Type 0
+IsFrom m h = home_of h ≡ row_of m
+
+-- it is the same memory still
+abbrev pub IsStill : {W : Type 0} → (before now : CellMemory W) → Type 0
+IsStill m k = row_of k ≡ row_of m
+
+-- of the numbers other than n it knows what it knew
+abbrev pub KnowsOthers : {W : Type 0} → ℕ → (before now : CellMemory W) → Type 0
+KnowsOthers n m k =
+    (i : ℕ) (es : List EndedCall) → i ≢ n → HasMadeOf m i es → HasMadeOf k i es
+
+-- and their open calls stay open
+abbrev pub OthersStayOpen : {W : Type 0} → ℕ → (before now : CellMemory W) → Type 0
+OthersStayOpen n m k =
+    (i : ℕ) (op : List ℕ) → i ≢ n → HasOpenOf m i op → HasOpenOf k i op
+
+-- The history leads from the cells with which the memory was opened to the saved ones. It is
+-- serial, and the calls of each caller are there in the order in which it made them, each once at
+-- most. It has each call that was answered, with its reply, and no call that was spent; beside
+-- these it has open calls alone. What is saved tells the last call of each caller, and no call that
+-- may write is later.
+pub record LeadsTo {W : Type 0} (meaning : W → Meaning) (m : CellMemory W) (d : SavedCells W)
+    (h : List Call) : Type 0 where
+  pub serial : IsSerial (meaning (work_of m)) (cells_before meaning m) h
+  pub ends : SavedHolds d (cells_after (meaning (work_of m)) (cells_before meaning m) h)
+  pub order : StandsInOrder h
+  pub made : (n : ℕ) (es : List EndedCall) → HasMadeOf m n es
+      → ExplainsAll h n (tickets_before meaning m n) es
+  pub only : (n : ℕ) (es : List EndedCall) → HasMadeOf m n es
+      → HasOnly h n (tickets_before meaning m n) es (HasOpenOf m n)
+  pub callers : All (λ (e : Call). e.caller < callers_of m) h
+  pub last : (n : ℕ) → n < callers_of m → TellsLast d h n (tickets_before meaning m n)
+  pub upto : (n : ℕ) → n < callers_of m → IsUpTo (meaning (work_of m)) h n (saved_ticket d n)
+
+-- there is one that does
+abbrev pub HasHistory : {W : Type 0} → (W → Meaning) → CellMemory W → SavedCells W → Type 0
+HasHistory meaning m d = (h : List Call) × LeadsTo meaning m d h
+
+-- why there is no handle
+abbrev pub IsEnrolCause : {W : Type 0} → CellMemory W → ℕ → EnrolErr → Type 0
+IsEnrolCause m n (OutOfMemory e) = Unit {0}
+IsEnrolCause m n (NoCaller k) = (k ≡ n) × (callers_of m ≤ n)
+IsEnrolCause m n (Enrolled k) = (k ≡ n) × (get_or m.callers.items n None ≡ None)
+
+-- and why no memory is opened
+abbrev pub IsOpenCause : (limit : ℕ) → OpenErr → Type 0
+IsOpenCause limit (NoRoom e) = Unit {0}
+IsOpenCause limit (Limit k) = (k ≡ limit) × ((limit ≡ 0) ⊎ (GREATEST_LIMIT < limit))

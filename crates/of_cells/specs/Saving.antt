@@ -1,0 +1,102 @@
+-- What a closed memory of cells leaves.
+use Rattle.std.specs.Prelude.{◌≡◌, ℕ, ◌+◌, ◌*◌, ◌<◌, ◌≤◌, ◌⊎◌, true, List, length, map}
+use Rattle.std.specs.List.{All}
+use Rattle.std.proofs.Common.{get_or}
+use Rattle.of_cell.specs.Words.{payload_of}
+use Rattle.of_cell.specs.declared.word.TheConstants.{GREATEST_LIMIT}
+use Rattle.of_mem.specs.Meaning.{Meaning, is_marked}
+use Rattle.of_mem.specs.Places.{ticket_cell_at, shape_at, reply_at}
+use Rattle.of_mem.specs.declared.work.RawReply.{RawReply}
+use Rattle.of_mem.specs.declared.work.TheConstants.{MOST_INSTRS}
+use Rattle.of_core.specs.Machine.{Call, no_call, IsOpen}
+use Rattle.of_core.specs.Starts.{start_on}
+use Rattle.of_row.specs.declared.row.Row.{Row}
+use Rattle.of_row.specs.Rows.{key_of, MayStartFrom}
+use Rattle.of_row.specs.Views.{KnownCaller, View, Each}
+use Rattle.of_cells.specs.declared.saved.SavedCells.{SavedCells}
+use Rattle.of_cells.specs.History.{IsSerial, cells_after, StandsInOrder, ExplainsAll, HasOnly, IsUpTo}
+use Rattle.of_cells.specs.Serving.{cells_at_start, made_before}
+
+-- the work whose cells these are
+abbrev pub saved_work : {W : Type 0} → SavedCells W → W
+saved_work d = d.work
+
+-- how many callers it has
+abbrev pub saved_callers : {W : Type 0} → SavedCells W → ℕ
+saved_callers d = d.shape.callers
+
+-- the last sequence that may be committed in it
+abbrev pub saved_limit : {W : Type 0} → SavedCells W → ℕ
+saved_limit d = d.limit
+
+-- the numbers of the data cells
+abbrev pub saved_cells : {W : Type 0} → SavedCells W → List ℕ
+saved_cells d = map payload_of (start_on d.shape d.row.items).cells
+
+-- how many calls of a caller it holds
+abbrev pub saved_ticket : {W : Type 0} → SavedCells W → ℕ → ℕ
+saved_ticket d n = get_or (saved_cells d) (ticket_cell_at MOST_INSTRS n) 0
+
+-- the shape and the numbers of the reply are in the own cells of caller n
+pub record HoldsReply {W : Type 0} (d : SavedCells W) (n : ℕ) (raw : RawReply) : Type 0 where
+  pub shape : get_or (saved_cells d) (shape_at MOST_INSTRS n) 0 ≡ raw.shape
+  pub numbers : (y : ℕ) → y < MOST_INSTRS → is_marked raw.shape y ≡ true
+      → get_or (saved_cells d) (reply_at MOST_INSTRS n y) 0 ≡ get_or raw.values y 0
+
+-- a memory may go on from it: its sizes are the work's, and a table may start from its words
+pub record IsSavedCells {W : Type 0} (many size : W → ℕ) (meaning : W → Meaning)
+    (lawful : W → List ℕ → Type 0) (d : SavedCells W) : Type 0 where
+  pub callers : d.shape.callers ≡ many d.work
+  pub instrs : d.shape.instrs ≡ MOST_INSTRS
+  pub cells : d.shape.cells ≡ size d.work
+  pub few_limit : d.limit ≤ GREATEST_LIMIT
+  pub row : MayStartFrom meaning lawful d.shape d.limit d.work d.row.items
+
+-- its cells are lawful
+abbrev pub HoldsLawful : {W : Type 0} → (W → List ℕ → Type 0) → SavedCells W → Type 0
+HoldsLawful lawful d = lawful (saved_work d) (saved_cells d)
+
+-- the cells that are no caller's own have these numbers
+abbrev pub SavedHolds : {W : Type 0} → SavedCells W → List ℕ → Type 0
+SavedHolds d cells =
+    (a : ℕ) → saved_callers d * (MOST_INSTRS + 2) ≤ a → a < length (saved_cells d)
+    → get_or (saved_cells d) a 0 ≡ get_or cells a 0
+
+-- What is saved of the last call of caller n, where it had made so many before: there was none
+-- since, or it is one of the history, with its reply.
+abbrev pub TellsLast : {W : Type 0} → SavedCells W → List Call → (n before : ℕ) → Type 0
+TellsLast d h n before =
+    (saved_ticket d n ≡ before)
+    ⊎ ((p : ℕ) × (p < length h) × ((get_or h p no_call).caller ≡ n)
+    × ((get_or h p no_call).ticket ≡ saved_ticket d n) × HoldsReply d n (get_or h p no_call).raw)
+
+-- the history has the calls of the kept caller as they have ended
+abbrev pub ExplainsKept : {W : Type 0} → (W → Meaning) → Row W → List Call → KnownCaller → Type 0
+ExplainsKept meaning r h x =
+    ExplainsAll h x.machine.caller (made_before meaning r x.machine.caller) x.ended
+
+-- the kept caller's call of this operation is open
+abbrev pub HasOpenCall : KnownCaller → (op : List ℕ) → Type 0
+HasOpenCall x op = IsOpen x.machine.place × (x.machine.op ≡ op)
+
+-- and of its calls the history has no others
+abbrev pub HasOnlyKept : {W : Type 0} → (W → Meaning) → Row W → List Call → KnownCaller → Type 0
+HasOnlyKept meaning r h x =
+    HasOnly h x.machine.caller (made_before meaning r x.machine.caller) x.ended (HasOpenCall x)
+
+-- A serial history of what callers have made on a row leads to what is saved of the row. The view
+-- is that of the pass with which it was closed.
+pub record HistoryLeads {W : Type 0} (meaning : W → Meaning) (r : Row W) (v : View)
+    (d : SavedCells W) (h : List Call) : Type 0 where
+  pub serial : IsSerial (meaning (key_of r).work) (cells_at_start meaning r) h
+  pub ends : SavedHolds d (cells_after (meaning (key_of r).work) (cells_at_start meaning r) h)
+  pub order : StandsInOrder h
+  pub calls : Each (ExplainsKept meaning r h) v.kept
+  pub only : Each (HasOnlyKept meaning r h) v.kept
+  pub callers : All (λ (e : Call). e.caller < (key_of r).callers) h
+  pub last : (n : ℕ) → n < (key_of r).callers → TellsLast d h n (made_before meaning r n)
+  pub upto : (n : ℕ) → n < (key_of r).callers
+      → IsUpTo (meaning (key_of r).work) h n (saved_ticket d n)
+
+abbrev pub SavesHistory : {W : Type 0} → (W → Meaning) → Row W → View → SavedCells W → Type 0
+SavesHistory meaning r v d = (h : List Call) × HistoryLeads meaning r v d h

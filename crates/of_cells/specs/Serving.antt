@@ -1,0 +1,93 @@
+-- A row of a work, and its callers.
+use Rattle.std.specs.Prelude.{◌≡◌, ℕ, ◌+◌, ◌<◌, ◌⊎◌, List, [], ◌∷◌, length, map, Option, Some, None}
+use Rattle.std.proofs.Common.{get_or}
+use Rattle.of_cell.specs.Words.{payload_of}
+use Rattle.of_mem.specs.Meaning.{Meaning}
+use Rattle.of_core.specs.Machine.{IsOpen, is_idle}
+use Rattle.of_core.specs.Bound.{bound}
+use Rattle.of_core.specs.Turn.{IsIdle}
+use Rattle.of_row.specs.declared.row.Row.{Row}
+use Rattle.of_row.specs.declared.member.Pass.{Pass}
+use Rattle.of_row.specs.Rows.{setup_at, row_start, view_of_pass, IsRowPass, IsFirstPass}
+use Rattle.of_row.specs.Rule.{IsAsked, done_before, open_call_count}
+use Rattle.of_row.specs.Views.{KnownCaller, EndedCall, last_caller}
+use Rattle.of_caller.specs.declared.caller.Caller.{Caller}
+use Rattle.of_caller.specs.Callers.{IsCaller, caller_call, calls_begun_by, sight_of}
+
+-- the numbers of the data cells with which the row started
+abbrev pub cells_at_start : {W : Type 0} → (W → Meaning) → Row W → List ℕ
+cells_at_start meaning r = map payload_of (row_start meaning r).cells
+
+-- how many calls a caller had made before that
+abbrev pub made_before : {W : Type 0} → (W → Meaning) → Row W → ℕ → ℕ
+made_before meaning r n = done_before (setup_at meaning r) (row_start meaning r) n
+
+-- no call on the row makes more steps than this
+abbrev pub row_step_bound : {W : Type 0} → (W → Meaning) → Row W → ℕ
+row_step_bound meaning r = bound (setup_at meaning r)
+
+-- the calls of the caller that have ended
+abbrev pub ended_of : {W : Type 0} → Caller W → List EndedCall
+ended_of c = (last_caller (sight_of c).kept).ended
+
+-- the calls of its number that were begun are those before the row's start, those that have ended
+-- since, and the open one
+abbrev pub CountsCalls : {W : Type 0} → (W → Meaning) → Row W → ℕ → Caller W → Type 0
+CountsCalls meaning r n c =
+    calls_begun_by c
+    ≡ made_before meaning r n + length (ended_of c)
+    + open_call_count (is_idle (caller_call c).place)
+
+-- a caller of the row with this number
+pub record Serves {W : Type 0} (meaning : W → Meaning) (r : Row W) (n : ℕ) (c : Caller W)
+    : Type 0 where
+  pub caller : IsCaller meaning r c
+  pub number : (caller_call c).caller ≡ n
+  pub counts : CountsCalls meaning r n c
+
+-- whatever number it serves, it serves it still
+abbrev pub KeepsServing : {W : Type 0} → (W → Meaning) → Row W → (before now : Caller W) → Type 0
+KeepsServing meaning r c d = (n : ℕ) → Serves meaning r n c → Serves meaning r n d
+
+-- it has made no call on this row
+pub record IsNew {W : Type 0} (meaning : W → Meaning) (r : Row W) (n : ℕ) (c : Caller W)
+    : Type 0 where
+  pub serves : Serves meaning r n c
+  pub none : ended_of c ≡ []
+  pub idle : IsIdle (caller_call c)
+
+-- the row's first pass, which has asked for numbers below the next one alone
+pub record Enrols {W : Type 0} (r : Row W) (next : ℕ) (p : Pass) : Type 0 where
+  pub row : IsRowPass r p
+  pub first : IsFirstPass p
+  pub below : (number : ℕ) → IsAsked number (view_of_pass p).asked → number < next
+
+-- at each place below the count stands a caller of that number, of which this holds
+abbrev pub AllStand : {C : Type 0} → (ℕ → C → Type 0) → ℕ → List (Option C) → Type 0
+AllStand {C} P count cs =
+    (n : ℕ) → n < count → (c : C) × (get_or cs n None ≡ Some c) × P n c
+
+-- at each place below the count stands one
+abbrev pub AllHere : {C : Type 0} → List (Option C) → ℕ → Type 0
+AllHere {C} cs count = (n : ℕ) → n < count → (c : C) × (get_or cs n None ≡ Some c)
+
+-- each that stands there is a caller of the row with that number
+abbrev pub ServeAll : {W : Type 0} → (W → Meaning) → Row W → List (Option (Caller W)) → Type 0
+ServeAll {W} meaning r cs =
+    (n : ℕ) (c : Caller W) → get_or cs n None ≡ Some c → Serves meaning r n c
+
+-- a caller of this number is kept, of which this holds
+abbrev pub KeepsSo : (n : ℕ) → (KnownCaller → Type 0) → List KnownCaller → Type 0
+KeepsSo n P [] = ⊥
+KeepsSo n P (x ∷ xs) = ((x.machine.caller ≡ n) × P x) ⊎ KeepsSo n P xs
+
+-- the kept caller is this one's
+pub record IsKeptOf {W : Type 0} (c : Caller W) (x : KnownCaller) : Type 0 where
+  pub ended : x.ended ≡ ended_of c
+  pub open_call : IsOpen x.machine.place → x.machine ≡ caller_call c
+
+-- each caller that stands at a place below the count is kept
+abbrev pub KeepsThose : {W : Type 0} → List (Option (Caller W)) → (count : ℕ) → List KnownCaller
+    → Type 0
+KeepsThose {W} cs count xs =
+    (n : ℕ) (c : Caller W) → n < count → get_or cs n None ≡ Some c → KeepsSo n (IsKeptOf c) xs

@@ -1,0 +1,155 @@
+//! A call of an operation on a row.
+
+ghost use Rattle.std.specs.Prelude.{◌≡◌, ◌+◌, ◌<◌, ◌≤◌, ℕ, Some, length};
+ghost use Rattle.of_mem.specs.declared.work.TheConstants.{MOST_INSTRS};
+ghost use Rattle.of_core.specs.Machine.{IsOpen};
+ghost use Rattle.of_core.specs.Turn.{IsIdle};
+ghost use Rattle.of_core.specs.Calls.{IsAnswered};
+ghost use Rattle.of_caller.specs.Callers.{IsCaller, caller_call, calls_begun_by};
+ghost use Rattle.of_cells.specs.Serving.{KeepsServing, ended_of, row_step_bound};
+ghost use Rattle.of_cells.specs.Called.{outcome_of, made_with, LeavesOpen, WasTried};
+ghost use Rattle.of_cells.specs.Within.{EndsWithin, KeepsToStop};
+
+use crate::answer::RawAnswer;
+use crate::error::RunErr;
+use of_brake::{Brake, Fuel, Steps};
+use of_caller::{CallErr, Caller};
+use of_core::Outcome;
+use of_mem::Work;
+use of_row::Row;
+use std::marker::Brand;
+use std::sync::ledger::{Blank, Ledger};
+
+// The answer of an outcome.
+fn answer_of(outcome: Outcome) -> RawAnswer
+    requires { IsAnswered outcome }
+    ensures { outcome_of result ≡ outcome }
+{
+    let Outcome::Answered {
+        seq,
+        announced,
+        raw,
+        steps,
+    } = outcome
+    else {
+        unreachable!()
+    };
+    RawAnswer {
+        seq,
+        announced,
+        raw,
+        steps,
+    }
+}
+
+// A brake with so many steps; None is no end.
+fn fuel_of(stop: Option<u64>) -> Fuel
+    ensures { ⟦<Fuel as Brake>⟧.left result ≡ Some stop }
+{
+    let mut fuel = Fuel::new();
+    fuel.arm(stop);
+    fuel
+}
+
+// Makes a call of an operation, for at most so many steps, with a count of its steps that takes no
+// bytes.
+fn call_counted<W: Work, L: Ledger>(
+    row: &Row<W>,
+    caller: &mut Caller<W>,
+    op: &[u64],
+    stop: Option<u64>,
+    blank: Blank,
+) -> Result<RawAnswer, RunErr>
+    requires name { blank.name ≡ L.name }
+    requires parts { (blank.parts ≡ L.parts) × (blank.parts ≡ 1) }
+    requires caller { IsCaller W.meaning row.now caller.old }
+    requires idle { IsIdle (caller_call caller.old) }
+    requires some { 1 ≤ length op.now }
+    requires few { length op.now ≤ MOST_INSTRS }
+    requires ticket { calls_begun_by caller.old + 1 < 4294967296 }
+    ensures serves { KeepsServing W.meaning row.now caller.old caller.new }
+    ensures made { ended_of caller.new ≡ made_with op.now result (ended_of caller.old) }
+    ensures open_call { LeavesOpen op.now result caller.new }
+    ensures tried { WasTried result }
+    ensures bound { EndsWithin (row_step_bound W.meaning row.now) result }
+    ensures stop { KeepsToStop 0 stop (caller_call caller.new).steps result }
+{
+    let mut brake = fuel_of(stop);
+    let mut steps: Steps<L> = Steps::new(blank);
+    match caller.call(row, op, &mut brake, &mut steps) {
+        Ok(outcome) => Ok(answer_of(outcome)),
+        Err(CallErr::Stopped { asked }) => Err(RunErr::Stopped { asked }),
+        Err(CallErr::Spent { seq }) => Err(RunErr::Spent { seq }),
+    }
+}
+
+// Goes on with the open call, for at most so many steps.
+fn go_on_counted<W: Work, L: Ledger>(
+    row: &Row<W>,
+    caller: &mut Caller<W>,
+    stop: Option<u64>,
+    blank: Blank,
+) -> Result<RawAnswer, RunErr>
+    requires name { blank.name ≡ L.name }
+    requires parts { (blank.parts ≡ L.parts) × (blank.parts ≡ 1) }
+    requires caller { IsCaller W.meaning row.now caller.old }
+    requires open_call { IsOpen (caller_call caller.old).place }
+    ensures serves { KeepsServing W.meaning row.now caller.old caller.new }
+    ensures made { ended_of caller.new
+        ≡ made_with (caller_call caller.old).op result (ended_of caller.old) }
+    ensures open_call { LeavesOpen (caller_call caller.old).op result caller.new }
+    ensures tried { WasTried result }
+    ensures bound { EndsWithin (row_step_bound W.meaning row.now) result }
+    ensures stop { KeepsToStop (caller_call caller.old).steps stop
+        (caller_call caller.new).steps result }
+{
+    let mut brake = fuel_of(stop);
+    let mut steps: Steps<L> = Steps::new(blank);
+    match caller.go_on(row, &mut brake, &mut steps) {
+        Ok(outcome) => Ok(answer_of(outcome)),
+        Err(CallErr::Stopped { asked }) => Err(RunErr::Stopped { asked }),
+        Err(CallErr::Spent { seq }) => Err(RunErr::Spent { seq }),
+    }
+}
+
+/// Makes a call of an operation, for at most so many steps.
+pub(crate) fn call_with<W: Work>(
+    row: &Row<W>,
+    caller: &mut Caller<W>,
+    op: &[u64],
+    stop: Option<u64>,
+) -> Result<RawAnswer, RunErr>
+    requires caller { IsCaller W.meaning row.now caller.old }
+    requires idle { IsIdle (caller_call caller.old) }
+    requires some { 1 ≤ length op.now }
+    requires few { length op.now ≤ MOST_INSTRS }
+    requires ticket { calls_begun_by caller.old + 1 < 4294967296 }
+    ensures serves { KeepsServing W.meaning row.now caller.old caller.new }
+    ensures made { ended_of caller.new ≡ made_with op.now result (ended_of caller.old) }
+    ensures open_call { LeavesOpen op.now result caller.new }
+    ensures tried { WasTried result }
+    ensures bound { EndsWithin (row_step_bound W.meaning row.now) result }
+    ensures stop { KeepsToStop 0 stop (caller_call caller.new).steps result }
+{
+    call_counted::<W, Brand>(row, caller, op, stop, Blank::new(1))
+}
+
+/// Goes on with the open call, for at most so many steps.
+pub(crate) fn go_on_with<W: Work>(
+    row: &Row<W>,
+    caller: &mut Caller<W>,
+    stop: Option<u64>,
+) -> Result<RawAnswer, RunErr>
+    requires caller { IsCaller W.meaning row.now caller.old }
+    requires open_call { IsOpen (caller_call caller.old).place }
+    ensures serves { KeepsServing W.meaning row.now caller.old caller.new }
+    ensures made { ended_of caller.new
+        ≡ made_with (caller_call caller.old).op result (ended_of caller.old) }
+    ensures open_call { LeavesOpen (caller_call caller.old).op result caller.new }
+    ensures tried { WasTried result }
+    ensures bound { EndsWithin (row_step_bound W.meaning row.now) result }
+    ensures stop { KeepsToStop (caller_call caller.old).steps stop
+        (caller_call caller.new).steps result }
+{
+    go_on_counted::<W, Brand>(row, caller, stop, Blank::new(1))
+}

@@ -1,0 +1,168 @@
+//! A handle: one caller of a memory of cells, for one thread at a time.
+
+use crate::answer::RawAnswer;
+use crate::calling::{call_with, go_on_with};
+use crate::error::RunErr;
+use crate::memory::CellMemory;
+use of_caller::Caller;
+use of_mem::Work;
+use of_row::Row;
+use std::alloc::Global;
+use std::sync::Arc;
+
+/// One caller of a memory of cells, for one thread at a time.
+#[derive(Drop)]
+pub struct CellHandle<W: Work> {
+    pub(crate) row: Arc<Row<W>, Global>,
+    pub(crate) number: u32,
+    pub(crate) caller: Caller<W>,
+}
+
+impl<W: Work> CellHandle<W> {
+    ghost use Rattle.std.specs.Prelude.{◌≡◌, ◌≤◌, ℕ, List, length};
+    ghost use Rattle.of_mem.specs.declared.work.TheConstants.{MOST_INSTRS};
+    ghost use Rattle.of_cells.specs.Called.{made_with, LeavesAsItWas};
+    ghost use Rattle.of_cells.specs.Within.{EndsWithin, IsNeverStopped, KeepsWithin, KeepsToStop};
+    ghost use Rattle.of_cells.specs.Handles.{IsCellHandle, IsSame, number_of_handle, made_by};
+    ghost use Rattle.of_cells.specs.Handles.{operation_of, steps_so_far, step_bound_of, HasOpen};
+    ghost use Rattle.of_cells.specs.Handles.{StaysOpenOnlyIfStopped, RefusesCall, RefusesToGoOn};
+    ghost use Rattle.of_cells.specs.Memories.{IsCellMemory, IsFrom, IsStill, HasMadeOf, HasOpenOf};
+    ghost use Rattle.of_cells.specs.Memories.{KnowsOthers, OthersStayOpen};
+
+    /// Its number.
+    pub fn number(&self) -> u32
+        ensures { result ≡ number_of_handle self.now }
+    {
+        self.number
+    }
+
+    /// Runs an operation of 1 to `MOST_INSTRS` words, all of it or nothing, and answers its reply.
+    pub fn run(&mut self, op: &[u64]) -> Result<RawAnswer, RunErr>
+        requires handle { IsCellHandle W.meaning self.old }
+        requires some { 1 ≤ length op.now }
+        requires few { length op.now ≤ MOST_INSTRS }
+        ensures handle { IsCellHandle W.meaning self.new }
+        ensures same { IsSame self.old self.new }
+        ensures made { made_by self.new ≡ made_with op.now result (made_by self.old) }
+        ensures open_call { StaysOpenOnlyIfStopped op.now result self.new }
+        ensures cause { RefusesCall self.old result }
+        ensures unmade { LeavesAsItWas result self.old self.new }
+        ensures bound { EndsWithin (step_bound_of W.meaning self.old) result }
+        ensures stopped { IsNeverStopped result }
+    {
+        self.begin(op, None)
+    }
+
+    /// Runs an operation for at most so many steps. If they don't do, the call stays open.
+    pub fn run_within(&mut self, op: &[u64], steps: u64) -> Result<RawAnswer, RunErr>
+        requires handle { IsCellHandle W.meaning self.old }
+        requires some { 1 ≤ length op.now }
+        requires few { length op.now ≤ MOST_INSTRS }
+        ensures handle { IsCellHandle W.meaning self.new }
+        ensures same { IsSame self.old self.new }
+        ensures made { made_by self.new ≡ made_with op.now result (made_by self.old) }
+        ensures open_call { StaysOpenOnlyIfStopped op.now result self.new }
+        ensures cause { RefusesCall self.old result }
+        ensures unmade { LeavesAsItWas result self.old self.new }
+        ensures bound { EndsWithin (step_bound_of W.meaning self.old) result }
+        ensures within { KeepsWithin 0 steps (steps_so_far self.new) result }
+    {
+        self.begin(op, Some(steps))
+    }
+
+    fn begin(&mut self, op: &[u64], stop: Option<u64>) -> Result<RawAnswer, RunErr>
+        requires handle { IsCellHandle W.meaning self.old }
+        requires some { 1 ≤ length op.now }
+        requires few { length op.now ≤ MOST_INSTRS }
+        ensures handle { IsCellHandle W.meaning self.new }
+        ensures same { IsSame self.old self.new }
+        ensures made { made_by self.new ≡ made_with op.now result (made_by self.old) }
+        ensures open_call { StaysOpenOnlyIfStopped op.now result self.new }
+        ensures cause { RefusesCall self.old result }
+        ensures unmade { LeavesAsItWas result self.old self.new }
+        ensures bound { EndsWithin (step_bound_of W.meaning self.old) result }
+        ensures stop { KeepsToStop 0 stop (steps_so_far self.new) result }
+    {
+        if !self.caller.is_idle() {
+            return Err(RunErr::Open);
+        }
+        if self.caller.made() == u32::MAX {
+            return Err(RunErr::NoTicket);
+        }
+        call_with(&self.row, &mut self.caller, op, stop)
+    }
+
+    /// Goes on with the open call, to its answer.
+    pub fn go_on(&mut self) -> Result<RawAnswer, RunErr>
+        requires { IsCellHandle W.meaning self.old }
+        ensures handle { IsCellHandle W.meaning self.new }
+        ensures same { IsSame self.old self.new }
+        ensures made { made_by self.new
+            ≡ made_with (operation_of self.old) result (made_by self.old) }
+        ensures open_call { StaysOpenOnlyIfStopped (operation_of self.old) result self.new }
+        ensures cause { RefusesToGoOn self.old result }
+        ensures unmade { LeavesAsItWas result self.old self.new }
+        ensures bound { EndsWithin (step_bound_of W.meaning self.old) result }
+        ensures stopped { IsNeverStopped result }
+    {
+        self.resume(None)
+    }
+
+    /// Goes on with the open call for at most so many steps.
+    pub fn go_on_within(&mut self, steps: u64) -> Result<RawAnswer, RunErr>
+        requires { IsCellHandle W.meaning self.old }
+        ensures handle { IsCellHandle W.meaning self.new }
+        ensures same { IsSame self.old self.new }
+        ensures made { made_by self.new
+            ≡ made_with (operation_of self.old) result (made_by self.old) }
+        ensures open_call { StaysOpenOnlyIfStopped (operation_of self.old) result self.new }
+        ensures cause { RefusesToGoOn self.old result }
+        ensures unmade { LeavesAsItWas result self.old self.new }
+        ensures bound { EndsWithin (step_bound_of W.meaning self.old) result }
+        ensures within { KeepsWithin (steps_so_far self.old) steps
+            (steps_so_far self.new) result }
+    {
+        self.resume(Some(steps))
+    }
+
+    fn resume(&mut self, stop: Option<u64>) -> Result<RawAnswer, RunErr>
+        requires { IsCellHandle W.meaning self.old }
+        ensures handle { IsCellHandle W.meaning self.new }
+        ensures same { IsSame self.old self.new }
+        ensures made { made_by self.new
+            ≡ made_with (operation_of self.old) result (made_by self.old) }
+        ensures open_call { StaysOpenOnlyIfStopped (operation_of self.old) result self.new }
+        ensures cause { RefusesToGoOn self.old result }
+        ensures unmade { LeavesAsItWas result self.old self.new }
+        ensures bound { EndsWithin (step_bound_of W.meaning self.old) result }
+        ensures stop { KeepsToStop (steps_so_far self.old) stop
+            (steps_so_far self.new) result }
+    {
+        if self.caller.is_idle() {
+            return Err(RunErr::Open);
+        }
+        go_on_with(&self.row, &mut self.caller, stop)
+    }
+
+    /// Leaves its memory, which keeps what it has made; a call that is open stays open. Then its
+    /// number is free again.
+    pub fn leave(self, memory: &mut CellMemory<W>)
+        requires handle { IsCellHandle W.meaning self }
+        requires memory { IsCellMemory W.meaning memory.old }
+        requires from { IsFrom memory.old self }
+        ensures memory { IsCellMemory W.meaning memory.new }
+        ensures still { IsStill memory.old memory.new }
+        ensures made { HasMadeOf memory.new (number_of_handle self) (made_by self) }
+        ensures open_call { (op : List ℕ) → HasOpen self op
+            → HasOpenOf memory.new (number_of_handle self) op }
+        ensures others { KnowsOthers (number_of_handle self) memory.old memory.new }
+        ensures others_open { OthersStayOpen (number_of_handle self) memory.old memory.new }
+    {
+        let CellHandle {
+            row: _,
+            number,
+            caller,
+        } = self;
+        memory.take_in(number, caller);
+    }
+}

@@ -1,0 +1,20 @@
+//! A memory of cells for operations of one's own: threads run a work's operations on one table, and
+//! what is closed can be opened again.
+#![tactic(auto)]
+
+mod answer;
+mod calling;
+mod error;
+mod handle;
+mod memory;
+mod saved;
+mod seating;
+
+pub use answer::RawAnswer;
+pub use error::{EnrolErr, InUse, OpenErr, RunErr};
+pub use handle::CellHandle;
+pub use memory::CellMemory;
+pub use of_cell::GREATEST_LIMIT;
+pub use of_core::Outcome;
+pub use of_mem::{MOST_INSTRS, RawReply, Work};
+pub use saved::SavedCells;

@@ -1,0 +1,239 @@
+//! The memory itself.
+
+ghost use Rattle.std.specs.Prelude.{◌≡◌};
+ghost use Rattle.of_mem.specs.declared.work.TheConstants.{MOST_INSTRS};
+ghost use Rattle.of_cell.specs.declared.word.TheConstants.{GREATEST_LIMIT};
+
+use crate::error::{EnrolErr, InUse, OpenErr};
+use crate::handle::CellHandle;
+use crate::saved::SavedCells;
+use crate::seating::{all_here, gather, put_at, seat_all, take_at};
+use of_caller::Caller;
+use of_cell::{GREATEST_LIMIT, Shape};
+use of_mem::{MOST_INSTRS, Work};
+use of_row::{Pass, Row};
+use std::alloc::{AllocError, Global};
+use std::sync::Arc;
+
+/// A table of cells on which threads run the operations of a work, each by a handle of its own.
+#[derive(Drop)]
+pub struct CellMemory<W: Work> {
+    row: Arc<Row<W>, Global>,
+    pass: Pass,
+    /// The callers that have no handle, by their numbers.
+    callers: Vec<Option<Caller<W>>>,
+}
+
+// The shape of a table for a work.
+fn shape_for<W: Work>(work: W) -> Shape
+    ensures callers { result.callers ≡ W.many work }
+    ensures instrs { result.instrs ≡ MOST_INSTRS }
+    ensures cells { result.cells ≡ W.size work }
+{
+    Shape {
+        callers: work.callers(),
+        instrs: MOST_INSTRS as u32,
+        cells: work.cells(),
+    }
+}
+
+impl<W: Work> CellMemory<W> {
+    ghost use Rattle.std.specs.Prelude.{◌≡◌, ◌<◌, ◌≤◌, ℕ, List, [], IfOk, IfErr};
+    ghost use Rattle.std.proofs.Common.{replicate};
+    ghost use Rattle.of_row.specs.Rows.{key_of};
+    ghost use Rattle.of_row.specs.Passes.{IsFirst};
+    ghost use Rattle.of_row.specs.Views.{EndedCall};
+    ghost use Rattle.of_cells.specs.Serving.{Serves, ended_of};
+    ghost use Rattle.of_cells.specs.Called.{IsOpenAt};
+    ghost use Rattle.of_cells.specs.Saving.{IsSavedCells, HoldsLawful, saved_cells, saved_work};
+    ghost use Rattle.of_cells.specs.Saving.{saved_callers, saved_limit, saved_ticket};
+    ghost use Rattle.of_cells.specs.Handles.{IsCellHandle, HasOpen, number_of_handle, made_by};
+    ghost use Rattle.of_cells.specs.Memories.{IsCellMemory, row_of, work_of, callers_of, limit_of};
+    ghost use Rattle.of_cells.specs.Memories.{cells_before, tickets_before, HasMadeOf, HasOpenOf};
+    ghost use Rattle.of_cells.specs.Memories.{HasNoneOpen, HasNoHandleOut, IsFrom, IsStill};
+    ghost use Rattle.of_cells.specs.Memories.{KnowsOthers, OthersStayOpen, HasHistory};
+    ghost use Rattle.of_cells.specs.Memories.{IsOpenCause, IsEnrolCause, HasMadeNothing};
+
+    /// A memory of zeros for this work. `limit` is the last sequence that may be committed.
+    pub fn open(alloc: Global, work: W, limit: u32) -> Result<CellMemory<W>, OpenErr>
+        ensures memory { IfOk result (IsCellMemory W.meaning) }
+        ensures work { IfOk result (λ m. work_of m ≡ work) }
+        ensures callers { IfOk result (λ m. callers_of m ≡ W.many work) }
+        ensures limit { IfOk result (λ m. limit_of m ≡ limit) }
+        ensures zeros { IfOk result (λ m. cells_before W.meaning m ≡ replicate (W.size work) 0) }
+        ensures tickets { IfOk result (λ m. (n : ℕ) → tickets_before W.meaning m n ≡ 0) }
+        ensures none { IfOk result HasMadeNothing }
+        ensures idle { IfOk result HasNoneOpen }
+        ensures cause { IfErr result (IsOpenCause limit) }
+    {
+        if limit == 0 || limit > GREATEST_LIMIT {
+            return Err(OpenErr::Limit { limit });
+        }
+        match CellMemory::zeros(alloc, work, limit) {
+            Ok(memory) => Ok(memory),
+            Err(error) => Err(OpenErr::OutOfMemory(error)),
+        }
+    }
+
+    // The same, with a limit in its range.
+    fn zeros(alloc: Global, work: W, limit: u32) -> Result<CellMemory<W>, AllocError>
+        requires { limit ≤ GREATEST_LIMIT }
+        ensures memory { IfOk result (IsCellMemory W.meaning) }
+        ensures work { IfOk result (λ m. work_of m ≡ work) }
+        ensures callers { IfOk result (λ m. callers_of m ≡ W.many work) }
+        ensures limit { IfOk result (λ m. limit_of m ≡ limit) }
+        ensures zeros { IfOk result (λ m. cells_before W.meaning m ≡ replicate (W.size work) 0) }
+        ensures tickets { IfOk result (λ m. (n : ℕ) → tickets_before W.meaning m n ≡ 0) }
+        ensures none { IfOk result HasMadeNothing }
+        ensures idle { IfOk result HasNoneOpen }
+    {
+        let (row, pass) = Row::new(alloc, shape_for(work), limit, work)?;
+        let memory = CellMemory::over(alloc, row, pass)?;
+        Ok(memory)
+    }
+
+    /// A memory that goes on from what was saved. No call that it holds is run again.
+    pub fn reopen(alloc: Global, saved: &SavedCells<W>) -> Result<CellMemory<W>, AllocError>
+        requires { IsSavedCells W.many W.size W.meaning W.lawful saved.now }
+        ensures memory { IfOk result (IsCellMemory W.meaning) }
+        ensures work { IfOk result (λ m. work_of m ≡ saved_work saved.now) }
+        ensures callers { IfOk result (λ m. callers_of m ≡ saved_callers saved.now) }
+        ensures limit { IfOk result (λ m. limit_of m ≡ saved_limit saved.now) }
+        ensures goes_on { IfOk result (λ m. cells_before W.meaning m ≡ saved_cells saved.now) }
+        ensures tickets { IfOk result (λ m.
+            (n : ℕ) → tickets_before W.meaning m n ≡ saved_ticket saved.now n) }
+        ensures none { IfOk result HasMadeNothing }
+        ensures idle { IfOk result HasNoneOpen }
+    {
+        let (row, pass) = Row::start(alloc, saved.shape, saved.limit, saved.work, &saved.row)?;
+        let memory = CellMemory::over(alloc, row, pass)?;
+        Ok(memory)
+    }
+
+    // A memory over a row with its first pass.
+    fn over(alloc: Global, row: Row<W>, pass: Pass) -> Result<CellMemory<W>, AllocError>
+        requires { IsFirst row pass }
+        ensures memory { IfOk result (IsCellMemory W.meaning) }
+        ensures row { IfOk result (λ m. row_of m ≡ row) }
+        ensures none { IfOk result HasMadeNothing }
+        ensures idle { IfOk result HasNoneOpen }
+    {
+        let (callers, pass) = seat_all(alloc, &row, pass)?;
+        let row = Arc::new(alloc, row)?;
+        Ok(CellMemory { row, pass, callers })
+    }
+
+    /// The work whose operations it runs.
+    pub fn work(&self) -> W
+        ensures { result ≡ work_of self.now }
+    {
+        self.row.work()
+    }
+
+    /// How many callers it has.
+    pub fn callers(&self) -> u32
+        ensures { result ≡ callers_of self.now }
+    {
+        self.row.shape().callers
+    }
+
+    /// The last sequence that may be committed.
+    pub fn limit(&self) -> u32
+        ensures { result ≡ limit_of self.now }
+    {
+        self.row.limit()
+    }
+
+    /// A handle for a number. It goes on where the last handle of that number left.
+    pub fn enrol(&mut self, number: u32) -> Result<CellHandle<W>, EnrolErr>
+        requires { IsCellMemory W.meaning self.old }
+        ensures memory { IsCellMemory W.meaning self.new }
+        ensures still { IsStill self.old self.new }
+        ensures handle { IfOk result (IsCellHandle W.meaning) }
+        ensures from { IfOk result (IsFrom self.new) }
+        ensures number { IfOk result (λ h. number_of_handle h ≡ number) }
+        ensures made { IfOk result (λ h. (es : List EndedCall)
+            → HasMadeOf self.old number es → made_by h ≡ es) }
+        ensures open_call { IfOk result (λ h. (op : List ℕ)
+            → HasOpenOf self.old number op → HasOpen h op) }
+        ensures others { KnowsOthers number self.old self.new }
+        ensures others_open { OthersStayOpen number self.old self.new }
+        ensures cause { IfErr result (IsEnrolCause self.old number) }
+    {
+        if number >= self.callers() {
+            return Err(EnrolErr::NoCaller { number });
+        }
+        let Ok(row) = Arc::try_clone(&self.row) else {
+            return Err(EnrolErr::OutOfMemory(AllocError));
+        };
+        match take_at(&mut self.callers, number as usize) {
+            Some(caller) => Ok(CellHandle {
+                row,
+                number,
+                caller,
+            }),
+            None => Err(EnrolErr::Enrolled { number }),
+        }
+    }
+
+    // Takes a caller in that has no handle any more.
+    pub(crate) fn take_in(&mut self, number: u32, caller: Caller<W>)
+        requires memory { IsCellMemory W.meaning self.old }
+        requires caller { Serves W.meaning (row_of self.old) number caller }
+        ensures memory { IsCellMemory W.meaning self.new }
+        ensures still { IsStill self.old self.new }
+        ensures made { HasMadeOf self.new number (ended_of caller) }
+        ensures open_call { (op : List ℕ) → IsOpenAt op caller → HasOpenOf self.new number op }
+        ensures others { KnowsOthers number self.old self.new }
+        ensures others_open { OthersStayOpen number self.old self.new }
+    {
+        put_at(&mut self.callers, number as usize, caller);
+    }
+
+    /// Closes the memory: what is durable is recovered and saved, and all else is given up. While a
+    /// handle is out, the memory is handed back.
+    pub fn close(self) -> Result<SavedCells<W>, InUse<W>>
+        requires { IsCellMemory W.meaning self }
+        ensures saved { IfOk result (IsSavedCells W.many W.size W.meaning W.lawful) }
+        ensures lawful { IfOk result (HoldsLawful W.lawful) }
+        ensures history { IfOk result (HasHistory W.meaning self) }
+        ensures work { IfOk result (λ d. saved_work d ≡ work_of self) }
+        ensures callers { IfOk result (λ d. saved_callers d ≡ callers_of self) }
+        ensures limit { IfOk result (λ d. saved_limit d ≡ limit_of self) }
+        // So no call that was answered is missing.
+        ensures here { IfOk result (λ d. HasNoHandleOut self) }
+        ensures in_use { IfErr result (λ e. e.0 ≡ self) }
+    {
+        if all_here(&self.callers) {
+            self.close_at_home()
+        } else {
+            Err(InUse(self))
+        }
+    }
+
+    // The same, where no handle is out.
+    fn close_at_home(self) -> Result<SavedCells<W>, InUse<W>>
+        requires memory { IsCellMemory W.meaning self }
+        requires here { HasNoHandleOut self }
+        ensures saved { IfOk result (IsSavedCells W.many W.size W.meaning W.lawful) }
+        ensures lawful { IfOk result (HoldsLawful W.lawful) }
+        ensures history { IfOk result (HasHistory W.meaning self) }
+        ensures work { IfOk result (λ d. saved_work d ≡ work_of self) }
+        ensures callers { IfOk result (λ d. saved_callers d ≡ callers_of self) }
+        ensures limit { IfOk result (λ d. saved_limit d ≡ limit_of self) }
+        ensures in_use { IfErr result (λ e. e.0 ≡ self) }
+    {
+        let CellMemory {
+            row,
+            pass,
+            mut callers,
+        } = self;
+        match Arc::try_unwrap(row) {
+            Ok(row) => {
+                let pass = gather(&row, pass, &mut callers);
+                Ok(SavedCells::close(row, pass))
+            }
+            Err(row) => Err(InUse(CellMemory { row, pass, callers })),
+        }
+    }
+}

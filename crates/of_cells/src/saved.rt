@@ -1,0 +1,157 @@
+//! What a closed memory leaves.
+
+ghost use Rattle.std.specs.Prelude.{◌≡◌, ◌<◌, ◌≤◌, ◌+◌, IfOk, length, map};
+ghost use Rattle.std.specs.Prelude.{slice_index_or, slice_range};
+ghost use Rattle.of_cell.specs.Words.{payload_of};
+ghost use Rattle.of_core.specs.Starts.{start_on};
+ghost use Rattle.of_recover.specs.OfShape.{IsShapeRow, row_after_recovery};
+ghost use Rattle.of_recover.specs.Recovered.{RecoversData};
+
+use of_cell::{Shape, payload_of};
+use of_mem::{MOST_INSTRS, Work};
+use of_recover::laws::recovered_cells;
+use of_recover::recover;
+use of_row::laws::stops_lose_nothing;
+use of_row::{Pass, Row};
+use std::alloc::{AllocError, Global};
+
+/// How many data cells belong to each caller: its ticket, its reply's shape and the numbers in it.
+const OWN_CELLS: u32 = MOST_INSTRS as u32 + 2;
+
+// The words of the data cells in a durable row.
+fn data_words(alloc: Global, shape: &Shape, row: &[u64]) -> Result<Vec<u64>, AllocError>
+    requires { IsShapeRow shape.now row.now }
+    ensures { IfOk result (λ words. words.items ≡ (start_on shape.now row.now).cells) }
+{
+    let first = shape.data_cell(0) as usize;
+    Vec::from_slice(alloc, &row[first..first + shape.cells as usize])
+}
+
+// The numbers in these words.
+fn numbers(alloc: Global, words: &[u64]) -> Result<Vec<u32>, AllocError>
+    ensures { IfOk result (λ numbers. numbers.items ≡ map payload_of words.now) }
+{
+    words.iter().map(|word| payload_of(*word)).collect(alloc)
+}
+
+// Leaves the durable words of a table's words. It takes no memory.
+fn keep_durable(cells: usize, words: &mut Vec<u64>)
+    requires { cells + cells ≤ length words.old.items }
+    ensures { words.new.items ≡ slice_range words.old.items cells (cells + cells) }
+{
+    for cell in 0..cells {
+        words[cell] = words[cells + cell];
+    }
+    words.truncate(cells);
+}
+
+// Recovers durable words, in place.
+fn recover_words(shape: &Shape, words: &mut Vec<u64>)
+    requires { IsShapeRow shape.now words.old.items }
+    ensures row { words.new.items ≡ row_after_recovery shape.now words.old.items }
+    ensures on_data { RecoversData shape.now.callers shape.now.cells words.old.items
+        (row_after_recovery shape.now words.old.items) }
+{
+    recovered_cells(shape, words);
+    recover(shape, words);
+}
+
+/// What a closed memory leaves: its durable words, recovered.
+#[derive(Drop)]
+pub struct SavedCells<W: Work> {
+    pub(crate) work: W,
+    pub(crate) shape: Shape,
+    pub(crate) limit: u32,
+    pub(crate) row: Vec<u64>,
+}
+
+impl<W: Work> SavedCells<W> {
+    ghost use Rattle.of_row.specs.Rows.{key_of, view_of_pass, IsRowPass};
+    ghost use Rattle.of_cells.specs.Saving.{IsSavedCells, HoldsLawful, SavesHistory, saved_work};
+    ghost use Rattle.of_cells.specs.Saving.{saved_callers, saved_limit, saved_cells, saved_ticket};
+
+    // Closes a row, takes its durable words alone, as a crash does, and recovers them.
+    pub(crate) fn close(row: Row<W>, pass: Pass) -> SavedCells<W>
+        requires { IsRowPass row pass }
+        ensures work { saved_work result ≡ (key_of row).work }
+        ensures callers { saved_callers result ≡ (key_of row).callers }
+        ensures limit { saved_limit result ≡ (key_of row).limit }
+        ensures saved { IsSavedCells W.many W.size W.meaning W.lawful result }
+        ensures lawful { HoldsLawful W.lawful result }
+        ensures leads { SavesHistory W.meaning row (view_of_pass pass) result }
+    {
+        let work = row.work();
+        let limit = row.limit();
+        stops_lose_nothing(limit, work);
+        let shape = row.shape();
+        let (mut words, _pass) = row.close(pass);
+        keep_durable(shape.durable_cells() as usize, &mut words);
+        recover_words(&shape, &mut words);
+        SavedCells {
+            work,
+            shape,
+            limit,
+            row: words,
+        }
+    }
+
+    /// The work whose cells these are.
+    pub fn work(&self) -> W
+        ensures { result ≡ saved_work self.now }
+    {
+        self.work
+    }
+
+    /// How many callers it has.
+    pub fn callers(&self) -> u32
+        ensures { result ≡ saved_callers self.now }
+    {
+        self.shape.callers
+    }
+
+    /// The last sequence that may be committed.
+    pub fn limit(&self) -> u32
+        ensures { result ≡ saved_limit self.now }
+    {
+        self.limit
+    }
+
+    /// The numbers of the data cells. The error is that there is no memory.
+    pub fn numbers(&self, alloc: Global) -> Result<Vec<u32>, AllocError>
+        requires { IsSavedCells W.many W.size W.meaning W.lawful self.now }
+        ensures { IfOk result (λ cells. cells.items ≡ saved_cells self.now) }
+    {
+        let words = data_words(alloc, &self.shape, &self.row)?;
+        let cells = numbers(alloc, &words)?;
+        Ok(cells)
+    }
+
+    // The number in the word of a data cell.
+    fn word_number(&self, cell: u32) -> u32
+        requires saved { IsSavedCells W.many W.size W.meaning W.lawful self.now }
+        requires cell { cell < W.size (saved_work self.now) }
+        ensures { result
+            ≡ payload_of (slice_index_or (start_on self.now.shape self.now.row.items).cells cell 0) }
+    {
+        let place = self.shape.data_cell(cell);
+        payload_of(self.row[place as usize])
+    }
+
+    /// The number of a data cell.
+    pub fn number(&self, cell: u32) -> u32
+        requires saved { IsSavedCells W.many W.size W.meaning W.lawful self.now }
+        requires cell { cell < W.size (saved_work self.now) }
+        ensures { result ≡ slice_index_or (saved_cells self.now) cell 0 }
+    {
+        self.word_number(cell)
+    }
+
+    /// How many calls of a caller it holds: the number of its last one, whoever finished it.
+    pub fn ticket(&self, number: u32) -> u32
+        requires saved { IsSavedCells W.many W.size W.meaning W.lawful self.now }
+        requires number { number < saved_callers self.now }
+        ensures { result ≡ saved_ticket self.now number }
+    {
+        self.number(number * OWN_CELLS)
+    }
+}
