@@ -1,4 +1,4 @@
 pub mod Walks
 pub mod Room
-pub mod Closing
 pub mod Tellers
+pub mod Evenings

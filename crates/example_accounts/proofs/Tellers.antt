@@ -1,96 +1,93 @@
--- Tellers: what they know of their calls, and their logs.
-use Rattle.std.proofs.Common.{◌≡◌, ℕ, suc, ◌+◌, ◌≤◌, ◌<◌, ◌⊎◌, inl, inr, refl, sym, ◌∙◌, ap, subst, arith, List, [], ◌∷◌, ◌++◌, length, get_or, map, take, reverse, length-append}
+-- Tellers: their places, what they have made, and their logs.
+use Rattle.std.proofs.Common.{◌≡◌, ℕ, suc, ◌+◌, ◌<◌, inl, inr, refl, sym, ◌∙◌, ap, subst, arith, List, [], ◌∷◌, ◌++◌, length, get_or, map, take, reverse, length-append, Global}
 use Rattle.std.specs.List.{All}
-use Rattle.std.proofs.lemmas.List.{get_or-map, length-map, map-append, reverse-append, append_assoc, take_more}
-use Rattle.std.proofs.lemmas.List.Elements.{All-cons}
+use Rattle.std.specs.declared.vec.Vec.{Vec}
+use Rattle.std.proofs.lemmas.Bool.{cases_lt}
+use Rattle.std.proofs.lemmas.List.{get_or-map, length-map, map-append, reverse-append, append_assoc, take_more, get_or_append_left}
+use Rattle.std.proofs.Math.Seq.{get_or-append_seam}
 use Rattle.of_core.specs.Machine.{Call}
-use Rattle.of_core.specs.Events.{zero_start, start_ticket}
-use Rattle.of_core.specs.Linear.{ExplainsOutcome}
-use Rattle.of_row.specs.declared.member.Member.{Member}
-use Rattle.of_row.specs.declared.member.Pass.{Pass}
-use Rattle.of_row.specs.declared.row.Row.{Row}
-use Rattle.of_row.specs.Views.{EndedCall, KnownCaller, View, Each, last_caller, no_ended}
-use Rattle.of_row.specs.Rule.{IsAsked, done_before}
-use Rattle.of_row.specs.Rows.{view_of_pass, view_of_member, number_of_member}
-use Rattle.of_row.specs.Passes.{IsFirst, HasEnrolled}
-use Rattle.of_row.specs.Moments.{ExplainsEndedCalls}
+use Rattle.of_row.specs.Views.{EndedCall, no_ended}
+use Rattle.of_cells.specs.declared.memory.CellMemory.{CellMemory}
+use Rattle.of_cells.specs.declared.saved.SavedCells.{SavedCells}
+use Rattle.of_cells.specs.History.{ExplainsEnd}
+use Rattle.of_cells.specs.Handles.{IsCellHandle, number_of_handle, made_by}
+use Rattle.of_cells.specs.Memories.{IsStill, IsFrom, HasMadeOf, KnowsOthers, LeadsTo, tickets_before}
 use Rattle.example_accounts.specs.declared.accounts.Accounts.{Accounts}
 use Rattle.example_accounts.specs.declared.teller.Answer.{Answer}
 use Rattle.example_accounts.specs.declared.teller.Teller.{Teller}
 use Rattle.example_accounts.specs.declared.day.Log.{Log}
-use Rattle.example_accounts.specs.Meaning.{accounts_meaning}
 use Rattle.example_accounts.specs.declared.transfer.Transfer.{Transfer}
+use Rattle.example_accounts.specs.Meaning.{accounts_meaning}
+use Rattle.example_accounts.specs.Days.{ended_call, transfer_of, job_of_teller, FollowsJob, Serves, HasWorked, IsSeatedAt, AreSeated, IsLoggedAt, AreLogged, HasLog, no_answer}
 use Rattle.example_accounts.specs.Accounts.{transfer_words}
-use Rattle.example_accounts.specs.Days.{setup_with, Serves, Enrols, ended_call, transfer_of, job_of_teller, FollowsJob, IsLogged, AreLogged, HasLog, no_answer}
 
--- ---- numbers
+-- ---- facts of each place of a list
 
-asked_or_last : (n r m : ℕ) (xs : List (ℕ × ℕ)) → IsAsked n (xs ++ (r, m) ∷ []) → IsAsked n xs ⊎ (m ≡ n)
-asked_or_last n r m [] (inl e) = inr e
-asked_or_last n r m [] (inr a) = absurd a
-asked_or_last n r m (x ∷ xs) (inl e) = inl (inl e)
-asked_or_last n r m (x ∷ xs) (inr a) = later (asked_or_last n r m xs a)
-  where
-    later : IsAsked n xs ⊎ (m ≡ n) → IsAsked n (x ∷ xs) ⊎ (m ≡ n)
-    later (inl t) = inl (inr t)
-    later (inr t) = inr t
+module _ {A : Type 0} (P : ℕ → A → Type 0) where
+  abbrev pub AtEach : List A → Type 0
+  AtEach xs = (p : ℕ) (d : A) → p < length xs → P p (get_or xs p d)
 
-pub enrols_first : (r : Row Accounts) (n : ℕ) (p : Pass) → IsFirst r p → Enrols r n p
-enrols_first r n p h = record {
-  row = h.0;
-  first = ap (λ (v : View). v.first) h.1;
-  nobody = ap (λ (v : View). v.kept) h.1;
-  above = λ m a. absurd (subst (λ (v : View). IsAsked m v.asked) h.1 a);
-}
+  pub each_push : (xs ys : List A) (x : A) → ys ≡ xs ++ x ∷ [] → AtEach xs → P (length xs) x → AtEach ys
+  each_push xs ys x is all one = subst AtEach (sym is) go
+    where
+      go : AtEach (xs ++ x ∷ [])
+      go p d lt = elim (cases_lt p (length xs)) [
+        | inl low ↦ subst (P p) (sym (get_or_append_left xs (x ∷ []) d p low)) (all p d low)
+        | inr high ↦
+            let at : p ≡ length xs = omega (arith, lt, high, length-append xs (x ∷ [])) in
+            subst (λ (z : ℕ × A). P z.0 z.1) (λ i. (sym at i, sym (ap (λ (k : ℕ). get_or (xs ++ x ∷ []) k d) at ∙ get_or-append_seam xs x [] d) i)) one
+      ]
 
-pub enrols_next : (r : Row Accounts) (n : ℕ) (before : Pass) (member : Member) (now : Pass) → Enrols r (n + 1) before → HasEnrolled accounts_meaning r n before member now → Enrols r n now
-enrols_next r n before member now h e = record {
-  row = e.at_row.1;
-  first = ap (λ (v : View). v.first) e.pass_is ∙ h.first;
-  nobody = ap (λ (v : View). v.kept) e.pass_is ∙ h.nobody;
-  above = λ m a. high m (asked_or_last m e.found n (view_of_pass before).asked (subst (λ (v : View). IsAsked m v.asked) e.pass_is a));
-}
-  where
-    high : (m : ℕ) → IsAsked m (view_of_pass before).asked ⊎ (n ≡ m) → n ≤ m
-    high m (inl t) = let b = h.above m t in omega (arith, b)
-    high m (inr t) = omega (arith, t)
+  pub each_pop : (xs ys : List A) (x : A) → xs ≡ ys ++ x ∷ [] → AtEach xs → AtEach ys × P (length ys) x
+  each_pop xs ys x is all =
+      let there : AtEach (ys ++ x ∷ []) = subst AtEach is all in (
+        (λ p d lt. subst (P p) (get_or_append_left ys (x ∷ []) d p lt) (there p d (omega (arith, lt, length-append ys (x ∷ []))))),
+        subst (P (length ys)) (get_or-append_seam ys x [] x) (there (length ys) x (omega (arith, length-append ys (x ∷ [])))),
+      )
+
+-- ---- tellers at their places
+
+-- they are of the memory still
+pub seated_still : (m k : CellMemory Accounts) (count : ℕ) (ts : List Teller) → IsStill m k → AreSeated m count ts → AreSeated k count ts
+seated_still m k count ts still all p d lt = let s = all p d lt in record { serves = s.serves; from = s.from ∙ sym still; number = s.number }
+
+pub serve_all : (m : CellMemory Accounts) (count : ℕ) (ts : List Teller) → AreSeated m count ts → All Serves ts
+serve_all m count ts all p d lt = (all p d lt).serves
+
+-- they have worked
+pub seated_after : (m : CellMemory Accounts) (count : ℕ) (ts us : List Teller) → length us ≡ length ts → ((i : ℕ) (d : Teller) → i < length ts → HasWorked (get_or ts i d) (get_or us i d)) → AreSeated m count ts → AreSeated m count us
+seated_after m count ts us same worked all p d lt =
+    let low : p < length ts = omega (arith, lt, same) in
+    let s = all p d low in
+    let w = worked p d low in
+    record { serves = w.serves; from = w.same.handle.home ∙ s.from; number = omega (arith, w.same.handle.number, s.number) }
+
+-- ---- what a number has made
+
+pub same_made : (m : CellMemory Accounts) (n : ℕ) (xs ys : List EndedCall) → HasMadeOf m n xs → xs ≡ ys → HasMadeOf m n ys
+same_made m n xs ys h is = subst (HasMadeOf m n) is h
+
+-- one more leaves
+pub logged_still : (m k : CellMemory Accounts) (n : ℕ) (ls : List Log) → length ls ≡ n → KnowsOthers n m k → AreLogged m ls → AreLogged k ls
+logged_still m k n ls long others all p d lt = let l = all p d lt in record { number = l.number; made = others p (map ended_call (get_or ls p d).answers.items) (omega (arith, lt, long)) l.made; follows = l.follows }
 
 -- ---- logs
 
-pub logged_more : (xs : List KnownCaller) (ls : List Log) (x : KnownCaller) (l : Log) → AreLogged xs ls → IsLogged x l → AreLogged (xs ++ x ∷ []) (ls ++ l ∷ [])
-logged_more [] [] x l h k = (k, tt)
-logged_more [] (m ∷ ms) x l h k = absurd h
-logged_more (y ∷ ys) [] x l h k = absurd h
-logged_more (y ∷ ys) (m ∷ ms) x l h k = (h.0, logged_more ys ms x l h.1 k)
-
--- the log of a teller that has left
-pub hands_in : (r : Row Accounts) (t : Teller) (kept now : List KnownCaller) (ls ms : List Log) (m : Member) (l : Log) → Serves r t → m ≡ t.caller.member → now ≡ kept ++ (view_of_member m).kept
-    → ms ≡ ls ++ l ∷ [] → l.number ≡ number_of_member m → l.answers.items ≡ t.answers.items → l.job.items ≡ t.job.items → AreLogged kept ls → AreLogged now ms
-hands_in r t kept now ls ms m l s same view more number answers job h =
-    let x = s.caller.member in
-    let one : (view_of_member m).kept ≡ x.0 ∷ [] = ap (λ (m : Member). (view_of_member m).kept) same ∙ x.1 in
-    subst (λ (k : List KnownCaller × List Log). AreLogged k.0 k.1) (λ i. ((sym (view ∙ ap (λ xs. kept ++ xs) one)) i, sym more i))
-    (logged_more kept ls x.0 l h (record {
-      number = sym x.3 ∙ ap number_of_member (sym same) ∙ sym number;
-      answers = ap (λ xs. (last_caller xs).ended) (sym x.1) ∙ s.answers ∙ ap (map ended_call) (sym answers);
-      follows = subst (λ (k : List Answer × List Transfer). FollowsJob k.0 k.1) (λ i. (sym answers i, sym job i)) s.follows;
-    }))
-
-has_log : (w : Accounts) (calls : List Call) (x : KnownCaller) (l : Log) → ((i : ℕ) → start_ticket (setup_with w) (zero_start (setup_with w)) i ≡ 0) → IsLogged x l → ExplainsEndedCalls (setup_with w) (zero_start (setup_with w)) calls x → HasLog w calls l
-has_log w calls x l none is all = record { follows = is.follows; each = each }
+has_log : (m : CellMemory Accounts) (d : SavedCells Accounts) (calls : List Call) (n : ℕ) (l : Log) → LeadsTo accounts_meaning m d calls → tickets_before accounts_meaning m n ≡ 0 → IsLoggedAt m n l → HasLog calls l
+has_log m d calls n l leads none is = record { follows = is.follows; each = each }
   where
-    each : (k : ℕ) → k < length l.answers.items → ExplainsOutcome (setup_with w) calls l.number (k + 1) (transfer_words (get_or l.answers.items k no_answer).transfer) (get_or l.answers.items k no_answer).outcome
-    each k lt =
-        let long : length x.ended ≡ length l.answers.items = ap length is.answers ∙ length-map l.answers.items ended_call in
-        let at : get_or x.ended k no_ended ≡ ended_call (get_or l.answers.items k no_answer) = ap (λ es. get_or es k no_ended) is.answers ∙ get_or-map ended_call l.answers.items k no_answer no_ended lt in
-        let ticket : done_before (setup_with w) (zero_start (setup_with w)) x.machine.caller + k + 1 ≡ k + 1 = let z = none x.machine.caller in omega (arith, z) in
-        subst (λ (e : ℕ × (ℕ × EndedCall)). ExplainsOutcome (setup_with w) calls e.0 e.1.0 e.1.1.op e.1.1.outcome) (λ i. (is.number i, (ticket i, at i))) (all k (omega (arith, lt, long)))
+    es : List EndedCall
+    es = map ended_call l.answers.items
 
-pub have_logs : (w : Accounts) (calls : List Call) (xs : List KnownCaller) (ls : List Log) → ((i : ℕ) → start_ticket (setup_with w) (zero_start (setup_with w)) i ≡ 0) → AreLogged xs ls → Each (ExplainsEndedCalls (setup_with w) (zero_start (setup_with w)) calls) xs → All (HasLog w calls) ls
-have_logs w calls [] [] none h all = λ k d lt. absurd (omega (arith, lt))
-have_logs w calls [] (l ∷ ls) none h all = absurd h
-have_logs w calls (x ∷ xs) [] none h all = absurd h
-have_logs w calls (x ∷ xs) (l ∷ ls) none h all = All-cons (HasLog w calls) l ls (has_log w calls x l none h.0 all.0) (have_logs w calls xs ls none h.1 all.1)
+    each : (k : ℕ) → k < length l.answers.items → ExplainsEnd calls l.number (k + 1) (transfer_words (get_or l.answers.items k no_answer).transfer) (get_or l.answers.items k no_answer).outcome
+    each k lt =
+        let at : get_or es k no_ended ≡ ended_call (get_or l.answers.items k no_answer) = get_or-map ended_call l.answers.items k no_answer no_ended lt in
+        let ticket : tickets_before accounts_meaning m n + k + 1 ≡ k + 1 = omega (arith, none) in
+        subst (λ (e : ℕ × (ℕ × EndedCall)). ExplainsEnd calls e.0 e.1.0 e.1.1.op e.1.1.outcome) (λ i. (sym is.number i, (ticket i, at i)))
+        (leads.made n es is.made k (omega (arith, lt, length-map l.answers.items ended_call)))
+
+pub have_logs : (m : CellMemory Accounts) (d : SavedCells Accounts) (calls : List Call) (ls : List Log) → LeadsTo accounts_meaning m d calls → ((n : ℕ) → tickets_before accounts_meaning m n ≡ 0) → AreLogged m ls → All (HasLog calls) ls
+have_logs m d calls ls leads none all p e lt = has_log m d calls p (get_or ls p e) leads (none p) (all p e lt)
 
 -- ---- jobs
 
@@ -111,3 +108,45 @@ pub follows_more : (made now : List Answer) (a : Answer) (job : List Transfer) �
 follows_more made now a job h is lt next = subst (λ xs. FollowsJob xs job) (sym is)
     (map-append transfer_of made (a ∷ []) ∙ ap (λ xs. xs ++ a.transfer ∷ []) h ∙ ap (λ x. take (length made) job ++ x ∷ []) next
     ∙ sym (take_more job (length made) a.transfer lt) ∙ ap (λ n. take n job) (sym (length-append made (a ∷ []))))
+
+-- ---- a teller that works
+
+pub works_still : (t : Teller) → Serves t → HasWorked t t
+works_still t s = record { serves = s; same = record { handle = record { home = refl; number = refl }; job = refl } }
+
+pub works_on : (t u v : Teller) → HasWorked t u → HasWorked u v → HasWorked t v
+works_on t u v h k = record {
+  serves = k.serves;
+  same = record { handle = record { home = k.same.handle.home ∙ h.same.handle.home; number = k.same.handle.number ∙ h.same.handle.number }; job = k.same.job ∙ h.same.job };
+}
+
+-- ---- a teller that is seated
+
+pub seat_more : (m k : CellMemory Accounts) (count : ℕ) (ts us : List Teller) (t : Teller) → IsStill m k → AreSeated m count ts → us ≡ ts ++ t ∷ [] → IsSeatedAt k count (length ts) t → AreSeated k count us
+seat_more m k count ts us t still all is one = each_push (IsSeatedAt k count) ts us t is (seated_still m k count ts still all) one
+
+pub new_teller : (k : CellMemory Accounts) (count place : ℕ) (t : Teller) → IsCellHandle accounts_meaning t.handle → IsFrom k t.handle → made_by t.handle ≡ [] → t.answers.items ≡ [] → number_of_handle t.handle + place + 1 ≡ count → IsSeatedAt k count place t
+new_teller k count place t handle from made none number = record {
+  serves = record {
+    handle = handle;
+    answers = made ∙ ap (map ended_call) (sym none);
+    follows = subst (λ (xs : List Answer). FollowsJob xs t.job.items) (sym none) refl;
+  };
+  from = from;
+  number = number;
+}
+
+-- ---- a teller that leaves
+
+pub one_leaves : (m : CellMemory Accounts) (count : ℕ) (ts us : List Teller) (t : Teller) → ts ≡ us ++ t ∷ [] → AreSeated m count ts → AreSeated m count us × IsSeatedAt m count (length us) t
+one_leaves m count ts us t is all = each_pop (IsSeatedAt m count) ts us t is all
+
+pub log_more : (m k : CellMemory Accounts) (t : Teller) (ls ms : List Log) (l : Log) → number_of_handle t.handle ≡ length ls → Serves t → KnowsOthers (number_of_handle t.handle) m k → HasMadeOf k (number_of_handle t.handle) (made_by t.handle) → l.number ≡ number_of_handle t.handle → l.job ≡ t.job → l.answers ≡ t.answers
+    → ms ≡ ls ++ l ∷ [] → AreLogged m ls → AreLogged k ms
+log_more m k t ls ms l number serves others made number_is job answers is all = each_push (IsLoggedAt k) ls ms l is
+    (logged_still m k (number_of_handle t.handle) ls (sym number) others all)
+    (record {
+      number = number_is ∙ number;
+      made = subst (λ (z : ℕ × List EndedCall). HasMadeOf k z.0 z.1) (λ i. (number i, (serves.answers ∙ ap (λ (v : Vec Answer Global). map ended_call v.items) (sym answers)) i)) made;
+      follows = subst (λ (z : Vec Answer Global × Vec Transfer Global). FollowsJob z.0.items z.1.items) (λ i. (sym answers i, sym job i)) serves.follows;
+    })

@@ -1,21 +1,20 @@
-//! A day: the tellers work at once, and in the evening the table is closed.
+//! A day: the tellers work at once, and in the evening the memory is closed.
 
 ghost use Rattle.std.specs.Prelude.{◌≡◌, ◌≤◌, ◌<◌, ℕ, length, map, reverse, slice_index_or, IfOk};
-ghost use Rattle.example_accounts.specs.declared.teller.Teller.{Teller as TheTeller};
 ghost use Rattle.std.specs.List.{All};
-ghost use Rattle.of_row.specs.Rows.{key_of, view_of_pass, IsRowPass, KeepsNobody};
-ghost use Rattle.of_row.specs.Passes.{IsFirst};
-ghost use Rattle.example_accounts.specs.Days.{Serves, IsEvening, AreLogged};
-ghost use Rattle.example_accounts.specs.Days.{job_of, job_of_teller};
+ghost use Rattle.of_mem.specs.declared.work.TheConstants.{MOST_CALLERS};
+ghost use Rattle.of_cells.specs.Memories.{IsCellMemory, IsStill, HasMadeNothing, callers_of};
+ghost use Rattle.example_accounts.specs.declared.teller.Teller.{Teller as TheTeller};
+ghost use Rattle.example_accounts.specs.Meaning.{accounts_meaning};
+ghost use Rattle.example_accounts.specs.Days.{Serves, HasWorked, AreSeated, AreLogged};
+ghost use Rattle.example_accounts.specs.Days.{IsEvening, job_of, job_of_teller};
 
 use crate::accounts::Accounts;
-use crate::evening::close;
 use crate::teller::{Answer, Teller};
 use crate::transfer::Transfer;
-use of_cell::GREATEST_LIMIT;
-use of_core::laws::starts;
-use of_row::{Pass, Row};
-use std::alloc::{AllocError, Global};
+use anyhow::Result;
+use of_cells::{CellMemory, GREATEST_LIMIT};
+use std::alloc::Global;
 use std::thread::{Threads, for_each_mut};
 
 /// What a teller has made.
@@ -36,90 +35,97 @@ pub struct Evening {
     pub cells: Vec<u32>,
 }
 
-// A teller for each job, with the number that is the job's place.
+// A teller for each job, with the number that is the job's place; the last one first.
 fn seat_all(
     alloc: Global,
-    row: &Row<Accounts>,
-    mut pass: Pass,
+    memory: &mut CellMemory<Accounts>,
     mut jobs: Vec<Vec<Transfer>>,
-) -> Result<(Vec<Teller>, Pass), AllocError>
-    requires first { IsFirst row.now pass }
-    requires few { length jobs.items ≤ (key_of row.now).callers }
-    ensures tellers { IfOk result (λ r. All (Serves row.now) r.0.items) }
-    ensures jobs { IfOk result (λ r. jobs.items ≡ reverse (map job_of_teller r.0.items)) }
-    ensures pass { IfOk result (λ r. IsRowPass row.now r.1) }
-    ensures nobody { IfOk result (λ r. KeepsNobody r.1) }
+) -> Result<Vec<Teller>>
+    requires memory { IsCellMemory accounts_meaning memory.old }
+    requires none { HasMadeNothing memory.old }
+    requires few { length jobs.items ≤ callers_of memory.old }
+    requires small { length jobs.items ≤ MOST_CALLERS }
+    ensures memory { IsCellMemory accounts_meaning memory.new }
+    ensures still { IsStill memory.old memory.new }
+    ensures tellers { IfOk result (λ ts. AreSeated memory.new (length ts.items) ts.items) }
+    ensures jobs { IfOk result (λ ts. jobs.items ≡ reverse (map job_of_teller ts.items)) }
 {
     let mut tellers = Vec::new(alloc);
     while let Some(job) = jobs.pop() {
-        let (teller, next) = Teller::seat(alloc, row, pass, jobs.len() as u32, job)?;
-        tellers.push(teller)?;
-        pass = next;
+        let answers = Vec::with_capacity(alloc, job.len())?;
+        let handle = memory.enrol(jobs.len() as u32)?;
+        tellers.push(Teller {
+            handle,
+            job,
+            answers,
+        })?;
     }
-    Ok((tellers, pass))
+    Ok(tellers)
 }
 
 // Lets all tellers work at once, each in a thread of its own if one can be made.
-fn work_all<R: Threads + Sync>(rt: &R, alloc: Global, row: &Row<Accounts>, tellers: &mut [Teller])
-    requires { All (Serves row.now) tellers.old }
-    ensures tellers { All (Serves row.now) tellers.new }
+fn work_all<R: Threads + Sync>(rt: &R, tellers: &mut [Teller])
+    requires { All Serves tellers.old }
     ensures len { length tellers.new ≡ length tellers.old }
-    ensures jobs { (i : ℕ) (d : TheTeller) → i < length tellers.old
-        → (slice_index_or tellers.new i d).job ≡ (slice_index_or tellers.old i d).job }
+    ensures worked { (i : ℕ) (d : TheTeller) → i < length tellers.old
+        → HasWorked (slice_index_or tellers.old i d) (slice_index_or tellers.new i d) }
 {
     let threads = tellers.len().max(1);
     for_each_mut(
         rt,
         tellers,
         threads,
-        &|_, teller: &mut Teller| { teller.work(alloc, row) },
+        &|_, teller: &mut Teller| { teller.work() },
     );
 }
 
-// The tellers leave: the pass keeps what they have made, and each leaves a log of it.
+// The tellers leave: the memory keeps what they have made, and each leaves a log of it.
 fn gather(
     alloc: Global,
-    row: &Row<Accounts>,
-    mut pass: Pass,
+    memory: &mut CellMemory<Accounts>,
     mut tellers: Vec<Teller>,
-) -> Result<(Vec<Log>, Pass), AllocError>
-    requires pass { IsRowPass row.now pass }
-    requires nobody { KeepsNobody pass }
-    requires tellers { All (Serves row.now) tellers.items }
-    ensures pass { IfOk result (λ r. IsRowPass row.now r.1) }
-    ensures logs { IfOk result (λ r. AreLogged (view_of_pass r.1).kept r.0.items) }
-    ensures jobs { IfOk result (λ r.
-        map job_of_teller tellers.items ≡ reverse (map job_of r.0.items)) }
+) -> Result<Vec<Log>>
+    requires memory { IsCellMemory accounts_meaning memory.old }
+    requires tellers { AreSeated memory.old (length tellers.items) tellers.items }
+    ensures memory { IsCellMemory accounts_meaning memory.new }
+    ensures still { IsStill memory.old memory.new }
+    ensures logs { IfOk result (λ logs. AreLogged memory.new logs.items) }
+    ensures jobs { IfOk result (λ logs.
+        map job_of_teller tellers.items ≡ reverse (map job_of logs.items)) }
 {
     let mut logs = Vec::new(alloc);
     while let Some(teller) = tellers.pop() {
-        let member = teller.caller.leave();
-        let number = member.number();
-        pass = row.join(pass, member);
+        let Teller {
+            handle,
+            job,
+            answers,
+        } = teller;
+        let number = handle.number();
+        handle.leave(memory);
         logs.push(Log {
             number,
-            job: teller.job,
-            answers: teller.answers,
+            job,
+            answers,
         })?;
     }
-    Ok((logs, pass))
+    Ok(logs)
 }
 
-/// A day of tellers with these jobs. The error is that there is no memory.
+/// A day of tellers with these jobs.
 pub fn day<R: Threads + Sync>(
     rt: &R,
     alloc: Global,
     accounts: Accounts,
     jobs: Vec<Vec<Transfer>>,
-) -> Result<Evening, AllocError>
+) -> Result<Evening>
     requires { length jobs.items ≤ accounts.callers }
     ensures { IfOk result (IsEvening accounts jobs.items) }
 {
-    starts(GREATEST_LIMIT, accounts);
-    let (row, pass) = Row::new(alloc, accounts.shape(), GREATEST_LIMIT, accounts)?;
-    let (mut tellers, pass) = seat_all(alloc, &row, pass, jobs)?;
-    work_all(rt, alloc, &row, tellers.as_mut_slice());
-    let (logs, pass) = gather(alloc, &row, pass, tellers)?;
-    let cells = close(alloc, row, pass)?;
+    let mut memory = CellMemory::open(alloc, accounts, GREATEST_LIMIT)?;
+    let mut tellers = seat_all(alloc, &mut memory, jobs)?;
+    work_all(rt, tellers.as_mut_slice());
+    let logs = gather(alloc, &mut memory, tellers)?;
+    let saved = memory.close()?;
+    let cells = saved.numbers(alloc)?;
     Ok(Evening { logs, cells })
 }

@@ -4,7 +4,6 @@
 
 mod accounts;
 mod day;
-mod evening;
 mod teller;
 mod transfer;
 

@@ -130,8 +130,8 @@ impl<W: Work> SavedCells<W> {
     fn word_number(&self, cell: u32) -> u32
         requires saved { IsSavedCells W.many W.size W.meaning W.lawful self.now }
         requires cell { cell < W.size (saved_work self.now) }
-        ensures { result
-            ≡ payload_of (slice_index_or (start_on self.now.shape self.now.row.items).cells cell 0) }
+        ensures { let words = (start_on self.now.shape self.now.row.items).cells in
+            result ≡ payload_of (slice_index_or words cell 0) }
     {
         let place = self.shape.data_cell(cell);
         payload_of(self.row[place as usize])

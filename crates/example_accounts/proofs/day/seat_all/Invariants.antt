@@ -1,7 +1,8 @@
-use Rattle.std.proofs.Common.{◌≡◌, ◌++◌, map, reverse, ◌≤◌, length}
-use Rattle.std.specs.List.{All}
-use Rattle.of_row.specs.Rows.{key_of}
-use Rattle.example_accounts.specs.Days.{Serves, Enrols, job_of_teller}
+use Rattle.std.proofs.Common.{◌≡◌, ◌++◌, ◌≤◌, ◌<◌, ◌+◌, ℕ, [], map, reverse, length}
+use Rattle.of_mem.specs.declared.work.TheConstants.{MOST_CALLERS}
+use Rattle.of_cells.specs.Memories.{IsCellMemory, IsStill, HasMadeOf}
+use Rattle.example_accounts.specs.Meaning.{accounts_meaning}
+use Rattle.example_accounts.specs.Days.{AreSeated, job_of_teller}
 use Rattle.example_accounts.proofs.day.seat_all.Given as goal
 
 abbrev pub decreases-loop-job : goal.decreases-loop-job
@@ -9,8 +10,11 @@ decreases-loop-job l = length l.jobs.items
 
 abbrev pub invariant-loop-job : goal.invariant-loop-job
 invariant-loop-job l = record {
-  pass : Enrols l.row (length l.jobs.items) l.pass;
-  few : length l.jobs.items ≤ (key_of l.row).callers;
-  tellers : All (Serves l.row) l.tellers.items;
+  memory : IsCellMemory accounts_meaning l.memory;
+  still : IsStill l.fn.memory l.memory;
+  few : length l.jobs.items ≤ MOST_CALLERS;
+  count : length l.jobs.items + length l.tellers.items ≡ length l.fn.jobs.items;
+  none : (n : ℕ) → n < length l.jobs.items → HasMadeOf l.memory n [];
+  tellers : AreSeated l.memory (length l.fn.jobs.items) l.tellers.items;
   jobs : l.fn.jobs.items ≡ l.jobs.items ++ reverse (map job_of_teller l.tellers.items);
 }
