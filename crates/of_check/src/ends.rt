@@ -6,7 +6,7 @@ ghost use Rattle.std.specs.Ordering.{nat_cmp};
 ghost use Rattle.of_script.specs.declared.instr.TheConstants.{MOST_INSTRS};
 ghost use Rattle.of_plan.specs.Report.{Start as PlainStart};
 ghost use Rattle.of_report.specs.Report.{entry_value, report_value};
-ghost use Rattle.of_report.specs.Image.{IsImage, image_value};
+ghost use Rattle.of_report.specs.Image.{IsImage};
 ghost use Rattle.of_check.specs.Ends.{ticket_behind, HasTicket, BreaksTicket, EndsAt, BreaksLeft};
 
 use of_plan::Plan;
@@ -79,12 +79,12 @@ fn same_store(one: &Store, other: &Store) -> bool
 // The first caller whose ticket is not the one behind the report; None where all are.
 fn wrong_ticket(plan: &Plan, done: &[u32], report: &Report, image: &Image) -> Option<u32>
     requires done { length done.now ≡ plan.now.callers }
-    requires image { IsImage MOST_INSTRS (image_value image.now) }
-    requires callers { image.now.callers ≡ plan.now.callers }
+    requires image { IsImage MOST_INSTRS image.now }
+    requires callers { image.now.row.callers ≡ plan.now.callers }
     ensures { (s : PlainStart) → s.finished ≡ done.now → MatchOption result
         ((c : ℕ) → c < plan.now.callers
-        → HasTicket s (report_value report.now) (image_value image.now) c)
-        (λ c. BreaksTicket plan.now s (report_value report.now) (image_value image.now) c) }
+        → HasTicket s (report_value report.now) image.now c)
+        (λ c. BreaksTicket plan.now s (report_value report.now) image.now c) }
 {
     for caller in 0..plan.callers() {
         let ticket = ticket_behind(done[caller as usize], &report.entries, caller);
@@ -99,10 +99,10 @@ fn wrong_ticket(plan: &Plan, done: &[u32], report: &Report, image: &Image) -> Op
 /// scripts of each caller are done; nothing exactly where the image is the report's end.
 pub fn why_left(plan: &Plan, done: &[u32], report: &Report, image: &Image) -> Option<LeftRule>
     requires done { length done.now ≡ plan.now.callers }
-    requires image { IsImage MOST_INSTRS (image_value image.now) }
+    requires image { IsImage MOST_INSTRS image.now }
     ensures { (s : PlainStart) → s.finished ≡ done.now → MatchOption result
-        (EndsAt plan.now s (report_value report.now) (image_value image.now))
-        (BreaksLeft plan.now s (report_value report.now) (image_value image.now)) }
+        (EndsAt plan.now s (report_value report.now) image.now)
+        (BreaksLeft plan.now s (report_value report.now) image.now) }
 {
     if image.callers != plan.callers() {
         return Some(LeftRule::Callers);

@@ -5,7 +5,7 @@ ghost use Rattle.std.specs.List.{range_with_len};
 ghost use Rattle.of_script.specs.declared.instr.TheConstants.{MOST_INSTRS};
 ghost use Rattle.of_store.specs.declared.store.TheConstants.{MOST_BLOCKS};
 ghost use Rattle.of_store.specs.Store.{empty_store};
-ghost use Rattle.of_report.specs.Image.{IsImage, image_value, image_ticket, start_of_image as image_start};
+ghost use Rattle.of_report.specs.Image.{IsImage, image_ticket, start_of_image as image_start};
 ghost use Rattle.of_check.specs.Starts.{start_where_done, start_of};
 
 use of_report::Image;
@@ -25,9 +25,9 @@ pub struct Start {
 
 /// The tickets of an image, caller by caller. The error is out of memory.
 pub fn tickets(alloc: Global, image: &Image) -> Result<Vec<u32>, AllocError>
-    requires { IsImage MOST_INSTRS (image_value image.now) }
+    requires { IsImage MOST_INSTRS image.now }
     ensures { IfOk result (λ tickets. tickets.items
-        ≡ map (image_ticket (image_value image.now)) (range_with_len 0 image.now.callers)) }
+        ≡ map (image_ticket image.now) (range_with_len 0 image.now.row.callers)) }
 {
     image.tickets(alloc)
 }
@@ -49,8 +49,8 @@ impl Start {
 
     /// Where an image left: its sequence, its tickets and its store. The error is out of memory.
     pub fn behind(alloc: Global, image: Image) -> Result<Start, AllocError>
-        requires { IsImage MOST_INSTRS (image_value image) }
-        ensures { IfOk result (λ start. start_of start ≡ image_start (image_value image)) }
+        requires { IsImage MOST_INSTRS image }
+        ensures { IfOk result (λ start. start_of start ≡ image_start image) }
     {
         let finished = tickets(alloc, &image)?;
         let Image {

@@ -17,7 +17,6 @@ use Rattle.of_mem.specs.Plots.{data_cell_count}
 use Rattle.of_mem.specs.Places.{base_of, cells_at}
 use Rattle.of_mem.proofs.Lists.{part_at, part_long}
 use Rattle.of_script.specs.declared.instr.TheConstants.{MOST_INSTRS}
-use Rattle.of_report.specs.declared.image.Image.{Image as Held}
 use Rattle.of_image.specs.declared.error.ImageErr.{ImageErr}
 use Rattle.of_image.specs.declared.error.ImageErr.TheVariants.{Memory, Bad, Unlawful}
 use Rattle.of_image.specs.declared.version.Version.{Version}
@@ -27,7 +26,7 @@ use Rattle.of_report.proofs.Recovery.{row_long}
 use Rattle.of_image.specs.ImageText.{SpellsImage}
 use Rattle.of_report.specs.ImageLaw.{IsLawfulRow}
 use Rattle.of_image.specs.RowFault.{IsRowFault}
-use Rattle.of_report.specs.Image.{Image, IsImage, image_value, IsRestored}
+use Rattle.of_report.specs.Image.{Image, IsImage, IsRestored}
 use Rattle.of_image.specs.declared.law.RowErr.{RowErr}
 use Rattle.of_image.specs.declared.law.RowErr.TheVariants.{Memory as NoMemory, Unlawful as UnlawfulRow}
 use Rattle.of_image.specs.Parsed.{ReadsImage, ImageIsRefused, IsUnlawful, NamesRowFault, image_err}
@@ -127,8 +126,8 @@ one_unlawful v text c d h k =
     one_row_fault (instrs_of v) (recovered_row (instrs_of v) k.raw) c d (subst (λ (q : DurableRow). IsRowFault (instrs_of v) (recovered_row (instrs_of v) q) c) same h.fault) k.fault
 
 -- a text with an image is answered by it
-pub only_image : (v : Version) (text : List ℕ) (r : Result Held ImageErr) → IfOk r (λ i. ReadsImage v text (image_value i)) → IfErr r (ImageIsRefused v text) → (image : Image) → ReadsImage v text image → MatchResult r (λ i. image_value i ≡ image) (λ e. e ≡ Memory)
-only_image v text (Ok i) ok err image h = one_image v text (image_value i) image ok h
+pub only_image : (v : Version) (text : List ℕ) (r : Result Image ImageErr) → IfOk r (λ i. ReadsImage v text i) → IfErr r (ImageIsRefused v text) → (image : Image) → ReadsImage v text image → MatchResult r (λ i. i ≡ image) (λ e. e ≡ Memory)
+only_image v text (Ok i) ok err image h = one_image v text i image ok h
 only_image v text (Err Memory) ok err image h = refl
 only_image v text (Err (Bad line)) ok err image h = absurd (err.none (h.raw, h.spelled))
 only_image v text (Err (Unlawful cell)) ok err image h = absurd (unlawful_excludes v text cell image err h)
@@ -179,7 +178,7 @@ module _ (p : Plot) (instrs : p.instrs ≡ MOST_INSTRS) (words copy : List ℕ) 
       absurd (fault_excludes MOST_INSTRS (recovered_row MOST_INSTRS (row_in p words)) j.store cell (subst (λ (q : DurableRow). IsLawfulRow MOST_INSTRS q j.store) k.row k.lawful) (record { law = law; breaks = there }))
 
 -- an error that says so
-pub only_memory : (x : Result Held ImageErr) (e : ImageErr) (P : Held → Type 0) → IsErrAnd x (λ f. f ≡ e) → e ≡ Memory → MatchResult x P (λ f. f ≡ Memory)
+pub only_memory : (x : Result Image ImageErr) (e : ImageErr) (P : Image → Type 0) → IsErrAnd x (λ f. f ≡ e) → e ≡ Memory → MatchResult x P (λ f. f ≡ Memory)
 only_memory (Ok i) e P is memory = absurd is
 only_memory (Err f) e P is memory = is ∙ memory
 

@@ -8,7 +8,7 @@ ghost use Rattle.of_mem.specs.Plots.{data_cell_count};
 ghost use Rattle.of_image.specs.declared.version.Version.TheVariants.{One, Two};
 ghost use Rattle.of_image.specs.declared.error.ImageErr.TheVariants.{Memory};
 ghost use Rattle.of_image.specs.ImageText.{image_text};
-ghost use Rattle.of_report.specs.Image.{Image as PlainImage, IsImage, image_value};
+ghost use Rattle.of_report.specs.Image.{Image as PlainImage, IsImage};
 ghost use Rattle.of_image.specs.Parsed.{ReadsImage, ImageIsRefused};
 ghost use Rattle.of_image.specs.MovedRow.{earlier_address, moved_word_to, moved_words_to, moved_row, Migrates};
 ghost use Rattle.of_report.specs.ImageRow.{row_in};
@@ -81,9 +81,9 @@ fn moved_words(alloc: Global, old: &Plot, new: &Plot, words: &[u64]) -> Result<V
 
 /// The version 2 text of a version 1 image.
 fn moved_text(alloc: Global, image: &Image) -> Result<Vec<u8>, AllocError>
-    requires { IsImage 8 (image_value image.now) }
+    requires { IsImage 8 image.now }
     ensures { IfOk result (λ text.
-        text.items ≡ image_text Two (moved_row 8 MOST_INSTRS (image_value image.now).row)) }
+        text.items ≡ image_text Two (moved_row 8 MOST_INSTRS image.now.row)) }
 {
     let old = plot_of(Version::One, image.callers, image.blocks);
     let new = plot_of(Version::Two, image.callers, image.blocks);

@@ -3,7 +3,7 @@
 ghost use Rattle.std.specs.Prelude.{◌≡◌, ◌≤◌, IfOk, IfErr, MatchResult};
 ghost use Rattle.of_mem.specs.declared.work.TheConstants.{MOST_INSTRS};
 ghost use Rattle.of_image.specs.Version.{instrs_of};
-ghost use Rattle.of_report.specs.Image.{Image as PlainImage, IsImage, image_value};
+ghost use Rattle.of_report.specs.Image.{Image as PlainImage, IsImage};
 ghost use Rattle.of_image.specs.Parsed.{ReadsImage, ImageIsRefused};
 ghost use Rattle.of_image.specs.declared.version.Version.TheVariants.{Two};
 ghost use Rattle.of_image.specs.declared.error.ImageErr.TheVariants.{Memory};
@@ -36,7 +36,7 @@ pub(crate) fn plot_of(version: Version, callers: u32, blocks: u32) -> Plot
 
 /// The image that a text of a version has.
 pub(crate) fn read_image(alloc: Global, version: Version, text: &[u8]) -> Result<Image, ImageErr>
-    ensures ok { IfOk result (λ image. ReadsImage version text.now (image_value image)) }
+    ensures ok { IfOk result (λ image. ReadsImage version text.now image) }
     ensures err { IfErr result (ImageIsRefused version text.now) }
 {
     let reading = read_row(alloc, version, text)?;
@@ -47,14 +47,14 @@ pub(crate) fn read_image(alloc: Global, version: Version, text: &[u8]) -> Result
 /// The image that a text has: what recovery finds in its durable words.
 pub fn image_parse(alloc: Global, text: &[u8]) -> Result<Image, ImageErr>
     // What is answered is what recovery finds in the row that the text spells, and it is lawful.
-    ensures ok { IfOk result (λ image. ReadsImage Two text.now (image_value image)) }
-    ensures image { IfOk result (λ image. IsImage MOST_INSTRS (image_value image)) }
+    ensures ok { IfOk result (λ image. ReadsImage Two text.now image) }
+    ensures image { IfOk result (λ image. IsImage MOST_INSTRS image) }
     // A line that is named is the bad one of a text that is not in the grammar; a cell that is
     // named is the first at fault.
     ensures err { IfErr result (ImageIsRefused Two text.now) }
     // A text that has an image is answered by it, unless memory runs out.
     ensures only { (image : PlainImage) → ReadsImage Two text.now image →
-        MatchResult result (λ i. image_value i ≡ image) (λ e. e ≡ Memory) }
+        MatchResult result (λ i. i ≡ image) (λ e. e ≡ Memory) }
 {
     read_image(alloc, Version::Two, text)
 }

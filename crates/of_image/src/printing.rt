@@ -7,7 +7,7 @@ ghost use Rattle.of_mem.specs.declared.work.TheConstants.{MOST_INSTRS};
 ghost use Rattle.of_image.specs.declared.version.Version.TheVariants.{Two};
 ghost use Rattle.of_report.specs.ImageRow.{row_in};
 ghost use Rattle.of_image.specs.ImageText.{image_cell_text, image_cells_text, image_line_text, image_text, table_row, SpellsImage};
-ghost use Rattle.of_report.specs.Image.{IsImage, image_value};
+ghost use Rattle.of_report.specs.Image.{IsImage};
 ghost use Rattle.of_report.specs.Image.{image_ticket};
 ghost use Rattle.of_image.specs.RecoveredText.{ticket_line, ticket_lines, recovered_text};
 ghost use Rattle.of_script.specs.Appending.{AppendsText};
@@ -115,8 +115,8 @@ fn put_ticket(out: &mut String, caller: u32, ticket: u32) -> Result<(), AllocErr
 
 // Writes the tickets that are not 0.
 fn put_tickets(out: &mut String, image: &Image) -> Result<(), AllocError>
-    requires { IsImage MOST_INSTRS (image_value image.now) }
-    ensures { OnOk result (AppendsText out.old out.new (ticket_lines (image_value image.now))) }
+    requires { IsImage MOST_INSTRS image.now }
+    ensures { OnOk result (AppendsText out.old out.new (ticket_lines image.now)) }
 {
     for caller in 0..image.callers {
         put_ticket(out, caller, image.ticket(caller))?;
@@ -127,8 +127,8 @@ fn put_tickets(out: &mut String, image: &Image) -> Result<(), AllocError>
 /// The text of what recovery found: the sequence, the tickets that are not 0, and the store. The
 /// error is want of memory.
 pub fn recovered_print(alloc: Global, image: &Image) -> Result<Vec<u8>, AllocError>
-    requires { IsImage MOST_INSTRS (image_value image.now) }
-    ensures { IfOk result (λ text. text.items ≡ recovered_text (image_value image.now)) }
+    requires { IsImage MOST_INSTRS image.now }
+    ensures { IfOk result (λ text. text.items ≡ recovered_text image.now) }
 {
     let mut out = String::from_str(alloc, "onefile recovered 1\n")?;
     writeln!(out, "seq {}", image.recovered.seq)?;

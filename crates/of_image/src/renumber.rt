@@ -4,7 +4,7 @@ ghost use Rattle.std.specs.Prelude.{◌≡◌, IfOk, false, slice_index};
 ghost use Rattle.of_recover.specs.Row.{IsDurableRow, is_open};
 ghost use Rattle.of_recover.specs.Renumbered.{renumbered_words};
 ghost use Rattle.of_mem.specs.declared.work.TheConstants.{MOST_INSTRS};
-ghost use Rattle.of_report.specs.Image.{IsImage, image_value};
+ghost use Rattle.of_report.specs.Image.{IsImage};
 ghost use Rattle.of_image.specs.RenumberedImage.{Renumbers};
 
 use crate::printing::print_row;
@@ -31,8 +31,8 @@ fn renumbered(alloc: Global, shape: &Shape, durable: &[u64]) -> Result<Vec<u64>,
 /// The text of an image whose sequences begin anew, with the same store, tickets, shapes and
 /// replies. The error is want of memory.
 pub fn renumbered_print(alloc: Global, image: &Image) -> Result<Vec<u8>, AllocError>
-    requires { IsImage MOST_INSTRS (image_value image.now) }
-    ensures { IfOk result (λ text. Renumbers (image_value image.now) text.items) }
+    requires { IsImage MOST_INSTRS image.now }
+    ensures { IfOk result (λ text. Renumbers image.now text.items) }
 {
     let plot = Plot {
         callers: image.callers,

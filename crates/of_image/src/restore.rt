@@ -9,7 +9,7 @@ ghost use Rattle.of_report.specs.ImageRow.{IsRow, row_in};
 ghost use Rattle.of_report.specs.ImageLaw.{IsLawfulRow, NoneNewer};
 ghost use Rattle.of_image.specs.RowFault.{IsFirstNewer};
 ghost use Rattle.of_image.specs.Parsed.{NamesRowFault};
-ghost use Rattle.of_report.specs.Image.{image_value, IsRestored};
+ghost use Rattle.of_report.specs.Image.{IsRestored};
 ghost use Rattle.of_report.specs.ImageRow.{recovered_row};
 
 use crate::law::{Law, RowErr};
@@ -88,7 +88,7 @@ fn lawful_store(alloc: Global, plot: &Plot, words: &[u64]) -> Result<Store, RowE
 pub(crate) fn restore(alloc: Global, plot: &Plot, words: Vec<u64>) -> Result<Image, RowErr>
     requires { IsDurableRow plot.now.callers (data_cell_count plot.now) words.items }
     ensures ok { IfOk result (λ image.
-        IsRestored plot.now.instrs (row_in plot.now words.items) (image_value image)) }
+        IsRestored plot.now.instrs (row_in plot.now words.items) image) }
     ensures err { let found = recovered_row plot.now.instrs (row_in plot.now words.items) in
         IfErr result (NamesRowFault plot.now.instrs found) }
 {

@@ -4,7 +4,7 @@ ghost use Rattle.std.specs.Prelude.{◌≡◌, IfOk, IfErr, MatchResult};
 ghost use Rattle.of_mem.specs.declared.work.TheConstants.{MOST_INSTRS};
 ghost use Rattle.of_mem.specs.Plots.{data_cell_count};
 ghost use Rattle.of_recover.specs.Row.{IsDurableRow};
-ghost use Rattle.of_report.specs.Image.{Image as PlainImage, IsImage, IsRestored, image_value};
+ghost use Rattle.of_report.specs.Image.{Image as PlainImage, IsImage, IsRestored};
 ghost use Rattle.of_report.specs.ImageRow.{row_in};
 ghost use Rattle.of_image.specs.Parsed.{WordsAreRefused};
 ghost use Rattle.of_image.specs.declared.error.ImageErr.TheVariants.{Memory};
@@ -20,14 +20,14 @@ pub fn image_of_words(alloc: Global, plot: &Plot, words: &[u64]) -> Result<Image
     requires instrs { plot.now.instrs ≡ MOST_INSTRS }
     requires row { IsDurableRow plot.now.callers (data_cell_count plot.now) words.now }
     ensures ok { IfOk result (λ image.
-        IsRestored MOST_INSTRS (row_in plot.now words.now) (image_value image)) }
-    ensures image { IfOk result (λ image. IsImage MOST_INSTRS (image_value image)) }
+        IsRestored MOST_INSTRS (row_in plot.now words.now) image) }
+    ensures image { IfOk result (λ image. IsImage MOST_INSTRS image) }
     // A cell that is named is the first at fault.
     ensures err { IfErr result (WordsAreRefused (row_in plot.now words.now)) }
     // Words that have an image are answered by it, unless memory runs out.
     ensures only { (image : PlainImage) →
         IsRestored MOST_INSTRS (row_in plot.now words.now) image →
-        MatchResult result (λ i. image_value i ≡ image) (λ e. e ≡ Memory) }
+        MatchResult result (λ i. i ≡ image) (λ e. e ≡ Memory) }
 {
     let row = Vec::from_slice(alloc, words)?;
     Ok(restore(alloc, plot, row)?)

@@ -5,7 +5,7 @@ ghost use Rattle.of_mem.specs.declared.work.TheConstants.{MOST_INSTRS};
 ghost use Rattle.of_plan.specs.Ended.{ended_value};
 ghost use Rattle.of_eval.specs.Reported.{ReportsRun};
 ghost use Rattle.of_report.specs.Report.{report_value, HasWholeReplies};
-ghost use Rattle.of_report.specs.Image.{Image as PlainImage, IsImage, image_value, start_of_image};
+ghost use Rattle.of_report.specs.Image.{Image as PlainImage, IsImage, start_of_image};
 ghost use Rattle.of_caller.specs.Stops.{KeepStops};
 ghost use Rattle.of_caller.specs.Allowances.{KeepAllowances};
 ghost use Rattle.of_lives.specs.OneHistory.{IsBehind};
@@ -47,25 +47,25 @@ pub fn continue_from<R: Threads + Sync>(
     plan: &Plan,
     brakes: Vec<Box<dyn Brake + Send>>,
 ) -> Result<Life, AllocError>
-    requires image { IsImage MOST_INSTRS (image_value image.now) }
-    requires fits { PlanFitsImage (image_value image.now) plan.now }
+    requires image { IsImage MOST_INSTRS image.now }
+    requires fits { PlanFitsImage image.now plan.now }
     requires brakes { plan.now.callers ≤ vec_len brakes }
     // The report is that of what a team has left, and is legal from the image's start.
-    ensures team { IfOk result (λ l. IsLifeOf (image_value image.now) plan.now
+    ensures team { IfOk result (λ l. IsLifeOf image.now plan.now
         (ended_value l.ended) l.pass.seat.me.0 (report_value l.report)) }
-    ensures report { IfOk result (λ l. ReportsRun plan.now (start_of_image (image_value image.now))
+    ensures report { IfOk result (λ l. ReportsRun plan.now (start_of_image image.now)
         (ended_value l.ended) (report_value l.report)) }
     ensures whole { IfOk result (λ l. HasWholeReplies l.report) }
     // No call that the image holds is run again.
     ensures not_again { IfOk result (λ l.
-        All (IsBehind (start_of_image (image_value image.now))) (report_value l.report).entries) }
+        All (IsBehind (start_of_image image.now)) (report_value l.report).entries) }
     ensures stops { IfOk result (λ l.
         KeepStops (λ b. left b) plan.now (ended_value l.ended) 0 brakes.items) }
     // Each caller whose brake tells its steps left keeps its allowance.
     ensures allowances { IfOk result (λ l.
         KeepAllowances (λ b. left b) plan.now (report_value l.report) 0 brakes.items) }
     // The next life can be given the image of the durable words, which is where this report ends.
-    ensures leaves { let start = start_of_image (image_value image.now) in
+    ensures leaves { let start = start_of_image image.now in
         IfOk result (λ l. (next : PlainImage) × LeavesImage plan.now start
         (ended_value l.ended) (report_value l.report) next) }
 {

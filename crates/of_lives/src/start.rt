@@ -4,7 +4,7 @@
 ghost use Rattle.std.specs.Prelude.{◌≡◌, ◌<◌, ◌≤◌, ◌↔◌, ℕ, length, IsTrue, IsNone, IfSome};
 ghost use Rattle.of_mem.specs.declared.work.TheConstants.{MOST_INSTRS};
 ghost use Rattle.of_script.specs.declared.instr.Reply.{Reply as TheReply};
-ghost use Rattle.of_report.specs.Image.{IsImage, image_value, image_ticket, start_of_image};
+ghost use Rattle.of_report.specs.Image.{IsImage, image_ticket, start_of_image};
 ghost use Rattle.of_caller.specs.PlanRows.{HasScripts};
 ghost use Rattle.of_lives.specs.Images.{PlanFitsImage, CallerHoldsReply};
 
@@ -16,9 +16,9 @@ use of_script::Reply;
 // Whether each caller has the scripts that are done.
 #[tactic(auto, using(crate::proofs::ImageStarts::done_is_ticket))]
 fn has_scripts(image: &Image, plan: &Plan) -> bool
-    requires image { IsImage MOST_INSTRS (image_value image.now) }
-    requires callers { plan.now.callers ≡ image.now.callers }
-    ensures { IsTrue result ↔ HasScripts plan.now (start_of_image (image_value image.now)) }
+    requires image { IsImage MOST_INSTRS image.now }
+    requires callers { plan.now.callers ≡ image.now.row.callers }
+    ensures { IsTrue result ↔ HasScripts plan.now (start_of_image image.now) }
 {
     for caller in 0..plan.callers() {
         if image.ticket(caller) as usize > plan.scripts(caller).len() {
@@ -31,8 +31,8 @@ fn has_scripts(image: &Image, plan: &Plan) -> bool
 /// Whether a plan can go on from an image: it has as many callers and blocks, its limit is no lower
 /// than the image's sequence, and each caller has at least as many scripts as its ticket says.
 pub fn fits(image: &Image, plan: &Plan) -> bool
-    requires { IsImage MOST_INSTRS (image_value image.now) }
-    ensures { IsTrue result ↔ PlanFitsImage (image_value image.now) plan.now }
+    requires { IsImage MOST_INSTRS image.now }
+    ensures { IsTrue result ↔ PlanFitsImage image.now plan.now }
 {
     plan.callers() == image.callers
         && plan.blocks() == image.blocks
@@ -44,13 +44,13 @@ pub fn fits(image: &Image, plan: &Plan) -> bool
 /// stopped before it was answered: no later life runs it again. None where no call of the caller
 /// was announced.
 pub fn last_reply(image: &Image, caller: u32) -> Option<(u32, Reply)>
-    requires image { IsImage MOST_INSTRS (image_value image.now) }
-    requires caller { caller < image.now.callers }
-    ensures none { IsNone result ↔ (image_ticket (image_value image.now) caller ≡ 0) }
-    ensures ticket { IfSome result (λ r. r.0 ≡ image_ticket (image_value image.now) caller) }
-    ensures reply { IfSome result (λ r. CallerHoldsReply (image_value image.now) caller r.1) }
+    requires image { IsImage MOST_INSTRS image.now }
+    requires caller { caller < image.now.row.callers }
+    ensures none { IsNone result ↔ (image_ticket image.now caller ≡ 0) }
+    ensures ticket { IfSome result (λ r. r.0 ≡ image_ticket image.now caller) }
+    ensures reply { IfSome result (λ r. CallerHoldsReply image.now caller r.1) }
     // No other reply is held.
-    ensures only { (r : TheReply) → CallerHoldsReply (image_value image.now) caller r
+    ensures only { (r : TheReply) → CallerHoldsReply image.now caller r
         → IfSome result (λ given. given.1 ≡ r) }
 {
     let ticket = image.ticket(caller);

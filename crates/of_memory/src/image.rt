@@ -5,7 +5,7 @@ ghost use Rattle.of_cell.specs.declared.word.TheConstants.{GREATEST_LIMIT};
 ghost use Rattle.of_cell.specs.Cells.{durable_cells, table_words};
 ghost use Rattle.of_mem.specs.declared.work.TheConstants.{MOST_INSTRS};
 ghost use Rattle.of_recover.specs.Row.{IsDurableRow};
-ghost use Rattle.of_report.specs.Image.{IsImage, image_value};
+ghost use Rattle.of_report.specs.Image.{IsImage};
 ghost use Rattle.of_memory.specs.Saving.{IsSaved, saved_limit};
 ghost use Rattle.of_memory.specs.Texts.{IsImageOfSaved, IsPastAll};
 
@@ -72,11 +72,11 @@ impl Saved {
 
 // What an image holds, if its sequence is within the limits.
 fn save_image(image: Image) -> Result<Saved, ImageTextErr>
-    requires { IsImage MOST_INSTRS (image_value image) }
+    requires { IsImage MOST_INSTRS image }
     ensures saved { IfOk result IsSaved }
-    ensures image { IfOk result (IsImageOfSaved (image_value image)) }
+    ensures image { IfOk result (IsImageOfSaved image) }
     ensures limit { IfOk result (λ d. saved_limit d ≡ GREATEST_LIMIT) }
-    ensures past { IfErr result (IsPastAll (image_value image)) }
+    ensures past { IfErr result (IsPastAll image) }
 {
     let seq = image.recovered.seq;
     if seq > GREATEST_LIMIT {
@@ -87,12 +87,12 @@ fn save_image(image: Image) -> Result<Saved, ImageTextErr>
 
 // What an image holds, with this limit.
 pub(crate) fn saved_of(image: Image, limit: u32) -> Saved
-    requires image { IsImage MOST_INSTRS (image_value image) }
+    requires image { IsImage MOST_INSTRS image }
     requires some { 1 ≤ limit }
     requires few { limit ≤ GREATEST_LIMIT }
-    requires within { image.recovered.seq ≤ limit }
+    requires within { image.seq ≤ limit }
     ensures saved { IsSaved result }
-    ensures image { IsImageOfSaved (image_value image) result }
+    ensures image { IsImageOfSaved image result }
     ensures limit { saved_limit result ≡ limit }
 {
     let scripts = Scripts {

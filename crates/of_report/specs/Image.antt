@@ -1,6 +1,7 @@
 -- What an image holds: a recovered row, what recovery found, and the store for which the row
 -- stands.
-use Rattle.std.specs.Prelude.{◌≡◌, ℕ, ◌+◌, Bool, map, slice_index, slice_range}
+use Rattle.std.specs.Prelude.{◌≡◌, refl, ℕ, ◌+◌, Bool, List, map, slice_index, slice_range}
+use Rattle.std.specs.Coded.{Coded, code_by, coded×, coded_ℕ, coded_bool, coded_list}
 use Rattle.std.specs.List.{range_with_len}
 use Rattle.of_cell.specs.Words.{payload_of}
 use Rattle.of_cell.specs.Cells.{data_cell, durable_cells}
@@ -8,11 +9,10 @@ use Rattle.of_mem.specs.Places.{ticket_cell_at}
 use Rattle.of_mem.specs.ProgramWork.{memory_of}
 use Rattle.of_script.specs.declared.instr.TheConstants.{MOST_INSTRS}
 use Rattle.of_recover.specs.Row.{current_seq, is_open}
-use Rattle.of_store.specs.Store.{Store}
+use Rattle.of_store.specs.Store.{Store, state_code}
 use Rattle.of_plan.specs.Plan.{Plan, data_cells}
 use Rattle.of_plan.specs.Report.{Start}
 use Rattle.of_plan.specs.Ended.{Ended}
-use Rattle.of_report.specs.declared.image.Image.{Image as Held}
 use Rattle.of_report.specs.ImageRow.{DurableRow, IsRow, recovered_row, data_numbers_in}
 use Rattle.of_report.specs.ImageLaw.{IsLawfulRow}
 
@@ -23,14 +23,20 @@ pub record Image : Type 0 where
   pub replayed : Bool
   pub store : Store
 
--- what contracts see of an image that is held
-abbrev pub image_value : Held → Image
-image_value i = record {
-  row = record { callers = i.callers; blocks = i.blocks; words = i.durable.items };
-  seq = i.recovered.seq;
-  replayed = i.recovered.replayed;
-  store = i.store;
-}
+-- an image is stored as the tuple of its parts
+abbrev pub image_code : Coded Image
+image_code =
+    code_by ((ℕ × (ℕ × List ℕ)) × (ℕ × (Bool × Store)))
+    (coded× (coded× coded_ℕ (coded× coded_ℕ (coded_list coded_ℕ)))
+    (coded× coded_ℕ (coded× coded_bool state_code)))
+    (λ i. ((i.row.callers, (i.row.blocks, i.row.words)), (i.seq, (i.replayed, i.store))))
+    (λ p. record {
+      row = record { callers = p.0.0; blocks = p.0.1.0; words = p.0.1.1 };
+      seq = p.1.0;
+      replayed = p.1.1.0;
+      store = p.1.1.1;
+    })
+    (λ _. refl)
 
 -- an image as reading answers it: its words are in range and recovered, its sequence is theirs, and
 -- they are lawful with its store

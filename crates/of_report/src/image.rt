@@ -12,6 +12,7 @@ use of_mem::{MOST_INSTRS, Plot, RawReply};
 use of_recover::Recovered;
 use of_store::Store;
 use std::alloc::{AllocError, Global};
+use std::marker::Model;
 
 /// What recovery finds in the durable words of a table. A call that takes an image asks that it is
 /// as reading a text answers one: `IsImage MOST_INSTRS`.
@@ -29,15 +30,30 @@ pub struct Image {
     pub store: Store,
 }
 
+impl Model for Image {
+    ghost use Rattle.of_report.specs.Image.{Image, image_code};
+
+    ghost Value = { Image };
+
+    ghost coded = { image_code };
+
+    ghost view = { λ i. record {
+      row = record { callers = i.callers; blocks = i.blocks; words = i.durable.items };
+      seq = i.recovered.seq;
+      replayed = i.recovered.replayed;
+      store = i.store;
+    } };
+}
+
 impl Image {
-    ghost use Rattle.of_report.specs.Image.{IsImage, image_value, image_number, image_ticket, start_of_image};
+    ghost use Rattle.of_report.specs.Image.{IsImage, image_number, image_ticket, start_of_image};
 
     /// Where its data cells stand.
     pub fn plot(&self) -> Plot
-        requires { IsImage MOST_INSTRS (image_value self.now) }
-        ensures callers { result.callers ≡ self.now.callers }
+        requires { IsImage MOST_INSTRS self.now }
+        ensures callers { result.callers ≡ self.now.row.callers }
         ensures instrs { result.instrs ≡ MOST_INSTRS }
-        ensures blocks { result.blocks ≡ self.now.blocks }
+        ensures blocks { result.blocks ≡ self.now.row.blocks }
     {
         Plot {
             callers: self.callers,
@@ -48,10 +64,10 @@ impl Image {
 
     /// The words of its data cells.
     fn data_words(&self) -> &[u64]
-        requires { IsImage MOST_INSTRS (image_value self.now) }
-        ensures { let first = data_cell self.now.callers 0 in result.now ≡ slice_range
-            self.now.durable.items first
-            (first + row_cell_count MOST_INSTRS (image_value self.now).row) }
+        requires { IsImage MOST_INSTRS self.now }
+        ensures { let first = data_cell self.now.row.callers 0 in result.now ≡ slice_range
+            self.now.row.words first
+            (first + row_cell_count MOST_INSTRS self.now.row) }
     {
         let first = (self.callers + 1) as usize;
         let cells = self.plot().cells() as usize;
@@ -60,9 +76,9 @@ impl Image {
 
     /// The ticket of a caller: how many of its calls the store has seen.
     pub fn ticket(&self, caller: u32) -> u32
-        requires image { IsImage MOST_INSTRS (image_value self.now) }
-        requires caller { caller < self.now.callers }
-        ensures { result ≡ image_ticket (image_value self.now) caller }
+        requires image { IsImage MOST_INSTRS self.now }
+        requires caller { caller < self.now.row.callers }
+        ensures { result ≡ image_ticket self.now caller }
     {
         let cell = self.callers + 1 + self.plot().ticket(caller);
         payload_of(self.durable[cell as usize])
@@ -70,9 +86,9 @@ impl Image {
 
     /// The tickets, caller by caller. The error is out of memory.
     pub fn tickets(&self, alloc: Global) -> Result<Vec<u32>, AllocError>
-        requires { IsImage MOST_INSTRS (image_value self.now) }
+        requires { IsImage MOST_INSTRS self.now }
         ensures { IfOk result (λ tickets.
-            tickets.items ≡ (start_of_image (image_value self.now)).finished) }
+            tickets.items ≡ (start_of_image self.now).finished) }
     {
         let mut tickets = Vec::new(alloc);
         for caller in 0..self.callers {
@@ -83,9 +99,9 @@ impl Image {
 
     /// The reply in a caller's own cells.
     pub fn reply(&self, caller: u32) -> RawReply
-        requires image { IsImage MOST_INSTRS (image_value self.now) }
-        requires caller { caller < self.now.callers }
-        ensures { result ≡ reply_in MOST_INSTRS (image_number (image_value self.now)) caller }
+        requires image { IsImage MOST_INSTRS self.now }
+        requires caller { caller < self.now.row.callers }
+        ensures { result ≡ reply_in MOST_INSTRS (image_number self.now) caller }
     {
         data_cells::reply(&self.plot(), self.data_words(), caller)
     }

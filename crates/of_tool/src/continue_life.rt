@@ -3,7 +3,7 @@
 ghost use Rattle.std.specs.Prelude.{◌≡◌, ◌≤◌, IfOk, vec_len};
 ghost use Rattle.of_mem.specs.declared.work.TheConstants.{MOST_INSTRS};
 ghost use Rattle.of_plan.specs.Ended.{ended_value};
-ghost use Rattle.of_report.specs.Image.{IsImage, image_value};
+ghost use Rattle.of_report.specs.Image.{IsImage};
 ghost use Rattle.of_lives.specs.Images.{PlanFitsImage};
 ghost use Rattle.of_tool.specs.declared.command.Command.TheVariants.{Continue};
 ghost use Rattle.of_tool.specs.Continued.{WritesLife};
@@ -34,11 +34,11 @@ fn run_life<R: Threads + Sync>(
     plan: &Plan,
     brakes: Vec<Box<dyn Brake + Send>>,
 ) -> Result<(Vec<u8>, (Ended, Pass)), AllocError>
-    requires image { IsImage MOST_INSTRS (image_value image.now) }
-    requires fits { PlanFitsImage (image_value image.now) plan.now }
+    requires image { IsImage MOST_INSTRS image.now }
+    requires fits { PlanFitsImage image.now plan.now }
     requires brakes { plan.now.callers ≤ vec_len brakes }
     ensures { IfOk result (λ r. WritesLife (λ b. left b) brakes.items
-        (image_value image.now) plan.now (ended_value r.1.0) (view_of r.1.1) r.0.items) }
+        image.now plan.now (ended_value r.1.0) (view_of r.1.1) r.0.items) }
 {
     reports_respect_time(plan);
     let Life {
@@ -59,11 +59,10 @@ fn read_life<S: Source>(
     source: &mut S,
 ) -> Result<ReadInput<(Image, Plan)>, AllocError>
     ensures read { IfOk result (λ read. MatchInput read
-        (λ r. ReadsLife (bytes_change S.remaining S.faults source.old source.new)
-        (image_value r.0) r.1)
+        (λ r. ReadsLife (bytes_change S.remaining S.faults source.old source.new) r.0 r.1)
         (Refuses ImageAndPlan (bytes_change S.remaining S.faults source.old source.new))) }
-    ensures image { IfOk result (λ read. IfRead read (λ r. IsImage MOST_INSTRS (image_value r.0))) }
-    ensures fits { IfOk result (λ read. IfRead read (λ r. PlanFitsImage (image_value r.0) r.1)) }
+    ensures image { IfOk result (λ read. IfRead read (λ r. IsImage MOST_INSTRS r.0)) }
+    ensures fits { IfOk result (λ read. IfRead read (λ r. PlanFitsImage r.0 r.1)) }
 {
     let bytes = match read_input(alloc, source, MOST_WITH_REPORT)? {
         ReadInput::Read(bytes) => bytes,

@@ -2,7 +2,7 @@
 
 ghost use Rattle.std.specs.Prelude.{IfOk};
 ghost use Rattle.of_mem.specs.declared.work.TheConstants.{MOST_INSTRS};
-ghost use Rattle.of_report.specs.Image.{IsImage, image_value};
+ghost use Rattle.of_report.specs.Image.{IsImage};
 ghost use Rattle.of_image.specs.declared.version.Version.TheVariants.{Two};
 ghost use Rattle.of_tool.specs.declared.command.Command.TheVariants.{Image as TheImage, Recover, Renumber, Migrate};
 ghost use Rattle.of_tool.specs.PlayedImage.{IsPlayedImage};
@@ -57,11 +57,9 @@ pub(crate) fn image_refusal(alloc: Global, err: ImageErr) -> Result<Output, Allo
 // The image that the whole input has, or the answer that says why there is none.
 fn read_image<S: Source>(alloc: Global, source: &mut S) -> Result<ReadInput<Image>, AllocError>
     ensures read { IfOk result (λ read. MatchInput read
-        (λ image. ReadsImageOf Two (bytes_change S.remaining S.faults source.old source.new)
-        (image_value image))
+        (λ image. ReadsImageOf Two (bytes_change S.remaining S.faults source.old source.new) image)
         (Refuses (ImageAlone Two) (bytes_change S.remaining S.faults source.old source.new))) }
-    ensures image { IfOk result (λ read.
-        IfRead read (λ image. IsImage MOST_INSTRS (image_value image))) }
+    ensures image { IfOk result (λ read. IfRead read (λ image. IsImage MOST_INSTRS image)) }
 {
     let bytes = match read_input(alloc, source, MOST_IMAGE)? {
         ReadInput::Read(bytes) => bytes,

@@ -3,7 +3,7 @@
 ghost use Rattle.std.specs.Prelude.{IfOk, MatchOption, MatchResult};
 ghost use Rattle.of_mem.specs.declared.work.TheConstants.{MOST_INSTRS};
 ghost use Rattle.of_plan.specs.Plan.{IsPlan};
-ghost use Rattle.of_report.specs.Image.{IsImage, image_value};
+ghost use Rattle.of_report.specs.Image.{IsImage};
 ghost use Rattle.of_lives.specs.Images.{PlanFitsImage};
 ghost use Rattle.of_tool.specs.Lives.{IsLeft, IsLeftFault, IsLegalLife, IsLifeVerdict, IsLifeCause};
 
@@ -40,9 +40,9 @@ pub enum LifeCause {
 // The image of a printed text, or why it has none.
 fn read_left(alloc: Global, text: &[u8]) -> Result<Result<Image, LeftFault>, AllocError>
     ensures read { IfOk result (λ read. MatchResult read
-        (λ image. IsLeft text.now (image_value image)) (IsLeftFault text.now)) }
+        (λ image. IsLeft text.now image) (IsLeftFault text.now)) }
     ensures image { IfOk result (λ read.
-        IfOk read (λ image. IsImage MOST_INSTRS (image_value image))) }
+        IfOk read (λ image. IsImage MOST_INSTRS image)) }
 {
     let image = match image_parse(alloc, text) {
         Ok(image) => image,
@@ -76,9 +76,9 @@ pub fn check_life(
     told: &[u8],
     left: &[u8],
 ) -> Result<Verdict, AllocError>
-    requires image { IsImage MOST_INSTRS (image_value image) }
-    requires fits { PlanFitsImage (image_value image) plan.now }
-    ensures { IfOk result (IsLifeVerdict (image_value image) plan.now told.now left.now) }
+    requires image { IsImage MOST_INSTRS image }
+    requires fits { PlanFitsImage image plan.now }
+    ensures { IfOk result (IsLifeVerdict image plan.now told.now left.now) }
 {
     in_range(plan);
     one_report();
@@ -106,11 +106,11 @@ pub fn why_life(
     told: &[u8],
     left: &[u8],
 ) -> Result<Option<LifeCause>, AllocError>
-    requires image { IsImage MOST_INSTRS (image_value image) }
-    requires fits { PlanFitsImage (image_value image) plan.now }
+    requires image { IsImage MOST_INSTRS image }
+    requires fits { PlanFitsImage image plan.now }
     ensures { IfOk result (λ found. MatchOption found
-        (IsLegalLife (image_value image) plan.now told.now left.now)
-        (IsLifeCause (image_value image) plan.now told.now left.now)) }
+        (IsLegalLife image plan.now told.now left.now)
+        (IsLifeCause image plan.now told.now left.now)) }
 {
     let done = tickets(alloc, &image)?;
     let start = Start::behind(alloc, image)?;

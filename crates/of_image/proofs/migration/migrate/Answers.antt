@@ -1,13 +1,12 @@
 use Rattle.std.proofs.Common.{Ok, Err}
 use Rattle.std.proofs.lemmas.Result.{err_from_is_err_and}
 use Rattle.of_image.specs.declared.version.Version.TheVariants.{One}
-use Rattle.of_report.specs.Image.{image_value}
 use Rattle.of_image.proofs.ImageFacts.{read_is_image}
 use Rattle.of_image.proofs.MovedRows.{migrates, only_migrated}
 use Rattle.of_image.proofs.migration.migrate.Goals as goal
 
 pub moved_text-requires : goal.moved_text-requires
-moved_text-requires c = read_is_image One c.args.text.now (image_value c.in_ok-image.image) c.in_ok-image.ensures.ok
+moved_text-requires c = read_is_image One c.args.text.now c.in_ok-image.image c.in_ok-image.ensures.ok
 
 pub returns-in_err-image-clause-only : goal.returns-in_err-image-clause-only
 returns-in_err-image-clause-only c image read =
@@ -15,9 +14,9 @@ returns-in_err-image-clause-only c image read =
     rw (q.1, q.2) (only_migrated c.args.text.now (Err c.in_err-image.field-0.0) tt c.in_err-image.ensures.err image read)
 
 pub returns-clause-ok : goal.returns-clause-ok
-returns-clause-ok c = migrates c.args.text.now c.in_ok-moved_text.field-0.items (image_value c.in_ok-image.image) c.in_ok-image.ensures.ok c.in_ok-moved_text.ensures
+returns-clause-ok c = migrates c.args.text.now c.in_ok-moved_text.field-0.items c.in_ok-image.image c.in_ok-image.ensures.ok c.in_ok-moved_text.ensures
 
 pub returns-clause-only : goal.returns-clause-only
 returns-clause-only c image read =
     only_migrated c.args.text.now (Ok c.in_ok-moved_text.field-0)
-    (migrates c.args.text.now c.in_ok-moved_text.field-0.items (image_value c.in_ok-image.image) c.in_ok-image.ensures.ok c.in_ok-moved_text.ensures) tt image read
+    (migrates c.args.text.now c.in_ok-moved_text.field-0.items c.in_ok-image.image c.in_ok-image.ensures.ok c.in_ok-moved_text.ensures) tt image read

@@ -1,6 +1,6 @@
 use Rattle.std.proofs.Common.{ℕ, sym, subst}
 use Rattle.of_script.specs.declared.instr.TheConstants.{MOST_INSTRS}
-use Rattle.of_report.specs.Image.{IsRestored, image_value}
+use Rattle.of_report.specs.Image.{IsRestored}
 use Rattle.of_memory.specs.Words.{row_with}
 use Rattle.of_memory.proofs.StartWords.{start_image, start_restored}
 use Rattle.of_memory.proofs.words.find.Goals as goal
@@ -14,7 +14,7 @@ returns-in-Err-Unlawful-clause-back c start =
 
 pub returns-clause-holds : goal.returns-clause-holds
 returns-clause-holds c =
-    let image = image_value c.in-Ok.image in (
+    let image = c.in-Ok.image in (
       image,
       subst (λ (k : ℕ × ℕ). IsRestored MOST_INSTRS (row_with k.0 k.1 c.args.words.now) image) (λ i. (c.plot.ensures.callers i, c.plot.ensures.blocks i)) c.in-Ok.ensures.ok,
       c.saved_of.ensures.image,

@@ -1,6 +1,5 @@
 use Rattle.std.proofs.Common.{refl}
 use Rattle.of_plan.specs.Ended.{ended_value}
-use Rattle.of_report.specs.Image.{image_value}
 use Rattle.of_tool.specs.Seen.{view_of}
 use Rattle.of_tool.specs.Inputs.{ImageAndPlan}
 use Rattle.of_tool.specs.Statuses.{Done, Refused}
@@ -11,7 +10,7 @@ pub returns-clause-answered : goal.returns-clause-answered
 returns-clause-answered g c =
     let writes = c.in_ok-text.ensures in
     Done refl (record {
-      image = image_value c.in-Read.read.0;
+      image = c.in-Read.read.0;
       plan = c.in-Read.read.1;
       read = rw c.in-Read.is at c.in_ok-read.ensures.read;
       life = record {
@@ -31,7 +30,7 @@ pub returns-clause-carries : goal.returns-clause-carries
 returns-clause-carries g c = (
   refl,
   record {
-    image = image_value c.in-Read.read.0;
+    image = c.in-Read.read.0;
     plan = c.in-Read.read.1;
     read = rw c.in-Read.is at c.in_ok-read.ensures.read;
     writes = c.in_ok-text.ensures;

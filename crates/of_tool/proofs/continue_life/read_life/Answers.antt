@@ -1,6 +1,5 @@
 use Rattle.std.proofs.Common.{List, ℕ, subst, refl}
 use Rattle.of_plan.specs.Parts.{AreParts}
-use Rattle.of_report.specs.Image.{image_value}
 use Rattle.of_tool.specs.Inputs.{ImageAndPlan}
 use Rattle.of_tool.specs.Refusals.{BadPlan, DoesNotFit}
 use Rattle.of_tool.proofs.ImageAnswers.{first_refused}
@@ -31,7 +30,7 @@ returns-then-not-fits-clause-read g c =
     record {
       why = DoesNotFit;
       cause = record {
-        image = image_value c.in-Ok-image_parse.image;
+        image = c.in-Ok-image_parse.image;
         plan = c.in-Ok.plan;
         read = record {
           bytes = c.in-Read.bytes.items;

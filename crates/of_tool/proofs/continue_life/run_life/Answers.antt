@@ -5,7 +5,7 @@ use Rattle.of_mem.specs.Places.{base_of, cells_at}
 use Rattle.of_script.specs.declared.instr.TheConstants.{MOST_INSTRS}
 use Rattle.of_plan.specs.Ended.{ended_value}
 use Rattle.of_report.specs.Report.{report_value}
-use Rattle.of_report.specs.Image.{image_value, start_of_image, durable_row}
+use Rattle.of_report.specs.Image.{start_of_image, durable_row}
 use Rattle.of_report.specs.ImageRow.{row_in}
 use Rattle.of_image.specs.declared.version.Version.TheVariants.{Two}
 use Rattle.of_image.specs.ImageText.{image_text, SpellsImage}
@@ -36,7 +36,7 @@ returns g c =
           (durable_cells (callers i) (cells_at (base_of (callers i) (c.plot.ensures.instrs i)) (blocks i)) + durable_cells (callers i) (cells_at (base_of (callers i) (c.plot.ensures.instrs i)) (blocks i)));
     } in
     let told = c.in_ok-report.ensures in
-    let i = image_value c.args.image.now in
+    let i = c.args.image.now in
     let handed = told.team.handed in
     let run = c.reports_respect_time.ensures.teams (start_of_image i) (start_from_row p i.row.words) e handed.sight handed.team in
     let leaves = told.leaves in

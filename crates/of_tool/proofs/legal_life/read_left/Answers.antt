@@ -1,5 +1,4 @@
 use Rattle.std.proofs.Common.{sym, ◌∙◌}
-use Rattle.of_report.specs.Image.{image_value}
 use Rattle.of_check.proofs.Verdicts.{differs, same_bytes}
 use Rattle.of_tool.proofs.Lives.{otherwise}
 use Rattle.of_tool.proofs.legal_life.read_left.Goals as goal
@@ -7,7 +6,7 @@ use Rattle.of_tool.proofs.legal_life.read_left.Goals as goal
 pub returns-then-ne-clause-read : goal.returns-then-ne-clause-read
 returns-then-ne-clause-read c =
     let again = c.in-Ok-image_again.again in
-    (image_value c.in-Ok.image, c.in-Ok.ensures.ok, otherwise c.args.text.now again.items c.in-Ok-image_again.ensures.ok (λ same. differs c.as_slice.result.now c.args.text.now c.ne.result c.ne.ensures c.if-ne.true (c.as_slice.ensures.value ∙ same)))
+    (c.in-Ok.image, c.in-Ok.ensures.ok, otherwise c.args.text.now again.items c.in-Ok-image_again.ensures.ok (λ same. differs c.as_slice.result.now c.args.text.now c.ne.result c.ne.ensures c.if-ne.true (c.as_slice.ensures.value ∙ same)))
 
 pub returns-clause-read : goal.returns-clause-read
 returns-clause-read c =

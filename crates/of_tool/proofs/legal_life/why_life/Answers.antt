@@ -1,40 +1,40 @@
 use Rattle.std.proofs.Common.{◌≡◌, length, sym, ap, ◌∙◌}
 use Rattle.of_plan.specs.Report.{Start}
-use Rattle.of_report.specs.Image.{image_value, start_of_image}
+use Rattle.of_report.specs.Image.{start_of_image}
 use Rattle.of_report.specs.Report.{report_value}
 use Rattle.of_check.specs.Starts.{start_of as start_at}
 use Rattle.of_tool.proofs.Lives.{done_long, told_cause, told_report, is_life, is_elsewhere}
 use Rattle.of_tool.proofs.legal_life.why_life.Goals as goal
 
 pub report_or_cause-requires : goal.report_or_cause-requires
-report_or_cause-requires c = ap (λ (s : Start). length s.finished) c.in_ok-start.ensures ∙ done_long (image_value c.args.image) c.args.plan.now c.requires.fits
+report_or_cause-requires c = ap (λ (s : Start). length s.finished) c.in_ok-start.ensures ∙ done_long c.args.image c.args.plan.now c.requires.fits
 
 pub why_left-requires-clause-done : goal.why_left-requires-clause-done
-why_left-requires-clause-done c = ap length (c.deref.ensures.value ∙ c.in_ok-done.ensures) ∙ done_long (image_value c.args.image) c.args.plan.now c.requires.fits
+why_left-requires-clause-done c = ap length (c.deref.ensures.value ∙ c.in_ok-done.ensures) ∙ done_long c.args.image c.args.plan.now c.requires.fits
 
 -- there is no report, and this is why
 pub returns-in-Err : goal.returns-in-Err
 returns-in-Err c =
-    told_cause (image_value c.args.image) c.args.plan.now c.args.told.now c.args.left.now (start_at c.in_ok-start.start) c.in_ok-start.ensures c.in-Err.cause (rw c.in-Err.is at c.in_ok-report.ensures)
+    told_cause c.args.image c.args.plan.now c.args.told.now c.args.left.now (start_at c.in_ok-start.start) c.in_ok-start.ensures c.in-Err.cause (rw c.in-Err.is at c.in_ok-report.ensures)
 
 -- the text behind it is none of an image
 pub returns-in-Err-2 : goal.returns-in-Err-2
 returns-in-Err-2 c = (
-  told_report (image_value c.args.image) c.args.plan.now c.args.told.now c.args.left.now (start_at c.in_ok-start.start) c.in_ok-start.ensures (report_value c.in-Ok.report) (rw c.in-Ok.is at c.in_ok-report.ensures),
+  told_report c.args.image c.args.plan.now c.args.told.now c.args.left.now (start_at c.in_ok-start.start) c.in_ok-start.ensures (report_value c.in-Ok.report) (rw c.in-Ok.is at c.in_ok-report.ensures),
   rw c.in-Err-2.is at c.in_ok-next.ensures.read,
 )
 
 -- both are there, and the report ends in the image or elsewhere
 pub returns-in-None : goal.returns-in-None
 returns-in-None c =
-    let i = image_value c.args.image in
+    let i = c.args.image in
     let done : (start_of_image i).finished ≡ c.deref.result.now = sym (c.deref.ensures.value ∙ c.in_ok-done.ensures) in
     is_life i c.args.plan.now c.args.told.now c.args.left.now (start_at c.in_ok-start.start) c.in_ok-start.ensures
-    (report_value c.in-Ok.report) (rw c.in-Ok.is at c.in_ok-report.ensures) (image_value c.in-Ok-2.next) (rw c.in-Ok-2.is at c.in_ok-next.ensures.read) (c.in-None.ensures (start_of_image i) done)
+    (report_value c.in-Ok.report) (rw c.in-Ok.is at c.in_ok-report.ensures) c.in-Ok-2.next (rw c.in-Ok-2.is at c.in_ok-next.ensures.read) (c.in-None.ensures (start_of_image i) done)
 
 pub returns : goal.returns
 returns c =
-    let i = image_value c.args.image in
+    let i = c.args.image in
     let done : (start_of_image i).finished ≡ c.deref.result.now = sym (c.deref.ensures.value ∙ c.in_ok-done.ensures) in
     is_elsewhere i c.args.plan.now c.args.told.now c.args.left.now (start_at c.in_ok-start.start) c.in_ok-start.ensures
-    (report_value c.in-Ok.report) (rw c.in-Ok.is at c.in_ok-report.ensures) (image_value c.in-Ok-2.next) (rw c.in-Ok-2.is at c.in_ok-next.ensures.read) c.in-Some.rule (c.in-Some.ensures (start_of_image i) done)
+    (report_value c.in-Ok.report) (rw c.in-Ok.is at c.in_ok-report.ensures) c.in-Ok-2.next (rw c.in-Ok-2.is at c.in_ok-next.ensures.read) c.in-Some.rule (c.in-Some.ensures (start_of_image i) done)

@@ -1,7 +1,6 @@
 use Rattle.std.proofs.Common.{List, ℕ, subst, refl}
 use Rattle.std.proofs.lemmas.Result.{IfOk-weaker}
 use Rattle.of_plan.specs.Parts.{AreParts}
-use Rattle.of_report.specs.Image.{image_value}
 use Rattle.of_tool.specs.Inputs.{WholeLife}
 use Rattle.of_tool.specs.Statuses.{Refused}
 use Rattle.of_tool.proofs.LifeAnswers.{life_planless, life_refused, life_misfit, life_found}
@@ -30,7 +29,7 @@ pub returns-then-not-fits : goal.returns-then-not-fits
 returns-then-not-fits g c =
     let are = subst (λ (b : List ℕ). AreParts b c.parts.result.0.now c.parts.result.1.now) c.deref.ensures.value c.parts.ensures in
     life_misfit _ c.in-Read.bytes.items c.parts.result.0.now c.parts.result.1.now c.parts-2.result.0.now c.parts-2.result.1.now (rw c.in-Read.is at c.in_ok-bytes.ensures) are c.parts-2.ensures c.parts-3.result.0.now
-    c.parts-3.result.1.now c.parts-3.ensures c.in-Ok.plan c.in-Ok.ensures.ok (image_value c.in-Ok-image_parse.image) c.in-Ok-image_parse.ensures.ok c.in_ok-from_slice.field-0.items
+    c.parts-3.result.1.now c.parts-3.ensures c.in-Ok.plan c.in-Ok.ensures.ok c.in-Ok-image_parse.image c.in-Ok-image_parse.ensures.ok c.in_ok-from_slice.field-0.items
     (λ fits. (let yes = c.fits.ensures.1 fits in let no = c.if-not-fits.true in absurd cc)) c.in_ok-from_slice.ensures.items
 
 pub returns : goal.returns
@@ -38,6 +37,6 @@ returns g c =
     let are = subst (λ (b : List ℕ). AreParts b c.parts.result.0.now c.parts.result.1.now) c.deref.ensures.value c.parts.ensures in
     IfOk-weaker c.life_output.result _ _
     (λ answer judges. life_found _ c.in-Read.bytes.items c.parts.result.0.now c.parts.result.1.now c.parts-2.result.0.now c.parts-2.result.1.now (rw c.in-Read.is at c.in_ok-bytes.ensures) are c.parts-2.ensures
-    c.parts-3.result.0.now c.parts-3.result.1.now c.parts-3.ensures c.in-Ok.plan c.in-Ok.ensures.ok (image_value c.in-Ok-image_parse.image) c.in-Ok-image_parse.ensures.ok
+    c.parts-3.result.0.now c.parts-3.result.1.now c.parts-3.ensures c.in-Ok.plan c.in-Ok.ensures.ok c.in-Ok-image_parse.image c.in-Ok-image_parse.ensures.ok
     (c.fits.ensures.0 (let no = c.if-not-fits.false in cc)) c.in_ok-check_life.field-0 answer c.in_ok-check_life.ensures judges)
     c.life_output.ensures
