@@ -37,7 +37,7 @@ use Rattle.of_row.specs.Moments.{ExplainsEndedCalls, StopsLoseNothing, LosesNoth
 use Rattle.of_cells.specs.declared.saved.SavedCells.{SavedCells}
 use Rattle.of_cells.specs.History.{ExplainsEnd, IsOneOf}
 use Rattle.of_cells.specs.Serving.{made_before}
-use Rattle.of_cells.specs.Saving.{ExplainsKept, HasOpenCall, HasOnlyKept, HistoryLeads, HoldsReply, TellsLast, IsSavedCells, SavesHistory, saved_cells}
+use Rattle.of_cells.specs.Saving.{ExplainsKept, HasOpenOperation, HasOnlyKept, HistoryLeads, HoldsReply, TellsLast, IsSavedCells, SavesHistory, saved_cells}
 
 -- ---- lists
 
@@ -117,7 +117,7 @@ module _ {W : Type 0} (meaning : W → Meaning) (lawful : W → List ℕ → Typ
 
   -- and no others
   owned : (x : KnownCaller) → IsRunBy S B lost.events x → HasOnlyKept meaning r h x
-  owned x told = All-from_get_or (λ (e : Call). e.caller ≡ x.machine.caller → IsOneOf (made_before meaning r x.machine.caller) x.ended (HasOpenCall x) e) h no_call (λ y l mine.
+  owned x told = All-from_get_or (λ (e : Call). e.caller ≡ x.machine.caller → IsOneOf (made_before meaning r x.machine.caller) x.ended (HasOpenOperation x) e) h no_call (λ y l mine.
       let c : Call = get_or h y no_call in
       let b = (lost.linearizes.begun y no_call l).1 refl in
       let st : ℕ = made_before meaning r x.machine.caller in

@@ -22,7 +22,7 @@ use Rattle.of_cells.specs.declared.saved.SavedCells.{SavedCells}
 use Rattle.of_cells.specs.History.{ExplainsAll, HasOnly, IsOneOf}
 use Rattle.of_cells.specs.Called.{IsOpenAt}
 use Rattle.of_cells.specs.Serving.{KeepsSo, IsNew, Serves, ServeAll, AllStand, IsKeptOf, KeepsThose, ended_of, cells_at_start, made_before}
-use Rattle.of_cells.specs.Saving.{ExplainsKept, HasOpenCall, HasOnlyKept, HistoryLeads}
+use Rattle.of_cells.specs.Saving.{ExplainsKept, HasOpenOperation, HasOnlyKept, HistoryLeads}
 use Rattle.of_cells.specs.Handles.{IsCellHandle}
 use Rattle.of_cells.specs.Memories.{IsCellMemory, IsFrom, HasMadeOf, HasOpenOf, HasMadeNothing, HasNoneOpen, KnowsOthers, OthersStayOpen, HasHistory, row_of}
 use Rattle.of_cells.proofs.Seats.{number_below, same_caller, is_within}
@@ -143,9 +143,9 @@ module _ {W : Type 0} where
         → HasOnly h n (made_before meaning r n) (ended_of c) (HasOpenOf m n)
     only_kept m r h n c here [] k all = absurd k
     only_kept m r h n c here (x ∷ xs) (inl k) all = λ y d lt mine.
-        as_open (get_or h y d) (subst (λ (z : ℕ × List EndedCall). IsOneOf (made_before meaning r z.0) z.1 (HasOpenCall x) (get_or h y d)) (λ i. (k.0 i, k.1.ended i)) (all.0 y d lt (mine ∙ sym k.0)))
+        as_open (get_or h y d) (subst (λ (z : ℕ × List EndedCall). IsOneOf (made_before meaning r z.0) z.1 (HasOpenOperation x) (get_or h y d)) (λ i. (k.0 i, k.1.ended i)) (all.0 y d lt (mine ∙ sym k.0)))
       where
-        as_open : (e : Call) → IsOneOf (made_before meaning r n) (ended_of c) (HasOpenCall x) e → IsOneOf (made_before meaning r n) (ended_of c) (HasOpenOf m n) e
+        as_open : (e : Call) → IsOneOf (made_before meaning r n) (ended_of c) (HasOpenOperation x) e → IsOneOf (made_before meaning r n) (ended_of c) (HasOpenOf m n) e
         as_open e (inl one) = inl one
         as_open e (inr last) =
             let same : x.machine ≡ caller_call c = k.1.open_call last.1.0 in

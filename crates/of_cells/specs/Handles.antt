@@ -38,8 +38,8 @@ abbrev pub HasCallOpen : {W : Type 0} → CellHandle W → Type 0
 HasCallOpen h = IsInCall (caller_of h)
 
 -- the words of its last call; of its open one, if a call is open
-abbrev pub operation_of : {W : Type 0} → CellHandle W → List ℕ
-operation_of h = (caller_call (caller_of h)).op
+abbrev pub last_operation_of : {W : Type 0} → CellHandle W → List ℕ
+last_operation_of h = (caller_call (caller_of h)).op
 
 -- its call of this operation is open
 abbrev pub HasOpen : {W : Type 0} → CellHandle W → (op : List ℕ) → Type 0

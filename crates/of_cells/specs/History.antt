@@ -27,8 +27,8 @@ StandsInOrder h =
     (p q : ℕ) → p < q → q < length h → IsNewerCall (get_or h p no_call) (get_or h q no_call)
 
 -- the two replies have one shape, and the same numbers
-abbrev pub SameReply : RawReply → RawReply → Type 0
-SameReply r q =
+abbrev pub IsSameReply : RawReply → RawReply → Type 0
+IsSameReply r q =
     (r.shape ≡ q.shape) × ((y : ℕ) → y < MOST_INSTRS → get_or r.values y 0 ≡ get_or q.values y 0)
 
 -- the history has this call, with this reply
@@ -39,7 +39,7 @@ pub record HasEntry (h : List Call) (caller ticket : ℕ) (op : List ℕ) (raw :
   pub caller_is : (get_or h place no_call).caller ≡ caller
   pub ticket_is : (get_or h place no_call).ticket ≡ ticket
   pub words : (get_or h place no_call).op ≡ op
-  pub reply : SameReply raw (get_or h place no_call).raw
+  pub reply : IsSameReply raw (get_or h place no_call).raw
 
 -- The history has the call with its reply; it has no call that was spent.
 abbrev pub ExplainsEnd : List Call → (caller ticket : ℕ) → (op : List ℕ) → Outcome → Type 0

@@ -76,13 +76,13 @@ ExplainsKept meaning r h x =
     ExplainsAll h x.machine.caller (made_before meaning r x.machine.caller) x.ended
 
 -- the kept caller's call of this operation is open
-abbrev pub HasOpenCall : KnownCaller → (op : List ℕ) → Type 0
-HasOpenCall x op = IsOpen x.machine.place × (x.machine.op ≡ op)
+abbrev pub HasOpenOperation : KnownCaller → (op : List ℕ) → Type 0
+HasOpenOperation x op = IsOpen x.machine.place × (x.machine.op ≡ op)
 
 -- and of its calls the history has no others
 abbrev pub HasOnlyKept : {W : Type 0} → (W → Meaning) → Row W → List Call → KnownCaller → Type 0
 HasOnlyKept meaning r h x =
-    HasOnly h x.machine.caller (made_before meaning r x.machine.caller) x.ended (HasOpenCall x)
+    HasOnly h x.machine.caller (made_before meaning r x.machine.caller) x.ended (HasOpenOperation x)
 
 -- A serial history of what callers have made on a row leads to what is saved of the row. The view
 -- is that of the pass with which it was closed.

@@ -24,7 +24,7 @@ impl<W: Work> CellHandle<W> {
     ghost use Rattle.of_cells.specs.Called.{made_with, LeavesAsItWas};
     ghost use Rattle.of_cells.specs.Within.{EndsWithin, IsNeverStopped, KeepsWithin, KeepsToStop};
     ghost use Rattle.of_cells.specs.Handles.{IsCellHandle, IsSame, number_of_handle, made_by};
-    ghost use Rattle.of_cells.specs.Handles.{operation_of, steps_so_far, step_bound_of, HasOpen};
+    ghost use Rattle.of_cells.specs.Handles.{last_operation_of, steps_so_far, step_bound_of, HasOpen};
     ghost use Rattle.of_cells.specs.Handles.{StaysOpenOnlyIfStopped, RefusesCall, RefusesToGoOn};
     ghost use Rattle.of_cells.specs.Memories.{IsCellMemory, IsFrom, IsStill, HasMadeOf, HasOpenOf};
     ghost use Rattle.of_cells.specs.Memories.{KnowsOthers, OthersStayOpen};
@@ -98,8 +98,8 @@ impl<W: Work> CellHandle<W> {
         ensures handle { IsCellHandle W.meaning self.new }
         ensures same { IsSame self.old self.new }
         ensures made { made_by self.new
-            ≡ made_with (operation_of self.old) result (made_by self.old) }
-        ensures open_call { StaysOpenOnlyIfStopped (operation_of self.old) result self.new }
+            ≡ made_with (last_operation_of self.old) result (made_by self.old) }
+        ensures open_call { StaysOpenOnlyIfStopped (last_operation_of self.old) result self.new }
         ensures cause { RefusesToGoOn self.old result }
         ensures unmade { LeavesAsItWas result self.old self.new }
         ensures bound { EndsWithin (step_bound_of W.meaning self.old) result }
@@ -114,8 +114,8 @@ impl<W: Work> CellHandle<W> {
         ensures handle { IsCellHandle W.meaning self.new }
         ensures same { IsSame self.old self.new }
         ensures made { made_by self.new
-            ≡ made_with (operation_of self.old) result (made_by self.old) }
-        ensures open_call { StaysOpenOnlyIfStopped (operation_of self.old) result self.new }
+            ≡ made_with (last_operation_of self.old) result (made_by self.old) }
+        ensures open_call { StaysOpenOnlyIfStopped (last_operation_of self.old) result self.new }
         ensures cause { RefusesToGoOn self.old result }
         ensures unmade { LeavesAsItWas result self.old self.new }
         ensures bound { EndsWithin (step_bound_of W.meaning self.old) result }
@@ -130,8 +130,8 @@ impl<W: Work> CellHandle<W> {
         ensures handle { IsCellHandle W.meaning self.new }
         ensures same { IsSame self.old self.new }
         ensures made { made_by self.new
-            ≡ made_with (operation_of self.old) result (made_by self.old) }
-        ensures open_call { StaysOpenOnlyIfStopped (operation_of self.old) result self.new }
+            ≡ made_with (last_operation_of self.old) result (made_by self.old) }
+        ensures open_call { StaysOpenOnlyIfStopped (last_operation_of self.old) result self.new }
         ensures cause { RefusesToGoOn self.old result }
         ensures unmade { LeavesAsItWas result self.old self.new }
         ensures bound { EndsWithin (step_bound_of W.meaning self.old) result }
