@@ -1,7 +1,7 @@
 //! Tests of callers over one shared table. Brakes of each kind. Rows: worked schedules beside the
 //! bank. Callers: calls that brakes stop and let go on, a spent call, and newcomers, through a door
-//! too. Days of a memory, news between its handles, and what its durable words hold. There is
-//! nothing to call here.
+//! too. Days of a memory, of scripts and of cells, news between handles, and what durable words
+//! hold. There is nothing to call here.
 #![tactic(auto)]
 
 #[cfg(test)]
@@ -10,6 +10,8 @@ mod brakes;
 mod call_tests;
 #[cfg(test)]
 mod calls;
+#[cfg(test)]
+mod cell_days;
 #[cfg(test)]
 mod doors;
 #[cfg(test)]
