@@ -61,22 +61,18 @@ fn the_cells_lie_as_laid_out(rt: HostRuntime) {
         instrs: 16,
         blocks: 4,
     };
-    let of_callers = [
-        plot.cells(),
-        plot.ticket(1),
-        plot.shape(1),
-        plot.reply(1, 15),
-    ];
-    assert_eq!(rt; of_callers, [111, 18, 19, 35]);
-    let of_keys = [
-        plot.register(3),
-        plot.fresh(),
-        plot.free(),
-        plot.keys(),
-        plot.bucket(31),
-    ];
-    assert_eq!(rt; of_keys, [39, 52, 53, 54, 86]);
-    let of_queues = [plot.head(3), plot.tail(3), plot.length(3)];
-    assert_eq!(rt; of_queues, [96, 97, 98]);
-    assert_eq!(rt; [plot.block(0, 0), plot.block(3, 2)], [99, 110]);
+    assert_eq!(rt; plot.cells(), 111);
+    assert_eq!(rt;
+        (plot.ticket(1), plot.shape(1), plot.reply(1, 15)),
+        (18, 19, 35)
+    );
+    assert_eq!(rt;
+        (plot.register(3), plot.fresh(), plot.free(), plot.keys()),
+        (39, 52, 53, 54)
+    );
+    assert_eq!(rt;
+        (plot.bucket(31), plot.head(3), plot.tail(3), plot.length(3)),
+        (86, 96, 97, 98)
+    );
+    assert_eq!(rt; (plot.block(0, 0), plot.block(3, 2)), (99, 110));
 }
