@@ -77,7 +77,7 @@ fn a_stopped_call_of_cells_goes_on(rt: HostRuntime) -> Result<(), Fail> {
     assert_eq!(rt; sum, 5);
     assert_eq!(rt; seen(alloc, &noon)?, [5, 0, 1]);
     let (stops, sum, evening) = day_on(CellMemory::reopen(alloc, &noon)?)?;
-    assert_eq!(rt; stops[1], Some(RunErr::Stopped { asked: 6 }));
+    assert_eq!(rt; stops[1], Some(RunErr::Stopped { asked: 3 }));
     assert_eq!(rt; sum, 10);
     assert_eq!(rt; seen(alloc, &evening)?, [10, 0, 2]);
     Ok(())
