@@ -1,3 +1,4 @@
+pub mod Starting
 pub mod Zeros
 pub mod Asked
 pub mod ThreeCallers

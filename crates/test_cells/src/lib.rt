@@ -1,6 +1,7 @@
 //! Tests of cells: words and places, write-sets, recovery; partial memory and the places of the
-//! data cells; replies over cells, and runs of scripts that go on; and cells at fault. Two schedules
-//! of three callers are a law; else there is nothing to call here.
+//! data cells; replies over cells, and runs of scripts that go on; cells at fault; and a bank that
+//! starts from durable words. Two schedules of three callers are a law; else there is nothing to
+//! call here.
 #![tactic(auto)]
 
 #[cfg(test)]
@@ -13,6 +14,8 @@ mod recovery;
 mod scripts;
 #[cfg(test)]
 mod shapes;
+#[cfg(test)]
+mod starts;
 pub mod three_callers;
 #[cfg(test)]
 mod write_sets;
