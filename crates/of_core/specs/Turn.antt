@@ -1,5 +1,6 @@
--- What a turn answers.
-use Rattle.std.specs.Prelude.{◌≡◌, Option, Some, None}
+-- What a turn answers, and what turns in a row do.
+use Rattle.std.specs.Prelude.{◌≡◌, ℕ, ◌≤◌, ◌<◌, ◌-◌, Option, Some, None, replicate}
+use Rattle.of_mem.specs.Meaning.{Meaning}
 use Rattle.of_core.specs.declared.bank.Turn.{Turn}
 use Rattle.of_core.specs.declared.bank.Turn.TheVariants.{Idle as NoCall, Open, Ended}
 use Rattle.of_core.specs.declared.place.Outcome.{Outcome}
@@ -7,6 +8,8 @@ use Rattle.of_core.specs.declared.place.Place.{Place}
 use Rattle.of_core.specs.declared.place.Place.TheVariants.{Idle}
 use Rattle.of_core.specs.Machine.{CallState}
 use Rattle.of_core.specs.MachineValue.{ended_outcome}
+use Rattle.of_core.specs.Events.{Turns}
+use Rattle.of_core.specs.Moment.{Bank, bank_after, machine_of}
 
 -- the call has ended with an outcome, or it is open
 abbrev pub turn_of_outcome : Option Outcome → Turn
@@ -24,3 +27,17 @@ turn_of before now = turn_at before.place now
 
 abbrev pub IsIdle : CallState → Type 0
 IsIdle m = m.place ≡ Idle
+
+-- a bank after so many turns of a caller in a row
+abbrev pub bank_turned : {X : Type 0} → (X → Meaning) → (c n : ℕ) → Bank X → Bank X
+bank_turned meaning c n b = bank_after meaning (replicate n (Turns c)) b
+
+-- So many turns of a caller in a row lead from one bank to the other, and the last one says this.
+-- Before each but the first the caller's call is open.
+pub record MakesTurns {X : Type 0} (meaning : X → Meaning) (c n : ℕ) (last : Turn)
+    (before now : Bank X) : Type 0 where
+  pub after : now ≡ bank_turned meaning c n before
+  pub stays_open : (k : ℕ) → 1 ≤ k → k < n
+      → IsIdle (machine_of (bank_turned meaning c k before) c) → ⊥
+  pub told : last
+      ≡ turn_of (machine_of (bank_turned meaning c (n - 1) before) c) (machine_of now c)

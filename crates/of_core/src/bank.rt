@@ -12,7 +12,7 @@ ghost use Rattle.of_core.specs.Events.{Begins, Turns, Raises, zero_start, idle_m
 ghost use Rattle.of_core.specs.WordsMatch.{MayStart};
 ghost use Rattle.of_core.specs.Starts.{IsStartRow, first_words, start_on};
 ghost use Rattle.of_core.specs.Moment.{IsReached, RunSameWork, bank_after, bank_opening, call_states, machine_of, bank_setup, table_word_count};
-ghost use Rattle.of_core.specs.Turn.{turn_of, turn_of_outcome, IsIdle};
+ghost use Rattle.of_core.specs.Turn.{turn_of, turn_of_outcome, IsIdle, MakesTurns};
 
 use crate::machine::Machine;
 use crate::opening::first_words;
@@ -261,6 +261,24 @@ impl<W: Work> Bank<W> {
         let found = machine.perform(place, &OnWords, &mut self.words);
         machine.take_at(place, found);
         turn_of_answer(machine.answer())
+    }
+
+    /// Makes a caller's turns in a row: `most` of them, or fewer if its call has ended. It answers
+    /// how many, and what the last one says.
+    pub fn turns(&mut self, caller: u32, most: u32) -> (u32, Turn)
+        requires caller { caller < self.old.callers }
+        requires some { 1 ≤ most }
+        ensures some { 1 ≤ result.0 }
+        ensures few { result.0 ≤ most }
+        ensures turns { MakesTurns W.meaning caller result.0 result.1 self.old self.new }
+    {
+        for before in 0..most {
+            let turn = self.turn(caller);
+            if self.is_idle(caller) {
+                return (before + 1, turn);
+            }
+        }
+        (most, Turn::Open)
     }
 
     /// Raises a cell's durable word to the word that the cell holds.

@@ -60,6 +60,8 @@ pub struct Machine<W: Work> {
     copy: Vec<u32>,
     helps: bool,
     raw: RawReply,
+    /// Where a run writes its reply, so that no run has to clear one.
+    spare: RawReply,
     answer: Option<Outcome>,
     /// The last value that one knows one's request's durable word to have.
     kept: u64,
@@ -133,6 +135,10 @@ impl<W: Work> Machine<W> {
             copy,
             helps: false,
             raw: RawReply {
+                shape: 0,
+                values: [0; MOST_INSTRS],
+            },
+            spare: RawReply {
                 shape: 0,
                 values: [0; MOST_INSTRS],
             },

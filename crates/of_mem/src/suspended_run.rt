@@ -100,7 +100,9 @@ impl SuspendedRun {
     pub fn is_of(&self, callers: u32, blocks: u32, words: &[u64]) -> bool
         ensures { IsTrue result ↔ IsSuspensionOf self.now callers blocks words.now }
     {
-        self.callers == callers && self.blocks == blocks && self.words[..self.count] == words[..]
+        self.callers == callers
+            && self.blocks == blocks
+            && are_same(&self.words[..self.count], words)
     }
 
     /// How many of the first words have run.
@@ -161,6 +163,33 @@ impl SuspendedRun {
     {
         part.set_script(&self.writes);
     }
+}
+
+/// Whether two operations have the same words.
+// four words at a time: each run that goes on compares all words first
+fn are_same(words: &[u64], others: &[u64]) -> bool
+    ensures { IsTrue result ↔ (words.now ≡ others.now) }
+{
+    if words.len() != others.len() {
+        return false;
+    }
+    let fours = words.len() / 4;
+    for i in 0..fours {
+        let at = 4 * i;
+        let same = words[at] == others[at]
+            && words[at + 1] == others[at + 1]
+            && words[at + 2] == others[at + 2]
+            && words[at + 3] == others[at + 3];
+        if !same {
+            return false;
+        }
+    }
+    for last in 4 * fours..words.len() {
+        if words[last] != others[last] {
+            return false;
+        }
+    }
+    true
 }
 
 /// What a work may keep between two runs. What is kept tells itself which work and which operation

@@ -134,11 +134,7 @@ impl<W: Work> Machine<W> {
         ensures { self.new ≡ machine_after W.meaning run_script self.old }
     {
         let work = self.work;
-        let mut raw = RawReply {
-            shape: 0,
-            values: [0; MOST_INSTRS],
-        };
-        match work.run(&mut self.part, self.script.as_slice(), &mut raw) {
+        match work.run(&mut self.part, self.script.as_slice(), &mut self.spare) {
             Ok(()) => {
                 let ticket = seq_of(self.heard);
                 let words = self.script.len();
@@ -147,7 +143,7 @@ impl<W: Work> Machine<W> {
                     self.scan * OWN_CELLS,
                     ticket,
                     words as u32,
-                    &raw,
+                    &self.spare,
                 );
                 hand_to_log(&mut self.part, &mut self.log);
                 let call = Call {
@@ -155,14 +151,14 @@ impl<W: Work> Machine<W> {
                     ticket,
                     words,
                     op: padded_words(self.script.as_slice()),
-                    raw,
+                    raw: self.spare,
                 };
                 match self.calls.push(call) {
                     Ok(()) => {}
                     // there is room for a call of each caller
                     Err(_) => unreachable!(),
                 }
-                self.raw = newer_raw(self.scan == self.caller, &raw, &self.raw);
+                self.raw = newer_raw(self.scan == self.caller, &self.spare, &self.raw);
                 self.scan += 1;
                 self.place = place_behind(self.scan < self.shape.callers);
             }

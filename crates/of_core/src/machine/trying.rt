@@ -92,18 +92,14 @@ impl<W: Work> Machine<W> {
         ensures { self.new ≡ machine_after W.meaning read_on self.old }
     {
         let work = self.work;
-        let mut raw = RawReply {
-            shape: 0,
-            values: [0; MOST_INSTRS],
-        };
-        match work.run(&mut self.part, self.op.as_slice(), &mut raw) {
+        match work.run(&mut self.part, self.op.as_slice(), &mut self.spare) {
             Ok(()) => {
                 self.part.undo();
                 self.place = Place::Idle;
                 self.answer = Some(Outcome::Answered {
                     seq: self.seq,
                     announced: false,
-                    raw,
+                    raw: self.spare,
                     steps: self.steps,
                 });
                 self.steps = 0;
