@@ -1,19 +1,17 @@
 -- Turns of a caller in a row.
-use Rattle.std.proofs.Common.{◌≡◌, ℕ, zero, suc, ◌+◌, ◌-◌, ◌<◌, ◌≤◌, ◌⊎◌, inl, inr, List, [], ◌∷◌, ◌++◌, replicate, refl, sym, ◌∙◌, ap, subst, arith, Some, None, get_or}
-use Rattle.std.proofs.lemmas.List.{replicate-append-replicate}
+use Rattle.std.proofs.Common.{◌≡◌, ℕ, zero, suc, ◌+◌, ◌-◌, ◌≤◌, ◌⊎◌, inl, inr, [], ◌∷◌, refl, sym, ◌∙◌, ap, subst, arith, None, add-one}
 use Rattle.std.proofs.lemmas.Bool.{cases_eq}
 use Rattle.of_mem.specs.Meaning.{Meaning}
 use Rattle.of_core.specs.declared.place.Place.{Place}
 use Rattle.of_core.specs.declared.place.Place.TheVariants.{Idle}
 use Rattle.of_core.specs.declared.bank.Turn.{Turn}
 use Rattle.of_core.specs.declared.bank.Turn.TheVariants.{Open}
-use Rattle.of_core.specs.Machine.{CallState, no_machine}
+use Rattle.of_core.specs.Machine.{CallState}
 use Rattle.of_core.specs.MachineValue.{ended_outcome_at}
-use Rattle.of_core.specs.Turn.{IsIdle, turn_of, turn_of_outcome, turn_at, bank_turned, MakesTurns}
-use Rattle.of_core.specs.Events.{Event, Turns}
-use Rattle.of_core.specs.Moment.{Bank, bank_after, bank_setup, moment_of_bank, machine_of}
+use Rattle.of_core.specs.Turn.{IsIdle, turn_of, turn_of_outcome, turn_at, bank_turned}
+use Rattle.of_core.specs.Events.{Turns}
+use Rattle.of_core.specs.Moment.{Bank, bank_after, machine_of}
 use Rattle.of_core.proofs.Benches.{rests_after}
-use Rattle.of_core.proofs.Parts.{run_append}
 
 not_ended : (p : Place) (m : CallState) → (p ≡ Idle → ⊥) → None ≡ ended_outcome_at p m
 not_ended Idle m h = absurd (h refl)
@@ -25,15 +23,13 @@ says_open Idle m h k = absurd (h refl)
 says_open p m h k = ap turn_of_outcome (not_ended m.place m k)
 
 module _ {X : Type 0} (M : X → Meaning) (c : ℕ) (b : Bank X) where
+  pub callers_stay : (n : ℕ) → (bank_turned M c n b).callers ≡ b.callers
+  callers_stay zero = refl
+  callers_stay (suc n) = callers_stay n
+
   -- one turn more
   pub one_more : (n : ℕ) → bank_after M (Turns c ∷ []) (bank_turned M c n b) ≡ bank_turned M c (n + 1) b
-  one_more n = pushed ∙ ap (λ (es : List Event). bank_after M es b) (replicate-append-replicate n 1 (Turns c))
-    where
-      es : List Event
-      es = replicate n (Turns c)
-
-      pushed : bank_after M (Turns c ∷ []) (bank_turned M c n b) ≡ bank_after M (es ++ Turns c ∷ []) b
-      pushed = let r = run_append (bank_setup M b) (moment_of_bank b) es (Turns c ∷ []) in λ i. record b { words = (sym r i).words; machines = (sym r i).machines }
+  one_more n = ap (λ (k : ℕ). bank_turned M c k b) (sym (add-one n))
 
   -- each of the turns so far has left the call open
   abbrev pub StayedOpen : ℕ → Type 0

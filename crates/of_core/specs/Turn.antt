@@ -1,5 +1,5 @@
 -- What a turn answers, and what turns in a row do.
-use Rattle.std.specs.Prelude.{◌≡◌, ℕ, ◌≤◌, ◌<◌, ◌-◌, Option, Some, None, replicate}
+use Rattle.std.specs.Prelude.{◌≡◌, ℕ, zero, suc, ◌≤◌, ◌<◌, ◌-◌, [], ◌∷◌, Option, Some, None}
 use Rattle.of_mem.specs.Meaning.{Meaning}
 use Rattle.of_core.specs.declared.bank.Turn.{Turn}
 use Rattle.of_core.specs.declared.bank.Turn.TheVariants.{Idle as NoCall, Open, Ended}
@@ -30,7 +30,8 @@ IsIdle m = m.place ≡ Idle
 
 -- a bank after so many turns of a caller in a row
 abbrev pub bank_turned : {X : Type 0} → (X → Meaning) → (c n : ℕ) → Bank X → Bank X
-bank_turned meaning c n b = bank_after meaning (replicate n (Turns c)) b
+bank_turned meaning c zero b = b
+bank_turned meaning c (suc n) b = bank_after meaning (Turns c ∷ []) (bank_turned meaning c n b)
 
 -- So many turns of a caller in a row lead from one bank to the other, and the last one says this.
 -- Before each but the first the caller's call is open.

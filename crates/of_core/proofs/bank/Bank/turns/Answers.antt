@@ -1,9 +1,21 @@
-use Rattle.std.proofs.Common.{◌≡◌, ℕ, ◌+◌, ◌-◌, ◌≤◌, [], ◌∷◌, refl, sym, arith, ◌∙◌, ap, subst, rules}
+use Rattle.std.proofs.Common.{◌≡◌, ℕ, ◌+◌, ◌-◌, ◌≤◌, ◌<◌, [], ◌∷◌, refl, sym, arith, ◌∙◌, ap, subst, rules}
 use Rattle.of_core.specs.Events.{Turns}
 use Rattle.of_core.specs.Moment.{Bank, bank_after, machine_of}
 use Rattle.of_core.specs.Turn.{IsIdle, turn_of, bank_turned}
-use Rattle.of_core.proofs.TurnsInRow.{one_more, open_more, last_open}
+use Rattle.of_core.proofs.TurnsInRow.{callers_stay, one_more, open_more, last_open}
 use Rattle.of_core.proofs.bank.Bank.turns.Goals as goal
+
+pub turn-turn-requires-after_bounds : goal.turn-turn-requires-after_bounds
+turn-turn-requires-after_bounds g c =
+    let M = g.W.Work.meaning in
+    let callers : c.loop-before.self.callers ≡ c.args.self.now.callers = ap (λ (b : Bank _). b.callers) c.loop-before.invariant.after ∙ callers_stay M c.args.caller c.args.self.now c.loop-before.before in
+    omega (arith, c.requires.caller, callers)
+
+pub is_idle-requires-after_bounds : goal.is_idle-requires-after_bounds
+is_idle-requires-after_bounds g c =
+    let M = g.W.Work.meaning in
+    let callers : c.turn-turn.new.self.callers ≡ c.args.self.now.callers = ap (λ (b : Bank _). b.callers) (c.turn-turn.ensures.after ∙ ap (bank_after M (Turns c.args.caller ∷ [])) c.loop-before.invariant.after) ∙ callers_stay M c.args.caller c.args.self.now c.loop-before.before in
+    omega (arith, c.requires.caller, callers)
 
 pub returns-then-is_idle-clause-turns : goal.returns-then-is_idle-clause-turns
 returns-then-is_idle-clause-turns g c =
