@@ -2,7 +2,6 @@
 
 ghost use Rattle.std.specs.Prelude.{◌≡◌, ◌+◌, ◌≤◌, ◌++◌, [], IfOk, map, vec_len, vec_capacity};
 ghost use Rattle.std.specs.Thread.{IsSync};
-ghost use Rattle.of_plan.specs.Ended.{ended_value};
 ghost use Rattle.of_row.specs.Views.{Each};
 ghost use Rattle.of_row.specs.Rows.{view_of_pass, IsRowPass, IsFirstPass};
 ghost use Rattle.of_row.specs.Passes.{IsFirst};
@@ -147,10 +146,8 @@ pub fn team<R: Threads + Sync>(
     requires start { HasStart plan.now row }
     requires pass { IsFirst row pass }
     requires brakes { plan.now.callers ≤ vec_len brakes }
-    ensures handed { IfOk result (λ r.
-        HandsBack plan.now row (ended_value r.0) (view_of_pass r.1)) }
-    ensures stops { IfOk result (λ r.
-        KeepStops (λ b. left b) plan.now (ended_value r.0) 0 brakes.items) }
+    ensures handed { IfOk result (λ r. HandsBack plan.now row r.0 (view_of_pass r.1)) }
+    ensures stops { IfOk result (λ r. KeepStops (λ b. left b) plan.now r.0 0 brakes.items) }
 {
     teams_are_lawful(plan);
     let callers = plan.callers() as usize;

@@ -2,7 +2,6 @@
 
 ghost use Rattle.std.specs.Prelude.{◌≡◌, ◌≤◌, IfOk, All, vec_len};
 ghost use Rattle.of_mem.specs.declared.work.TheConstants.{MOST_INSTRS};
-ghost use Rattle.of_plan.specs.Ended.{ended_value};
 ghost use Rattle.of_eval.specs.Reported.{ReportsRun};
 ghost use Rattle.of_report.specs.Report.{report_value, HasWholeReplies};
 ghost use Rattle.of_report.specs.Image.{Image as PlainImage, IsImage, start_of_image};
@@ -52,22 +51,21 @@ pub fn continue_from<R: Threads + Sync>(
     requires brakes { plan.now.callers ≤ vec_len brakes }
     // The report is that of what a team has left, and is legal from the image's start.
     ensures team { IfOk result (λ l. IsLifeOf image.now plan.now
-        (ended_value l.ended) l.pass.seat.me.0 (report_value l.report)) }
+        l.ended l.pass.seat.me.0 (report_value l.report)) }
     ensures report { IfOk result (λ l. ReportsRun plan.now (start_of_image image.now)
-        (ended_value l.ended) (report_value l.report)) }
+        l.ended (report_value l.report)) }
     ensures whole { IfOk result (λ l. HasWholeReplies l.report) }
     // No call that the image holds is run again.
     ensures not_again { IfOk result (λ l.
         All (IsBehind (start_of_image image.now)) (report_value l.report).entries) }
-    ensures stops { IfOk result (λ l.
-        KeepStops (λ b. left b) plan.now (ended_value l.ended) 0 brakes.items) }
+    ensures stops { IfOk result (λ l. KeepStops (λ b. left b) plan.now l.ended 0 brakes.items) }
     // Each caller whose brake tells its steps left keeps its allowance.
     ensures allowances { IfOk result (λ l.
         KeepAllowances (λ b. left b) plan.now (report_value l.report) 0 brakes.items) }
     // The next life can be given the image of the durable words, which is where this report ends.
     ensures leaves { let start = start_of_image image.now in
         IfOk result (λ l. (next : PlainImage) × LeavesImage plan.now start
-        (ended_value l.ended) (report_value l.report) next) }
+        l.ended (report_value l.report) next) }
 {
     teams_are_lawful(plan);
     let work = Scripts::of_plan(plan);

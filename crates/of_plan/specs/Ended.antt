@@ -1,9 +1,8 @@
 -- What contracts see of what a run leaves.
-use Rattle.std.specs.Prelude.{ℕ, max, List, [], ◌∷◌, map, slice_index_or}
+use Rattle.std.specs.Prelude.{ℕ, max, List, [], ◌∷◌, slice_index_or}
 use Rattle.of_plan.specs.declared.answer.Answer.{Answer}
 use Rattle.of_plan.specs.declared.answer.Ending.{Ending}
 use Rattle.of_plan.specs.declared.answer.Ending.TheVariants.{Done}
-use Rattle.of_plan.specs.declared.ended.Ended.{Ended as RustEnded}
 
 -- the answers of each caller in the order of its calls, how each ended, and the words of the shared
 -- table
@@ -11,14 +10,6 @@ pub record Ended : Type 0 where
   pub answers : List (List Answer)
   pub endings : List Ending
   pub words : List ℕ
-
--- what contracts see of it
-abbrev pub ended_value : RustEnded → Ended
-ended_value e = record {
-  answers = map (λ v. v.items) e.answers.items;
-  endings = e.endings.items;
-  words = e.words.items;
-}
 
 -- the answers of a caller
 abbrev pub answers_of : Ended → ℕ → List Answer

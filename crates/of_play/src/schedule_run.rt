@@ -2,7 +2,6 @@
 
 ghost use Rattle.std.specs.Prelude.{◌≡◌, IfOk};
 ghost use Rattle.of_plan.specs.Plan.{IsPlan};
-ghost use Rattle.of_plan.specs.Ended.{ended_value};
 ghost use Rattle.of_play.specs.Play.{IsPlayed};
 
 use of_caller::laws::{plan_keeps_laws, runs_are_lawful};
@@ -26,7 +25,6 @@ struct ScheduleRun {
 impl ScheduleRun {
     ghost use Rattle.std.specs.Prelude.{◌≡◌, ◌<◌, ◌≤◌, [], ◌∷◌, length, IfOk, OnOk, IsTrue};
     ghost use Rattle.of_plan.specs.Plan.{IsPlan, IsScheduleItem, scripts_of};
-    ghost use Rattle.of_plan.specs.Ended.{ended_value};
     ghost use Rattle.of_core.specs.Events.{Turns};
     ghost use Rattle.of_play.specs.Play.{turns_by, item_events};
     ghost use Rattle.of_caller.specs.Ends.{OutcomeHoldsReply, is_spent};
@@ -228,7 +226,7 @@ impl ScheduleRun {
     /// What the run leaves.
     fn end(self, alloc: Global, plan: &Plan) -> Result<Ended, AllocError>
         requires { IsPlaying plan.now self }
-        ensures { IfOk result (λ ended. RunLeaves plan.now self (ended_value ended)) }
+        ensures { IfOk result (λ ended. RunLeaves plan.now self ended) }
     {
         let mut endings = Vec::new(alloc);
         for caller in 0..plan.callers() {
@@ -247,7 +245,7 @@ impl ScheduleRun {
 /// none.
 pub fn play(alloc: Global, plan: &Plan) -> Result<Ended, AllocError>
     ensures plan { IsPlan plan.now }
-    ensures played { IfOk result (λ ended. IsPlayed plan.now (ended_value ended)) }
+    ensures played { IfOk result (λ ended. IsPlayed plan.now ended) }
 {
     let mut playing = ScheduleRun::new(alloc, plan)?;
     for item in plan.schedule() {

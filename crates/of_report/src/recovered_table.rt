@@ -8,7 +8,6 @@ ghost use Rattle.of_mem.specs.declared.work.TheConstants.{MOST_INSTRS};
 ghost use Rattle.of_mem.specs.Places.{ticket_cell_at};
 ghost use Rattle.of_mem.specs.Plots.{data_cell_count};
 ghost use Rattle.of_store.specs.Store.{Store};
-ghost use Rattle.of_plan.specs.Ended.{ended_value};
 ghost use Rattle.of_eval.specs.Lawful.{reply_in};
 ghost use Rattle.of_eval.specs.Record.{plan_data_cells};
 
@@ -59,9 +58,9 @@ impl RecoveredTable {
 
     /// What recovery finds in the table of a plan when its run has ended.
     pub fn find(alloc: Global, plan: &Plan, ended: &Ended) -> Result<RecoveredTable, AllocError>
-        requires { length (ended_value ended.now).words
+        requires { length ended.now.words
             ≡ table_words plan.now.callers MOST_INSTRS (plan_data_cells plan.now) }
-        ensures { IfOk result (HasFound plan.now (ended_value ended.now)) }
+        ensures { IfOk result (HasFound plan.now ended.now) }
     {
         let plot = plan.plot();
         let shape = plan.shape();

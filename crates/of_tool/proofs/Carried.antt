@@ -5,8 +5,7 @@ use Rattle.std.proofs.lemmas.Bool.Decides.{eqb_tells}
 use Rattle.std.proofs.lemmas.List.{get_or-replicate}
 use Rattle.of_plan.specs.Report.{Report, empty_start, stopped, caller_line}
 use Rattle.of_plan.specs.Legal.{IsLegal}
-use Rattle.of_plan.specs.Ended.{Ended as Record, ended_value}
-use Rattle.of_plan.specs.declared.ended.Ended.{Ended}
+use Rattle.of_plan.specs.Ended.{Ended}
 use Rattle.of_plan.specs.Allowance.{KeepsAllowance}
 use Rattle.of_plan.specs.Generated.{generated_plan}
 use Rattle.of_row.specs.declared.member.Pass.{Pass}
@@ -138,21 +137,21 @@ load_whole left brakes n m r load enough legal keep =
     let all_done : AllBrakesTell left (generated_plan n m) 0 brakes → AllDone (generated_plan n m) r = λ tell u lt. done_if n m load.some load.few load.all r legal u lt (never_stopped n m r u lt (told_all left (generated_plan n m) r 0 brakes keep tell u (omega arith) (omega (arith, lt)) lt)) in
     record { all_done = all_done; serial = λ tell. one_text n m load.some load.few load.all r legal (all_done tell) }
 
-pub holds_load : {A : Type 0} (left : A → Option (Option ℕ)) (brakes : List A) (n m : ℕ) (p : Plan) (r : Report) (text : List ℕ) (e : Record) (w : View) → p ≡ generated_plan n m → IsLoad n m → n ≤ length brakes
+pub holds_load : {A : Type 0} (left : A → Option (Option ℕ)) (brakes : List A) (n m : ℕ) (p : Plan) (r : Report) (text : List ℕ) (e : Ended) (w : View) → p ≡ generated_plan n m → IsLoad n m → n ≤ length brakes
     → IsRunReport left brakes p r e w → text ≡ load_text r → HoldsLoad left brakes n m text e w
 holds_load left brakes n m p r text e w is load enough run text_is =
     let here : IsRunReport left brakes (generated_plan n m) r e w = subst (λ (q : Plan). IsRunReport left brakes q r e w) is run in
     record { report = r; run = here; whole = load_whole left brakes n m r load enough here.promises.history.legal here.promises.allowances; text_is = text_is }
 
 -- a report of a run with these brakes is one of some run
-pub some_run : {A : Type 0} {left : A → Option (Option ℕ)} {brakes : List A} (p : Plan) (r : Report) (e : Record) (w : View) → IsRunReport left brakes p r e w → IsSomeRuns p r
+pub some_run : {A : Type 0} {left : A → Option (Option ℕ)} {brakes : List A} (p : Plan) (r : Report) (e : Ended) (w : View) → IsRunReport left brakes p r e w → IsSomeRuns p r
 some_run p r e w h = record { left = e; seen = w; course = h.course; history = h.promises.history; real = h.real; table = h.table }
 
 pub load_answers : {A : Type 0} (left : A → Option (Option ℕ)) (brakes : List A) (words : List (List ℕ)) (source : Change) (n m : ℕ) (found : Found) → AreWordsOf words (Load n m) → CarriesLoad left brakes n m found
     → IsAnswer words source found.0.status found.0.text.items
 load_answers left brakes words source n m (answer, None) is h = absurd h
 load_answers left brakes words source n m (answer, Some r) is h =
-    To (Load n m) is (Done h.0 (record { report = h.1.report; run = some_run (generated_plan n m) h.1.report (ended_value r.0) (view_of r.1) h.1.run; text_is = h.1.text_is }))
+    To (Load n m) is (Done h.0 (record { report = h.1.report; run = some_run (generated_plan n m) h.1.report r.0 (view_of r.1) h.1.run; text_is = h.1.text_is }))
 
 -- ---- where there is a record
 
@@ -194,7 +193,7 @@ module _ {A : Type 0} (left : A → Option (Option ℕ)) (brakes : List A) (sour
 -- ---- once the text is written
 
 module _ {A : Type 0} (left : A → Option (Option ℕ)) (brakes : List A) (seen : Seen) where
-  abbrev loads_plan : (n m : ℕ) (text : List ℕ) (e : Record) (w : View) → HoldsLoad left brakes n m text e w → IsWritten seen text → LoadsPlan left brakes n m seen e
+  abbrev loads_plan : (n m : ℕ) (text : List ℕ) (e : Ended) (w : View) → HoldsLoad left brakes n m text e w → IsWritten seen text → LoadsPlan left brakes n m seen e
   loads_plan n m text e w h written = record {
     course = h.run.course;
     report = h.report;
@@ -202,7 +201,7 @@ module _ {A : Type 0} (left : A → Option (Option ℕ)) (brakes : List A) (seen
     real = h.run.real;
   }
 
-  abbrev runs_plan : (text : List ℕ) (e : Record) (w : View) → HoldsRun left brakes seen.source text e w → IsWritten seen text → RunsPlan left brakes seen e
+  abbrev runs_plan : (text : List ℕ) (e : Ended) (w : View) → HoldsRun left brakes seen.source text e w → IsWritten seen text → RunsPlan left brakes seen e
   runs_plan text e w h written = record {
     plan = h.plan;
     course = h.run.course;
@@ -211,7 +210,7 @@ module _ {A : Type 0} (left : A → Option (Option ℕ)) (brakes : List A) (seen
     real = h.run.real;
   }
 
-  abbrev continues_image : (text : List ℕ) (e : Record) (w : View) → HoldsLife left brakes seen.source text e w → IsWritten seen text → ContinuesImage left brakes seen e
+  abbrev continues_image : (text : List ℕ) (e : Ended) (w : View) → HoldsLife left brakes seen.source text e w → IsWritten seen text → ContinuesImage left brakes seen e
   continues_image text e w h written = record {
     image = h.image;
     plan = h.plan;
@@ -230,33 +229,33 @@ module _ {A : Type 0} (left : A → Option (Option ℕ)) (brakes : List A) (seen
     pub load_told : (n m : ℕ) (ran : Option (Ended × Pass)) → CarriesLoad left brakes n m (answer, ran) → IsWritten seen answer.text.items
         → RecordHolds ran (λ e w. LoadsPlan left brakes n m seen e)
     load_told n m None h w = h
-    load_told n m (Some r) h w = loads_plan n m answer.text.items (ended_value r.0) (view_of r.1) h.1 w
+    load_told n m (Some r) h w = loads_plan n m answer.text.items r.0 (view_of r.1) h.1 w
 
     pub run_told : (ran : Option (Ended × Pass)) → CarriesRun left brakes seen.source (answer, ran) → answer.status ≡ DONE → IsWritten seen answer.text.items
         → RecordHolds ran (λ e w. RunsPlan left brakes seen e)
     run_told None h done w = h done
-    run_told (Some r) h done w = runs_plan answer.text.items (ended_value r.0) (view_of r.1) h.1 w
+    run_told (Some r) h done w = runs_plan answer.text.items r.0 (view_of r.1) h.1 w
 
     pub life_told : (ran : Option (Ended × Pass)) → CarriesLife left brakes seen.source (answer, ran) → answer.status ≡ DONE → IsWritten seen answer.text.items
         → RecordHolds ran (λ e w. ContinuesImage left brakes seen e)
     life_told None h done w = h done
-    life_told (Some r) h done w = continues_image answer.text.items (ended_value r.0) (view_of r.1) h.1 w
+    life_told (Some r) h done w = continues_image answer.text.items r.0 (view_of r.1) h.1 w
 
     -- and what the table and the pass have
     run_table : (ran : Option (Ended × Pass)) → CarriesRun left brakes seen.source (answer, ran) → answer.status ≡ DONE → IsWritten seen answer.text.items
         → RecordHolds ran (λ e w. RunsOnTable left brakes seen e w)
     run_table None h done w = h done
-    run_table (Some r) h done w = record { runs = runs_plan answer.text.items (ended_value r.0) (view_of r.1) h.1 w; table = h.1.run.table }
+    run_table (Some r) h done w = record { runs = runs_plan answer.text.items r.0 (view_of r.1) h.1 w; table = h.1.run.table }
 
     load_table : (n m : ℕ) (ran : Option (Ended × Pass)) → CarriesLoad left brakes n m (answer, ran) → IsWritten seen answer.text.items
         → RecordHolds ran (λ e w. LoadsOnTable left brakes n m seen e w)
     load_table n m None h w = h
-    load_table n m (Some r) h w = record { loads = loads_plan n m answer.text.items (ended_value r.0) (view_of r.1) h.1 w; table = h.1.run.table }
+    load_table n m (Some r) h w = record { loads = loads_plan n m answer.text.items r.0 (view_of r.1) h.1 w; table = h.1.run.table }
 
     life_table : (ran : Option (Ended × Pass)) → CarriesLife left brakes seen.source (answer, ran) → answer.status ≡ DONE → IsWritten seen answer.text.items
         → RecordHolds ran (λ e w. ContinuesOnTable left brakes seen e w)
     life_table None h done w = h done
-    life_table (Some r) h done w = record { continues = continues_image answer.text.items (ended_value r.0) (view_of r.1) h.1 w; table = h.1.writes.life.table }
+    life_table (Some r) h done w = record { continues = continues_image answer.text.items r.0 (view_of r.1) h.1 w; table = h.1.writes.life.table }
 
     module _ (words : List (List ℕ)) (ran : Option (Ended × Pass)) (h : Carries left brakes words seen.source (answer, ran)) where
       none_here : (c : Command) → AreWordsOf words c → IsPlain c → ran ≡ None

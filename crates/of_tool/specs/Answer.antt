@@ -3,9 +3,8 @@
 use Rattle.std.specs.Prelude.{◌≡◌, ℕ, List, Option, None, MatchOption, ◌++◌, codes, decimal}
 use Rattle.of_plan.specs.Plan.{Plan}
 use Rattle.of_plan.specs.Report.{Report}
-use Rattle.of_plan.specs.Ended.{Ended as Record, ended_value}
+use Rattle.of_plan.specs.Ended.{Ended}
 use Rattle.of_plan.specs.Generated.{generated_plan}
-use Rattle.of_plan.specs.declared.ended.Ended.{Ended}
 use Rattle.of_report.specs.ReportText.{report_text}
 use Rattle.of_report.specs.LoadText.{load_text}
 use Rattle.of_report.specs.Image.{Image}
@@ -79,7 +78,7 @@ JudgesLife Illegal answer =
 
 -- the text is that of the report of the record, which is of the plan that was read
 pub record HoldsRun {A : Type 0} (left : A → Option (Option ℕ)) (brakes : List A) (source : Change)
-    (text : List ℕ) (e : Record) (w : View) : Type 0 where
+    (text : List ℕ) (e : Ended) (w : View) : Type 0 where
   pub plan : Plan
   pub read : ReadsPlan source plan
   pub report : Report
@@ -88,7 +87,7 @@ pub record HoldsRun {A : Type 0} (left : A → Option (Option ℕ)) (brakes : Li
 
 -- the text is the summary of the report of the record, which is of the plan of a load
 pub record HoldsLoad {A : Type 0} (left : A → Option (Option ℕ)) (brakes : List A)
-    (callers scripts : ℕ) (text : List ℕ) (e : Record) (w : View) : Type 0 where
+    (callers scripts : ℕ) (text : List ℕ) (e : Ended) (w : View) : Type 0 where
   pub report : Report
   pub run : IsRunReport left brakes (generated_plan callers scripts) report e w
   pub whole : IsWholeLoad left brakes (generated_plan callers scripts) report
@@ -97,7 +96,7 @@ pub record HoldsLoad {A : Type 0} (left : A → Option (Option ℕ)) (brakes : L
 -- the text is that of a life with this record, which has gone on from the image by the plan that
 -- were read
 pub record HoldsLife {A : Type 0} (left : A → Option (Option ℕ)) (brakes : List A) (source : Change)
-    (text : List ℕ) (e : Record) (w : View) : Type 0 where
+    (text : List ℕ) (e : Ended) (w : View) : Type 0 where
   pub image : Image
   pub plan : Plan
   pub read : ReadsLife source image plan
@@ -108,10 +107,10 @@ abbrev pub Found : Type 0
 Found = Output × Option (Ended × Pass)
 
 -- beside an answer that is done stands a record of which this holds, and beside no other one
-abbrev pub HasBeside : (List ℕ → Record → View → Type 0) → Found → Type 0
+abbrev pub HasBeside : (List ℕ → Ended → View → Type 0) → Found → Type 0
 HasBeside Is found =
     MatchOption found.1 (found.0.status ≡ DONE → ⊥)
-    (λ ran. (found.0.status ≡ DONE) × Is found.0.text.items (ended_value ran.0) (view_of ran.1))
+    (λ ran. (found.0.status ≡ DONE) × Is found.0.text.items ran.0 (view_of ran.1))
 
 -- so it is with an answer to `run`
 abbrev pub CarriesRun : {A : Type 0} → (A → Option (Option ℕ)) → List A → Change → Found → Type 0
@@ -126,7 +125,7 @@ abbrev pub CarriesLoad : {A : Type 0} → (A → Option (Option ℕ)) → List A
     → Found → Type 0
 CarriesLoad left brakes callers scripts found =
     MatchOption found.1 ⊥ (λ ran. (found.0.status ≡ DONE)
-    × HoldsLoad left brakes callers scripts found.0.text.items (ended_value ran.0) (view_of ran.1))
+    × HoldsLoad left brakes callers scripts found.0.text.items ran.0 (view_of ran.1))
 
 -- what stands beside an answer to these words
 pub record Carries {A : Type 0} (left : A → Option (Option ℕ)) (brakes : List A)

@@ -3,8 +3,7 @@
 use Rattle.std.specs.Prelude.{◌≡◌, ℕ, ◌<◌, List, Option, None}
 use Rattle.of_plan.specs.Plan.{Plan}
 use Rattle.of_plan.specs.Report.{Report, empty_start, done, caller_line}
-use Rattle.of_plan.specs.Ended.{Ended as Record}
-use Rattle.of_plan.specs.declared.ended.Ended.{Ended}
+use Rattle.of_plan.specs.Ended.{Ended}
 use Rattle.of_plan.specs.Serial.{serial_report}
 use Rattle.of_plan.specs.Generated.{generated_plan}
 use Rattle.of_report.specs.ReportText.{report_text}
@@ -26,14 +25,14 @@ use Rattle.of_tool.specs.Inputs.{ReadsPlan, ReadsLife}
 -- THE HEADLINE. The whole input is the text of a plan. The report that was written is one legal
 -- history of the plan's calls, in real time, in which callers keep to their brakes.
 pub record PrintsReport {A : Type 0} (left : A → Option (Option ℕ)) (brakes : List A)
-    (seen : Seen) (plan : Plan) (course : List Mark) (e : Record) (report : Report) : Type 0 where
+    (seen : Seen) (plan : Plan) (course : List Mark) (e : Ended) (report : Report) : Type 0 where
   pub read : ReadsPlan seen.source plan
   pub written : IsWritten seen (report_text report)
   pub promises : KeepsPromises left brakes plan (empty_start plan) course e report
 
 -- And it is the report of a real run of these callers, in which calls began and ended so.
 pub record RunsPlan {A : Type 0} (left : A → Option (Option ℕ)) (brakes : List A) (seen : Seen)
-    (e : Record) : Type 0 where
+    (e : Ended) : Type 0 where
   pub plan : Plan
   pub course : List Mark
   pub report : Report
@@ -54,7 +53,7 @@ pub record IsWholeLoad {A : Type 0} (left : A → Option (Option ℕ)) (brakes :
 
 -- the summary of a report of the plan was written, which promises the same
 pub record PrintsSummary {A : Type 0} (left : A → Option (Option ℕ)) (brakes : List A)
-    (seen : Seen) (plan : Plan) (course : List Mark) (e : Record) (report : Report) : Type 0 where
+    (seen : Seen) (plan : Plan) (course : List Mark) (e : Ended) (report : Report) : Type 0 where
   pub written : IsWritten seen (load_text report)
   pub promises : KeepsPromises left brakes plan (empty_start plan) course e report
   pub whole : IsWholeLoad left brakes plan report
@@ -62,7 +61,7 @@ pub record PrintsSummary {A : Type 0} (left : A → Option (Option ℕ)) (brakes
 -- and it is of a real run of the plan that is made for this many callers with this many scripts
 -- each
 pub record LoadsPlan {A : Type 0} (left : A → Option (Option ℕ)) (brakes : List A)
-    (callers scripts : ℕ) (seen : Seen) (e : Record) : Type 0 where
+    (callers scripts : ℕ) (seen : Seen) (e : Ended) : Type 0 where
   pub course : List Mark
   pub report : Report
   pub prints : PrintsSummary left brakes seen (generated_plan callers scripts) course e report
@@ -74,7 +73,7 @@ pub record LoadsPlan {A : Type 0} (left : A → Option (Option ℕ)) (brakes : L
 -- that was written promises the same from where the image left, and after it the image was
 -- written from which the next life can go on.
 pub record PrintsLife {A : Type 0} (left : A → Option (Option ℕ)) (brakes : List A)
-    (seen : Seen) (image : Image) (plan : Plan) (course : List Mark) (e : Record)
+    (seen : Seen) (image : Image) (plan : Plan) (course : List Mark) (e : Ended)
     (report : Report) : Type 0 where
   pub read : ReadsLife seen.source image plan
   pub written : IsWritten seen (life_text plan report e)
@@ -83,7 +82,7 @@ pub record PrintsLife {A : Type 0} (left : A → Option (Option ℕ)) (brakes : 
 
 -- and it is the report of a real run from there
 pub record ContinuesImage {A : Type 0} (left : A → Option (Option ℕ)) (brakes : List A)
-    (seen : Seen) (e : Record) : Type 0 where
+    (seen : Seen) (e : Ended) : Type 0 where
   pub image : Image
   pub plan : Plan
   pub course : List Mark
@@ -95,19 +94,19 @@ pub record ContinuesImage {A : Type 0} (left : A → Option (Option ℕ)) (brake
 
 -- the same of `run`, and what its table and its pass have
 pub record RunsOnTable {A : Type 0} (left : A → Option (Option ℕ)) (brakes : List A) (seen : Seen)
-    (e : Record) (w : View) : Type 0 where
+    (e : Ended) (w : View) : Type 0 where
   pub runs : RunsPlan left brakes seen e
   pub table : ShowsZeros runs.plan e w runs.report
 
 -- the same of `load`
 pub record LoadsOnTable {A : Type 0} (left : A → Option (Option ℕ)) (brakes : List A)
-    (callers scripts : ℕ) (seen : Seen) (e : Record) (w : View) : Type 0 where
+    (callers scripts : ℕ) (seen : Seen) (e : Ended) (w : View) : Type 0 where
   pub loads : LoadsPlan left brakes callers scripts seen e
   pub table : ShowsZeros (generated_plan callers scripts) e w loads.report
 
 -- the same of `continue`
 pub record ContinuesOnTable {A : Type 0} (left : A → Option (Option ℕ)) (brakes : List A)
-    (seen : Seen) (e : Record) (w : View) : Type 0 where
+    (seen : Seen) (e : Ended) (w : View) : Type 0 where
   pub continues : ContinuesImage left brakes seen e
   pub table : IsLifeOf continues.image continues.plan e w continues.report
 

@@ -1,8 +1,7 @@
 -- What a call of `tool` saw of its source and its sink, and what it did to them.
 use Rattle.std.specs.Prelude.{◌≡◌, ℕ, ◌-◌, ◌^◌, ◌<◌, ◌≤◌, Bool, IsTrue, List, length, Option, Some, None}
 use Rattle.std.specs.Io.KnownBytes.{Appends, Consumes, IsAtEnd}
-use Rattle.of_plan.specs.Ended.{Ended, ended_value}
-use Rattle.of_plan.specs.declared.ended.Ended.{Ended as RustEnded}
+use Rattle.of_plan.specs.Ended.{Ended}
 use Rattle.of_row.specs.Views.{View}
 use Rattle.of_row.specs.declared.member.Pass.{Pass}
 
@@ -78,6 +77,6 @@ abbrev pub view_of : Pass → View
 view_of pass = pass.seat.me.0
 
 -- a run has left a record and a pass, and this holds of the record and of what the pass has seen
-abbrev pub RecordHolds : Option (RustEnded × Pass) → (Ended → View → Type 0) → Type 0
+abbrev pub RecordHolds : Option (Ended × Pass) → (Ended → View → Type 0) → Type 0
 RecordHolds None Is = ⊥
-RecordHolds (Some ran) Is = Is (ended_value ran.0) (view_of ran.1)
+RecordHolds (Some ran) Is = Is ran.0 (view_of ran.1)

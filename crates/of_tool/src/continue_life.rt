@@ -2,7 +2,6 @@
 
 ghost use Rattle.std.specs.Prelude.{◌≡◌, ◌≤◌, IfOk, vec_len};
 ghost use Rattle.of_mem.specs.declared.work.TheConstants.{MOST_INSTRS};
-ghost use Rattle.of_plan.specs.Ended.{ended_value};
 ghost use Rattle.of_report.specs.Image.{IsImage};
 ghost use Rattle.of_lives.specs.Images.{PlanFitsImage};
 ghost use Rattle.of_tool.specs.declared.command.Command.TheVariants.{Continue};
@@ -38,7 +37,7 @@ fn run_life<R: Threads + Sync>(
     requires fits { PlanFitsImage image.now plan.now }
     requires brakes { plan.now.callers ≤ vec_len brakes }
     ensures { IfOk result (λ r. WritesLife (λ b. left b) brakes.items
-        image.now plan.now (ended_value r.1.0) (view_of r.1.1) r.0.items) }
+        image.now plan.now r.1.0 (view_of r.1.1) r.0.items) }
 {
     reports_respect_time(plan);
     let Life {

@@ -2,7 +2,7 @@ use Rattle.std.proofs.Common.{◌≡◌, ◌∙◌, ◌++◌, [], List, length, 
 use Rattle.of_plan.specs.declared.answer.Answer.{Answer}
 use Rattle.of_plan.specs.declared.answer.Ending.{Ending}
 use Rattle.of_plan.specs.declared.answer.Ending.TheVariants.{Done}
-use Rattle.of_plan.specs.Ended.{ended_value}
+use Rattle.of_plan.specs.Ended.{Ended}
 use Rattle.of_row.specs.Views.{Each}
 use Rattle.of_caller.specs.declared.team_caller.TeamCaller.{TeamCaller}
 use Rattle.of_caller.specs.PlanRows.{start_of_row}
@@ -38,7 +38,7 @@ returns-clause-handed g c = λ s starts.
     let long : c.enrol_all.new.lanes.len ≡ length xs = search rules in
     let same = written (HasRun p row) xs ys c.enrol_all.new.lanes.len ran long in
     let zs = take c.enrol_all.new.lanes.len (ys ++ drop (length ys) xs) in
-    let e = ended_value (record { answers = c.gather-pass.new.all; endings = c.gather-pass.new.endings; words = c.close-words.result.0 }) in
+    let e : Ended = record { answers = map (λ v. v.items) c.gather-pass.new.all.items; endings = c.gather-pass.new.endings.items; words = c.close-words.result.0.items } in
     let v1 = c.run_with_evictions.new.pass.seat.me.0 in
     let v = c.gather-pass.result.seat.me.0 in
     let answers : e.answers ≡ answers_in ys = c.gather-pass.ensures.answers ∙ ap (λ l. map (λ v. v.items) l ++ answers_in zs) c.in_ok-answers.ensures.items ∙ ap answers_in same in
@@ -60,7 +60,7 @@ returns-clause-stops g c =
     let long : c.enrol_all.new.lanes.len ≡ length xs = search rules in
     let same = written (HasRun p row) xs ys c.enrol_all.new.lanes.len ran long in
     let zs = take c.enrol_all.new.lanes.len (ys ++ drop (length ys) xs) in
-    let e = ended_value (record { answers = c.gather-pass.new.all; endings = c.gather-pass.new.endings; words = c.close-words.result.0 }) in
+    let e : Ended = record { answers = map (λ v. v.items) c.gather-pass.new.all.items; endings = c.gather-pass.new.endings.items; words = c.close-words.result.0.items } in
     let answers : e.answers ≡ answers_in ys = c.gather-pass.ensures.answers ∙ ap (λ l. map (λ v. v.items) l ++ answers_in zs) c.in_ok-answers.ensures.items ∙ ap answers_in same in
     let endings : e.endings ≡ endings_in ys = c.gather-pass.ensures.endings ∙ ap (λ l. l ++ endings_in zs) c.in_ok-endings.ensures.items ∙ ap endings_in same in
     keep_stops (λ b. (goal.Brake-dyn g (b.vtable, b.value)).left b.value) M p row e 0 c.args.brakes.items xs ys c.in_ok-pass.ensures.lanes c.in_ok-pass.ensures.armed told (omega (arith, c.in_ok-pass.ensures.all))

@@ -1,5 +1,4 @@
 use Rattle.std.proofs.Common.{sym, ap, ◌∙◌, subst}
-use Rattle.of_plan.specs.Ended.{ended_value}
 use Rattle.of_core.specs.Starts.{IsStartRow}
 use Rattle.of_caller.specs.Tables.{plan_setup, IsLawfulFor}
 use Rattle.of_caller.specs.PlanRows.{start_of_row}
@@ -42,7 +41,7 @@ returns-clause-team g c =
     let B = start_of_row c.in_ok-row.row in
     let start = table_at i p c.deref.result.now c.shape.result.callers c.shape.result.cells B c.shape.ensures.callers c.shape.ensures.cells (c.deref.ensures.value ∙ ap (λ (v : Image). v.row.words) c.image.view_is) c.in_ok-row.ensures.start in
     let starts = starts_at i p c.requires.image c.requires.fits B start in
-    (left i p c.teams_are_lawful.ensures.restarts (ended_value c.in_ok-ended.ended) c.in_ok-ended.pass.seat.me.0 B start (c.in_ok-ended.ensures.handed (start_of_image i) starts) (report_value c.in_ok-report.report) c.in_ok-report.ensures.report).team
+    (left i p c.teams_are_lawful.ensures.restarts c.in_ok-ended.ended c.in_ok-ended.pass.seat.me.0 B start (c.in_ok-ended.ensures.handed (start_of_image i) starts) (report_value c.in_ok-report.report) c.in_ok-report.ensures.report).team
 
 pub returns-clause-report : goal.returns-clause-report
 returns-clause-report g c =
@@ -51,7 +50,7 @@ returns-clause-report g c =
     let B = start_of_row c.in_ok-row.row in
     let start = table_at i p c.deref.result.now c.shape.result.callers c.shape.result.cells B c.shape.ensures.callers c.shape.ensures.cells (c.deref.ensures.value ∙ ap (λ (v : Image). v.row.words) c.image.view_is) c.in_ok-row.ensures.start in
     let starts = starts_at i p c.requires.image c.requires.fits B start in
-    (left i p c.teams_are_lawful.ensures.restarts (ended_value c.in_ok-ended.ended) c.in_ok-ended.pass.seat.me.0 B start (c.in_ok-ended.ensures.handed (start_of_image i) starts) (report_value c.in_ok-report.report) c.in_ok-report.ensures.report).report
+    (left i p c.teams_are_lawful.ensures.restarts c.in_ok-ended.ended c.in_ok-ended.pass.seat.me.0 B start (c.in_ok-ended.ensures.handed (start_of_image i) starts) (report_value c.in_ok-report.report) c.in_ok-report.ensures.report).report
 
 pub returns-clause-not_again : goal.returns-clause-not_again
 returns-clause-not_again g c =
@@ -60,7 +59,7 @@ returns-clause-not_again g c =
     let B = start_of_row c.in_ok-row.row in
     let start = table_at i p c.deref.result.now c.shape.result.callers c.shape.result.cells B c.shape.ensures.callers c.shape.ensures.cells (c.deref.ensures.value ∙ ap (λ (v : Image). v.row.words) c.image.view_is) c.in_ok-row.ensures.start in
     let starts = starts_at i p c.requires.image c.requires.fits B start in
-    (left i p c.teams_are_lawful.ensures.restarts (ended_value c.in_ok-ended.ended) c.in_ok-ended.pass.seat.me.0 B start (c.in_ok-ended.ensures.handed (start_of_image i) starts) (report_value c.in_ok-report.report) c.in_ok-report.ensures.report).not_again
+    (left i p c.teams_are_lawful.ensures.restarts c.in_ok-ended.ended c.in_ok-ended.pass.seat.me.0 B start (c.in_ok-ended.ensures.handed (start_of_image i) starts) (report_value c.in_ok-report.report) c.in_ok-report.ensures.report).not_again
 
 pub returns-clause-leaves : goal.returns-clause-leaves
 returns-clause-leaves g c =
@@ -69,7 +68,7 @@ returns-clause-leaves g c =
     let B = start_of_row c.in_ok-row.row in
     let start = table_at i p c.deref.result.now c.shape.result.callers c.shape.result.cells B c.shape.ensures.callers c.shape.ensures.cells (c.deref.ensures.value ∙ ap (λ (v : Image). v.row.words) c.image.view_is) c.in_ok-row.ensures.start in
     let starts = starts_at i p c.requires.image c.requires.fits B start in
-    (left i p c.teams_are_lawful.ensures.restarts (ended_value c.in_ok-ended.ended) c.in_ok-ended.pass.seat.me.0 B start (c.in_ok-ended.ensures.handed (start_of_image i) starts) (report_value c.in_ok-report.report) c.in_ok-report.ensures.report).leaves
+    (left i p c.teams_are_lawful.ensures.restarts c.in_ok-ended.ended c.in_ok-ended.pass.seat.me.0 B start (c.in_ok-ended.ensures.handed (start_of_image i) starts) (report_value c.in_ok-report.report) c.in_ok-report.ensures.report).leaves
 
 pub returns-clause-allowances : goal.returns-clause-allowances
 returns-clause-allowances g c =
@@ -79,5 +78,5 @@ returns-clause-allowances g c =
     let start = table_at i p c.deref.result.now c.shape.result.callers c.shape.result.cells B c.shape.ensures.callers c.shape.ensures.cells (c.deref.ensures.value ∙ ap (λ (v : Image). v.row.words) c.image.view_is) c.in_ok-row.ensures.start in
     let starts = starts_at i p c.requires.image c.requires.fits B start in
     let handed = c.in_ok-ended.ensures.handed (start_of_image i) starts in
-    let told = left i p c.teams_are_lawful.ensures.restarts (ended_value c.in_ok-ended.ended) c.in_ok-ended.pass.seat.me.0 B start handed (report_value c.in_ok-report.report) c.in_ok-report.ensures.report in
-    keep_all p (start_of_image i) B (ended_value c.in_ok-ended.ended) handed.sight handed.team (report_value c.in_ok-report.report) told.report.lawful c.teams_are_lawful.ensures.allowances _ 0 c.args.brakes.items c.in_ok-ended.ensures.stops
+    let told = left i p c.teams_are_lawful.ensures.restarts c.in_ok-ended.ended c.in_ok-ended.pass.seat.me.0 B start handed (report_value c.in_ok-report.report) c.in_ok-report.ensures.report in
+    keep_all p (start_of_image i) B c.in_ok-ended.ended handed.sight handed.team (report_value c.in_ok-report.report) told.report.lawful c.teams_are_lawful.ensures.allowances _ 0 c.args.brakes.items c.in_ok-ended.ensures.stops

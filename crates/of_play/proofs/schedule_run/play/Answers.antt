@@ -1,7 +1,6 @@
 use Rattle.std.proofs.Common.{List, arith, subst, ap}
 use Rattle.std.proofs.lemmas.Result.{IfOk-weaker}
 use Rattle.of_core.specs.Events.{Event}
-use Rattle.of_plan.specs.Ended.{ended_value}
 use Rattle.of_caller.specs.Tables.{opening_for}
 use Rattle.of_caller.specs.Left.{IsLeftBy}
 use Rattle.of_play.specs.Play.{events_from}
@@ -21,4 +20,4 @@ pub returns-clause-played : goal.returns-clause-played
 returns-clause-played c =
     let p = c.args.plan.now in
     let all = items_all p c.schedule-item-items.result.now c.schedule-item-items.ensures.value c.loop-item.item-index c.loop-item-test.false in
-    IfOk-weaker c.end.result _ _ (λ ended leaves. subst (λ (es : List Event). IsLeftBy p es (ended_value ended)) (ap (events_from p (opening_for p)) all) (leaves _ c.loop-item.invariant)) c.end.ensures
+    IfOk-weaker c.end.result _ _ (λ ended leaves. subst (λ (es : List Event). IsLeftBy p es ended) (ap (events_from p (opening_for p)) all) (leaves _ c.loop-item.invariant)) c.end.ensures

@@ -4,7 +4,6 @@ use Rattle.std.specs.List.{range_with_len}
 use Rattle.std.proofs.lemmas.List.Elements.{All-same, All-append}
 use Rattle.std.proofs.lemmas.List.{map-append, length-map}
 use Rattle.std.proofs.lemmas.List.FromFn.{map-range_with_len_more}
-use Rattle.of_plan.specs.Ended.{ended_value}
 use Rattle.of_eval.specs.Record.{line_for}
 use Rattle.of_report.specs.Report.{entry_value, line_value, HasWholeReply}
 use Rattle.of_report.proofs.Gathers.{one_more_caller}
@@ -14,7 +13,7 @@ pub loop-caller-preserved : goal.loop-caller-preserved
 loop-caller-preserved c = (
   All-same HasWholeReply _ _ c.in_ok-append.ensures.items (All-append HasWholeReply c.loop-caller.entries.items c.in_ok-own.own.items c.loop-caller.invariant.0 c.in_ok-own.ensures.whole),
   λ s own done are.
-      let e = ended_value c.args.ended.now in
+      let e = c.args.ended.now in
       let n = c.loop-caller.caller in
       let before = c.loop-caller.invariant.1 s own done are in
       let here : map entry_value c.in_ok-own.own.items ≡ own n = c.in_ok-own.ensures.own c.args.plan.now s (own n) c.requires.found (ap (λ (xs : List ℕ). get_or xs n 0) done ∙ sym c.scripts_done.ensures) (are n (omega arith)) in
@@ -27,7 +26,7 @@ loop-caller-preserved c = (
 
 pub returns-clause-callers : goal.returns-clause-callers
 returns-clause-callers c s own done are =
-    let e = ended_value c.args.ended.now in
+    let e = c.args.ended.now in
     let all : c.loop-caller.caller ≡ c.args.plan.now.callers = omega arith in
     (c.loop-caller.invariant.1 s own done are).1 ∙ ap (λ (n : ℕ). map (λ d. line_for e d (length (own d))) (range_with_len 0 n)) all
 

@@ -1,5 +1,4 @@
 use Rattle.std.proofs.Common.{refl}
-use Rattle.of_plan.specs.Ended.{ended_value}
 use Rattle.of_report.specs.Report.{report_value}
 use Rattle.of_tool.specs.Seen.{view_of}
 use Rattle.of_tool.specs.Inputs.{PlanAlone}
@@ -13,7 +12,7 @@ returns-clause-answered g c = Done refl (record {
   plan = c.in-Read.plan;
   read = rw c.in-Read.is at c.in_ok-plan.ensures;
   report = report_value c.in_ok-report.report;
-  run = some_run c.in-Read.plan (report_value c.in_ok-report.report) (ended_value c.in_ok-report.ran.0) (view_of c.in_ok-report.ran.1) c.in_ok-report.ensures;
+  run = some_run c.in-Read.plan (report_value c.in_ok-report.report) c.in_ok-report.ran.0 (view_of c.in_ok-report.ran.1) c.in_ok-report.ensures;
   text_is = c.in_ok-print.ensures;
 })
 

@@ -1,5 +1,4 @@
 use Rattle.std.proofs.Common.{refl}
-use Rattle.of_plan.specs.Ended.{ended_value}
 use Rattle.of_tool.specs.Seen.{view_of}
 use Rattle.of_tool.specs.Inputs.{ImageAndPlan}
 use Rattle.of_tool.specs.Statuses.{Done, Refused}
@@ -15,7 +14,7 @@ returns-clause-answered g c =
       read = rw c.in-Read.is at c.in_ok-read.ensures.read;
       life = record {
         report = writes.report;
-        left = ended_value c.in_ok-text.ran.0;
+        left = c.in_ok-text.ran.0;
         seen = view_of c.in_ok-text.ran.1;
         course = writes.life.course;
         history = writes.life.promises.history;

@@ -3,7 +3,7 @@ use Rattle.std.specs.Prelude.{slice_range}
 use Rattle.of_cell.specs.Cells.{durable_cells, table_words}
 use Rattle.of_mem.specs.Places.{base_of, cells_at}
 use Rattle.of_script.specs.declared.instr.TheConstants.{MOST_INSTRS}
-use Rattle.of_plan.specs.Ended.{ended_value}
+use Rattle.of_plan.specs.Ended.{Ended}
 use Rattle.of_report.specs.Report.{report_value}
 use Rattle.of_report.specs.Image.{start_of_image, durable_row}
 use Rattle.of_report.specs.ImageRow.{row_in}
@@ -19,20 +19,21 @@ image_print-requires-clause-size g c =
     let a = sym c.plot.ensures.callers in
     let b = sym c.plot.ensures.blocks in
     let k = sym c.plot.ensures.instrs in
-    ap length c.deref.ensures.value ∙ c.in_ok-report.ensures.report.lawful.words ∙ (λ i. table_words (a i) MOST_INSTRS (cells_at (base_of (a i) (k i)) (b i)))
+    ap length (c.deref.ensures.value ∙ ap (λ (e : Ended). e.words) c.ended.view_is) ∙ c.in_ok-report.ensures.report.lawful.words ∙ (λ i. table_words (a i) MOST_INSTRS (cells_at (base_of (a i) (k i)) (b i)))
 
 pub returns : goal.returns
 returns g c =
     let p = c.args.plan.now in
-    let e = ended_value c.in_ok-report.field-0.ended in
+    let e = c.in_ok-report.field-0.ended in
     let callers = c.plot.ensures.callers in
     let blocks = c.plot.ensures.blocks in
     let D = durable_cells c.plot.result.callers (cells_at (base_of c.plot.result.callers c.plot.result.instrs) c.plot.result.blocks) in
     let r = row_in c.plot.result (slice_range c.deref.result.now D (D + D)) in
+    let words : c.deref.result.now ≡ e.words = c.deref.ensures.value ∙ ap (λ (x : Ended). x.words) c.ended.view_is in
     let row : r ≡ durable_row p e = λ i. record {
       callers = callers i;
       blocks = blocks i;
-      words = slice_range (c.deref.ensures.value i) (durable_cells (callers i) (cells_at (base_of (callers i) (c.plot.ensures.instrs i)) (blocks i)))
+      words = slice_range (words i) (durable_cells (callers i) (cells_at (base_of (callers i) (c.plot.ensures.instrs i)) (blocks i)))
           (durable_cells (callers i) (cells_at (base_of (callers i) (c.plot.ensures.instrs i)) (blocks i)) + durable_cells (callers i) (cells_at (base_of (callers i) (c.plot.ensures.instrs i)) (blocks i)));
     } in
     let told = c.in_ok-report.ensures in

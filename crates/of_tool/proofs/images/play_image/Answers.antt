@@ -7,7 +7,7 @@ use Rattle.of_script.specs.declared.instr.TheConstants.{MOST_INSTRS}
 use Rattle.of_eval.specs.ScriptPrograms.{script_program}
 use Rattle.of_eval.specs.Scripts.{StandsForSome, is_success, script_reads}
 use Rattle.of_plan.specs.Plan.{data_cells}
-use Rattle.of_plan.specs.Ended.{ended_value}
+use Rattle.of_plan.specs.Ended.{Ended}
 use Rattle.of_plan.specs.Report.{Report, empty_start}
 use Rattle.of_eval.specs.Record.{IsLawfulRecord}
 use Rattle.of_core.specs.Laws.{RecoveredRowsMayStart}
@@ -38,11 +38,11 @@ module _ (c : goal.After-deref) where
   play = playable c.args.plan.now c.play.ensures.plan c.plan_keeps_laws.ensures.laws c.plan_keeps_laws.ensures.moments c.plan_keeps_laws.ensures.zeros
 
   -- what the schedule leaves has a report, as `play` prints it
-  report : (r : Report) × IsLawfulRecord c.args.plan.now (empty_start c.args.plan.now) (ended_value c.in_ok-ended.ended) r
-  report = has_report c.args.plan.now play c.runs_are_lawful.ensures.lawful c.runs_are_lawful.ensures.reported c.runs_are_lawful.ensures.allowances c.reports_respect_time.ensures.schedules (ended_value c.in_ok-ended.ended) c.in_ok-ended.ensures.played
+  report : (r : Report) × IsLawfulRecord c.args.plan.now (empty_start c.args.plan.now) c.in_ok-ended.ended r
+  report = has_report c.args.plan.now play c.runs_are_lawful.ensures.lawful c.runs_are_lawful.ensures.reported c.runs_are_lawful.ensures.allowances c.reports_respect_time.ensures.schedules c.in_ok-ended.ended c.in_ok-ended.ensures.played
 
   played : IsPlayedReport c.args.plan.now report.0
-  played = lawful_report c.args.plan.now play c.runs_are_lawful.ensures.lawful c.runs_are_lawful.ensures.reported c.runs_are_lawful.ensures.allowances c.reports_respect_time.ensures.schedules (ended_value c.in_ok-ended.ended) c.in_ok-ended.ensures.played report.0 report.1
+  played = lawful_report c.args.plan.now play c.runs_are_lawful.ensures.lawful c.runs_are_lawful.ensures.reported c.runs_are_lawful.ensures.allowances c.reports_respect_time.ensures.schedules c.in_ok-ended.ended c.in_ok-ended.ensures.played report.0 report.1
 
   restarts : RestartsAt c.args.plan.now.callers c.args.plan.now.blocks c.args.plan.now.limit
   restarts =
@@ -55,20 +55,21 @@ image_print-requires-clause-size c =
     let a = sym c.plot.ensures.callers in
     let b = sym c.plot.ensures.blocks in
     let k = sym c.plot.ensures.instrs in
-    ap length c.deref.ensures.value ∙ (report c).1.words ∙ (λ i. table_words (a i) MOST_INSTRS (cells_at (base_of (a i) (k i)) (b i)))
+    ap length (c.deref.ensures.value ∙ ap (λ (e : Ended). e.words) c.ended.view_is) ∙ (report c).1.words ∙ (λ i. table_words (a i) MOST_INSTRS (cells_at (base_of (a i) (k i)) (b i)))
 
 pub returns : goal.returns
 returns c =
     let p = c.args.plan.now in
-    let e = ended_value c.in_ok-ended.ended in
+    let e = c.in_ok-ended.ended in
     let callers = c.plot.ensures.callers in
     let blocks = c.plot.ensures.blocks in
     let D = durable_cells c.plot.result.callers (cells_at (base_of c.plot.result.callers c.plot.result.instrs) c.plot.result.blocks) in
     let r = row_in c.plot.result (slice_range c.deref.result.now D (D + D)) in
+    let left : c.deref.result.now ≡ e.words = c.deref.ensures.value ∙ ap (λ (x : Ended). x.words) c.ended.view_is in
     let row : r ≡ durable_row p e = λ i. record {
       callers = callers i;
       blocks = blocks i;
-      words = slice_range (c.deref.ensures.value i) (durable_cells (callers i) (cells_at (base_of (callers i) (c.plot.ensures.instrs i)) (blocks i)))
+      words = slice_range (left i) (durable_cells (callers i) (cells_at (base_of (callers i) (c.plot.ensures.instrs i)) (blocks i)))
           (durable_cells (callers i) (cells_at (base_of (callers i) (c.plot.ensures.instrs i)) (blocks i)) + durable_cells (callers i) (cells_at (base_of (callers i) (c.plot.ensures.instrs i)) (blocks i)));
     } in
     let before = c.before.before.before.before in

@@ -3,6 +3,7 @@ use Rattle.std.specs.Prelude.{slice_range}
 use Rattle.of_cell.specs.Words.{seq_of}
 use Rattle.of_cell.specs.Cells.{data_cell, durable_cells, durable_place, table_words}
 use Rattle.of_script.specs.declared.instr.TheConstants.{MOST_INSTRS}
+use Rattle.of_plan.specs.Ended.{Ended}
 use Rattle.of_eval.specs.Record.{plan_data_cells}
 use Rattle.of_recover.specs.Recovered.{recovered_data, recovered_words}
 use Rattle.std.proofs.lemmas.List.{take_at}
@@ -13,14 +14,15 @@ use Rattle.of_report.proofs.recovered_table.RecoveredTable.find.Goals as goal
 pub returns : goal.returns
 returns c =
     let p = c.args.plan.now in
-    let ws = c.args.ended.now.words.items in
+    let ws = c.args.ended.now.words in
+    let words : c.deref.result.now ≡ ws = c.deref.ensures.value ∙ ap (λ (e : Ended). e.words) c.ended.view_is in
     let N = c.shape-shape.result.callers in
     let M = c.shape-shape.result.cells in
     let callers : N ≡ p.callers = c.shape-shape.ensures.callers in
     let cells : M ≡ plan_data_cells p = c.shape-shape.ensures.cells in
     let long : length ws ≡ table_words N MOST_INSTRS M = c.requires ∙ (λ i. table_words (sym callers i) MOST_INSTRS (sym cells i)) in
     let row : c.in_ok-durable.durable.items ≡ slice_range ws (durable_cells N M) (durable_cells N M + durable_cells N M) =
-    c.in_ok-durable.ensures ∙ ap (λ (l : List ℕ). slice_range l (durable_cells N M) (durable_cells N M + durable_cells N M)) c.deref.ensures.value in
+    c.in_ok-durable.ensures ∙ ap (λ (l : List ℕ). slice_range l (durable_cells N M) (durable_cells N M + durable_cells N M)) words in
     let after : c.recover-seq.new.durable ≡ recovered_words N M c.in_ok-durable.durable.items = c.recover-seq.ensures.row ∙ ap (recovered_words N M) c.deref_mut.ensures.value in
     let kept : length c.recover-seq.new.durable ≡ c.in_ok-durable.durable.len = ap length c.recover-seq.ensures.row ∙ length-recovered N M c.deref_mut.result.now ∙ c.deref_mut.ensures.len in
     let part : c.in_ok-words.words.items ≡ slice_range (recovered_words N M c.in_ok-durable.durable.items) (data_cell N 0) (data_cell N 0 + M) =
