@@ -4,7 +4,8 @@ ghost use Rattle.std.specs.Prelude.{◌≡◌, ◌↔◌, ◌<◌, ℕ, IsTrue, 
 ghost use Rattle.of_plan.specs.Plan.{scripts_of};
 ghost use Rattle.of_plan.specs.Lines.{text_lines as lines_of};
 ghost use Rattle.of_plan.specs.Legal.{HasOpenCall, HasEndState};
-ghost use Rattle.of_report.specs.Report.{report_value, end_state_value};
+ghost use Rattle.of_report.specs.Report.{report_value};
+ghost use Rattle.of_report.specs.Lines.{end_state_value};
 ghost use Rattle.of_check.specs.Starts.{start_of};
 ghost use Rattle.of_check.specs.Replay.{MayFollow, HasRunCalls, replay_value};
 ghost use Rattle.of_check.specs.Endings.{IsEnding, AreEndings, claimed_line};

@@ -13,7 +13,7 @@ use Rattle.of_plan.proofs.SerialEntries.{length-replies}
 use Rattle.of_serial.specs.SerialRun.{HasComeTo, after_call, course_after, calls_within}
 use Rattle.of_serial.specs.declared.serial_run.SerialRun.{SerialRun as RustSerialRun}
 use Rattle.of_report.specs.declared.report.Report.{Report}
-use Rattle.of_report.specs.Report.{entry_value, line_value, report_value}
+use Rattle.of_report.specs.Report.{entry_value, report_value}
 use Rattle.std.specs.Prelude.{count_by}
 use Rattle.std.proofs.lemmas.List.Sums.{sum_by-append, sum_by-cons}
 use Rattle.std.proofs.lemmas.Bool.{eq-eqb, ne_eqb}
@@ -194,7 +194,7 @@ lines_more p n =
 
 -- what was made caller by caller is the report
 pub report_made : (p : Plan) (run : RustSerialRun) (report : Report) → HasComeTo run (course_after p (serial_calls p))
-    → map line_value report.callers.items ≡ lines_below p p.callers
+    → report.callers.items ≡ lines_below p p.callers
     → report.entries.items ≡ run.entries.items → report.seq ≡ run.seq → report.store ≡ (course_after p (serial_calls p)).store → report_value report ≡ serial_report p
 report_made p run report has lines same_entries same_seq store =
     let entries = ap (map entry_value) same_entries ∙ has.entries in

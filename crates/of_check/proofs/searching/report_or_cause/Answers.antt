@@ -1,5 +1,4 @@
-use Rattle.std.proofs.Common.{◌≡◌, List, ℕ, map, sym, ap, subst, ◌∙◌, length, arith}
-use Rattle.of_report.specs.Report.{line_value}
+use Rattle.std.proofs.Common.{◌≡◌, List, ℕ, sym, ap, subst, ◌∙◌, length, arith}
 use Rattle.of_check.specs.declared.claims.CallClaim.{CallClaim}
 use Rattle.of_check.specs.Starts.{start_of}
 use Rattle.of_check.specs.Replay.{HasRunCalls}
@@ -28,7 +27,7 @@ returns-in-None c =
     let calls = c.in_ok-claims.claims.calls.items in
     let ends = c.in_ok-claims.claims.ends.items in
     let replay = c.in-Ok.replay in
-    let lines = map line_value c.in-Some-2.callers.items in
+    let lines = c.in-Some-2.callers.items in
     let done : c.deref-6.result.now ≡ s.finished = c.deref-6.ensures.value ∙ c.in_ok-done.ensures.items ∙ c.deref.ensures.value in
     let took = subst (λ (qs : List CallClaim). HasRunCalls p s qs replay) c.deref-2.ensures.value (rw c.in-Ok.is at c.in_ok-replay.ensures) in
     let are = rw c.in-Some-2.is at c.in_ok-callers.ensures in
@@ -43,7 +42,7 @@ returns c =
     let calls = c.in_ok-claims.claims.calls.items in
     let ends = c.in_ok-claims.claims.ends.items in
     let replay = c.in-Ok.replay in
-    let lines = map line_value c.in-Some-2.callers.items in
+    let lines = c.in-Some-2.callers.items in
     let done : c.deref-6.result.now ≡ s.finished = c.deref-6.ensures.value ∙ c.in_ok-done.ensures.items ∙ c.deref.ensures.value in
     let took = subst (λ (qs : List CallClaim). HasRunCalls p s qs replay) c.deref-2.ensures.value (rw c.in-Ok.is at c.in_ok-replay.ensures) in
     let are = rw c.in-Some-2.is at c.in_ok-callers.ensures in

@@ -4,7 +4,7 @@ use Rattle.std.specs.List.{range_with_len}
 use Rattle.of_plan.specs.Report.{Entry, Start}
 use Rattle.of_plan.specs.Ended.{ended_value}
 use Rattle.of_eval.specs.Record.{line_for}
-use Rattle.of_report.specs.Report.{entry_value, line_value, HasWholeReply}
+use Rattle.of_report.specs.Report.{entry_value, HasWholeReply}
 use Rattle.of_report.specs.Found.{AreOwn}
 use Rattle.of_report.proofs.make.entries_and_lines.Given as goal
 
@@ -14,4 +14,4 @@ invariant-loop-caller l =
     All HasWholeReply l.entries.items
     × ((s : Start) (own : ℕ → List Entry) → s.finished ≡ l.done → AreOwn l.plan s (ended_value l.ended) own
     → (map entry_value l.entries.items ≡ flat_map own (range_with_len 0 l.caller))
-    × (map line_value l.callers.items ≡ map (λ c. line_for (ended_value l.ended) c (length (own c))) (range_with_len 0 l.caller)))
+    × (l.callers.items ≡ map (λ c. line_for (ended_value l.ended) c (length (own c))) (range_with_len 0 l.caller)))
