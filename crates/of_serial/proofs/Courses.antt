@@ -36,9 +36,6 @@ last_store_more : (s : Store) (scripts : List (List Instr)) (script : List Instr
 last_store_more s [] script = refl
 last_store_more s (first ∷ others) script = last_store_more (run s first).0 others script
 
-length-more : {X : Type 0} (xs : List X) (x : X) → length (xs ++ x ∷ []) ≡ length xs + 1
-length-more xs x = length-append xs (x ∷ [])
-
 -- one more call of a plan, with its script
 pub one_more_call : (p : Plan) (calls : List CallId) (call : CallId) → after_call (course_after p calls) call (called_script p call) ≡ course_after p (calls ++ call ∷ [])
 one_more_call p calls call =
@@ -52,7 +49,7 @@ one_more_call p calls call =
     ap (λ (m : ℕ). map serial_entry (enumerate_from 1 (zip calls (replies_in_order s scripts))) ++ serial_entry (m, (call, (run (last_store s scripts) script).1)) ∷ []) (sym place)
     ∙ sym (entries_more 1 calls (replies_in_order s scripts) call (run (last_store s scripts) script).1 each)
     ∙ ap (λ (t : List Reply). map serial_entry (enumerate_from 1 (zip (calls ++ call ∷ []) t))) (sym (replies_more s scripts script) ∙ ap (replies_in_order s) (sym more)) in
-    let seq : length calls + 1 ≡ length (calls ++ call ∷ []) = sym (length-more calls call) in
+    let seq : length calls + 1 ≡ length (calls ++ call ∷ []) = sym (length-append calls (call ∷ [])) in
     let store : (run (last_store s scripts) script).0 ≡ last_store s (map (called_script p) (calls ++ call ∷ [])) = sym (last_store_more s scripts script) ∙ ap (last_store s) (sym more) in
     λ i. record { entries = entries i; seq = seq i; store = store i }
 
