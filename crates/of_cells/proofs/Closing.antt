@@ -1,8 +1,8 @@
 -- What recovery finds in the words of a closed table of a work.
-use Rattle.std.proofs.Common.{◌≡◌, ℕ, ◌+◌, ◌-◌, ◌≤◌, ◌<◌, ◌⊎◌, inl, inr, Bool, true, false, refl, sym, ◌∙◌, ap, subst, arith, List, [], ◌∷◌, ◌++◌, length, get_or, map, take, drop, length-take-le, length-append}
+use Rattle.std.proofs.Common.{◌≡◌, ℕ, ◌+◌, ◌-◌, ◌≤◌, ◌<◌, ◌⊎◌, inl, inr, Bool, true, false, refl, sym, ◌∙◌, ap, subst, arith, List, [], ◌∷◌, ◌++◌, length, get_or, map, take, length-take-le, length-append}
 use Rattle.std.specs.Prelude.{slice_range, slice_index}
 use Rattle.std.proofs.lemmas.Bool.{cases_lt}
-use Rattle.std.proofs.lemmas.List.{get_or-take, get_or-drop, get_or-map, length-drop, length-map, get_or_append_left, ext_get_or}
+use Rattle.std.proofs.lemmas.List.{get_or-take, get_or-map, length-map, get_or_append_left, ext_get_or}
 use Rattle.std.proofs.lemmas.List.Elements.{All-from_get_or}
 use Rattle.std.proofs.Math.Seq.{get_or-append_seam}
 use Rattle.std.proofs.Math.ListN.{get_or-map as get_or_map_at}
@@ -12,6 +12,7 @@ use Rattle.of_cell.specs.Cells.{data_cell, durable_cells, table_words}
 use Rattle.of_mem.specs.Meaning.{Meaning, HasRoom}
 use Rattle.of_mem.specs.Places.{ticket_cell_at, shape_at, reply_at}
 use Rattle.of_mem.specs.declared.work.TheConstants.{MOST_INSTRS}
+use Rattle.of_mem.proofs.Lists.{part_at, part_long}
 use Rattle.of_recover.specs.Recovered.{recovered_words, recovered_data, RecoversData}
 use Rattle.of_recover.proofs.Agreeing.{recovered_data-same}
 use Rattle.of_core.specs.declared.place.Outcome.{Outcome}
@@ -40,13 +41,6 @@ use Rattle.of_cells.specs.Serving.{made_before}
 use Rattle.of_cells.specs.Saving.{ExplainsKept, HasOpenOperation, HasOnlyKept, HistoryLeads, HoldsReply, TellsLast, IsSavedCells, SavesHistory, saved_cells}
 
 -- ---- lists
-
--- a part of a list
-part_at : (xs : List ℕ) (a n i : ℕ) → i < n → get_or (slice_range xs a (a + n)) i 0 ≡ get_or xs (a + i) 0
-part_at xs a n i l = let e : a + n - a ≡ n = omega arith in get_or-take (a + n - a) (drop a xs) i 0 (omega (arith, e, l)) ∙ get_or-drop a xs i 0
-
-part_long : (xs : List ℕ) (a n : ℕ) → a + n ≤ length xs → length (slice_range xs a (a + n)) ≡ n
-part_long xs a n l = let e : a + n - a ≡ n = omega arith in length-take-le (a + n - a) (drop a xs) (omega (arith, length-drop a xs, l)) ∙ e
 
 -- the words that are left when the durable ones are moved to the front
 pub kept_durable : (n k : ℕ) (old ws : List ℕ) → n + n ≤ length old → length ws ≡ length old → n ≤ k → ((i : ℕ) → i < k → get_or ws i 0 ≡ get_or old (n + i) 0) → take n ws ≡ slice_range old n (n + n)

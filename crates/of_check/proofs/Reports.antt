@@ -14,7 +14,7 @@ use Rattle.of_plan.specs.Plan.{Plan}
 use Rattle.of_plan.specs.Report.{Entry, EndState, done, stopped, spent, Line, Report, Start, entries_of, caller_line}
 use Rattle.of_plan.specs.Legal.{script_of_entry, scripts_left, StandsBefore, HasOpenCall, HasSequence, HasEndState, LineIsWithinBound, IsLegal}
 use Rattle.of_plan.proofs.HistoriesLists.{pairs_in_line, in_line_pairs, each_weaker}
-use Rattle.of_report.specs.Report.{end_state_value}
+use Rattle.of_report.specs.Lines.{end_state_value}
 use Rattle.of_check.specs.declared.claims.CallClaim.{CallClaim}
 use Rattle.of_check.specs.declared.claims.EndClaim.{EndClaim}
 use Rattle.of_check.specs.Claims.{call_claim, code_end_state, end_claim}

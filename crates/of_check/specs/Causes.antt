@@ -5,6 +5,7 @@ use Rattle.of_plan.specs.Plan.{Plan, scripts_of}
 use Rattle.of_plan.specs.Lines.{text_lines}
 use Rattle.of_plan.specs.Report.{Report, Line, Start, empty_start}
 use Rattle.of_plan.specs.Legal.{HasOpenCall, HasEndState, LineIsWithinBound}
+use Rattle.of_report.specs.Report.{report_value}
 use Rattle.of_report.specs.ReportText.{report_text}
 use Rattle.of_check.specs.declared.claims.CallClaim.{CallClaim}
 use Rattle.of_check.specs.declared.claims.EndClaim.{EndClaim}
@@ -13,11 +14,15 @@ use Rattle.of_check.specs.declared.cause.EntryRule.TheVariants.{NoCaller, NoScri
 use Rattle.of_check.specs.declared.cause.EndRule.{EndRule}
 use Rattle.of_check.specs.declared.cause.EndRule.TheVariants.{Answered, Ending, Steps}
 use Rattle.of_check.specs.declared.cause.Cause.{Cause}
+use Rattle.of_check.specs.declared.cause.Judgement.{Judgement}
+use Rattle.of_check.specs.declared.cause.Judgement.TheVariants.{Legal, Illegal}
+use Rattle.of_check.specs.declared.searching.ReplayEnd.{ReplayEnd}
+use Rattle.of_check.specs.declared.searching.ReplayEnd.TheVariants.{AllRan, Broken}
 use Rattle.of_check.specs.declared.cause.Cause.TheVariants.{Callers, Entry, Caller, Line as LineCause}
 use Rattle.of_check.specs.Claims.{call_claims_of_text, end_claims_of_text}
-use Rattle.of_check.specs.Replay.{Replay, replay_at_start, index_for, script_for, course_end, MayFollowWithin, AllFollow}
+use Rattle.of_check.specs.Replay.{Replay, replay_at_start, index_for, script_for, course_end, MayFollowWithin, AllFollow, HasRunCalls}
 use Rattle.of_check.specs.Endings.{left_of, IsEnding, claimed_line_at}
-use Rattle.of_check.specs.Verdict.{IsClaimed}
+use Rattle.of_check.specs.Verdict.{IsClaimed, IsTextOf}
 
 -- the claimed call breaks this rule, and none before it
 abbrev pub BreaksEntry : EntryRule → Plan → Replay → CallClaim → Type 0
@@ -43,6 +48,11 @@ pub record BreaksAt (p : Plan) (s : Start) (calls : List CallClaim) (index : ℕ
   pub before : AllFollow p (replay_at_start s) (take index calls)
   pub breaks : BreaksEntry rule p (course_end p (replay_at_start s) (take index calls))
       (call_at calls index)
+
+-- what comes of running the claimed calls from the start
+abbrev pub IsReplayEnd : Plan → Start → List CallClaim → ReplayEnd → Type 0
+IsReplayEnd p s calls (AllRan replay) = HasRunCalls p s calls replay
+IsReplayEnd p s calls (Broken index rule) = BreaksAt p s calls index rule
 
 -- the line of a caller that had so many scripts to do breaks this rule, and none before it
 abbrev pub BreaksEnd : EndRule → Plan → (scripts seq : ℕ) → Line → Type 0
@@ -91,6 +101,11 @@ IsCauseFrom p s text (Caller caller rule) =
     BreaksCaller p s (call_claims_of_text text) (end_claims_of_text text) caller rule
 IsCauseFrom p s text (LineCause above wanted) = DiffersAt p s text wanted.items above
 
--- and from the empty start
+-- the text is that of the report, which is legal for the plan from the start; or this is why not
+abbrev pub IsJudgement : Plan → Start → (text : List ℕ) → Judgement → Type 0
+IsJudgement p s text (Legal report) = IsTextOf p s text (report_value report)
+IsJudgement p s text (Illegal cause) = IsCauseFrom p s text cause
+
+-- why it is no legal report from the empty start
 abbrev pub IsCause : Plan → (text : List ℕ) → Cause → Type 0
 IsCause p text cause = IsCauseFrom p (empty_start p) text cause

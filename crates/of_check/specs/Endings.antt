@@ -5,7 +5,7 @@ use Rattle.of_plan.specs.Plan.{Plan, scripts_of}
 use Rattle.of_plan.specs.Report.{Line}
 use Rattle.of_plan.specs.Legal.{HasOpenCall, HasEndState, LineIsWithinBound}
 use Rattle.of_report.specs.declared.report.EndState.TheVariants.{Done}
-use Rattle.of_report.specs.Report.{end_state_value}
+use Rattle.of_report.specs.Lines.{end_state_value}
 use Rattle.of_check.specs.declared.claims.EndClaim.{EndClaim}
 
 -- the line of a caller with so many entries

@@ -1,5 +1,7 @@
 //! Why a text is no legal report of a plan.
 
+use of_report::Report;
+
 /// What is wrong with an entry; the entries before it may stand there.
 #[derive(Clone, Copy, Debug, PartialEq, Eq)]
 pub enum EntryRule {
@@ -39,4 +41,13 @@ pub enum Cause {
     /// A line, by the number of lines above it: it is another than that of the one report that has
     /// these entries and these lines of callers, whose whole text is wanted.
     Line { above: u64, wanted: Vec<u8> },
+}
+
+/// What a text is judged to be.
+#[derive(Drop)]
+pub enum Judgement {
+    /// The text of this report, which is legal for the plan.
+    Legal(Report),
+    /// No such text, and this is why.
+    Illegal(Cause),
 }

@@ -1,8 +1,7 @@
 //! The lines of callers, from what they claim and from how many calls have run since the start.
 
-ghost use Rattle.std.specs.Prelude.{◌≡◌, ◌↔◌, ◌≤◌, IsTrue, length, map, IfOk, MatchOption};
+ghost use Rattle.std.specs.Prelude.{◌≡◌, ◌↔◌, ◌≤◌, IsTrue, length, IfOk, MatchOption};
 ghost use Rattle.of_plan.specs.Plan.{bound_of};
-ghost use Rattle.of_report.specs.Report.{line_value};
 ghost use Rattle.of_check.specs.Endings.{IsEnding, AreEndings, AreLines, claimed_line};
 
 use crate::claims::EndClaim;
@@ -61,8 +60,7 @@ pub(crate) fn lines(
     requires ends { length ends.now ≡ plan.now.callers }
     ensures { IfOk result (λ found. MatchOption found
         (AreEndings plan.now done.now seq counts.now ends.now → ⊥)
-        (λ lines. AreLines plan.now done.now seq counts.now ends.now
-        (map line_value lines.items))) }
+        (λ lines. AreLines plan.now done.now seq counts.now ends.now lines.items)) }
 {
     let mut lines = Vec::new(alloc);
     for caller in 0..plan.callers() {

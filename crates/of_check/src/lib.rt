@@ -10,7 +10,7 @@ mod searching;
 mod start;
 mod verdict;
 
-pub use cause::{Cause, EndRule, EntryRule};
+pub use cause::{Cause, EndRule, EntryRule, Judgement};
 pub use ends::{LeftRule, why_left};
 pub use searching::{report_or_cause, why};
 pub use start::{Start, tickets};

@@ -1,17 +1,17 @@
 //! The first thing that is wrong with a text that is no legal report.
 
-ghost use Rattle.std.specs.Prelude.{◌≡◌, ◌↔◌, ◌<◌, ℕ, IsTrue, length, IfOk, MatchOption, MatchResult};
+ghost use Rattle.std.specs.Prelude.{◌≡◌, ◌↔◌, ◌<◌, ℕ, IsTrue, length, IfOk, MatchOption};
 ghost use Rattle.of_plan.specs.Plan.{scripts_of};
 ghost use Rattle.of_plan.specs.Lines.{text_lines as lines_of};
 ghost use Rattle.of_plan.specs.Legal.{HasOpenCall, HasEndState};
-ghost use Rattle.of_report.specs.Report.{report_value, end_state_value};
+ghost use Rattle.of_report.specs.Lines.{end_state_value};
 ghost use Rattle.of_check.specs.Starts.{start_of};
-ghost use Rattle.of_check.specs.Replay.{MayFollow, HasRunCalls, replay_value};
+ghost use Rattle.of_check.specs.Replay.{MayFollow, replay_value};
 ghost use Rattle.of_check.specs.Endings.{IsEnding, AreEndings, claimed_line};
-ghost use Rattle.of_check.specs.Verdict.{IsLegalText, IsTextOf};
-ghost use Rattle.of_check.specs.Causes.{BreaksEntry, BreaksAt, BreaksEnd, BreaksFirst, IsCause, DifferFirst, IsCauseFrom};
+ghost use Rattle.of_check.specs.Verdict.{IsLegalText};
+ghost use Rattle.of_check.specs.Causes.{BreaksEntry, BreaksEnd, BreaksFirst, IsCause, DifferFirst, IsJudgement, IsReplayEnd};
 
-use crate::cause::{Cause, EndRule, EntryRule};
+use crate::cause::{Cause, EndRule, EntryRule, Judgement};
 use crate::claims::{CallClaim, Claims, EndClaim};
 use crate::endings::{is_within, lines, step_bound};
 use crate::replay::{Replay, follows};
@@ -21,6 +21,15 @@ use of_plan::Plan;
 use of_report::{EndState, Report};
 use of_script::text::cut;
 use std::alloc::{AllocError, Global};
+
+// What comes of claimed calls that are run one after another.
+#[derive(Drop)]
+enum ReplayEnd {
+    // All have run, and this is what they left.
+    AllRan(Replay),
+    // Those before this index have run, and this one breaks the rule.
+    Broken { index: usize, rule: EntryRule },
+}
 
 // The rule that a claimed call breaks; None where it may come next.
 fn broken_entry(plan: &Plan, replay: &Replay, call: CallClaim) -> Option<EntryRule>
@@ -51,22 +60,20 @@ fn replayed(
     plan: &Plan,
     start: Start,
     calls: &[CallClaim],
-) -> Result<Result<Replay, (usize, EntryRule)>, AllocError>
+) -> Result<ReplayEnd, AllocError>
     requires { length start.finished.items ≡ plan.now.callers }
-    ensures { IfOk result (λ found. MatchResult found
-        (HasRunCalls plan.now (start_of start) calls.now)
-        (λ x. BreaksAt plan.now (start_of start) calls.now x.0 x.1)) }
+    ensures { IfOk result (IsReplayEnd plan.now (start_of start) calls.now) }
 {
     let mut replay = Replay::new(alloc, start);
     for index in 0..calls.len() {
         if let Some(rule) = broken_entry(plan, &replay, calls[index]) {
-            return Ok(Err((index, rule)));
+            return Ok(ReplayEnd::Broken { index, rule });
         }
         if !replay.run_call(plan, calls[index])? {
             unreachable!();
         }
     }
-    Ok(Ok(replay))
+    Ok(ReplayEnd::AllRan(replay))
 }
 
 // Whether the entries are those of answered calls and an open one.
@@ -170,25 +177,25 @@ pub fn report_or_cause(
     plan: &Plan,
     start: Start,
     text: &[u8],
-) -> Result<Result<Report, Cause>, AllocError>
+) -> Result<Judgement, AllocError>
     requires { length start.finished.items ≡ plan.now.callers }
-    ensures { IfOk result (λ found. MatchResult found
-        (λ report. IsTextOf plan.now (start_of start) text.now (report_value report))
-        (IsCauseFrom plan.now (start_of start) text.now)) }
+    ensures { IfOk result (IsJudgement plan.now (start_of start) text.now) }
 {
     let done = Vec::from_slice(alloc, &start.finished)?;
     let claims = Claims::read(alloc, text)?;
     let count = claims.ends.len();
     if count != plan.callers() as usize {
-        return Ok(Err(Cause::Callers { lines: count }));
+        return Ok(Judgement::Illegal(Cause::Callers { lines: count }));
     }
     let replay = match replayed(alloc, plan, start, &claims.calls)? {
-        Ok(replay) => replay,
-        Err((index, rule)) => return Ok(Err(Cause::Entry { index, rule })),
+        ReplayEnd::AllRan(replay) => replay,
+        ReplayEnd::Broken { index, rule } => {
+            return Ok(Judgement::Illegal(Cause::Entry { index, rule }));
+        }
     };
     let seq = replay.last.seq;
     if let Some((caller, rule)) = first_end(plan, &done, &replay.counts, seq, &claims.ends) {
-        return Ok(Err(Cause::Caller { caller, rule }));
+        return Ok(Judgement::Illegal(Cause::Caller { caller, rule }));
     }
     let Some(callers) = lines(alloc, plan, &done, &replay.counts, seq, &claims.ends)? else {
         unreachable!();
@@ -202,8 +209,8 @@ pub fn report_or_cause(
     has_32_bits(report.seq);
     let wanted = report.print(alloc)?;
     match first_difference(text, wanted.as_slice()) {
-        None => Ok(Ok(report)),
-        Some(above) => Ok(Err(Cause::Line { above, wanted })),
+        None => Ok(Judgement::Legal(report)),
+        Some(above) => Ok(Judgement::Illegal(Cause::Line { above, wanted })),
     }
 }
 
@@ -215,7 +222,7 @@ pub fn why(alloc: Global, plan: &Plan, text: &[u8]) -> Result<Option<Cause>, All
 {
     let start = Start::empty(alloc, plan.callers(), plan.blocks())?;
     match report_or_cause(alloc, plan, start, text)? {
-        Ok(_) => Ok(None),
-        Err(cause) => Ok(Some(cause)),
+        Judgement::Legal(_) => Ok(None),
+        Judgement::Illegal(cause) => Ok(Some(cause)),
     }
 }

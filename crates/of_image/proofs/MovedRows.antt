@@ -14,6 +14,7 @@ use Rattle.of_mem.specs.declared.work.RawReply.{RawReply}
 use Rattle.of_mem.specs.Places.{base_of, ticket_cell_at, shape_at, reply_at}
 use Rattle.of_mem.specs.ProgramWork.{memory_of}
 use Rattle.of_script.specs.declared.instr.TheConstants.{MOST_INSTRS}
+use Rattle.of_plan.proofs.Lists.{map-same}
 use Rattle.of_recover.specs.Row.{is_open}
 use Rattle.of_recover.proofs.Rows.{left_alone}
 use Rattle.of_recover.proofs.Kept.{closed_after}
@@ -130,10 +131,6 @@ has_moved few many r le =
 
 -- ---- the moved row is lawful
 
-same_map : {X Y : Type 0} (f g : X → Y) → ((x : X) → f x ≡ g x) → (xs : List X) → map f xs ≡ map g xs
-same_map f g same [] = refl
-same_map f g same (x ∷ xs) = λ i. same x i ∷ same_map f g same xs i
-
 caller_below : (callers many a : ℕ) → a < base_of callers many → a / (many + 2) < callers
 caller_below callers many a l = (div-lt_iff_lt-mul {k = many + 2} {x = a} {y = callers} (omega arith)).1 l
 
@@ -247,7 +244,7 @@ module _ (few many : ℕ) (i : Image) (h : IsImage few i) (le : few ≤ many) (l
   ]
 
   reply_same : (c : ℕ) → c < N → reply_in many n c ≡ reply_in few m c
-  reply_same c l = λ x. record { shape = shape_same c l x; values = same_map (reply_number many n c) (reply_number few m c) (number_same c l) (range_with_len 0 MOST_INSTRS) x }
+  reply_same c l = λ x. record { shape = shape_same c l x; values = map-same (reply_number many n c) (reply_number few m c) (range_with_len 0 MOST_INSTRS) (number_same c l) x }
 
   own_moved : (c : ℕ) → c < N → OwnCellsAreSound few m c → OwnCellsAreSound many n c
   own_moved c l k = record {

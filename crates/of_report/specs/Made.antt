@@ -12,9 +12,8 @@ use Rattle.of_plan.specs.Report.{Start, finished_of}
 use Rattle.of_eval.specs.Record.{record_number, BeyondAnswers, OpenCall, OwnEntries, IsLawfulRecord, line_for}
 use Rattle.of_report.specs.declared.recovered_table.RecoveredTable.{RecoveredTable}
 use Rattle.of_report.specs.declared.report.Entry.{Entry}
-use Rattle.of_report.specs.declared.report.Line.{Line}
 use Rattle.of_report.specs.declared.report.Report.{Report}
-use Rattle.of_report.specs.Report.{entry_value, line_value, report_value}
+use Rattle.of_report.specs.Report.{entry_value, report_value}
 use Rattle.of_report.specs.Found.{HasFound, AreOwn}
 
 -- ---- the entries of one caller
@@ -47,10 +46,10 @@ TellsAllEntries p done e told =
     → map entry_value told ≡ flat_map own (range_with_len 0 p.callers)
 
 -- these are the lines
-abbrev pub TellsAllLines : Plan → (done : List ℕ) → Ended → List Line → Type 0
+abbrev pub TellsAllLines : Plan → (done : List ℕ) → Ended → List plain.Line → Type 0
 TellsAllLines p done e told =
     (s : Start) (own : ℕ → List plain.Entry) → s.finished ≡ done → AreOwn p s e own
-    → map line_value told ≡ map (λ c. line_for e c (length (own c))) (range_with_len 0 p.callers)
+    → told ≡ map (λ c. line_for e c (length (own c))) (range_with_len 0 p.callers)
 
 -- ---- the report
 

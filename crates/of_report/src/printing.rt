@@ -2,7 +2,8 @@
 
 ghost use Rattle.std.specs.Prelude.{◌≡◌, ◌++◌, IfOk, OnOk, codes, decimal, map, take};
 ghost use Rattle.of_store.specs.Replies.{reply_value_of};
-ghost use Rattle.of_report.specs.Report.{entry_value, line_value, report_value, end_state_value};
+ghost use Rattle.of_report.specs.Report.{entry_value, report_value};
+ghost use Rattle.of_report.specs.Lines.{end_state_value};
 ghost use Rattle.of_report.specs.ReportText.{reply_value_text, cause_text, reply_text, kind_text, entry_line, entry_lines, state_text, caller_line_text, caller_lines, seq_line, report_text};
 ghost use Rattle.of_script.specs.Appending.{AppendsText};
 
@@ -106,7 +107,7 @@ fn state_name(state: EndState) -> &'static str
 // Writes the line of a caller.
 fn put_caller(out: &mut String, caller: usize, line: &Line) -> Result<(), AllocError>
     ensures { OnOk result
-        (AppendsText out.old out.new (caller_line_text (caller, line_value line.now))) }
+        (AppendsText out.old out.new (caller_line_text (caller, line.now))) }
 {
     let state = state_name(line.state);
     write!(out, "caller {caller} {state}")?;
@@ -135,7 +136,7 @@ fn put_entries(out: &mut String, entries: &[Entry]) -> Result<(), AllocError>
 // Writes the lines of the callers.
 fn put_callers(out: &mut String, callers: &[Line]) -> Result<(), AllocError>
     ensures { OnOk result
-        (AppendsText out.old out.new (caller_lines (map line_value callers.now))) }
+        (AppendsText out.old out.new (caller_lines callers.now)) }
 {
     for (caller, line) in callers.iter().enumerate() {
         put_caller(out, caller, line)?;

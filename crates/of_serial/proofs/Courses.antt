@@ -13,7 +13,7 @@ use Rattle.of_plan.proofs.SerialEntries.{length-replies}
 use Rattle.of_serial.specs.SerialRun.{HasComeTo, after_call, course_after, calls_within}
 use Rattle.of_serial.specs.declared.serial_run.SerialRun.{SerialRun as RustSerialRun}
 use Rattle.of_report.specs.declared.report.Report.{Report}
-use Rattle.of_report.specs.Report.{entry_value, line_value, report_value}
+use Rattle.of_report.specs.Report.{entry_value, report_value}
 use Rattle.std.specs.Prelude.{count_by}
 use Rattle.std.proofs.lemmas.List.Sums.{sum_by-append, sum_by-cons}
 use Rattle.std.proofs.lemmas.Bool.{eq-eqb, ne_eqb}
@@ -36,9 +36,6 @@ last_store_more : (s : Store) (scripts : List (List Instr)) (script : List Instr
 last_store_more s [] script = refl
 last_store_more s (first ∷ others) script = last_store_more (run s first).0 others script
 
-length-more : {X : Type 0} (xs : List X) (x : X) → length (xs ++ x ∷ []) ≡ length xs + 1
-length-more xs x = length-append xs (x ∷ [])
-
 -- one more call of a plan, with its script
 pub one_more_call : (p : Plan) (calls : List CallId) (call : CallId) → after_call (course_after p calls) call (called_script p call) ≡ course_after p (calls ++ call ∷ [])
 one_more_call p calls call =
@@ -52,7 +49,7 @@ one_more_call p calls call =
     ap (λ (m : ℕ). map serial_entry (enumerate_from 1 (zip calls (replies_in_order s scripts))) ++ serial_entry (m, (call, (run (last_store s scripts) script).1)) ∷ []) (sym place)
     ∙ sym (entries_more 1 calls (replies_in_order s scripts) call (run (last_store s scripts) script).1 each)
     ∙ ap (λ (t : List Reply). map serial_entry (enumerate_from 1 (zip (calls ++ call ∷ []) t))) (sym (replies_more s scripts script) ∙ ap (replies_in_order s) (sym more)) in
-    let seq : length calls + 1 ≡ length (calls ++ call ∷ []) = sym (length-more calls call) in
+    let seq : length calls + 1 ≡ length (calls ++ call ∷ []) = sym (length-append calls (call ∷ [])) in
     let store : (run (last_store s scripts) script).0 ≡ last_store s (map (called_script p) (calls ++ call ∷ [])) = sym (last_store_more s scripts script) ∙ ap (last_store s) (sym more) in
     λ i. record { entries = entries i; seq = seq i; store = store i }
 
@@ -194,7 +191,7 @@ lines_more p n =
 
 -- what was made caller by caller is the report
 pub report_made : (p : Plan) (run : RustSerialRun) (report : Report) → HasComeTo run (course_after p (serial_calls p))
-    → map line_value report.callers.items ≡ lines_below p p.callers
+    → report.callers.items ≡ lines_below p p.callers
     → report.entries.items ≡ run.entries.items → report.seq ≡ run.seq → report.store ≡ (course_after p (serial_calls p)).store → report_value report ≡ serial_report p
 report_made p run report has lines same_entries same_seq store =
     let entries = ap (map entry_value) same_entries ∙ has.entries in

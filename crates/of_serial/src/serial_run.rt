@@ -2,7 +2,7 @@
 
 ghost use Rattle.std.specs.Prelude.{◌≡◌, IfOk};
 ghost use Rattle.of_plan.specs.Serial.{serial_line, serial_report};
-ghost use Rattle.of_report.specs.Report.{line_value, report_value, HasWholeReplies};
+ghost use Rattle.of_report.specs.Report.{report_value, HasWholeReplies};
 
 mod cells;
 
@@ -65,7 +65,7 @@ impl SerialRun {
 
 // How a caller ended: it is done where each of its scripts has run.
 fn line(answered: u32, scripts: usize) -> Line
-    ensures { line_value result ≡ serial_line answered scripts }
+    ensures { result ≡ serial_line answered scripts }
 {
     let state = if answered as usize == scripts {
         EndState::Done

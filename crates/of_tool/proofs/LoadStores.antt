@@ -6,22 +6,13 @@ use Rattle.std.specs.FinMap as fm
 use Rattle.std.specs.FinMap.{get-empty, get-insert, len-empty, len-insert, same_map, nat_cmp-IsAntisymmetric}
 use Rattle.std.specs.Ordering.{nat_cmp, eq_by_cmp}
 use Rattle.std.specs.Cmp.{nat_cmp_total, eq_by_cmp_equiv}
-use Rattle.std.proofs.Common.{Ordering, Less, Equal, Greater}
-use Rattle.std.specs.Ordering.{is_eq}
 use Rattle.std.proofs.lemmas.Bool.Decides.{eqb_tells, leb_tells}
 use Rattle.std.proofs.lemmas.Grind.{get_or-set_at}
 use Rattle.of_script.specs.declared.instr.Instr.{Instr}
 use Rattle.of_script.specs.declared.instr.Instr.TheVariants.{Add, Put}
 use Rattle.of_store.specs.Store.{Store, register, stored_count, instr_effect, run, empty_store, with_register, with_key}
+use Rattle.of_store.proofs.Keeps.{nat_same}
 use Rattle.of_plan.specs.Generated.{load_script}
-
-is_equal : (r : Ordering) → is_eq r ≡ true → r ≡ Equal
-is_equal Less e = absurd cc
-is_equal Equal e = refl
-is_equal Greater e = absurd cc
-
-nat_same : (q k : ℕ) → eq_by_cmp nat_cmp q k ≡ true → q ≡ k
-nat_same q k e = nat_cmp-IsAntisymmetric q k (is_equal (nat_cmp q k) e)
 
 -- ---- what so many calls of a caller do
 

@@ -5,9 +5,10 @@ use Rattle.of_plan.specs.Plan.{Plan}
 use Rattle.of_plan.specs.BadLine.{HasBadLine}
 use Rattle.of_plan.specs.Report.{Report}
 use Rattle.of_plan.specs.Legal.{IsLegal}
+use Rattle.of_mem.specs.declared.work.TheConstants.{MOST_INSTRS}
 use Rattle.of_report.specs.ReportText.{report_text}
 use Rattle.of_report.specs.ImageRow.{DurableRow}
-use Rattle.of_report.specs.Image.{Image, start_of_image}
+use Rattle.of_report.specs.Image.{Image, IsImage, start_of_image}
 use Rattle.of_image.specs.declared.version.Version.TheVariants.{Two}
 use Rattle.of_image.specs.ImageText.{SpellsImage, IsImageText, image_text}
 use Rattle.of_image.specs.Parsed.{ReadsImage, IsUnlawful}
@@ -18,6 +19,8 @@ use Rattle.of_check.specs.Causes.{IsCauseFrom}
 use Rattle.of_check.specs.Ends.{EndsAt, BreaksLeft}
 use Rattle.of_tool.specs.declared.legal_life.LeftFault.{LeftFault}
 use Rattle.of_tool.specs.declared.legal_life.LeftFault.TheVariants.{Bad, Unlawful, NotPrinted}
+use Rattle.of_tool.specs.declared.legal_life.ReadLeft.{ReadLeft}
+use Rattle.of_tool.specs.declared.legal_life.ReadLeft.TheVariants.{Image as LeftImage, Fault}
 use Rattle.of_tool.specs.declared.legal_life.LifeCause.{LifeCause}
 use Rattle.of_tool.specs.declared.legal_life.LifeCause.TheVariants.{Told, Left, Ends}
 
@@ -52,6 +55,16 @@ abbrev pub IsLeftFault : List ℕ → LeftFault → Type 0
 IsLeftFault text (Bad line) = HasBadLine (IsImageText Two) text line
 IsLeftFault text (Unlawful cell) = IsUnlawful Two text cell
 IsLeftFault text NotPrinted = (i : Image) × ReadsImage Two text i × (IsPrinted text → ⊥)
+
+-- the text is the printed one of the image, or this is why not
+abbrev pub IsReadLeft : List ℕ → ReadLeft → Type 0
+IsReadLeft text (LeftImage i) = IsLeft text i
+IsReadLeft text (Fault fault) = IsLeftFault text fault
+
+-- what is read is an image, if it is not a fault
+abbrev pub HasLeftImage : ReadLeft → Type 0
+HasLeftImage (LeftImage i) = IsImage MOST_INSTRS i
+HasLeftImage (Fault fault) = Unit {0}
 
 -- the report is legal and the image is one, but it is not where the report ends
 pub record EndsElsewhere (i : Image) (p : Plan) (told left : List ℕ)

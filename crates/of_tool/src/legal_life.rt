@@ -1,13 +1,15 @@
 //! Whether a report and an image are those of a life that goes on from another image.
 
-ghost use Rattle.std.specs.Prelude.{IfOk, MatchOption, MatchResult};
+ghost use Rattle.std.specs.Prelude.{IfOk, MatchOption};
 ghost use Rattle.of_mem.specs.declared.work.TheConstants.{MOST_INSTRS};
 ghost use Rattle.of_plan.specs.Plan.{IsPlan};
 ghost use Rattle.of_report.specs.Image.{IsImage};
 ghost use Rattle.of_lives.specs.Images.{PlanFitsImage};
-ghost use Rattle.of_tool.specs.Lives.{IsLeft, IsLeftFault, IsLegalLife, IsLifeVerdict, IsLifeCause};
+ghost use Rattle.of_tool.specs.Lives.{IsReadLeft, HasLeftImage, IsLegalLife, IsLifeVerdict, IsLifeCause};
 
-use of_check::{Cause, LeftRule, Start, Verdict, read_report, report_or_cause, tickets, why_left};
+use of_check::{
+    Cause, Judgement, LeftRule, Start, Verdict, read_report, report_or_cause, tickets, why_left,
+};
 use of_image::laws::unlawful_have_none;
 use of_image::{ImageErr, image_again, image_parse};
 use of_plan::Plan;
@@ -37,27 +39,36 @@ pub enum LifeCause {
     Ends(LeftRule),
 }
 
+// What is read of the text after a report.
+#[derive(Drop)]
+enum ReadLeft {
+    // It is the printed one of this image.
+    Image(Image),
+    // It is none of an image, and this is why.
+    Fault(LeftFault),
+}
+
 // The image of a printed text, or why it has none.
-fn read_left(alloc: Global, text: &[u8]) -> Result<Result<Image, LeftFault>, AllocError>
-    ensures read { IfOk result (λ read. MatchResult read
-        (λ image. IsLeft text.now image) (IsLeftFault text.now)) }
-    ensures image { IfOk result (λ read.
-        IfOk read (λ image. IsImage MOST_INSTRS image)) }
+fn read_left(alloc: Global, text: &[u8]) -> Result<ReadLeft, AllocError>
+    ensures read { IfOk result (IsReadLeft text.now) }
+    ensures image { IfOk result HasLeftImage }
 {
     let image = match image_parse(alloc, text) {
         Ok(image) => image,
         Err(ImageErr::Memory) => return Err(AllocError),
-        Err(ImageErr::Bad { line }) => return Ok(Err(LeftFault::Bad { line })),
-        Err(ImageErr::Unlawful { cell }) => return Ok(Err(LeftFault::Unlawful { cell })),
+        Err(ImageErr::Bad { line }) => return Ok(ReadLeft::Fault(LeftFault::Bad { line })),
+        Err(ImageErr::Unlawful { cell }) => {
+            return Ok(ReadLeft::Fault(LeftFault::Unlawful { cell }));
+        }
     };
     let again = match image_again(alloc, text) {
         Ok(again) => again,
         Err(_) => return Err(AllocError),
     };
     if again.as_slice() != text {
-        return Ok(Err(LeftFault::NotPrinted));
+        return Ok(ReadLeft::Fault(LeftFault::NotPrinted));
     }
-    Ok(Ok(image))
+    Ok(ReadLeft::Image(image))
 }
 
 // A plan is within its ranges.
@@ -88,7 +99,7 @@ pub fn check_life(
     let Some(report) = read_report(alloc, plan, start, told)? else {
         return Ok(Verdict::Illegal);
     };
-    let Ok(next) = read_left(alloc, left)? else {
+    let ReadLeft::Image(next) = read_left(alloc, left)? else {
         return Ok(Verdict::Illegal);
     };
     match why_left(plan, &done, &report, &next) {
@@ -115,12 +126,12 @@ pub fn why_life(
     let done = tickets(alloc, &image)?;
     let start = Start::behind(alloc, image)?;
     let report = match report_or_cause(alloc, plan, start, told)? {
-        Ok(report) => report,
-        Err(cause) => return Ok(Some(LifeCause::Told(cause))),
+        Judgement::Legal(report) => report,
+        Judgement::Illegal(cause) => return Ok(Some(LifeCause::Told(cause))),
     };
     let next = match read_left(alloc, left)? {
-        Ok(next) => next,
-        Err(fault) => return Ok(Some(LifeCause::Left(fault))),
+        ReadLeft::Image(next) => next,
+        ReadLeft::Fault(fault) => return Ok(Some(LifeCause::Left(fault))),
     };
     match why_left(plan, &done, &report, &next) {
         None => Ok(None),

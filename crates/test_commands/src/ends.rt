@@ -13,14 +13,14 @@ fn read(
     piece: usize,
     fails: &[u64],
     limit: usize,
-) -> Result<Result<Vec<u8>, ReadErr>, Fail>
+) -> Result<Vec<u8>, ReadErr>
     requires piece { 0 < piece }
     requires limit { limit ≤ MOST_LIMIT }
 {
     let bytes = Vec::from_slice(alloc, bytes.as_bytes())?;
     let fails = Vec::from_slice(alloc, fails)?;
     let mut source = MemSource::new(bytes, piece, fails);
-    Ok(read_all(alloc, &mut source, limit))
+    read_all(alloc, &mut source, limit)
 }
 
 #[test]
@@ -34,7 +34,7 @@ fn reads_to_the_end(rt: HostRuntime) -> Result<(), Fail> {
     for (bytes, piece, limit) in rows {
         assert!(rt; piece > 0 && limit <= MOST_LIMIT);
         let read = read(rt.alloc(), bytes, piece, &[], limit)?;
-        assert_eq!(rt; read?.as_slice(), bytes.as_bytes(), "{bytes} by {piece}");
+        assert_eq!(rt; read.as_slice(), bytes.as_bytes(), "{bytes} by {piece}");
     }
     Ok(())
 }
@@ -51,7 +51,7 @@ fn refuses_to_read(rt: HostRuntime) -> Result<(), Fail> {
     ];
     for (piece, fail, limit, error) in rows {
         assert!(rt; piece > 0 && limit <= MOST_LIMIT);
-        let read = read(rt.alloc(), "abc", piece, &[fail], limit)?;
+        let read = read(rt.alloc(), "abc", piece, &[fail], limit);
         assert_eq!(rt; read.err(), Some(error), "by {piece} to {limit}");
     }
     Ok(())

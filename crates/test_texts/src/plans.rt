@@ -1,18 +1,18 @@
 //! Plans that are read and printed, the lines at which texts are refused, and plans of loads.
 
-ghost use Rattle.std.specs.Prelude.{◌≡◌, IfOk, MatchResult};
+ghost use Rattle.std.specs.Prelude.{◌≡◌, MatchResult};
 ghost use Rattle.of_plan.specs.declared.parser.PlanErr.TheVariants.{Memory};
 
 use of_plan::{Plan, PlanErr, generate, parse, print};
-use std::alloc::{AllocError, Global};
+use std::alloc::Global;
 use std::test::Fail;
 
 // What the contracts of `print` and `parse` give together: the same plan, unless memory runs out.
-fn printed_and_read(alloc: Global, plan: &Plan) -> Result<Result<Plan, PlanErr>, AllocError>
-    ensures { IfOk result (λ again. MatchResult again (λ p. p ≡ plan.now) (λ e. e ≡ Memory)) }
+fn printed_and_read(alloc: Global, plan: &Plan) -> Result<Plan, PlanErr>
+    ensures { MatchResult result (λ p. p ≡ plan.now) (λ e. e ≡ Memory) }
 {
     let text = print(alloc, plan)?;
-    Ok(parse(alloc, &text))
+    parse(alloc, &text)
 }
 
 // The line that is named, where the text is no plan.
@@ -123,7 +123,7 @@ end
         let plan = parse(rt.alloc(), text.as_bytes())?;
         let out = print(rt.alloc(), &plan)?;
         assert_eq!(rt; out.as_slice(), printed.as_bytes());
-        let again = printed_and_read(rt.alloc(), &plan)??;
+        let again = printed_and_read(rt.alloc(), &plan)?;
         let out = print(rt.alloc(), &again)?;
         assert_eq!(rt; out.as_slice(), printed.as_bytes());
     }

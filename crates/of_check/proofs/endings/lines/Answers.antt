@@ -1,8 +1,6 @@
-use Rattle.std.proofs.Common.{◌≡◌, ℕ, ◌-◌, inl, inr, [], ◌∷◌, ◌++◌, length, get_or, map, sym, ap, ◌∙◌, subst, zero-add, arith}
+use Rattle.std.proofs.Common.{◌≡◌, ℕ, ◌-◌, inl, inr, [], ◌∷◌, ◌++◌, length, get_or, sym, ap, ◌∙◌, subst, zero-add, arith}
 use Rattle.std.proofs.lemmas.Bool.Decides.{eqb_tells}
-use Rattle.std.proofs.lemmas.List.{map-append}
 use Rattle.std.proofs.lemmas.List.FromFn.{map-range_with_len_more}
-use Rattle.of_report.specs.Report.{line_value}
 use Rattle.of_check.specs.Endings.{left_of, IsEnding, claimed_line, end_at, claimed_line_at}
 use Rattle.of_check.proofs.endings.lines.Goals as goal
 
@@ -23,7 +21,7 @@ loop-caller-preserved c =
         | inr other ↦ c.loop-caller.invariant.each k (omega (arith, lt, other.1))
       ];
       lines =
-          ap (map line_value) c.in_ok-push.ensures.items ∙ map-append line_value c.loop-caller.lines.items (_ ∷ [])
+          c.in_ok-push.ensures.items
           ∙ (λ i. c.loop-caller.invariant.lines i ++ record { state = (line_is caller).state; answered = (line_is caller).answered; entries = entries i; longest = c.from.ensures i } ∷ [])
           ∙ sym (map-range_with_len_more line_is 0 caller caller (zero-add caller));
     }

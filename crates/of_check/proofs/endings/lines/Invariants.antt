@@ -1,6 +1,5 @@
 use Rattle.std.proofs.Common.{◌≡◌, ℕ, ◌<◌, map}
 use Rattle.std.specs.List.{range_with_len}
-use Rattle.of_report.specs.Report.{line_value}
 use Rattle.of_check.specs.Endings.{left_of, IsEnding, claimed_line_at}
 use Rattle.of_check.proofs.endings.lines.Given as goal
 
@@ -8,5 +7,5 @@ use Rattle.of_check.proofs.endings.lines.Given as goal
 abbrev pub invariant-loop-caller : goal.invariant-loop-caller
 invariant-loop-caller l = record {
   each : (k : ℕ) → k < l.caller → IsEnding l.plan (left_of l.plan l.done k) l.seq (claimed_line_at l.done l.counts l.ends k);
-  lines : map line_value l.lines.items ≡ map (claimed_line_at l.done l.counts l.ends) (range_with_len 0 l.caller);
+  lines : l.lines.items ≡ map (claimed_line_at l.done l.counts l.ends) (range_with_len 0 l.caller);
 }

@@ -1,6 +1,5 @@
-use Rattle.std.proofs.Common.{◌≡◌, ℕ, List, get_or, map, sym, ◌∙◌, arith}
+use Rattle.std.proofs.Common.{◌≡◌, get_or, map, sym, ◌∙◌, arith}
 use Rattle.of_report.specs.Report.{entry_value, report_value}
-use Rattle.of_report.specs.Image.{image_ticket}
 use Rattle.of_check.specs.Ends.{ticket_behind, ticket_after}
 use Rattle.of_check.proofs.Own.{own}
 use Rattle.of_check.proofs.ends.wrong_ticket.Goals as goal

@@ -1,4 +1,4 @@
-use Rattle.std.proofs.Common.{◌≡◌, List, ℕ, ◌∷◌, [], sym, ap, ◌∙◌, arith}
+use Rattle.std.proofs.Common.{List, ℕ, ◌∷◌, [], sym, ap, ◌∙◌, arith}
 use Rattle.of_plan.specs.Lines.{text_lines}
 use Rattle.of_plan.proofs.BadLine.{cut_first}
 use Rattle.of_plan.proofs.LinesAt.{after_next}

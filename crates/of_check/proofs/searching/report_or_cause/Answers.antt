@@ -1,5 +1,4 @@
-use Rattle.std.proofs.Common.{◌≡◌, List, ℕ, map, sym, ap, subst, ◌∙◌, length, arith}
-use Rattle.of_report.specs.Report.{line_value}
+use Rattle.std.proofs.Common.{◌≡◌, List, ap, subst, ◌∙◌, length}
 use Rattle.of_check.specs.declared.claims.CallClaim.{CallClaim}
 use Rattle.of_check.specs.Starts.{start_of}
 use Rattle.of_check.specs.Replay.{HasRunCalls}
@@ -12,14 +11,14 @@ first_end-requires-clause-done c = ap length (c.deref-3.ensures.value ∙ c.in_o
 
 pub first_end-requires-clause-counts : goal.first_end-requires-clause-counts
 first_end-requires-clause-counts c =
-    ap length c.deref-4.ensures.value ∙ counts_wide c.args.plan.now (start_of c.args.start) c.requires c.deref-2.result.now c.in_ok-claims.claims.ends.items c.in-Ok.replay (rw c.in-Ok.is at c.in_ok-replay.ensures)
+    ap length c.deref-4.ensures.value ∙ counts_wide c.args.plan.now (start_of c.args.start) c.requires c.deref-2.result.now c.in_ok-claims.claims.ends.items c.in-AllRan.replay (rw c.in-AllRan.is at c.in_ok-replay.ensures)
 
 pub lines-requires-clause-done : goal.lines-requires-clause-done
 lines-requires-clause-done c = ap length (c.deref-6.ensures.value ∙ c.in_ok-done.ensures.items ∙ c.deref.ensures.value) ∙ c.requires
 
 pub lines-requires-clause-counts : goal.lines-requires-clause-counts
 lines-requires-clause-counts c =
-    ap length c.deref-7.ensures.value ∙ counts_wide c.args.plan.now (start_of c.args.start) c.requires c.deref-2.result.now c.in_ok-claims.claims.ends.items c.in-Ok.replay (rw c.in-Ok.is at c.in_ok-replay.ensures)
+    ap length c.deref-7.ensures.value ∙ counts_wide c.args.plan.now (start_of c.args.start) c.requires c.deref-2.result.now c.in_ok-claims.claims.ends.items c.in-AllRan.replay (rw c.in-AllRan.is at c.in_ok-replay.ensures)
 
 pub returns-in-None : goal.returns-in-None
 returns-in-None c =
@@ -27,10 +26,10 @@ returns-in-None c =
     let s = start_of c.args.start in
     let calls = c.in_ok-claims.claims.calls.items in
     let ends = c.in_ok-claims.claims.ends.items in
-    let replay = c.in-Ok.replay in
-    let lines = map line_value c.in-Some-2.callers.items in
+    let replay = c.in-AllRan.replay in
+    let lines = c.in-Some-2.callers.items in
     let done : c.deref-6.result.now ≡ s.finished = c.deref-6.ensures.value ∙ c.in_ok-done.ensures.items ∙ c.deref.ensures.value in
-    let took = subst (λ (qs : List CallClaim). HasRunCalls p s qs replay) c.deref-2.ensures.value (rw c.in-Ok.is at c.in_ok-replay.ensures) in
+    let took = subst (λ (qs : List CallClaim). HasRunCalls p s qs replay) c.deref-2.ensures.value (rw c.in-AllRan.is at c.in_ok-replay.ensures) in
     let are = rw c.in-Some-2.is at c.in_ok-callers.ensures in
     let is = is_claimed p s c.requires calls ends replay took lines
     (lines_moved p replay.last.seq c.deref-6.result.now s.finished c.deref-7.result.now replay.counts.items c.deref-8.result.now ends lines done c.deref-7.ensures.value c.deref-8.ensures.value are) in
@@ -42,10 +41,10 @@ returns c =
     let s = start_of c.args.start in
     let calls = c.in_ok-claims.claims.calls.items in
     let ends = c.in_ok-claims.claims.ends.items in
-    let replay = c.in-Ok.replay in
-    let lines = map line_value c.in-Some-2.callers.items in
+    let replay = c.in-AllRan.replay in
+    let lines = c.in-Some-2.callers.items in
     let done : c.deref-6.result.now ≡ s.finished = c.deref-6.ensures.value ∙ c.in_ok-done.ensures.items ∙ c.deref.ensures.value in
-    let took = subst (λ (qs : List CallClaim). HasRunCalls p s qs replay) c.deref-2.ensures.value (rw c.in-Ok.is at c.in_ok-replay.ensures) in
+    let took = subst (λ (qs : List CallClaim). HasRunCalls p s qs replay) c.deref-2.ensures.value (rw c.in-AllRan.is at c.in_ok-replay.ensures) in
     let are = rw c.in-Some-2.is at c.in_ok-callers.ensures in
     let is = is_claimed p s c.requires calls ends replay took lines
     (lines_moved p replay.last.seq c.deref-6.result.now s.finished c.deref-7.result.now replay.counts.items c.deref-8.result.now ends lines done c.deref-7.ensures.value c.deref-8.ensures.value are) in

@@ -8,17 +8,17 @@ use Rattle.of_check.specs.Causes.{IsCauseFrom}
 use Rattle.of_check.proofs.Verdicts.{to_empty}
 use Rattle.of_check.proofs.searching.why.Goals as goal
 
-pub returns-in-Ok : goal.returns-in-Ok
-returns-in-Ok c =
+pub returns-in-Legal : goal.returns-in-Legal
+returns-in-Legal c =
     let p = c.args.plan.now in
     let text = c.args.text.now in
     let start : start_of c.in_ok-start.start ≡ empty_start p = c.in_ok-start.ensures ∙ (λ i. start_where_done 0 (replicate (c.callers.ensures.value i) 0) (empty_store (c.blocks-2.ensures.value i))) in
-    let report = report_value c.in-Ok.field-0 in
-    to_empty p text (record { report = report; of_it = subst (λ (s : Start). IsTextOf p s text report) start (rw c.in-Ok.is at c.in_ok-report_or_cause.ensures) })
+    let report = report_value c.in-Legal.field-0 in
+    to_empty p text (record { report = report; of_it = subst (λ (s : Start). IsTextOf p s text report) start (rw c.in-Legal.is at c.in_ok-report_or_cause.ensures) })
 
 pub returns : goal.returns
 returns c =
     let p = c.args.plan.now in
     let text = c.args.text.now in
     let start : start_of c.in_ok-start.start ≡ empty_start p = c.in_ok-start.ensures ∙ (λ i. start_where_done 0 (replicate (c.callers.ensures.value i) 0) (empty_store (c.blocks-2.ensures.value i))) in
-    subst (λ (s : Start). IsCauseFrom p s text c.in-Err.cause) start (rw c.in-Err.is at c.in_ok-report_or_cause.ensures)
+    subst (λ (s : Start). IsCauseFrom p s text c.in-Illegal.cause) start (rw c.in-Illegal.is at c.in_ok-report_or_cause.ensures)

@@ -1,6 +1,3 @@
-use Rattle.std.proofs.Common.{Option, subst}
-use Rattle.std.specs.Option.{MatchOption}
-use Rattle.of_report.specs.declared.report.Report.{Report as TheReport}
 use Rattle.of_check.specs.Starts.{start_of}
 use Rattle.of_check.proofs.Verdicts.{verdict_from}
 use Rattle.of_check.proofs.verdict.check_from.Goals as goal

@@ -1,5 +1,4 @@
-use Rattle.std.proofs.Common.{◌≡◌, List, ℕ, map, ap, sym, ◌∙◌, subst, length}
-use Rattle.of_report.specs.Report.{line_value}
+use Rattle.std.proofs.Common.{◌≡◌, List, ap, sym, ◌∙◌, subst, length}
 use Rattle.of_check.specs.declared.claims.CallClaim.{CallClaim}
 use Rattle.of_check.specs.Starts.{start_of}
 use Rattle.of_check.specs.Replay.{replay_at_start, AllFollow, HasRunCalls}
@@ -40,7 +39,7 @@ returns c =
     let calls = c.args.claims.now.calls.items in
     let ends = c.args.claims.now.ends.items in
     let replay = c.in-Some.replay in
-    let lines = map line_value c.in-Some-2.callers.items in
+    let lines = c.in-Some-2.callers.items in
     let done : c.deref-3.result.now ≡ s.finished = c.deref-3.ensures.value ∙ c.in_ok-done.ensures.items ∙ c.deref.ensures.value in
     let took = subst (λ (qs : List CallClaim). HasRunCalls p s qs replay) c.deref-2.ensures.value (rw c.in-Some.is at c.in_ok-replay.ensures) in
     let are = rw c.in-Some-2.is at c.in_ok-callers.ensures in

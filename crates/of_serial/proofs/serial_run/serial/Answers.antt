@@ -1,8 +1,6 @@
-use Rattle.std.proofs.Common.{◌≡◌, ◌++◌, List, ℕ, [], ◌∷◌, length, map, ap, subst, ◌∙◌, sym, refl, arith}
-use Rattle.std.proofs.lemmas.List.{map-append}
+use Rattle.std.proofs.Common.{◌≡◌, ◌++◌, List, ℕ, [], ◌∷◌, length, ap, subst, ◌∙◌, sym, refl, arith}
 use Rattle.of_plan.specs.Plan.{scripts_of}
 use Rattle.of_plan.specs.Serial.{CallId, serial_calls, serial_line}
-use Rattle.of_report.specs.Report.{line_value}
 use Rattle.of_serial.specs.SerialRun.{HasComeTo, course_after, calls_within}
 use Rattle.of_serial.proofs.Courses.{run_below, lines_below, one_more_caller, lines_more, report_made}
 use Rattle.of_serial.proofs.serial_run.serial.Goals as goal
@@ -13,7 +11,7 @@ loop-caller-preserved c =
     let n : ℕ = c.loop-caller.caller in
     let calls : List CallId = run_below p n in
     let seq : c.loop-caller.run.seq ≡ length calls = c.loop-caller.invariant.runs.seq in
-    let line : line_value c.line.result ≡ serial_line (length (calls_within p (length calls) n)) (length (scripts_of p n)) =
+    let line : c.line.result ≡ serial_line (length (calls_within p (length calls) n)) (length (scripts_of p n)) =
     c.line.ensures ∙ ap (λ (m : ℕ). serial_line m (length c.scripts.result.now)) (c.in_ok-answered.ensures.count ∙ ap (λ (m : ℕ). length (calls_within p m n)) seq)
     ∙ ap (λ (m : ℕ). serial_line (length (calls_within p (length calls) n)) m) (ap length c.scripts.ensures.value) in
     record {
@@ -22,7 +20,7 @@ loop-caller-preserved c =
           (ap (λ (m : ℕ). course_after p (calls ++ calls_within p m n)) seq ∙ ap (course_after p) (one_more_caller p n))
           (c.in_ok-answered.ensures.runs calls c.loop-caller.invariant.runs);
       lines =
-          ap (map line_value) c.in_ok-push.ensures.items ∙ map-append line_value c.loop-caller.callers.items (c.line.result ∷ [])
+          c.in_ok-push.ensures.items
           ∙ (λ i. c.loop-caller.invariant.lines i ++ line i ∷ [])
           ∙ sym (lines_more p n);
     }

@@ -27,11 +27,11 @@ returns-in-None c =
     let i = c.args.image in
     let done : (start_of_image i).finished ≡ c.deref.result.now = sym (c.deref.ensures.value ∙ c.in_ok-done.ensures) in
     is_life i c.args.plan.now c.args.told.now c.args.left.now (start_at c.in_ok-start.start) c.in_ok-start.ensures
-    (report_value c.in-Some.report) (rw c.in-Some.is at c.in_ok-report.ensures) c.in-Ok.next (rw c.in-Ok.is at c.in_ok-next.ensures.read) (c.in-None.ensures (start_of_image i) done)
+    (report_value c.in-Some.report) (rw c.in-Some.is at c.in_ok-report.ensures) c.in-Image.next (rw c.in-Image.is at c.in_ok-next.ensures.read) (c.in-None.ensures (start_of_image i) done)
 
 pub returns : goal.returns
 returns c =
     let i = c.args.image in
     let done : (start_of_image i).finished ≡ c.deref.result.now = sym (c.deref.ensures.value ∙ c.in_ok-done.ensures) in
     no_life i c.args.plan.now c.args.told.now c.args.left.now (start_at c.in_ok-start.start) c.in_ok-start.ensures c.one_report.ensures c.in_range.ensures c.requires.fits
-    (report_value c.in-Some.report) (rw c.in-Some.is at c.in_ok-report.ensures) c.in-Ok.next (rw c.in-Ok.is at c.in_ok-next.ensures.read) _ (c.in-Some-why_left.ensures (start_of_image i) done)
+    (report_value c.in-Some.report) (rw c.in-Some.is at c.in_ok-report.ensures) c.in-Image.next (rw c.in-Image.is at c.in_ok-next.ensures.read) _ (c.in-Some-why_left.ensures (start_of_image i) done)

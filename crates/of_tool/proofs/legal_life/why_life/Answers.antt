@@ -13,15 +13,15 @@ pub why_left-requires-clause-done : goal.why_left-requires-clause-done
 why_left-requires-clause-done c = ap length (c.deref.ensures.value ∙ c.in_ok-done.ensures) ∙ done_long c.args.image c.args.plan.now c.requires.fits
 
 -- there is no report, and this is why
-pub returns-in-Err : goal.returns-in-Err
-returns-in-Err c =
-    told_cause c.args.image c.args.plan.now c.args.told.now c.args.left.now (start_at c.in_ok-start.start) c.in_ok-start.ensures c.in-Err.cause (rw c.in-Err.is at c.in_ok-report.ensures)
+pub returns-in-Illegal : goal.returns-in-Illegal
+returns-in-Illegal c =
+    told_cause c.args.image c.args.plan.now c.args.told.now c.args.left.now (start_at c.in_ok-start.start) c.in_ok-start.ensures c.in-Illegal.cause (rw c.in-Illegal.is at c.in_ok-report.ensures)
 
 -- the text behind it is none of an image
-pub returns-in-Err-2 : goal.returns-in-Err-2
-returns-in-Err-2 c = (
-  told_report c.args.image c.args.plan.now c.args.told.now c.args.left.now (start_at c.in_ok-start.start) c.in_ok-start.ensures (report_value c.in-Ok.report) (rw c.in-Ok.is at c.in_ok-report.ensures),
-  rw c.in-Err-2.is at c.in_ok-next.ensures.read,
+pub returns-in-Fault : goal.returns-in-Fault
+returns-in-Fault c = (
+  told_report c.args.image c.args.plan.now c.args.told.now c.args.left.now (start_at c.in_ok-start.start) c.in_ok-start.ensures (report_value c.in-Legal.report) (rw c.in-Legal.is at c.in_ok-report.ensures),
+  rw c.in-Fault.is at c.in_ok-next.ensures.read,
 )
 
 -- both are there, and the report ends in the image or elsewhere
@@ -30,11 +30,11 @@ returns-in-None c =
     let i = c.args.image in
     let done : (start_of_image i).finished ≡ c.deref.result.now = sym (c.deref.ensures.value ∙ c.in_ok-done.ensures) in
     is_life i c.args.plan.now c.args.told.now c.args.left.now (start_at c.in_ok-start.start) c.in_ok-start.ensures
-    (report_value c.in-Ok.report) (rw c.in-Ok.is at c.in_ok-report.ensures) c.in-Ok-2.next (rw c.in-Ok-2.is at c.in_ok-next.ensures.read) (c.in-None.ensures (start_of_image i) done)
+    (report_value c.in-Legal.report) (rw c.in-Legal.is at c.in_ok-report.ensures) c.in-Image.next (rw c.in-Image.is at c.in_ok-next.ensures.read) (c.in-None.ensures (start_of_image i) done)
 
 pub returns : goal.returns
 returns c =
     let i = c.args.image in
     let done : (start_of_image i).finished ≡ c.deref.result.now = sym (c.deref.ensures.value ∙ c.in_ok-done.ensures) in
     is_elsewhere i c.args.plan.now c.args.told.now c.args.left.now (start_at c.in_ok-start.start) c.in_ok-start.ensures
-    (report_value c.in-Ok.report) (rw c.in-Ok.is at c.in_ok-report.ensures) c.in-Ok-2.next (rw c.in-Ok-2.is at c.in_ok-next.ensures.read) c.in-Some.rule (c.in-Some.ensures (start_of_image i) done)
+    (report_value c.in-Legal.report) (rw c.in-Legal.is at c.in_ok-report.ensures) c.in-Image.next (rw c.in-Image.is at c.in_ok-next.ensures.read) c.in-Some.rule (c.in-Some.ensures (start_of_image i) done)
