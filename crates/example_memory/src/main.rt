@@ -2,6 +2,7 @@
 #![tactic(auto)]
 
 ghost use Rattle.std.specs.Prelude.{IfOk};
+ghost use Rattle.of_memory.specs.Memories.{IsMemory};
 ghost use Rattle.of_memory.specs.Saving.{IsSaved};
 
 use anyhow::Result;
@@ -41,15 +42,20 @@ fn show(rt: &impl Print, alloc: Global, saved: &Saved) -> Result<()>
     Ok(())
 }
 
-// Four hands work at once, the third for six steps. Then the first one adds again, and finishes the
-// call that was stopped.
-fn first_day<R: Threads + Sync>(rt: &R, alloc: Global) -> Result<Saved>
-    ensures { IfOk result IsSaved }
-{
+// Four hands, of which the third is stopped six steps into its call.
+fn four_hands(alloc: Global) -> Result<Vec<Hand>> {
     let mut hands = Vec::new(alloc);
     for number in 0..4 {
         hands.push(new_hand(alloc, number, if number == 2 { 6 } else { u64::MAX })?)?;
     }
+    Ok(hands)
+}
+
+// The hands work at once. Then the first one adds again, and finishes the call that was stopped.
+fn first_day<R: Threads + Sync>(rt: &R, alloc: Global) -> Result<Saved>
+    ensures { IfOk result IsSaved }
+{
+    let mut hands = four_hands(alloc)?;
     let mut memory = Memory::open(alloc, 4, 8, GREATEST_LIMIT)?;
     memory.at_once(rt, &mut hands)?;
     hands.truncate(1);
@@ -57,17 +63,24 @@ fn first_day<R: Threads + Sync>(rt: &R, alloc: Global) -> Result<Saved>
     Ok(memory.close()?)
 }
 
-// The third hand adds again, in a memory that goes on from an image.
+// The third hand adds again.
+fn add_again(alloc: Global, mut memory: Memory) -> Result<Saved>
+    requires { IsMemory memory }
+    ensures { IfOk result IsSaved }
+{
+    let mut third = memory.enrol(2)?;
+    third.run(&new_hand(alloc, 2, u64::MAX)?.script)?;
+    third.leave(&mut memory);
+    Ok(memory.close()?)
+}
+
+// It does so in a memory that goes on from an image.
 fn second_day(alloc: Global, image: &[u8]) -> Result<Saved>
     ensures { IfOk result IsSaved }
 {
     let saved = Saved::from_image(alloc, image)?;
     let saved = saved.renumbered().with_limit(1_000)?;
-    let mut memory = Memory::reopen(alloc, &saved)?;
-    let mut third = memory.enrol(2)?;
-    third.run(&new_hand(alloc, 2, u64::MAX)?.script)?;
-    third.leave(&mut memory);
-    Ok(memory.close()?)
+    add_again(alloc, Memory::reopen(alloc, &saved)?)
 }
 
 fn main(rt: HostRuntime) -> Result<()> {

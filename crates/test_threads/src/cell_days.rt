@@ -8,6 +8,7 @@ ghost use Rattle.of_cells.specs.Handles.{IsCellHandle, IsSame};
 ghost use Rattle.of_cells.specs.Memories.{IsCellMemory};
 ghost use Rattle.of_cells.specs.Saving.{IsSavedCells};
 
+use crate::cell_calls::{closed, enrolled, gone_on, gone_on_within, left, ran_within};
 use of_cell::GREATEST_LIMIT;
 use of_cells::{CellHandle, CellMemory, RunErr, SavedCells};
 use of_eval::Scripts;
@@ -19,7 +20,7 @@ use std::test::Fail;
 /// The handle's call may make three steps, then two more, and then as many as it needs. What it was
 /// stopped at, and the first number of its reply.
 fn stop_twice(
-    mut handle: CellHandle<Scripts>,
+    handle: CellHandle<Scripts>,
     op: &[u64],
 ) -> Result<(CellHandle<Scripts>, [Option<RunErr>; 2], u32), RunErr>
     requires handle { IsCellHandle scripts_meaning handle }
@@ -28,15 +29,15 @@ fn stop_twice(
     ensures handle { IfOk result (λ r. IsCellHandle scripts_meaning r.0) }
     ensures same { IfOk result (λ r. IsSame handle r.0) }
 {
-    let first = handle.run_within(op, 3).err();
-    let second = handle.go_on_within(2).err();
-    let answer = handle.go_on()?;
-    Ok((handle, [first, second], answer.raw.values[0]))
+    let (handle, first) = ran_within(handle, op, 3);
+    let (handle, second) = gone_on_within(handle, 2);
+    let (handle, sum) = gone_on(handle)?;
+    Ok((handle, [first, second], sum))
 }
 
 /// One caller's call on a memory, and what is saved.
 fn day_on(
-    mut memory: CellMemory<Scripts>,
+    memory: CellMemory<Scripts>,
 ) -> Result<([Option<RunErr>; 2], u32, SavedCells<Scripts>), Fail>
     requires { IsCellMemory scripts_meaning memory }
     ensures { IfOk result (λ r. IsSavedCells
@@ -44,10 +45,9 @@ fn day_on(
 {
     let mut words = [0; MOST_INSTRS];
     let count = to_words(&parse(b"add 1 5")?, &mut words) as usize;
-    let handle = memory.enrol(1)?;
+    let (memory, handle) = enrolled(memory, 1)?;
     let (handle, stops, sum) = stop_twice(handle, &words[..count])?;
-    handle.leave(&mut memory);
-    Ok((stops, sum, memory.close()?))
+    Ok((stops, sum, closed(left(memory, handle))?))
 }
 
 /// What register 1 holds, in its cell behind the own cells of two callers, and how many calls each

@@ -4,23 +4,22 @@ ghost use Rattle.std.specs.Prelude.{IfOk};
 ghost use Rattle.of_memory.specs.Memories.{IsMemory};
 ghost use Rattle.of_memory.specs.Saving.{IsSaved};
 
+use crate::memory_calls::{closed, enrolled, left, ran, ran_within};
 use of_memory::{GREATEST_LIMIT, Memory, RunErr, Saved, parse};
 use std::alloc::Global;
 use std::test::Fail;
 
 /// Two callers. The second one's call may make so many steps; then the first one makes a call. What
 /// came of the second one's call, and what is saved.
-pub(crate) fn day_on(mut memory: Memory, steps: u64) -> Result<(Option<RunErr>, Saved), Fail>
+pub(crate) fn day_on(memory: Memory, steps: u64) -> Result<(Option<RunErr>, Saved), Fail>
     requires { IsMemory memory }
     ensures { IfOk result (λ r. IsSaved r.1) }
 {
-    let mut second = memory.enrol(1)?;
-    let came = second.run_within(&parse(b"add 1 5")?, steps).err();
-    second.leave(&mut memory);
-    let mut first = memory.enrol(0)?;
-    first.run(&parse(b"add 0 1")?)?;
-    first.leave(&mut memory);
-    Ok((came, memory.close()?))
+    let (memory, second) = enrolled(memory, 1)?;
+    let (second, came) = ran_within(second, &parse(b"add 1 5")?, steps);
+    let (memory, first) = enrolled(left(memory, second), 0)?;
+    let first = ran(first, &parse(b"add 0 1")?)?;
+    Ok((came, closed(left(memory, first))?))
 }
 
 /// What registers 0 and 1 hold, and how many calls each caller has made.

@@ -1,26 +1,41 @@
 //! News between two threads that work on one memory.
 
+ghost use Rattle.std.specs.Prelude.{◌≡◌, IfOk};
 ghost use Rattle.of_memory.specs.Handles.{IsHandle, IsSame, home_of};
+ghost use Rattle.of_memory.specs.Memories.{IsFrom, IsMemory};
 ghost use Rattle.of_memory.specs.Telling.{IsNews};
 
-use of_memory::{GREATEST_LIMIT, Handle, Memory, News, Script, parse};
+use crate::memory_calls::{closed, enrolled, first_value, left};
+use of_memory::{GREATEST_LIMIT, Handle, Memory, News, RunErr, Script, parse};
+use std::alloc::Global;
 use std::test::Fail;
 use std::thread::{Threads, join};
 
-/// A call, and what it answers to the script's first instruction.
-fn first_value(mut handle: Handle, script: &Script) -> (Handle, Option<u32>)
-    requires { IsHandle handle }
-    ensures handle { IsHandle result.0 }
-    ensures same { IsSame handle result.0 }
+/// A memory that is new, and its two handles.
+fn two_handles(alloc: Global) -> Result<(Memory, Handle, Handle), Fail>
+    ensures memory { IfOk result (λ r. IsMemory r.0) }
+    ensures first { IfOk result (λ r. IsHandle r.1 × IsFrom r.0 r.1) }
+    ensures second { IfOk result (λ r. IsHandle r.2 × IsFrom r.0 r.2) }
 {
-    let value = match handle.run(script) {
-        Ok(answer) => answer.reply.values[0],
-        Err(_) => None,
-    };
-    (handle, value)
+    let memory = Memory::open(alloc, 2, 0, GREATEST_LIMIT)?;
+    let (memory, first) = enrolled(memory, 0)?;
+    let (memory, second) = enrolled(memory, 1)?;
+    Ok((memory, first, second))
 }
 
-/// The same of a handle that hears the news first.
+/// A handle makes a call, and tells of it.
+fn call_told(mut first: Handle, script: &Script) -> Result<(Handle, News), RunErr>
+    requires { IsHandle first }
+    ensures handle { IfOk result (λ r. IsHandle r.0) }
+    ensures same { IfOk result (λ r. IsSame first r.0) }
+    ensures news { IfOk result (λ r. IsNews (home_of first) r.1) }
+{
+    first.run(script)?;
+    let news = first.tell();
+    Ok((first, news))
+}
+
+/// Another handle hears the news, and makes a call: what that answers to its first instruction.
 fn value_after(mut handle: Handle, news: News, script: &Script) -> (Handle, Option<u32>)
     requires handle { IsHandle handle }
     requires news { IsNews (home_of handle) news }
@@ -31,7 +46,7 @@ fn value_after(mut handle: Handle, news: News, script: &Script) -> (Handle, Opti
     first_value(handle, script)
 }
 
-/// Both at once, each in a thread.
+/// One handle makes a call while another one hears the news and makes one, each in a thread.
 fn both<R: Threads + Sync>(
     rt: &R,
     first: Handle,
@@ -60,20 +75,49 @@ fn both<R: Threads + Sync>(
     (one, two)
 }
 
+/// The first handle makes a call and tells of it. Then it makes another one, and in another thread
+/// the second handle hears of the first call and makes one: what that answers.
+fn told<R: Threads + Sync>(
+    rt: &R,
+    first: Handle,
+    second: Handle,
+    scripts: [&Script; 3],
+) -> Result<(Handle, Handle, Option<u32>), RunErr>
+    requires first { IsHandle first }
+    requires second { IsHandle second }
+    requires home { home_of second ≡ home_of first }
+    ensures first { IfOk result (λ r. IsHandle r.0 × IsSame first r.0) }
+    ensures second { IfOk result (λ r. IsHandle r.1 × IsSame second r.1) }
+{
+    let [before, own, theirs] = scripts;
+    let (first, news) = call_told(first, before)?;
+    let (first, (second, read)) = both(rt, first, (second, news), [own, theirs]);
+    Ok((first, second, read))
+}
+
+/// What registers 3 and 4 hold after both handles have left.
+fn registers(alloc: Global, memory: Memory, first: Handle, second: Handle) -> Result<[u32; 2], Fail>
+    requires memory { IsMemory memory }
+    requires first { IsHandle first × IsFrom memory first }
+    requires second { IsHandle second × IsFrom memory second }
+{
+    let memory = left(memory, first);
+    let saved = closed(left(memory, second))?;
+    let store = saved.store(alloc)?;
+    Ok([store.register(3), store.register(4)])
+}
+
 #[test]
 fn another_thread_hears_of_a_call(rt: HostRuntime) -> Result<(), Fail> {
     let alloc = rt.alloc();
-    let mut memory = Memory::open(alloc, 2, 0, GREATEST_LIMIT)?;
-    let mut first = memory.enrol(0)?;
-    let second = memory.enrol(1)?;
-    first.run(&parse(b"store 3 7")?)?;
-    let news = first.tell();
-    let scripts = [&parse(b"add 4 1")?, &parse(b"load 3")?];
-    let (first, (second, read)) = both(&rt, first, (second, news), scripts);
+    let (memory, first, second) = two_handles(alloc)?;
+    let scripts = [
+        &parse(b"store 3 7")?,
+        &parse(b"add 4 1")?,
+        &parse(b"load 3")?,
+    ];
+    let (first, second, read) = told(&rt, first, second, scripts)?;
     assert_eq!(rt; read, Some(7));
-    first.leave(&mut memory);
-    second.leave(&mut memory);
-    let store = memory.close()?.store(alloc)?;
-    assert_eq!(rt; [store.register(3), store.register(4)], [7, 1]);
+    assert_eq!(rt; registers(alloc, memory, first, second)?, [7, 1]);
     Ok(())
 }
