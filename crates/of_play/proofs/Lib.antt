@@ -8,7 +8,6 @@ pub mod PlaysReplies
 pub mod PlaysNotes
 pub mod PlaysMoves
 pub mod PlaysResting
-pub mod PlaysRows
 pub mod PlaysEnds
 pub mod PlaysSchedule
 pub mod PlaysUnspent

@@ -23,12 +23,12 @@ struct ScheduleRun {
 }
 
 impl ScheduleRun {
-    ghost use Rattle.std.specs.Prelude.{◌≡◌, ◌<◌, ◌≤◌, [], ◌∷◌, length, IfOk, OnOk, IsTrue};
+    ghost use Rattle.std.specs.Prelude.{◌≡◌, ◌<◌, [], ◌∷◌, length, IfOk, OnOk, IsTrue};
     ghost use Rattle.of_plan.specs.Plan.{IsPlan, IsScheduleItem, scripts_of};
     ghost use Rattle.of_core.specs.Events.{Turns};
     ghost use Rattle.of_play.specs.Play.{turns_by, item_events};
     ghost use Rattle.of_caller.specs.Ends.{OutcomeHoldsReply, is_spent};
-    ghost use Rattle.of_play.specs.ScheduleRun.{StandsAfter, IsPlaying, MakesMoves, MakesTurnsInRow, BeginsNext, IsReplied, NotesTurn, NotesEnd, CallerEndsAs, RunLeaves};
+    ghost use Rattle.of_play.specs.ScheduleRun.{StandsAfter, IsPlaying, MakesMoves, BeginsNext, IsReplied, NotesTurn, NotesEnd, CallerEndsAs, RunLeaves};
     ghost use Rattle.of_core.specs.Moment.{machine_of};
     ghost use Rattle.of_core.specs.MachineValue.{ended_outcome};
 
@@ -153,36 +153,17 @@ impl ScheduleRun {
         self.bank.made(caller) as usize >= plan.scripts(caller).len()
     }
 
-    /// Makes turns of a caller in a row, at most `most`: the steps of its open call until that has
-    /// ended, or of the next one, which it begins. It answers how many.
-    #[inline(always)]
-    fn turns_in_row(&mut self, plan: &Plan, caller: u32, most: u32) -> Result<u32, AllocError>
-        requires caller { caller < plan.now.callers }
-        requires some { 1 ≤ most }
-        requires playing { IsPlaying plan.now self.old }
-        ensures { IfOk result (λ made.
-            MakesTurnsInRow plan.now caller most made self.old self.new) }
-    {
-        plan_keeps_laws(plan);
-        runs_are_lawful();
-        self.begin_next(plan, caller);
-        let (made, turn) = self.bank.turns(caller, most);
-        self.note(caller, turn)?;
-        Ok(made)
-    }
-
     /// Makes that many turns of a caller.
     fn turns(&mut self, plan: &Plan, caller: u32, count: u32) -> Result<(), AllocError>
         requires caller { caller < plan.now.callers }
         requires playing { IsPlaying plan.now self.old }
         ensures { OnOk result (MakesMoves plan.now (turns_by caller count) self.old self.new) }
     {
-        let mut left = count;
-        while left > 0 {
+        for _ in 0..count {
             if self.rests(plan, caller) {
                 return Ok(());
             }
-            left -= self.turns_in_row(plan, caller, left)?;
+            self.turn(plan, caller)?;
         }
         Ok(())
     }
