@@ -7,7 +7,7 @@ use Rattle.std.specs.List.{list_any}
 use Rattle.std.specs.FinMap as fin
 use Rattle.std.specs.FinMap.{contains_key-keys, entries_sorted}
 use Rattle.std.specs.FinMap.Entries.{below_all}
-use Rattle.std.proofs.lemmas.Bool.{eqb-true, eq-eqb}
+use Rattle.std.proofs.lemmas.Bool.{eqb-true, eq-eqb, or_right}
 use Rattle.std.proofs.lemmas.Bool.Decides.{nat_tests}
 use Rattle.of_order.specs.Means.{least_from, better_of, lesser_of}
 
@@ -53,10 +53,6 @@ tie a b = grind (arith, nat_tests)
 
 pub has_first : (k : ℕ) (ks : List ℕ) → Has (k ∷ ks) k
 has_first k ks = rw (tie k k, eq-eqb k k refl) refl
-
-or_right : (a b : Bool) → b ≡ true → (a || b) ≡ true
-or_right true b e = refl
-or_right false b e = e
 
 pub has_behind : (k x : ℕ) (ks : List ℕ) → Has ks k → Has (x ∷ ks) k
 has_behind k x ks h = or_right (eq_by_cmp nat_cmp k x) _ h

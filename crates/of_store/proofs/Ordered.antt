@@ -1,6 +1,6 @@
 -- The least key from one on, and the keys that are left where those below one leave.
 use Rattle.std.proofs.Common.{◌≡◌, ℕ, ◌≤◌, Bool, true, false, cond, leb, ltb, eqb, List, [], ◌∷◌, length, Option, Some, None, is_some, refl, sym, ap, ◌∙◌, arith}
-use Rattle.std.specs.Prelude.{find, ◌||◌, ◌&&◌}
+use Rattle.std.specs.Prelude.{find, ◌&&◌}
 use Rattle.std.specs.FinMap as fm
 use Rattle.std.specs.FinMap.{nat_cmp-IsAntisymmetric, get-retain_keys, contains_key-keys, entries, entries_sorted, from_sorted, from_entries, get-from_sorted, get-from_entries, get-entries, same_map, len-entries, entries-from_sorted}
 use Rattle.std.specs.FinMap.Entries.{where_key, find-where_key, is_sorted-where_key}
@@ -10,7 +10,7 @@ use Rattle.std.specs.Map.{keys_of}
 use Rattle.std.specs.List.Sorted.{IsStrictlySortedBy}
 use Rattle.std.proofs.Common.{Less, Equal, Greater}
 use Rattle.std.specs.Ordering.{nat_cmp, eq_by_cmp, is_le}
-use Rattle.std.proofs.lemmas.Bool.{le-leb, lt-leb, ltb-true, ltb-false, eqb-true, eqb-false}
+use Rattle.std.proofs.lemmas.Bool.{le-leb, lt-leb, ltb-true, ltb-false, eqb-true, eqb-false, or_right}
 use Rattle.of_store.specs.Store.{least_from, keys_from}
 use Rattle.of_store.proofs.Maps.{keys_are}
 
@@ -55,15 +55,11 @@ len_left m low =
 nat_tied : (k : ℕ) → eq_by_cmp nat_cmp k k ≡ true
 nat_tied k = (eq_by_cmp_equiv nat_cmp_total).refl k
 
-or_true : (a b : Bool) → b ≡ true → (a || b) ≡ true
-or_true true b e = refl
-or_true false b e = e
-
 found_in : (p : ℕ → Bool) (ks : List ℕ) (k : ℕ) → find p ks ≡ Some k → list_any (eq_by_cmp nat_cmp k) ks ≡ true
 found_in p [] k e = absurd cc
 found_in p (x ∷ ks) k e = elim (p x) as (λ b. cond b (Some x) (find p ks) ≡ Some k → list_any (eq_by_cmp nat_cmp k) (x ∷ ks) ≡ true) [
   | true ↦ λ h. let same : x ≡ k = cc in rw (same, nat_tied k) refl
-  | false ↦ λ h. or_true (eq_by_cmp nat_cmp k x) _ (found_in p ks k h)
+  | false ↦ λ h. or_right (eq_by_cmp nat_cmp k x) _ (found_in p ks k h)
 ] e
 
 -- the least key is in the map
