@@ -4,6 +4,7 @@ use Rattle.std.proofs.lemmas.List.{length-append, length-map}
 use Rattle.std.proofs.Math.Seq.{take-append_seam}
 use mathlib.Core.List.{IsPrefix}
 use Rattle.of_mem.specs.Meaning.{Meaning}
+use Rattle.of_mem.proofs.Lists.{prefix_trans}
 use Rattle.of_core.specs.declared.place.Outcome.{Outcome}
 use Rattle.of_core.specs.declared.place.Outcome.TheVariants.{Answered, Spent}
 use Rattle.of_core.specs.Table.{Setup}
@@ -25,7 +26,7 @@ use Rattle.of_caller.specs.declared.caller.CallErr.TheVariants.{Stopped, Spent a
 use Rattle.of_caller.specs.Callers.{caller_call, sight_of}
 use Rattle.of_caller.specs.CallsTold.{TellsCallOf, HasEndedWith, TellsResult}
 use Rattle.of_caller.specs.Behind.{IsAnsweredAfter, ComesBehind, EndsFirst}
-use Rattle.of_caller.proofs.CallSteps.{same_kept, prefix_trans}
+use Rattle.of_caller.proofs.CallSteps.{same_kept}
 use Rattle.of_caller.proofs.KeptCallers.{begun_idle}
 
 -- no outcome is newer than what was seen

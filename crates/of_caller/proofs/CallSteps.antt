@@ -1,6 +1,7 @@
 -- What the steps of a call come to: each step leads from what is told of a call on its way to what is told behind it.
-use Rattle.std.proofs.Common.{◌≡◌, ◌↔◌, IsTrue, ℕ, zero, suc, ◌+◌, ◌-◌, ◌<◌, ◌≤◌, inl, inr, Bool, true, false, List, [], ◌∷◌, ◌++◌, length, Option, Some, refl, sym, ap, ◌∙◌, subst, arith, append_assoc}
+use Rattle.std.proofs.Common.{◌≡◌, ◌↔◌, IsTrue, ℕ, zero, suc, ◌+◌, ◌-◌, ◌<◌, ◌≤◌, inl, inr, Bool, true, false, List, [], ◌∷◌, ◌++◌, length, Option, Some, refl, sym, ap, ◌∙◌, subst, arith}
 use mathlib.Core.List.{append-nil, IsPrefix}
+use Rattle.of_mem.proofs.Lists.{prefix_trans}
 use Rattle.of_core.specs.declared.place.Outcome.{Outcome}
 use Rattle.of_core.specs.Table.{Setup}
 use Rattle.of_core.specs.Machine.{CallState, IsOpen, is_idle, begin_call}
@@ -45,9 +46,6 @@ first_kept (y ∷ ys) x = y
 pub same_kept : (x y : KnownCaller) → ◌≡◌ {A = List KnownCaller} (x ∷ []) (y ∷ []) → x ≡ y
 unfolding first_kept
 same_kept x y e = ap (λ l. first_kept l x) e
-
-pub prefix_trans : {A : Type 0} (xs ys zs : List A) → IsPrefix xs ys → IsPrefix ys zs → IsPrefix xs zs
-prefix_trans xs ys zs p q = (p.0 ++ q.0, sym (append_assoc xs p.0 q.0) ∙ (ap (λ l. l ++ q.0) p.1 ∙ q.1))
 
 -- ---- the start of a call
 

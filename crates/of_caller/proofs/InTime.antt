@@ -9,6 +9,7 @@ use Rattle.std.proofs.lemmas.List.Elements.{All-from_recursion, recursion_from_A
 use Rattle.of_cell.specs.Words.{seq_of}
 use Rattle.of_cell.proofs.Order.{seq_word}
 use Rattle.of_mem.specs.Places.{ticket_cell_at}
+use Rattle.of_mem.proofs.Lists.{take_none}
 use Rattle.of_script.specs.declared.instr.Reply.{Reply}
 use Rattle.of_script.specs.declared.instr.TheConstants.{MOST_INSTRS}
 use Rattle.of_eval.specs.Record.{recovered_data_word, record_number, answer_entry, answer_entries, open_entry, OpenCall, BeyondAnswers, end_state_of, IsLawfulRecord}
@@ -66,10 +67,6 @@ few_marks S w (Turns i) = go (turn_of (machine_in w i) (machine_in (after_event 
 -- so the first marks are those of a front of the events
 cut : (S : Setup) (es : List Event) (w : Moment) (k : ℕ) → (j : ℕ) × (take k (marks_in S w es) ≡ marks_in S w (take j es))
 cut S es w zero = (0, take_none (marks_in S w es) ∙ sym (ap (marks_in S w) (take_none es)))
-  where
-    take_none : {X : Type 0} (xs : List X) → take 0 xs ≡ []
-    take_none [] = refl
-    take_none (x ∷ xs) = refl
 cut S [] w (suc k) = (0, refl)
 cut S (e ∷ es) w (suc k) = elim (few_marks S w e) [
   | inl none ↦

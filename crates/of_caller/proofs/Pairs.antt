@@ -1,6 +1,6 @@
 -- Lists whose items are paired.
 use Rattle.std.proofs.Common.{◌≡◌, ℕ, suc, ◌+◌, ◌<◌, List, [], ◌∷◌, ◌++◌, length, get_or, set, remove, take, drop, append_assoc, sym, refl, ap, ◌∙◌, subst, arith}
-use Rattle.of_row.specs.Views.{Each}
+use Rattle.std.specs.List.{AllByRecursion as Each}
 use Rattle.of_caller.specs.Trees.{AllPaired, PrefixPaired}
 
 pub both_append : {A : Type 0} (P : A → A → Type 0) (a b c d : List A) → AllPaired P a b → AllPaired P c d → AllPaired P (a ++ c) (b ++ d)

@@ -1,6 +1,8 @@
 -- The seats of a team: what a pass knows of them, and what it keeps when they have run.
-use Rattle.std.proofs.Common.{◌≡◌, ℕ, suc, zero, ◌+◌, ◌<◌, ◌≤◌, ◌⊎◌, inl, inr, ⊎_elim, List, [], ◌∷◌, ◌++◌, length, get_or, map, take, drop, Option, Some, None, sym, refl, ap, ◌∙◌, subst, arith, append_assoc}
+use Rattle.std.proofs.Common.{◌≡◌, ℕ, suc, zero, ◌+◌, ◌<◌, ◌≤◌, ◌⊎◌, inl, inr, ⊎_elim, List, [], ◌∷◌, ◌++◌, length, get_or, map, drop, Option, Some, None, sym, refl, ap, ◌∙◌, subst, arith, append_assoc}
+use Rattle.std.specs.List.{AllByRecursion as Each}
 use Rattle.std.proofs.lemmas.List.{append-nil}
+use Rattle.of_mem.proofs.Lists.{take_none}
 use Rattle.of_eval.specs.declared.scripts.Scripts.{Scripts}
 use Rattle.of_brake.specs.Stops.{IsArmedWith}
 use Rattle.of_plan.specs.declared.answer.Answer.{Answer}
@@ -8,7 +10,7 @@ use Rattle.of_plan.specs.declared.answer.Ending.{Ending}
 use Rattle.of_plan.specs.declared.answer.Ending.TheVariants.{Done}
 use Rattle.of_plan.specs.Plan.{Plan, scripts_of, stop_of}
 use Rattle.of_plan.specs.Ended.{Ended}
-use Rattle.of_row.specs.Views.{KnownCaller, View, Each, seen_seq}
+use Rattle.of_row.specs.Views.{KnownCaller, View, seen_seq}
 use Rattle.of_row.specs.Rule.{IsAsked}
 use Rattle.of_row.specs.Turned.{StandsForMachine, after_ask, new_known_caller, after_join}
 use Rattle.of_eval.specs.Scripts.{scripts_meaning}
@@ -33,10 +35,6 @@ use Rattle.of_caller.proofs.CallSteps.{same_kept}
 use Rattle.of_caller.specs.Seating.{HasSeated, IsSeat, Seated, done_at, IsAt, gathered, answers_in, endings_in}
 
 -- ---- a caller that has made no call
-
-take_none : {A : Type 0} (xs : List A) → take 0 xs ≡ []
-take_none [] = refl
-take_none (x ∷ xs) = refl
 
 pub new_caller : (p : Plan) (r : Row Scripts) (n : ℕ) (before : Pass) (m : Member) (now : Pass) → HasEnrolled scripts_meaning r n before m now → (c : Caller Scripts) → IsCaller scripts_meaning r c → c.member ≡ m → IsIdle (caller_call c) → calls_begun_by c ≡ m.made
     → CallerHasAnswered p (done_at r n) n r c [] 0

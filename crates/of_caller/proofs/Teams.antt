@@ -1,6 +1,7 @@
 -- What a team leaves is what a run leaves; its announced entries are the calls that its pass has
 -- seen, and a caller that keeps to its stop keeps that as its allowance.
 use Rattle.std.proofs.Common.{◌≡◌, ℕ, zero, suc, ◌+◌, ◌-◌, ◌<◌, inl, inr, List, [], ◌∷◌, length, get_or, set, map, refl, sym, ap, subst, ◌∙◌, arith, Option, Some, None}
+use Rattle.std.specs.List.{AllByRecursion as EachKept}
 use Rattle.std.proofs.lemmas.List.{set-set}
 use lib.Seq.{set-get_or}
 use Rattle.of_eval.specs.Record.{IsLawfulRecord}
@@ -21,7 +22,7 @@ use Rattle.of_core.specs.Moment.{table_word_count}
 use Rattle.of_core.specs.Invariant.{MeetsInvariant}
 use Rattle.of_core.specs.Events.{Event, machine_in, after_events, start_ticket}
 use Rattle.of_core.specs.Calls.{HasCalls, operations_begun, outcomes, total_steps}
-use Rattle.of_row.specs.Views.{SeenBatch, KnownCaller, View, seen_batch, seen_history, Each as EachKept}
+use Rattle.of_row.specs.Views.{SeenBatch, KnownCaller, View, seen_batch, seen_history}
 use Rattle.of_row.specs.Told.{outcomes_of}
 use Rattle.of_row.specs.Trail.{IsToldBy, IsRunBy}
 use Rattle.of_row.specs.Runs.{HasRun, RunsAreSchedules}

@@ -1,8 +1,9 @@
 -- What recovery finds in the words of a closed table of a work.
-use Rattle.std.proofs.Common.{◌≡◌, ℕ, ◌+◌, ◌-◌, ◌≤◌, ◌<◌, ◌⊎◌, inl, inr, Bool, true, false, refl, sym, ◌∙◌, ap, subst, arith, List, [], ◌∷◌, ◌++◌, length, get_or, map, take, length-take-le, length-append}
+use Rattle.std.proofs.Common.{◌≡◌, ℕ, ◌+◌, ◌-◌, ◌≤◌, ◌<◌, ◌⊎◌, inl, inr, Bool, true, false, refl, sym, ◌∙◌, ap, subst, arith, List, [], ◌∷◌, ◌++◌, length, get_or, map, length-append}
 use Rattle.std.specs.Prelude.{slice_range, slice_index}
+use Rattle.std.specs.List.{AllByRecursion as Each}
 use Rattle.std.proofs.lemmas.Bool.{cases_lt}
-use Rattle.std.proofs.lemmas.List.{get_or-take, get_or-map, length-map, get_or_append_left, ext_get_or}
+use Rattle.std.proofs.lemmas.List.{get_or-map, length-map, get_or_append_left}
 use Rattle.std.proofs.lemmas.List.Elements.{All-from_get_or}
 use Rattle.std.proofs.Math.Seq.{get_or-append_seam}
 use Rattle.std.proofs.Math.ListN.{get_or-map as get_or_map_at}
@@ -27,7 +28,7 @@ use Rattle.of_core.specs.Linear.{ExplainsOutcome, FindsCall, recovered_number}
 use Rattle.of_core.specs.Starts.{IsDurable, IsStartRow, start_from_durable}
 use Rattle.of_row.specs.declared.member.Pass.{Pass}
 use Rattle.of_row.specs.declared.row.Row.{Row}
-use Rattle.of_row.specs.Views.{EndedCall, KnownCaller, View, Each, no_ended}
+use Rattle.of_row.specs.Views.{EndedCall, KnownCaller, View, no_ended}
 use Rattle.of_row.specs.Rule.{ViewMeetsRule}
 use Rattle.of_row.specs.Told.{open_operation, operations_known}
 use Rattle.of_row.specs.Trail.{IsRunBy}
@@ -41,14 +42,6 @@ use Rattle.of_cells.specs.Serving.{made_before}
 use Rattle.of_cells.specs.Saving.{ExplainsKept, HasOpenOperation, HasOnlyKept, HistoryLeads, HoldsReply, TellsLast, IsSavedCells, SavesHistory, saved_cells}
 
 -- ---- lists
-
--- the words that are left when the durable ones are moved to the front
-pub kept_durable : (n k : ℕ) (old ws : List ℕ) → n + n ≤ length old → length ws ≡ length old → n ≤ k → ((i : ℕ) → i < k → get_or ws i 0 ≡ get_or old (n + i) 0) → take n ws ≡ slice_range old n (n + n)
-kept_durable n k old ws room long all same =
-    let left : length (take n ws) ≡ n = length-take-le n ws (omega (arith, room, long)) in
-    ext_get_or 0 (take n ws) (slice_range old n (n + n)) (left ∙ sym (part_long old n n room)) (λ i lt.
-    let low : i < n = subst (λ (m : ℕ). i < m) left lt in
-    get_or-take n ws i 0 low ∙ same i (omega (arith, low, all)) ∙ sym (part_at old n n i low))
 
 each_of : {P Q : KnownCaller → Type 0} → ((x : KnownCaller) → P x → Q x) → (xs : List KnownCaller) → Each P xs → Each Q xs
 each_of f [] h = tt

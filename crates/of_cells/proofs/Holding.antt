@@ -1,5 +1,6 @@
 -- What a memory knows of its callers, and the history that its close leaves.
 use Rattle.std.proofs.Common.{◌≡◌, ℕ, zero, suc, ◌<◌, inl, inr, List, [], ◌∷◌, length, get_or, set, map, replicate, Option, Some, None, refl, sym, ap, subst, ◌∙◌, arith}
+use Rattle.std.specs.List.{AllByRecursion as Each}
 use Rattle.std.proofs.lemmas.List.{get_or-set_same, get_or-set_other, get_or-map, length-map, length-replicate, get_or-replicate, ext_get_or}
 use mathlib.Core.Bool.{true≢false}
 use Rattle.of_cell.specs.Words.{payload_of}
@@ -13,7 +14,8 @@ use Rattle.of_row.specs.declared.row.Row.{Row}
 use Rattle.of_row.specs.Rows.{key_of, setup_at, row_start, IsSeatOf, StartsAtZeros}
 use Rattle.of_row.specs.Rule.{done_before}
 use Rattle.of_mem.specs.Places.{ticket_cell_at}
-use Rattle.of_row.specs.Views.{EndedCall, KnownCaller, View, Each}
+use Rattle.of_mem.proofs.Lists.{same_some}
+use Rattle.of_row.specs.Views.{EndedCall, KnownCaller, View}
 use Rattle.of_caller.specs.declared.caller.Caller.{Caller}
 use Rattle.of_caller.specs.Callers.{caller_call}
 use Rattle.of_cells.specs.declared.memory.CellMemory.{CellMemory}
@@ -25,7 +27,7 @@ use Rattle.of_cells.specs.Serving.{KeepsSo, IsNew, Serves, ServeAll, AllStand, I
 use Rattle.of_cells.specs.Saving.{ExplainsKept, HasOpenOperation, HasOnlyKept, HistoryLeads}
 use Rattle.of_cells.specs.Handles.{IsCellHandle}
 use Rattle.of_cells.specs.Memories.{IsCellMemory, IsFrom, HasMadeOf, HasOpenOf, HasMadeNothing, HasNoneOpen, KnowsOthers, OthersStayOpen, HasHistory, row_of}
-use Rattle.of_cells.proofs.Seats.{number_below, same_caller, is_within}
+use Rattle.of_cells.proofs.Seats.{number_below, is_within}
 
 -- ---- zeros
 
@@ -82,10 +84,10 @@ module _ {W : Type 0} where
   }
 
   pub same_open : (m : CellMemory W) (i : ℕ) (c : Caller W) (op : List ℕ) → get_or m.callers.items i None ≡ Some c → HasOpenOf m i op → IsOpenAt op c
-  same_open m i c op here h = subst (IsOpenAt op) (same_caller h.caller c (get_or m.callers.items i None) h.here here) h.opened
+  same_open m i c op here h = subst (IsOpenAt op) (same_some h.caller c (get_or m.callers.items i None) h.here here) h.opened
 
   pub made_same : (m : CellMemory W) (i : ℕ) (c : Caller W) (es : List EndedCall) → get_or m.callers.items i None ≡ Some c → HasMadeOf m i es → ended_of c ≡ es
-  made_same m i c es here h = subst (λ (k : Caller W). ended_of k ≡ es) (same_caller h.caller c (get_or m.callers.items i None) h.here here) h.made
+  made_same m i c es here h = subst (λ (k : Caller W). ended_of k ≡ es) (same_some h.caller c (get_or m.callers.items i None) h.here here) h.made
 
   pub open_here : (k : CellMemory W) (cs : List (Option (Caller W))) (i : ℕ) (c : Caller W) → k.callers.items ≡ set cs i (Some c) → i < length cs → (op : List ℕ) → IsOpenAt op c → HasOpenOf k i op
   open_here k cs i c is lt op opened = record {
@@ -127,7 +129,7 @@ module _ {W : Type 0} where
     none_open m r long all n op h =
         let low = is_within m.callers.items n h.caller h.here in
         let one = all n (omega (arith, low, long)) in
-        let same : one.0 ≡ h.caller = same_caller one.0 h.caller (get_or m.callers.items n None) one.1 h.here in
+        let same : one.0 ≡ h.caller = same_some one.0 h.caller (get_or m.callers.items n None) one.1 h.here in
         let idle : IsIdle (caller_call h.caller) = subst (λ (x : Caller W). IsIdle (caller_call x)) same one.2.idle in
         absurd (true≢false (sym (ap is_idle idle) ∙ h.opened.0))
 

@@ -1,18 +1,20 @@
 -- The callers of a memory at their places, and what a pass keeps that gathers them.
 use Rattle.std.specs.Prelude.{is_some, not}
 use Rattle.std.proofs.Common.{◌≡◌, ◌≢◌, ℕ, ◌+◌, ◌<◌, ◌⊎◌, inl, inr, Bool, false, List, [], ◌∷◌, ◌++◌, length, get_or, set, Option, Some, None, refl, sym, ap, subst, ◌∙◌, arith}
+use Rattle.std.specs.List.{AllByRecursion as Each}
 use Rattle.std.proofs.lemmas.Bool.{cases_lt}
 use mathlib.Core.Bool.{true≢false}
 use Rattle.std.proofs.lemmas.List.{get_or-set_same, get_or-set_other, get_or_append_left, get_or_past}
 use Rattle.std.proofs.Math.Seq.{get_or-append_seam}
 use Rattle.of_mem.specs.Meaning.{Meaning}
+use Rattle.of_mem.proofs.Lists.{same_some}
 use Rattle.of_row.specs.declared.member.Member.{Member}
 use Rattle.of_row.specs.declared.member.Pass.{Pass}
 use Rattle.of_row.specs.declared.row.Row.{Row}
 use Rattle.of_row.specs.Passes.{HasEnrolled, IsFirst}
 use Rattle.of_row.specs.Rows.{key_of, setup_at, row_start}
 use Rattle.of_row.specs.Rule.{IsAsked, open_call_count}
-use Rattle.of_row.specs.Views.{KnownCaller, View, Each, last_caller, seen_seq}
+use Rattle.of_row.specs.Views.{KnownCaller, View, last_caller, seen_seq}
 use Rattle.of_row.specs.Turned.{new_known_caller, StandsForMachine}
 use Rattle.of_core.specs.Table.{Setup}
 use Rattle.of_core.specs.declared.place.Place.{Place}
@@ -44,9 +46,6 @@ asked_or_last n r m (x ∷ xs) (inr a) = later (asked_or_last n r m xs a)
     later : IsAsked n xs ⊎ (m ≡ n) → IsAsked n (x ∷ xs) ⊎ (m ≡ n)
     later (inl t) = inl (inr t)
     later (inr t) = inr t
-
-pub same_caller : {C : Type 0} (a b : C) (x : Option C) → x ≡ Some a → x ≡ Some b → a ≡ b
-same_caller a b x p q = cc (p, q)
 
 -- ---- lists of places
 
@@ -145,7 +144,7 @@ module _ {W : Type 0} where
     serve_new k cs long all n c is =
         let low = is_within cs n c is in
         let h = all n (omega (arith, low, long)) in
-        let same : h.0 ≡ c = same_caller h.0 c (get_or cs n None) h.1 is in
+        let same : h.0 ≡ c = same_some h.0 c (get_or cs n None) h.1 is in
         subst (Serves meaning r n) same h.2.serves
 
     -- a caller is taken out of its place

@@ -1,6 +1,6 @@
 -- What a closed memory of cells leaves.
 use Rattle.std.specs.Prelude.{◌≡◌, ℕ, ◌+◌, ◌*◌, ◌<◌, ◌≤◌, ◌⊎◌, true, List, length, map}
-use Rattle.std.specs.List.{All}
+use Rattle.std.specs.List.{All, AllByRecursion as Each}
 use Rattle.std.proofs.Common.{get_or}
 use Rattle.of_cell.specs.Words.{payload_of}
 use Rattle.of_cell.specs.declared.word.TheConstants.{GREATEST_LIMIT}
@@ -12,7 +12,7 @@ use Rattle.of_core.specs.Machine.{Call, no_call, IsOpen}
 use Rattle.of_core.specs.Starts.{start_on}
 use Rattle.of_row.specs.declared.row.Row.{Row}
 use Rattle.of_row.specs.Rows.{key_of, MayStartFrom}
-use Rattle.of_row.specs.Views.{KnownCaller, View, Each}
+use Rattle.of_row.specs.Views.{KnownCaller, View}
 use Rattle.of_cells.specs.declared.saved.SavedCells.{SavedCells}
 use Rattle.of_cells.specs.History.{IsSerial, cells_after, StandsInOrder, ExplainsAll, HasOnly, IsUpTo}
 use Rattle.of_cells.specs.Serving.{cells_at_start, made_before}

@@ -5,6 +5,7 @@ use Rattle.std.proofs.lemmas.Bool.Decides.{nat_tests}
 use Rattle.of_cell.specs.declared.shape.TheConstants.{MOST_CALLERS, MOST_DATA_CELLS}
 use Rattle.of_core.specs.declared.machine.trying.TheConstants.{MOST_TRIES}
 use Rattle.of_cell.specs.Words.{pack, seq_of, payload_of}
+use Rattle.of_cell.proofs.Places.{row_within}
 use Rattle.of_mem.specs.Meaning.{Meaning, IsSoundMeaning, Agrees, with_writes_in}
 use Rattle.of_mem.specs.CellMap.{value_for}
 use Rattle.of_mem.specs.Part.{overlaid}
@@ -20,7 +21,6 @@ use Rattle.of_core.specs.Scan.{IsInScan}
 use Rattle.of_core.specs.Transaction.{AppliesAs}
 use Rattle.of_core.specs.Invariant.{HoldsAtPlace}
 use Rattle.of_core.specs.Meets.{MayTake}
-use Rattle.of_core.proofs.Logs.{room_for}
 use Rattle.of_core.proofs.States.{state_length}
 use Rattle.of_core.proofs.Assembling.{logs_of}
 use Rattle.of_core.proofs.Overlays.{left_lawful, left_agrees, left_length}
@@ -137,11 +137,11 @@ module _ (S : Setup) (Lawful : List ℕ → Type 0) (m : CallState) (found : ℕ
 
       none : (j : ℕ) → j < length m.log → (get_or m.log j (0, 0)).0 ≡ ticket_cell S m.scan → ⊥
       none j l e =
-          let low : (get_or m.log j (0, 0)).0 < first_operation_cell S = omega (arith, e, room_for m.scan S.callers (S.instrs + 2) (place_at LoadAnnouncement q).in_range) in
+          let low : (get_or m.log j (0, 0)).0 < first_operation_cell S = omega (arith, e, row_within m.scan S.callers (S.instrs + 2) (place_at LoadAnnouncement q).in_range) in
           let r = o.over.rows j l low in
           let c : ℕ = (get_or m.calls r.0 no_call).caller in
           let under : c < m.scan = o.below r.0 no_call r.1 in
-          omega (arith, e, r.2.1, room_for c m.scan (S.instrs + 2) under)
+          omega (arith, e, r.2.1, row_within c m.scan (S.instrs + 2) under)
 
   -- a script of which a word is loaded
   pub script_many : (j : ℕ) → m.place ≡ LoadScript j → length m.script ≡ j

@@ -6,6 +6,7 @@ use Rattle.std.proofs.lemmas.List.{append-nil, take_more, take_all, get_or-set_s
 use Rattle.of_cell.specs.declared.word.TheConstants.{PAYLOADS}
 use Rattle.of_cell.specs.Words.{pack, seq_of, payload_of}
 use Rattle.of_cell.proofs.Order.{seq_word, pay_word}
+use Rattle.of_cell.proofs.Places.{row_within}
 use Rattle.of_core.specs.declared.place.Place.TheVariants.{StoreScript, StoreAnnouncement}
 use Rattle.of_core.specs.Table.{Setup, cell_count, durable_at, request_at, log_at, script_word_at, script_words_of, script_word, announcement_of, current_word, request_of, data_word, log_word_of, durable_word, committed_seq}
 use Rattle.of_core.specs.Machine.{CallState, Call}
@@ -16,7 +17,6 @@ use Rattle.of_core.specs.WordsMatch.{IsRequest, AnnouncementsAreServed, IsLastOp
 use Rattle.of_core.specs.Rounds.{KnowsOwnRequest, IsUnannounced, HasNothingUnderWay, AnnouncesNothingNew}
 use Rattle.of_core.specs.Invariant.{HoldsAtPlace, MeetsCore}
 use Rattle.of_core.specs.Guarantees.{KeepsGuarantee}
-use Rattle.of_core.proofs.Logs.{room_for}
 use Rattle.of_core.proofs.Stability.{log_in, heard_as, same_row}
 use Rattle.of_core.proofs.Assembling.{assemble}
 use Rattle.of_core.proofs.Tests.{not_newer}
@@ -34,7 +34,7 @@ module _ {S : Setup} {Lawful : List ℕ → Type 0} {B : TableStart} {w : Moment
     vs = set w.words (script_word_at S m.caller x) v
 
     here : script_word S vs i x ≡ v
-    here = let r : i * (S.instrs + 1) + (S.instrs + 1) ≤ S.callers * (S.instrs + 1) = room_for i S.callers (S.instrs + 1) h in
+    here = let r : i * (S.instrs + 1) + (S.instrs + 1) ≤ S.callers * (S.instrs + 1) = row_within i S.callers (S.instrs + 1) h in
         rw ci (get_or-set_same w.words (script_word_at S i x) v 0 (omega (arith, g.shared.room, r)))
 
     elsewhere : (c : ℕ) → (c ≡ script_word_at S i x → ⊥) → get_or vs c 0 ≡ get_or w.words c 0

@@ -2,11 +2,11 @@
 use Rattle.std.proofs.Common.{◌≡◌, ℕ, ◌+◌, ◌*◌, ◌<◌, ◌≤◌, inl, List, get_or, set, sym, ap, subst, arith, length-set}
 use Rattle.std.proofs.lemmas.List.{get_or-set_other}
 use Rattle.of_cell.specs.Words.{seq_of}
+use Rattle.of_cell.proofs.Places.{row_within}
 use Rattle.of_core.specs.Table.{Setup, words_before_members, durable_at, log_at, script_word_at, current_word, request_of, data_word, log_word_of, script_word}
 use Rattle.of_core.specs.TableMoment.{Moment, TableStart}
 use Rattle.of_core.specs.WordsMatch.{WordsMatchHistory, IsLastOpen, DataCellsMatchState, DurableWordsMatch, IsRequest}
 use Rattle.of_core.specs.Invariant.{MeetsInvariant, IsLoaded}
-use Rattle.of_core.proofs.Logs.{room_for}
 use Rattle.of_core.proofs.Touches.{Touches, open_of, data_same, durable_same, kinds_same, moves_of, shared_of}
 use Rattle.of_core.proofs.Stability.{at_stable, heard_as, loaded_stable, log_in}
 use Rattle.of_core.proofs.Ordering.{order_same}
@@ -31,7 +31,7 @@ module _ (S : Setup) (Lawful : List ℕ → Type 0) (B : TableStart) (w : Moment
   log_same j y l u = below (log_at S j y) (omega (arith, log_in S j y l u))
 
   script_same : (j y : ℕ) → j < S.callers → y < S.instrs + 1 → script_word S vs j y ≡ script_word S w.words j y
-  script_same j y l u = below (script_word_at S j y) (let r : j * (S.instrs + 1) + (S.instrs + 1) ≤ S.callers * (S.instrs + 1) = room_for j S.callers (S.instrs + 1) l in omega arith)
+  script_same j y l u = below (script_word_at S j y) (let r : j * (S.instrs + 1) + (S.instrs + 1) ≤ S.callers * (S.instrs + 1) = row_within j S.callers (S.instrs + 1) l in omega arith)
 
   touches : (i : ℕ) → Touches S B i w.words vs w.batches
   touches i = record {

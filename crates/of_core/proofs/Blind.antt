@@ -1,5 +1,6 @@
 -- A step is on no durable word, or it is a raise, which goes on the same whatever it finds.
 use Rattle.std.proofs.Common.{◌≡◌, ℕ, ◌+◌, ◌<◌, ◌≤◌, ◌⊎◌, inl, inr, List, [], get_or, refl, ap, arith}
+use Rattle.of_cell.proofs.Places.{row_within}
 use Rattle.of_core.specs.declared.place.Place.{Place}
 use Rattle.of_core.specs.declared.place.Place.TheVariants.{Idle, TryCurrent, TryRequest, TryCell, StoreScript, StoreAnnouncement, LoadCurrent, LoadRequest, CopyLog, LookAgain, LoadOwnTicket, LoadShape, LoadReply, LoadAnnouncement, LoadTicket, LoadScript, LoadCell, RaiseOld, StoreLog, RaiseLog, StoreRequest, RaiseRequest, ExchangeCurrent, RaiseCurrent, LoadTarget, ExchangeTarget, ReloadTarget, RaiseTarget, CloseRequest, RaiseClosed}
 use Rattle.of_core.specs.Table.{Setup, cell_count, durable_at, log_at, ticket_cell}
@@ -8,7 +9,7 @@ use Rattle.of_core.specs.Steps.{want, want_at, word_of, take_word, take_word_at,
 use Rattle.of_core.specs.TableMoment.{Moment, TableStart, step_batches, step_batches_at}
 use Rattle.of_core.specs.Invariant.{HoldsAtPlace, MeetsCore}
 use Rattle.of_core.specs.Laws.{IsRaise, GoesBlindly}
-use Rattle.of_core.proofs.Logs.{length-log_words, room_for}
+use Rattle.of_core.proofs.Logs.{length-log_words}
 use Rattle.of_core.proofs.Stability.{log_in}
 use Rattle.of_core.proofs.Stability.{owner_in, entry_in}
 
@@ -21,7 +22,7 @@ module _ (S : Setup) (Lawful : List ℕ → Type 0) (B : TableStart) (w : Moment
 
   -- the cells of a caller's own row are data cells
   own_cells : (k : ℕ) → k < S.callers → ticket_cell S k + (S.instrs + 2) ≤ S.cells
-  own_cells k l = omega (arith, room_for k S.callers (S.instrs + 2) l, g.shared.own_in)
+  own_cells k l = omega (arith, row_within k S.callers (S.instrs + 2) l, g.shared.own_in)
 
   blind : (p : Place) → HoldsAtPlace S B w.words w.batches i m p → Off p ⊎ BlindAt p
   blind Idle a = inl (λ c l e. omega (arith, e))

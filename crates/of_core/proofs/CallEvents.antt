@@ -1,6 +1,6 @@
 -- Each step, begin and eviction, and each event, leads from the calls of one caller before it to those after it.
 use Rattle.std.proofs.Common.{◌≡◌, ℕ, ◌+◌, ◌<◌, ◌≤◌, ◌⊎◌, ◌==◌, inl, inr, List, [], ◌∷◌, ◌++◌, length, get_or, set, refl, sym, ◌∙◌, ap, subst, arith, Bool, true}
-use Rattle.std.proofs.lemmas.Bool.{cases_eq}
+use Rattle.std.proofs.lemmas.Bool.{cases_eq, ne_eqb}
 use Rattle.std.proofs.lemmas.List.{append-nil, get_or-set_same, get_or-set_other, get_or_default}
 use Rattle.of_cell.specs.declared.word.TheConstants.{PAYLOADS}
 use Rattle.of_cell.specs.Words.{seq_of}
@@ -17,7 +17,7 @@ use Rattle.of_core.specs.Invariant.{MeetsInvariant, IsLoaded}
 use Rattle.of_core.specs.Events.{Event, Begins, Turns, Loads, Evicts, Raises, after_begin, after_raise, machine_in, after_event, MayHappen, turns_in_event, one_if}
 use Rattle.of_core.specs.Calls.{if_so, operation_begun, outcome_of_step, outcome_of_event, HasCalls, TurnFindsOpenCall, NoneSpent, total_steps}
 use Rattle.of_core.specs.Laws.{GainsCalls, KeepsCalls, KeepsOthersCalls, StepsEndOwnCall, BeginsAddOneCall}
-use Rattle.of_core.proofs.Tests.{same_number, other_number}
+use Rattle.of_core.proofs.Tests.{same_number}
 use Rattle.of_core.proofs.Raises.{rises}
 use Rattle.of_core.proofs.Found.{found_now}
 use Rattle.of_core.proofs.Happenings.{begin_kept, load_kept, evict_kept, event_good}
@@ -107,7 +107,7 @@ module _ (S : Setup) (Lawful : List ℕ → Type 0) (sound : IsSoundMeaning S.me
           subst (λ (b : Bool). HasCalls S B before (after_event S w (Begins j op)) i (ops ++ if_so b (op ∷ [])) (outs ++ [])) (sym (ap (λ (x : ℕ). i == x) e ∙ same_number i))
           ((subst (λ (x : ℕ). GainsCalls S B x (op ∷ []) [] w (after_event S w (Begins j op))) e p) before ops outs c)
       begin_event j op may (inr away) =
-          subst (λ (b : Bool). HasCalls S B before (after_event S w (Begins j op)) i (ops ++ if_so b (op ∷ [])) (outs ++ [])) (sym (other_number i j away))
+          subst (λ (b : Bool). HasCalls S B before (after_event S w (Begins j op)) i (ops ++ if_so b (op ∷ [])) (outs ++ [])) (sym (ne_eqb i j (λ e. away (sym e))))
           (add_none S B before (after_event S w (Begins j op)) i ops outs (other_begin S Lawful B w g j (machine_in w j) may.0 (own S Lawful B w g j may.0) may.1 (machine_in w j) (inl refl) op may.2 may.3 may.4 i member away before ops outs c))
 
       abbrev After : ℕ → List Outcome → Type 0
@@ -115,7 +115,7 @@ module _ (S : Setup) (Lawful : List ℕ → Type 0) (sound : IsSoundMeaning S.me
 
       turn_event : (j : ℕ) → j < S.callers → (j ≡ i) ⊎ (j ≡ i → ⊥) → After j (outcome_of_event S w (Turns j) i)
       turn_event j may (inr away) =
-          subst (λ (b : Bool). After j (if_so b (outcome_of_step (machine_in w j) (machine_in (after_event S w (Turns j)) j)))) (sym (other_number i j away))
+          subst (λ (b : Bool). After j (if_so b (outcome_of_step (machine_in w j) (machine_in (after_event S w (Turns j)) j)))) (sym (ne_eqb i j (λ e. away (sym e))))
           (add_none S B before (after_event S w (Turns j)) i ops outs (other_step S Lawful sound B w g j may (word_found S w.words (machine_in w j)) (found j) i member away before ops outs c))
       turn_event j may (inl e) =
           let n : ℕ = word_found S w.words (machine_in w i) in
@@ -170,4 +170,4 @@ module _ (S : Setup) (Lawful : List ℕ → Type 0) (sound : IsSoundMeaning S.me
             (subst (λ (d : CallState). ByBool j true d j) (sym x) (omega (arith, p.0, s), λ q u. omega (arith, p.1 (q refl) u, s))))
         go (inr away) =
             let x = ap (λ (d : CallState). d.steps) (not_now S Lawful sound B w g j may n (found j) i away) in
-            subst (λ (b : Bool). ByBool j b (machine_in (after_event S w (Turns j)) j) i) (sym (other_number i j away)) (omega (arith, x), λ q u. omega (arith, x))
+            subst (λ (b : Bool). ByBool j b (machine_in (after_event S w (Turns j)) j) i) (sym (ne_eqb i j (λ e. away (sym e)))) (omega (arith, x), λ q u. omega (arith, x))

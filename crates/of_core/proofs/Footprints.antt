@@ -5,6 +5,7 @@ use Rattle.std.proofs.lemmas.Bool.Decides.{nat_tests}
 use Rattle.std.proofs.lemmas.List.{get_or-set_same, get_or-set_other}
 use Rattle.of_core.specs.declared.machine.trying.TheConstants.{MOST_TRIES}
 use Rattle.of_cell.specs.Words.{pack, seq_of, payload_of}
+use Rattle.of_cell.proofs.Places.{row_within}
 use Rattle.of_mem.specs.Meaning.{WalkEnd, Needs, Gives, IsSoundMeaning}
 use Rattle.of_mem.specs.Part.{overlaid}
 use Rattle.of_core.specs.declared.place.Place.{Place}
@@ -16,7 +17,7 @@ use Rattle.of_core.specs.TableMoment.{Moment, TableStart}
 use Rattle.of_core.specs.Invariant.{HoldsAtPlace, MeetsCore, MeetsInvariant}
 use Rattle.of_core.specs.Events.{Event, Begins, Turns, Loads, Evicts, Raises, after_event, MayHappen, machine_in, after_events, turn_count, turns_in_event, IsSchedule, StaysOpen}
 use Rattle.of_core.specs.Footprint.{knowns, next_load, Touches, TouchesOnly, apply_steps, help_steps, store_steps, try_steps, round_steps, footprint, HasFootprint}
-use Rattle.of_core.proofs.Logs.{room_for, length-log_words}
+use Rattle.of_core.proofs.Logs.{length-log_words}
 use Rattle.of_core.proofs.Tests.{differ, mark_some, is_newer}
 use Rattle.of_core.proofs.Rounds.{own_row_old}
 use Rattle.of_core.proofs.OwnReply.{done_now}
@@ -183,7 +184,7 @@ module _ (S : Setup) (W R : ℕ) where
     now = record m { steps = m.steps + 1 }
 
     words_row : S.instrs + 1 ≤ S.callers * (S.instrs + 1)
-    words_row = let r : i * (S.instrs + 1) + (S.instrs + 1) ≤ S.callers * (S.instrs + 1) = room_for i S.callers (S.instrs + 1) h in omega arith
+    words_row = let r : i * (S.instrs + 1) + (S.instrs + 1) ≤ S.callers * (S.instrs + 1) = row_within i S.callers (S.instrs + 1) h in omega arith
 
     -- the cells that are known, and the one that the place loads
     loads_upto : (p : Place) → m.place ≡ p → knowns m.known + next_load p ≤ R

@@ -2,7 +2,7 @@
 -- the order of their answers. What holds of its calls, and of each two of them, and where it leads.
 use Rattle.std.proofs.Common.{◌≡◌, ℕ, zero, suc, ◌+◌, ◌-◌, ◌<◌, ◌≤◌, ◌⊎◌, ◌==◌, inl, inr, List, [], ◌∷◌, ◌++◌, length, take, get_or, refl, sym, ◌∙◌, ap, subst, arith, Bool}
 use Rattle.std.specs.List.{All}
-use Rattle.std.proofs.lemmas.Bool.{cases_eq, cases_lt}
+use Rattle.std.proofs.lemmas.Bool.{cases_eq, cases_lt, ne_eqb}
 use Rattle.std.proofs.lemmas.List.{length-append, get_or_append_left, get_or-append_right}
 use Rattle.std.proofs.lemmas.List.Elements.{All-append}
 use Rattle.of_mem.specs.Meaning.{Meaning}
@@ -11,7 +11,7 @@ use Rattle.of_core.specs.TableMoment.{Batch, Read}
 use Rattle.of_core.specs.History.{no_batch, numbers_after_calls, CallsHaveReplies, numbers_after_batches, IsLegalHistory}
 use Rattle.of_core.specs.Order.{no_read}
 use Rattle.of_core.specs.Calls.{if_so}
-use Rattle.of_core.proofs.Tests.{same_number, other_number}
+use Rattle.of_core.proofs.Tests.{same_number}
 
 -- a read as a call
 abbrev pub call_of : Read → Call
@@ -29,7 +29,7 @@ serial_order s (b ∷ bs) rs = reads_of s rs ++ (b.calls ++ serial_order (s + 1)
 
 -- a read of another state isn't there
 reads_skip : (s : ℕ) (r : Read) (rs : List Read) → (s ≡ r.seq → ⊥) → reads_of s (r ∷ rs) ≡ reads_of s rs
-reads_skip s r rs away = ap (λ (b : Bool). if_so b (call_of r ∷ []) ++ reads_of s rs) (other_number r.seq s away)
+reads_skip s r rs away = ap (λ (b : Bool). if_so b (call_of r ∷ []) ++ reads_of s rs) (ne_eqb r.seq s (λ e. away (sym e)))
 
 reads_take : (s : ℕ) (r : Read) (rs : List Read) → s ≡ r.seq → reads_of s (r ∷ rs) ≡ call_of r ∷ reads_of s rs
 reads_take s r rs e = ap (λ (b : Bool). if_so b (call_of r ∷ []) ++ reads_of s rs) (ap (λ (x : ℕ). r.seq == x) e ∙ same_number r.seq)

@@ -1,6 +1,6 @@
 -- A call that stays open has made fewer steps than the bound.
 use Rattle.std.proofs.Common.{◌≡◌, ℕ, ◌+◌, ◌<◌, ◌≤◌, ◌⊎◌, ◌==◌, inl, inr, List, [], ◌∷◌, get_or, refl, sym, ◌∙◌, ap, subst, arith, true, false}
-use Rattle.std.proofs.lemmas.Bool.{cases_eq}
+use Rattle.std.proofs.lemmas.Bool.{cases_eq, ne_eqb}
 use Rattle.std.proofs.lemmas.List.{get_or-set_same, get_or-set_other, get_or_default}
 use Rattle.of_mem.specs.Meaning.{IsSoundMeaning}
 use Rattle.of_core.specs.declared.place.Place.{Place}
@@ -16,7 +16,7 @@ use Rattle.of_core.proofs.Happenings.{event_good}
 use Rattle.of_core.proofs.StepTaken.{step_taken}
 use Rattle.of_core.proofs.Found.{found_now}
 use Rattle.of_core.proofs.StepBound.{n_cells}
-use Rattle.of_core.proofs.Tests.{same_number, other_number}
+use Rattle.of_core.proofs.Tests.{same_number}
 
 module _ (S : Setup) (Lawful : List ℕ → Type 0) (sound : IsSoundMeaning S.meaning Lawful (first_operation_cell S) S.cells) (B : TableStart) where
   module _ (i : ℕ) (h : i < S.callers) where
@@ -46,7 +46,7 @@ module _ (S : Setup) (Lawful : List ℕ → Type 0) (sound : IsSoundMeaning S.me
     steps_rise w g (Turns j) m o q = go (cases_eq j i)
       where
         go : (j ≡ i) ⊎ (j ≡ i → ⊥) → (machine_in (after_event S w (Turns j)) i).steps ≡ (machine_in w i).steps + one_if (i == j)
-        go (inr n) = ap (λ (d : CallState). d.steps) (get_or-set_other w.machines j i _ no_machine (λ e. n (sym e))) ∙ plus_none (machine_in w i).steps (one_if (i == j)) (ap one_if (other_number i j n))
+        go (inr n) = ap (λ (d : CallState). d.steps) (get_or-set_other w.machines j i _ no_machine (λ e. n (sym e))) ∙ plus_none (machine_in w i).steps (one_if (i == j)) (ap one_if (ne_eqb i j (λ e. n (sym e))))
           where
             plus_none : (x y : ℕ) → y ≡ 0 → x ≡ x + y
             plus_none x y e = omega arith

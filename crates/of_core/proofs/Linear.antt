@@ -5,6 +5,7 @@ use Rattle.std.specs.List.{All}
 use Rattle.std.proofs.lemmas.Bool.{cases_lt}
 use Rattle.std.proofs.lemmas.List.{length-map, length-take-le, get_or-take, get_or-map, get_or-drop, get_or_past, take-take, take-append-drop}
 use Rattle.of_cell.specs.Words.{payload_of}
+use Rattle.of_cell.proofs.Places.{row_within}
 use Rattle.of_mem.specs.Meaning.{Meaning, IsSoundMeaning, Agrees, WalkFits, WalkEnd, SameFrom}
 use Rattle.of_mem.specs.Meaning.WalkEnd.{Needs, Gives}
 use Rattle.of_mem.specs.declared.work.RawReply.{RawReply}
@@ -22,7 +23,6 @@ use Rattle.of_core.specs.Claim.{IsNewerCall, IsSound}
 use Rattle.of_core.specs.Linear.{Precedes, ExplainsOutcome, Linearizes, recovered_number, FindsCall, Detects, IsDurablyLinearizable}
 use Rattle.of_core.proofs.States.{state_length, state_start, batch_is, later, legal_front}
 use Rattle.of_core.proofs.Assembling.{logs_of}
-use Rattle.of_core.proofs.Logs.{room_for}
 use Rattle.of_core.proofs.Overlays.{calls_lawful, calls_length}
 use Rattle.of_core.proofs.Replays.{replay_length}
 use Rattle.of_core.proofs.Tickets.{ticket_upto, tickets_rise}
@@ -309,7 +309,7 @@ module _ (S : Setup) (Lawful : List ℕ → Type 0) (sound : IsSoundMeaning S.me
           ∙ get_or-drop (first_operation_cell S) (numbers_after_batches S.meaning start bs) (a - first_operation_cell S) 0 ∙ ap (λ (x : ℕ). get_or (numbers_after_batches S.meaning start bs) x 0) back
 
   own_in : (i : ℕ) → i < S.callers → ticket_cell S i + (S.instrs + 2) ≤ S.cells
-  own_in i l = omega (arith, room_for i S.callers (S.instrs + 2) l, good.core.shared.own_in)
+  own_in i l = omega (arith, row_within i S.callers (S.instrs + 2) l, good.core.shared.own_in)
 
   -- A caller's own cells tell its last call in the batches.
   detects : (i : ℕ) → i < S.callers → Detects S B w order i

@@ -6,6 +6,7 @@ use Rattle.std.proofs.lemmas.List.Elements.{All-append}
 use Rattle.of_mem.specs.declared.work.TheConstants.{MOST_INSTRS}
 use Rattle.of_cell.specs.declared.word.TheConstants.{PAYLOADS}
 use Rattle.of_cell.specs.Words.{payload_of}
+use Rattle.of_cell.proofs.Places.{row_within}
 use Rattle.of_mem.specs.Meaning.{IsSoundMeaning, SameFrom}
 use Rattle.of_core.specs.Table.{Setup, first_operation_cell, cell_count, ticket_cell}
 use Rattle.of_core.specs.Machine.{Call, no_call}
@@ -18,7 +19,6 @@ use Rattle.of_core.specs.Claim.{IsNewerCall, IsSound}
 use Rattle.of_core.specs.Calls.{HasCalls}
 use Rattle.of_core.specs.Linear.{recovered_number, FindsCall, IsDurablyLinearizable}
 use Rattle.of_core.specs.LinearLives.{start_after, AreScheduleLives, whole_order, AreDurablyLinearizable}
-use Rattle.of_core.proofs.Logs.{room_for}
 use Rattle.of_core.proofs.Overlays.{calls_length}
 use Rattle.of_core.proofs.Replays.{calls_from, replies_from}
 use Rattle.of_core.proofs.Openings.{start_good}
@@ -66,7 +66,7 @@ module _ (S : Setup) (Lawful : List ℕ → Type 0) (sound : IsSoundMeaning S.me
     next_start = may_restart S Lawful B w good claim
 
     next_ticket : (i : ℕ) → i < S.callers → start_ticket S (start_after S n B es) i ≡ recovered_number S w (ticket_cell S i)
-    next_ticket i member = sym (ap payload_of (claim.recovers (ticket_cell S i) (omega (arith, room_for i S.callers (S.instrs + 2) member, own_in))))
+    next_ticket i member = sym (ap payload_of (claim.recovers (ticket_cell S i) (omega (arith, row_within i S.callers (S.instrs + 2) member, own_in))))
 
     first_long : length (map payload_of B.cells) ≡ S.cells
     first_long = length-map B.cells payload_of ∙ may.start.size

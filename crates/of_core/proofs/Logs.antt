@@ -11,6 +11,7 @@ use Rattle.std.proofs.lemmas.List.{get_or_append_left, get_or-append_right, get_
 use Rattle.of_cell.specs.declared.word.TheConstants.{PAYLOADS}
 use Rattle.of_cell.specs.Words.{pack, payload_of}
 use Rattle.of_cell.proofs.Order.{pay_word}
+use Rattle.of_cell.proofs.Places.{row_within}
 use Rattle.of_mem.specs.declared.work.RawReply.{RawReply}
 use Rattle.of_mem.specs.Meaning.{HasDistinctCells, with_writes_in, IsFinishedWalk}
 use Rattle.of_mem.specs.declared.work.TheConstants.{LEAST_ABORT}
@@ -62,9 +63,6 @@ pub listed_at : (a : ℕ) (vs : List ℕ) (j : ℕ) (d : ℕ × ℕ) → j < len
 listed_at a [] j d l = absurd (omega arith)
 listed_at a (v ∷ vs) zero d l = ap (λ (x : ℕ). (x, v)) (omega arith)
 listed_at a (v ∷ vs) (suc j) d l = listed_at (a + 1) vs j d (omega arith) ∙ ap (λ (x : ℕ). (x, get_or vs j 0)) (omega arith)
-
-pub room_for : (i n k : ℕ) → i < n → i * k + k ≤ n * k
-room_for i n k h = grind arith
 
 -- the cells low, low + 1 .. low + size - 1
 abbrev pub InOwn : ℕ → ℕ → ℕ × ℕ → Type 0
@@ -174,7 +172,7 @@ whole_log S i ticket count xs op es r h c t b f = record {
     o = own_is (i * (S.instrs + 2)) count (S.instrs + 2) ticket r (omega arith) f.shape t f.values (nat_lt r.shape LEAST_ABORT)
 
     low : i * (S.instrs + 2) + (S.instrs + 2) ≤ first_operation_cell S
-    low = room_for i S.callers (S.instrs + 2) h
+    low = row_within i S.callers (S.instrs + 2) h
 
     entries_all : All (IsEntry S) (es ++ own)
     entries_all = All-append (IsEntry S) es own (λ k d l. ((f.inside k d l).1, (f.inside k d l).2)) (λ k d l. (omega (arith, (o.inside k d l).1, low), (o.inside k d l).2))
@@ -185,7 +183,7 @@ whole_log S i ticket count xs op es r h c t b f = record {
 -- the caller's own cells are below the others
 pub own_below : (S : Setup) (i ticket count : ℕ) (r : RawReply) → i < S.callers → count ≤ S.instrs → ticket < PAYLOADS → r.shape < PAYLOADS → All (λ (v : ℕ). v < PAYLOADS) r.values
     → All (λ (e : ℕ × ℕ). e.0 < first_operation_cell S) (own_cells (ticket_cell S i) ticket count r)
-own_below S i ticket count r h c t a vs = λ k d l. omega (arith, (o.inside k d l).1, room_for i S.callers (S.instrs + 2) h)
+own_below S i ticket count r h c t a vs = λ k d l. omega (arith, (o.inside k d l).1, row_within i S.callers (S.instrs + 2) h)
   where
     o : IsOwn (i * (S.instrs + 2)) (S.instrs + 2) (own_cells (ticket_cell S i) ticket count r)
     o = own_is (i * (S.instrs + 2)) count (S.instrs + 2) ticket r (omega arith) a t vs (nat_lt r.shape LEAST_ABORT)

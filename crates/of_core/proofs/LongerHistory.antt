@@ -6,6 +6,7 @@ use Rattle.std.proofs.lemmas.List.{length-map, get_or_default}
 use Rattle.of_cell.specs.declared.word.TheConstants.{PAYLOADS}
 use Rattle.of_cell.specs.Words.{pack, payload_of}
 use Rattle.of_cell.proofs.Order.{pay_word}
+use Rattle.of_cell.proofs.Places.{row_within}
 use Rattle.of_mem.specs.Meaning.{IsSoundMeaning, SameFrom, with_writes_in}
 use Rattle.of_core.specs.Table.{Setup, first_operation_cell, ticket_cell, shape_cell, reply_cell}
 use Rattle.of_core.specs.Machine.{Call, no_call}
@@ -14,7 +15,7 @@ use Rattle.of_core.specs.History.{state_after, batch_at, data_word_after, with_l
 use Rattle.of_core.specs.WordsMatch.{IsLog, IsStart, StatesFollowBatches}
 use Rattle.of_core.specs.Scan.{LogsCell, LogsOwnCells, IsOverlayOf, WasTakenByScan}
 use Rattle.of_core.proofs.States.{state_same, batch_same, batch_new, state_next, state_length, old, changed_at, changed_other}
-use Rattle.of_core.proofs.Logs.{room_for, pay_changed, length-written}
+use Rattle.of_core.proofs.Logs.{pay_changed, length-written}
 use Rattle.of_core.proofs.Overlays.{calls_length, calls_lawful}
 
 -- some call is the caller's, or none is
@@ -37,8 +38,8 @@ one_row S i j a p q = go (cases_order i j)
   where
     go : (i ≡ j) ⊎ ((i < j) ⊎ (j < i)) → i ≡ j
     go (inl e) = e
-    go (inr (inl l)) = absurd (omega (arith, p, q, room_for i j (S.instrs + 2) l))
-    go (inr (inr l)) = absurd (omega (arith, p, q, room_for j i (S.instrs + 2) l))
+    go (inr (inl l)) = absurd (omega (arith, p, q, row_within i j (S.instrs + 2) l))
+    go (inr (inr l)) = absurd (omega (arith, p, q, row_within j i (S.instrs + 2) l))
 
 module _ (S : Setup) (Lawful : List ℕ → Type 0) (sound : IsSoundMeaning S.meaning Lawful (first_operation_cell S) S.cells) (B : TableStart) (bs : List Batch) (start : IsStart S B) (logs : (k : ℕ) → B.seq < k → k ≤ B.seq + length bs → IsLog S (batch_at B bs k).log) (own_in : first_operation_cell S ≤ S.cells) (st : StatesFollowBatches S Lawful B bs)
     (b : Batch) (n : ℕ) (n_is : n ≡ B.seq + length bs) (over : IsOverlayOf S (numbers_after B bs n) b.calls b.log) (taken : All (WasTakenByScan S (state_after B bs n)) b.calls) (rising : CallersRise b.calls) (nonempty : 0 < length b.calls) where
@@ -95,7 +96,7 @@ module _ (S : Setup) (Lawful : List ℕ → Type 0) (sound : IsSoundMeaning S.me
     where
       away : (j : ℕ) → j < length b.log → (get_or b.log j (0, 0)).0 ≡ a → ⊥
       away j u q =
-          let z = over.rows j u (omega (arith, r, q, room_for i S.callers (S.instrs + 2) l)) in
+          let z = over.rows j u (omega (arith, r, q, row_within i S.callers (S.instrs + 2) l)) in
           none z.0 z.1 (one_row S (get_or b.calls z.0 no_call).caller i a (subst (λ (x : ℕ). IsCellOfCaller S (get_or b.calls z.0 no_call).caller x) q z.2) r)
 
   now_of : (y : ℕ) (d : Call) → y < length b.calls → ((get_or b.calls y d).caller < S.callers) × (last_ticket_by S B cs (n + 1) (get_or b.calls y d).caller ≡ (get_or b.calls y d).ticket)
@@ -141,7 +142,7 @@ module _ (S : Setup) (Lawful : List ℕ → Type 0) (sound : IsSoundMeaning S.me
   last_new i l = go (cases_called b.calls i) (st.last n i from (omega (arith, n_is)) l)
     where
       row_in : (a : ℕ) → IsCellOfCaller S i a → a < S.cells
-      row_in a r = omega (arith, r, room_for i S.callers (S.instrs + 2) l)
+      row_in a r = omega (arith, r, row_within i S.callers (S.instrs + 2) l)
 
       absent_more : (lo : ℕ) → B.seq ≤ lo → ((y : ℕ) → y < length b.calls → (get_or b.calls y no_call).caller ≡ i → ⊥) → HasNoCallBetween B bs i lo n → HasNoCallBetween B cs i lo (n + 1)
       absent_more lo f none h k v u = pick (which k (omega (arith, n_is, longer)))

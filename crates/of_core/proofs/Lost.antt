@@ -1,7 +1,7 @@
 -- What an open call has lost beside the commits since it began, and so how new its outcome is.
 use Rattle.std.proofs.Common.{◌≡◌, ℕ, ◌+◌, ◌-◌, ◌<◌, ◌≤◌, ◌⊎◌, ◌==◌, inl, inr, List, [], ◌∷◌, ◌++◌, length, get_or, refl, sym, ◌∙◌, ap, subst, arith, Some, None, Bool, true, false}
 use Rattle.std.specs.List.{All}
-use Rattle.std.proofs.lemmas.Bool.{cases_eq, cases_lt}
+use Rattle.std.proofs.lemmas.Bool.{cases_eq, cases_lt, ne_eqb}
 use Rattle.std.proofs.lemmas.Bool.Decides.{nat_tests}
 use Rattle.std.proofs.lemmas.List.{append_assoc, append-nil, length-append, get_or_append_left, get_or-append_right, get_or-set_same, get_or-set_other}
 use Rattle.of_cell.specs.Words.{seq_of, payload_of}
@@ -29,7 +29,7 @@ use Rattle.of_core.specs.Calls.{if_so, operation_begun, outcome_of_event, outcom
 use Rattle.of_core.specs.Commits.{begins_at, announces_at, HasLost}
 use Rattle.of_core.proofs.States.{state_same}
 use Rattle.of_core.proofs.Tickets.{tickets_grow}
-use Rattle.of_core.proofs.Tests.{same_number, other_number}
+use Rattle.of_core.proofs.Tests.{same_number}
 use Rattle.of_core.proofs.Idle.{idle_or_open}
 use Rattle.of_core.proofs.Ordering.{idle_is, tries_at}
 use Rattle.of_core.proofs.StepKept.{step_kept}
@@ -378,7 +378,7 @@ module _ (S : Setup) (Lawful : List ℕ → Type 0) (sound : IsSoundMeaning S.me
 
       go : (i ≡ j) ⊎ (i ≡ j → ⊥) → Leads w v (if_so (j == i) (op ∷ [])) []
       go (inr away) =
-          subst (λ (b : Bool). Leads w v (if_so b (op ∷ [])) []) (sym (other_number j i away))
+          subst (λ (b : Bool). Leads w v (if_so b (op ∷ [])) []) (sym (ne_eqb j i (λ e. away (sym e))))
           (quiet w v (get_or-set_other w.machines i j (begin_call S (machine_in w i) op) no_machine (λ e. away (sym e))) [] (sym (append-nil w.batches)))
       go (inl same) =
           let here : machine_in v j ≡ begin_call S (machine_in w i) op = ap (λ (x : ℕ). machine_in v x) (sym same) ∙ get_or-set_same w.machines i (begin_call S (machine_in w i) op) no_machine (omega (arith, g.core.members, may.0)) in
@@ -400,7 +400,7 @@ module _ (S : Setup) (Lawful : List ℕ → Type 0) (sound : IsSoundMeaning S.me
 
       go : (i ≡ j) ⊎ (i ≡ j → ⊥) → Leads w v [] (if_so (j == i) (outcome_of_step (machine_in w i) (machine_in v i)))
       go (inr away) =
-          subst (λ (b : Bool). Leads w v [] (if_so b (outcome_of_step (machine_in w i) (machine_in v i)))) (sym (other_number j i away))
+          subst (λ (b : Bool). Leads w v [] (if_so b (outcome_of_step (machine_in w i) (machine_in v i)))) (sym (ne_eqb j i (λ e. away (sym e))))
           (quiet w v (not_now S Lawful sound B w g i may n (found_now S w.words (machine_in w i)) j away) (step_batches S w.words (machine_in w i) n) refl)
       go (inl same) =
           let f : IsFoundBy (want S (machine_in w j)) w.words (word_found S w.words (machine_in w j)) = found_now S w.words (machine_in w j) in

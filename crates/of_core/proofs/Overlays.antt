@@ -8,6 +8,7 @@ use Rattle.std.proofs.lemmas.List.{get_or_append_left, get_or-append_right, get_
 use Rattle.std.proofs.lemmas.Bool.{eqb-true as same_num, eqb-false as other_num}
 use Rattle.of_mem.specs.declared.work.TheConstants.{LEAST_ABORT, MOST_INSTRS}
 use Rattle.of_cell.specs.declared.word.TheConstants.{PAYLOADS}
+use Rattle.of_cell.proofs.Places.{row_within}
 use Rattle.of_mem.specs.declared.work.RawReply.{RawReply}
 use Rattle.of_mem.specs.Meaning.{HasDistinctCells, with_writes_in, SameFrom, Meaning, IsFinishedWalk, IsSoundMeaning, WalkFits, Agrees, is_marked}
 use Rattle.of_mem.specs.CellMap.{put_pair, put_all}
@@ -18,7 +19,7 @@ use Rattle.of_core.specs.History.{IsCellOfCaller, numbers_after_calls, CallsHave
 use Rattle.of_core.specs.WordsMatch.{IsEntry, IsLog}
 use Rattle.of_core.specs.Scan.{LogsCell, LogsOwnCells, IsOverlayOf}
 use Rattle.of_core.proofs.States.{once_tail}
-use Rattle.of_core.proofs.Logs.{written_append, drop_written, own_below, once_few, room_for, whole_log, length-listed, listed_at, length-written, own_is, IsOwn}
+use Rattle.of_core.proofs.Logs.{written_append, drop_written, own_below, once_few, whole_log, length-listed, listed_at, length-written, own_is, IsOwn}
 
 -- a write of a cell that no later one names may as well come last
 written_set : (xs : List ℕ) (es : List (ℕ × ℕ)) (a v : ℕ) → ((j : ℕ) → j < length es → (get_or es j (0, 0)).0 ≡ a → ⊥) → with_writes_in (set xs a v) es ≡ set (with_writes_in xs es) a v
@@ -300,8 +301,8 @@ module _ (S : Setup) (Lawful : List ℕ → Type 0) (sound : IsSoundMeaning S.me
         away d a less r j l q = go (lies j l)
           where
             go : (first_operation_cell S ≤ (get_or all j (0, 0)).0) ⊎ IsCellOfCaller S c (get_or all j (0, 0)).0 → ⊥
-            go (inl u) = omega (arith, r, room_for d S.callers (S.instrs + 2) (omega arith))
-            go (inr u) = omega (arith, r, room_for d c (S.instrs + 2) less)
+            go (inl u) = omega (arith, r, row_within d S.callers (S.instrs + 2) (omega arith))
+            go (inr u) = omega (arith, r, row_within d c (S.instrs + 2) less)
 
         old_own : (d : Call) → d.caller < c → LogsOwnCells S ds d → LogsOwnCells S new d
         old_own d less p = record {

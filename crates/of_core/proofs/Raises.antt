@@ -4,6 +4,7 @@ use Rattle.std.proofs.lemmas.Bool.{cases_eq, cases_lt}
 use Rattle.std.proofs.lemmas.List.{get_or-set_same, get_or-set_other}
 use Rattle.of_cell.specs.Words.{pack, seq_of, payload_of}
 use Rattle.of_cell.proofs.Order.{word_eta, seq_mono, seq_less}
+use Rattle.of_cell.proofs.Places.{row_within}
 use Rattle.of_core.specs.Table.{Setup, cell_count, durable_at, script_word_at, request_at, log_at, script_word, current_word, request_of, data_word, log_word_of, durable_word, durable_request, durable_cell, durable_log, committed_seq, committed_owner, durable_seq}
 use Rattle.of_core.specs.Machine.{log_words}
 use Rattle.of_core.specs.TableMoment.{Batch, TableStart}
@@ -11,7 +12,7 @@ use Rattle.of_core.specs.History.{batch_at, data_word_after}
 use Rattle.of_core.specs.WordsMatch.{WordsHaveTheirKind, IsRequest, IsLogWord, WordsMatchHistory, IsLastOpen, DurableWordsMatch, WasHeldByCell, IsLog}
 use Rattle.of_core.specs.Invariant.{WasHeldByCurrent, IsLoaded}
 use Rattle.of_core.proofs.States.{later, old}
-use Rattle.of_core.proofs.Logs.{room_for, length-log_words}
+use Rattle.of_core.proofs.Logs.{length-log_words}
 use Rattle.of_core.proofs.Stability.{heard_as}
 
 module _ (S : Setup) (Lawful : List ℕ → Type 0) (B : TableStart) (ws : List ℕ) (bs : List Batch) (g : WordsMatchHistory S Lawful B ws bs) (c w : ℕ) (e : IsLoaded S B ws bs (c, w)) where
@@ -43,7 +44,7 @@ module _ (S : Setup) (Lawful : List ℕ → Type 0) (B : TableStart) (ws : List 
   cell_same a l = table (S.callers + 1 + a) (omega arith)
 
   log_in : (j x : ℕ) → j < S.callers → x < 2 * S.cells + 1 → log_at S j x < cell_count S
-  log_in j x l u = let r : j * (2 * S.cells + 1) + (2 * S.cells + 1) ≤ S.callers * (2 * S.cells + 1) = room_for j S.callers (2 * S.cells + 1) l in omega arith
+  log_in j x l u = let r : j * (2 * S.cells + 1) + (2 * S.cells + 1) ≤ S.callers * (2 * S.cells + 1) = row_within j S.callers (2 * S.cells + 1) l in omega arith
 
   pub log_same : (j x : ℕ) → j < S.callers → x < 2 * S.cells + 1 → log_word_of S vs j x ≡ log_word_of S ws j x
   log_same j x l u = table (log_at S j x) (log_in j x l u)

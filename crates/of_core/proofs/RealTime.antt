@@ -1,7 +1,7 @@
 -- What two moments of a schedule say of the calls between them: one that has ended at the first is
 -- in no batch that is committed later, and one that hasn't begun is in none that stands.
 use Rattle.std.proofs.Common.{◌≡◌, ℕ, suc, ◌+◌, ◌-◌, ◌<◌, ◌≤◌, ◌⊎◌, ◌==◌, inl, inr, List, [], ◌∷◌, ◌++◌, length, take, get_or, refl, sym, ◌∙◌, ap, subst, arith, Bool, true, false}
-use Rattle.std.proofs.lemmas.Bool.{cases_lt, cases_eq}
+use Rattle.std.proofs.lemmas.Bool.{cases_lt, cases_eq, ne_eqb}
 use Rattle.std.proofs.lemmas.List.{append_assoc, append-nil, length-append, get_or_append_left, get_or-append_right}
 use Rattle.of_mem.specs.Meaning.{IsSoundMeaning}
 use Rattle.of_core.specs.declared.place.Outcome.{Outcome}
@@ -14,7 +14,6 @@ use Rattle.of_core.specs.Order.{no_read}
 use Rattle.of_core.specs.Invariant.{MeetsInvariant}
 use Rattle.of_core.specs.Events.{Event, Begins, Turns, Loads, Evicts, Raises, after_event, after_events, machine_in, MayHappen, IsSchedule, start_ticket}
 use Rattle.of_core.specs.Turn.{IsIdle}
-use Rattle.of_core.proofs.Tests.{other_number}
 use Rattle.of_core.proofs.Happenings.{event_good}
 use Rattle.of_core.proofs.CallEvents.{calls_kept}
 use Rattle.of_core.specs.Calls.{if_so, operation_begun, outcome_of_event, operations_begun, outcomes, no_outcome, outcome_seq, IsNotBefore, OutcomeStands, HasCalls}
@@ -320,7 +319,7 @@ module _ (S : Setup) (Lawful : List ℕ → Type 0) (sound : IsSoundMeaning S.me
         where
           at : (j ≡ i) ⊎ (j ≡ i → ⊥) → IsIdle (machine_in w i)
           at (inl q) = subst (λ (y : ℕ). IsIdle (machine_in w y)) q may.1
-          at (inr q) = absurd (omega (arith, a, ap (λ (b : Bool). length (if_so b (op ∷ []))) (other_number i j q)))
+          at (inr q) = absurd (omega (arith, a, ap (λ (b : Bool). length (if_so b (op ∷ []))) (ne_eqb i j (λ e. q (sym e)))))
       begins_idle (Turns j) may a = absurd (omega arith)
       begins_idle (Loads j) may a = absurd (omega arith)
       begins_idle (Evicts j) may a = absurd (omega arith)

@@ -5,6 +5,7 @@ use Rattle.std.proofs.lemmas.Bool.Decides.{nat_tests}
 use Rattle.std.proofs.lemmas.List.{length-replicate, get_or-set_same, get_or-set_other}
 use Rattle.of_cell.specs.Words.{pack, seq_of, payload_of}
 use Rattle.of_cell.proofs.Order.{seq_word}
+use Rattle.of_cell.proofs.Places.{row_within}
 use Rattle.of_core.specs.declared.place.Place.TheVariants.{Idle, LoadCurrent, LoadRequest, LoadOwnTicket}
 use Rattle.of_core.specs.Table.{Setup, announcement_of, current_word, request_of, data_word, committed_seq, committed_owner, durable_seq}
 use Rattle.of_core.specs.Machine.{CallState, with_cell_known}
@@ -16,7 +17,6 @@ use Rattle.of_core.specs.Rounds.{KnowsClosedState, WasCurrent, IsAnnounced, IsIn
 use Rattle.of_core.specs.Invariant.{HoldsAtPlace, MeetsCore}
 use Rattle.of_core.specs.Guarantees.{KeepsGuarantee}
 use Rattle.of_core.proofs.States.{later, old}
-use Rattle.of_core.proofs.Logs.{room_for}
 use Rattle.of_core.proofs.Tickets.{tickets_grow, row_old}
 use Rattle.of_core.proofs.Stability.{floor_of}
 use Rattle.of_core.proofs.Alike.{begun_as, calm_more, round_as}
@@ -102,7 +102,7 @@ module _ {S : Setup} {Lawful : List ℕ → Type 0} {B : TableStart} where
         go (inr q) = rw q.1 (omega (arith, old S B w.batches g.shared.start (logs_of g) (committed_seq w.words - 1) x (omega (arith, q.0.any)) (omega (arith, n_is)) l))
 
     pub row_in : (a : ℕ) → IsCellOfCaller S i a → a < S.cells
-    row_in a r = omega (arith, r, room_for i S.callers (S.instrs + 2) h, g.shared.own_in)
+    row_in a r = omega (arith, r, row_within i S.callers (S.instrs + 2) h, g.shared.own_in)
 
     -- where the call is in the history up to the round, its own cells are no newer than the round
     pub own_row_old : (n : CallState) → IsPastRequest S B w.words w.batches i n → n.made ≤ last_ticket_by S B w.batches n.seq i → (a : ℕ) → IsCellOfCaller S i a → seq_of (data_word S w.words a) ≤ n.seq

@@ -7,6 +7,7 @@ use Rattle.std.proofs.lemmas.List.{length-map, get_or_push, get_or_append_left}
 use Rattle.std.proofs.lemmas.List.Elements.{All-push}
 use Rattle.of_cell.specs.Words.{pack, seq_of, payload_of}
 use Rattle.of_cell.proofs.Order.{seq_word, pay_word, word_eta}
+use Rattle.of_cell.proofs.Places.{row_within}
 use Rattle.of_mem.specs.Meaning.{WalkEnd, Needs, Gives, WalkFits, IsFinishedWalk, IsSoundMeaning, with_writes_in}
 use Rattle.of_mem.specs.declared.work.RawReply.{RawReply}
 use Rattle.of_mem.specs.CellMap.{put_all}
@@ -23,7 +24,6 @@ use Rattle.of_core.specs.Places.{IsAtCaller}
 use Rattle.of_core.specs.Invariant.{HoldsAtPlace, MeetsCore}
 use Rattle.of_core.specs.Guarantees.{KeepsGuarantee}
 use Rattle.of_core.proofs.States.{state_length}
-use Rattle.of_core.proofs.Logs.{room_for}
 use Rattle.of_core.proofs.Overlays.{extended, walk_fits, over_unknown}
 use Rattle.of_core.proofs.Alike.{past_as, scanning_as}
 use Rattle.of_core.proofs.Assembling.{assemble_read, logs_of, number_at, same_batches, same_words}
@@ -90,7 +90,7 @@ module _ {S : Setup} {Lawful : List ℕ → Type 0} {B : TableStart} where
     hears_now s c l = record { own = λ q. refl; ticket = g.shared.heard.tickets c l; fresh = λ e t. refl; stood = λ a q. refl; small = g.shared.heard.small c l; some = g.shared.heard.some c l }
 
     pub ticket_in_cells : (c : ℕ) → c < S.callers → ticket_cell S c < S.cells
-    ticket_in_cells c l = omega (arith, room_for c S.callers (S.instrs + 2) l, g.shared.own_in)
+    ticket_in_cells c l = omega (arith, row_within c S.callers (S.instrs + 2) l, g.shared.own_in)
 
     pub load_announcement_kept : (m : CallState) → HoldsAtPlace S B w.words w.batches i m LoadAnnouncement → KeepsGuarantee S Lawful B i w (after_counted_step S i m LoadAnnouncement w)
     load_announcement_kept m a = assemble_read g h (take_word_at S m found LoadAnnouncement) (same_words w (script_word_at S m.scan S.instrs)) (same_batches w) (

@@ -4,6 +4,7 @@ use Rattle.std.specs.List.{All}
 use Rattle.std.proofs.lemmas.Bool.{cases_lt, cases_order}
 use Rattle.of_cell.proofs.Order.{seq_word, word_inj, seq_mono}
 use Rattle.of_cell.specs.Words.{pack, seq_of, payload_of}
+use Rattle.of_cell.proofs.Places.{row_within}
 use Rattle.of_mem.specs.declared.work.RawReply.{RawReply}
 use Rattle.of_core.specs.declared.place.Place.{Place}
 use Rattle.of_core.specs.declared.place.Place.TheVariants.{Idle, TryCurrent, TryRequest, TryCell, StoreScript, StoreAnnouncement, LoadCurrent, LoadRequest, CopyLog, LookAgain, LoadOwnTicket, LoadShape, LoadReply, LoadAnnouncement, LoadTicket, LoadScript, LoadCell, RaiseOld, StoreLog, RaiseLog, StoreRequest, RaiseRequest, ExchangeCurrent, RaiseCurrent, LoadTarget, ExchangeTarget, ReloadTarget, RaiseTarget, CloseRequest, RaiseClosed}
@@ -20,7 +21,7 @@ use Rattle.of_core.specs.Transaction.{IsHelping, IsApplying, AppliesAs, OwnsTran
 use Rattle.of_core.specs.Places.{LastOutcomeStands, IsAtCaller, IsAtEntry}
 use Rattle.of_core.specs.Invariant.{HoldsAtPlace, WasHeldByCurrent, IsLoaded}
 use Rattle.of_core.specs.Guarantees.{Guarantees}
-use Rattle.of_core.proofs.Logs.{length-log_words, room_for}
+use Rattle.of_core.proofs.Logs.{length-log_words}
 
 -- a batch's owner has a request of at least its sequence
 pub floor_of : (S : Setup) (Lawful : List ℕ → Type 0) (B : TableStart) (ws : List ℕ) (bs : List Batch) → WordsMatchHistory S Lawful B ws bs → (k : ℕ) → B.seq < k → k ≤ committed_seq ws → pack k 0 ≤ request_of ws (batch_at B bs k).owner
@@ -49,14 +50,14 @@ heard_as S B ws vs bs same n counts h = record {
 }
 
 pub log_in : (S : Setup) (j x : ℕ) → j < S.callers → x < 2 * S.cells + 1 → log_at S j x < cell_count S
-log_in S j x l u = let r : j * (2 * S.cells + 1) + (2 * S.cells + 1) ≤ S.callers * (2 * S.cells + 1) = room_for j S.callers (2 * S.cells + 1) l in omega arith
+log_in S j x l u = let r : j * (2 * S.cells + 1) + (2 * S.cells + 1) ≤ S.callers * (2 * S.cells + 1) = row_within j S.callers (2 * S.cells + 1) l in omega arith
 
 -- two places in rows of the same width
 pub same_row : (j i k y x : ℕ) → y < k → x < k → j * k + y ≡ i * k + x → j ≡ i
 same_row j i k y x l u e = go (cases_order j i)
   where
     lower : (p q : ℕ) → p < q → p * k + k ≤ q * k
-    lower p q v = room_for p q k v
+    lower p q v = row_within p q k v
 
     go : (j ≡ i) ⊎ ((j < i) ⊎ (i < j)) → j ≡ i
     go (inl q) = q

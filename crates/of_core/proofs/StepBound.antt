@@ -4,6 +4,7 @@ use Rattle.std.proofs.Math.Nat.{mul_comm}
 use Rattle.std.proofs.lemmas.Bool.Decides.{nat_tests}
 use Rattle.of_core.specs.declared.machine.trying.TheConstants.{MOST_TRIES}
 use Rattle.of_cell.specs.Words.{pack, seq_of, payload_of}
+use Rattle.of_cell.proofs.Places.{row_within}
 use Rattle.of_mem.specs.Meaning.{WalkEnd, Needs, Gives}
 use Rattle.of_mem.specs.Part.{overlaid}
 use Rattle.of_core.specs.declared.place.Place.{Place}
@@ -15,7 +16,7 @@ use Rattle.of_core.specs.TableMoment.{Moment, TableStart}
 use Rattle.of_core.specs.Transaction.{IsApplying}
 use Rattle.of_core.specs.Invariant.{HoldsAtPlace, MeetsCore}
 use Rattle.of_core.specs.Bound.{bound, unknown_cell_count, steps_to_apply, round_steps_after_help, lost_round_steps, steps_left_in_rounds, steps_left_after_apply, steps_left_after_help, steps_left_in_tries, steps_left_announced, steps_left_in_scan, MachineIsWithinBound}
-use Rattle.of_core.proofs.Logs.{room_for, length-log_words}
+use Rattle.of_core.proofs.Logs.{length-log_words}
 use Rattle.of_core.proofs.Tests.{differ, mark_some}
 use Rattle.of_core.proofs.Rounds.{own_row_old}
 use Rattle.of_core.proofs.OwnReply.{done_now}
@@ -114,7 +115,7 @@ module _ (S : Setup) where
     n_cells j p = rw p.log.many (g.shared.counted.logs m.seq p.after p.upto).few
 
     words_row : S.instrs + 1 ≤ S.callers * (S.instrs + 1)
-    words_row = let r : i * (S.instrs + 1) + (S.instrs + 1) ≤ S.callers * (S.instrs + 1) = room_for i S.callers (S.instrs + 1) h in omega arith
+    words_row = let r : i * (S.instrs + 1) + (S.instrs + 1) ≤ S.callers * (S.instrs + 1) = row_within i S.callers (S.instrs + 1) h in omega arith
 
     -- each step leaves one less
     pub within : (p : Place) → HoldsAtPlace S B w.words w.batches i m p → MachineIsWithinBound S m p → m.place ≡ p

@@ -13,13 +13,6 @@ same_number i = go (i == i) refl
     go true e = refl
     go false e = let z : i ≡ i → ⊥ = grind (arith, nat_tests) in absurd (z refl)
 
-pub other_number : (i j : ℕ) → (j ≡ i → ⊥) → (i == j) ≡ false
-other_number i j n = go (i == j) refl
-  where
-    go : (b : Bool) → (i == j) ≡ b → b ≡ false
-    go true e = let z : j ≡ i = grind (arith, nat_tests) in absurd (n z)
-    go false e = refl
-
 pub mark_none : (shape j n : ℕ) → first_marked_place shape j n ≡ None → (y : ℕ) → j ≤ y → y < j + n → is_marked shape y ≡ true → ⊥
 mark_none shape j zero e y l u q = omega arith
 mark_none shape j (suc n) e y l u q = go (is_marked shape j) refl e (cases_eq y j) (mark_none shape (j + 1) n)

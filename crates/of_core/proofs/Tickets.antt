@@ -3,13 +3,13 @@ use Rattle.std.proofs.Common.{◌≡◌, ℕ, zero, suc, ◌+◌, ◌-◌, ◌<�
 use Rattle.std.specs.List.{All}
 use Rattle.std.proofs.lemmas.Bool.{cases_lt}
 use Rattle.of_cell.specs.Words.{seq_of}
+use Rattle.of_cell.proofs.Places.{row_within}
 use Rattle.of_core.specs.Table.{Setup, first_operation_cell}
 use Rattle.of_core.specs.Machine.{Call, no_call}
 use Rattle.of_core.specs.TableMoment.{Batch, TableStart}
 use Rattle.of_core.specs.History.{batch_at, data_word_after, OwnCellsShowLast, IsNewestCall, IsCellOfCaller, last_ticket_by}
 use Rattle.of_core.specs.WordsMatch.{StatesFollowBatches, IsLog, IsStart}
 use Rattle.of_core.proofs.States.{old}
-use Rattle.of_core.proofs.Logs.{room_for}
 
 module _ (S : Setup) (Lawful : List ℕ → Type 0) (B : TableStart) (bs : List Batch) (st : StatesFollowBatches S Lawful B bs) where
   grow_by : (d k i : ℕ) → B.seq ≤ k → k + d ≤ B.seq + length bs → i < S.callers → last_ticket_by S B bs k i ≤ last_ticket_by S B bs (k + d) i
@@ -57,7 +57,7 @@ module _ (S : Setup) (Lawful : List ℕ → Type 0) (B : TableStart) (bs : List 
     row_old s k i a l u m n t r = go (st.last k i (omega arith) m n)
       where
         a_in : a < S.cells
-        a_in = omega (arith, r, room_for i S.callers (S.instrs + 2) n)
+        a_in = omega (arith, r, row_within i S.callers (S.instrs + 2) n)
 
         go : OwnCellsShowLast S B bs k i → seq_of (data_word_after B bs k a) ≤ s
         go (inl q) = rw (q.1 a r) (omega (arith, old S B bs start logs B.seq a (omega arith) (omega arith) a_in))

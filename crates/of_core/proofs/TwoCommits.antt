@@ -3,6 +3,7 @@ use Rattle.std.proofs.Common.{◌≡◌, ℕ, ◌+◌, ◌<◌, ◌≤◌, ◌�
 use Rattle.std.proofs.lemmas.Bool.{cases_lt}
 use Rattle.std.proofs.lemmas.List.{take-append-drop, get_or-set_other}
 use Rattle.of_cell.specs.Words.{seq_of, payload_of}
+use Rattle.of_cell.proofs.Places.{row_within}
 use Rattle.of_mem.specs.Meaning.{IsSoundMeaning}
 use Rattle.of_core.specs.Table.{Setup, first_operation_cell, cell_count, durable_at, ticket_cell, announcement_of, script_word_at, script_word}
 use Rattle.of_core.specs.Machine.{no_call}
@@ -16,7 +17,6 @@ use Rattle.of_core.specs.Events.{Event, Begins, Turns, Loads, Evicts, Raises, af
 use Rattle.of_core.specs.Commits.{BatchHasCall}
 use Rattle.of_core.proofs.States.{state_start, later}
 use Rattle.of_core.proofs.Assembling.{logs_of}
-use Rattle.of_core.proofs.Logs.{room_for}
 use Rattle.of_core.proofs.Tickets.{tickets_grow}
 use Rattle.of_core.proofs.Found.{found_now}
 use Rattle.of_core.proofs.StepKept.{step_moves}
@@ -84,7 +84,7 @@ module _ (S : Setup) (Lawful : List ℕ → Type 0) (sound : IsSoundMeaning S.me
       first = ap (λ (xs : List ℕ). payload_of (get_or xs (ticket_cell S i) 0)) (state_start B w.batches)
 
       in_cells : ticket_cell S i < S.cells
-      in_cells = omega (arith, room_for i S.callers (S.instrs + 2) member, g.core.shared.own_in)
+      in_cells = omega (arith, row_within i S.callers (S.instrs + 2) member, g.core.shared.own_in)
 
       -- no state has done more than is announced
       at_most : last_ticket_by S B w.batches k i ≤ t

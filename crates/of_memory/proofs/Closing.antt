@@ -1,9 +1,10 @@
 -- The durable words of a closed row of scripts, and what recovery makes of them.
-use Rattle.std.proofs.Common.{◌≡◌, ℕ, ◌+◌, ◌-◌, ◌≤◌, ◌<◌, sym, ◌∙◌, ap, subst, arith, List, ◌++◌, length, get_or, take, drop, length-take-le}
+use Rattle.std.proofs.Common.{◌≡◌, ℕ, ◌+◌, ◌-◌, ◌<◌, sym, ◌∙◌, ap, subst, arith, List, ◌++◌, length, get_or, take, drop}
 use Rattle.std.specs.Prelude.{slice_range}
-use Rattle.std.proofs.lemmas.List.{get_or-take, get_or-drop, length-drop, take_at, ext_get_or}
+use Rattle.std.proofs.lemmas.List.{take_at}
 use Rattle.of_cell.specs.Cells.{durable_cells, table_words}
 use Rattle.of_mem.specs.declared.work.TheConstants.{MOST_INSTRS}
+use Rattle.of_mem.proofs.Lists.{part_at, part_long}
 use Rattle.of_recover.specs.Recovered.{recovered_words}
 use Rattle.of_store.specs.Store.{Store}
 use Rattle.of_eval.specs.declared.scripts.Scripts.{Scripts}
@@ -20,24 +21,11 @@ use Rattle.of_memory.specs.Laws.{setup_with, StandsAt, HoldsLastReplies, KeepScr
 use Rattle.of_caller.specs.PlanRows.{start_of_row}
 use Rattle.of_memory.specs.Serving.{IsScriptsRow}
 
--- the words that are left when the durable ones are moved to the front
-pub kept_durable : (n k : ℕ) (old ws : List ℕ) → n + n ≤ length old → length ws ≡ length old → n ≤ k → ((i : ℕ) → i < k → get_or ws i 0 ≡ get_or old (n + i) 0) → take n ws ≡ slice_range old n (n + n)
-kept_durable n k old ws room long all same =
-    let e : n + n - n ≡ n = omega arith in
-    let left : length (take n ws) ≡ n = length-take-le n ws (omega (arith, room, long)) in
-    let right : length (slice_range old n (n + n)) ≡ n = length-take-le (n + n - n) (drop n old) (omega (arith, length-drop n old, room)) ∙ e in
-    ext_get_or 0 (take n ws) (slice_range old n (n + n)) (left ∙ sym right) (λ i lt.
-    let low : i < n = subst (λ (m : ℕ). i < m) left lt in
-    get_or-take n ws i 0 low ∙ same i (omega (arith, low, all)) ∙ sym (get_or-drop n old i 0) ∙ sym (get_or-take (n + n - n) (drop n old) i 0 (omega (arith, low, e))))
-
 -- the durable words stand behind the cells
 durable_row : (S : Setup) (ws row : List ℕ) → length ws ≡ words_before_members S + 1 → row ≡ slice_range ws (cell_count S) (cell_count S + cell_count S) → IsDurable S ws row
 durable_row S ws row room is = record {
-  long = ap length is ∙ (let e : cell_count S + cell_count S - cell_count S ≡ cell_count S = omega arith in
-      length-take-le (cell_count S + cell_count S - cell_count S) (drop (cell_count S) ws) (omega (arith, length-drop (cell_count S) ws, room)) ∙ e);
-  each = λ c l. ap (λ xs. get_or xs c 0) is
-      ∙ get_or-take (cell_count S + cell_count S - cell_count S) (drop (cell_count S) ws) c 0 (omega (arith, l))
-      ∙ get_or-drop (cell_count S) ws c 0;
+  long = ap length is ∙ part_long ws (cell_count S) (cell_count S) (omega (arith, room));
+  each = λ c l. ap (λ xs. get_or xs c 0) is ∙ part_at ws (cell_count S) (cell_count S) c l;
 }
 
 -- what stands in a list of words when recovery, which leaves as many, has been through it

@@ -3,6 +3,7 @@ use Rattle.std.proofs.Common.{◌≡◌, ◌≢◌, ℕ, ◌+◌, ◌-◌, ◌<�
 use Rattle.std.proofs.lemmas.Bool.{cases_lt}
 use Rattle.std.proofs.lemmas.List.{get_or-set_same, get_or-set_other, get_or_append_left, get_or_default, length-append, same_lists}
 use Rattle.std.proofs.Math.Seq.{get_or-append_seam, take-append_seam}
+use Rattle.of_mem.proofs.Lists.{same_some}
 use Rattle.of_eval.specs.declared.scripts.Scripts.{Scripts}
 use Rattle.of_caller.specs.declared.caller.Caller.{Caller}
 use Rattle.of_memory.specs.declared.error.EnrolErr.{EnrolErr}
@@ -19,15 +20,12 @@ use Rattle.of_memory.specs.Tasks.{KnowsHandle, KnowsSame, KnowsRest, RestKnowsOr
 
 -- ---- what a memory knows of a number
 
-the_same : {A : Type 0} (a b : A) (x : Option A) → x ≡ Some a → x ≡ Some b → a ≡ b
-the_same a b x p q = cc (p, q)
-
 pub knows_handle : (m : Memory) (h : Handle) → get_or m.callers.items h.number None ≡ Some h.caller → KnowsHandle m h
 knows_handle m h is = record {
   made = λ ms made. record { caller = h.caller; here = is; made = made };
-  only = λ ms has. subst (λ (c : Caller Scripts). AreMade (ended_of c) ms) (the_same has.caller h.caller (get_or m.callers.items h.number None) has.here is) has.made;
+  only = λ ms has. subst (λ (c : Caller Scripts). AreMade (ended_of c) ms) (same_some has.caller h.caller (get_or m.callers.items h.number None) has.here is) has.made;
   open_call = λ script opened. record { caller = h.caller; here = is; opened = opened };
-  only_open = λ script has. subst (IsOpenAt script) (the_same has.caller h.caller (get_or m.callers.items h.number None) has.here is) has.opened;
+  only_open = λ script has. subst (IsOpenAt script) (same_some has.caller h.caller (get_or m.callers.items h.number None) has.here is) has.opened;
 }
 
 pub knows_same : (n : ℕ) (m k : Memory) → get_or k.callers.items n None ≡ get_or m.callers.items n None → KnowsSame n m k

@@ -18,6 +18,7 @@ use Rattle.std.proofs.lemmas.Bool.{lt-ltb}
 use Rattle.of_mem.specs.declared.work.RawReply.{RawReply}
 use Rattle.of_mem.specs.Meaning.{is_marked}
 use Rattle.of_mem.specs.Places.{ticket_cell_at, shape_at, reply_at}
+use Rattle.of_mem.proofs.Lists.{prefix_trans}
 use Rattle.of_script.specs.declared.instr.Instr.{Instr}
 use Rattle.of_script.specs.declared.instr.TheConstants.{MOST_INSTRS}
 use Rattle.of_script.specs.Language.{IsScript, instr_word, reads_only}
@@ -41,13 +42,12 @@ use Rattle.of_core.specs.Invariant.{MeetsInvariant}
 use Rattle.of_core.specs.Grounds.{GoodGrounds}
 use Rattle.of_core.specs.Laws.{StartsMeetInvariant, SchedulesKeepInvariant, InvariantIsSound, RecoveredRowsMayStart}
 use Rattle.atomic_table.specs.Table.{State}
-use Rattle.of_row.specs.Views.{EndedCall, KnownCaller, View, no_ended, Each}
+use Rattle.of_row.specs.Views.{EndedCall, KnownCaller, View, no_ended}
 use Rattle.of_row.specs.Rule.{MeetsRule, ticket_at as own_ticket, done_before}
 use Rattle.of_row.specs.Told.{open_operation, operations_known}
 use Rattle.of_row.specs.Trail.{first_of, moment, IsRunBy, EachView}
 use Rattle.of_row.specs.Moments.{ExplainsEndedCalls, StopsLoseNothing, LosesNothing, words_alone}
 use Rattle.of_core.proofs.Tickets.{ticket_upto}
-use Rattle.of_caller.proofs.CallSteps.{prefix_trans}
 use Rattle.of_caller.proofs.StoresReplay.{number_at, state_start}
 use Rattle.of_caller.proofs.StoresRecovered.{stand_same}
 use Rattle.of_memory.specs.History.{HistoryEntry, no_history_entry, Made, no_made, store_after, IsOneOf, ScriptOnlyReads, IsUpTo}
@@ -72,7 +72,7 @@ begun_are x r =
     All-from_recursion IsScriptOperation (operations_known x)
     (begun_scripts x.ended (open_operation x.machine (is_idle x.machine.place)) (recursion_from_All (λ (e : EndedCall). IsScriptOperation e.op) x.ended r.ended) (open_scripts x.machine (is_idle x.machine.place) r.open_call))
 
-operations_are : (S : Setup) (B : TableStart) (es : List Event) (n : ℕ) (xs : List KnownCaller) → KeepsSo n RunsScripts xs → Each (IsRunBy S B es) xs → All IsScriptOperation (operations_begun es n)
+operations_are : (S : Setup) (B : TableStart) (es : List Event) (n : ℕ) (xs : List KnownCaller) → KeepsSo n RunsScripts xs → Every (IsRunBy S B es) xs → All IsScriptOperation (operations_begun es n)
 operations_are S B es n [] keeps told = absurd keeps
 operations_are S B es n (x ∷ xs) (inl h) told =
     subst (λ (m : ℕ). All IsScriptOperation (operations_begun es m)) h.0 (subst (All IsScriptOperation) told.0.told.begun (begun_are x h.1))
@@ -87,7 +87,7 @@ made_at (e ∷ es) [] y h l = absurd h
 made_at (e ∷ es) (m ∷ ms) zero h l = (omega arith, h.0)
 made_at (e ∷ es) (m ∷ ms) (suc y) h l = let r = made_at es ms y h.1 (omega arith) in (omega (arith, r.0), r.1)
 
-each_of : {P Q : KnownCaller → Type 0} → ((x : KnownCaller) → P x → Q x) → (xs : List KnownCaller) → Each P xs → Each Q xs
+each_of : {P Q : KnownCaller → Type 0} → ((x : KnownCaller) → P x → Q x) → (xs : List KnownCaller) → Every P xs → Every Q xs
 each_of f [] h = tt
 each_of f (x ∷ xs) h = (f x h.0, each_of f xs h.1)
 

@@ -1,8 +1,9 @@
 -- What a memory knows of its callers, and the history that its close leaves.
 use Rattle.std.proofs.Common.{◌≡◌, ℕ, ◌+◌, ◌<◌, inl, inr, true≢false, List, [], ◌∷◌, length, get_or, set, Option, Some, None, sym, ap, subst, ◌∙◌, arith}
-use Rattle.std.specs.List.{All}
+use Rattle.std.specs.List.{All, AllByRecursion as Each}
 use Rattle.std.proofs.lemmas.Bool.{cases_lt}
 use Rattle.std.proofs.lemmas.List.{get_or-set_same, get_or-set_other, get_or_past}
+use Rattle.of_mem.proofs.Lists.{prefix_trans, same_some}
 use Rattle.of_script.specs.declared.instr.Instr.{Instr}
 use Rattle.of_store.specs.Store.{Store}
 use Rattle.of_eval.specs.declared.scripts.Scripts.{Scripts}
@@ -15,10 +16,9 @@ use Rattle.of_core.specs.Starts.{start_from_durable}
 use Rattle.of_row.specs.declared.row.Row.{Row}
 use Rattle.of_row.specs.Rows.{key_of, setup_at}
 use Rattle.of_row.specs.Rule.{done_before}
-use Rattle.of_row.specs.Views.{EndedCall, KnownCaller, View, Each}
+use Rattle.of_row.specs.Views.{EndedCall, KnownCaller, View}
 use Rattle.of_caller.specs.declared.caller.Caller.{Caller}
 use Rattle.of_caller.specs.Callers.{caller_call}
-use Rattle.of_caller.proofs.CallSteps.{prefix_trans}
 use Rattle.of_memory.specs.declared.memory.Memory.{Memory}
 use Rattle.of_memory.specs.declared.handle.Handle.{Handle}
 use Rattle.of_memory.specs.declared.saved.Saved.{Saved}
@@ -31,7 +31,7 @@ use Rattle.of_caller.specs.PlanRows.{start_of_row}
 use Rattle.of_memory.specs.Serving.{Serves, IsNew, AllStand, AllHere, IsKeptOf, KeepsThose, KnowsPasts, ended_of, events_known_to, made_before}
 use Rattle.of_memory.specs.Handles.{IsHandle}
 use Rattle.of_memory.specs.Memories.{IsMemory, IsFrom, HasMadeOf, HasOpenOf, HasNoneOpen, KnowsOthers, OthersStayOpen, OthersKnowOrder, HasHistory, row_of, callers_of}
-use Rattle.of_memory.proofs.Seats.{number_below, keeps_as, same_caller}
+use Rattle.of_memory.proofs.Seats.{number_below, keeps_as}
 
 -- ---- a caller is taken out of its place, or put into it
 
@@ -64,7 +64,7 @@ open_here k cs i c is lt script opened = record {
 }
 
 pub same_open : (m : Memory) (i : ℕ) (c : Caller Scripts) (script : List Instr) → get_or m.callers.items i None ≡ Some c → HasOpenOf m i script → IsOpenAt script c
-same_open m i c script here h = subst (IsOpenAt script) (same_caller h.caller c (get_or m.callers.items i None) h.here here) h.opened
+same_open m i c script here h = subst (IsOpenAt script) (same_some h.caller c (get_or m.callers.items i None) h.here here) h.opened
 
 pub low_number : (m : Memory) (i : ℕ) (c : Caller Scripts) → IsMemory m → Serves (row_of m) i c → i < length m.callers.items
 low_number m i c h s = let low = number_below (row_of m) i c s in omega (arith, low, h.each)
@@ -92,7 +92,7 @@ pub none_open : (m : Memory) (r : Row Scripts) (k : ℕ) → length m.callers.it
 none_open m r k long all n script h =
     let low = is_within m.callers.items n h.caller h.here in
     let one = all n (omega (arith, low, long)) in
-    let same : one.0 ≡ h.caller = same_caller one.0 h.caller (get_or m.callers.items n None) one.1 h.here in
+    let same : one.0 ≡ h.caller = same_some one.0 h.caller (get_or m.callers.items n None) one.1 h.here in
     let idle : IsIdle (caller_call h.caller) = subst (λ (x : Caller Scripts). IsIdle (caller_call x)) same one.2.idle in
     absurd (true≢false (sym (ap is_idle idle) ∙ h.opened.open_call))
 

@@ -1,11 +1,13 @@
 -- The callers of a memory at their places, and what a pass keeps that gathers them.
 use Rattle.std.specs.Prelude.{is_some, not}
 use Rattle.std.proofs.Common.{◌≡◌, ◌≢◌, ℕ, ◌+◌, ◌<◌, ◌⊎◌, inl, inr, Bool, false, List, [], ◌∷◌, ◌++◌, length, get_or, set, Option, Some, None, refl, sym, ap, subst, ◌∙◌, arith}
+use Rattle.std.specs.List.{AllByRecursion as Each}
 use Rattle.std.proofs.lemmas.Bool.{cases_lt}
 use mathlib.Core.Bool.{true≢false}
 use mathlib.Core.List.{IsPrefix}
 use Rattle.std.proofs.lemmas.List.{get_or-set_same, get_or-set_other, get_or_append_left, get_or_past}
 use Rattle.std.proofs.Math.Seq.{get_or-append_seam}
+use Rattle.of_mem.proofs.Lists.{prefix_trans}
 use Rattle.of_eval.specs.declared.scripts.Scripts.{Scripts}
 use Rattle.of_eval.specs.Scripts.{scripts_meaning, LawfulCells}
 use Rattle.of_row.specs.declared.member.Member.{Member}
@@ -14,7 +16,7 @@ use Rattle.of_row.specs.declared.row.Row.{Row}
 use Rattle.of_row.specs.Passes.{HasEnrolled, IsFirst}
 use Rattle.of_row.specs.Rows.{key_of, setup_at, row_start}
 use Rattle.of_row.specs.Rule.{IsAsked, open_call_count}
-use Rattle.of_row.specs.Views.{KnownCaller, View, Each, last_caller, seen_seq}
+use Rattle.of_row.specs.Views.{KnownCaller, View, last_caller, seen_seq}
 use Rattle.of_row.specs.Turned.{new_known_caller, StandsForMachine}
 use Rattle.of_core.specs.Table.{Setup}
 use Rattle.of_core.specs.declared.place.Place.{Place}
@@ -24,7 +26,6 @@ use Rattle.of_core.specs.Events.{Event}
 use Rattle.of_core.specs.MachineValue.{machine_setup}
 use Rattle.of_caller.specs.declared.caller.Caller.{Caller}
 use Rattle.of_caller.specs.Callers.{IsCaller, caller_call, calls_begun_by, sight_of}
-use Rattle.of_caller.proofs.CallSteps.{prefix_trans}
 use Rattle.of_caller.proofs.Behind.{ended_later}
 use Rattle.of_memory.specs.Calls.{IsScriptOperation, RunsScripts}
 use Rattle.of_memory.specs.Laws.{KeepsSo}
@@ -191,9 +192,6 @@ kept_more fs i xs ys all others own n c lt here = elim (cases_lt n i) [
       let at : n ≡ i = omega (arith, lt, high) in
       subst (λ (k : ℕ). KeepsSo k (IsKeptOf c) ys) (sym at) (own c (ap (λ (k : ℕ). get_or fs k None) (sym at) ∙ here))
 ]
-
-pub same_caller : (a b : Caller Scripts) (x : Option (Caller Scripts)) → x ≡ Some a → x ≡ Some b → a ≡ b
-same_caller a b x p q = cc (p, q)
 
 pub here_more : (cs : List (Option (Caller Scripts))) (i : ℕ) → AllHere cs i → (c : Caller Scripts) × (get_or cs i None ≡ Some c) → AllHere cs (i + 1)
 here_more cs i all one n lt = elim (cases_lt n i) [

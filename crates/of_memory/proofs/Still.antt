@@ -2,6 +2,7 @@
 use Rattle.std.proofs.Common.{◌≡◌, ◌≢◌, ℕ, ◌<◌, inl, inr, List, length, get_or, set, Option, Some, None, sym, ap, subst, ◌∙◌, arith}
 use Rattle.std.proofs.lemmas.Bool.{cases_lt}
 use Rattle.std.proofs.lemmas.List.{get_or-set_same, get_or-set_other, length-set}
+use Rattle.of_mem.proofs.Lists.{same_some}
 use Rattle.of_script.specs.declared.instr.Instr.{Instr}
 use Rattle.of_eval.specs.declared.scripts.Scripts.{Scripts}
 use Rattle.of_row.specs.declared.row.Row.{Row}
@@ -17,7 +18,6 @@ use Rattle.of_memory.specs.Serving.{made_before}
 use Rattle.of_memory.specs.Handles.{HasCallOpen, IsSame}
 use Rattle.of_memory.specs.Memories.{IsStill, HasOpenOf, HasNoneOpen, TakesOut, PutsBack, callers_of}
 use Rattle.of_memory.specs.Joining.{MemoriesStay, NoneStaysOpen}
-use Rattle.of_memory.proofs.Seats.{same_caller}
 use Rattle.of_memory.proofs.Holding.{is_within}
 
 pub still_callers : (m k : Memory) → IsStill m k → callers_of k ≡ callers_of m
@@ -57,7 +57,7 @@ module _ (m k l : Memory) (h g : Handle) (none : HasNoneOpen m) (out : TakesOut 
   here is =
       let low : h.number < length there = omega (arith, is_within m.callers.items h.number h.caller out.was, ap (λ (cs : Seats). length cs) out.now, length-set m.callers.items h.number None) in
       let at : get_or (set there h.number (Some g.caller)) i None ≡ Some g.caller = ap (λ (n : ℕ). get_or (set there h.number (Some g.caller)) n None) is ∙ get_or-set_same there h.number (Some g.caller) None low in
-      let one : opened.caller ≡ g.caller = same_caller opened.caller g.caller (get_or l.callers.items i None) opened.here (put ∙ at) in
+      let one : opened.caller ≡ g.caller = same_some opened.caller g.caller (get_or l.callers.items i None) opened.here (put ∙ at) in
       closed (subst (λ (c : Caller Scripts). IsOpen (caller_call c).place) one opened.opened.open_call)
 
   pub stays_closed : ⊥

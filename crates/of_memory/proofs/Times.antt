@@ -2,6 +2,7 @@
 use Rattle.std.proofs.Common.{◌≡◌, ℕ, ◌≤◌, ◌<◌, false, List, [], length, append-nil, get_or, Some, None, Result, sym, ap, subst, ◌∙◌, arith}
 use mathlib.Core.Bool.{true≢false}
 use mathlib.Core.List.{IsPrefix}
+use Rattle.of_mem.proofs.Lists.{prefix_trans, same_some}
 use Rattle.of_plan.specs.declared.answer.Answer.{Answer}
 use Rattle.of_eval.specs.declared.scripts.Scripts.{Scripts}
 use Rattle.of_eval.specs.Scripts.{scripts_meaning, LawfulCells}
@@ -18,7 +19,6 @@ use Rattle.of_caller.specs.declared.caller.CallErr.{CallErr}
 use Rattle.of_caller.specs.CallsTold.{TellsCall}
 use Rattle.of_caller.specs.Callers.{IsCaller, caller_call, sight_of}
 use Rattle.of_caller.specs.PlanRows.{start_of_row}
-use Rattle.of_caller.proofs.CallSteps.{prefix_trans}
 use Rattle.of_caller.proofs.Behind.{ended_later}
 use Rattle.of_memory.specs.declared.error.RunErr.{RunErr}
 use Rattle.of_memory.specs.declared.memory.Memory.{Memory}
@@ -33,7 +33,7 @@ use Rattle.of_memory.specs.Handles.{IsHandle, home_of, number_of_handle, caller_
 use Rattle.of_memory.specs.Memories.{HasOrderOf, row_of}
 use Rattle.of_memory.specs.Telling.{KeepsKnown, CallsStay, BeginsAfterHeard, KnowsOrder, TellsOf, TellsOwn, TellsHeard, HearsAll, ToldCallsComeFirst, events_told}
 use Rattle.of_memory.proofs.Called.{made_many, next_of}
-use Rattle.of_memory.proofs.Seats.{open_same, same_caller, serves_same}
+use Rattle.of_memory.proofs.Seats.{open_same, serves_same}
 
 -- the machines on a row of scripts have in common what those of its scripts have
 pub even : (r : Row Scripts) → IsScriptsRow r → setup_at scripts_meaning r ≡ setup_with (key_of r).work (key_of r).limit
@@ -107,7 +107,7 @@ begins_after result h k home more next started ms made n count heard =
 
 pub order_out : (m : Memory) (i : ℕ) (c : Caller Scripts) (r : Row Scripts) → get_or m.callers.items i None ≡ Some c → r ≡ row_of m → (n x k y : ℕ) → HasOrderOf m i n x k y → EndBefore (setup_at scripts_meaning r) (start_of_row r) (events_known_to c) n x k y
 order_out m i c r here home n x k y has =
-    let same : has.caller ≡ c = same_caller has.caller c (get_or m.callers.items i None) has.here here in
+    let same : has.caller ≡ c = same_some has.caller c (get_or m.callers.items i None) has.here here in
     subst (λ (z : Row Scripts × Caller Scripts). EndBefore (setup_at scripts_meaning z.0) (start_of_row z.0) (events_known_to z.1) n x k y) (λ i. (sym home i, same i)) has.order
 
 pub order_in : (m : Memory) (h : Handle) → get_or m.callers.items h.number None ≡ Some h.caller → home_of h ≡ row_of m → (n x k y : ℕ) → KnowsOrder h n x k y → HasOrderOf m h.number n x k y

@@ -1,6 +1,6 @@
 -- What a closed row of scripts holds: one serial history of scripts on the plain store.
 use Rattle.std.specs.Prelude.{◌≡◌, ℕ, ◌+◌, ◌<◌, ◌⊎◌, List, [], ◌∷◌, map, false}
-use Rattle.std.specs.List.{All}
+use Rattle.std.specs.List.{All, AllByRecursion as Each}
 use Rattle.of_cell.specs.Words.{payload_of}
 use Rattle.of_recover.specs.Recovered.{recovered_words}
 use Rattle.of_mem.specs.ProgramWork.{memory_of}
@@ -18,7 +18,7 @@ use Rattle.of_core.specs.Machine.{IsOpen}
 use Rattle.of_core.specs.TableMoment.{TableStart}
 use Rattle.of_core.specs.Events.{Event}
 use Rattle.of_core.specs.Starts.{IsDurable, IsStartRow, start_from_durable}
-use Rattle.of_row.specs.Views.{KnownCaller, View, Each}
+use Rattle.of_row.specs.Views.{KnownCaller, View}
 use Rattle.of_row.specs.Rule.{ViewMeetsRule, done_before}
 use Rattle.of_memory.specs.History.{HistoryEntry, Made, IsSerial, store_after, StandsInOrder, ExplainsAll, HasOnly, HasEntry, IsUpTo, ComeInOrder}
 use Rattle.of_memory.specs.Times.{EndBefore}

@@ -5,6 +5,7 @@ use Rattle.std.proofs.lemmas.Bool.Decides.{nat_tests}
 use Rattle.std.proofs.lemmas.List.{length-map, append-nil, get_or-map, get_or_append_left, get_or_push, take_more, take_all}
 use Rattle.std.specs.List.{flat_map}
 use Rattle.std.proofs.lemmas.Grind.{flat_map-append}
+use Rattle.of_mem.proofs.Lists.{take_none}
 use Rattle.of_eval.specs.Scripts.{scripts_meaning}
 use Rattle.of_plan.specs.declared.answer.Answer.{Answer}
 use Rattle.of_plan.specs.declared.answer.Ending.{Ending}
@@ -36,18 +37,11 @@ none_made S i zero c = refl
 none_made S i (suc n) zero = zero_ticket S i
 none_made S i (suc n) (suc c) = none_made S (suc i) n c
 
-take_zero : {A : Type 0} (xs : List A) → take 0 xs ≡ []
-take_zero [] = refl
-take_zero (x ∷ xs) = refl
-
-take_none : {A : Type 0} (n : ℕ) (xs : List A) → n ≡ 0 → take n xs ≡ []
-take_none n xs e = ap (λ (k : ℕ). take k xs) e ∙ take_zero xs
-
 pub starts : (p : Plan) → EventsMayFollow p []
 starts p = record {
   schedule = tt;
   made = λ c h. omega (arith, none_made (plan_setup p) 0 p.callers c);
-  begun = λ c h. sym (ap (map operation_of) (take_none _ (scripts_of p c) (none_made (plan_setup p) 0 p.callers c)));
+  begun = λ c h. sym (ap (map operation_of) (ap (λ (k : ℕ). take k (scripts_of p c)) (none_made (plan_setup p) 0 p.callers c) ∙ take_none (scripts_of p c)));
 }
 
 pub start_stands : (p : Plan) (s : ScheduleRun) → s.bank.callers ≡ p.callers → bank_setup scripts_meaning s.bank ≡ plan_setup p

@@ -1,7 +1,6 @@
 -- A spent call is the last of its caller's where a spent caller begins none.
-use Rattle.std.proofs.Common.{◌≡◌, ℕ, zero, suc, ◌+◌, ◌==◌, ◌<◌, ◌≤◌, inl, inr, Bool, true, false, List, [], ◌∷◌, ◌++◌, length, get_or, refl, sym, ap, subst, ◌∙◌, arith, Some, None, Option, append_assoc}
-use Rattle.std.proofs.lemmas.Bool.{cases_eq, cases_lt}
-use Rattle.std.proofs.lemmas.Bool.Decides.{nat_tests}
+use Rattle.std.proofs.Common.{◌≡◌, ℕ, zero, suc, ◌+◌, ◌<◌, ◌≤◌, inl, inr, Bool, true, false, List, [], ◌∷◌, ◌++◌, length, get_or, refl, sym, ap, subst, ◌∙◌, arith, Some, None, Option, append_assoc}
+use Rattle.std.proofs.lemmas.Bool.{cases_eq, cases_lt, ne_eqb}
 use Rattle.std.proofs.lemmas.List.{append-nil, get_or_append_left}
 use Rattle.of_plan.specs.Plan.{Plan}
 use Rattle.of_core.specs.declared.place.Place.TheVariants.{Idle}
@@ -33,9 +32,6 @@ BeginsUnspent w (Raises c) i = Unit {0}
 abbrev pub NoneAfterSpent : Setup → Moment → List Event → ℕ → Type 0
 NoneAfterSpent S w [] i = Unit {0}
 NoneAfterSpent S w (e ∷ es) i = BeginsUnspent w e i × NoneAfterSpent S (after_event S w e) es i
-
-other_number : (i j : ℕ) → (j ≡ i → ⊥) → (i == j) ≡ false
-other_number i j other = let none : i ≡ j → ⊥ = λ same. other (sym same) in grind (arith, nat_tests)
 
 -- the last outcome is the one at the last place
 pub last_at : (outs : List Outcome) (before : Option Outcome) (x : ℕ) → x + 1 ≡ length outs → last_outcome_or before outs ≡ Some (get_or outs x no_outcome)
@@ -77,7 +73,7 @@ module _ (S : Setup) (Lawful : List ℕ → Type 0) (laws : HasTableLaws S Lawfu
     event_ends g (Raises x) may unspent = same_calls
     event_ends g (Begins j op) may unspent = elim (cases_eq j i) [
       | inl same ↦ one_more (operation_begun (Begins j op) i) (ap (λ (k : ℕ). (machine_in w k).place) (sym same) ∙ may.1) (unspent (sym same))
-      | inr other ↦ subst (λ (b : Bool). EndsSpent (ops ++ if_so b (op ∷ [])) (outs ++ [])) (sym (other_number i j other)) same_calls
+      | inr other ↦ subst (λ (b : Bool). EndsSpent (ops ++ if_so b (op ∷ [])) (outs ++ [])) (sym (ne_eqb i j (λ e. other (sym e)))) same_calls
     ]
     event_ends g (Turns j) may unspent = one_ended (outcome_of_event S w (Turns j) i) (ended_begun S (after_event S w (Turns j)) i (ops ++ []) (outs ++ outcome_of_event S w (Turns j) i) (laws.more_calls (zero_start S) w g i 0 member ops outs c (Turns j) may)).0
 

@@ -1,6 +1,7 @@
 -- Evictions may be made at once: of each schedule there is one in which each eviction is made when its cell
 -- is loaded, that leaves the same but for the words that are still to be raised.
 use Rattle.std.proofs.Common.{◌≡◌, ◌==◌, ℕ, zero, suc, ◌+◌, ◌<◌, ◌≤◌, ◌⊎◌, inl, inr, max, Bool, true, false, List, [], ◌∷◌, ◌++◌, length, get_or, set, map, refl, sym, ◌∙◌, ap, subst, arith, length-set}
+use Rattle.std.specs.List.{AllByRecursion as Each}
 use Rattle.std.proofs.lemmas.Bool.{cases_eq}
 use Rattle.std.proofs.lemmas.List.{append_assoc, append-nil, map-append, get_or-set_same, get_or-set_other, get_or_default, set-set, set_comm}
 use lib.Seq.{set-get_or}
@@ -19,7 +20,7 @@ use Rattle.of_core.specs.Events.{Event, Begins, Turns, Loads, Evicts, Raises, ma
 use Rattle.of_core.specs.Calls.{if_so, operations_begun, outcomes, operation_begun, outcome_of_event, outcome_of_step, TurnsFindOpenCalls}
 use Rattle.of_core.specs.Laws.{IsRaise, GoesBlindly}
 use Rattle.of_core.proofs.Parts.{run_append, operations_append, outcomes_append}
-use Rattle.of_row.specs.Views.{seen_batch, Each}
+use Rattle.of_row.specs.Views.{seen_batch}
 use Rattle.of_core.specs.WordsMatch.{MayStart}
 use Rattle.of_row.specs.Trail.{first_of, whole_of, at_once, TurnIsNext, IsPrompt, AreSteps, evictions}
 use Rattle.of_row.specs.RowLaws.{RowLaws}

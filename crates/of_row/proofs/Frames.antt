@@ -1,6 +1,7 @@
 -- What a move of a row leaves as it is: words that agree, views in their list, and how a view goes on fitting.
 use Rattle.std.proofs.Common.{◌≡◌, ◌≢◌, ℕ, zero, suc, ◌<◌, ◌≤◌, ◌⊎◌, inl, inr, ⊎_elim, max, cond, eqb, Bool, true, false, List, [], ◌∷◌, ◌++◌, length, get_or, set, refl, sym, ◌∙◌, ap, subst, arith, eq-eqb, ne_eqb}
 use Rattle.std.specs.Int.{bit_at}
+use Rattle.std.specs.List.{AllByRecursion as Each}
 use Rattle.std.proofs.lemmas.Bool.{cases_eq}
 use Rattle.std.proofs.lemmas.List.{get_or-set_same, get_or-set_other, set_comm}
 use mathlib.Core.Option.{some, some-injective, some-ne-none}
@@ -12,7 +13,7 @@ use Rattle.of_core.specs.Table.{Setup, cell_count, durable_word}
 use Rattle.of_core.specs.Steps.{word_of, word_left, words_after, IsFoundBy}
 use Rattle.of_core.specs.TableMoment.{TableStart, Batch}
 use Rattle.of_core.specs.Events.{Event}
-use Rattle.of_row.specs.Views.{KnownCaller, View, IsSeenPrefix, seen_seq, Each}
+use Rattle.of_row.specs.Views.{KnownCaller, View, IsSeenPrefix, seen_seq}
 use Rattle.of_row.specs.Trail.{IsRunBy}
 use Rattle.of_row.specs.Rule.{members_of, IsAsked, IsFirstPassView, IsRaised, IsAtHome, KnowsCallsOf, ViewFits}
 use Rattle.of_row.proofs.Pasts.{prefix_more}

@@ -1,9 +1,10 @@
 -- Any moment of a row: the events that came lead to its words, and recovery of them finds all that was answered.
 use Rattle.std.proofs.Common.{◌≡◌, ℕ, ◌+◌, ◌≤◌, ◌<◌, inl, inr, ⊎_elim, List, [], length, map, get_or, false, refl, sym, ◌∙◌, ap, subst, arith}
-use Rattle.std.specs.List.{All}
+use Rattle.std.specs.List.{All, AllByRecursion as Each}
 use Rattle.std.proofs.lemmas.List.{length-map, get_or-map, get_or_append_left}
 use Rattle.atomic_table.specs.Table.{State}
 use Rattle.of_cell.specs.Words.{payload_of}
+use Rattle.of_cell.proofs.Places.{row_within}
 use Rattle.of_recover.proofs.Agreeing.{recovered_data-same}
 use Rattle.of_core.specs.declared.place.Outcome.{Outcome}
 use Rattle.of_core.specs.Table.{Setup, cell_count, words_before_members, durable_at, durable_word, ticket_cell, shape_cell, reply_cell}
@@ -16,8 +17,7 @@ use Rattle.of_core.specs.Events.{Event}
 use Rattle.of_core.specs.Calls.{operations_begun, outcomes, no_outcome}
 use Rattle.of_core.specs.Laws.{EveryOrder, RecoveredRowsMayStart}
 use Rattle.of_core.specs.Linear.{ExplainsOutcome, Linearizes, recovered_number, FindsCall, Detects, IsRecovered, IsDurablyLinearizable}
-use Rattle.of_core.proofs.Logs.{room_for}
-use Rattle.of_row.specs.Views.{EndedCall, KnownCaller, View, no_ended, Each}
+use Rattle.of_row.specs.Views.{EndedCall, KnownCaller, View, no_ended}
 use Rattle.of_row.specs.Rule.{members_of, ticket_at, ended_operation_at, outcome_at, IsAtHome, ViewFits, MeetsRule, ViewMeetsRule, EachFree}
 use Rattle.of_row.specs.Trail.{first_of, moment, IsToldBy, IsRunBy, EachView}
 use Rattle.of_row.specs.RowLaws.{RowLaws}
@@ -60,7 +60,7 @@ module _ (S : Setup) (L : List ℕ → Type 0) (B : TableStart) (s : State (Unit
 
     -- a caller's own cells are cells
     own_in : (i x : ℕ) → i < S.callers → x < S.instrs + 2 → ticket_cell S i + x < S.cells
-    own_in i x below low = omega (arith, low, room_for i S.callers (S.instrs + 2) below, grounds.own_in)
+    own_in i x below low = omega (arith, low, row_within i S.callers (S.instrs + 2) below, grounds.own_in)
 
     ticket_same : (i : ℕ) → i < S.callers → recovered_number S (words_alone s.words) (ticket_cell S i) ≡ recovered_number S W (ticket_cell S i)
     ticket_same i below = found_same (ticket_cell S i) (omega (arith, own_in i 0 below (omega arith)))

@@ -1,10 +1,11 @@
 -- Whom a seat keeps are callers of its row, after each step.
 use Rattle.std.proofs.Common.{ℕ, ◌<◌, ◌==◌, Bool, true, false, List, [], ◌∷◌, ◌∙◌, sym, subst}
 use Rattle.std.specs.Int.{bit_at}
+use Rattle.std.specs.List.{AllByRecursion as Each}
 use Rattle.of_core.specs.Table.{Setup}
 use Rattle.of_core.specs.Machine.{CallState}
 use Rattle.of_core.specs.TableMoment.{TableStart}
-use Rattle.of_row.specs.Views.{KnownCaller, View, Each}
+use Rattle.of_row.specs.Views.{KnownCaller, View}
 use Rattle.of_row.specs.Turned.{AsksForNumber, IsMember, MakesStep, after_enrol, head_as_list, rest_of}
 use Rattle.of_row.proofs.Members.{caller_is}
 

@@ -1,6 +1,7 @@
 -- A run of threads is a schedule: that of its events, with evictions made at once.
 use Rattle.std.proofs.Common.{◌≡◌, ℕ, ◌+◌, ◌≤◌, ◌<◌, List, [], ◌++◌, length, map, get_or, set, true, false, sym, ◌∙◌, ap, subst, arith}
 use Rattle.std.specs.Int.{bit_at}
+use Rattle.std.specs.List.{AllByRecursion as Each}
 use Rattle.std.proofs.lemmas.List.{append-nil}
 use Rattle.of_core.specs.Table.{Setup, words_before_members, durable_at, durable_word}
 use Rattle.of_core.specs.Machine.{CallState, no_machine}
@@ -9,7 +10,7 @@ use Rattle.of_core.specs.Events.{Event}
 use Rattle.of_core.specs.Claim.{IsSound}
 use Rattle.of_core.specs.Laws.{EveryMomentIsSound, EveryOrder}
 use Rattle.of_core.specs.Linear.{IsDurablyLinearizable}
-use Rattle.of_row.specs.Views.{KnownCaller, View, Each}
+use Rattle.of_row.specs.Views.{KnownCaller, View}
 use Rattle.of_row.specs.Rule.{members_of, IsRaised, ViewFits, ViewMeetsRule, KeepsAll}
 use Rattle.of_row.specs.RowLaws.{RowLaws}
 use Rattle.of_row.specs.Trail.{first_of, moment, at_once, IsRunBy}

@@ -1,6 +1,7 @@
 -- A step of a machine is a turn of its caller: the events that it adds, and what they tell.
 use Rattle.std.proofs.Common.{◌≡◌, ◌==◌, ℕ, ◌+◌, ◌<◌, inl, inr, Bool, true, false, Some, List, [], ◌∷◌, ◌++◌, length, set, map, refl, sym, ◌∙◌, ap, subst, arith, length-set}
 use Rattle.std.proofs.lemmas.List.{append-nil, get_or-set_same, get_or-set_other}
+use Rattle.std.proofs.lemmas.Bool.{ne_eqb}
 use lib.Seq.{set-get_or}
 use Rattle.of_core.specs.declared.place.Outcome.{Outcome}
 use Rattle.of_core.specs.Table.{Setup}
@@ -11,7 +12,7 @@ use Rattle.of_core.specs.Events.{Event, Begins, Turns, machine_in, after_event, 
 use Rattle.of_core.specs.Calls.{if_so, operations_begun, outcomes, outcome_of_step, TurnsFindOpenCalls}
 use Rattle.of_core.specs.Laws.{TurnsAreSteps}
 use Rattle.of_core.specs.Turn.{IsIdle}
-use Rattle.of_core.proofs.Tests.{same_number, other_number}
+use Rattle.of_core.proofs.Tests.{same_number}
 use Rattle.of_core.proofs.Parts.{run_append, operations_append, outcomes_append}
 use Rattle.of_row.specs.Views.{EndedCall, KnownCaller, View}
 use Rattle.of_row.specs.Turned.{StandsForMachine, known_after_step}
@@ -180,7 +181,7 @@ module _ (S : Setup) (B : TableStart) (es : List Event) (schedule : IsSchedule S
 
     module _ (j : ℕ) (away : i ≡ j → ⊥) where
       not_same : (j == i) ≡ false
-      not_same = other_number j i away
+      not_same = ne_eqb j i (λ e. away (sym e))
 
       begun_else : operations_begun after j ≡ operations_begun es j
       begun_else = operations_now j ∙ ((λ k. operations_begun es j ++ if_so (not_same k) p.new) ∙ append-nil (operations_begun es j))

@@ -1,5 +1,6 @@
 -- What follows from the rule of a row.
 use Rattle.std.specs.Prelude.{◌≡◌, ◌≤◌, ◌<◌, ◌+◌, ℕ, List, length, map, false}
+use Rattle.std.specs.List.{AllByRecursion as Each}
 use Rattle.of_cell.specs.declared.word.TheConstants.{PAYLOADS}
 use Rattle.of_mem.specs.Meaning.{Meaning}
 use Rattle.of_core.specs.Table.{Setup}
@@ -10,7 +11,7 @@ use Rattle.of_core.specs.MachineValue.{Machine, machine_setup}
 use Rattle.of_row.specs.declared.member.Member.{Member}
 use Rattle.of_row.specs.declared.member.Pass.{Pass}
 use Rattle.of_row.specs.declared.row.Row.{Row}
-use Rattle.of_row.specs.Views.{View, seen_batch, Each}
+use Rattle.of_row.specs.Views.{View, seen_batch}
 use Rattle.of_row.specs.Trail.{moment}
 use Rattle.of_row.specs.Rule.{KeepsOwn, IsLegalFront, IsRaised, ViewMeetsRule, KeepsAll}
 use Rattle.of_row.specs.Rows.{key_of, IsRowMember, RunsOnRow, IsMemberOf, HasNoCall}

@@ -1,7 +1,7 @@
 -- Any moment of a row: a schedule has led to its words, and a row that stops there loses no call
 -- that was answered.
 use Rattle.std.specs.Prelude.{◌≡◌, ◌≢◌, ℕ, ◌<◌, List, [], length, false}
-use Rattle.std.specs.List.{All}
+use Rattle.std.specs.List.{All, AllByRecursion as Each}
 use Rattle.std.proofs.Common.{get_or}
 use Rattle.atomic_table.specs.Table.{State}
 use Rattle.of_recover.specs.Recovered.{recovered_words}
@@ -11,7 +11,7 @@ use Rattle.of_core.specs.TableMoment.{Moment, TableStart}
 use Rattle.of_core.specs.Starts.{IsDurable, IsStartRow}
 use Rattle.of_core.specs.Events.{Event, IsSchedule}
 use Rattle.of_core.specs.Linear.{ExplainsOutcome, Linearizes, IsRecovered}
-use Rattle.of_row.specs.Views.{KnownCaller, View, IsSeenPrefix, Each}
+use Rattle.of_row.specs.Views.{KnownCaller, View, IsSeenPrefix}
 use Rattle.of_row.specs.Rule.{IsRaised, MeetsRule, ViewMeetsRule, EachFree}
 use Rattle.of_row.specs.Rule.{ticket_at, ended_operation_at, outcome_at}
 use Rattle.of_row.specs.Trail.{first_of, moment, HasPast, IsRunBy, HasDoneNothing, EachView}

@@ -1,6 +1,6 @@
 use Rattle.std.proofs.Common.{◌≡◌, ◌+◌, ◌≤◌, ◌++◌, map, vec_len, vec_capacity}
+use Rattle.std.specs.List.{AllByRecursion as Each}
 use Rattle.of_row.specs.Rows.{IsSeatOf}
-use Rattle.of_row.specs.Views.{Each}
 use Rattle.of_caller.specs.Seating.{IsAt, gathered, answers_in, endings_in}
 use Rattle.of_caller.proofs.team_run.gather.Given as goal
 

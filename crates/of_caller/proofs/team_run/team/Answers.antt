@@ -1,9 +1,9 @@
 use Rattle.std.proofs.Common.{◌≡◌, ◌∙◌, ◌++◌, [], List, length, get_or, take, drop, map, ap, subst, sym, arith, rules}
+use Rattle.std.specs.List.{AllByRecursion as Each}
 use Rattle.of_plan.specs.declared.answer.Answer.{Answer}
 use Rattle.of_plan.specs.declared.answer.Ending.{Ending}
 use Rattle.of_plan.specs.declared.answer.Ending.TheVariants.{Done}
 use Rattle.of_plan.specs.Ended.{Ended}
-use Rattle.of_row.specs.Views.{Each}
 use Rattle.of_caller.specs.declared.team_caller.TeamCaller.{TeamCaller}
 use Rattle.of_caller.specs.PlanRows.{start_of_row}
 use Rattle.of_caller.specs.Trees.{AllPaired}
