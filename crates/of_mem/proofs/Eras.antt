@@ -1,14 +1,9 @@
 -- What slots hold in an era.
-use Rattle.std.proofs.Common.{◌≡◌, ℕ, zero, suc, ◌+◌, ◌-◌, ◌<◌, ◌≤◌, ◌==◌, ◌⊎◌, inl, inr, true, List, [], ◌∷◌, ◌++◌, length, length-append, length-set, map, Option, Some, None, get_or, set, replicate, refl, sym, ◌∙◌, ap, arith}
-use Rattle.std.proofs.lemmas.Bool.Decides.{nat_tests}
-use Rattle.std.proofs.lemmas.Bool.{cases_lt}
-use Rattle.std.proofs.lemmas.Bool.{ne_eqb as differs}
+use Rattle.std.proofs.Common.{◌≡◌, ℕ, zero, suc, ◌+◌, ◌-◌, ◌<◌, ◌≤◌, ◌⊎◌, inl, inr, List, [], ◌∷◌, ◌++◌, length, length-append, length-set, map, Option, Some, None, get_or, set, replicate, refl, sym, ◌∙◌, ap, arith}
+use Rattle.std.proofs.lemmas.Bool.{cases_lt, eq-eqb, ne_eqb as differs}
 use Rattle.std.proofs.lemmas.List.{length-map, get_or-map, map-set, append_assoc, replicate-append-replicate, length-replicate, set-append_left, get_or_append_left, get_or-append_right, get_or-replicate, get_or_past}
 use Rattle.std.proofs.lemmas.List.Elements.{All-set, All-replicate, All-append}
 use Rattle.of_mem.specs.Eras.{slot_number, slot_numbers, all_slots, IsUpToEra}
-
-pub equals : (a : ℕ) → (a == a) ≡ true
-equals a = grind (arith, nat_tests)
 
 -- the slots of all cells
 pub all_size : (n : ℕ) (slots : List (ℕ × ℕ)) → length (all_slots n slots) ≡ length slots + (n - length slots)
@@ -50,7 +45,7 @@ unfolding slot_numbers
 numbers_at era slots a d l = get_or-map (slot_number era) slots a d None l
 
 pub number_here : (era : ℕ) (s : ℕ × ℕ) → s.0 ≡ era → slot_number era s ≡ Some s.1
-number_here era s e = rw (e, equals era) refl
+number_here era s e = rw (e, eq-eqb era era refl) refl
 
 pub number_gone : (era : ℕ) (s : ℕ × ℕ) → (s.0 ≡ era → ⊥) → slot_number era s ≡ None
 number_gone era s e = rw (differs s.0 era e) refl

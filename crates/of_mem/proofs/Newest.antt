@@ -1,6 +1,6 @@
 -- What each cell holds, where a number is learnt, written, kept or undone.
 use Rattle.std.proofs.Common.{◌≡◌, ℕ, suc, ◌+◌, ◌<◌, ◌==◌, Bool, true, false, if◌then◌else◌, List, [], ◌∷◌, length, Option, Some, None, get_or, set, drop, replicate, refl, sym, ◌∙◌, ap, arith, length-set, ◌⊎◌, inl, inr}
-use Rattle.std.proofs.lemmas.Bool.{cases_eq}
+use Rattle.std.proofs.lemmas.Bool.{cases_eq, eq-eqb}
 use Rattle.std.proofs.lemmas.Bool.Decides.{nat_tests}
 use Rattle.std.proofs.lemmas.List.{drop_more, get_or-drop, length-drop, get_or-set_same, get_or-set_other}
 use Rattle.std.specs.Option.{option_or}
@@ -9,7 +9,6 @@ use Rattle.of_mem.specs.CellMap.{CellMap, IsCellMap, value_for, put_pair, put_al
 use Rattle.of_mem.specs.Part.{Part, newest_at, newer_of, empty_part, learn, write, keep}
 use Rattle.of_mem.specs.Newest.{HasNewest}
 use Rattle.of_mem.proofs.Indexed.{value_at_put, value_at-absent}
-use Rattle.of_mem.proofs.Eras.{equals}
 
 -- the older of two lists of pairs has no address twice
 absent_behind : (p : CellMap) (i : ℕ) → IsCellMap p → i < length p.entries → IsAbsent (drop (i + 1) p.entries) (entry_address p.entries i)
@@ -75,7 +74,7 @@ unfolding newest_at write
 newest_wrote p cells a v l h = record { size = length-set cells a (Some v) ∙ h.size; at = λ b m. at b m (cases_eq b a) }
   where
     at : (b : ℕ) → b < length p.known → (b ≡ a) ⊎ (b ≡ a → ⊥) → get_or (set cells a (Some v)) b None ≡ newer_of (value_for (put_pair p.script a v) b) (newer_of (value_for p.batch b) (get_or p.known b None))
-    at b m (inl q) = rw (q, value_at_put p.script a v a, equals a) (get_or-set_same cells a (Some v) None (omega (arith, h.size, l)))
+    at b m (inl q) = rw (q, value_at_put p.script a v a, eq-eqb a a refl) (get_or-set_same cells a (Some v) None (omega (arith, h.size, l)))
     at b m (inr n) = rw (value_at_put p.script a v b, differs a b (λ q. n (sym q))) (get_or-set_other cells a b (Some v) None n ∙ h.at b m)
 
 pub newest_kept : (p : Part) (room : ℕ) (cells : List (Option ℕ)) → IsCellMap (record { room = room; entries = p.script }) → HasNewest p cells → HasNewest (keep p) cells
