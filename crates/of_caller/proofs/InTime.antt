@@ -3,6 +3,7 @@
 -- has, and so the core's laws on real time speak of any two entries.
 use Rattle.std.proofs.Common.{◌≡◌, ◌==◌, ℕ, zero, suc, ◌+◌, ◌<◌, ◌≤◌, ◌⊎◌, inl, inr, Bool, true, false, cond, if◌then◌else◌, IsTrue, List, [], ◌∷◌, ◌++◌, length, get_or, map, take, drop, refl, sym, ap, subst, ◌∙◌, arith, length-append, length-take-le}
 use Rattle.std.specs.List.{All, filter, AllByRecursion as Each}
+use Rattle.std.proofs.lemmas.Bool.{eq-eqb}
 use Rattle.std.proofs.lemmas.List.{length-drop, length-map}
 use Rattle.std.proofs.lemmas.Bool.Decides.{eqb_tells}
 use Rattle.std.proofs.lemmas.List.Elements.{All-from_recursion, recursion_from_All}
@@ -33,7 +34,6 @@ use Rattle.of_core.specs.Turn.{turn_of}
 use Rattle.of_core.specs.WordsMatch.{MayStart}
 use Rattle.of_core.specs.Events.{Event, Begins, Turns, Loads, Evicts, Raises, after_event, machine_in, after_events, IsSchedule, start_ticket}
 use Rattle.of_core.specs.Calls.{if_so, operations_begun, outcomes, outcome_of_step, outcome_of_event, operation_begun, outcome_of_turn, no_outcome, outcome_seq, IsNotBefore, NoneSpent}
-use Rattle.of_core.proofs.Tests.{same_number}
 use Rattle.of_core.specs.Linear.{HasNotBegunBy as NotYet, CallEndsBefore as Before}
 use Rattle.of_core.specs.Laws.{RealTime, LateCalls}
 use Rattle.of_caller.specs.Tables.{plan_setup, IsLawfulFor, opening_at, operation_of}
@@ -147,7 +147,7 @@ over_is S (e ∷ es) w c = omega (arith, over_append c (marks_of S w e) (marks_i
 of_callers : (P : Entry → Type 0) (n : ℕ) (es : List Entry) → Each (λ e. e.caller < n) es → ((c : ℕ) → c < n → Each P (filter (λ e. e.caller == c) es)) → Each P es
 of_callers P n [] known own = tt
 of_callers P n (e ∷ es) known own = (
-  (subst (λ (b : Bool). Each P (cond b (e ∷ filter (λ f. f.caller == e.caller) es) (filter (λ f. f.caller == e.caller) es))) (same_number e.caller) (own e.caller known.0)).0,
+  (subst (λ (b : Bool). Each P (cond b (e ∷ filter (λ f. f.caller == e.caller) es) (filter (λ f. f.caller == e.caller) es))) (eq-eqb e.caller e.caller refl) (own e.caller known.0)).0,
   of_callers P n es known.1 (λ c lt. tail (e.caller == c) (filter (λ f. f.caller == c) es) (own c lt)),
 )
   where

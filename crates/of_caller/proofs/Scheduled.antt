@@ -1,6 +1,7 @@
 -- A team's run is a schedule.
 use Rattle.std.proofs.Common.{◌≡◌, ◌==◌, ◌&&◌, not, nat_lt, ℕ, zero, suc, ◌+◌, ◌<◌, ◌≤◌, ◌⊎◌, inl, inr, Bool, true, false, if◌then◌else◌, List, [], ◌∷◌, ◌++◌, length, map, take, drop, get_or, set, Option, Some, None, refl, sym, ap, ◌∙◌, subst, arith}
 use Rattle.std.specs.List.{filter_map, flat_map, slice_index_or, AllByRecursion as Each}
+use Rattle.std.proofs.lemmas.Bool.{eq-eqb}
 use Rattle.std.proofs.lemmas.Bool.Decides.{nat_tests}
 use Rattle.std.proofs.lemmas.List.{append_assoc, append-nil, length-append, length-map, map-append, get_or-take, get_or-drop}
 use Rattle.of_script.specs.declared.instr.Instr.{Instr}
@@ -23,7 +24,6 @@ use Rattle.of_core.specs.Turn.{IsIdle}
 use Rattle.of_core.specs.Events.{Event, Begins, Turns, Loads, Evicts, Raises, after_event, machine_in, after_events, IsSchedule, MayHappen, start_ticket}
 use Rattle.of_core.specs.Calls.{HasCalls, TurnsFindOpenCalls, NoneSpent, if_so, last_outcome_or, last_outcome, operations_begun, outcomes}
 use Rattle.of_core.proofs.Parts.{run_append, operations_append, outcomes_append, first_part, second_part}
-use Rattle.of_core.proofs.Tests.{same_number}
 use Rattle.of_row.specs.Views.{EndedCall, KnownCaller, View}
 use Rattle.of_row.specs.Told.{operations_known, outcomes_of}
 use Rattle.of_row.specs.Runs.{HasRun, RunsAreSchedules}
@@ -248,7 +248,7 @@ module _ (p : Plan) (laws : KeepsLaws p) (runs : RunsAreSchedules (IsLawfulFor p
       calls = laws.calls B h.from (words_before_members T + 1) (omega arith) done first i may.0
 
       ops : operations_begun done i ++ op ∷ operations_begun rest i ≡ operations_known (kept i may.0)
-      ops = ap (λ (z : List (List ℕ)). operations_begun done i ++ z) (ap (λ (b : Bool). if_so b (op ∷ []) ++ operations_begun rest i) (sym (same_number i))) ∙ (sym (operations_append done (Begins i op ∷ rest) i) ∙ (ap (λ (fs : List Event). operations_begun fs i) (sym is) ∙ sym (told i may.0).begun))
+      ops = ap (λ (z : List (List ℕ)). operations_begun done i ++ z) (ap (λ (b : Bool). if_so b (op ∷ []) ++ operations_begun rest i) (sym (eq-eqb i i refl))) ∙ (sym (operations_append done (Begins i op ∷ rest) i) ∙ (ap (λ (fs : List Event). operations_begun fs i) (sym is) ∙ sym (told i may.0).begun))
 
       outs : outcomes T O done i ++ outcomes T w (Begins i op ∷ rest) i ≡ outcomes_of (kept i may.0)
       outs = sym (outcomes_append T O done (Begins i op ∷ rest) i) ∙ (ap (λ (fs : List Event). outcomes T O fs i) (sym is) ∙ sym (told i may.0).ended)

@@ -1,6 +1,6 @@
 -- Each step, begin and eviction, and each event, leads from the calls of one caller before it to those after it.
 use Rattle.std.proofs.Common.{◌≡◌, ℕ, ◌+◌, ◌<◌, ◌≤◌, ◌⊎◌, ◌==◌, inl, inr, List, [], ◌∷◌, ◌++◌, length, get_or, set, refl, sym, ◌∙◌, ap, subst, arith, Bool, true}
-use Rattle.std.proofs.lemmas.Bool.{cases_eq, ne_eqb}
+use Rattle.std.proofs.lemmas.Bool.{cases_eq, eq-eqb, ne_eqb}
 use Rattle.std.proofs.lemmas.List.{append-nil, get_or-set_same, get_or-set_other, get_or_default}
 use Rattle.of_cell.specs.declared.word.TheConstants.{PAYLOADS}
 use Rattle.of_cell.specs.Words.{seq_of}
@@ -17,7 +17,6 @@ use Rattle.of_core.specs.Invariant.{MeetsInvariant, IsLoaded}
 use Rattle.of_core.specs.Events.{Event, Begins, Turns, Loads, Evicts, Raises, after_begin, after_raise, machine_in, after_event, MayHappen, turns_in_event, one_if}
 use Rattle.of_core.specs.Calls.{if_so, operation_begun, outcome_of_step, outcome_of_event, HasCalls, TurnFindsOpenCall, NoneSpent, total_steps}
 use Rattle.of_core.specs.Laws.{GainsCalls, KeepsCalls, KeepsOthersCalls, StepsEndOwnCall, BeginsAddOneCall}
-use Rattle.of_core.proofs.Tests.{same_number}
 use Rattle.of_core.proofs.Raises.{rises}
 use Rattle.of_core.proofs.Found.{found_now}
 use Rattle.of_core.proofs.Happenings.{begin_kept, load_kept, evict_kept, event_good}
@@ -104,7 +103,7 @@ module _ (S : Setup) (Lawful : List ℕ → Type 0) (sound : IsSoundMeaning S.me
       begin_event : (j : ℕ) (op : List ℕ) → MayHappen S w (Begins j op) → (j ≡ i) ⊎ (j ≡ i → ⊥) → HasCalls S B before (after_event S w (Begins j op)) i (ops ++ if_so (i == j) (op ∷ [])) (outs ++ [])
       begin_event j op may (inl e) =
           let p : GainsCalls S B j (op ∷ []) [] w (after_event S w (Begins j op)) = own_begin S Lawful B w g j (machine_in w j) may.0 (own S Lawful B w g j may.0) may.1 (machine_in w j) (inl refl) op may.2 may.3 may.4 in
-          subst (λ (b : Bool). HasCalls S B before (after_event S w (Begins j op)) i (ops ++ if_so b (op ∷ [])) (outs ++ [])) (sym (ap (λ (x : ℕ). i == x) e ∙ same_number i))
+          subst (λ (b : Bool). HasCalls S B before (after_event S w (Begins j op)) i (ops ++ if_so b (op ∷ [])) (outs ++ [])) (sym (ap (λ (x : ℕ). i == x) e ∙ eq-eqb i i refl))
           ((subst (λ (x : ℕ). GainsCalls S B x (op ∷ []) [] w (after_event S w (Begins j op))) e p) before ops outs c)
       begin_event j op may (inr away) =
           subst (λ (b : Bool). HasCalls S B before (after_event S w (Begins j op)) i (ops ++ if_so b (op ∷ [])) (outs ++ [])) (sym (ne_eqb i j (λ e. away (sym e))))
@@ -121,7 +120,7 @@ module _ (S : Setup) (Lawful : List ℕ → Type 0) (sound : IsSoundMeaning S.me
           let n : ℕ = word_found S w.words (machine_in w i) in
           let p : HasCalls S B before (after_event S w (Turns i)) i ops (outs ++ outcome_of_step (machine_in w i) (take_word S (machine_in w i) n)) = own_step S Lawful sound B w g i member n (found i) before ops outs c in
           subst (λ (x : ℕ). After x (outcome_of_event S w (Turns x) i)) (sym e)
-          (subst (λ (b : Bool). After i (if_so b (outcome_of_step (machine_in w i) (machine_in (after_event S w (Turns i)) i)))) (sym (same_number i))
+          (subst (λ (b : Bool). After i (if_so b (outcome_of_step (machine_in w i) (machine_in (after_event S w (Turns i)) i)))) (sym (eq-eqb i i refl))
           (subst (λ (x : CallState). After i (outcome_of_step (machine_in w i) x)) (sym (now S Lawful sound B w g i member n (found i))) (rw (append-nil ops) p)))
 
       -- the calls after an event are those before it, with the one that it begins or ends
@@ -166,7 +165,7 @@ module _ (S : Setup) (Lawful : List ℕ → Type 0) (sound : IsSoundMeaning S.me
             let x : machine_in (after_event S w (Turns j)) j ≡ take_word S (machine_in w j) n = now S Lawful sound B w g j may n (found j) in
             let s = ap (λ (d : CallState). d.steps) x in
             subst (λ (k : ℕ). CountsStep (Turns j) k) e
-            (subst (λ (b : Bool). ByBool j b (machine_in (after_event S w (Turns j)) j) j) (sym (same_number j))
+            (subst (λ (b : Bool). ByBool j b (machine_in (after_event S w (Turns j)) j) j) (sym (eq-eqb j j refl))
             (subst (λ (d : CallState). ByBool j true d j) (sym x) (omega (arith, p.0, s), λ q u. omega (arith, p.1 (q refl) u, s))))
         go (inr away) =
             let x = ap (λ (d : CallState). d.steps) (not_now S Lawful sound B w g j may n (found j) i away) in

@@ -2,7 +2,7 @@
 -- the order of their answers. What holds of its calls, and of each two of them, and where it leads.
 use Rattle.std.proofs.Common.{◌≡◌, ℕ, zero, suc, ◌+◌, ◌-◌, ◌<◌, ◌≤◌, ◌⊎◌, ◌==◌, inl, inr, List, [], ◌∷◌, ◌++◌, length, take, get_or, refl, sym, ◌∙◌, ap, subst, arith, Bool}
 use Rattle.std.specs.List.{All}
-use Rattle.std.proofs.lemmas.Bool.{cases_eq, cases_lt, ne_eqb}
+use Rattle.std.proofs.lemmas.Bool.{cases_eq, cases_lt, eq-eqb, ne_eqb}
 use Rattle.std.proofs.lemmas.List.{length-append, get_or_append_left, get_or-append_right}
 use Rattle.std.proofs.lemmas.List.Elements.{All-append}
 use Rattle.of_mem.specs.Meaning.{Meaning}
@@ -11,7 +11,6 @@ use Rattle.of_core.specs.TableMoment.{Batch, Read}
 use Rattle.of_core.specs.History.{no_batch, numbers_after_calls, CallsHaveReplies, numbers_after_batches, IsLegalHistory}
 use Rattle.of_core.specs.Order.{no_read}
 use Rattle.of_core.specs.Calls.{if_so}
-use Rattle.of_core.proofs.Tests.{same_number}
 
 -- a read as a call
 abbrev pub call_of : Read → Call
@@ -32,7 +31,7 @@ reads_skip : (s : ℕ) (r : Read) (rs : List Read) → (s ≡ r.seq → ⊥) →
 reads_skip s r rs away = ap (λ (b : Bool). if_so b (call_of r ∷ []) ++ reads_of s rs) (ne_eqb r.seq s (λ e. away (sym e)))
 
 reads_take : (s : ℕ) (r : Read) (rs : List Read) → s ≡ r.seq → reads_of s (r ∷ rs) ≡ call_of r ∷ reads_of s rs
-reads_take s r rs e = ap (λ (b : Bool). if_so b (call_of r ∷ []) ++ reads_of s rs) (ap (λ (x : ℕ). r.seq == x) e ∙ same_number r.seq)
+reads_take s r rs e = ap (λ (b : Bool). if_so b (call_of r ∷ []) ++ reads_of s rs) (ap (λ (x : ℕ). r.seq == x) e ∙ eq-eqb r.seq r.seq refl)
 
 -- What holds of each call.
 module _ (P : Call → Type 0) where

@@ -1,6 +1,6 @@
 -- A call that stays open has made fewer steps than the bound.
 use Rattle.std.proofs.Common.{◌≡◌, ℕ, ◌+◌, ◌<◌, ◌≤◌, ◌⊎◌, ◌==◌, inl, inr, List, [], ◌∷◌, get_or, refl, sym, ◌∙◌, ap, subst, arith, true, false}
-use Rattle.std.proofs.lemmas.Bool.{cases_eq, ne_eqb}
+use Rattle.std.proofs.lemmas.Bool.{cases_eq, eq-eqb, ne_eqb}
 use Rattle.std.proofs.lemmas.List.{get_or-set_same, get_or-set_other, get_or_default}
 use Rattle.of_mem.specs.Meaning.{IsSoundMeaning}
 use Rattle.of_core.specs.declared.place.Place.{Place}
@@ -16,7 +16,6 @@ use Rattle.of_core.proofs.Happenings.{event_good}
 use Rattle.of_core.proofs.StepTaken.{step_taken}
 use Rattle.of_core.proofs.Found.{found_now}
 use Rattle.of_core.proofs.StepBound.{n_cells}
-use Rattle.of_core.proofs.Tests.{same_number}
 
 module _ (S : Setup) (Lawful : List ℕ → Type 0) (sound : IsSoundMeaning S.meaning Lawful (first_operation_cell S) S.cells) (B : TableStart) where
   module _ (i : ℕ) (h : i < S.callers) where
@@ -28,7 +27,7 @@ module _ (S : Setup) (Lawful : List ℕ → Type 0) (sound : IsSoundMeaning S.me
         let x : machine_in (after_event S w (Turns i)) i ≡ take_word S (machine_in w i) (word_found S w.words (machine_in w i)) = get_or-set_same w.machines i _ no_machine (omega (arith, g.core.members)) in
         let now : IsOpen (take_word S (machine_in w i) (word_found S w.words (machine_in w i))).place = subst (λ (d : CallState). IsOpen d.place) x q in
         let t = step_taken S Lawful B w g i (machine_in w i) h (of_machine w g) o (word_found S w.words (machine_in w i)) (found_now S w.words (machine_in w i)) in
-        ap (λ (d : CallState). d.steps) x ∙ (t.goes_on now).0 ∙ ap (λ (k : ℕ). (machine_in w i).steps + k) (sym (ap one_if (same_number i)))
+        ap (λ (d : CallState). d.steps) x ∙ (t.goes_on now).0 ∙ ap (λ (k : ℕ). (machine_in w i).steps + k) (sym (ap one_if (eq-eqb i i refl)))
 
     -- each turn of the caller is a step of its open call, and no other event changes its machine
     pub steps_rise : (w : Moment) (g : MeetsInvariant S Lawful B w) (e : Event) → MayHappen S w e → IsOpen (machine_in w i).place → IsOpen (machine_in (after_event S w e) i).place → (machine_in (after_event S w e) i).steps ≡ (machine_in w i).steps + turns_in_event i e

@@ -1,7 +1,7 @@
 -- What an open call has lost beside the commits since it began, and so how new its outcome is.
 use Rattle.std.proofs.Common.{◌≡◌, ℕ, ◌+◌, ◌-◌, ◌<◌, ◌≤◌, ◌⊎◌, ◌==◌, inl, inr, List, [], ◌∷◌, ◌++◌, length, get_or, refl, sym, ◌∙◌, ap, subst, arith, Some, None, Bool, true, false}
 use Rattle.std.specs.List.{All}
-use Rattle.std.proofs.lemmas.Bool.{cases_eq, cases_lt, ne_eqb}
+use Rattle.std.proofs.lemmas.Bool.{cases_eq, cases_lt, eq-eqb, ne_eqb}
 use Rattle.std.proofs.lemmas.Bool.Decides.{nat_tests}
 use Rattle.std.proofs.lemmas.List.{append_assoc, append-nil, length-append, get_or_append_left, get_or-append_right, get_or-set_same, get_or-set_other}
 use Rattle.of_cell.specs.Words.{seq_of, payload_of}
@@ -29,7 +29,6 @@ use Rattle.of_core.specs.Calls.{if_so, operation_begun, outcome_of_event, outcom
 use Rattle.of_core.specs.Commits.{begins_at, announces_at, HasLost}
 use Rattle.of_core.proofs.States.{state_same}
 use Rattle.of_core.proofs.Tickets.{tickets_grow}
-use Rattle.of_core.proofs.Tests.{same_number}
 use Rattle.of_core.proofs.Idle.{idle_or_open}
 use Rattle.of_core.proofs.Ordering.{idle_is, tries_at}
 use Rattle.of_core.proofs.StepKept.{step_kept}
@@ -405,7 +404,7 @@ module _ (S : Setup) (Lawful : List ℕ → Type 0) (sound : IsSoundMeaning S.me
       go (inl same) =
           let f : IsFoundBy (want S (machine_in w j)) w.words (word_found S w.words (machine_in w j)) = found_now S w.words (machine_in w j) in
           let at_j : Leads w (after_event S w (Turns j)) [] (if_so (j == j) (outcome_of_step (machine_in w j) (machine_in (after_event S w (Turns j)) j))) =
-          subst (λ (b : Bool). Leads w (after_event S w (Turns j)) [] (if_so b (outcome_of_step (machine_in w j) (machine_in (after_event S w (Turns j)) j)))) (sym (same_number j))
+          subst (λ (b : Bool). Leads w (after_event S w (Turns j)) [] (if_so b (outcome_of_step (machine_in w j) (machine_in (after_event S w (Turns j)) j)))) (sym (eq-eqb j j refl))
           (subst (λ (x : CallState). Leads w (after_event S w (Turns j)) [] (outcome_of_step (machine_in w j) x)) (sym (now S Lawful sound B w g j member (word_found S w.words (machine_in w j)) f)) (turn w g (word_found S w.words (machine_in w j)) f)) in
           subst (λ (x : ℕ). Leads w (after_event S w (Turns x)) [] (if_so (j == x) (outcome_of_step (machine_in w x) (machine_in (after_event S w (Turns x)) x)))) (sym same) at_j
 

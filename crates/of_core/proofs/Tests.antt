@@ -1,17 +1,9 @@
 -- What tests of numbers and of reply marks say, once they are known.
 use Rattle.std.proofs.Common.{◌≡◌, ℕ, zero, suc, ◌+◌, ◌<◌, ◌≤◌, ◌⊎◌, ◌==◌, inl, inr, refl, sym, ◌∙◌, ap, arith, Some, None, Bool, true, false, if◌then◌else◌}
 use Rattle.std.proofs.lemmas.Bool.{cases_eq}
-use Rattle.std.proofs.lemmas.Bool.Decides.{nat_tests}
 pub use Rattle.std.proofs.lemmas.Bool.{eqb-false as differ, ltb-true as is_newer, ltb-false as not_newer}
 use Rattle.of_mem.specs.Meaning.{is_marked}
 use Rattle.of_core.specs.Steps.{first_marked_place}
-
-pub same_number : (i : ℕ) → (i == i) ≡ true
-same_number i = go (i == i) refl
-  where
-    go : (b : Bool) → (i == i) ≡ b → b ≡ true
-    go true e = refl
-    go false e = let z : i ≡ i → ⊥ = grind (arith, nat_tests) in absurd (z refl)
 
 pub mark_none : (shape j n : ℕ) → first_marked_place shape j n ≡ None → (y : ℕ) → j ≤ y → y < j + n → is_marked shape y ≡ true → ⊥
 mark_none shape j zero e y l u q = omega arith

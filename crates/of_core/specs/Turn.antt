@@ -1,5 +1,5 @@
 -- What a turn answers, and what turns in a row do.
-use Rattle.std.specs.Prelude.{◌≡◌, ℕ, zero, suc, ◌≤◌, ◌<◌, ◌-◌, [], ◌∷◌, Option, Some, None}
+use Rattle.std.specs.Prelude.{◌≡◌, ℕ, ◌<◌, replicate, Option, Some, None}
 use Rattle.of_mem.specs.Meaning.{Meaning}
 use Rattle.of_core.specs.declared.bank.Turn.{Turn}
 use Rattle.of_core.specs.declared.bank.Turn.TheVariants.{Idle as NoCall, Open, Ended}
@@ -28,17 +28,9 @@ turn_of before now = turn_at before.place now
 abbrev pub IsIdle : CallState → Type 0
 IsIdle m = m.place ≡ Idle
 
--- a bank after so many turns of a caller in a row
-abbrev pub bank_turned : {X : Type 0} → (X → Meaning) → (c n : ℕ) → Bank X → Bank X
-bank_turned meaning c zero b = b
-bank_turned meaning c (suc n) b = bank_after meaning (Turns c ∷ []) (bank_turned meaning c n b)
-
--- So many turns of a caller in a row lead from one bank to the other, and the last one says this.
--- Before each but the first the caller's call is open.
-pub record MakesTurns {X : Type 0} (meaning : X → Meaning) (c n : ℕ) (last : Turn)
-    (before now : Bank X) : Type 0 where
-  pub after : now ≡ bank_turned meaning c n before
-  pub stays_open : (k : ℕ) → 1 ≤ k → k < n
-      → IsIdle (machine_of (bank_turned meaning c k before) c) → ⊥
-  pub told : last
-      ≡ turn_of (machine_of (bank_turned meaning c (n - 1) before) c) (machine_of now c)
+-- So many turns of a caller lead from one bank to the other, and its call is open before each.
+pub record MakesTurns {X : Type 0} (meaning : X → Meaning) (c n : ℕ) (before now : Bank X)
+    : Type 0 where
+  pub after : now ≡ bank_after meaning (replicate n (Turns c)) before
+  pub stays_open : (k : ℕ) → k < n
+      → IsIdle (machine_of (bank_after meaning (replicate k (Turns c)) before) c) → ⊥

@@ -14,6 +14,7 @@ ghost use Rattle.of_core.specs.Starts.{IsStartRow, first_words, start_on};
 ghost use Rattle.of_core.specs.Moment.{IsReached, RunSameWork, bank_after, bank_opening, call_states, machine_of, bank_setup, table_word_count};
 ghost use Rattle.of_core.specs.Turn.{turn_of, turn_of_outcome, IsIdle, MakesTurns};
 
+use crate::bank::own_steps::make_steps;
 use crate::machine::Machine;
 use crate::opening::first_words;
 use crate::performer::OnWords;
@@ -25,6 +26,7 @@ use std::marker::Model;
 use std::snapshot::Snapshot;
 
 mod inspect;
+mod own_steps;
 
 /// What a turn says of its caller's call.
 #[derive(Clone, Copy)]
@@ -263,22 +265,17 @@ impl<W: Work> Bank<W> {
         turn_of_answer(machine.answer())
     }
 
-    /// Makes a caller's turns in a row: `most` of them, or fewer if its call has ended. It answers
-    /// how many, and what the last one says.
-    pub fn turns(&mut self, caller: u32, most: u32) -> (u32, Turn)
-        requires caller { caller < self.old.callers }
-        requires some { 1 ≤ most }
-        ensures some { 1 ≤ result.0 }
-        ensures few { result.0 ≤ most }
-        ensures turns { MakesTurns W.meaning caller result.0 result.1 self.old self.new }
+    /// Makes turns of a caller while its call is open: `most` of them, or fewer if the call ends. It
+    /// answers how many.
+    #[inline(always)]
+    pub fn turns(&mut self, caller: u32, most: u32) -> u32
+        requires { caller < self.old.callers }
+        ensures few { result ≤ most }
+        ensures turns { MakesTurns W.meaning caller result self.old self.new }
+        ensures ended { result < most → IsIdle (machine_of self.new caller) }
     {
-        for before in 0..most {
-            let turn = self.turn(caller);
-            if self.is_idle(caller) {
-                return (before + 1, turn);
-            }
-        }
-        (most, Turn::Open)
+        let machine = &mut self.machines[caller as usize];
+        make_steps(machine, &mut self.words, most)
     }
 
     /// Raises a cell's durable word to the word that the cell holds.

@@ -1,5 +1,6 @@
 -- Lists of events in two parts, callers that have done nothing, and the events of evictions.
 use Rattle.std.proofs.Common.{◌≡◌, ◌==◌, ℕ, ◌+◌, ◌<◌, get_or, Bool, true, false, List, [], ◌∷◌, ◌++◌, refl, sym, ◌∙◌, ap, arith}
+use Rattle.std.proofs.lemmas.Bool.{eq-eqb}
 use Rattle.std.proofs.lemmas.List.{append-nil, get_or-set_other}
 use Rattle.of_core.specs.declared.place.Outcome.{Outcome}
 use Rattle.of_core.specs.Table.{Setup, words_before_members}
@@ -9,7 +10,6 @@ use Rattle.of_core.specs.TableMoment.{Moment, TableStart}
 use Rattle.of_core.specs.Events.{Event, Begins, Turns, Loads, Evicts, Raises, machine_in, after_event, after_events, IsSchedule, turn_count, one_if}
 use Rattle.of_core.specs.Calls.{if_so, operations_begun, outcomes, outcome_of_step, TurnsFindOpenCalls}
 use Rattle.of_core.specs.Laws.{FirstMachinesAreIdle}
-use Rattle.of_core.proofs.Tests.{same_number}
 use Rattle.of_core.proofs.Parts.{run_append, operations_append, outcomes_append}
 use Rattle.of_row.specs.Views.{KnownCaller}
 use Rattle.of_row.specs.Turned.{new_known_caller}
@@ -65,7 +65,7 @@ module _ (S : Setup) (n : ℕ) where
       go false z = (refl, z)
 
   apart : (j : ℕ) → (n == j) ≡ false → n ≡ j → ⊥
-  apart j b e = let t : true ≡ false = sym (ap (λ (k : ℕ). n == k) (sym e) ∙ same_number n) ∙ b in cc
+  apart j b e = let t : true ≡ false = sym (ap (λ (k : ℕ). n == k) (sym e) ∙ eq-eqb n n refl) ∙ b in cc
 
   pub no_outcomes : (w : Moment) (es : List Event) → turn_count n es ≡ 0 → outcomes S w es n ≡ []
   no_outcomes w [] z = refl

@@ -1,7 +1,7 @@
 -- A step of a machine is a turn of its caller: the events that it adds, and what they tell.
 use Rattle.std.proofs.Common.{◌≡◌, ◌==◌, ℕ, ◌+◌, ◌<◌, inl, inr, Bool, true, false, Some, List, [], ◌∷◌, ◌++◌, length, set, map, refl, sym, ◌∙◌, ap, subst, arith, length-set}
 use Rattle.std.proofs.lemmas.List.{append-nil, get_or-set_same, get_or-set_other}
-use Rattle.std.proofs.lemmas.Bool.{ne_eqb}
+use Rattle.std.proofs.lemmas.Bool.{eq-eqb, ne_eqb}
 use lib.Seq.{set-get_or}
 use Rattle.of_core.specs.declared.place.Outcome.{Outcome}
 use Rattle.of_core.specs.Table.{Setup}
@@ -12,7 +12,6 @@ use Rattle.of_core.specs.Events.{Event, Begins, Turns, machine_in, after_event, 
 use Rattle.of_core.specs.Calls.{if_so, operations_begun, outcomes, outcome_of_step, TurnsFindOpenCalls}
 use Rattle.of_core.specs.Laws.{TurnsAreSteps}
 use Rattle.of_core.specs.Turn.{IsIdle}
-use Rattle.of_core.proofs.Tests.{same_number}
 use Rattle.of_core.proofs.Parts.{run_append, operations_append, outcomes_append}
 use Rattle.of_row.specs.Views.{EndedCall, KnownCaller, View}
 use Rattle.of_row.specs.Turned.{StandsForMachine, known_after_step}
@@ -171,9 +170,9 @@ module _ (S : Setup) (B : TableStart) (es : List Event) (schedule : IsSchedule S
     pub own_run : IsRunBy S B after y
     own_run = record {
       told = subst (λ (k : ℕ). IsToldBy S B after k y) (sym caller) record {
-        begun = begun_after B v x d e o answers ∙ (ap (λ (z : List ℕ). ops ++ z ∷ []) op ∙ (sym p.begun ∙ ((λ k. run_by.told.begun k ++ if_so (sym (same_number i) k) p.new) ∙ sym (operations_now i))));
-        ended = outcomes_after B v x d e o answers ∙ ((λ k. run_by.told.ended k ++ if_so (sym (same_number i) k) (outcome_of_step d e)) ∙ sym (outcomes_now i));
-        turned = let c : one_if (i == i) ≡ 1 = ap one_if (same_number i) in omega (arith, run_by.told.turned, turns_now i, c);
+        begun = begun_after B v x d e o answers ∙ (ap (λ (z : List ℕ). ops ++ z ∷ []) op ∙ (sym p.begun ∙ ((λ k. run_by.told.begun k ++ if_so (sym (eq-eqb i i refl) k) p.new) ∙ sym (operations_now i))));
+        ended = outcomes_after B v x d e o answers ∙ ((λ k. run_by.told.ended k ++ if_so (sym (eq-eqb i i refl) k) (outcome_of_step d e)) ∙ sym (outcomes_now i));
+        turned = let c : one_if (i == i) ≡ 1 = ap one_if (eq-eqb i i refl) in omega (arith, run_by.told.turned, turns_now i, c);
         busy = busy_now i run_by.told.busy;
       };
       machine_is = ap (machine_in (moment S B after)) caller ∙ (ap (λ (w : Moment). machine_in w i) to ∙ now);

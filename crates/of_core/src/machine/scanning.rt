@@ -1,11 +1,13 @@
 //! How a machine goes on at the steps of a scan: of each caller in turn the announced call is run,
 //! where its ticket is new.
 
-ghost use Rattle.std.specs.Prelude.{◌≡◌, ◌<◌, ◌≤◌, ◌+◌, length, true, IsTrue};
+ghost use Rattle.std.specs.Prelude.{◌≡◌, ◌<◌, ◌≤◌, ◌+◌, ◌++◌, [], ◌∷◌, length, map, true, IsTrue};
+ghost use Rattle.std.specs.Prelude.{vec_len, vec_capacity};
 ghost use Rattle.of_cell.specs.Words.{seq_of, payload_of};
 ghost use Rattle.of_mem.specs.declared.work.TheConstants.{MOST_INSTRS};
 ghost use Rattle.of_mem.specs.Part.{overlaid};
 ghost use Rattle.of_core.specs.Machine.{with_cell_known};
+ghost use Rattle.of_core.specs.Inside.{call_value};
 ghost use Rattle.of_core.specs.Steps.{own_reply_or, place_behind, run_script, weigh};
 ghost use Rattle.of_core.specs.Fit.{IsScanning, LeavesTicket, is_scanning};
 ghost use Rattle.of_core.specs.MachineValue.{machine_setup, machine_after, step_from, KnowsState};
@@ -34,6 +36,30 @@ fn newer_raw(own: bool, new: &RawReply, old: &RawReply) -> RawReply
     ensures { result ≡ own_reply_or new.now old.now own }
 {
     if own { *new } else { *old }
+}
+
+/// Adds a call that was run to those of the batch.
+// out of line, so that a run that needs a cell doesn't clear the frame of one that ends
+#[inline(never)]
+fn add_call(calls: &mut Vec<Call>, caller: u32, ticket: u32, op: &[u64], raw: &RawReply)
+    requires few { length op.now ≤ MOST_INSTRS }
+    requires room { vec_len calls.old < vec_capacity calls.old }
+    ensures calls { map call_value calls.new.items ≡ map call_value calls.old.items
+        ++ record { caller = caller; ticket = ticket; op = op.now; raw = raw.now } ∷ [] }
+    ensures room { vec_capacity calls.old ≤ vec_capacity calls.new }
+{
+    let call = Call {
+        caller,
+        ticket,
+        words: op.len(),
+        op: padded_words(op),
+        raw: *raw,
+    };
+    match calls.push(call) {
+        Ok(()) => {}
+        // there is room for a call of each caller
+        Err(_) => unreachable!(),
+    }
 }
 
 impl<W: Work> Machine<W> {
@@ -146,18 +172,8 @@ impl<W: Work> Machine<W> {
                     &self.spare,
                 );
                 hand_to_log(&mut self.part, &mut self.log);
-                let call = Call {
-                    caller: self.scan,
-                    ticket,
-                    words,
-                    op: padded_words(self.script.as_slice()),
-                    raw: self.spare,
-                };
-                match self.calls.push(call) {
-                    Ok(()) => {}
-                    // there is room for a call of each caller
-                    Err(_) => unreachable!(),
-                }
+                let op = self.script.as_slice();
+                add_call(&mut self.calls, self.scan, ticket, op, &self.spare);
                 self.raw = newer_raw(self.scan == self.caller, &self.spare, &self.raw);
                 self.scan += 1;
                 self.place = place_behind(self.scan < self.shape.callers);

@@ -62,8 +62,8 @@ invariant_of-self-in-Err g c =
       room = record { log = i.room.log; op = i.room.op; scripts_in = i.room.scripts_in; copy = i.room.copy; calls = i.room.calls; scanning = λ e. batch; reading = no_case; empty = c.in-Err.ensures.walk.1 };
     }
 
-pub returns-in-Ok-push : goal.returns-in-Ok-push
-returns-in-Ok-push g c =
+pub returns-in-Ok : goal.returns-in-Ok
+returns-in-Ok g c =
     let i = c.self.invariant in
     let known : List (Option ℕ) = c.self.inside.part.known in
     let log : List (ℕ × ℕ) = c.self.inside.log.entries in
@@ -91,11 +91,8 @@ returns-in-Ok-push g c =
     in
     let entries : c.hand_to_log.new.log.entries ≡ put_all log (es ++ own_cells (ticket_cell S scan) ticket (length script) r) = ap (λ (p : WriteSet). p.entries) c.hand_to_log.ensures.log ∙ ap (put_all log) own in
     let same : c.hand_to_log.new.part.known ≡ known = ap (λ (p : Part). p.known) c.hand_to_log.ensures.part ∙ c.put_own.ensures.known ∙ ap (λ (p : Part). p.known) c.run.ensures.part in
-    let op : take c.len-words.result c.padded_words.result ≡ script = rw (words, ← c.as_slice-in-Ok.ensures.value) c.padded_words.ensures in
-    let call : call_value (record { caller = scan; ticket = c.seq_of-ticket.result; words = c.len-words.result; op = c.padded_words.result; raw = r }) ≡ record { caller = scan; ticket = ticket; op = script; raw = r } = rw (op, number) refl in
-    let calls : map call_value c.push.new.self.items ≡ map call_value c.self.inside.calls.items ++ record { caller = scan; ticket = ticket; op = script; raw = r } ∷ [] =
-    ap (map call_value) c.in-Ok-push.ensures.items ∙ map-append call_value c.self.inside.calls.items _ ∙ ap (λ (x : Call). map call_value c.self.inside.calls.items ++ x ∷ []) call
-    in
+    let op : c.as_slice-op.result.now ≡ script = c.as_slice-op.ensures.value in
+    let calls : map call_value c.add_call.new.calls.items ≡ map call_value c.self.inside.calls.items ++ record { caller = scan; ticket = ticket; op = script; raw = r } ∷ [] = c.add_call.ensures.calls ∙ rw (op, number) refl in
     rw (← c.self.view_is, walked) (rw (c.place_behind-self-inside.ensures, c.newer_raw-self-inside.ensures, same, entries, calls) refl)
 
 pub returns-in-Err : goal.returns-in-Err

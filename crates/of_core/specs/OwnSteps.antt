@@ -1,0 +1,39 @@
+-- Steps of one call in a row on the words of a table.
+use Rattle.std.specs.Prelude.{◌≡◌, ℕ, zero, suc, ◌<◌, List}
+use Rattle.of_mem.specs.Meaning.{Meaning}
+use Rattle.of_core.specs.Table.{Setup}
+use Rattle.of_core.specs.Machine.{CallState}
+use Rattle.of_core.specs.Steps.{want, take_word, word_found, words_after}
+use Rattle.of_core.specs.MachineValue.{Machine, machine_setup}
+use Rattle.of_core.specs.Meets.{MayTake}
+use Rattle.of_core.specs.Turn.{IsIdle}
+
+-- a call, and the words of the table that it is made on
+pub record CallOnTable : Type 0 where
+  pub call : CallState
+  pub words : List ℕ
+
+-- both after the call's next step
+abbrev pub after_own_step : Setup → CallOnTable → CallOnTable
+after_own_step S x = record {
+  call = take_word S x.call (word_found S x.words x.call);
+  words = words_after (want S x.call) x.words;
+}
+
+-- and after so many of its steps
+abbrev pub after_own_steps : Setup → ℕ → CallOnTable → CallOnTable
+after_own_steps S zero x = x
+after_own_steps S (suc n) x = after_own_step S (after_own_steps S n x)
+
+-- however many steps the call has made, it may take the word that the next one finds
+abbrev pub MayGoOn : Setup → (List ℕ → Type 0) → CallOnTable → Type 0
+MayGoOn S Lawful x =
+    (k : ℕ) → let y = after_own_steps S k x in MayTake S Lawful y.call (word_found S y.words y.call)
+
+-- the call is open before each of so many of its steps
+abbrev pub IsOpenBefore : Setup → ℕ → CallOnTable → Type 0
+IsOpenBefore S n x = (k : ℕ) → k < n → IsIdle (after_own_steps S k x).call → ⊥
+
+-- a machine's call, and words
+abbrev pub call_on : {X : Type 0} → Machine X → List ℕ → CallOnTable
+call_on m ws = record { call = m.call; words = ws }
