@@ -1,5 +1,6 @@
 -- A run on a part of memory, batch and all, goes as on the known cells with the batch over them.
-use Rattle.std.proofs.Common.{◌≡◌, ℕ, ◌+◌, ◌%◌, ◌^◌, ◌<◌, ◌≤◌, refl, sym, ◌∙◌, ap, subst, arith, Bool, true, false, cond, ltb, Option, Some, None, is_some, List, [], ◌∷◌, length, get_or}
+use Rattle.std.proofs.Common.{◌≡◌, ℕ, ◌+◌, ◌%◌, ◌^◌, ◌<◌, ◌≤◌, refl, sym, ◌∙◌, ap, subst, arith, Bool, true, false, cond, ltb, Option, Some, None, is_some, Result, Ok, Err, List, [], ◌∷◌, length, get_or}
+use Rattle.std.specs.Prelude.{IfErr, OnErr, OnOk}
 use Rattle.std.specs.Option.{unwrap_or}
 use Rattle.std.specs.List.{AllByRecursion as Each}
 use Rattle.std.proofs.lemmas.Bool.{lt-ltb, le-ltb, ltb-true, false≢true}
@@ -9,8 +10,9 @@ use Rattle.of_mem.specs.Part.{Part, newest_at, newer_of, overlaid}
 use Rattle.of_mem.specs.declared.plot.Plot.{Plot}
 use Rattle.of_mem.specs.Plots.{base}
 use Rattle.of_mem.specs.Places.{cells_at, register_at, fresh_at, keys_at, tail_at, length_at}
-use Rattle.of_mem.specs.Programs.{Program, RunEnd, Lacks, Ends, run_program, IsPartOf}
-use Rattle.of_mem.specs.Meaning.{Needs, Gives, Agrees}
+use Rattle.of_mem.specs.declared.part.Need.{Need}
+use Rattle.of_mem.specs.Programs.{Program, RunEnd, Lacks, Ends, run_program, IsPartOf, NeedsAt}
+use Rattle.of_mem.specs.Meaning.{Needs, Gives, Agrees, RunsAsWalked}
 use Rattle.of_mem.specs.ProgramWork.{memory_of, fresh_part, walk_of_run}
 use Rattle.of_mem.specs.Stores.{CellStore, StandsForStore, front_at, link_at, first_at, second_at}
 use Rattle.of_mem.proofs.Counts.{blocks_below}
@@ -26,6 +28,7 @@ use Rattle.of_eval.specs.declared.scripts.Scripts.{Scripts}
 use Rattle.of_eval.specs.Shapes.{IsWhole, reply_cells, mask_of, abort_part}
 use Rattle.of_eval.specs.ShapeLaws.{code_some, mask_width}
 use Rattle.of_eval.specs.Stored.{cell_store, IsStored, HasState}
+use Rattle.of_eval.specs.Calls.{script}
 use Rattle.of_eval.specs.ScriptPrograms.{script_program}
 use Rattle.of_eval.specs.Scripts.{store_at, scripts_data_cells, LawfulCells, is_success, scripts_meaning}
 use Rattle.of_eval.specs.SoundScripts.{script_run}
@@ -99,13 +102,12 @@ kept_when r x q p h e same is = rw (whole_success r h r.abort refl ∙ no_abort 
 pub dropped_when : (r : Reply) (x : RawReply) (q p : Part) → IsWhole r → is_some r.abort ≡ true → p.script ≡ [] → x ≡ reply_cells r → Gives (cond (is_success (reply_cells r)) q.script []) (reply_cells r) ≡ Gives p.script x
 dropped_when r x q p h e none is = rw (whole_success r h r.abort refl ∙ an_abort r.abort e) (λ i. Gives (sym none i) (sym is i))
 
-alike_gives : (keeps : RawReply → Bool) (x : RunEnd RawReply) (r : RawReply) (q : Part) → RunsAlike x (Ends r q) → walk_of_run keeps x ≡ Gives (cond (keeps r) q.script []) r
-alike_gives keeps (Lacks a) r q h = absurd h
-alike_gives keeps (Ends s p) r q h = λ i. Gives (cond (keeps (h.0 i)) (h.1 i) []) (h.0 i)
-
-alike_needs : (keeps : RawReply → Bool) (x : RunEnd RawReply) (a : ℕ) → RunsAlike x (Lacks a) → walk_of_run keeps x ≡ Needs a
-alike_needs keeps (Lacks b) a h = ap Needs h
-alike_needs keeps (Ends s p) a h = absurd h
+-- runs that end alike walk alike
+alike_walks : (keeps : RawReply → Bool) (x y : RunEnd RawReply) → RunsAlike x y → walk_of_run keeps x ≡ walk_of_run keeps y
+alike_walks keeps (Lacks a) (Lacks b) h = ap Needs h
+alike_walks keeps (Lacks a) (Ends r q) h = absurd h
+alike_walks keeps (Ends s p) (Lacks a) h = absurd h
+alike_walks keeps (Ends s p) (Ends r q) h = λ i. Gives (cond (keeps (h.0 i)) (h.1 i) []) (h.0 i)
 
 -- what a run asks of its part of memory
 abbrev pub IsPartOfLawful : Scripts → Part → Type 0
@@ -144,11 +146,9 @@ module _ (w : Scripts) (p : Part) (a : IsPartOfLawful w p) (size : length p.know
         (part_fresh (overlaid p.known p.batch) a.0 a.3)
         (script_run (store_at w) w.blocks w.few_blocks op (memory_of a.0) a.2.0 a.2.1).inside
 
-    pub walk_gives : (r : RawReply) (q : Part) → run_program program p ≡ Ends r q → (scripts_meaning w).walk (overlaid p.known p.batch) op ≡ Gives (cond (is_success r) q.script []) r
-    walk_gives r q e = alike_gives is_success (run_program program (fresh_part (overlaid p.known p.batch))) r q (subst (RunsAlike (run_program program (fresh_part (overlaid p.known p.batch)))) e alike)
-
-    pub walk_needs : (x : ℕ) → run_program program p ≡ Lacks x → (scripts_meaning w).walk (overlaid p.known p.batch) op ≡ Needs x
-    walk_needs x e = alike_needs is_success (run_program program (fresh_part (overlaid p.known p.batch))) x (subst (RunsAlike (run_program program (fresh_part (overlaid p.known p.batch)))) e alike)
+    -- the work walks as the program runs on it
+    walk_is : (scripts_meaning w).walk (overlaid p.known p.batch) op ≡ walk_of_run is_success (run_program program p)
+    walk_is = alike_walks is_success (run_program program (fresh_part (overlaid p.known p.batch))) (run_program program p) alike
 
   -- so it is on the work's plot
   pub state_on : (plot : Plot) → base plot ≡ store_at w → plot.blocks ≡ w.blocks → HasState plot p
@@ -159,5 +159,21 @@ module _ (w : Scripts) (p : Part) (a : IsPartOfLawful w p) (size : length p.know
       size_is : length p.known ≡ scripts_data_cells w
       size_is = size
 
-pub run_at : (o at blocks many : ℕ) (op : List ℕ) (p : Part) (x : RunEnd RawReply) → o ≡ at → blocks ≡ many → run_program (script_program o blocks op) p ≡ x → run_program (script_program at many op) p ≡ x
-run_at o at blocks many op p x e f h = rw (← e, ← f) h
+  -- and a run of the words on that plot goes as the work walks
+  pub runs_on : (plot : Plot) → base plot ≡ store_at w → plot.blocks ≡ w.blocks → (op : List ℕ) (q : Part) → q ≡ p → (result : Result (Unit {0}) Need) (es : List (ℕ × ℕ)) (before after : RawReply)
+      → OnOk result (walk_of_run is_success (run_program (script plot op) q) ≡ Gives es after)
+      → IfErr result (λ need. NeedsAt (script plot op) q need.addr)
+      → OnErr result (es ≡ []) → OnErr result (after ≡ before)
+      → RunsAsWalked (scripts_meaning w) (overlaid p.known p.batch) op result es before after
+  runs_on plot e f op q same result es before after = go result
+    where
+      walk_on : (scripts_meaning w).walk (overlaid p.known p.batch) op ≡ walk_of_run is_success (run_program (script plot op) q)
+      walk_on = rw (same, e, f) (walk_is op)
+
+      go : (r : Result (Unit {0}) Need)
+          → OnOk r (walk_of_run is_success (run_program (script plot op) q) ≡ Gives es after)
+          → IfErr r (λ need. NeedsAt (script plot op) q need.addr)
+          → OnErr r (es ≡ []) → OnErr r (after ≡ before)
+          → RunsAsWalked (scripts_meaning w) (overlaid p.known p.batch) op r es before after
+      go (Ok u) ends needs undone out = walk_on ∙ ends
+      go (Err need) ends needs undone out = (walk_on ∙ ap (walk_of_run is_success) needs, undone, out)

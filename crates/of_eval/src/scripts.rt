@@ -4,9 +4,8 @@ ghost use Rattle.std.specs.Prelude.{◌≡◌, ◌≤◌};
 ghost use Rattle.of_mem.specs.declared.work.TheConstants.{MOST_CALLERS};
 ghost use Rattle.of_mem.specs.declared.plot.TheConstants.{MOST_BLOCKS};
 
-use crate::reply::reply_cells;
 use crate::step::word_reads;
-use crate::walk::{keep_sought, reach, resume, run_words};
+use crate::walk::{reach, resume, run_to_reply};
 use of_mem::{MOST_INSTRS, MaySuspend, Need, Part, Plot, RawReply, SuspendedRun, Work};
 use of_plan::Plan;
 
@@ -94,20 +93,7 @@ impl Work for Scripts {
             part.undo();
             return Err(need);
         }
-        match run_words(&plot, part, kept, op) {
-            Ok(reply) => {
-                if reply.abort.is_some() {
-                    part.undo();
-                }
-                *out = reply_cells(&reply);
-                Ok(())
-            }
-            Err(need) => {
-                keep_sought(kept, op);
-                part.undo();
-                Err(need)
-            }
-        }
+        run_to_reply(&plot, part, kept, op, out)
     }
 
     fn reads_only(&self, op: &[u64]) -> bool {

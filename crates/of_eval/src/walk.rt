@@ -1,22 +1,27 @@
 //! The words of an operation in order.
 
 ghost use Rattle.std.proofs.Common.{set};
-ghost use Rattle.std.specs.Prelude.{◌-◌, ◌≡◌, ◌≤◌, ◌<◌, [], length, IfOk, MatchResult, None};
+ghost use Rattle.std.specs.Prelude.{◌-◌, ◌≡◌, ◌≤◌, ◌<◌, [], length, None};
+ghost use Rattle.std.specs.Prelude.{IfErr, IfOk, MatchResult, OnErr, OnOk};
+ghost use Rattle.of_mem.specs.Meaning.{Gives};
 ghost use Rattle.of_mem.specs.Part.{Part};
 ghost use Rattle.of_mem.specs.Plots.{base};
-ghost use Rattle.of_mem.specs.Programs.{NeedsAt};
+ghost use Rattle.of_mem.specs.ProgramWork.{walk_of_run};
+ghost use Rattle.of_mem.specs.Programs.{NeedsAt, run_program};
 ghost use Rattle.of_mem.specs.SuspendedRun.{IsSuspensionOf};
 ghost use Rattle.of_mem.specs.declared.work.TheConstants.{MOST_INSTRS};
 ghost use Rattle.of_mem.specs.Calls.{RunsProgram};
 ghost use Rattle.of_eval.specs.Calls.{script, in_cells};
 ghost use Rattle.of_eval.specs.Shapes.{IsWhole};
 ghost use Rattle.of_eval.specs.Resuming.{HoldsScript, MayResume};
+ghost use Rattle.of_eval.specs.Scripts.{is_success};
 ghost use Rattle.of_eval.specs.Stored.{HasState};
 ghost use Rattle.of_eval.specs.Words.{IsOperation, reply_to};
 ghost use Rattle.of_store.specs.Store.{Aborted};
 
+use crate::reply::reply_cells;
 use crate::step::{run_word, word_seeks};
-use of_mem::{Need, Part, Plot, SuspendedRun};
+use of_mem::{Need, Part, Plot, RawReply, SuspendedRun};
 use of_script::{Abort, Cause, MOST_INSTRS, Reply};
 
 /// Goes back to where `kept` stopped if it is of these words, and else begins them there.
@@ -56,11 +61,58 @@ pub(crate) fn reach(plot: &Plot, part: &mut Part, kept: &SuspendedRun) -> Result
     }
 }
 
+/// Runs the words from the first that hasn't run. Ok leaves their writes with the script, none
+/// after an abort, and the reply in `out`. The error names the cell that the run needs next; then
+/// the script has no writes and `out` is as before.
+// out of line, so that a run that lacks a cell in `reach` doesn't clear the frame of one that ends
+#[inline(never)]
+pub(crate) fn run_to_reply(
+    plot: &Plot,
+    part: &mut Part,
+    kept: &mut SuspendedRun,
+    op: &[u64],
+    out: &mut RawReply,
+) -> Result<(), Need>
+    requires stands { HasState plot.now (record part.old { script = [] }) }
+    requires instrs { plot.now.instrs ≡ MOST_INSTRS }
+    requires words { IsOperation op.now }
+    requires of { IsSuspensionOf kept.old plot.now.callers plot.now.blocks op.now }
+    requires goes { MayResume (base plot.now) plot.now.blocks kept.old
+        (record part.old { script = [] }) }
+    requires written { part.old.script ≡ kept.old.writes }
+    requires room { kept.old.room ≡ length part.old.known }
+    ensures part { part.new ≡ record part.old { script = part.new.script } }
+    ensures ends { OnOk result (walk_of_run is_success
+        (run_program (script plot.now op.now) (record part.old { script = [] }))
+        ≡ Gives part.new.script out.new) }
+    ensures needs { IfErr result (λ need. NeedsAt (script plot.now op.now)
+        (record part.old { script = [] }) need.addr) }
+    ensures undone { OnErr result (part.new.script ≡ []) }
+    ensures out { OnErr result (out.new ≡ out.old) }
+    ensures holds { HoldsScript kept.new (record part.old { script = [] }) }
+    ensures room { kept.new.room ≡ kept.old.room }
+{
+    match run_words(plot, part, kept, op) {
+        Ok(reply) => {
+            if reply.abort.is_some() {
+                part.undo();
+            }
+            *out = reply_cells(&reply);
+            Ok(())
+        }
+        Err(need) => {
+            keep_sought(kept, op);
+            part.undo();
+            Err(need)
+        }
+    }
+}
+
 /// Runs the words in order, to their end or to the first abort, from the first that hasn't run. The
 /// error names a cell that is read and isn't known.
 // out of line: most runs end in `reach`
 #[inline(never)]
-pub(crate) fn run_words(
+fn run_words(
     plot: &Plot,
     part: &mut Part,
     kept: &mut SuspendedRun,
@@ -95,7 +147,7 @@ pub(crate) fn run_words(
 }
 
 /// Keeps the key that the next of these words looks for, if it does so before all else.
-pub(crate) fn keep_sought(kept: &mut SuspendedRun, op: &[u64])
+fn keep_sought(kept: &mut SuspendedRun, op: &[u64])
     requires { kept.old.words ≡ op.now }
     ensures holds { (p : Part) → HoldsScript kept.old p → HoldsScript kept.new p }
     ensures room { kept.new.room ≡ kept.old.room }
