@@ -110,8 +110,6 @@ pub(crate) fn run_to_reply(
 
 /// Runs the words in order, to their end or to the first abort, from the first that hasn't run. The
 /// error names a cell that is read and isn't known.
-// out of line: most runs end in `reach`
-#[inline(never)]
 fn run_words(
     plot: &Plot,
     part: &mut Part,
