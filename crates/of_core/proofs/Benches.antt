@@ -29,7 +29,7 @@ use Rattle.of_core.proofs.Found.{found_now}
 pub table_is : {X : Type 0} (meaning : X → Meaning) (work : X) (b : Bank X) (callers cells limit : ℕ) → b.work ≡ work → b.callers ≡ callers → b.cells ≡ cells → b.limit ≡ limit → setup_of callers cells limit (meaning work) ≡ bank_setup meaning b
 table_is meaning work b callers cells limit p q r t = rw (← p, ← q, ← r, ← t) refl
 
-run_push : (S : Setup) (w : Moment) (es : List Event) (e : Event) → after_events S w (es ++ e ∷ []) ≡ after_event S (after_events S w es) e
+pub run_push : (S : Setup) (w : Moment) (es : List Event) (e : Event) → after_events S w (es ++ e ∷ []) ≡ after_event S (after_events S w es) e
 run_push S w [] e = refl
 run_push S w (d ∷ es) e = run_push S (after_event S w d) es e
 

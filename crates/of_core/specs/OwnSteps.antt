@@ -1,10 +1,9 @@
 -- Steps of one call in a row on the words of a table.
-use Rattle.std.specs.Prelude.{◌≡◌, ℕ, zero, suc, ◌<◌, List}
-use Rattle.of_mem.specs.Meaning.{Meaning}
+use Rattle.std.specs.Prelude.{ℕ, zero, suc, ◌<◌, List}
 use Rattle.of_core.specs.Table.{Setup}
 use Rattle.of_core.specs.Machine.{CallState}
 use Rattle.of_core.specs.Steps.{want, take_word, word_found, words_after}
-use Rattle.of_core.specs.MachineValue.{Machine, machine_setup}
+use Rattle.of_core.specs.MachineValue.{Machine}
 use Rattle.of_core.specs.Meets.{MayTake}
 use Rattle.of_core.specs.Turn.{IsIdle}
 

@@ -1,9 +1,8 @@
-use Rattle.std.proofs.Common.{◌≡◌, ℕ, length, arith, ap, ◌∙◌, length-append}
+use Rattle.std.proofs.Common.{◌≡◌, length, arith, ap, ◌∙◌, length-append}
 use Rattle.of_core.specs.Table.{Setup, setup_of}
 use Rattle.of_core.specs.TableMoment.{TableStart}
 use Rattle.of_core.specs.MachineValue.{machine_setup}
 use Rattle.of_core.specs.Machine.{idle_machine}
-use Rattle.of_core.specs.Moment.{RunSameWork}
 use Rattle.of_core.specs.Events.{idle_machines, start_ticket}
 use Rattle.of_core.specs.Starts.{start_from_durable}
 use Rattle.of_core.proofs.Benches.{at_end, alike_new, alike_push, held_push}

@@ -1,4 +1,4 @@
-use Rattle.std.proofs.Common.{◌≡◌, ℕ, length, arith, ap, subst, ◌∙◌, sym}
+use Rattle.std.proofs.Common.{◌≡◌, length, arith, ap, subst, ◌∙◌, sym}
 use Rattle.of_core.specs.Table.{Setup, setup_of}
 use Rattle.of_core.specs.TableMoment.{TableStart}
 use Rattle.of_core.specs.Moment.{IsReached, call_states, table_word_count}

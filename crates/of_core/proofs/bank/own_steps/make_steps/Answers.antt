@@ -1,9 +1,9 @@
-use Rattle.std.proofs.Common.{◌≡◌, ℕ, suc, ◌+◌, ◌<◌, ◌≤◌, ◌⊎◌, inl, inr, List, length, get_or, refl, sym, ◌∙◌, ap, subst, arith, length-set, add-one}
+use Rattle.std.proofs.Common.{◌≡◌, ℕ, suc, ◌+◌, ◌<◌, ◌⊎◌, inl, inr, List, length, get_or, refl, sym, ◌∙◌, ap, subst, arith, length-set, add-one}
 use Rattle.std.proofs.lemmas.Bool.{cases_eq}
 use Rattle.std.proofs.lemmas.List.{with_items_is}
 use Rattle.of_core.specs.declared.place.Place.{Place}
 use Rattle.of_core.specs.declared.place.Op.{Op}
-use Rattle.of_core.specs.Table.{Setup, words_before_members}
+use Rattle.of_core.specs.Table.{Setup}
 use Rattle.of_core.specs.Machine.{CallState}
 use Rattle.of_core.specs.Steps.{want, want_at, take_word, take_word_at, with_step_counted, word_of, word_found, words_after}
 use Rattle.of_core.specs.MachineValue.{Machine, machine_setup}
@@ -26,8 +26,8 @@ take_at-requires-clause-good g c κs within =
     let p : Place = c.place-place.result in
     let op : want_at (machine_setup M s) s.call p ≡ want S s.call = rw same (asks_here S s.call p c.place-place.ensures) in
     let found : c.perform-found.result ≡ word_found S y.words y.call = c.perform-found.ensures.made.0
-        ∙ ap (λ (o : Op). get_or c.loop-made.words.items (word_of o) 0) (op ∙ ap (want S) call)
-        ∙ ap (λ (ws : List ℕ). word_found S ws y.call) c.loop-made.invariant.words in
+    ∙ ap (λ (o : Op). get_or c.loop-made.words.items (word_of o) 0) (op ∙ ap (want S) call)
+    ∙ ap (λ (ws : List ℕ). word_found S ws y.call) c.loop-made.invariant.words in
     rw (same, work, call, found) (c.requires.good c.loop-made.made)
 
 pub loop-made-preserved : goal.loop-made-preserved
@@ -47,11 +47,11 @@ loop-made-preserved g c =
     let vs : List ℕ = c.loop-made.words.items in
     let op : want_at (machine_setup M s) s.call p ≡ want S y.call = rw same (asks_here S s.call p c.place-place.ensures) ∙ ap (want S) call in
     let found : n ≡ word_found S y.words y.call = c.perform-found.ensures.made.0
-        ∙ ap (λ (o : Op). get_or vs (word_of o) 0) op ∙ ap (λ (ws : List ℕ). word_found S ws y.call) c.loop-made.invariant.words in
+    ∙ ap (λ (o : Op). get_or vs (word_of o) 0) op ∙ ap (λ (ws : List ℕ). word_found S ws y.call) c.loop-made.invariant.words in
     let count : length (words_after (want_at (machine_setup M s) s.call p) vs) ≡ c.loop-made.words.len = length-set vs _ _ ∙ sym c.loop-made.words.ok.0 in
     let left : c.perform-found.new.hand.items ≡ words_after (want_at (machine_setup M s) s.call p) vs = rw c.perform-found.ensures.made.1 (with_items_is c.loop-made.words (words_after (want_at (machine_setup M s) s.call p) vs) count) in
     let table : c.perform-found.new.hand.items ≡ words_after (want S y.call) y.words = left
-        ∙ ap (λ (o : Op). words_after o vs) op ∙ ap (words_after (want S y.call)) c.loop-made.invariant.words in
+    ∙ ap (λ (o : Op). words_after o vs) op ∙ ap (words_after (want S y.call)) c.loop-made.invariant.words in
     let d : CallState = take_word S y.call (word_found S y.words y.call) in
     let went : take_word_at (machine_setup M s) (with_step_counted p s.call) n p ≡ d = rw (same, goes_on S s.call n p c.place-place.ensures) (rw (call, found) refl) in
     let put : c.take_at.new.self ≡ record first { call = d } = c.take_at.ensures ∙ ap (λ (e : CallState). record s { call = e }) went ∙ ap (λ (m : Machine _). record m { call = d }) is in
@@ -61,10 +61,10 @@ loop-made-preserved g c =
       words = table ∙ ap (λ (j : ℕ). (after_own_steps S j x).words) (sym more);
       room = let as_long : length c.perform-found.new.hand.items ≡ length vs = ap length left ∙ length-set vs _ _ in omega (arith, c.loop-made.invariant.room, as_long);
       stays_open = λ j few idle.
-        let here : (j ≡ k) ⊎ (j ≡ k → ⊥) → ⊥ = λ which. elim which [
-          | inl e ↦ let now = c.is_idle.ensures.1 (ap (λ (m : CallState). m.place) call ∙ subst (λ (i : ℕ). IsIdle (after_own_steps S i x).call) e idle) in cc
-          | inr other ↦ c.loop-made.invariant.stays_open j (let lt : j < k = omega (arith, few) in lt) idle
-        ] in here (cases_eq j k);
+          let here : (j ≡ k) ⊎ (j ≡ k → ⊥) → ⊥ = λ which. elim which [
+            | inl e ↦ let now = c.is_idle.ensures.1 (ap (λ (m : CallState). m.place) call ∙ subst (λ (i : ℕ). IsIdle (after_own_steps S i x).call) e idle) in cc
+            | inr other ↦ c.loop-made.invariant.stays_open j (let lt : j < k = omega (arith, few) in lt) idle
+          ] in here (cases_eq j k);
     }
 
 pub returns-clause-machine : goal.returns-clause-machine

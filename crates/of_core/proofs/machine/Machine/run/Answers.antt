@@ -1,5 +1,4 @@
-use Rattle.std.proofs.Common.{◌+◌, ◌≡◌, ℕ, ◌<◌, ◌*◌, List, [], ◌∷◌, ◌++◌, length, map, take, Option, ap, ◌∙◌, sym, refl, arith}
-use Rattle.std.proofs.lemmas.List.{map-append}
+use Rattle.std.proofs.Common.{◌+◌, ◌≡◌, ℕ, ◌<◌, ◌*◌, List, [], ◌∷◌, ◌++◌, length, map, Option, ap, ◌∙◌, sym, refl, arith}
 use Rattle.of_cell.specs.declared.word.TheConstants.{PAYLOADS}
 use Rattle.of_cell.specs.Words.{seq_of}
 use Rattle.of_mem.specs.declared.work.TheConstants.{MOST_INSTRS}
@@ -9,7 +8,7 @@ use Rattle.of_mem.specs.Meaning.{IsSoundMeaning, Needs, Gives}
 use Rattle.of_mem.specs.declared.work.RawReply.{RawReply}
 use Rattle.of_wset.specs.WriteSet.{WriteSet}
 use Rattle.of_core.specs.Table.{Setup, setup_of, first_operation_cell, ticket_cell}
-use Rattle.of_core.specs.Machine.{Call, own_cells}
+use Rattle.of_core.specs.Machine.{own_cells}
 use Rattle.of_core.specs.Inside.{call_value}
 use Rattle.of_core.proofs.Puts.{sound_at, needs_cell, no_case, own_behind}
 use Rattle.of_core.proofs.machine.Machine.run.Goals as goal
