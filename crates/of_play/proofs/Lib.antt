@@ -7,6 +7,7 @@ pub mod PlaysStand
 pub mod PlaysReplies
 pub mod PlaysNotes
 pub mod PlaysMoves
+pub mod PlaysRows
 pub mod PlaysResting
 pub mod PlaysEnds
 pub mod PlaysSchedule

@@ -1,6 +1,6 @@
 -- The code goes on move by move.
-use Rattle.std.proofs.Common.{◌≡◌, ℕ, zero, suc, ◌+◌, ◌<◌, List, [], ◌∷◌, ◌++◌, replicate, refl, sym, ◌∙◌, ap, subst, add-one}
-use Rattle.std.proofs.lemmas.List.{append_assoc, append-nil}
+use Rattle.std.proofs.Common.{◌≡◌, ℕ, ◌+◌, ◌<◌, List, [], ◌∷◌, ◌++◌, replicate, refl, sym, ◌∙◌, ap, subst}
+use Rattle.std.proofs.lemmas.List.{append_assoc, append-nil, replicate-append-replicate}
 use Rattle.of_eval.specs.declared.scripts.Scripts.{Scripts}
 use Rattle.of_eval.specs.Scripts.{scripts_meaning}
 use Rattle.of_plan.specs.declared.plan.Item.{Item}
@@ -35,16 +35,12 @@ goes_nowhere p s es st = subst (λ (gs : List Event). StandsAfter p gs s) (sym (
 pub plays_on : (p : Plan) (ms : List Event) (s t : ScheduleRun) → IsPlaying p s → MakesMoves p ms s t → IsPlaying p t
 plays_on p ms s t r f = record { plan = r.plan; events = r.events ++ events_from p (moment_after p r.events) ms; stands = f r.events r.stands }
 
--- one turn more
-replicate_more : (n : ℕ) (e : Event) → replicate n e ++ e ∷ [] ≡ replicate (n + 1) e
-replicate_more n e = all n ∙ ap (λ (k : ℕ). replicate k e) (sym (add-one n))
-  where
-    all : (n : ℕ) → replicate n e ++ e ∷ [] ≡ replicate (suc n) e
-    all zero = refl
-    all (suc n) = ap (λ (es : List Event). e ∷ es) (all n)
+-- turns of a caller after turns
+pub more_turns : (p : Plan) (c n k : ℕ) (r s t : ScheduleRun) → MakesMoves p (replicate n (Turns c)) r s → MakesMoves p (replicate k (Turns c)) s t → MakesMoves p (replicate (n + k) (Turns c)) r t
+more_turns p c n k r s t f g = subst (λ (ms : List Event). MakesMoves p ms r t) (replicate-append-replicate n k (Turns c)) (goes_further p (replicate n (Turns c)) (replicate k (Turns c)) r s t f g)
 
 pub one_turn_more : (p : Plan) (c n : ℕ) (r s t : ScheduleRun) → MakesMoves p (replicate n (Turns c)) r s → MakesMoves p (Turns c ∷ []) s t → MakesMoves p (replicate (n + 1) (Turns c)) r t
-one_turn_more p c n r s t f g = subst (λ (ms : List Event). MakesMoves p ms r t) (replicate_more n (Turns c)) (goes_further p (replicate n (Turns c)) (Turns c ∷ []) r s t f g)
+one_turn_more p c n r s t f g = more_turns p c n 1 r s t f g
 
 -- an eviction
 pub evict_goes_on : (p : Plan) → IsPlayable p → (item : Item) (a : ℕ) → item ≡ Evict a → IsScheduleItem p item → (s : ScheduleRun) (x : Bank Scripts) → x ≡ bank_after scripts_meaning (Raises a ∷ []) s.bank → MakesMoves p (item_events item) s (record s { bank = x })

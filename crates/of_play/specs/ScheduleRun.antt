@@ -15,7 +15,7 @@ use Rattle.of_core.specs.Calls.{operations_begun, outcomes, outcome_of_turn}
 use Rattle.of_caller.specs.Tables.{plan_setup, opening_for, operation_of}
 use Rattle.of_caller.specs.Ends.{OutcomeHoldsReply, AreAnswers, ending_at}
 use Rattle.of_caller.specs.Left.{IsLeftBy, moment_after}
-use Rattle.of_play.specs.Play.{events_from, next_begin}
+use Rattle.of_play.specs.Play.{events_from, next_begin, turns_by}
 use Rattle.of_play.specs.declared.schedule_run.ScheduleRun.{ScheduleRun}
 
 -- what these events leave of a caller's machine
@@ -55,6 +55,11 @@ abbrev pub MakesMoves : Plan → List Event → (before now : ScheduleRun) → T
 MakesMoves p moves before now =
     (es : List Event) → StandsAfter p es before
     → StandsAfter p (es ++ events_from p (moment_after p es) moves) now
+
+-- it has gone on by turns of the caller in a row, at most so many
+pub record MakesTurnsInRow (p : Plan) (c most made : ℕ) (before now : ScheduleRun) : Type 0 where
+  pub few : made ≤ most
+  pub moves : MakesMoves p (turns_by c made) before now
 
 -- it has begun the caller's next call, where that begins one
 abbrev pub BeginsNext : Plan → ℕ → (before now : ScheduleRun) → Type 0

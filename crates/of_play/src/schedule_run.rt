@@ -28,7 +28,7 @@ impl ScheduleRun {
     ghost use Rattle.of_core.specs.Events.{Turns};
     ghost use Rattle.of_play.specs.Play.{turns_by, item_events};
     ghost use Rattle.of_caller.specs.Ends.{OutcomeHoldsReply, is_spent};
-    ghost use Rattle.of_play.specs.ScheduleRun.{StandsAfter, IsPlaying, MakesMoves, BeginsNext, IsReplied, NotesTurn, NotesEnd, CallerEndsAs, RunLeaves};
+    ghost use Rattle.of_play.specs.ScheduleRun.{StandsAfter, IsPlaying, MakesMoves, MakesTurnsInRow, BeginsNext, IsReplied, NotesTurn, NotesEnd, CallerEndsAs, RunLeaves};
     ghost use Rattle.of_core.specs.Moment.{machine_of};
     ghost use Rattle.of_core.specs.MachineValue.{ended_outcome};
 
@@ -122,8 +122,6 @@ impl ScheduleRun {
     }
 
     /// Makes a turn of a caller: the step of its open call, or of the next one, which it begins.
-    // in line, since there are a million of them in a row, each of some sixty instructions
-    #[inline(always)]
     fn turn(&mut self, plan: &Plan, caller: u32) -> Result<(), AllocError>
         requires caller { caller < plan.now.callers }
         requires playing { IsPlaying plan.now self.old }
@@ -153,17 +151,42 @@ impl ScheduleRun {
         self.bank.made(caller) as usize >= plan.scripts(caller).len()
     }
 
+    /// Makes turns of a caller while its call is open, at most `most`, and notes how that has ended.
+    /// It answers how many.
+    #[inline(always)]
+    fn turns_while_open(&mut self, plan: &Plan, caller: u32, most: u32) -> Result<u32, AllocError>
+        requires caller { caller < plan.now.callers }
+        requires playing { IsPlaying plan.now self.old }
+        ensures { IfOk result (λ made.
+            MakesTurnsInRow plan.now caller most made self.old self.new) }
+    {
+        plan_keeps_laws(plan);
+        runs_are_lawful();
+        let made = self.bank.turns(caller, most);
+        if made > 0 {
+            if let Some(outcome) = self.bank.answer(caller) {
+                self.note_end(caller, outcome)?;
+            }
+        }
+        Ok(made)
+    }
+
     /// Makes that many turns of a caller.
     fn turns(&mut self, plan: &Plan, caller: u32, count: u32) -> Result<(), AllocError>
         requires caller { caller < plan.now.callers }
         requires playing { IsPlaying plan.now self.old }
         ensures { OnOk result (MakesMoves plan.now (turns_by caller count) self.old self.new) }
     {
-        for _ in 0..count {
-            if self.rests(plan, caller) {
-                return Ok(());
+        let mut left = count;
+        while left > 0 {
+            left -= self.turns_while_open(plan, caller, left)?;
+            if left > 0 {
+                if self.rests(plan, caller) {
+                    return Ok(());
+                }
+                self.turn(plan, caller)?;
+                left -= 1;
             }
-            self.turn(plan, caller)?;
         }
         Ok(())
     }
