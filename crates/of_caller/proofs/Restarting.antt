@@ -1,9 +1,9 @@
 -- From what recovery makes of the durable words that a run leaves a table may start, and it starts
 -- where the run's report ends.
-use Rattle.std.proofs.Common.{◌≡◌, ℕ, ◌+◌, ◌-◌, ◌<◌, ◌≤◌, inl, inr, List, length, get_or, drop, sym, ap, subst, ◌∙◌, arith, length-take-le}
-use Rattle.std.specs.Prelude.{slice_range, IsTrue, All}
+use Rattle.std.proofs.Common.{◌≡◌, ℕ, ◌+◌, ◌<◌, ◌≤◌, inl, inr, List, length, get_or, sym, ap, subst, ◌∙◌, arith}
+use Rattle.std.specs.Prelude.{IsTrue, All}
 use Rattle.std.proofs.lemmas.Bool.{cases_lt}
-use Rattle.std.proofs.lemmas.List.{get_or_past, get_or-take, get_or-drop, length-drop}
+use Rattle.std.proofs.lemmas.List.{get_or_past}
 use Rattle.of_cell.specs.Words.{seq_of, payload_of}
 use Rattle.of_cell.specs.Cells.{data_cell}
 use Rattle.of_cell.proofs.Order.{seq_zero}

@@ -1,5 +1,5 @@
 -- A row of a plan: its setup is the plan's, and it starts where the plan does.
-use Rattle.std.proofs.Common.{◌≡◌, ℕ, zero, suc, ◌<◌, List, get_or, replicate, refl, sym, ap, subst, ◌∙◌, arith}
+use Rattle.std.proofs.Common.{◌≡◌, ℕ, ◌<◌, List, sym, ap, subst, ◌∙◌, arith}
 use Rattle.of_mem.specs.Meaning.{Meaning}
 use Rattle.of_mem.specs.Places.{base_of}
 use Rattle.of_mem.specs.ProgramWork.{memory_of}

@@ -1,5 +1,5 @@
 -- A table of zeros starts where a plan's empty start is.
-use Rattle.std.proofs.Common.{◌≡◌, ℕ, zero, suc, get_or, replicate, refl, sym, ap, ◌∙◌}
+use Rattle.std.proofs.Common.{◌≡◌, ℕ, refl, sym, ap, ◌∙◌}
 use Rattle.std.proofs.lemmas.List.{length-replicate}
 use Rattle.of_cell.specs.Words.{payload_of}
 use Rattle.of_cell.proofs.Order.{pay_zero}

@@ -2,7 +2,7 @@
 
 ghost use Rattle.std.specs.Prelude.{◌≡◌, ◌+◌, ◌≤◌, ◌++◌, [], IfOk, map, vec_len, vec_capacity};
 ghost use Rattle.std.specs.Thread.{IsSync};
-ghost use Rattle.of_row.specs.Views.{Each};
+ghost use Rattle.std.specs.List.{AllByRecursion as Each};
 ghost use Rattle.of_row.specs.Rows.{view_of_pass, IsRowPass, IsFirstPass};
 ghost use Rattle.of_row.specs.Passes.{IsFirst};
 ghost use Rattle.of_caller.specs.PlanRows.{IsRowOf, HasStart};

@@ -1,4 +1,4 @@
-use Rattle.std.proofs.Common.{◌≡◌, ℕ, ap, ◌∙◌}
+use Rattle.std.proofs.Common.{ℕ, ap, ◌∙◌}
 use Rattle.of_cell.specs.Cells.{table_words}
 use Rattle.of_core.specs.Starts.{first_words, start_on}
 use Rattle.of_row.proofs.row.Row.start.Goals as goal
