@@ -1,12 +1,10 @@
 -- Each moment of a plan meets the core's invariant, and what a turn leaves of its caller's machine
 -- there.
-use Rattle.std.proofs.Common.{◌≡◌, ℕ, ◌+◌, ◌<◌, List, length, get_or, refl, sym, ◌∙◌, ap, arith, Option, Some, None, Bool, true, false}
+use Rattle.std.proofs.Common.{◌≡◌, ℕ, ◌+◌, ◌<◌, List, length, get_or, refl, ◌∙◌, ap, arith, Bool, true, false}
 use Rattle.std.proofs.lemmas.List.{get_or-set_same, get_or_default}
 use Rattle.of_plan.specs.Plan.{Plan}
 use Rattle.of_core.specs.declared.place.Place.{Place}
 use Rattle.of_core.specs.declared.place.Place.TheVariants.{Idle}
-use Rattle.of_core.specs.declared.place.Outcome.{Outcome}
-use Rattle.of_core.specs.declared.bank.Turn.{Turn}
 use Rattle.of_core.specs.Table.{Setup}
 use Rattle.of_core.specs.Machine.{CallState, IsOpen, is_idle, no_machine}
 use Rattle.of_core.specs.Steps.{take_word, take_word_at, with_step_counted, word_found}
@@ -14,8 +12,8 @@ use Rattle.of_core.specs.TableMoment.{Moment, step_batches}
 use Rattle.of_core.specs.Facts.{IsStep}
 use Rattle.of_core.specs.Invariant.{MeetsInvariant}
 use Rattle.of_core.specs.Claim.{IsSound}
-use Rattle.of_core.specs.MachineValue.{ended_outcome, ended_outcome_at}
-use Rattle.of_core.specs.Turn.{turn_of_outcome, turn_at, turn_of}
+use Rattle.of_core.specs.MachineValue.{ended_outcome}
+use Rattle.of_core.specs.Turn.{turn_of_outcome, turn_at}
 use Rattle.of_core.specs.Events.{Event, Turns, machine_in, after_event, IsSchedule, zero_start}
 use Rattle.of_caller.specs.Tables.{plan_setup, IsLawfulFor, opening_for}
 use Rattle.of_caller.specs.Left.{moment_after}

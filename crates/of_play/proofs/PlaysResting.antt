@@ -1,10 +1,9 @@
 -- A caller that has no call open and begins no other: its turns change nothing.
-use Rattle.std.proofs.Common.{◌≡◌, ℕ, zero, suc, ◌+◌, ◌-◌, ◌<◌, ◌≤◌, List, [], ◌∷◌, ◌++◌, length, get_or, set, replicate, refl, sym, ◌∙◌, ap, subst, arith}
+use Rattle.std.proofs.Common.{◌≡◌, ℕ, zero, suc, ◌+◌, ◌-◌, ◌<◌, ◌≤◌, List, [], ◌∷◌, set, replicate, refl, sym, ◌∙◌, ap, subst, arith}
 use Rattle.std.proofs.lemmas.List.{append-nil, set-get_or}
 use Rattle.of_eval.specs.declared.scripts.Scripts.{Scripts}
 use Rattle.of_eval.specs.Scripts.{scripts_meaning}
 use Rattle.of_plan.specs.Plan.{Plan}
-use Rattle.of_core.specs.declared.bank.Turn.{Turn}
 use Rattle.of_core.specs.declared.bank.Turn.TheVariants.{Idle as NoCall}
 use Rattle.of_core.specs.declared.place.Place.{Place}
 use Rattle.of_core.specs.declared.place.Place.TheVariants.{Idle}
@@ -12,11 +11,10 @@ use Rattle.of_core.specs.declared.place.Outcome.{Outcome}
 use Rattle.of_core.specs.Table.{Setup}
 use Rattle.of_core.specs.Machine.{CallState, no_machine}
 use Rattle.of_core.specs.Steps.{want, want_at, take_word, take_word_at, with_step_counted, words_after, word_found}
-use Rattle.of_core.specs.Turn.{turn_of, turn_at}
+use Rattle.of_core.specs.Turn.{turn_at}
 use Rattle.of_core.specs.Moment.{Bank, bank_setup, bank_after, machine_of}
-use Rattle.of_core.specs.Events.{Event, Turns, machine_in}
+use Rattle.of_core.specs.Events.{Turns}
 use Rattle.of_caller.specs.Ends.{AreAnswers}
-use Rattle.of_caller.specs.Left.{moment_after}
 use Rattle.of_play.specs.ScheduleRun.{NotesTurn, MakesMoves, BeginsNext, answers_in}
 use Rattle.of_play.specs.declared.schedule_run.ScheduleRun.{ScheduleRun}
 use Rattle.of_play.proofs.PlaysMoments.{IsPlayable}

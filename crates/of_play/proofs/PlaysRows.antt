@@ -1,11 +1,10 @@
 -- Turns of a caller in a row whose call is open before each: only the last may end it.
-use Rattle.std.proofs.Common.{◌≡◌, ℕ, zero, suc, ◌+◌, ◌<◌, ◌≤◌, List, [], ◌∷◌, ◌++◌, replicate, refl, sym, ◌∙◌, ap, subst, arith, add-one}
+use Rattle.std.proofs.Common.{◌≡◌, ℕ, zero, suc, ◌<◌, List, [], ◌∷◌, ◌++◌, replicate, refl, sym, ◌∙◌, ap, subst, arith, add-one, Option, Some, None}
 use Rattle.std.proofs.lemmas.List.{append-nil, replicate_more}
 use Rattle.of_eval.specs.declared.scripts.Scripts.{Scripts}
 use Rattle.of_eval.specs.Scripts.{scripts_meaning}
 use Rattle.of_plan.specs.Plan.{Plan}
 use Rattle.of_core.specs.declared.bank.Turn.{Turn}
-use Rattle.of_core.specs.declared.bank.Turn.TheVariants.{Open, Ended}
 use Rattle.of_core.specs.declared.place.Outcome.{Outcome}
 use Rattle.of_core.specs.declared.place.Place.{Place}
 use Rattle.of_core.specs.declared.place.Place.TheVariants.{Idle}
@@ -34,9 +33,9 @@ one_by_one b c k =
     let S = bank_setup scripts_meaning b in
     let w = moment_of_bank b in
     let last : replicate (suc k) (Turns c) ≡ replicate k (Turns c) ++ Turns c ∷ [] =
-        ap (λ (n : ℕ). replicate n (Turns c)) (sym (add-one k)) ∙ sym (replicate_more k (Turns c)) in
+    ap (λ (n : ℕ). replicate n (Turns c)) (sym (add-one k)) ∙ sym (replicate_more k (Turns c)) in
     let is : after_events S w (replicate (suc k) (Turns c)) ≡ after_event S (after_events S w (replicate k (Turns c))) (Turns c) =
-        ap (after_events S w) last ∙ run_append S w (replicate k (Turns c)) (Turns c ∷ []) in
+    ap (after_events S w) last ∙ run_append S w (replicate k (Turns c)) (Turns c ∷ []) in
     ap (λ (v : Moment). record b { words = v.words; machines = v.machines }) is
 
 -- where a call was open, a turn says how it has ended, or that it is open
@@ -52,6 +51,10 @@ none_at q m busy = refl
 no_outcome : (p : Place) (m : CallState) → (IsIdle m → ⊥) → outcome_of_turn (turn_at p m) ≡ []
 no_outcome Idle m busy = refl
 no_outcome p m busy = none_at m.place m busy
+
+pub no_outcome_told : (o : Option Outcome) → ((y : Outcome) → o ≡ Some y → ⊥) → outcome_of_turn (turn_of_outcome o) ≡ []
+no_outcome_told None not = refl
+no_outcome_told (Some y) not = absurd (not y refl)
 
 -- and there is nothing to note
 pub nothing_to_note : (c : ℕ) (t : Turn) (s : ScheduleRun) → outcome_of_turn t ≡ [] → NotesTurn c t s s

@@ -1,9 +1,9 @@
 -- The code stands as the events leave a plan's table: after the begin of a call, a turn and an
 -- eviction.
-use Rattle.std.proofs.Common.{◌≡◌, ℕ, ◌+◌, ◌<◌, ◌≤◌, ◌⊎◌, ◌&&◌, not, nat_lt, if◌then◌else◌, inl, inr, List, [], ◌∷◌, ◌++◌, length, get_or, set, map, take, refl, sym, ◌∙◌, ap, subst, arith, Option, Some, None, Bool, true, false}
+use Rattle.std.proofs.Common.{◌≡◌, ℕ, ◌+◌, ◌<◌, ◌≤◌, ◌⊎◌, ◌&&◌, not, nat_lt, if◌then◌else◌, inl, inr, List, [], ◌∷◌, ◌++◌, length, get_or, take, refl, sym, ◌∙◌, ap, subst, arith, Bool, true, false}
 use Rattle.std.proofs.lemmas.Bool.{cases_eq}
 use Rattle.std.proofs.lemmas.Bool.Decides.{nat_tests}
-use Rattle.std.proofs.lemmas.List.{append_assoc, append-nil, length-map, map-set, set-get_or, get_or-map, get_or_default}
+use Rattle.std.proofs.lemmas.List.{append_assoc, append-nil, length-map, get_or_default}
 use Rattle.std.proofs.Math.Seq.{take-append_seam}
 use Rattle.of_script.specs.declared.instr.Instr.{Instr}
 use Rattle.of_script.specs.Language.{instr_word}
@@ -11,12 +11,10 @@ use Rattle.of_eval.specs.declared.scripts.Scripts.{Scripts}
 use Rattle.of_eval.specs.Scripts.{scripts_meaning}
 use Rattle.of_plan.specs.Plan.{Plan, scripts_of}
 use Rattle.of_core.specs.declared.bank.Turn.{Turn}
-use Rattle.of_core.specs.declared.bank.Turn.TheVariants.{Idle as NoCall, Open, Ended}
 use Rattle.of_core.specs.declared.place.Outcome.{Outcome}
-use Rattle.of_core.specs.declared.place.Outcome.TheVariants.{Answered, Spent}
 use Rattle.of_core.specs.Table.{Setup, cell_count}
 use Rattle.of_core.specs.declared.place.Place.TheVariants.{Idle}
-use Rattle.of_core.specs.Machine.{CallState, is_idle, no_machine, begin_call}
+use Rattle.of_core.specs.Machine.{CallState, is_idle, no_machine}
 use Rattle.of_core.specs.TableMoment.{Moment}
 use Rattle.of_core.specs.MachineValue.{ended_outcome}
 use Rattle.of_core.specs.Turn.{turn_of}
@@ -31,8 +29,8 @@ use Rattle.of_play.specs.ScheduleRun.{EventsMayFollow, answers_in, StandsAfter, 
 use Rattle.of_play.specs.declared.schedule_run.ScheduleRun.{ScheduleRun}
 use Rattle.of_play.proofs.PlaysMoments.{IsPlayable, idle_is, outcome_is}
 use Rattle.of_play.proofs.PlaysEvents.{run_append, outcomes_append}
-use Rattle.of_play.proofs.PlaysGood.{IsGood, good_at, sound_at, few_steps}
-use Rattle.of_play.proofs.PlaysFollow.{only_same, only_other, begins_idle, begins_unspent, begin_follows, turn_follows, raise_follows}
+use Rattle.of_play.proofs.PlaysGood.{IsGood, good_at, few_steps}
+use Rattle.of_play.proofs.PlaysFollow.{only_same, only_other, begin_follows, turn_follows, raise_follows}
 
 -- an event that a bank makes
 abbrev pub IsMade : Event → Type 0

@@ -5,7 +5,7 @@ use Rattle.std.specs.List.{flat_map}
 use Rattle.std.proofs.Math.Seq.{drop-append_seam}
 use Rattle.std.proofs.lemmas.List.{append_assoc, append-nil, get_or-set_same}
 use Rattle.of_eval.specs.Scripts.{scripts_meaning}
-use Rattle.of_plan.specs.Plan.{Plan, scripts_of, data_cells}
+use Rattle.of_plan.specs.Plan.{Plan, scripts_of}
 use Rattle.of_core.specs.declared.place.Place.{Place}
 use Rattle.of_core.specs.declared.place.Place.TheVariants.{Idle, ExchangeCurrent}
 use Rattle.of_core.specs.declared.place.Op.{Op}

@@ -2,8 +2,7 @@
 use Rattle.std.proofs.Common.{◌≡◌, ℕ, ◌+◌, ◌-◌, ◌*◌, ◌/◌, ◌%◌, ◌<◌, ◌≤◌, ◌==◌, nat_lt, Bool, true, false, if◌then◌else◌, refl, ◌∙◌, sym, arith}
 use Rattle.std.proofs.Math.Nat.{mod-lt}
 use Rattle.std.proofs.lemmas.Nat.{div-add-mod'}
-use Rattle.std.proofs.lemmas.Bool.Decides.{nat_tests}
-use Rattle.std.proofs.lemmas.Bool.{eqb-true as is_eq, eqb-false as not_eq, ltb-true as is_less, ltb-false as not_less}
+use Rattle.std.proofs.lemmas.Bool.{eqb-true as is_eq, eqb-false as not_eq, ltb-false as not_less}
 use Rattle.of_cell.specs.Cells.{data_cell, durable_cells, script_place, members_place}
 use Rattle.of_mem.specs.declared.work.TheConstants.{MOST_INSTRS}
 use Rattle.of_mem.specs.Places.{base_of, fresh_at, free_at, keys_at, head_at, length_at, block_at}

@@ -1,7 +1,7 @@
 -- The trace of a plan: a line for each event of its schedule, a turn or an eviction, of those that
 -- are asked for; and the lines of its commits.
 use Rattle.std.specs.Prelude.{ℕ, ◌-◌, ◌+◌, List, [], ◌∷◌, ◌++◌, Bool, true, false, length, get_or, take, drop, flat_map, codes, decimal}
-use Rattle.of_plan.specs.Plan.{Plan, data_cells}
+use Rattle.of_plan.specs.Plan.{Plan}
 use Rattle.of_core.specs.Table.{durable_at, committed_seq}
 use Rattle.of_core.specs.Machine.{Call, is_idle}
 use Rattle.of_core.specs.MachineValue.{ended_outcome}

@@ -1,5 +1,5 @@
 -- What a line of a trace tells of its step after the change: parts, each after a semicolon.
-use Rattle.std.specs.Prelude.{ℕ, zero, suc, ◌+◌, ◌/◌, ◌%◌, ◌^◌, ◌==◌, nat_lt, if◌then◌else◌, Bool, true, false, List, [], ◌∷◌, ◌++◌, take, Option, Some, None, codes, decimal}
+use Rattle.std.specs.Prelude.{ℕ, zero, suc, ◌/◌, ◌%◌, ◌^◌, ◌==◌, nat_lt, if◌then◌else◌, Bool, true, false, List, [], ◌++◌, take, Option, Some, None, codes, decimal}
 use Rattle.of_cell.specs.Words.{seq_of, payload_of}
 use Rattle.of_mem.specs.declared.work.RawReply.{RawReply}
 use Rattle.of_script.specs.declared.instr.Instr.{Instr}

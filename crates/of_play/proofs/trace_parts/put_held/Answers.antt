@@ -1,8 +1,7 @@
-use Rattle.std.proofs.Common.{List, ℕ, ◌++◌, ◌∙◌, ◌≡◌, sym}
+use Rattle.std.proofs.Common.{◌++◌, ◌∙◌, ◌≡◌, sym}
 use Rattle.std.specs.Prelude.{codes, string_bytes}
 use Rattle.std.proofs.lemmas.List.{append_assoc}
 use Rattle.std.proofs.lemmas.Result.{on_ok_weaker}
-use Rattle.of_store.specs.Store.{Reply}
 use Rattle.of_store.specs.Replies.{reply_value_of}
 use Rattle.of_report.specs.ReportText.{reply_text}
 use Rattle.of_play.specs.TraceParts.{shown_reply}

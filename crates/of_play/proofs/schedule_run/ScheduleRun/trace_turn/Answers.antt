@@ -6,7 +6,6 @@ use Rattle.of_core.specs.declared.place.Outcome.{Outcome}
 use Rattle.of_core.specs.Table.{Setup}
 use Rattle.of_caller.specs.Ends.{OutcomeHoldsReply}
 use Rattle.of_core.specs.Moment.{bank_setup, table_word_count, machine_of}
-use Rattle.of_plan.specs.Plan.{data_cells}
 use Rattle.of_play.specs.TraceLine.{step_line}
 use Rattle.of_play.proofs.PlaysMoments.{playable}
 use Rattle.of_play.proofs.TraceTurns.{turn_on, turned, rests, steps, held, read_is}
