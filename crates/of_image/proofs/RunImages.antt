@@ -1,8 +1,7 @@
 -- The durable words of a lawful record have an image, with the sequence and the store of its report, and the tickets that recovery finds.
 use Rattle.std.proofs.Common.{◌≡◌, ℕ, ◌<◌, List, get_or, map, refl, sym, ap, ◌∙◌, arith}
 use Rattle.std.specs.List.{range_with_len}
-use Rattle.std.proofs.lemmas.List.{ext_get_or}
-use Rattle.std.proofs.lemmas.List.FromFn.{get_or-map-range_with_len, length-map-range_with_len}
+use Rattle.std.proofs.lemmas.List.FromFn.{get_or-map-range_with_len}
 use Rattle.of_cell.specs.Words.{seq_of, payload_of}
 use Rattle.of_cell.specs.Cells.{data_cell}
 use Rattle.of_mem.specs.Places.{ticket_cell_at}

@@ -1,5 +1,5 @@
 -- What a fault of a text is that has no image.
-use Rattle.std.specs.Prelude.{◌≡◌, ℕ, ◌-◌, ◌≤◌, List, length, slice_range}
+use Rattle.std.specs.Prelude.{ℕ, ◌-◌, ◌≤◌, List, length, slice_range}
 use Rattle.of_plan.specs.Lines.{text_lines}
 use Rattle.of_plan.specs.BadLine.{HasBadLine}
 use Rattle.of_plan.specs.Above.{line_at}

@@ -1,8 +1,7 @@
 -- From the row of an image a table of a plan that fits it may start, at the start that the image is.
-use Rattle.std.proofs.Common.{◌≡◌, ℕ, ◌+◌, ◌-◌, ◌<◌, ◌≤◌, inl, inr, List, length, get_or, drop, map, sym, ap, subst, ◌∙◌, arith, length-take-le}
-use Rattle.std.specs.Prelude.{slice_range}
+use Rattle.std.proofs.Common.{◌≡◌, ℕ, ◌+◌, ◌-◌, ◌<◌, ◌≤◌, inl, inr, List, length, get_or, map, sym, ap, subst, ◌∙◌, arith}
 use Rattle.std.proofs.lemmas.Bool.{cases_lt}
-use Rattle.std.proofs.lemmas.List.{ext_get_or, get_or_past, get_or-map, get_or-take, get_or-drop, length-drop, length-map}
+use Rattle.std.proofs.lemmas.List.{ext_get_or, get_or_past, get_or-map, length-map}
 use Rattle.std.proofs.lemmas.List.FromFn.{get_or-map-range_with_len, length-map-range_with_len}
 use Rattle.of_cell.specs.Words.{seq_of, payload_of}
 use Rattle.of_cell.specs.Cells.{data_cell}

@@ -1,13 +1,11 @@
 -- What a row of scripts holds at any moment, of the row of a memory.
-use Rattle.std.proofs.Common.{◌≡◌, ℕ, List, subst}
-use Rattle.atomic_table.specs.Table.{State}
+use Rattle.std.proofs.Common.{◌≡◌, ℕ, subst}
 use Rattle.of_eval.specs.declared.scripts.Scripts.{Scripts}
 use Rattle.of_eval.specs.Scripts.{scripts_data_cells, scripts_meaning, LawfulCells}
 use Rattle.of_core.specs.Table.{setup_of}
 use Rattle.of_core.specs.Starts.{IsDurable}
 use Rattle.of_row.specs.declared.row.Row.{Row}
 use Rattle.of_row.specs.Rows.{key_of}
-use Rattle.of_row.specs.Views.{View}
 use Rattle.of_row.specs.Rule.{MeetsRule}
 use Rattle.of_caller.specs.PlanRows.{start_of_row}
 use Rattle.of_memory.specs.declared.memory.Memory.{Memory}

@@ -1,5 +1,5 @@
 -- The durable words of a closed row of scripts, and what recovery makes of them.
-use Rattle.std.proofs.Common.{◌≡◌, ℕ, ◌+◌, ◌-◌, ◌<◌, sym, ◌∙◌, ap, subst, arith, List, ◌++◌, length, get_or, take, drop}
+use Rattle.std.proofs.Common.{◌≡◌, ℕ, ◌+◌, ◌<◌, sym, ◌∙◌, ap, subst, arith, List, ◌++◌, length, get_or, take, drop}
 use Rattle.std.specs.Prelude.{slice_range}
 use Rattle.std.proofs.lemmas.List.{take_at}
 use Rattle.of_cell.specs.Cells.{durable_cells, table_words}

@@ -40,8 +40,9 @@ impl ScheduleRun {
         let scripts = Scripts::of_plan(plan);
         let bank = Bank::new(alloc, plan.shape(), plan.limit(), scripts)?;
         let mut answers = Vec::new(alloc);
-        for _ in 0..plan.callers() {
-            answers.push(Vec::new(alloc))?;
+        for caller in 0..plan.callers() {
+            // room for all, so that no list is copied while it grows
+            answers.push(Vec::with_capacity(alloc, plan.scripts(caller).len())?)?;
         }
         Ok(ScheduleRun { bank, answers })
     }

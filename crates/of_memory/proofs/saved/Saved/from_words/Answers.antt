@@ -1,4 +1,4 @@
-use Rattle.std.proofs.Common.{◌≡◌, ◌∙◌, arith}
+use Rattle.std.proofs.Common.{◌∙◌, arith}
 use Rattle.of_cell.specs.Cells.{durable_cells}
 use Rattle.of_memory.specs.Words.{durable_count}
 use Rattle.of_memory.proofs.StartWords.{start_words_long, same_counts}

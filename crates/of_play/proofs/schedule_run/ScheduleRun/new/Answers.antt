@@ -18,13 +18,13 @@ none_more items [] v e h (suc c) = refl
 none_more items (x ∷ xs) v e h zero = h 0
 none_more items (x ∷ xs) v e h (suc c) = none_more items xs v e (λ d. h (suc d)) c
 
-pub loop-preserved : goal.loop-preserved
-loop-preserved c =
-    let inv = c.loop.invariant in
+pub loop-caller-preserved : goal.loop-caller-preserved
+loop-caller-preserved c =
+    let inv = c.loop-caller.invariant in
     let pushed = c.in_ok-push.ensures.items in
     record {
-      answers = ap length pushed ∙ length-append c.loop.answers.items _ ∙ omega (arith, inv.answers);
-      none = rw pushed (none_more (λ v. v.items) c.loop.answers.items _ c.new-in-loop.ensures.items inv.none);
+      answers = ap length pushed ∙ length-append c.loop-caller.answers.items _ ∙ omega (arith, inv.answers);
+      none = rw pushed (none_more (λ v. v.items) c.loop-caller.answers.items _ c.in_ok-with_capacity.ensures.items inv.none);
     }
 
 pub returns-clause-stands : goal.returns-clause-stands
@@ -38,5 +38,5 @@ returns-clause-stands c =
     let limit : b.bank.limit ≡ p.limit = b.ensures.limit ∙ c.limit.ensures.value in
     let meaning : scripts_meaning b.bank.work ≡ meaning_for p = ap scripts_meaning b.ensures.work ∙ (λ i. meaning_of is_success script_reads (script_program (base_of (many i) MOST_INSTRS) (room i))) in
     let same : bank_setup scripts_meaning b.bank ≡ plan_setup p = λ i. setup_of (callers i) (cells i) (limit i) (meaning i) in
-    let all : c.loop.counter ≡ p.callers = omega (arith, c.callers-end.ensures.value) in
-    start_stands p _ callers same b.ensures.words b.ensures.machines (c.loop.invariant.answers ∙ all) c.loop.invariant.none
+    let all : c.loop-caller.caller ≡ p.callers = omega (arith, c.callers-caller-end.ensures.value) in
+    start_stands p _ callers same b.ensures.words b.ensures.machines (c.loop-caller.invariant.answers ∙ all) c.loop-caller.invariant.none
