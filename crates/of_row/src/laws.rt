@@ -106,8 +106,8 @@ pub fn raises_are_short<W: Work>(limit: u32, work: W)
 }
 
 /// If a caller's number is taken and has done nothing, the view of a member that has seen nothing
-/// since the row's start fits the rule, whatever the other callers have done. No call of a row makes such a
-/// member from outside.
+/// since the row's start fits the rule, whatever the other callers have done. No call of a row makes
+/// such a member from outside.
 pub fn fresh_members_fit<W: Work>(limit: u32, work: W)
     ensures { FreshMembersFit (W.lawful work) (setup_for W.many W.size W.meaning limit work) }
 {
