@@ -239,4 +239,4 @@ number_small One = lit≤ tt
 number_small Two = lit≤ tt
 
 pub image_in_range : (v : Version) (r : DurableRow) → IsRow (instrs_of v) r → AllByRecursion IsImageLineInRange (image_lines v r)
-image_in_range v r h = (number_small v, (h.few_callers, (h.few_blocks, all-both IsImageLineInRange (cell_lines 0 r.words) (End ∷ []) (lines_in_range 0 r.words (row_short v r h) h.words) (tt, tt))))
+image_in_range v r h = (number_small v, (h.few_callers, (h.few_blocks, all-both IsImageLineInRange (cell_lines 0 r.words) (End ∷ []) (lines_in_range 0 r.words (omega (arith, row_short v r h)) h.words) (tt, tt))))
