@@ -1,4 +1,4 @@
-"""What the scripts read of this repository: crates.txt, sources, definitions and edits.
+"""What the scripts read of this repository: crates.txt, sources, definitions, edits and cases.
 
 A script in another folder than tools/ finds this module so:
 
@@ -207,3 +207,49 @@ class Edit:
 def edits(folder):
     """The edits in a folder, by name."""
     return {it.stem: Edit(it) for it in sorted(folder.glob("*.edit"))}
+
+
+# -- worked cases: the folders of tests/cases, as docs/TESTING.md says
+
+
+class Case(typing.NamedTuple):
+    """A run of the program: its words, what it reads, and what it must print and end with."""
+
+    name: str
+    folder: pathlib.Path
+    words: list
+    given: bytes
+    stdout: bytes
+    status: int
+
+
+def given(folder):
+    """What the case in a folder reads: a text, or one that is repeated."""
+    repeat = folder / "stdin.repeat"
+    if not repeat.exists():
+        return (folder / "stdin").read_bytes()
+    text, count = repeat.read_bytes().rstrip(b"\n").rsplit(b" ", 1)
+    return text * int(count)
+
+
+def cases_in(folder):
+    """The case in a folder, or those of its table `each`: a line has the numbers `FIRST-LAST` that
+    stand in the input for NUMBER, and the ending of the file with the output."""
+    words, status = (folder / "args").read_text().split(), int((folder / "status").read_text())
+    text, table = given(folder), folder / "each"
+    if not table.exists():
+        return [Case(folder.name, folder, words, text, (folder / "stdout").read_bytes(), status)]
+    found = []
+    for line in table.read_text().splitlines():
+        first, last, ending = re.fullmatch(r"(\d+)-(\d+) (\w+)", line).groups()
+        stdout = (folder / f"stdout.{ending}").read_bytes()
+        for number in range(int(first), int(last) + 1):
+            own = text.replace(b"NUMBER", b"%d" % number)
+            found.append(Case(f"{folder.name} {number}", folder, words, own, stdout, status))
+    return found
+
+
+def cases():
+    """All worked cases."""
+    folders = sorted(it.parent for it in (TOP / "tests/cases").glob("*/*/args"))
+    return [case for folder in folders for case in cases_in(folder)]
