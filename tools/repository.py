@@ -18,7 +18,7 @@ GROUP = re.compile(r"# -- (.*?)\.?$")
 
 
 class Crate(typing.NamedTuple):
-    """A line of crates.txt: the words after the name, the crates used, and the group's heading."""
+    """A line of crates.txt: the words after the name, the crates used, the group's heading."""
 
     name: str
     flags: list
@@ -30,7 +30,7 @@ class Crate(typing.NamedTuple):
         return CRATES / self.name
 
     def files(self, part, ending):
-        """The files with this ending in a folder of the crate, such as its specs, in their order."""
+        """The files with this ending in a folder of the crate, such as specs, in their order."""
         return sorted((self.folder / part).rglob(f"*.{ending}"))
 
 
@@ -189,13 +189,14 @@ class Edit:
                 self.changes.append(Change(file, old, rest))
 
     def applied(self, folder):
-        """The new texts of the files in a folder that it changes; what it replaces is there once."""
+        """The new texts of the files in a folder that it changes."""
         texts = {}
         for file, old, new in self.changes:
             path = folder / file
             if not path.exists():
                 raise Unfit(f"names no file: {file}")
             text = texts.setdefault(path, path.read_text())
+            # What it replaces must be there once.
             if text.count(old) != 1:
                 raise Unfit(f"replaces what stands {text.count(old)} times: {old.strip()}")
             texts[path] = text.replace(old, new)

@@ -18,7 +18,7 @@ class Layout(typing.NamedTuple):
 
     @property
     def first_data(self):
-        """The number of the first data cell: before it are the current transaction and the requests."""
+        """The number of the first data cell, after the current transaction and the requests."""
         return 1 + self.callers
 
     @property
