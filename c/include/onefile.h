@@ -49,7 +49,11 @@ extern "C" {
 
 #define ONEFILE_VERSION "0.1"
 
-/* The version that the library was made as. */
+/* 1 if what is below the C side of the library is proved, 0 if it was built without proofs. c/build
+ * writes this line into the header that it puts beside a library. */
+#define ONEFILE_PROVED 0
+
+/* The version that the library was made as. It ends in " (not proved)" if ONEFILE_PROVED was 0. */
 const char *onefile_version(void);
 
 /* ---- Answers. */

@@ -6,7 +6,9 @@
 #include "of_c.h"
 #include "slots.h"
 
-const char *onefile_version(void) { return ONEFILE_VERSION; }
+const char *onefile_version(void) {
+  return ONEFILE_PROVED ? ONEFILE_VERSION : ONEFILE_VERSION " (not proved)";
+}
 
 const char *onefile_name(int answer) {
   static const char *const names[] = {
