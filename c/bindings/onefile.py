@@ -15,7 +15,7 @@ class Slot(ctypes.Structure):
 
 
 class Guarded(ctypes.Structure):
-    _fields_ = [("busy", c_uint32), ("slot", Slot), ("apart", ctypes.c_char * 40)]
+    _fields_ = [("busy", c_uint32), ("slot", Slot), ("apart", ctypes.c_char * 64)]
 
 
 class RawMemory(ctypes.Structure):

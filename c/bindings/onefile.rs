@@ -28,7 +28,7 @@ struct Slot {
 struct Guarded {
     busy: u32,
     slot: Slot,
-    apart: [u8; 40],
+    apart: [u8; 64],
 }
 
 #[repr(C)]

@@ -82,7 +82,7 @@ enum {
   ONEFILE_FILE_EXISTS = 20, /* there is a file with this name */
   ONEFILE_FILE_IN_USE = 21, /* a memory is open in the file, of this process or of another one */
   ONEFILE_TORN = 22,        /* the machine stopped while a memory was open in the file */
-  ONEFILE_NO_SPACE = 23,    /* the disk is full */
+  ONEFILE_NO_SPACE = 23,    /* the disk is full, or the process may have no file of this size */
   ONEFILE_SYSTEM = 24       /* the system refused something else: errno says why */
 };
 
@@ -108,7 +108,7 @@ typedef struct onefile_slot {
 typedef struct onefile_guarded {
   uint32_t busy;
   onefile_slot slot;
-  char apart[40]; /* callers don't share a line of the cache */
+  char apart[64]; /* a line of the cache, so that no two callers share one */
 } onefile_guarded;
 
 typedef struct onefile_memory {

@@ -20,6 +20,7 @@
 #include <string.h>
 #include <sys/file.h>
 #include <sys/mman.h>
+#include <sys/resource.h>
 #include <sys/stat.h>
 #include <unistd.h>
 
@@ -273,10 +274,20 @@ typedef struct birth {
   onefile_slot *start; /* what the memory starts from */
 } birth;
 
+/* Whether this process may have a file of so many bytes. One that may not is told so, and not ended
+ * by SIGXFSZ. */
+static int may_have(size_t size) {
+  struct rlimit most;
+  if (getrlimit(RLIMIT_FSIZE, &most) != 0 || size <= most.rlim_cur) return 1;
+  errno = EFBIG;
+  return 0;
+}
+
 /* Makes the file with all its blocks, so that a full disk is told now and not by a signal later,
  * and maps it. What a process that was killed has left there goes. */
 static uint32_t make_file(birth *born, table *one) {
   one->size = size_for(&born->head);
+  if (!may_have(one->size)) return refusal();
   if (ftruncate(one->file, 0) != 0 || fchmod(one->file, born->mode) != 0) return refusal();
   do errno = posix_fallocate(one->file, 0, (off_t)one->size);
   while (errno == EINTR);

@@ -11,6 +11,7 @@
 #include <stdio.h>
 #include <stdlib.h>
 #include <string.h>
+#include <sys/resource.h>
 #include <sys/stat.h>
 #include <sys/syscall.h>
 #include <sys/wait.h>
@@ -206,6 +207,18 @@ static void many(void) {
     EXPECT(onefile_free(&all[i]), ONEFILE_DONE);
     HOLDS(unlink(name) == 0);
   }
+}
+
+/* A process that may have no file of this size is told so, and is not ended by a signal. */
+static void limited(void) {
+  struct rlimit before, small;
+  HOLDS(getrlimit(RLIMIT_FSIZE, &before) == 0);
+  small = (struct rlimit){.rlim_cur = 4096, .rlim_max = before.rlim_max};
+  HOLDS(setrlimit(RLIMIT_FSIZE, &small) == 0);
+  int answer = reopen(&other);
+  HOLDS(setrlimit(RLIMIT_FSIZE, &before) == 0);
+  EXPECT(answer, ONEFILE_NO_SPACE);
+  HOLDS(!is_there(beside));
 }
 
 /* ---- Spoilt files. */
@@ -414,6 +427,7 @@ int main(int argc, char **argv) {
   rubbish();
   shapes();
   many();
+  limited();
   headers();
   words();
   boots();

@@ -33,6 +33,15 @@ static int text_within(uint32_t number, const char *script, uint64_t steps) {
   return onefile_call_text_within(&memory, number, script, strlen(script), steps, &reply);
 }
 
+/* What the library says of itself: as its header, and with a name for each answer. */
+static void names(void) {
+  const char *version = ONEFILE_PROVED ? ONEFILE_VERSION : ONEFILE_VERSION " (not proved)";
+  expect(__LINE__, strcmp(onefile_version(), version), 0);
+  expect(__LINE__, strcmp(onefile_name(ONEFILE_SYSTEM), "ONEFILE_SYSTEM"), 0);
+  expect(__LINE__, strcmp(onefile_name(ONEFILE_SYSTEM + 1), "ONEFILE_?"), 0);
+  expect(__LINE__, strcmp(onefile_name(-1), "ONEFILE_?"), 0);
+}
+
 static void null_pointers(void) {
   EXPECT(onefile_open(NULL, 1, 0, 1), ONEFILE_NULL);
   EXPECT(onefile_reopen(NULL, &saved), ONEFILE_NULL);
@@ -213,6 +222,7 @@ static void one_caller(void) {
 }
 
 int main(void) {
+  names();
   null_pointers();
   empty_objects();
   numbers();
