@@ -39,6 +39,7 @@ int main(int argc, char **argv) {
     /* The number of the order is kept by the same call: with all that it does, or not at all. */
     const uint64_t script[] = {onefile_add(SUM, 10 * order), onefile_store(LAST, order)};
     must(onefile_call(&memory, 0, script, 2, &reply));
+    if (reply.cause != 0) break; /* it aborted, so it is still the next one */
     printf("order %u, sum %u\n", order, reply.values[0]);
   }
   return 0;
