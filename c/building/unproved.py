@@ -4,6 +4,7 @@ A library cannot be built without proofs, and a program can. So of_c is made a p
 of the crates that it stands on. `rt try` builds it, and its functions are taken from there.
 """
 import shutil
+import subprocess
 
 import kit
 import repository
@@ -37,12 +38,10 @@ def make_object(room, made):
     """Makes the object, in a folder for what is needed meanwhile."""
     crate = copy_as_program(room)
     caught = room / "caught"
-    status = kit.catch(crate, caught)
-    module = caught / "module.bc"
-    if not module.exists():
+    if status := kit.catch(crate, caught, ["module.bc"]):
         raise NotBuilt(f"{last_lines(caught / 'log')}\n`rt try` builds no module: status {status}")
     names = [it.name for it in exports(repository.CRATES / "of_c")]
     try:
-        kit.object_of(module, names, made)
-    except (OSError, ValueError, kit.subprocess.SubprocessError) as error:
+        kit.object_of(caught / "module.bc", names, made)
+    except (OSError, ValueError, subprocess.SubprocessError) as error:
         raise NotBuilt(f"{error}\nthe kit is not as tools/kit.py expects; tests/kit says what differs")
