@@ -206,6 +206,7 @@ module _ (w : Accounts) where
         sym (total_same w m n w.accounts (λ a l. same (account_cell w a) (omega arith))) ∙ h;
     stays = stays;
     inside = λ m op h. (good m op h).inside;
+    few = λ m op h. inl (omega (arith, w.few_callers, w.few_accounts));
     replies = λ m op h. (good m op h).reply;
     reads_only = λ op e. absurd (true≢false (sym e));
   }

@@ -1,6 +1,7 @@
 -- The cells of a shape have different numbers, and the words of its table different places.
 use Rattle.std.proofs.Common.{◌≡◌, ℕ, ◌+◌, ◌*◌, ◌<◌, ◌≤◌, ◌⊎◌, inl, inr, refl, ap, arith}
 use Rattle.std.proofs.lemmas.Bool.{cases_order}
+use Rattle.of_cell.specs.Cells.{log_room}
 use Rattle.of_cell.specs.Named.{Current, Request, DataCell, LogCount, LogAddr, LogValue, CellsDiffer, CellsBelow, CellWord, DurableWord, ScriptWord, Announcement, Members, WordPlacesDiffer, PlacesBelow}
 
 -- of n rows of width k, row i ends where the last ends, or before
@@ -20,13 +21,13 @@ pub cells_below : (callers cells : ℕ) → CellsBelow callers cells
 cells_below n m Current h = omega arith
 cells_below n m (Request i) h = omega arith
 cells_below n m (DataCell a) h = omega arith
-cells_below n m (LogCount i) h = omega (arith, row_within i n (2 * m + 1) h)
-cells_below n m (LogAddr i j) h = omega (arith, row_within i n (2 * m + 1) h.0)
-cells_below n m (LogValue i j) h = omega (arith, row_within i n (2 * m + 1) h.0)
+cells_below n m (LogCount i) h = omega (arith, row_within i n (2 * log_room n m + 1) h)
+cells_below n m (LogAddr i j) h = omega (arith, row_within i n (2 * log_room n m + 1) h.0)
+cells_below n m (LogValue i j) h = omega (arith, row_within i n (2 * log_room n m + 1) h.0)
 
 -- two log cells of one number are one word of one log
-same_log : (n m i j x y : ℕ) → x < 2 * m + 1 → y < 2 * m + 1 → n + 1 + m + i * (2 * m + 1) + x ≡ n + 1 + m + j * (2 * m + 1) + y → (i ≡ j) × (x ≡ y)
-same_log n m i j x y hx hy e = same_row i j (2 * m + 1) x y hx hy (omega arith)
+same_log : (n m i j x y : ℕ) → x < 2 * log_room n m + 1 → y < 2 * log_room n m + 1 → n + 1 + m + i * (2 * log_room n m + 1) + x ≡ n + 1 + m + j * (2 * log_room n m + 1) + y → (i ≡ j) × (x ≡ y)
+same_log n m i j x y hx hy e = same_row i j (2 * log_room n m + 1) x y hx hy (omega arith)
 
 pub cells_differ : (callers cells : ℕ) → CellsDiffer callers cells
 cells_differ n m Current Current h k e = refl

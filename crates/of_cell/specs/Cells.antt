@@ -1,8 +1,8 @@
 -- The cells of a shape and the words of its shared table, by their numbers, and the step bound of a
 -- call. A shape is three numbers: of callers, of script words a caller has room for, and of data
 -- cells.
-use Rattle.std.specs.Prelude.{ℕ, ◌+◌, ◌*◌, ◌≤◌}
-use Rattle.of_cell.specs.declared.shape.TheConstants.{MOST_CALLERS, MOST_SCRIPT_WORDS, MOST_DATA_CELLS}
+use Rattle.std.specs.Prelude.{ℕ, ◌+◌, ◌*◌, ◌≤◌, nat_le, if◌then◌else◌}
+use Rattle.of_cell.specs.declared.shape.TheConstants.{MOST_CALLERS, MOST_SCRIPT_WORDS, MOST_DATA_CELLS, LEAST_LOG, LOG_OF_EACH}
 
 -- the ranges of a shape
 pub record IsShape (callers instrs cells : ℕ) : Type 0 where
@@ -21,9 +21,17 @@ request_cell caller = caller + 1
 abbrev pub data_cell : (callers addr : ℕ) → ℕ
 data_cell callers addr = callers + 1 + addr
 
+-- the most entries of a log: as many as there are data cells, but no more than a batch can write, for
+-- which each caller has a share
+unfoldable pub log_room : (callers cells : ℕ) → ℕ
+log_room callers cells =
+    if nat_le cells (LEAST_LOG + callers * LOG_OF_EACH) then cells
+    else LEAST_LOG + callers * LOG_OF_EACH
+
 -- word x of a caller's log: the number of its entries, and then address and value of each
 abbrev pub log_cell : (callers cells caller x : ℕ) → ℕ
-log_cell callers cells caller x = callers + 1 + cells + caller * (2 * cells + 1) + x
+log_cell callers cells caller x =
+    callers + 1 + cells + caller * (2 * log_room callers cells + 1) + x
 
 -- the number of entries of a caller's log
 abbrev pub log_count_cell : (callers cells caller : ℕ) → ℕ
@@ -38,9 +46,9 @@ abbrev pub log_value_cell : (callers cells caller entry : ℕ) → ℕ
 log_value_cell callers cells caller entry = log_cell callers cells caller (2 * entry + 2)
 
 -- the number of cells: the current transaction, a request for each caller, the data cells, and for
--- each caller a log with room for each data cell
+-- each caller a log
 abbrev pub durable_cells : (callers cells : ℕ) → ℕ
-durable_cells callers cells = 1 + callers + cells + callers * (2 * cells + 1)
+durable_cells callers cells = 1 + callers + cells + callers * (2 * log_room callers cells + 1)
 
 -- the place of a cell's durable word; its word is at the place of the cell's number
 abbrev pub durable_place : (callers cells cell : ℕ) → ℕ

@@ -1,6 +1,6 @@
 -- Cells and words of the table by name, so that it can be said that no two of them have one number.
 use Rattle.std.specs.Prelude.{ℕ, ◌≡◌, ◌<◌}
-use Rattle.of_cell.specs.Cells.{request_cell, data_cell, log_count_cell, log_addr_cell, log_value_cell, durable_cells, durable_place, script_place, announce_place, members_place, table_words}
+use Rattle.of_cell.specs.Cells.{log_room, request_cell, data_cell, log_count_cell, log_addr_cell, log_value_cell, durable_cells, durable_place, script_place, announce_place, members_place, table_words}
 
 pub data CellName : Type 0 where
   Current : CellName
@@ -16,8 +16,8 @@ IsCell callers cells Current = Unit {0}
 IsCell callers cells (Request caller) = caller < callers
 IsCell callers cells (DataCell addr) = addr < cells
 IsCell callers cells (LogCount caller) = caller < callers
-IsCell callers cells (LogAddr caller entry) = (caller < callers) × (entry < cells)
-IsCell callers cells (LogValue caller entry) = (caller < callers) × (entry < cells)
+IsCell callers cells (LogAddr caller entry) = (caller < callers) × (entry < log_room callers cells)
+IsCell callers cells (LogValue caller entry) = (caller < callers) × (entry < log_room callers cells)
 
 abbrev pub cell_number : (callers cells : ℕ) → CellName → ℕ
 cell_number callers cells Current = 0

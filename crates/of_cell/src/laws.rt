@@ -1,10 +1,11 @@
 //! What follows from the numbers of cells and places. Nothing here has a body to run: a proof cites
 //! the clauses.
 
-ghost use Rattle.std.specs.Prelude.{◌≡◌, ℕ, ◌^◌, ◌<◌, ◌↔◌};
+ghost use Rattle.std.specs.Prelude.{◌≡◌, ℕ, ◌^◌, ◌<◌, ◌≤◌, ◌+◌, ◌*◌, ◌⊎◌, ◌↔◌};
 ghost use Rattle.of_cell.specs.Words.{pack, seq_of, payload_of, IsEarlier};
-ghost use Rattle.of_cell.specs.Cells.{durable_cells, table_words, step_bound};
+ghost use Rattle.of_cell.specs.Cells.{log_room, durable_cells, table_words, step_bound};
 ghost use Rattle.of_cell.specs.Named.{CellsDiffer, CellsBelow, WordPlacesDiffer, PlacesBelow};
+ghost use Rattle.of_cell.specs.declared.shape.TheConstants.{LEAST_LOG, LOG_OF_EACH};
 
 use crate::Shape;
 
@@ -27,8 +28,19 @@ pub fn places_differ(shape: &Shape)
     ensures below { PlacesBelow shape.now.callers shape.now.instrs shape.now.cells }
 {}
 
+/// How much room a log has: no more than there are data cells, and one for each of a small table.
+#[tactic(auto, unfolding(crate::specs::Cells::log_room))]
+pub fn log_rooms()
+    ensures most { (n m : ℕ) → log_room n m ≤ m }
+    ensures few { (n m : ℕ) → log_room n m ≤ LEAST_LOG + n * LOG_OF_EACH }
+    ensures whole { (n m : ℕ) → m ≤ LEAST_LOG → log_room n m ≡ m }
+    // each caller has a share of the room, unless there is room for each cell
+    ensures share { (n m : ℕ) → m ≤ log_room n m ⊎ LEAST_LOG + n * LOG_OF_EACH ≤ log_room n m }
+{}
+
 /// The numbers for sixteen callers with scripts of sixteen and 512 blocks, which make 1887 data
 /// cells.
+#[tactic(auto, unfolding(crate::specs::Cells::log_room))]
 pub fn largest()
     ensures cells { durable_cells 16 1887 ≡ 62304 }
     ensures words { table_words 16 16 1887 ≡ 124881 }
@@ -36,6 +48,7 @@ pub fn largest()
 {}
 
 /// The numbers for one caller with scripts of sixteen and no blocks, which makes 81 data cells.
+#[tactic(auto, unfolding(crate::specs::Cells::log_room))]
 pub fn smallest()
     ensures cells { durable_cells 1 81 ≡ 246 }
     ensures steps { step_bound 1 16 81 ≡ 6054 }

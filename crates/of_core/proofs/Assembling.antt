@@ -6,6 +6,7 @@ use Rattle.std.proofs.lemmas.List.{append-nil, set-get_or, length-map, get_or_pa
 use Rattle.of_cell.specs.declared.word.TheConstants.{PAYLOADS}
 use Rattle.of_cell.specs.Words.{payload_of}
 use Rattle.of_cell.proofs.Order.{pay_zero}
+use Rattle.of_cell.proofs.Rooms.{room_upto}
 use Rattle.of_core.specs.Table.{Setup}
 use Rattle.of_core.specs.Machine.{CallState, flat_entries, log_words}
 use Rattle.of_core.specs.TableMoment.{Read, Moment, Batch, TableStart}
@@ -22,7 +23,7 @@ small_flat (e ∷ es) h (suc zero) = (h 0 (0, 0) (omega arith)).1
 small_flat (e ∷ es) h (suc (suc x)) = small_flat es (λ k d l. h (suc k) d (omega arith)) x
 
 pub small_words : {S : Setup} (es : List (ℕ × ℕ)) → S.cells < PAYLOADS → IsLog S es → (x : ℕ) → get_or (log_words es) x 0 < PAYLOADS
-small_words es c h zero = omega (arith, h.few)
+small_words {S} es c h zero = omega (arith, h.few, room_upto S.callers S.cells)
 small_words es c h (suc x) = small_flat es (λ k d l. (omega (arith, (h.entries k d l).0), (h.entries k d l).1)) x
 
 pub number_at : (B : TableStart) (bs : List Batch) (k x : ℕ) → get_or (numbers_after B bs k) x 0 ≡ payload_of (data_word_after B bs k x)

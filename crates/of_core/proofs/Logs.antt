@@ -14,8 +14,10 @@ use Rattle.of_cell.proofs.Order.{pay_word}
 use Rattle.of_cell.proofs.Places.{row_within}
 use Rattle.of_mem.specs.declared.work.RawReply.{RawReply}
 use Rattle.of_mem.specs.Meaning.{HasDistinctCells, with_writes_in, IsFinishedWalk}
-use Rattle.of_mem.specs.declared.work.TheConstants.{LEAST_ABORT}
-use Rattle.of_core.specs.Table.{Setup, first_operation_cell, ticket_cell}
+use Rattle.of_mem.specs.declared.work.TheConstants.{LEAST_ABORT, FEW_DATA_CELLS}
+use Rattle.of_cell.specs.declared.shape.TheConstants.{LOG_OF_EACH}
+use Rattle.of_cell.proofs.Rooms.{room_share}
+use Rattle.of_core.specs.Table.{Setup, log_entries, first_operation_cell, ticket_cell}
 use Rattle.of_core.specs.Machine.{cells_from, own_cells, flat_entries, log_words, entries_going_round}
 use Rattle.of_core.specs.History.{with_log_applied}
 use Rattle.of_core.specs.WordsMatch.{IsEntry, IsLog}
@@ -71,9 +73,10 @@ InOwn low size e = (low ≤ e.0) × (e.0 < low + size) × (e.1 < PAYLOADS)
 pub record IsOwn (low size : ℕ) (es : List (ℕ × ℕ)) : Type 0 where
   pub inside : All (InOwn low size) es
   pub once : HasDistinctCells es
+  pub few : length es ≤ size
 
 two_own : (low size shape ticket : ℕ) → 2 ≤ size → shape < PAYLOADS → ticket < PAYLOADS → IsOwn low size ((low + 1, shape) ∷ (low, ticket) ∷ [])
-two_own low size shape ticket h a b = record { inside = inside_of; once = once_of }
+two_own low size shape ticket h a b = record { inside = inside_of; once = once_of; few = h }
   where
     inside_of : All (InOwn low size) ((low + 1, shape) ∷ (low, ticket) ∷ [])
     inside_of zero d l = (omega arith, omega arith, a)
@@ -95,6 +98,7 @@ own_is low count size ticket r h a b vs false = two_own low size r.shape ticket 
 own_is low count size ticket r h a b vs true = record {
   inside = All-append (InOwn low size) (cells_from (low + 2) ts) two listed_in t.inside;
   once = once_append (cells_from (low + 2) ts) two listed_once t.once apart;
+  few = rw length-append (omega (arith, length-listed (low + 2) ts, few));
 }
   where
     ts : List ℕ
@@ -156,13 +160,29 @@ once_few S es h o =
         let here : (get_or es f.0 (0, 0)).0 ≡ f.1 = sym (at_x f.0 f.1 mk) ∙ f.3 in
         omega (arith, (h f.0 (0, 0) mk).0)
 
--- the walk's writes and the caller's own cells are a log
+-- entries that a log may have, each cell once
+pub record AreWrites (S : Setup) (es : List (ℕ × ℕ)) : Type 0 where
+  pub entries : All (IsEntry S) es
+  pub once : HasDistinctCells es
+
+-- they have room in a log where there is room for each data cell, or where they are within the callers' shares
+pub once_within : (S : Setup) (es : List (ℕ × ℕ)) → AreWrites S es → (S.cells ≤ FEW_DATA_CELLS) ⊎ (length es ≤ S.callers * LOG_OF_EACH) → length es ≤ log_entries S
+once_within S es a short = go (room_share S.callers S.cells) short
+  where
+    all : length es ≤ S.cells
+    all = once_few S es a.entries a.once
+
+    go : (log_entries S ≡ S.cells) ⊎ (4096 + S.callers * 256 ≤ log_entries S) → (S.cells ≤ FEW_DATA_CELLS) ⊎ (length es ≤ S.callers * LOG_OF_EACH) → length es ≤ log_entries S
+    go (inl e) k = omega (arith, all, e)
+    go (inr e) (inl k) = omega (arith, all, e, k)
+    go (inr e) (inr k) = omega (arith, e, k)
+
+-- the walk's writes and the caller's own cells are writes
 pub whole_log : (S : Setup) (i ticket count : ℕ) (xs op : List ℕ) (es : List (ℕ × ℕ)) (r : RawReply) → i < S.callers → count ≤ S.instrs → ticket < PAYLOADS → first_operation_cell S ≤ S.cells
-    → IsFinishedWalk S.meaning (first_operation_cell S) S.cells xs op es r → IsLog S (es ++ own_cells (ticket_cell S i) ticket count r)
+    → IsFinishedWalk S.meaning (first_operation_cell S) S.cells xs op es r → AreWrites S (es ++ own_cells (ticket_cell S i) ticket count r)
 whole_log S i ticket count xs op es r h c t b f = record {
   entries = entries_all;
   once = once_all;
-  few = once_few S (es ++ own) entries_all once_all;
 }
   where
     own : List (ℕ × ℕ)

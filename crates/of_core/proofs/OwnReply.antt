@@ -183,6 +183,7 @@ module _ {S : Setup} {Lawful : List ℕ → Type 0} {B : TableStart} where
       over = record { is_log = record { entries = λ k d l. absurd (omega arith); once = λ j k l. absurd (omega arith); few = omega arith }; effect = refl; replies = tt; own = λ k d l. absurd (omega arith); rows = λ j l. absurd (omega arith) };
       taken = λ k d l. absurd (omega arith);
       below = λ k d l. absurd (omega arith);
+      short = inr (omega arith);
       ordered = λ j k l u. absurd (omega arith);
       announced = λ q k d l. absurd (omega arith);
       own = λ q l. absurd (omega arith);

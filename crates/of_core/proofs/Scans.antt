@@ -24,7 +24,7 @@ use Rattle.of_core.specs.Places.{IsAtCaller}
 use Rattle.of_core.specs.Invariant.{HoldsAtPlace, MeetsCore}
 use Rattle.of_core.specs.Guarantees.{KeepsGuarantee}
 use Rattle.of_core.proofs.States.{state_length}
-use Rattle.of_core.proofs.Overlays.{extended, walk_fits, over_unknown}
+use Rattle.of_core.proofs.Overlays.{extended, extended_short, walk_fits, over_unknown}
 use Rattle.of_core.proofs.Alike.{past_as, scanning_as}
 use Rattle.of_core.proofs.Assembling.{assemble_read, logs_of, number_at, same_batches, same_words}
 use Rattle.of_core.proofs.Rounds.{again, at_risen, cell_of, learn_past, own_seq, two_rounds}
@@ -42,6 +42,7 @@ module _ {S : Setup} {Lawful : List ℕ → Type 0} {B : TableStart} where
       ordered = o.ordered;
       announced = o.announced;
       below = λ k d u. omega (arith, o.below k d u);
+      short = elim o.short [ inl k ↦ inl k | inr k ↦ inr (omega arith) ];
       own = λ q u. o.own q (omega arith);
       met = λ after c u v z. met after c u v z (cases_eq c n);
     }
@@ -185,7 +186,8 @@ module _ {S : Setup} {Lawful : List ℕ → Type 0} {B : TableStart} where
 
             ran_over : IsFinishedWalk S.meaning (first_operation_cell S) S.cells (with_writes_in xs n.log) n.script es r → HasScannedUpTo S B w.words w.batches i n.seq n.made n.op (own_reply_or r n.raw (n.scan == n.caller)) (n.calls ++ call_as_run n r ∷ []) (put_all n.log (es ++ own_cells (ticket_cell S n.scan) (seq_of n.heard) (length n.script) r)) (n.scan + 1)
             ran_over f = record {
-              over = extended S Lawful sound xs n.calls n.log size lawful v.over n.scan (seq_of n.heard) n.script es r l hs.ticket few g.shared.own_in g.shared.narrow v.below f;
+              over = extended S Lawful sound xs n.calls n.log size lawful v.over n.scan (seq_of n.heard) n.script es r l hs.ticket few g.shared.own_in g.shared.narrow v.below v.short f;
+              short = extended_short S Lawful sound xs n.calls n.log size lawful v.over n.scan (seq_of n.heard) n.script es r l hs.ticket few g.shared.own_in g.shared.narrow v.below v.short f;
               taken = All-push (WasTakenByScan S (state_after B w.batches n.seq)) n.calls call v.taken (record { caller = l; above = rs.new; words = few });
               below = All-push (λ (c : Call). c.caller < n.scan + 1) n.calls call (λ k d u. omega (arith, v.below k d u)) (omega arith);
               ordered = rising_push n.calls call v.ordered v.below;

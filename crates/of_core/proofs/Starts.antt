@@ -4,7 +4,7 @@ use Rattle.std.proofs.lemmas.Bool.{cases_eq}
 use Rattle.std.proofs.lemmas.List.{length-replicate, get_or_append_left, get_or-append_right, get_or-set_same, get_or-set_other, set-get_or, replicate-append-replicate, length-map, ext_get_or, append_assoc, take_all}
 use Rattle.of_cell.specs.Words.{pack, seq_of, payload_of}
 use Rattle.of_cell.specs.declared.word.TheConstants.{PAYLOADS}
-use Rattle.of_cell.specs.Cells.{data_cell, durable_cells}
+use Rattle.of_cell.specs.Cells.{log_room, data_cell, durable_cells}
 use Rattle.of_cell.proofs.Order.{seq_word, pay_word, seq_zero, pay_zero, word_eta}
 use Rattle.of_mem.specs.Meaning.{IsSoundMeaning}
 use Rattle.of_mem.proofs.Lists.{zero_at, part_at, part_long}
@@ -30,7 +30,7 @@ module _ (S : Setup) (B : TableStart) (start : IsStart S B) where
   requests = set (replicate S.callers 0) B.owner (closed_request B.seq)
 
   abbrev logs : List ℕ
-  logs = replicate (S.callers * (2 * S.cells + 1)) 0
+  logs = replicate (S.callers * (2 * log_room S.callers S.cells + 1)) 0
 
   requests_long : length (pack B.seq B.owner ∷ requests) ≡ S.callers + 1
   requests_long = omega (arith, length-set (replicate S.callers 0) B.owner (closed_request B.seq), length-replicate {A = ℕ} S.callers 0)
@@ -38,7 +38,7 @@ module _ (S : Setup) (B : TableStart) (start : IsStart S B) where
   pub cells_long : length (first_cells S.callers S.cells B) ≡ cell_count S
   unfolding first_cells
   cells_long =
-      omega (arith, length-append (pack B.seq B.owner ∷ requests) (B.cells ++ logs), length-append B.cells logs, length-replicate {A = ℕ} (S.callers * (2 * S.cells + 1)) 0, requests_long, start.size)
+      omega (arith, length-append (pack B.seq B.owner ∷ requests) (B.cells ++ logs), length-append B.cells logs, length-replicate {A = ℕ} (S.callers * (2 * log_room S.callers S.cells + 1)) 0, requests_long, start.size)
 
   pub first_is : get_or (first_cells S.callers S.cells B) 0 0 ≡ pack B.seq B.owner
   unfolding first_cells
@@ -71,7 +71,7 @@ module _ (S : Setup) (B : TableStart) (start : IsStart S B) where
   log_is c l =
       get_or-append_right (pack B.seq B.owner ∷ requests) (B.cells ++ logs) (S.callers + 1) c 0 requests_long (omega arith)
       ∙ get_or-append_right B.cells logs S.cells (c - (S.callers + 1)) 0 start.size (omega arith)
-      ∙ zero_at (S.callers * (2 * S.cells + 1)) (c - (S.callers + 1) - S.cells)
+      ∙ zero_at (S.callers * (2 * log_room S.callers S.cells + 1)) (c - (S.callers + 1) - S.cells)
 
   module _ (total : ℕ) where
     abbrev rest : List ℕ
@@ -127,10 +127,10 @@ module _ (S : Setup) where
   unfolding first_cells pack
   zero_cells =
       let none : set {A = ℕ} (replicate S.callers 0) 0 0 ≡ replicate S.callers 0 = ap (set (replicate S.callers 0) 0) (sym (zero_at S.callers 0)) ∙ set-get_or (replicate S.callers 0) 0 0 in
-      ap (λ (xs : List ℕ). (0 ∷ xs) ++ (replicate S.cells 0 ++ replicate (S.callers * (2 * S.cells + 1)) 0)) none
-      ∙ ap (λ (xs : List ℕ). replicate (suc S.callers) 0 ++ xs) (replicate-append-replicate S.cells (S.callers * (2 * S.cells + 1)) 0)
-      ∙ replicate-append-replicate (suc S.callers) (S.cells + S.callers * (2 * S.cells + 1)) 0
-      ∙ ap (λ (n : ℕ). replicate n 0) (let e : suc S.callers + (S.cells + S.callers * (2 * S.cells + 1)) ≡ cell_count S = omega arith in e)
+      ap (λ (xs : List ℕ). (0 ∷ xs) ++ (replicate S.cells 0 ++ replicate (S.callers * (2 * log_room S.callers S.cells + 1)) 0)) none
+      ∙ ap (λ (xs : List ℕ). replicate (suc S.callers) 0 ++ xs) (replicate-append-replicate S.cells (S.callers * (2 * log_room S.callers S.cells + 1)) 0)
+      ∙ replicate-append-replicate (suc S.callers) (S.cells + S.callers * (2 * log_room S.callers S.cells + 1)) 0
+      ∙ ap (λ (n : ℕ). replicate n 0) (let e : suc S.callers + (S.cells + S.callers * (2 * log_room S.callers S.cells + 1)) ≡ cell_count S = omega arith in e)
 
   pub zero_words : (n : ℕ) → cell_count S + cell_count S ≤ n → first_words S.callers S.cells (zero_start S) n ≡ replicate n 0
   unfolding first_words
@@ -171,14 +171,14 @@ module _ (callers cells : ℕ) (row : List ℕ) where
       let h : length heads ≡ callers + 1 = omega (arith, length-set (replicate callers 0) (start_from_durable callers cells row).owner (closed_request (start_from_durable callers cells row).seq), length-replicate {A = ℕ} callers 0) in
       let k : length items ≡ callers + 1 + cells = ap length e ∙ length-append heads (start_from_durable callers cells row).cells ∙ omega (arith, h, data_long long) in
       let all : take n items ≡ items = take_all n items (omega (arith, k, m)) in
-      let rest : n - len ≡ callers * (2 * cells + 1) = omega (arith, k, l, m) in
-      rw (all, rest, e) (append_assoc heads (start_from_durable callers cells row).cells (replicate (callers * (2 * cells + 1)) 0))
+      let rest : n - len ≡ callers * (2 * log_room callers cells + 1) = omega (arith, k, l, m) in
+      rw (all, rest, e) (append_assoc heads (start_from_durable callers cells row).cells (replicate (callers * (2 * log_room callers cells + 1)) 0))
 
   pub cells_count : length row ≡ durable_cells callers cells → (xs : List ℕ) → xs ≡ first_cells callers cells (start_from_durable callers cells row) → length xs ≡ durable_cells callers cells
   unfolding first_cells
   cells_count long xs e =
       let h : length heads ≡ callers + 1 = omega (arith, length-set (replicate callers 0) (start_from_durable callers cells row).owner (closed_request (start_from_durable callers cells row).seq), length-replicate {A = ℕ} callers 0) in
-      ap length e ∙ length-append heads ((start_from_durable callers cells row).cells ++ replicate (callers * (2 * cells + 1)) 0) ∙ omega (arith, h, length-append (start_from_durable callers cells row).cells (replicate (callers * (2 * cells + 1)) 0), data_long long, length-replicate {A = ℕ} (callers * (2 * cells + 1)) 0)
+      ap length e ∙ length-append heads ((start_from_durable callers cells row).cells ++ replicate (callers * (2 * log_room callers cells + 1)) 0) ∙ omega (arith, h, length-append (start_from_durable callers cells row).cells (replicate (callers * (2 * log_room callers cells + 1)) 0), data_long long, length-replicate {A = ℕ} (callers * (2 * log_room callers cells + 1)) 0)
 
 -- the cells twice, filled up with zeros, are the words
 pub words_filled : (callers cells : ℕ) (B : TableStart) (xs ws : List ℕ) (n len : ℕ) → xs ≡ first_cells callers cells B → length xs ≡ durable_cells callers cells → ws ≡ xs ++ xs → len ≡ length ws → durable_cells callers cells + durable_cells callers cells ≤ n

@@ -2,6 +2,7 @@
 use Rattle.std.proofs.Common.{◌≡◌, ℕ, zero, suc, ◌+◌, ◌*◌, ◌-◌, ◌<◌, ◌≤◌, ◌==◌, List, [], ◌∷◌, length, get_or, set, replicate, refl, sym, ◌∙◌, ap, subst, arith, Option, Some, None, Bool, true, false, nat_lt}
 use Rattle.std.proofs.Math.Nat.{mul_comm}
 use Rattle.std.proofs.lemmas.Bool.Decides.{nat_tests}
+use Rattle.of_cell.proofs.Rooms.{room_upto}
 use Rattle.of_core.specs.declared.machine.trying.TheConstants.{MOST_TRIES}
 use Rattle.of_cell.specs.Words.{pack, seq_of, payload_of}
 use Rattle.of_cell.proofs.Places.{row_within}
@@ -112,7 +113,7 @@ module _ (S : Setup) where
     now = record m { steps = m.steps + 1 }
 
     pub n_cells : (j : ℕ) → IsApplying S B w.words w.batches i m j → length m.log ≤ S.cells
-    n_cells j p = rw p.log.many (g.shared.counted.logs m.seq p.after p.upto).few
+    n_cells j p = rw p.log.many (omega (arith, (g.shared.counted.logs m.seq p.after p.upto).few, room_upto S.callers S.cells))
 
     words_row : S.instrs + 1 ≤ S.callers * (S.instrs + 1)
     words_row = let r : i * (S.instrs + 1) + (S.instrs + 1) ≤ S.callers * (S.instrs + 1) = row_within i S.callers (S.instrs + 1) h in omega arith
@@ -192,8 +193,8 @@ module _ (S : Setup) where
         found = get_or w.words (word_of (want_at S m (CopyLog x))) 0
 
         go : (b : Bool) → MachineIsWithinBound S (after_copy_log now x found b) (after_copy_log now x found b).place
-        go true = record { told = λ q. cc; steps = word_copied m.steps (2 * S.cells + 1) x (steps_to_apply S) (steps_left_after_help S m (m.rounds == 0)) (bound S) a.in_log t.steps }
-        go false = record { told = λ q. cc; steps = words_copied m.steps (2 * S.cells + 1) x (steps_to_apply S) (steps_left_after_help S m (m.rounds == 0)) (bound S) a.in_log t.steps }
+        go true = record { told = λ q. cc; steps = word_copied m.steps (2 * S.cells + 1) x (steps_to_apply S) (steps_left_after_help S m (m.rounds == 0)) (bound S) (omega (arith, a.in_log, room_upto S.callers S.cells)) t.steps }
+        go false = record { told = λ q. cc; steps = words_copied m.steps (2 * S.cells + 1) x (steps_to_apply S) (steps_left_after_help S m (m.rounds == 0)) (bound S) (omega (arith, a.in_log, room_upto S.callers S.cells)) t.steps }
     within LookAgain a t e = go (get_or w.words (m.owner + 1) 0 == pack m.seq 0) (m.rounds == 0) t.steps
       where
         helping : (b : Bool) → b ≡ true → m.steps + 1 + (steps_to_apply S + steps_left_after_apply S m b) ≤ bound S
@@ -300,7 +301,7 @@ module _ (S : Setup) where
     within (RaiseLog x) a t e = go (nat_lt (x + 1) (length (log_words m.log)))
       where
         x_in : x < 2 * S.cells + 1
-        x_in = omega (arith, length-log_words m.log, a.storing.stored.over.over.is_log.few, a.more)
+        x_in = omega (arith, length-log_words m.log, a.storing.stored.over.over.is_log.few, a.more, room_upto S.callers S.cells)
 
         go : (b : Bool) → MachineIsWithinBound S (after_raise_log now x b) (after_raise_log now x b).place
         go true = record { told = λ q. cc; steps = log_word_raised m.steps (2 * S.cells + 1) x (steps_left_in_rounds S m) (bound S) x_in t.steps }

@@ -4,7 +4,7 @@ use Rattle.std.specs.Prelude.{◌≡◌, ℕ, ◌+◌, ◌*◌, ◌-◌, ◌<◌
 use Rattle.std.proofs.Common.{get_or, set, replicate, zero, suc}
 use Rattle.of_cell.specs.declared.shape.Shape.{Shape}
 use Rattle.of_cell.specs.Words.{pack, seq_of, payload_of}
-use Rattle.of_cell.specs.Cells.{data_cell, durable_cells}
+use Rattle.of_cell.specs.Cells.{log_room, data_cell, durable_cells}
 use Rattle.of_recover.specs.Recovered.{recovered_words}
 use Rattle.of_core.specs.Table.{Setup, cell_count, durable_word, durable_seq}
 use Rattle.of_core.specs.TableMoment.{Moment, TableStart}
@@ -21,7 +21,7 @@ closed_request (suc s) = pack (suc s) 1
 unfoldable pub first_cells : (callers cells : ℕ) → TableStart → List ℕ
 first_cells callers cells B =
     (pack B.seq B.owner ∷ set (replicate callers 0) B.owner (closed_request B.seq))
-    ++ (B.cells ++ replicate (callers * (2 * cells + 1)) 0)
+    ++ (B.cells ++ replicate (callers * (2 * log_room callers cells + 1)) 0)
 
 -- the words at a start: the cells, their durable words, which are the same, and 0 behind them
 unfoldable pub first_words : (callers cells : ℕ) → TableStart → (words : ℕ) → List ℕ

@@ -3,7 +3,7 @@ use Rattle.std.specs.Prelude.{ℕ, List, [], ◌∷◌, ◌++◌, ◌%◌}
 use Rattle.std.proofs.Common.{get_or, zero, suc}
 use Rattle.of_cell.specs.declared.shape.Shape.{Shape}
 use Rattle.of_cell.specs.Words.{seq_of, payload_of}
-use Rattle.of_cell.specs.Cells.{request_cell, data_cell, log_cell, durable_cells, durable_place, script_place, members_place}
+use Rattle.of_cell.specs.Cells.{log_room, request_cell, data_cell, log_cell, durable_cells, durable_place, script_place, members_place}
 use Rattle.of_recover.specs.Row.{current_seq}
 use Rattle.of_mem.specs.Meaning.{Meaning}
 use Rattle.of_mem.specs.Places.{ticket_cell_at, shape_at, reply_at, base_of}
@@ -47,6 +47,10 @@ data_at S a = data_cell S.callers a
 
 abbrev pub log_at : Setup → ℕ → ℕ → ℕ
 log_at S i x = log_cell S.callers S.cells i x
+
+-- the most entries of a log
+abbrev pub log_entries : Setup → ℕ
+log_entries S = log_room S.callers S.cells
 
 -- how many cells there are
 abbrev pub cell_count : Setup → ℕ

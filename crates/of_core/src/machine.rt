@@ -4,6 +4,7 @@ ghost use Rattle.std.specs.Prelude.{◌≡◌, ◌≢◌, ◌<◌, ◌≤◌, �
 ghost use Rattle.std.proofs.Common.{get_or};
 ghost use Rattle.of_mem.specs.declared.work.TheConstants.{MOST_INSTRS};
 ghost use Rattle.of_cell.specs.declared.word.TheConstants.{PAYLOADS};
+ghost use Rattle.of_cell.specs.Cells.{log_room};
 ghost use Rattle.of_core.specs.Table.{cell_count, words_before_members, log_at, durable_at, ticket_word_at, shape_word_at, reply_word_at};
 ghost use Rattle.of_core.specs.MachineValue.{machine_setup, machine_after, op_at, ended_outcome};
 ghost use Rattle.of_core.specs.Machine.{idle_machine, fresh_call, begin_call, log_words};
@@ -252,6 +253,7 @@ impl<W: Work> Machine<W> {
     }
 
     /// The place of a cell's durable word.
+    #[tactic(auto, using(of_cell::proofs::Rooms::cells_small))]
     fn durable_word(&self, cell: u32) -> u32
         requires { cell < cell_count (machine_setup W.meaning self.now) }
         ensures value { result ≡ durable_at (machine_setup W.meaning self.now) cell }
@@ -260,10 +262,10 @@ impl<W: Work> Machine<W> {
         self.durable + cell
     }
 
-    #[tactic(auto, using(crate::proofs::Stability::log_in))]
+    #[tactic(auto, using(crate::proofs::Stability::log_in, of_cell::proofs::Rooms::cells_small))]
     /// The cell of word `at` of one's own log.
     fn own_log_cell(&self, at: u32) -> u32
-        requires { at < 2 * self.now.cells + 1 }
+        requires { at < 2 * log_room self.now.callers self.now.cells + 1 }
         ensures value { result ≡ log_at (machine_setup W.meaning self.now) self.now.call.caller at }
         ensures below { result < cell_count (machine_setup W.meaning self.now) }
     {

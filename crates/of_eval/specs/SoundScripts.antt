@@ -1,6 +1,6 @@
 -- Scripts keep the rules of a work. `impl Work for Scripts` cites these lemmas as its laws, and an
 -- impl may cite specs/ alone.
-use Rattle.std.proofs.Common.{◌≡◌, ℕ, zero, suc, ◌*◌, ◌≤◌, true, leb, ◌&&◌, refl, sym, ◌∙◌, ap, subst, arith, List, [], ◌∷◌, length, take, replicate, get_or, Ok, Err, length-take, ◌+◌}
+use Rattle.std.proofs.Common.{◌≡◌, ℕ, inl, zero, suc, ◌*◌, ◌≤◌, true, leb, ◌&&◌, refl, sym, ◌∙◌, ap, subst, arith, List, [], ◌∷◌, length, take, replicate, get_or, Ok, Err, length-take, ◌+◌}
 use Rattle.std.proofs.lemmas.Bool.{ltb-true}
 use Rattle.of_mem.specs.declared.plot.TheConstants.{MOST_BLOCKS}
 use Rattle.of_mem.specs.Programs.{program_answer, memory_after}
@@ -125,6 +125,7 @@ scripts_sound w =
           λ op. words_stay (store_at w) w.blocks (length (take MOST_INSTRS op))
           (take MOST_INSTRS op) [];
       inside = λ m op l. (script_run (store_at w) w.blocks w.few_blocks op m l.0 l.1).inside;
+      few = λ m op l. inl (omega (arith, w.few_callers, w.few_blocks));
       replies = λ m op l. script_replies (store_at w) w.blocks w.few_blocks m op l;
       reads_only =
           λ op e. words_only (store_at w) w.blocks (length (take MOST_INSTRS op))

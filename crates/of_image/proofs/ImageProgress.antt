@@ -7,7 +7,8 @@ use Rattle.std.proofs.lemmas.Bool.Decides.{eqb_tells, nat_tests}
 use Rattle.std.proofs.lemmas.List.{append-nil, length-replicate, length-append}
 use Rattle.std.proofs.lemmas.Bool.{ne_eqb as eqb_other}
 use Rattle.of_cell.specs.Words.{pack, seq_of, payload_of}
-use Rattle.of_cell.specs.Cells.{durable_cells}
+use Rattle.of_cell.specs.Cells.{durable_cells, log_room}
+use Rattle.of_cell.proofs.Rooms.{room_upto}
 use Rattle.of_cell.proofs.Order.{word_eta, seq_word, pay_word, pay_small, seq_small}
 use Rattle.of_script.proofs.Instrs.{bind_some, chosen, some_is}
 use Rattle.of_plan.proofs.Lists.{all-both}
@@ -213,10 +214,10 @@ row_leads v r h =
 
 pub few_cells : (v : Version) (n b : ℕ) → n ≤ 16 → b ≤ 512 → durable_cells n (data_cell_count_for (instrs_of v) n b) ≤ 65536
 few_cells One n b few low =
-    let rows : 2 * data_cell_count_for (instrs_of One) n b + 1 ≤ 3903 = omega arith in
+    let rows : 2 * log_room n (data_cell_count_for (instrs_of One) n b) + 1 ≤ 3903 = omega (arith, room_upto n (data_cell_count_for (instrs_of One) n b)) in
     omega (arith, mul-le-mul_left n rows)
 few_cells Two n b few low =
-    let rows : 2 * data_cell_count_for (instrs_of Two) n b + 1 ≤ 3903 = omega arith in
+    let rows : 2 * log_room n (data_cell_count_for (instrs_of Two) n b) + 1 ≤ 3903 = omega (arith, room_upto n (data_cell_count_for (instrs_of Two) n b)) in
     omega (arith, mul-le-mul_left n rows)
 
 line_in_range : (c w : ℕ) → c ≤ 4294967295 → w < 2 ^ 64 → AllByRecursion IsImageLineInRange (cell_line c w)

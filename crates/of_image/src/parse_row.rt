@@ -19,6 +19,7 @@ use of_store::MOST_BLOCKS;
 use std::alloc::{AllocError, Global};
 
 /// The number of durable cells.
+#[tactic(auto, using(of_cell::proofs::Rooms::room_whole))]
 pub(crate) fn cells(version: Version, callers: u32, blocks: u32) -> u32
     requires callers { callers ≤ MOST_CALLERS }
     requires blocks { blocks ≤ MOST_BLOCKS }

@@ -12,7 +12,7 @@ use Rattle.of_mem.specs.Meaning.{IsSoundMeaning, Gives, with_writes_in, Agrees, 
 use Rattle.of_mem.specs.ProgramWork.{memory_of, fresh_part, walk_of_run, meaning_of, IsReplyTo, AreSound}
 use Rattle.of_mem.proofs.Changes.{changed_same, changed_other}
 use Rattle.of_mem.proofs.Runs.{newest_same, newest_other, Ended, Follows, run_follows}
-use Rattle.of_mem.proofs.Writes.{once_put_all, once_none, each_put_all, all_each, written_length, written_put_all, written_from}
+use Rattle.of_mem.proofs.Writes.{once_put_all, once_none, each_put_all, all_each, written_length, written_put_all, written_from, put_all_few}
 
 -- a list with one cell written is the memory with that cell written
 pub memory-set : (xs : List ℕ) (a v : ℕ) → a < length xs → memory_of (set xs a v) ≡ with_value (memory_of xs) a v
@@ -128,6 +128,10 @@ module _ (keeps : RawReply → Bool) (reads : List ℕ → Bool) (program : List
   once_kept es true o = o
   once_kept es false o = once_none
 
+  few_kept : (es : List (ℕ × ℕ)) (t : Bool) → length (cond t es []) ≤ length es
+  few_kept es true = omega arith
+  few_kept es false = omega arith
+
   none_kept : (es : List (ℕ × ℕ)) (t : Bool) → es ≡ [] → cond t es [] ≡ []
   none_kept es true e = e
   none_kept es false e = refl
@@ -137,6 +141,7 @@ module _ (keeps : RawReply → Bool) (reads : List ℕ → Bool) (program : List
   finishes known xs op l r q e = record {
     inside = all_each (IsWrite low size) (cond (keeps r) q.script []) (inside_kept q.script (keeps r) (subst (Each (IsWrite low size)) (sym e.script) (each_put_all (IsWrite low size) [] ws tt (writes_inside low size (program op) (memory_of xs) (h.inside (memory_of xs) op l)))));
     once = once_kept q.script (keeps r) (subst HasDistinctCells (sym e.script) (once_put_all [] ws once_none));
+    few = elim (h.few (memory_of xs) op l) [ inl k ↦ inl k | inr k ↦ inr (omega (arith, few_kept q.script (keeps r), ap length e.script, put_all_few [] ws, k)) ];
     cells = rw (← e.answers) (cells_at xs ws q.script (keeps r) (sym (written_put_all xs [] ws once_none) ∙ ap (with_writes_in xs) (sym e.script)));
     reply = sym e.answers;
     shape = reply.shape;

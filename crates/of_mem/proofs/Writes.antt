@@ -135,3 +135,16 @@ put_all_once es once = ap (put_all []) (sym (take_all (length es) es (omega arit
         put_all_take [] es i (0, 0) l
         ∙ ap (λ (ds : List (ℕ × ℕ)). put_pair ds (get_or es i (0, 0)).0 (get_or es i (0, 0)).1) (go i (omega (arith, l)))
         ∙ put_next es once i l)
+
+-- pairs that are put over others make at most as many more
+put_pair_few : (ds : List (ℕ × ℕ)) (a v : ℕ) → length (put_pair ds a v) ≤ length ds + 1
+put_pair_few [] a v = omega arith
+put_pair_few (e ∷ es) a v = go (put_pair_few es a v) (e.0 == a)
+  where
+    go : length (put_pair es a v) ≤ length es + 1 → (b : Bool) → length {A = ℕ × ℕ} (if b then (a, v) ∷ es else e ∷ put_pair es a v) ≤ suc (length es) + 1
+    go again true = omega arith
+    go again false = omega (arith, again)
+
+pub put_all_few : (ds es : List (ℕ × ℕ)) → length (put_all ds es) ≤ length ds + length es
+put_all_few ds [] = omega arith
+put_all_few ds (e ∷ es) = omega (arith, put_all_few (put_pair ds e.0 e.1) es, put_pair_few ds e.0 e.1)

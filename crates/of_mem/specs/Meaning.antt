@@ -1,8 +1,8 @@
 -- What a work means: what an operation does to a lawful list of cells, and how a run that knows
 -- only some cells goes.
-use Rattle.std.specs.Prelude.{◌≡◌, ℕ, ◌+◌, ◌*◌, ◌^◌, ◌/◌, ◌%◌, ◌==◌, ◌<◌, ◌≤◌, List, [], ◌∷◌, length, Option, Some, None, Bool, true, false, Result, MatchResult}
+use Rattle.std.specs.Prelude.{◌≡◌, ℕ, ◌+◌, ◌*◌, ◌^◌, ◌/◌, ◌%◌, ◌==◌, ◌<◌, ◌≤◌, ◌⊎◌, List, [], ◌∷◌, length, Option, Some, None, Bool, true, false, Result, MatchResult}
 use Rattle.std.specs.List.{All}
-use Rattle.of_mem.specs.declared.work.TheConstants.{MOST_INSTRS, MOST_CALLERS, MOST_DATA_CELLS, LEAST_ABORT}
+use Rattle.of_mem.specs.declared.work.TheConstants.{MOST_INSTRS, MOST_CALLERS, MOST_DATA_CELLS, FEW_DATA_CELLS, MOST_WRITES, LEAST_ABORT}
 use Rattle.of_mem.specs.Numbers.{FitsCell}
 use Rattle.std.proofs.Common.{get_or, set, drop}
 use Rattle.of_mem.specs.declared.part.Need.{Need}
@@ -64,6 +64,8 @@ pub record IsFinishedWalk (M : Meaning) (base size : ℕ) (xs op : List ℕ) (es
     (r : RawReply) : Type 0 where
   pub inside : All (λ (e : ℕ × ℕ). (base ≤ e.0) × (e.0 < size) × FitsCell e.1) es
   pub once : HasDistinctCells es
+  -- over many cells it writes few of them
+  pub few : (size ≤ FEW_DATA_CELLS) ⊎ (length es ≤ MOST_WRITES)
   pub cells : M.cells xs op ≡ with_writes_in xs es
   pub reply : M.reply xs op ≡ r
   pub shape : FitsCell r.shape

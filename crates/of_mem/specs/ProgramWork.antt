@@ -1,9 +1,9 @@
 -- Works whose operations are programs.
-use Rattle.std.specs.Prelude.{◌≡◌, ℕ, ◌<◌, ◌≤◌, Bool, true, false, cond, List, [], length, Option}
+use Rattle.std.specs.Prelude.{◌≡◌, ℕ, ◌<◌, ◌≤◌, ◌⊎◌, Bool, true, false, cond, List, [], length, Option}
 use Rattle.std.specs.List.{All}
 use Rattle.std.proofs.Common.{get_or}
 use Rattle.of_mem.specs.declared.work.RawReply.{RawReply}
-use Rattle.of_mem.specs.declared.work.TheConstants.{MOST_INSTRS, LEAST_ABORT}
+use Rattle.of_mem.specs.declared.work.TheConstants.{MOST_INSTRS, FEW_DATA_CELLS, MOST_WRITES, LEAST_ABORT}
 use Rattle.of_mem.specs.Numbers.{FitsCell}
 use Rattle.of_mem.specs.Part.{Part}
 use Rattle.of_mem.specs.Programs.{Program, RunEnd, Lacks, Ends, run_program, program_answer, memory_after, program_writes, StaysBetween, StaysFrom, OnlyReads}
@@ -54,5 +54,8 @@ pub record AreSound (keeps : RawReply → Bool) (reads : List ℕ → Bool)
   pub lawful_from : (m n : ℕ → ℕ) → ((a : ℕ) → low ≤ a → m a ≡ n a) → lawful m → lawful n
   pub stays : (op : List ℕ) → StaysFrom low (program op)
   pub inside : (m : ℕ → ℕ) (op : List ℕ) → lawful m → StaysBetween low size (program op) m
+  -- over many cells an operation writes few of them
+  pub few : (m : ℕ → ℕ) (op : List ℕ) → lawful m
+      → (size ≤ FEW_DATA_CELLS) ⊎ (length (program_writes (program op) m) ≤ MOST_WRITES)
   pub replies : (m : ℕ → ℕ) (op : List ℕ) → lawful m → IsReplyTo op (program_answer (program op) m)
   pub reads_only : (op : List ℕ) → reads op ≡ true → OnlyReads (program op)

@@ -14,5 +14,8 @@ mod workspace;
 pub use part::{Need, Part, Walk};
 pub use plot::{BUCKETS, MOST_BLOCKS, Plot, QUEUES, REGISTERS};
 pub use suspended_run::{MaySuspend, SuspendedRun};
-pub use work::{LEAST_ABORT, MOST_CALLERS, MOST_DATA_CELLS, MOST_INSTRS, RawReply, Work};
+pub use work::{
+    FEW_DATA_CELLS, LEAST_ABORT, MOST_CALLERS, MOST_DATA_CELLS, MOST_INSTRS, MOST_WRITES, RawReply,
+    Work,
+};
 pub use workspace::Workspace;

@@ -9,7 +9,7 @@ use Rattle.std.proofs.Math.Seq.{take-nil}
 use Rattle.std.proofs.lemmas.List.Sums.{fold-append}
 use Rattle.std.proofs.lemmas.Bool.{ltb-true as below}
 use Rattle.of_cell.specs.Words.{pack, seq_of, payload_of}
-use Rattle.of_cell.specs.Cells.{data_cell, request_cell, log_cell}
+use Rattle.of_cell.specs.Cells.{log_room, data_cell, request_cell, log_cell}
 use Rattle.of_cell.proofs.Order.{seq_word, pay_small}
 use Rattle.of_recover.specs.Row.{IsDurableRow, current_seq, current_owner, is_open}
 use Rattle.of_recover.specs.Log.{owner_log_word, entry_count, entry_addr, log_entry_value, entry_counts, entry_names, first_naming}
@@ -48,8 +48,8 @@ module _ (N M : ℕ) (r q : ℕ → ℕ) (others : (c : ℕ) → (c ≤ N) ⊎ (
 
   count_same : entry_count N M q ≡ entry_count N M r
   count_same =
-      ap (λ (w : ℕ). if (seq_of w == seq_of (q 0)) && nat_le (payload_of w) M then payload_of w else 0) (log_same 0)
-      ∙ ap (λ (s : ℕ). if (seq_of (owner_log_word N M r 0) == seq_of s) && nat_le (payload_of (owner_log_word N M r 0)) M then payload_of (owner_log_word N M r 0) else 0) first
+      ap (λ (w : ℕ). if (seq_of w == seq_of (q 0)) && nat_le (payload_of w) (log_room N M) then payload_of w else 0) (log_same 0)
+      ∙ ap (λ (s : ℕ). if (seq_of (owner_log_word N M r 0) == seq_of s) && nat_le (payload_of (owner_log_word N M r 0)) (log_room N M) then payload_of (owner_log_word N M r 0) else 0) first
 
   names_same : (a j : ℕ) → entry_names N M q a j ≡ entry_names N M r a j
   names_same a j =

@@ -5,7 +5,8 @@ use Rattle.std.proofs.lemmas.List.{take_all, take-append-le}
 use Rattle.std.proofs.lemmas.List.Sums.{fold-append}
 use Rattle.std.proofs.Math.Seq.{take-nil}
 use Rattle.of_cell.specs.Words.{pack, seq_of, payload_of}
-use Rattle.of_cell.specs.Cells.{data_cell, request_cell}
+use Rattle.of_cell.proofs.Rooms.{room_upto}
+use Rattle.of_cell.specs.Cells.{log_room, data_cell, request_cell}
 use Rattle.of_cell.proofs.Order.{seq_word, pay_small}
 use Rattle.of_recover.specs.Row.{IsDurableRow, current_seq, current_owner, is_open}
 use Rattle.of_recover.specs.Log.{owner_log_word, entry_count, entry_addr, log_entry_value, entry_counts, first_naming}
@@ -138,8 +139,8 @@ module _ (N M : ℕ) (old : List ℕ) where
       ∙ sym (fold-append (λ ws w. set ws w.0 w.1) old (log_writes N M (λ c. get_or old c 0) (entry_count N M (λ c. get_or old c 0))) ((request_cell (current_owner (λ c. get_or old c 0)), pack (current_seq (λ c. get_or old c 0)) 1) ∷ []))
       ∙ ap (λ (x : List (ℕ × ℕ)). words_after_writes x old) (sym (all_of (log_writes N M (λ c. get_or old c 0) (entry_count N M (λ c. get_or old c 0))) (request_cell (current_owner (λ c. get_or old c 0)), pack (current_seq (λ c. get_or old c 0)) 1) most l)))
 
-  few_entries : entry_count N M (λ c. get_or old c 0) ≤ M
-  few_entries = few (seq_of (owner_log_word N M (λ c. get_or old c 0) 0) == current_seq (λ c. get_or old c 0)) (payload_of (owner_log_word N M (λ c. get_or old c 0) 0)) M (nat_le (payload_of (owner_log_word N M (λ c. get_or old c 0) 0)) M) refl
+  few_entries : entry_count N M (λ c. get_or old c 0) ≤ log_room N M
+  few_entries = few (seq_of (owner_log_word N M (λ c. get_or old c 0) 0) == current_seq (λ c. get_or old c 0)) (payload_of (owner_log_word N M (λ c. get_or old c 0) 0)) (log_room N M) (nat_le (payload_of (owner_log_word N M (λ c. get_or old c 0) 0)) (log_room N M)) refl
 
   -- a recovery makes at most one write for each data cell, and one more
   pub not_many : length (recovery_writes N M (λ c. get_or old c 0)) ≤ M + 1
@@ -147,7 +148,7 @@ module _ (N M : ℕ) (old : List ℕ) where
     where
       go : (b : Bool) → length {A = ℕ × ℕ} (if b then log_writes N M (λ c. get_or old c 0) (entry_count N M (λ c. get_or old c 0)) ++ (request_cell (current_owner (λ c. get_or old c 0)), pack (current_seq (λ c. get_or old c 0)) 1) ∷ [] else []) ≤ M + 1
       go false = omega arith
-      go true = omega (arith, length-append (log_writes N M (λ c. get_or old c 0) (entry_count N M (λ c. get_or old c 0))) ((request_cell (current_owner (λ c. get_or old c 0)), pack (current_seq (λ c. get_or old c 0)) 1) ∷ []), few_writes N M (λ c. get_or old c 0) (entry_count N M (λ c. get_or old c 0)), few_entries)
+      go true = omega (arith, length-append (log_writes N M (λ c. get_or old c 0) (entry_count N M (λ c. get_or old c 0))) ((request_cell (current_owner (λ c. get_or old c 0)), pack (current_seq (λ c. get_or old c 0)) 1) ∷ []), few_writes N M (λ c. get_or old c 0) (entry_count N M (λ c. get_or old c 0)), few_entries, room_upto N M)
 
 -- so a recovery that may make a write for each data cell and one more makes all of them
 pub all_made : (N M : ℕ) (old : List ℕ) (most : ℕ) → M + 1 ≤ most → take most (recovery_writes N M (λ c. get_or old c 0)) ≡ recovery_writes N M (λ c. get_or old c 0)

@@ -2,6 +2,7 @@
 
 ghost use Rattle.of_row.specs.Laws.{SeesWholeHistory, SeesOwnCalls, SeesLegal, EvictionsAreRaised};
 ghost use Rattle.of_row.specs.Laws.{NewMachinesRun, MachinesKeepRunning};
+ghost use Rattle.of_row.specs.Attached.{FreshMembersFit};
 ghost use Rattle.of_core.specs.Laws.{setup_for};
 ghost use Rattle.of_row.specs.Runs.{RunsAreSchedules, RunsAreLinearizable};
 ghost use Rattle.of_row.specs.Moments.{StopsLoseNothing, ClosedHoldsCalls};
@@ -102,4 +103,12 @@ pub fn raises_are_short<W: Work>(limit: u32, work: W)
     step_kept(limit, work);
     every_moment(limit, work);
     of_core::laws::raises_are_short(limit, work);
+}
+
+/// A member that has heard of nothing since the row's start fits beside all that others have done,
+/// while its number is taken and has done nothing. So it need not be in the process of the others.
+pub fn fresh_members_fit<W: Work>(limit: u32, work: W)
+    ensures { FreshMembersFit (W.lawful work) (setup_for W.many W.size W.meaning limit work) }
+{
+    protocol(limit, work);
 }

@@ -1,14 +1,14 @@
 -- Pairs of address and value: what a look-up says of the value at an address and of a write, and how many pairs there are.
-use Rattle.std.proofs.Common.{◌≡◌, ◌≢◌, ℕ, zero, suc, ◌<◌, ◌≤◌, eqb, true, List, [], ◌∷◌, ◌++◌, length, map, Some, None, get_or, set, refl, sym, ◌∙◌, ap, arith}
+use Rattle.std.proofs.Common.{◌≡◌, ◌≢◌, ℕ, zero, suc, ◌+◌, ◌<◌, ◌≤◌, ◌⊎◌, inl, inr, eqb, true, List, [], ◌∷◌, ◌++◌, length, map, Some, None, get_or, set, refl, sym, ◌∙◌, ap, arith, length-append}
 use Rattle.std.specs.List.{list_any, Any, AllPairs}
 use Rattle.std.proofs.lemmas.Map.Steps.{length-le_from_distinct_below}
 use Rattle.std.proofs.lemmas.Map.Made.{IsDistinct-from_AllPairs}
 use Rattle.std.proofs.lemmas.List.Folds.{Any-from_list_any}
 use Rattle.std.proofs.lemmas.Bool.Decides.{Decides-eqb, nat_tests}
-use Rattle.std.proofs.lemmas.List.{get_or-map, length-map}
-use Rattle.std.proofs.lemmas.Bool.{eq-eqb as equals, ne_eqb as differs}
+use Rattle.std.proofs.lemmas.List.{get_or-map, length-map, get_or_append_left, get_or_push}
+use Rattle.std.proofs.lemmas.Bool.{cases_eq, eq-eqb as equals, ne_eqb as differs}
 use Rattle.of_wset.specs.WriteSet.{value_at, put, address, IsMap}
-use Rattle.of_wset.specs.Index.{IsUnwritten, IsEntryFor, IsIndexedSet, note_at}
+use Rattle.of_wset.specs.Index.{IsUnwritten, IsEntryFor, IsIndexedSet}
 
 -- where the address is absent
 pub value_at-absent : (es : List (ℕ × ℕ)) (a : ℕ) → IsUnwritten es a → value_at es a ≡ None
@@ -57,19 +57,42 @@ few_addresses es n below once = rw (← size) (length-le_from_distinct_below xs 
         let here : address es f.0 ≡ f.1 = sym (at_x f.0 f.1 mk) ∙ f.3 in
         omega (arith, below f.0 mk)
 
-module _ (room : ℕ) (es : List (ℕ × ℕ)) (ps : List ℕ) (capacity notes : ℕ) (h : IsIndexedSet room es ps capacity notes) where
-  pub once : (j k : ℕ) → j < length es → k < length es → address es j ≡ address es k → j ≡ k
-  once j k l m e = sym (h.found j l) ∙ ap (note_at ps) e ∙ h.found k m
+-- there was room for one more
+pub room_left : (room : ℕ) (es : List (ℕ × ℕ)) (a : ℕ) → ((k : ℕ) → k < length es → address es k < room) → ((j k : ℕ) → j < length es → k < length es → address es j ≡ address es k → j ≡ k) → IsUnwritten es a → a < room → length es < room
+room_left room es a below once absent inside = omega (arith, size, few_addresses (es ++ (a, 0) ∷ []) room (λ k m. below' k (cases_eq k (length es)) m) (λ j k l m q. once' j k (cases_eq j (length es)) (cases_eq k (length es)) l m q))
+  where
+    size : length (es ++ (a, 0) ∷ []) ≡ suc (length es)
+    size = length-append es ((a, 0) ∷ []) ∙ omega arith
 
+    old : (k : ℕ) → k < length es → address (es ++ (a, 0) ∷ []) k ≡ address es k
+    old k l = ap (λ (e : ℕ × ℕ). e.0) (get_or_append_left es ((a, 0) ∷ []) (0, 0) k l)
+
+    new : (k : ℕ) → k ≡ length es → address (es ++ (a, 0) ∷ []) k ≡ a
+    new k e = ap (λ (e : ℕ × ℕ). e.0) (get_or_push es (a, 0) (0, 0) k (sym e))
+
+    below' : (k : ℕ) → (k ≡ length es) ⊎ (k ≢ length es) → k < length (es ++ (a, 0) ∷ []) → address (es ++ (a, 0) ∷ []) k < room
+    below' k (inl e) m = rw (new k e) inside
+    below' k (inr d) m = let s : k < length es = omega (arith, size) in rw (old k s) (below k s)
+
+    once' : (j k : ℕ) → (j ≡ length es) ⊎ (j ≢ length es) → (k ≡ length es) ⊎ (k ≢ length es) → j < length (es ++ (a, 0) ∷ []) → k < length (es ++ (a, 0) ∷ []) → address (es ++ (a, 0) ∷ []) j ≡ address (es ++ (a, 0) ∷ []) k → j ≡ k
+    once' j k (inl e) (inl f) l m q = e ∙ sym f
+    once' j k (inl e) (inr f) l m q = let s : k < length es = omega (arith, size) in absurd (absent k s (sym (old k s) ∙ sym q ∙ new j e))
+    once' j k (inr e) (inl f) l m q = let s : j < length es = omega (arith, size) in absurd (absent j s (sym (old j s) ∙ q ∙ new k f))
+    once' j k (inr e) (inr f) l m q =
+        let s : j < length es = omega (arith, size) in
+        let t : k < length es = omega (arith, size) in
+        once j k s t (sym (old j s) ∙ q ∙ old k t)
+
+module _ (room homes : ℕ) (es : List (ℕ × ℕ)) (os fs : List ℕ) (capacity links notes : ℕ) (h : IsIndexedSet room homes es os fs capacity links notes) where
   pub few : length es ≤ room
-  few = omega (arith, few_addresses es (length ps) h.below once, h.few_notes)
+  few = few_addresses es room h.below h.once
 
   pub is_map : IsMap (record { room = room; entries = es })
-  is_map = record { once = once; below = λ k l. omega (arith, h.below k l, h.few_notes); few = few; room = h.fits }
+  is_map = record { once = h.once; below = h.below; few = few; room = h.fits }
 
   module _ (a k : ℕ) (f : IsEntryFor es a k) where
     first : (j : ℕ) → j < k → address es j ≢ a
-    first j m e = let s : j ≡ k = once j k (omega (arith, f.0)) f.0 (e ∙ sym f.1) in omega arith
+    first j m e = let s : j ≡ k = h.once j k (omega (arith, f.0)) f.0 (e ∙ sym f.1) in omega arith
 
     pub value_at-found : value_at es a ≡ Some (get_or es k (0, 0)).1
     value_at-found = value_at-here es a k f first

@@ -1,40 +1,112 @@
--- What a write keeps, when an entry comes and its place is noted.
-use Rattle.std.proofs.Common.{◌≡◌, ℕ, ◌+◌, ◌<◌, ◌≤◌, ◌⊎◌, inl, inr, List, [], ◌∷◌, ◌++◌, length, refl, ◌∙◌, ap, arith, length-append}
-use Rattle.std.proofs.lemmas.Bool.{cases_eq}
-use Rattle.std.proofs.lemmas.List.{get_or_append_left, get_or_push}
+-- What a write keeps, when an entry comes and its place is noted at its home.
+use Rattle.std.proofs.Common.{◌≡◌, ◌≢◌, ℕ, suc, ◌+◌, ◌<◌, ◌≤◌, ◌⊎◌, inl, inr, ◌==◌, ◌%◌, Bool, true, false, if◌then◌else◌, List, [], ◌∷◌, ◌++◌, length, set, refl, sym, ◌∙◌, ap, arith, length-append, length-set}
+use Rattle.std.proofs.lemmas.Bool.{cases_eq, eq-eqb as equals, ne_eqb as differs}
+use Rattle.std.proofs.lemmas.List.{get_or_append_left, get_or_push, get_or-set_same, get_or-set_other}
 use Rattle.of_wset.specs.WriteSet.{address}
-use Rattle.of_wset.specs.Index.{IsUnwritten, NotesPlace, IsIndexedSet, note_at}
-use Rattle.of_wset.proofs.Maps.{few}
+use Rattle.of_wset.specs.Index.{IsUnwritten, IsEntryFor, NotesPlace, IsIndexedSet, note_at, latest}
+use Rattle.of_wset.proofs.Chains.{latest_same}
 
 -- an entry more, whose place is noted
-module _ (room : ℕ) (es : List (ℕ × ℕ)) (ps qs : List ℕ) (capacity notes a v : ℕ) (h : IsIndexedSet room es ps capacity notes) (absent : IsUnwritten es a) (inside : a < room) (n : NotesPlace ps qs a (length es)) where
-  size : length (es ++ (a, v) ∷ []) ≡ length es + 1
-  size = length-append es ((a, v) ∷ [])
+module _ (room homes : ℕ) (es : List (ℕ × ℕ)) (os fs gs : List ℕ) (capacity links notes a v : ℕ) (h : IsIndexedSet room homes es os fs capacity links notes) (absent : IsUnwritten es a) (inside : a < room) (n : NotesPlace fs gs (a % homes) (length es + 1)) (home : a % homes < homes) where
+  size : length (es ++ (a, v) ∷ []) ≡ suc (length es)
+  size = length-append es ((a, v) ∷ []) ∙ omega arith
 
   old : (k : ℕ) → k < length es → address (es ++ (a, v) ∷ []) k ≡ address es k
   old k l = ap (λ (e : ℕ × ℕ). e.0) (get_or_append_left es ((a, v) ∷ []) (0, 0) k l)
 
-  new : address (es ++ (a, v) ∷ []) (length es) ≡ a
-  new = ap (λ (e : ℕ × ℕ). e.0) (get_or_push es (a, v) (0, 0) (length es) refl)
+  new : (k : ℕ) → k ≡ length es → address (es ++ (a, v) ∷ []) k ≡ a
+  new k e = ap (λ (e : ℕ × ℕ). e.0) (get_or_push es (a, v) (0, 0) k (sym e))
 
-  below : (k : ℕ) → (k ≡ length es) ⊎ (k ≡ length es → ⊥) → k < length (es ++ (a, v) ∷ []) → address (es ++ (a, v) ∷ []) k < length qs
-  below k (inl e) m = rw (e, new) n.reached
-  below k (inr d) m = let s : k < length es = omega (arith, size) in rw (old k s) (omega (arith, h.below k s, n.longer))
+  below : (k : ℕ) → (k ≡ length es) ⊎ (k ≢ length es) → k < length (es ++ (a, v) ∷ []) → address (es ++ (a, v) ∷ []) k < room
+  below k (inl e) m = rw (new k e) inside
+  below k (inr d) m = let s : k < length es = omega (arith, size) in rw (old k s) (h.below k s)
 
-  found : (k : ℕ) → (k ≡ length es) ⊎ (k ≡ length es → ⊥) → k < length (es ++ (a, v) ∷ []) → note_at qs (address (es ++ (a, v) ∷ []) k) ≡ k
-  found k (inl e) m = rw (e, new) n.here
-  found k (inr d) m = let s : k < length es = omega (arith, size) in rw (old k s) (n.others (address es k) (absent k s) ∙ h.found k s)
+  once : (j k : ℕ) → (j ≡ length es) ⊎ (j ≢ length es) → (k ≡ length es) ⊎ (k ≢ length es) → j < length (es ++ (a, v) ∷ []) → k < length (es ++ (a, v) ∷ []) → address (es ++ (a, v) ∷ []) j ≡ address (es ++ (a, v) ∷ []) k → j ≡ k
+  once j k (inl e) (inl f) l m q = e ∙ sym f
+  once j k (inl e) (inr f) l m q = let s : k < length es = omega (arith, size) in absurd (absent k s (sym (old k s) ∙ sym q ∙ new j e))
+  once j k (inr e) (inl f) l m q = let s : j < length es = omega (arith, size) in absurd (absent j s (sym (old j s) ∙ q ∙ new k f))
+  once j k (inr e) (inr f) l m q =
+      let s : j < length es = omega (arith, size) in
+      let t : k < length es = omega (arith, size) in
+      h.once j k s t (sym (old j s) ∙ q ∙ old k t)
 
-  pub pair_written : (c d : ℕ) → capacity ≤ c → notes ≤ d → IsIndexedSet room (es ++ (a, v) ∷ []) qs c d
-  pair_written c d more more_notes = record {
+  -- the last entry of a home
+  last : (x : ℕ) → latest homes (es ++ (a, v) ∷ []) x (length (es ++ (a, v) ∷ [])) ≡ (if a % homes == x then suc (length es) else latest homes es x (length es))
+  last x =
+      ap (latest homes (es ++ (a, v) ∷ []) x) size
+      ∙ ap (λ (b : ℕ). if b % homes == x then suc (length es) else latest homes (es ++ (a, v) ∷ []) x (length es)) (new (length es) refl)
+      ∙ ap (λ (y : ℕ). if a % homes == x then suc (length es) else y) (latest_same homes es (es ++ (a, v) ∷ []) x (length es) old)
+
+  one : length es + 1 ≡ suc (length es)
+  one = omega arith
+
+  here : latest homes (es ++ (a, v) ∷ []) (a % homes) (length (es ++ (a, v) ∷ [])) ≡ suc (length es)
+  here = last (a % homes) ∙ ap (λ (b : Bool). if b then suc (length es) else latest homes es (a % homes) (length es)) (equals (a % homes) (a % homes) refl)
+
+  elsewhere : (x : ℕ) → x ≢ a % homes → latest homes (es ++ (a, v) ∷ []) x (length (es ++ (a, v) ∷ [])) ≡ latest homes es x (length es)
+  elsewhere x d = last x ∙ ap (λ (b : Bool). if b then suc (length es) else latest homes es x (length es)) (differs (a % homes) x (λ q. d (sym q)))
+
+  fronts : (x : ℕ) → (x ≡ a % homes) ⊎ (x ≢ a % homes) → (latest homes es x (length es) ≡ 0) ⊎ (note_at fs x ≡ latest homes es x (length es)) → (latest homes (es ++ (a, v) ∷ []) x (length (es ++ (a, v) ∷ [])) ≡ 0) ⊎ (note_at gs x ≡ latest homes (es ++ (a, v) ∷ []) x (length (es ++ (a, v) ∷ [])))
+  fronts x (inl e) z = inr (rw e (n.here ∙ one ∙ sym here))
+  fronts x (inr d) (inl z) = inl (elsewhere x d ∙ z)
+  fronts x (inr d) (inr z) = inr (n.others x d ∙ z ∙ sym (elsewhere x d))
+
+  chains : (k : ℕ) → (k ≡ length es) ⊎ (k ≢ length es) → k < length (es ++ (a, v) ∷ []) → note_at (os ++ latest homes es (a % homes) (length es) ∷ []) k ≡ latest homes (es ++ (a, v) ∷ []) (address (es ++ (a, v) ∷ []) k % homes) k
+  chains k (inl e) l =
+      get_or_push os (latest homes es (a % homes) (length es)) 0 k (h.linked ∙ sym e)
+      ∙ ap (latest homes es (a % homes)) (sym e)
+      ∙ sym (ap (λ (b : ℕ). latest homes (es ++ (a, v) ∷ []) (b % homes) k) (new k e) ∙ latest_same homes es (es ++ (a, v) ∷ []) (a % homes) k (λ j m. old j (omega (arith, e))))
+  chains k (inr d) l =
+      let s : k < length es = omega (arith, size) in
+      get_or_append_left os (latest homes es (a % homes) (length es) ∷ []) 0 k (omega (arith, h.linked))
+      ∙ h.chains k s
+      ∙ sym (ap (λ (b : ℕ). latest homes (es ++ (a, v) ∷ []) (b % homes) k) (old k s) ∙ latest_same homes es (es ++ (a, v) ∷ []) (address es k % homes) k (λ j m. old j (omega arith)))
+
+  pub pair_written : (c d f : ℕ) → capacity ≤ c → links ≤ d → notes ≤ f → IsIndexedSet room homes (es ++ (a, v) ∷ []) (os ++ latest homes es (a % homes) (length es) ∷ []) gs c d f
+  pair_written c d f more more_links more_notes = record {
     fits = h.fits;
+    some = h.some;
     spare = omega (arith, h.spare);
+    spare_links = omega (arith, h.spare_links);
     spare_notes = omega (arith, h.spare_notes);
-    few_notes = n.below room h.few_notes inside;
+    few_notes = n.below homes h.few_notes home;
+    linked = length-append os (latest homes es (a % homes) (length es) ∷ []) ∙ omega (arith, h.linked, size);
     below = λ k m. below k (cases_eq k (length es)) m;
-    found = λ k m. found k (cases_eq k (length es)) m;
+    once = λ j k l m q. once j k (cases_eq j (length es)) (cases_eq k (length es)) l m q;
+    fronts = λ x l. fronts x (cases_eq x (a % homes)) (h.fronts x l);
+    chains = λ k l. chains k (cases_eq k (length es)) l;
   }
 
-  -- there was room for one more
-  pub room_left : length es < room
-  room_left = omega (arith, size, few room (es ++ (a, v) ∷ []) qs capacity notes (pair_written capacity notes (omega arith) (omega arith)))
+-- an entry with another value
+module _ (room homes : ℕ) (es : List (ℕ × ℕ)) (os fs : List ℕ) (capacity links notes a v k : ℕ) (h : IsIndexedSet room homes es os fs capacity links notes) (f : IsEntryFor es a k) where
+  kept_size : length (set es k (a, v)) ≡ length es
+  kept_size = length-set es k (a, v)
+
+  kept : (j : ℕ) → address (set es k (a, v)) j ≡ address es j
+  kept j = go (cases_eq j k)
+    where
+      go : (j ≡ k) ⊎ (j ≢ k) → address (set es k (a, v)) j ≡ address es j
+      go (inl e) = rw e (ap (λ (x : ℕ × ℕ). x.0) (get_or-set_same es k (a, v) (0, 0) f.0) ∙ sym f.1)
+      go (inr d) = ap (λ (x : ℕ × ℕ). x.0) (get_or-set_other es k j (a, v) (0, 0) d)
+
+  kept_last : (x : ℕ) → latest homes (set es k (a, v)) x (length (set es k (a, v))) ≡ latest homes es x (length es)
+  kept_last x = ap (latest homes (set es k (a, v)) x) kept_size ∙ latest_same homes es (set es k (a, v)) x (length es) (λ j l. kept j)
+
+  kept_front : (x : ℕ) → (latest homes es x (length es) ≡ 0) ⊎ (note_at fs x ≡ latest homes es x (length es)) → (latest homes (set es k (a, v)) x (length (set es k (a, v))) ≡ 0) ⊎ (note_at fs x ≡ latest homes (set es k (a, v)) x (length (set es k (a, v))))
+  kept_front x (inl z) = inl (kept_last x ∙ z)
+  kept_front x (inr z) = inr (z ∙ sym (kept_last x))
+
+  pub pair_changed : IsIndexedSet room homes (set es k (a, v)) os fs capacity links notes
+  pair_changed = record {
+    fits = h.fits;
+    some = h.some;
+    spare = h.spare;
+    spare_links = h.spare_links;
+    spare_notes = h.spare_notes;
+    few_notes = h.few_notes;
+    linked = h.linked ∙ sym kept_size;
+    below = λ j l. rw (kept j) (h.below j (omega (arith, l, kept_size)));
+    once = λ i j l m q. h.once i j (omega (arith, l, kept_size)) (omega (arith, m, kept_size)) (sym (kept i) ∙ q ∙ kept j);
+    fronts = λ x l. kept_front x (h.fronts x l);
+    chains = λ j l. h.chains j (omega (arith, l, kept_size)) ∙ sym (ap (λ (b : ℕ). latest homes (set es k (a, v)) (b % homes) j) (kept j) ∙ latest_same homes es (set es k (a, v)) (address es j % homes) j (λ i m. kept i));
+  }

@@ -1,22 +1,30 @@
-ghost use Rattle.std.specs.Prelude.{◌≡◌, ◌<◌, ◌≤◌, ◌==◌, ◌-◌, [], ◌++◌, length, IfOk, MatchOption, slice_index_or};
-ghost use Rattle.std.proofs.Common.{replicate};
-ghost use Rattle.std.specs.Vec.{vec_capacity};
+ghost use Rattle.std.specs.Prelude.{◌≡◌, ◌<◌, ◌==◌, [], length, IfOk, MatchOption, slice_index_or};
 ghost use Rattle.of_wset.specs.WriteSet.{value_at, put, IsMap};
-ghost use Rattle.of_wset.specs.Index.{IsEntryFor, IsUnwritten, NotesPlace};
+ghost use Rattle.of_wset.specs.Index.{IsEntryFor, IsUnwritten};
 
+use crate::index::{front, note, search};
 use std::alloc::{AllocError, Global};
 use std::marker::Model;
 
+/// How many homes there are at most. An address is at the home that it leaves divided by their
+/// number; with as many homes as addresses each has its own.
+const MOST_HOMES: u32 = 8192;
+
 /// A map from addresses to values, in order of first writing. Only `new` takes memory, and it fills
-/// none of it. The other calls take the same time, however many entries there are; but a write to
-/// an address above all earlier ones also fills the places up to it.
+/// none of it. The other calls take the same time, however many addresses there may be and however
+/// many entries there are, up to some thousands; but the first write to a home above all earlier
+/// ones also fills the notes up to it.
 #[derive(Drop)]
 pub struct WriteSet {
     room: u32,
     entries: Vec<(u32, u32)>,
-    /// At each address that is there, the place of its entry. What stands at another address is
-    /// left over from earlier. No address past the end is there.
-    places: Vec<u32>,
+    homes: u32,
+    /// For each entry the place behind the last one before it of the same home, 0 where there is
+    /// none.
+    older: Vec<u32>,
+    /// For each home that an entry has, the place behind the last of them. What stands at another
+    /// home is left over from earlier. No entry has a home past the end.
+    fronts: Vec<u32>,
 }
 
 impl Model for WriteSet {
@@ -29,8 +37,8 @@ impl Model for WriteSet {
 
     ghost view = { λ w. record { room = w.room; entries = w.entries.items } };
 
-    ghost invariant = { λ w. IsIndexedSet w.room w.entries.items w.places.items
-        (vec_capacity w.entries) (vec_capacity w.places) };
+    ghost invariant = { λ w. IsIndexedSet w.room w.homes w.entries.items w.older.items w.fronts.items
+        (vec_capacity w.entries) (vec_capacity w.older) (vec_capacity w.fronts) };
 }
 
 impl WriteSet {
@@ -39,11 +47,15 @@ impl WriteSet {
         ensures { IfOk result (λ w. w ≡ record { room = room; entries = [] }) }
     {
         let entries = Vec::with_capacity(alloc, room as usize)?;
-        let places = Vec::with_capacity(alloc, room as usize)?;
+        let older = Vec::with_capacity(alloc, room as usize)?;
+        let homes = room.clamp(1, MOST_HOMES);
+        let fronts = Vec::with_capacity(alloc, homes as usize)?;
         Ok(WriteSet {
             room,
             entries,
-            places,
+            homes,
+            older,
+            fronts,
         })
     }
 
@@ -67,9 +79,7 @@ impl WriteSet {
         ensures { MatchOption result (IsUnwritten self.now.entries addr)
             (IsEntryFor self.now.entries addr) }
     {
-        let place = *self.places.get(addr as usize)? as usize;
-        let (at, _) = *self.entries.get(place)?;
-        if at == addr { Some(place) } else { None }
+        search(&self.fronts, &self.older, &self.entries, self.homes, addr)
     }
 
     /// The value at an address, if it was written.
@@ -89,9 +99,12 @@ impl WriteSet {
         match self.find(addr) {
             Some(place) => self.entries[place].1 = value,
             None => {
-                note(&mut self.places, addr, self.entries.len() as u32);
+                let home = addr % self.homes;
+                let last = front(&self.fronts, &self.entries, self.homes, home);
                 // there is room for each address below `room`
+                self.older.push_reserved(last);
                 self.entries.push_reserved((addr, value));
+                note(&mut self.fronts, home, self.entries.len() as u32);
             }
         }
     }
@@ -110,35 +123,6 @@ impl WriteSet {
         ensures { self.new ≡ record self.old { entries = [] } }
     {
         self.entries.clear();
-    }
-}
-
-/// Notes a place at an address.
-fn note(places: &mut Vec<u32>, addr: u32, place: u32)
-    requires { addr < vec_capacity places.old }
-    ensures notes { NotesPlace places.old.items places.new.items addr place }
-    ensures capacity { vec_capacity places.old ≤ vec_capacity places.new }
-{
-    let at = addr as usize;
-    if places.len() <= at {
-        lengthen(places, at + 1);
-    }
-    places[at] = place;
-}
-
-/// Fills the places up to a length.
-// out of line, so that what is called often is small
-#[cold]
-#[inline(never)]
-fn lengthen(places: &mut Vec<u32>, len: usize)
-    requires longer { length places.old.items ≤ len }
-    requires room { len ≤ vec_capacity places.old }
-    ensures places { places.new.items
-        ≡ places.old.items ++ replicate (len - length places.old.items) 0 }
-    ensures capacity { vec_capacity places.old ≤ vec_capacity places.new }
-{
-    match places.resize(len, 0) {
-        Ok(()) => {}
-        Err(_) => unreachable!(),
+        self.older.clear();
     }
 }

@@ -1,7 +1,8 @@
 //! How a machine goes on at the steps of its own transaction: the log, the request, and the
 //! exchange that commits.
 
-ghost use Rattle.std.specs.Prelude.{◌≡◌, ◌<◌, ◌+◌};
+ghost use Rattle.std.specs.Prelude.{◌≡◌, ◌<◌, ◌≤◌, ◌+◌, length};
+ghost use Rattle.of_cell.specs.Cells.{log_room};
 ghost use Rattle.of_core.specs.MachineValue.{step_from};
 ghost use Rattle.of_core.specs.declared.place.Place.TheVariants.{StoreLog, RaiseLog};
 
@@ -31,6 +32,7 @@ impl<W: Work> Machine<W> {
     /// From the raise of a log word.
     pub(super) fn after_raise_log(&mut self, at: u32)
         requires at { self.old.call.place ≡ RaiseLog at }
+        requires few { length self.old.call.log ≤ log_room self.old.callers self.old.cells }
         ensures { self.new ≡ step_from W.meaning (RaiseLog at) 0 self.old }
     {
         let words = 2 * self.log.len() + 1;

@@ -4,6 +4,7 @@
 ghost use Rattle.std.specs.Prelude.{◌≡◌, ◌<◌, ◌≤◌, ◌+◌, ◌*◌, ◌==◌, length, true};
 ghost use Rattle.std.proofs.Common.{get_or};
 ghost use Rattle.of_cell.specs.Words.{pack, seq_of, payload_of};
+ghost use Rattle.of_cell.specs.Cells.{log_room};
 ghost use Rattle.of_core.specs.WordsMatch.{AreLogWords};
 ghost use Rattle.of_core.specs.Steps.{after_load_request, with_log_word_copied, enter, resume};
 ghost use Rattle.of_core.specs.MachineValue.{machine_setup, machine_after, step_from};
@@ -57,7 +58,8 @@ impl<W: Work> Machine<W> {
     /// From the load of a log word.
     pub(super) fn after_copy_log(&mut self, at: u32, found: u64)
         requires at { self.old.call.place ≡ CopyLog at }
-        requires count { get_or (with_log_word_copied self.old.call found) 0 0 ≤ self.old.cells }
+        requires count { get_or (with_log_word_copied self.old.call found) 0 0
+            ≤ log_room self.old.callers self.old.cells }
         ensures { self.new ≡ step_from W.meaning (CopyLog at) found self.old }
     {
         match self.copy.push(payload_of(found)) {

@@ -3,6 +3,7 @@
 ghost use Rattle.std.specs.Prelude.{◌≡◌, ◌+◌, ◌*◌, [], IfOk};
 ghost use Rattle.of_mem.specs.Part.{empty_part};
 ghost use Rattle.of_mem.specs.declared.work.TheConstants.{MOST_INSTRS};
+ghost use Rattle.of_cell.specs.Cells.{log_room};
 ghost use Rattle.of_core.specs.Fit.{IsEmptyWithRoom};
 
 use crate::call::Call;
@@ -30,14 +31,14 @@ impl<W: Work> Lists<W> {
         ensures op { IfOk result (λ l. IsEmptyWithRoom MOST_INSTRS l.op) }
         ensures part { IfOk result (λ l. l.part ≡ empty_part shape.cells) }
         ensures log { IfOk result (λ l. l.log ≡ record { room = shape.cells; entries = [] }) }
-        ensures copy { IfOk result (λ l. IsEmptyWithRoom (2 * shape.cells + 1) l.copy) }
+        ensures copy { IfOk result (λ l. IsEmptyWithRoom (2 * log_room shape.callers shape.cells + 1) l.copy) }
         ensures script { IfOk result (λ l. IsEmptyWithRoom MOST_INSTRS l.script) }
         ensures calls { IfOk result (λ l. IsEmptyWithRoom shape.callers l.calls) }
     {
         let op = Vec::with_capacity(alloc, MOST_INSTRS)?;
         let part = Workspace::new(alloc, shape.cells)?;
         let log = WriteSet::new(alloc, shape.cells)?;
-        let copy = Vec::with_capacity(alloc, 2 * shape.cells as usize + 1)?;
+        let copy = Vec::with_capacity(alloc, 2 * shape.log_room() as usize + 1)?;
         let script = Vec::with_capacity(alloc, MOST_INSTRS)?;
         let calls = Vec::with_capacity(alloc, shape.callers as usize)?;
         Ok(Lists {

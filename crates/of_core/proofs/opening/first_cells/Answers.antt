@@ -19,4 +19,4 @@ returns c =
     rw (zero, cur, c.request.ensures.value, closed) (heads_are N M row c.payload_of.result owner) in
     let cells : take (c.data_cell-first.result + M - c.data_cell-first.result) (drop c.data_cell-first.result row) ≡ B.cells = ap (λ (k : ℕ). take (k + M - k) (drop k row)) c.data_cell-first.ensures.value in
     let items : c.extend_from_slice.new.self.items ≡ (pack B.seq B.owner ∷ set (replicate N 0) B.owner (closed_request B.seq)) ++ B.cells = c.in_ok-extend_from_slice.ensures.items ∙ (λ i. heads i ++ cells i) in
-    c.in_ok-resize.ensures.items ∙ cells_filled N M row c.requires.row c.extend_from_slice.new.self.items c.durable_cells.result c.extend_from_slice.new.self.len items c.extend_from_slice.new.self.ok.0 c.durable_cells.ensures
+    c.in_ok-resize.ensures.items ∙ cells_filled N M row c.requires.row c.extend_from_slice.new.self.items c.durable_cells.result c.extend_from_slice.new.self.len items c.extend_from_slice.new.self.ok.0 c.durable_cells.ensures.value

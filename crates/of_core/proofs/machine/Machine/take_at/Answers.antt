@@ -1,10 +1,10 @@
 use Rattle.std.proofs.Common.{◌≡◌, ◌+◌, ◌<◌, refl, sym, ◌∙◌, arith}
 use Rattle.of_mem.specs.Meaning.{IsSoundMeaning}
-use Rattle.of_core.specs.declared.place.Place.TheVariants.{TryCurrent, TryRequest, TryCell, LoadCurrent, CopyLog, LookAgain, LoadAnnouncement, LoadScript, LoadCell, RaiseClosed}
+use Rattle.of_core.specs.declared.place.Place.TheVariants.{RaiseLog, TryCurrent, TryRequest, TryCell, LoadCurrent, CopyLog, LookAgain, LoadAnnouncement, LoadScript, LoadCell, RaiseClosed}
 use Rattle.of_core.specs.Table.{Setup, setup_of, first_operation_cell}
 use Rattle.of_core.specs.MachineValue.{machine_setup}
 use Rattle.of_core.proofs.Puts.{sound_at}
-use Rattle.of_core.proofs.Allows.{few_steps, request_words, cell_words, try_current_owner, try_current_upto, try_agrees, load_current_owner, load_current_upto, copy_count, look_words, look_log, announced_small, announced_some, ticket_unnamed, script_agrees, cell_agrees, closed_words}
+use Rattle.of_core.proofs.Allows.{few_steps, request_words, cell_words, try_current_owner, try_current_upto, try_agrees, load_current_owner, load_current_upto, copy_count, store_few, look_words, look_log, announced_small, announced_some, ticket_unnamed, script_agrees, cell_agrees, closed_words}
 use Rattle.of_core.proofs.machine.Machine.take_at.Goals as goal
 
 pub after_try_current-requires-clause-owner : goal.after_try_current-requires-clause-owner
@@ -36,6 +36,11 @@ pub after_copy_log-requires-clause-count : goal.after_copy_log-requires-clause-c
 after_copy_log-requires-clause-count g c κs within =
     let place : c.args.self.now.call.place ≡ CopyLog c.in-CopyLog.at = sym c.requires.here ∙ c.in-CopyLog.is in
     rw (← c.self.view_is) at (copy_count (machine_setup g.W.Work.meaning c.args.self.now) (g.W.Work.lawful c.args.self.now.work) c.args.self.now.call c.args.found c.requires.good c.in-CopyLog.at place)
+
+pub after_raise_log-requires-clause-few : goal.after_raise_log-requires-clause-few
+after_raise_log-requires-clause-few g c κs within =
+    let place : c.args.self.now.call.place ≡ RaiseLog c.in-RaiseLog.at = sym c.requires.here ∙ c.in-RaiseLog.is in
+    rw (← c.self.view_is) at (store_few (machine_setup g.W.Work.meaning c.args.self.now) (g.W.Work.lawful c.args.self.now.work) c.args.self.now.call c.args.found c.requires.good c.in-RaiseLog.at place)
 
 pub after_look_again-requires-clause-some : goal.after_look_again-requires-clause-some
 after_look_again-requires-clause-some g c κs within =

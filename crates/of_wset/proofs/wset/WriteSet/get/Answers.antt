@@ -12,4 +12,4 @@ returns c =
     let f : IsEntryFor c.self.inside.entries.items c.args.addr c.in_ok-place.place = rw (← c.self.view_is) at c.in_ok-place.ensures in
     rw (← c.self.view_is)
     (ap (λ (e : ℕ × ℕ). Some e.1) (c.index.ensures ∙ get_or_default c.self.inside.entries.items c.in_ok-place.place c.index.result.now (0, 0) f.0)
-    ∙ sym (value_at-found _ _ _ _ _ c.self.invariant _ _ f))
+    ∙ sym (value_at-found _ _ _ _ _ _ _ _ c.self.invariant _ _ f))
