@@ -1,0 +1,60 @@
+"""What `rt check` says of each function of a crate.
+
+All that the trial of wrong bodies knows of the words of a check is here, and tests/scripts tries it
+on a crate of its own: if another kit words its lines otherwise, that test says so.
+"""
+import enum
+import re
+import subprocess
+
+# `fn PATH: proved`, `impl PATH: not proved; ..`, `fn PATH: no proof: it calls `PATH`, which is ..`
+LINE = re.compile(r"^(?:fn|impl|struct) (\S+): (.*)$", re.M)
+UNPROVED = re.compile(r"not proved|no proof")
+CALLS = re.compile(r"it calls|it passes|a call of")
+ENDED = re.compile(r"^logic=(proved|not-proved)\b", re.M)
+# An error in a text that holds no proof: a name or a form that the check cannot read. An error that
+# begins with the name of a declaration says that it is not so, unless it is one of those below.
+ERROR = re.compile(r"^(?:\./)?(?:src|specs)/\S+?:\d+:\d+: error(\[[\w-]+\])?: (`[^`]*`: )?(.*)", re.M)
+UNREAD = re.compile(r"is not in scope|has no field|is no name|operand is missing|expected the end|cannot continue")
+
+
+class Verdict(enum.Enum):
+    """What a check says of a function."""
+
+    PROVED = "is proved"
+    REFUSED = "is refused"
+    # no proof was tried, or none counts, since a function that it calls has none
+    BY_CALLEE = "is only refused because of a function that it calls"
+
+
+def verdict(said):
+    if not UNPROVED.search(said):
+        return Verdict.PROVED
+    return Verdict.BY_CALLEE if CALLS.search(said) else Verdict.REFUSED
+
+
+def unread(text):
+    """Why a check did not come to verdicts: the first error, or its last line; or None if it did."""
+    for mark, named, said in ERROR.findall(text):
+        if mark or not named or UNREAD.search(re.sub(r"`[^`]*`", "", said)):
+            return f"the check cannot read it: {said}"
+    if ENDED.search(text):
+        return None
+    lines = [it for it in text.splitlines() if it] or ["it said nothing"]
+    return f"the check came to no verdict: {next((it for it in lines if ': error' in it), lines[-1])}"
+
+
+def is_proved(text):
+    """Whether a check found all of the crate proved."""
+    return "proved" in ENDED.findall(text)
+
+
+def verdicts(text):
+    """The verdict on each function, impl and struct that a check names, by its path."""
+    return {path: verdict(said) for path, said in LINE.findall(text)}
+
+
+def check(folder):
+    """What `rt check` prints of the crate in this folder."""
+    pipes = {"stdin": subprocess.DEVNULL, "stdout": subprocess.PIPE, "stderr": subprocess.STDOUT}
+    return subprocess.run(["rt", "check"], cwd=folder, text=True, errors="replace", **pipes).stdout
