@@ -7,10 +7,11 @@ import enum
 import re
 import subprocess
 
-# `fn PATH: proved`, `impl PATH: not proved; ..`, `fn PATH: no proof: it calls `PATH`, which is ..`
+# `fn PATH: proved`; of one that is refused by itself `not proved` or `no proof: expected answers in ..`,
+# also if `; it calls ..` comes after that; of one that is not, `no proof: it calls ..`.
 LINE = re.compile(r"^(?:fn|impl|struct) (\S+): (.*)$", re.M)
 UNPROVED = re.compile(r"not proved|no proof")
-CALLS = re.compile(r"it calls|it passes|a call of")
+CALLS = re.compile(r"no proof: (it calls|it passes|a call of)")
 ENDED = re.compile(r"^logic=(proved|not-proved)\b", re.M)
 # An error in a text that holds no proof: a name or a form that the check cannot read. An error that
 # begins with the name of a declaration says that it is not so, unless it is one of those below.
@@ -23,14 +24,14 @@ class Verdict(enum.Enum):
 
     PROVED = "is proved"
     REFUSED = "is refused"
-    # no proof was tried, or none counts, since a function that it calls has none
+    # its own proof is not at fault
     BY_CALLEE = "is only refused because of a function that it calls"
 
 
 def verdict(said):
     if not UNPROVED.search(said):
         return Verdict.PROVED
-    return Verdict.BY_CALLEE if CALLS.search(said) else Verdict.REFUSED
+    return Verdict.BY_CALLEE if CALLS.match(said) else Verdict.REFUSED
 
 
 def unread(text):
