@@ -15,16 +15,23 @@ class Function(typing.NamedTuple):
     trait: str
     name: str
 
-    def is_at(self, path):
-        """Whether a check calls the function so: `CRATE::MODULE::TYPETRAIT::NAME`, the type in all its words."""
-        words = path.split("::")[1:]
-        module = self.module.split("::") if self.module else []
-        if words[: len(module)] != module or words[-1] != self.name:
+    def paths(self, named):
+        """Those of these paths, as a check names functions, that are this one's.
+
+        A function is `CRATE::MODULE::NAME`. A method is `CRATE::MODULE::TYPETRAIT::NAME`, with the
+        type in all its words, and the module that of the type, which may not be the impl's.
+        """
+        found = [it for it in named if self.is_like(it.split("::")[1:])]
+        here = [it for it in found if it.split("::")[1:-2] == self.module.split("::")]
+        return here if len(found) > 1 and here else found
+
+    def is_like(self, words):
+        if words[-1] != self.name:
             return False
-        held = words[len(module) : -1]
         if not self.holder:
-            return not held
-        return len(held) == 1 and held[0].startswith(self.holder) and held[0].endswith(self.trait or self.holder)
+            return "::".join(words[:-1]) == self.module
+        held = words[-2] if len(words) > 1 else ""
+        return held.startswith(self.holder) and held.endswith(self.trait or self.holder)
 
     def __str__(self):
         held = f"{self.holder}{self.trait}" if self.holder else ""

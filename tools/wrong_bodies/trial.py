@@ -156,7 +156,7 @@ class Trial:
         if not now[0].is_modular:
             self.judge_outside(now[0].edit, found)
             return []
-        at = {it: [path for path in found if it.is_at(path)] for body in now for it in body.functions}
+        at = {it: it.paths(found) for body in now for it in body.functions}
         edited = {path for paths in at.values() for path in paths}
         broken = sorted(it for it in found if found[it] == Verdict.REFUSED and it not in edited)
         if broken and len(now) == 1:
