@@ -55,7 +55,8 @@ def verdicts(text):
     return {path: verdict(said) for path, said in LINE.findall(text)}
 
 
-def check(folder):
+def check(folder, *words):
     """What `rt check` prints of the crate in this folder."""
     pipes = {"stdin": subprocess.DEVNULL, "stdout": subprocess.PIPE, "stderr": subprocess.STDOUT}
-    return subprocess.run(["rt", "check"], cwd=folder, text=True, errors="replace", **pipes).stdout
+    words = ["rt", "check", *words]
+    return subprocess.run(words, cwd=folder, text=True, errors="replace", **pipes).stdout

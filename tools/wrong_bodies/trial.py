@@ -101,10 +101,13 @@ def chosen(folder, bodies):
 
 
 class Trial:
-    """Tries wrong bodies of a crate. By edit, `named` are the functions that its row names."""
+    """Tries wrong bodies of a crate. By edit, `named` are the functions that its row names.
 
-    def __init__(self, crate, every, named, say):
-        self.crate, self.every, self.named, self.say = crate, every, named, say
+    The words go to each check.
+    """
+
+    def __init__(self, crate, every, named, words, say):
+        self.crate, self.every, self.named, self.words, self.say = crate, every, named, words, say
         self.rounds, self.results = 0, []
 
     def run(self, edits):
@@ -128,7 +131,7 @@ class Trial:
 
     def checked(self, what, folder):
         begun = time.monotonic()
-        text = checks.check(folder)
+        text = checks.check(folder, *self.words)
         self.say(f"{self.crate.name}: {what}, {time.monotonic() - begun:.0f} s")
         return text
 
