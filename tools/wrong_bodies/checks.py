@@ -12,7 +12,8 @@ import subprocess
 LINE = re.compile(r"^(?:fn|impl|struct) (\S+): (.*)$", re.M)
 UNPROVED = re.compile(r"not proved|no proof")
 CALLS = re.compile(r"no proof: (it calls|it passes|a call of)")
-ENDED = re.compile(r"^logic=(proved|not-proved)\b", re.M)
+# Its last line but for advice: of all functions, or of those that `--only` names and what they call.
+ENDED = re.compile(r"^logic=(proved|not-proved)\b|^only=\d+ proved=\d+$", re.M)
 # An error in a text that holds no proof: a name or a form that the check cannot read. An error that
 # begins with the name of a declaration says that it is not so, unless it is one of those below.
 ERROR = re.compile(r"^(?:\./)?(?:src|specs)/\S+?:\d+:\d+: error(\[[\w-]+\])?: (`[^`]*`: )?(.*)", re.M)
@@ -55,8 +56,9 @@ def verdicts(text):
     return {path: verdict(said) for path, said in LINE.findall(text)}
 
 
-def check(folder, *words):
-    """What `rt check` prints of the crate in this folder."""
+def check(folder, only=(), jobs=None):
+    """What `rt check` prints of the crate in this folder, or of the functions with these paths."""
     pipes = {"stdin": subprocess.DEVNULL, "stdout": subprocess.PIPE, "stderr": subprocess.STDOUT}
-    words = ["rt", "check", *words]
+    words = ["rt", "check", *(word for path in only for word in ("--only", path))]
+    words += ["--jobs", str(jobs)] if jobs else []
     return subprocess.run(words, cwd=folder, text=True, errors="replace", **pipes).stdout

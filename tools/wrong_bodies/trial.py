@@ -6,8 +6,8 @@ at its own function.
 
 - A function that is only refused because of one that it calls has not been tried: its wrong body
   goes to a later round, as does a second one of the same function.
-- An edit of a definition or of a contract may change what other functions have to prove. It has a
-  round of its own, in which a function that its row of docs/WRONG.md names must be refused.
+- An edit of a definition or of a contract may change what other functions have to prove. It is tried
+  alone, by a check of the functions that its row of docs/WRONG.md names: one must be refused.
 - First the crate is checked as it is, in its own place: all of it must be proved. In each round only
   edited functions may be refused by themselves.
 - A round that the check cannot read, or that breaks more than it should, counts for nothing. It is
@@ -88,9 +88,8 @@ def chosen(folder, bodies):
     """Applies as many of these to a copy as go together, and gives those and the others."""
     now, later, taken = [], [], set()
     for it in bodies:
-        apart = not it.is_modular and now or any(not other.is_modular for other in now)
         try:
-            texts = {} if apart or taken & it.functions else it.edit.applied(folder)
+            texts = {} if taken & it.functions else it.edit.applied(folder)
         except repository.Unfit:
             texts = {}
         for path, text in texts.items():
@@ -103,11 +102,11 @@ def chosen(folder, bodies):
 class Trial:
     """Tries wrong bodies of a crate. By edit, `named` are the functions that its row names.
 
-    The words go to each check.
+    Each check has so many jobs, or as many as it likes.
     """
 
-    def __init__(self, crate, every, named, words, say):
-        self.crate, self.every, self.named, self.words, self.say = crate, every, named, words, say
+    def __init__(self, crate, every, named, jobs, say):
+        self.crate, self.every, self.named, self.jobs, self.say = crate, every, named, jobs, say
         self.rounds, self.results = 0, []
 
     def run(self, edits):
@@ -120,8 +119,10 @@ class Trial:
                 self.note(edit, fault=f"BAD EDIT: it {why}")
         text = self.checked("as it is", self.crate.folder)
         if checks.is_proved(text):
-            # those of functions alone first: many of these go together
-            self.try_all(sorted(bodies, key=lambda it: not it.is_modular))
+            self.try_together([it for it in bodies if it.is_modular])
+            for it in bodies:
+                if not it.is_modular:
+                    self.try_alone(it, checks.verdicts(text))
         for it in bodies if not checks.is_proved(text) else []:
             self.note(it.edit, fault=f"not tried: {self.crate.name} is not proved as it is")
         return sorted(self.results)
@@ -129,14 +130,14 @@ class Trial:
     def note(self, edit, refused=(), fault=None):
         self.results.append(Result(edit.name, ", ".join(sorted(refused)), fault))
 
-    def checked(self, what, folder):
+    def checked(self, what, folder, only=()):
         begun = time.monotonic()
-        text = checks.check(folder, *self.words)
+        text = checks.check(folder, only, self.jobs)
         self.say(f"{self.crate.name}: {what}, {time.monotonic() - begun:.0f} s")
         return text
 
-    def try_all(self, bodies):
-        """Tries these, in as many rounds as they need."""
+    def try_together(self, bodies):
+        """Tries wrong bodies of functions, in as many rounds as they need."""
         while bodies:
             with room(self.crate, self.every) as folder:
                 now, bodies = chosen(folder, bodies)
@@ -151,14 +152,11 @@ class Trial:
                 bodies = again + bodies
             else:
                 half = len(again) // 2
-                self.try_all(again[:half])
-                self.try_all(again[half:])
+                self.try_together(again[:half])
+                self.try_together(again[half:])
 
     def judged(self, now, found):
         """Notes what a round came to, and gives the wrong bodies that it did not try."""
-        if not now[0].is_modular:
-            self.judge_outside(now[0].edit, found)
-            return []
         at = {it: it.paths(found) for body in now for it in body.functions}
         edited = {path for paths in at.values() for path in paths}
         broken = sorted(it for it in found if found[it] == Verdict.REFUSED and it not in edited)
@@ -166,9 +164,9 @@ class Trial:
             self.note(now[0].edit, fault=f"NOT REFUSED at its own function, but at {', '.join(broken)}")
         if broken:
             return now if len(now) > 1 else []
-        return [it for it in now if not self.judge_inside(it, at, found, len(now) == 1)]
+        return [it for it in now if not self.is_judged(it, at, found, len(now) == 1)]
 
-    def judge_inside(self, it, at, found, is_alone):
+    def is_judged(self, it, at, found, is_alone):
         """Notes what came of a wrong body of functions. False if they were not all tried."""
         unclear = [str(function) for function in it.functions if len(at[function]) != 1]
         if unclear:
@@ -187,13 +185,21 @@ class Trial:
             return False
         return True
 
-    def judge_outside(self, edit, found):
-        """Notes what came of an edit of definitions or contracts: its row says what refuses it."""
-        unproved = [path for path in found if found[path] != Verdict.PROVED]
-        rows = self.named.get((self.crate.name, edit.name), [])
-        met = {row for row in rows if any(path.endswith(f"::{row}") for path in unproved)}
-        if met:
-            self.note(edit, met)
+    def try_alone(self, it, found):
+        """Tries an edit of definitions or contracts, by the functions that its row names."""
+        rows = self.named.get((self.crate.name, it.edit.name), [])
+        paths = sorted(path for path in found if any(path.endswith(f"::{row}") for row in rows))
+        if not paths:
+            self.note(it.edit, fault="its row names no function of the crate")
+            return
+        with room(self.crate, self.every) as folder:
+            chosen(folder, [it])
+            text = self.checked(f"{it.edit.name} alone", folder, paths)
+        said = checks.verdicts(text)
+        refused = [path for path in paths if said.get(path, Verdict.PROVED) != Verdict.PROVED]
+        if fault := checks.unread(text):
+            self.note(it.edit, fault=f"BAD EDIT: {fault}")
+        elif refused:
+            self.note(it.edit, [path.partition("::")[2] for path in refused])
         else:
-            some = ", ".join(unproved[:5]) or "nothing"
-            self.note(edit, fault=f"NOT REFUSED by what its row names, but by {some}")
+            self.note(it.edit, fault=f"NOT REFUSED: {', '.join(paths)}")
