@@ -1,10 +1,11 @@
 //! A member that leaves through a door, and comes in again in another thread.
 
-ghost use Rattle.std.specs.Prelude.{◌≡◌, IfOk};
+ghost use Rattle.std.specs.Prelude.{◌≡◌, IfOk, IfSome};
 ghost use Rattle.of_row.specs.Rows.{HasNoCall, IsRowMember, IsRowPass, KeepsNobody};
 ghost use Rattle.of_row.specs.Rows.{number_of_member};
 ghost use Rattle.of_door.specs.Doors.{row_of_door, number_of_door, IsHandOf};
 
+use of_caller::Caller;
 use of_door::{Door, Hand};
 use of_eval::{Scripts, shape_of};
 use of_row::laws::members;
@@ -34,27 +35,73 @@ fn enrolled(alloc: Global) -> Result<(Row<Scripts>, Member), AllocError>
     }
 }
 
-/// The number of the member that comes in, and how many calls it has made.
-fn come(row: &Row<Scripts>, door: &Door<Scripts>, mut hand: Hand, pass: Pass) -> Option<(u32, u32)>
+/// The member leaves: the pass that knows what it had seen, unless somebody stands in the door.
+fn leave(row: &Row<Scripts>, door: &Door<Scripts>, hand: &mut Hand, member: Member) -> Option<Pass>
+    requires row { row_of_door door.now ≡ row.now }
+    requires hand { IsHandOf door.now hand.old }
+    requires member { IsRowMember row.now member }
+    requires number { number_of_member member ≡ number_of_door door.now }
+    requires idle { HasNoCall member }
+    ensures pass { IfSome result (IsRowPass row.now) }
+    ensures nobody { IfSome result KeepsNobody }
+{
+    match door.leave(row, hand, member) {
+        Ok(pass) => Some(pass),
+        Err(_) => None,
+    }
+}
+
+/// Somebody comes with a pass: the newcomer's caller, and how many calls it had begun.
+fn come(
+    alloc: Global,
+    row: &Row<Scripts>,
+    door: &Door<Scripts>,
+    hand: &mut Hand,
+    pass: Pass,
+) -> Option<(Caller<Scripts>, u32)>
+    requires row { row_of_door door.now ≡ row.now }
+    requires hand { IsHandOf door.now hand.old }
+    requires pass { IsRowPass row.now pass }
+    requires nobody { KeepsNobody pass }
+{
+    let Ok(member) = door.come(row, hand, pass) else {
+        return None;
+    };
+    let made = member.made();
+    match Caller::new(alloc, row, member) {
+        Ok(caller) => Some((caller, made)),
+        Err(_) => None,
+    }
+}
+
+/// How many calls a newcomer's caller had begun.
+fn newcomer(
+    alloc: Global,
+    row: &Row<Scripts>,
+    door: &Door<Scripts>,
+    mut hand: Hand,
+    pass: Pass,
+) -> Option<u32>
     requires row { row_of_door door.now ≡ row.now }
     requires hand { IsHandOf door.now hand }
     requires pass { IsRowPass row.now pass }
     requires nobody { KeepsNobody pass }
 {
-    match door.come(row, &mut hand, pass) {
-        Ok(member) => Some((member.number(), member.made())),
-        Err(_) => None,
+    match come(alloc, row, door, &mut hand, pass) {
+        Some((_caller, made)) => Some(made),
+        None => None,
     }
 }
 
-/// The member leaves, and comes in in another thread: its number, and how many calls it has made.
+/// The member leaves, and comes in again in another thread: how many calls it had begun.
 fn go_through<R: Threads + Sync>(
     rt: &R,
+    alloc: Global,
     row: &Row<Scripts>,
     door: &Door<Scripts>,
     mut hand: Hand,
     member: Member,
-) -> Option<(u32, u32)>
+) -> Option<u32>
     requires row { row_of_door door.now ≡ row.now }
     requires hand { IsHandOf door.now hand }
     requires member { IsRowMember row.now member }
@@ -62,20 +109,18 @@ fn go_through<R: Threads + Sync>(
     requires idle { HasNoCall member }
 {
     let theirs = door.split(&mut hand);
-    let Ok(pass) = door.leave(row, &mut hand, member) else {
-        return None;
-    };
-    let (_, came) = join(
+    let pass = leave(row, door, &mut hand, member)?;
+    let (_, made) = join(
         rt,
         || -> u32 { row.limit() },
-        || -> Option<(u32, u32)>
+        || -> Option<u32>
             requires row { row_of_door door.now ≡ row.now }
             requires hand { IsHandOf door.now theirs }
             requires pass { IsRowPass row.now pass }
             requires nobody { KeepsNobody pass }
-        { come(row, door, theirs, pass) },
+        { newcomer(alloc, row, door, theirs, pass) },
     );
-    came
+    made
 }
 
 #[test]
@@ -83,6 +128,6 @@ fn a_member_goes_through_a_door(rt: HostRuntime) -> Result<(), AllocError> {
     let alloc = rt.alloc();
     let (row, member) = enrolled(alloc)?;
     let (door, hand) = Door::new(alloc, &row, 0)?;
-    assert_eq!(rt; go_through(&rt, &row, &door, hand, member), Some((0, 0)));
+    assert_eq!(rt; go_through(&rt, alloc, &row, &door, hand, member), Some(0));
     Ok(())
 }
