@@ -2,6 +2,7 @@
 use Rattle.std.proofs.Common.{◌≡◌, ℕ, zero, suc, ◌≤◌, List, refl, sym, ◌∙◌, arith, length, get_or, replicate, drop, [], ◌∷◌, ◌++◌, lit<, Bool, true, false, nat_le, if◌then◌else◌}
 use Rattle.std.proofs.lemmas.Bool.Decides.{nat_tests}
 use Rattle.of_cell.specs.Words.{pack, seq_of, payload_of}
+use Rattle.of_cell.specs.Cells.{log_room}
 use Rattle.of_cell.proofs.Order.{seq_zero}
 use Rattle.of_mem.proofs.Lists.{zero_at}
 use Rattle.of_recover.specs.Recovered.{recovered_words}
@@ -41,7 +42,7 @@ lawful xs l e =
     sound.lawful_from left xs (sound.keeps_length (replicate 81 0) store_3_7 refl) l (same ∙ sym e) (sound.leads (replicate 81 0) store_3_7 refl zeros)
 
 pub starts_at_zero : (limit : ℕ) → MayStartFrom alone limit (stored_row 0 0)
-unfolding recovered_words pack seq_of payload_of
+unfolding recovered_words pack seq_of payload_of log_room
 starts_at_zero limit = record {
   long = refl;
   recovered = refl;

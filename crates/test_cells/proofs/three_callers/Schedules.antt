@@ -1,6 +1,7 @@
 -- The worked schedules of three callers, computed by the definitions.
 use Rattle.std.proofs.Common.{◌≡◌, ℕ, zero, suc, ◌<◌, List, [], ◌∷◌, ◌++◌, length, take, replicate, refl, arith}
 use Rattle.of_cell.specs.Words.{pack, seq_of, payload_of}
+use Rattle.of_cell.specs.Cells.{log_room}
 use Rattle.of_mem.specs.Meaning.{is_marked}
 use Rattle.of_core.specs.Table.{Setup}
 use Rattle.of_core.specs.Steps.{want, take_word}
@@ -35,7 +36,7 @@ abbrev store_begun : Moment
 store_begun = after_events three at_zeros (Begins 0 (7 ∷ []) ∷ [])
 
 in_turn_may : IsSchedule three at_zeros in_turn
-unfolding want take_word step_batches step_reads pack seq_of payload_of is_marked first_cells first_words
+unfolding want take_word step_batches step_reads pack seq_of payload_of is_marked first_cells first_words log_room
 in_turn_may =
     one_after three at_zeros (Begins 2 (0 ∷ 0 ∷ []) ∷ replicate 3 (Turns 2)) (whole_store 0 7 ++ (whole_store 1 8 ++ replicate 5 (Turns 2)))
     ((omega arith, refl, omega arith, omega arith, omega arith), turns_may three 2 (omega arith) 3 (after_event three at_zeros (Begins 2 (0 ∷ 0 ∷ []))))
@@ -46,7 +47,7 @@ in_turn_may =
     (turns_may three 2 (omega arith) 5 (after_events three first_stored (whole_store 1 8)))))
 
 overlapping_may : IsSchedule three at_zeros overlapping
-unfolding want take_word step_batches step_reads pack seq_of payload_of is_marked first_cells first_words
+unfolding want take_word step_batches step_reads pack seq_of payload_of is_marked first_cells first_words log_room
 overlapping_may =
     one_after three at_zeros (Begins 0 (7 ∷ []) ∷ []) (whole_store 1 8 ++ replicate 52 (Turns 0))
     ((omega arith, refl, omega arith, omega arith, omega arith), tt)
@@ -55,14 +56,14 @@ overlapping_may =
     (turns_may three 0 (omega arith) 52 (after_events three store_begun (whole_store 1 8))))
 
 ends_first : CallEndsBefore three at_zeros in_turn 0 0 1 0
-unfolding want take_word step_batches step_reads pack seq_of payload_of is_marked first_cells first_words
+unfolding want take_word step_batches step_reads pack seq_of payload_of is_marked first_cells first_words log_room
 ends_first =
     let one : length (outcomes three at_zeros (take 57 in_turn) 0) ≡ 1 = refl in
     let none : length (operations_begun (take 57 in_turn) 1) ≡ 0 = refl in
     (57, omega (arith, one), omega (arith, none))
 
 pub by_time : IsOrderedByTime
-unfolding want take_word step_batches step_reads pack seq_of payload_of is_marked first_cells first_words
+unfolding want take_word step_batches step_reads pack seq_of payload_of is_marked first_cells first_words log_room
 by_time = record {
   schedule = in_turn_may;
   ends_first = ends_first;
@@ -72,7 +73,7 @@ by_time = record {
 }
 
 pub otherwise : IsOrderedOtherwise
-unfolding want take_word step_batches step_reads pack seq_of payload_of is_marked first_cells first_words
+unfolding want take_word step_batches step_reads pack seq_of payload_of is_marked first_cells first_words log_room
 otherwise = record {
   schedule = overlapping_may;
   begins_first = (refl, refl);
