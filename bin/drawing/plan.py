@@ -1,6 +1,12 @@
 """A plan's text: its scripts, its schedule, and the plan that is cut after some of its events."""
 
 
+def shown(text):
+    """The text with an escape, such as `\\x1b`, for each byte or character that has no sign."""
+    text = text.encode(errors="surrogateescape").decode(errors="backslashreplace")
+    return "".join(it if it.isprintable() else it.encode("unicode_escape").decode() for it in text)
+
+
 class Plan:
     """What a plan says. Its text must be one that the program takes for a plan."""
 
@@ -9,7 +15,7 @@ class Plan:
         for line in text.split("\n"):
             words = line.replace(";", " ; ").split()
             if not words or words[0].startswith("#"):
-                self.title = self.title or line.strip().lstrip("# ")
+                self.title = self.title or shown(line.strip().lstrip("# "))
             elif words[0] == "turns":
                 self.schedule.append(("turns", int(words[1]), int(words[2])))
             elif words[0] == "evict":
