@@ -39,18 +39,47 @@ fn end_rule(rule: EndRule) -> (u32, &'static str) {
     }
 }
 
-// The rule that a line breaks which is not the expected one.
-fn line_rule(wanted: &[u8]) -> &'static str {
-    if wanted.starts_with(b"entry".as_slice()) {
-        return "the report breaks rule 4: another reply than the script gives";
-    }
-    if wanted.starts_with(b"register".as_slice())
-        || wanted.starts_with(b"key".as_slice())
-        || wanted.starts_with(b"queue".as_slice())
-    {
+// Whether a line is one of a store.
+fn is_of_store(line: &[u8]) -> bool {
+    line.starts_with(b"register".as_slice())
+        || line.starts_with(b"key".as_slice())
+        || line.starts_with(b"queue".as_slice())
+}
+
+// The rule that a line breaks which is not the expected one: they differ in the word before which
+// so many words come.
+fn line_rule(found: &[u8], wanted: &[u8], before: usize) -> &'static str {
+    if is_of_store(found) || is_of_store(wanted) {
         return "the report breaks rule 5: another store than the scripts leave";
     }
+    if wanted.starts_with(b"entry".as_slice()) && before == 3 {
+        return "the report breaks rule 1: it is another script's turn";
+    }
+    if wanted.starts_with(b"entry".as_slice()) && before > 4 {
+        return "the report breaks rule 4: another reply than the script gives";
+    }
+    if wanted.starts_with(b"caller".as_slice()) && before == 4 {
+        return "the report breaks rule 2: another number of entries than the caller has";
+    }
+    if wanted.starts_with(b"seq".as_slice()) && before == 1 {
+        return "the report breaks rule 3: another sequence than that of the last entry";
+    }
     "not as a report prints it"
+}
+
+// The reason that is given of a line which is not the expected one; the first word in which they
+// differ begins here.
+fn line_reason(found: &[u8], wanted: &[u8], start: usize) -> &'static str
+    requires { start ≤ length found.now }
+{
+    if found == wanted {
+        return "one newline comes after the last line, and nothing after that";
+    }
+    if found.get(start) == Some(&b' ') {
+        return "not as a report prints it";
+    }
+    let before = found[..start].iter().filter(|byte| **byte == b' ').count();
+    line_rule(found, wanted, before)
 }
 
 // How many bytes two lines begin with that are the same.
@@ -120,7 +149,8 @@ fn print_line(
         word_start(found, at)
     };
     let end = word_end(found, start);
-    let mut out = point_out(alloc, number, found, start, end, line_rule(wanted))?;
+    let reason = line_reason(found, wanted, start);
+    let mut out = point_out(alloc, number, found, start, end, reason)?;
     let end = word_end(wanted, start);
     let expected = point_out(alloc, number, wanted, start, end, "expected")?;
     out.extend_from_slice(expected.as_slice())?;
