@@ -1,36 +1,31 @@
 -- How much room a log has.
-use Rattle.std.proofs.Common.{◌≡◌, ℕ, ◌+◌, ◌*◌, ◌<◌, ◌≤◌, ◌⊎◌, inl, inr, Bool, true, false, refl, nat_le, if◌then◌else◌, arith}
-use Rattle.std.proofs.lemmas.Bool.{cases_eq}
-use Rattle.std.proofs.lemmas.Bool.Decides.{nat_tests}
+use Rattle.std.proofs.Common.{◌≡◌, ℕ, ◌+◌, ◌*◌, ◌<◌, ◌≤◌, min, ◌⊎◌, inl, inr, arith}
+use Rattle.std.proofs.Math.Nat.{min-le_left, min-le_right, min-eq_left, min-eq_right}
+use Rattle.std.proofs.lemmas.Bool.{cases_lt}
 use Rattle.of_cell.specs.Cells.{log_room, durable_cells}
 
 -- no more than there are data cells
 pub room_upto : (n m : ℕ) → log_room n m ≤ m
 unfolding log_room
-room_upto n m = grind (arith, nat_tests)
+room_upto n m = min-le_left m (4096 + n * 256)
 
 pub room_few : (n m : ℕ) → log_room n m ≤ 4096 + n * 256
 unfolding log_room
-room_few n m = grind (arith, nat_tests)
+room_few n m = min-le_right m (4096 + n * 256)
 
 -- a log of a small table has room for each data cell
 pub room_whole : (n m : ℕ) → m ≤ 4096 → log_room n m ≡ m
 unfolding log_room
-room_whole n m l = grind (arith, nat_tests)
+room_whole n m l = min-eq_left (omega (arith, l))
 
--- what all callers' logs may write has room
-pub room_batch : (n m : ℕ) → m ≤ 4096 + n * 256 → log_room n m ≡ m
-unfolding log_room
-room_batch n m l = grind (arith, nat_tests)
-
--- there is room for each data cell, or each caller has its share
+-- there is room for each data cell, or for the shares of all callers
 pub room_share : (n m : ℕ) → (log_room n m ≡ m) ⊎ (4096 + n * 256 ≤ log_room n m)
 unfolding log_room
-room_share n m = go (nat_le m (4096 + n * 256))
+room_share n m = go (cases_lt (4096 + n * 256) m)
   where
-    go : (b : Bool) → ((if b then m else 4096 + n * 256) ≡ m) ⊎ (4096 + n * 256 ≤ (if b then m else 4096 + n * 256))
-    go true = inl refl
-    go false = inr (omega arith)
+    go : (4096 + n * 256 < m) ⊎ (m ≤ 4096 + n * 256) → (min m (4096 + n * 256) ≡ m) ⊎ (4096 + n * 256 ≤ min m (4096 + n * 256))
+    go (inl l) = inr (omega (arith, min-eq_right {n = 4096 + n * 256} {m = m} (omega (arith, l))))
+    go (inr l) = inl (min-eq_left l)
 
 few_rows : (n k : ℕ) → n ≤ 16 → n * k ≤ 16 * k
 few_rows n k l = grind arith

@@ -1,8 +1,8 @@
 -- The cells of a shape and the words of its shared table, by their numbers, and the step bound of a
 -- call. A shape is three numbers: of callers, of script words a caller has room for, and of data
 -- cells.
-use Rattle.std.specs.Prelude.{ℕ, ◌+◌, ◌*◌, ◌≤◌, nat_le, if◌then◌else◌}
-use Rattle.of_cell.specs.declared.shape.TheConstants.{MOST_CALLERS, MOST_SCRIPT_WORDS, MOST_DATA_CELLS, LEAST_LOG, LOG_OF_EACH}
+use Rattle.std.specs.Prelude.{ℕ, ◌+◌, ◌*◌, ◌≤◌, min}
+use Rattle.of_cell.specs.declared.shape.TheConstants.{MOST_CALLERS, MOST_SCRIPT_WORDS, MOST_DATA_CELLS, FEW_DATA_CELLS, LOG_SHARE}
 
 -- the ranges of a shape
 pub record IsShape (callers instrs cells : ℕ) : Type 0 where
@@ -21,12 +21,10 @@ request_cell caller = caller + 1
 abbrev pub data_cell : (callers addr : ℕ) → ℕ
 data_cell callers addr = callers + 1 + addr
 
--- the most entries of a log: as many as there are data cells, but no more than a batch can write, for
--- which each caller has a share
+-- the most entries of a log: as many as there are data cells, up to FEW_DATA_CELLS and LOG_SHARE
+-- for each caller
 unfoldable pub log_room : (callers cells : ℕ) → ℕ
-log_room callers cells =
-    if nat_le cells (LEAST_LOG + callers * LOG_OF_EACH) then cells
-    else LEAST_LOG + callers * LOG_OF_EACH
+log_room callers cells = min cells (FEW_DATA_CELLS + callers * LOG_SHARE)
 
 -- word x of a caller's log: the number of its entries, and then address and value of each
 abbrev pub log_cell : (callers cells caller x : ℕ) → ℕ

@@ -5,7 +5,7 @@ ghost use Rattle.std.specs.Prelude.{◌≡◌, ℕ, ◌^◌, ◌<◌, ◌≤◌,
 ghost use Rattle.of_cell.specs.Words.{pack, seq_of, payload_of, IsEarlier};
 ghost use Rattle.of_cell.specs.Cells.{log_room, durable_cells, table_words, step_bound};
 ghost use Rattle.of_cell.specs.Named.{CellsDiffer, CellsBelow, WordPlacesDiffer, PlacesBelow};
-ghost use Rattle.of_cell.specs.declared.shape.TheConstants.{LEAST_LOG, LOG_OF_EACH};
+ghost use Rattle.of_cell.specs.declared.shape.TheConstants.{MOST_DATA_CELLS, MOST_CELLS, FEW_DATA_CELLS, LOG_SHARE};
 
 use crate::Shape;
 
@@ -28,14 +28,28 @@ pub fn places_differ(shape: &Shape)
     ensures below { PlacesBelow shape.now.callers shape.now.instrs shape.now.cells }
 {}
 
-/// How much room a log has: no more than there are data cells, and one for each of a small table.
+/// How much room a log has: at most for each data cell, and in a small table for each. In any table
+/// it has room for each data cell or for the shares of all callers.
 #[tactic(auto, unfolding(crate::specs::Cells::log_room))]
 pub fn log_rooms()
     ensures most { (n m : ℕ) → log_room n m ≤ m }
-    ensures few { (n m : ℕ) → log_room n m ≤ LEAST_LOG + n * LOG_OF_EACH }
-    ensures whole { (n m : ℕ) → m ≤ LEAST_LOG → log_room n m ≡ m }
-    // each caller has a share of the room, unless there is room for each cell
-    ensures share { (n m : ℕ) → m ≤ log_room n m ⊎ LEAST_LOG + n * LOG_OF_EACH ≤ log_room n m }
+    ensures few { (n m : ℕ) → log_room n m ≤ FEW_DATA_CELLS + n * LOG_SHARE }
+    ensures whole { (n m : ℕ) → m ≤ FEW_DATA_CELLS → log_room n m ≡ m }
+    ensures share { (n m : ℕ) → m ≤ log_room n m ⊎ FEW_DATA_CELLS + n * LOG_SHARE ≤ log_room n m }
+{}
+
+/// The greatest numbers of data cells and of cells, and what a log's room is made of. At the
+/// smallest table whose logs lack room for a data cell, the room is one less.
+#[tactic(auto, unfolding(crate::specs::Cells::log_room))]
+pub fn limits()
+    ensures data_cells { MOST_DATA_CELLS ≡ 134217728 }
+    ensures cells { MOST_CELLS ≡ 134479905 }
+    ensures reached { durable_cells 16 MOST_DATA_CELLS ≡ MOST_CELLS }
+    ensures few { FEW_DATA_CELLS ≡ 4096 }
+    ensures share { LOG_SHARE ≡ 256 }
+    ensures whole { log_room 16 1887 ≡ 1887 }
+    ensures cut { log_room 1 4353 ≡ 4352 }
+    ensures greatest { log_room 16 MOST_DATA_CELLS ≡ 8192 }
 {}
 
 /// The numbers for sixteen callers with scripts of sixteen and 512 blocks, which make 1887 data

@@ -11,7 +11,7 @@ use Rattle.of_mem.specs.CellMap.{value_for}
 use Rattle.of_mem.specs.Part.{overlaid}
 use Rattle.of_core.specs.declared.place.Place.{Place}
 use Rattle.of_core.specs.declared.place.Place.TheVariants.{RaiseLog, TryCurrent, TryRequest, TryCell, LoadCurrent, CopyLog, LookAgain, LoadAnnouncement, LoadTicket, LoadScript, LoadCell, RaiseClosed}
-use Rattle.of_core.specs.Table.{log_entries, Setup, setup_of, first_operation_cell, ticket_cell, data_word}
+use Rattle.of_core.specs.Table.{most_entries, Setup, setup_of, first_operation_cell, ticket_cell, data_word}
 use Rattle.of_core.specs.Machine.{CallState, no_call, log_words, with_cell_known}
 use Rattle.of_core.specs.Steps.{want, want_at, with_log_word_copied, IsFoundBy}
 use Rattle.of_core.specs.History.{state_after, batch_at, numbers_after}
@@ -80,11 +80,11 @@ module _ (S : Setup) (Lawful : List ℕ → Type 0) (m : CallState) (found : ℕ
   closed_words q e = mode_words m.helps e (place_at RaiseClosed q).applies.mode
 
   -- the log that is helped with
-  pub copy_count : (x : ℕ) → m.place ≡ CopyLog x → get_or (with_log_word_copied m found) 0 0 ≤ log_entries S
+  pub copy_count : (x : ℕ) → m.place ≡ CopyLog x → get_or (with_log_word_copied m found) 0 0 ≤ most_entries S
   copy_count x q = rw (found_at (CopyLog x) q) (copied_count h.good.core h.in_range m x (place_at (CopyLog x) q).copies)
 
   -- the log that is stored has room
-  pub store_few : (x : ℕ) → m.place ≡ RaiseLog x → length m.log ≤ log_entries S
+  pub store_few : (x : ℕ) → m.place ≡ RaiseLog x → length m.log ≤ most_entries S
   store_few x q = (place_at (RaiseLog x) q).storing.stored.over.over.is_log.few
 
   pub look_log : m.place ≡ LookAgain → found ≡ pack m.seq 0 → (es : List (ℕ × ℕ)) × (m.copy ≡ log_words es) × IsLog S es

@@ -8,7 +8,7 @@ use Rattle.of_cell.specs.Words.{pack, seq_of, payload_of}
 use Rattle.of_cell.proofs.Order.{seq_word, pay_word}
 use Rattle.of_cell.proofs.Places.{row_within}
 use Rattle.of_core.specs.declared.place.Place.TheVariants.{StoreScript, StoreAnnouncement}
-use Rattle.of_core.specs.Table.{log_entries, Setup, cell_count, durable_at, request_at, log_at, script_word_at, script_words_of, script_word, announcement_of, current_word, request_of, data_word, log_word_of, durable_word, committed_seq}
+use Rattle.of_core.specs.Table.{most_entries, Setup, cell_count, durable_at, request_at, log_at, script_word_at, script_words_of, script_word, announcement_of, current_word, request_of, data_word, log_word_of, durable_word, committed_seq}
 use Rattle.of_core.specs.Machine.{CallState, Call}
 use Rattle.of_core.specs.Steps.{after_store_script, take_word_at}
 use Rattle.of_core.specs.TableMoment.{Read, Moment, TableStart, after_counted_step}
@@ -58,7 +58,7 @@ module _ {S : Setup} {Lawful : List ℕ → Type 0} {B : TableStart} {w : Moment
     dur_same : (c : ℕ) → c < cell_count S → durable_word S vs c ≡ durable_word S w.words c
     dur_same c l = below (durable_at S c) (omega arith)
 
-    log_same : (j y : ℕ) → j < S.callers → y < 2 * log_entries S + 1 → log_word_of S vs j y ≡ log_word_of S w.words j y
+    log_same : (j y : ℕ) → j < S.callers → y < 2 * most_entries S + 1 → log_word_of S vs j y ≡ log_word_of S w.words j y
     log_same j y l u = below (log_at S j y) (omega (arith, log_in S j y l u))
 
     touches : ((j : ℕ) → j < S.callers → (announcement_of S vs j ≡ announcement_of S w.words j) ⊎ ((j ≡ i) × ((k : ℕ) → B.seq < k → k ≤ committed_seq w.words → (batch_at B w.batches k).announcements j ≡ announcement_of S vs j → ⊥))) → Touches S B i w.words vs w.batches

@@ -3,7 +3,7 @@ use Rattle.std.proofs.Common.{◌≡◌, ℕ, ◌+◌, ◌*◌, ◌<◌, ◌≤�
 use Rattle.std.proofs.lemmas.List.{get_or-set_other}
 use Rattle.of_cell.specs.Words.{seq_of}
 use Rattle.of_cell.proofs.Places.{row_within}
-use Rattle.of_core.specs.Table.{log_entries, Setup, words_before_members, durable_at, log_at, script_word_at, current_word, request_of, data_word, log_word_of, script_word}
+use Rattle.of_core.specs.Table.{most_entries, Setup, words_before_members, durable_at, log_at, script_word_at, current_word, request_of, data_word, log_word_of, script_word}
 use Rattle.of_core.specs.TableMoment.{Moment, TableStart}
 use Rattle.of_core.specs.WordsMatch.{WordsMatchHistory, IsLastOpen, DataCellsMatchState, DurableWordsMatch, IsRequest}
 use Rattle.of_core.specs.Invariant.{MeetsInvariant, IsLoaded}
@@ -27,7 +27,7 @@ module _ (S : Setup) (Lawful : List ℕ → Type 0) (B : TableStart) (w : Moment
   cell_same : (a : ℕ) → a < S.cells → data_word S vs a ≡ data_word S w.words a
   cell_same a l = below (S.callers + 1 + a) (omega arith)
 
-  log_same : (j y : ℕ) → j < S.callers → y < 2 * log_entries S + 1 → log_word_of S vs j y ≡ log_word_of S w.words j y
+  log_same : (j y : ℕ) → j < S.callers → y < 2 * most_entries S + 1 → log_word_of S vs j y ≡ log_word_of S w.words j y
   log_same j y l u = below (log_at S j y) (omega (arith, log_in S j y l u))
 
   script_same : (j y : ℕ) → j < S.callers → y < S.instrs + 1 → script_word S vs j y ≡ script_word S w.words j y

@@ -8,7 +8,7 @@ use Rattle.of_cell.specs.Words.{pack, seq_of, payload_of}
 use Rattle.of_cell.proofs.Order.{seq_mono, seq_less, seq_word, pay_word, word_eta}
 use Rattle.of_mem.specs.Meaning.{IsSoundMeaning}
 use Rattle.of_core.specs.declared.place.Place.TheVariants.{ExchangeCurrent}
-use Rattle.of_core.specs.Table.{log_entries, Setup, script_word_at, cell_count, durable_at, request_at, data_at, first_operation_cell, log_at, ticket_cell, announcement_of, script_word, current_word, request_of, data_word, log_word_of, durable_word, durable_request, durable_cell, durable_log, committed_seq, committed_owner, durable_seq}
+use Rattle.of_core.specs.Table.{most_entries, Setup, script_word_at, cell_count, durable_at, request_at, data_at, first_operation_cell, log_at, ticket_cell, announcement_of, script_word, current_word, request_of, data_word, log_word_of, durable_word, durable_request, durable_cell, durable_log, committed_seq, committed_owner, durable_seq}
 use Rattle.of_core.specs.Machine.{CallState, Call, log_words, no_call}
 use Rattle.of_core.specs.Steps.{after_commit_exchange, next_round}
 use Rattle.of_core.specs.TableMoment.{Read, Moment, Batch, TableStart, after_counted_step, one_batch}
@@ -41,7 +41,7 @@ module _ {S : Setup} {Lawful : List ℕ → Type 0} {B : TableStart} where
         round : IsInRound S B w.words w.batches i m
         round = st.past.looks.round
 
-        log_old : (y : ℕ) → y < 2 * log_entries S + 1 → (y < length (log_words m.log)) ⊎ (length (log_words m.log) ≤ y) → seq_of (log_word_of S w.words i y) ≤ m.seq + 1
+        log_old : (y : ℕ) → y < 2 * most_entries S + 1 → (y < length (log_words m.log)) ⊎ (length (log_words m.log) ≤ y) → seq_of (log_word_of S w.words i y) ≤ m.seq + 1
         log_old y u (inl l) = omega (arith, ap seq_of (st.each y l), seq_word (m.seq + 1) (get_or (log_words m.log) y 0) (small_words m.log g.shared.little st.over.over.is_log y))
         log_old y u (inr l) = omega (arith, st.rest y l u)
 
@@ -239,7 +239,7 @@ module _ {S : Setup} {Lawful : List ℕ → Type 0} {B : TableStart} where
               changes = λ x l. inl (elsewhere (S.callers + 1 + x) (omega (arith, is_last, longer)));
             }
               where
-                newer_logs : (k x : ℕ) → committed_seq w.words < k → x < 2 * log_entries S + 1 → (k ≤ committed_seq w.words) ⊎ (k ≡ m.seq + 1) → seq_of (log_word_of S vs i x) ≤ k
+                newer_logs : (k x : ℕ) → committed_seq w.words < k → x < 2 * most_entries S + 1 → (k ≤ committed_seq w.words) ⊎ (k ≡ m.seq + 1) → seq_of (log_word_of S vs i x) ≤ k
                 newer_logs k x l v (inl u) = absurd (omega arith)
                 newer_logs k x l v (inr u) = rw (elsewhere (log_at S i x) (omega arith), u) (log_old x v (cases_lt x (length (log_words m.log))))
 
@@ -332,7 +332,7 @@ module _ {S : Setup} {Lawful : List ℕ → Type 0} {B : TableStart} where
                     let j_in : j < S.callers = rw (← o') (g.shared.counted.owners k l u) in
                     let lx' : x < length (log_words (batch_at B w.batches k).log) = subst (λ (c : Batch). x < length (log_words c.log)) e lx in
                     let z' : get_or (log_words (batch_at B w.batches k).log) x 0 ≡ v = subst (λ (c : Batch). get_or (log_words c.log) x 0 ≡ v) e z in
-                    let x_in : x < 2 * log_entries S + 1 = omega (arith, length-log_words (batch_at B w.batches k).log, (g.shared.counted.logs k l u).few) in
+                    let x_in : x < 2 * most_entries S + 1 = omega (arith, length-log_words (batch_at B w.batches k).log, (g.shared.counted.logs k l u).few) in
                     let p = g.shared.durable.logs k l u j o' (sym (dur_same (request_at j) (omega arith)) ∙ q) x v lx' z' in
                     (elsewhere (log_at S j x) (omega arith) ∙ p.0, dur_same (log_at S j x) (log_in S j x j_in x_in) ∙ p.1)
                 logs k l j o q x v lx z (inr u) =
@@ -340,7 +340,7 @@ module _ {S : Setup} {Lawful : List ℕ → Type 0} {B : TableStart} where
                     let o' : i ≡ j = sym ci ∙ sym (ap (λ (c : Batch). c.owner) e) ∙ o in
                     let lx' : x < length (log_words m.log) = subst (λ (c : Batch). x < length (log_words c.log)) e lx in
                     let z' : get_or (log_words m.log) x 0 ≡ v = subst (λ (c : Batch). get_or (log_words c.log) x 0 ≡ v) e z in
-                    let x_in : x < 2 * log_entries S + 1 = omega (arith, length-log_words m.log, st.over.over.is_log.few) in
+                    let x_in : x < 2 * most_entries S + 1 = omega (arith, length-log_words m.log, st.over.over.is_log.few) in
                     let r : pack (m.seq + 1) (get_or (log_words m.log) x 0) ≡ pack k v = ap (pack (m.seq + 1)) z' ∙ ap (λ (n : ℕ). pack n v) (sym u) in
                     subst (λ (p : ℕ). (log_word_of S vs p x ≡ pack k v) × (durable_log S vs p x ≡ pack k v)) o'
                     (elsewhere (log_at S i x) (omega arith) ∙ st.each x lx' ∙ r, dur_same (log_at S i x) (log_in S i x h x_in) ∙ st.durable x lx' ∙ r)
@@ -439,14 +439,14 @@ module _ {S : Setup} {Lawful : List ℕ → Type 0} {B : TableStart} where
                 stored_word : (x v : ℕ) → x < length (log_words m.log) → v ≡ pack (m.seq + 1) (get_or (log_words m.log) x 0) → (x < length (log_words m.log)) × (payload_of v ≡ get_or (log_words m.log) x 0)
                 stored_word x v l e = (l, ap payload_of e ∙ pay_word (m.seq + 1) (get_or (log_words m.log) x 0) (small_words m.log g.shared.little is_log x))
 
-                table : (x : ℕ) {v : ℕ} → x < 2 * log_entries S + 1 → v ≡ log_word_of S w.words i x → seq_of v ≡ m.seq + 1 → (x < length (log_words m.log)) × (payload_of v ≡ get_or (log_words m.log) x 0)
+                table : (x : ℕ) {v : ℕ} → x < 2 * most_entries S + 1 → v ≡ log_word_of S w.words i x → seq_of v ≡ m.seq + 1 → (x < length (log_words m.log)) × (payload_of v ≡ get_or (log_words m.log) x 0)
                 table x {v} u e q = pick (cases_lt x (length (log_words m.log)))
                   where
                     pick : (x < length (log_words m.log)) ⊎ (length (log_words m.log) ≤ x) → (x < length (log_words m.log)) × (payload_of v ≡ get_or (log_words m.log) x 0)
                     pick (inl l) = stored_word x v l (e ∙ st.each x l)
                     pick (inr l) = absurd (omega (arith, q, ap seq_of e, st.rest x l u))
 
-                durably : (x : ℕ) {v : ℕ} → x < 2 * log_entries S + 1 → v ≡ durable_log S w.words i x → seq_of v ≡ m.seq + 1 → (x < length (log_words m.log)) × (payload_of v ≡ get_or (log_words m.log) x 0)
+                durably : (x : ℕ) {v : ℕ} → x < 2 * most_entries S + 1 → v ≡ durable_log S w.words i x → seq_of v ≡ m.seq + 1 → (x < length (log_words m.log)) × (payload_of v ≡ get_or (log_words m.log) x 0)
                 durably x {v} u e q = pick (cases_lt x (length (log_words m.log)))
                   where
                     pick : (x < length (log_words m.log)) ⊎ (length (log_words m.log) ≤ x) → (x < length (log_words m.log)) × (payload_of v ≡ get_or (log_words m.log) x 0)

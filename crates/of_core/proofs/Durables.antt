@@ -7,7 +7,7 @@ use Rattle.of_cell.specs.Words.{pack, seq_of, payload_of}
 use Rattle.of_cell.proofs.Order.{word_eta, word_later, seq_less, seq_mono, word_next}
 use Rattle.of_core.specs.declared.place.Place.{Place}
 use Rattle.of_core.specs.declared.place.Place.TheVariants.{Idle, TryCurrent, TryRequest, TryCell, StoreScript, StoreAnnouncement, LoadCurrent, LoadRequest, CopyLog, LookAgain, LoadOwnTicket, LoadShape, LoadReply, LoadAnnouncement, LoadTicket, LoadScript, LoadCell, RaiseOld, StoreLog, RaiseLog, StoreRequest, RaiseRequest, ExchangeCurrent, RaiseCurrent, LoadTarget, ExchangeTarget, ReloadTarget, RaiseTarget, CloseRequest, RaiseClosed}
-use Rattle.of_core.specs.Table.{log_entries, Setup, cell_count, durable_at, script_word_at, request_at, data_at, log_at, request_of, data_word, durable_word, durable_request, durable_cell, committed_seq, committed_owner, durable_seq}
+use Rattle.of_core.specs.Table.{most_entries, Setup, cell_count, durable_at, script_word_at, request_at, data_at, log_at, request_of, data_word, durable_word, durable_request, durable_cell, committed_seq, committed_owner, durable_seq}
 use Rattle.of_core.specs.Machine.{CallState, log_entry, no_machine}
 use Rattle.of_core.specs.Steps.{want, want_at, word_of, words_after, IsFoundBy}
 use Rattle.of_core.specs.TableMoment.{Moment, TableStart, after_step}
@@ -247,7 +247,7 @@ module _ (S : Setup) (Lawful : List ℕ → Type 0) (B : TableStart) (w : Moment
     durables (RaiseLog x) a c l =
         let st = a.storing.stored in
         let ci : m.caller ≡ i = st.past.looks.round.begun.caller in
-        let x_in : x < 2 * log_entries S + 1 = omega (arith, length-log_words m.log, st.over.over.is_log.few, a.more) in
+        let x_in : x < 2 * most_entries S + 1 = omega (arith, length-log_words m.log, st.over.over.is_log.few, a.more) in
         raised (log_at S m.caller x) _ c l (rw ci (log_in S i x h x_in)) (inr (rw ci (sym (st.each x (omega arith)))))
     durables RaiseRequest a c l =
         let ci : m.caller ≡ i = a.stored.past.looks.round.begun.caller in

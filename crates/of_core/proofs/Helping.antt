@@ -7,7 +7,7 @@ use Rattle.of_cell.specs.Words.{pack, payload_of}
 use Rattle.of_cell.proofs.Order.{pay_word}
 use Rattle.of_mem.specs.Meaning.{IsSoundMeaning}
 use Rattle.of_core.specs.declared.place.Place.TheVariants.{CopyLog, LookAgain}
-use Rattle.of_core.specs.Table.{log_entries, Setup, request_at, log_at, first_operation_cell, request_of, log_word_of, durable_request, committed_seq, committed_owner}
+use Rattle.of_core.specs.Table.{most_entries, Setup, request_at, log_at, first_operation_cell, request_of, log_word_of, durable_request, committed_seq, committed_owner}
 use Rattle.of_core.specs.Machine.{CallState, log_of, log_words}
 use Rattle.of_core.specs.Steps.{after_copy_log, after_look_again, with_log_word_copied, take_word_at}
 use Rattle.of_core.specs.TableMoment.{Moment, TableStart, after_counted_step}
@@ -52,13 +52,13 @@ module _ {S : Setup} {Lawful : List ℕ → Type 0} {B : TableStart} where
             subst (λ (k : ℕ). log_word_of S w.words n.owner x ≡ pack k (get_or (log_words (batch_at B w.batches k).log) x 0)) (sym e) (rw s (logged opened x (subst (λ (k : ℕ). x < length (log_words (batch_at B w.batches k).log)) e u)))
 
     -- the number of entries that was copied is at most that of the cells
-    pub copied_count : (n : CallState) (x : ℕ) → IsCopyingLog S B w.words w.batches i n x → get_or (with_log_word_copied n (log_word_of S w.words n.owner x)) 0 0 ≤ log_entries S
+    pub copied_count : (n : CallState) (x : ℕ) → IsCopyingLog S B w.words w.batches i n x → get_or (with_log_word_copied n (log_word_of S w.words n.owner x)) 0 0 ≤ most_entries S
     copied_count n x c = count_of (cases_eq x 0)
       where
         found : ℕ
         found = log_word_of S w.words n.owner x
 
-        count_of : (x ≡ 0) ⊎ (x ≡ 0 → ⊥) → get_or (with_log_word_copied n found) 0 0 ≤ log_entries S
+        count_of : (x ≡ 0) ⊎ (x ≡ 0 → ⊥) → get_or (with_log_word_copied n found) 0 0 ≤ most_entries S
         count_of (inl z) =
             let e : get_or (n.copy ++ payload_of found ∷ []) 0 0 ≡ payload_of found = get_or_push n.copy (payload_of found) 0 0 (c.many ∙ z) in
             let f : payload_of (log_word_of S w.words n.owner x) ≡ payload_of (log_word_of S w.words n.owner 0) = ap (λ (k : ℕ). payload_of (log_word_of S w.words n.owner k)) z in
@@ -84,7 +84,7 @@ module _ {S : Setup} {Lawful : List ℕ → Type 0} {B : TableStart} where
         longer : length (with_log_word_copied m found) ≡ x + 1
         longer = length-append m.copy (payload_of found ∷ []) ∙ rw c.many refl
 
-        count : get_or (with_log_word_copied m found) 0 0 ≤ log_entries S
+        count : get_or (with_log_word_copied m found) 0 0 ≤ most_entries S
         count = copied_count m x c
 
         log_is : IsLog S (batch_at B w.batches m.seq).log

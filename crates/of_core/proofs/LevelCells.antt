@@ -14,7 +14,7 @@ use Rattle.of_mem.specs.Meaning.{IsSoundMeaning}
 use Rattle.of_core.specs.declared.place.Place.{Place}
 use Rattle.of_core.specs.declared.place.Place.TheVariants.{StoreScript, StoreAnnouncement, RaiseOld, StoreLog, RaiseLog, StoreRequest, RaiseRequest, ExchangeCurrent, RaiseCurrent, ExchangeTarget, RaiseTarget, CloseRequest, RaiseClosed}
 use Rattle.of_core.specs.declared.place.Op.TheVariants.{Raise}
-use Rattle.of_core.specs.Table.{log_entries, Setup, first_operation_cell, cell_count, durable_at, script_word_at, request_at, data_at, log_at, request_of, data_word, log_word_of, durable_word, durable_cell, durable_log, current_word, committed_seq, committed_owner, durable_seq}
+use Rattle.of_core.specs.Table.{most_entries, Setup, first_operation_cell, cell_count, durable_at, script_word_at, request_at, data_at, log_at, request_of, data_word, log_word_of, durable_word, durable_cell, durable_log, current_word, committed_seq, committed_owner, durable_seq}
 use Rattle.of_core.specs.Machine.{CallState, log_entry, log_words, no_machine, begin_call}
 use Rattle.of_core.specs.Steps.{want, want_at, word_of, words_after, word_found, take_word, take_word_at, with_step_counted}
 use Rattle.of_core.specs.TableMoment.{Moment, TableStart}
@@ -120,7 +120,7 @@ module _ (S : Setup) (Lawful : List ℕ → Type 0) (B : TableStart) (w : Moment
 
   -- what the log words of a caller are: durable, but where it is about to raise one
   abbrev LevelLog : Place → Type 0
-  LevelLog p = (x : ℕ) → x < 2 * log_entries S + 1 → (durable_log S w.words i x ≡ log_word_of S w.words i x) ⊎ RaisesAt p x
+  LevelLog p = (x : ℕ) → x < 2 * most_entries S + 1 → (durable_log S w.words i x ≡ log_word_of S w.words i x) ⊎ RaisesAt p x
 
   cells : (p : Place) → HoldsAtPlace S B w.words w.batches i m p → LevelLog p → (c : ℕ) → c < cell_count S → Settles (words_after (want_at S m p) w.words) c
   cells (StoreScript x) a f c l = inl (elsewhere (script_word_at S m.caller x) _ c (λ e. omega (arith, e, l)))
@@ -158,7 +158,7 @@ module _ (S : Setup) (Lawful : List ℕ → Type 0) (B : TableStart) (w : Moment
 
   own_logs : (p : Place) → HoldsAtPlace S B w.words w.batches i m p → LevelLog p
       → ((c : ℕ) → c < cell_count S → (durable_word S (words_after (want_at S m p) w.words) c ≡ durable_word S w.words c) ⊎ (durable_word S (words_after (want_at S m p) w.words) c ≡ get_or w.words c 0))
-      → (n x : ℕ) → x < 2 * log_entries S + 1
+      → (n x : ℕ) → x < 2 * most_entries S + 1
       → (durable_log S (words_after (want_at S m p) w.words) i x ≡ log_word_of S (words_after (want_at S m p) w.words) i x) ⊎ RaisesAt (take_word_at S (with_step_counted p m) n p).place x
   own_logs (StoreScript y) a f d n x u = keeps_level _ x n (StoreScript y) (elsewhere (script_word_at S m.caller y) _ (log_at S i x) (λ e. omega (arith, e, log_in S i x h u))) (d (log_at S i x) (log_in S i x h u)) (f x u)
   own_logs StoreAnnouncement a f d n x u = keeps_level _ x n StoreAnnouncement (elsewhere (script_word_at S m.caller S.instrs) _ (log_at S i x) (λ e. omega (arith, e, log_in S i x h u))) (d (log_at S i x) (log_in S i x h u)) (f x u)
@@ -190,9 +190,9 @@ module _ (S : Setup) (Lawful : List ℕ → Type 0) (B : TableStart) (w : Moment
       same = elsewhere (durable_at S (log_at S m.caller y)) _ (log_at S i x) (λ e. omega (arith, e, log_in S i x h u))
 
       go : (x ≡ y) ⊎ (x ≡ y → ⊥) → (durable_log S w.words i x ≡ log_word_of S w.words i x) ⊎ (y ≡ x) → (durable_log S vs i x ≡ log_word_of S vs i x) ⊎ RaisesAt (take_word_at S (with_step_counted (RaiseLog y) m) n (RaiseLog y)).place x
-      go (inl e) f = inl (subst (λ (k : ℕ). durable_log S vs i k ≡ log_word_of S vs i k) (sym e) (here (subst (λ (k : ℕ). k < 2 * log_entries S + 1) e u)))
+      go (inl e) f = inl (subst (λ (k : ℕ). durable_log S vs i k ≡ log_word_of S vs i k) (sym e) (here (subst (λ (k : ℕ). k < 2 * most_entries S + 1) e u)))
         where
-          here : y < 2 * log_entries S + 1 → durable_log S vs i y ≡ log_word_of S vs i y
+          here : y < 2 * most_entries S + 1 → durable_log S vs i y ≡ log_word_of S vs i y
           here y_in =
               let spot : durable_at S (log_at S m.caller y) ≡ durable_at S (log_at S i y) = ap (λ (k : ℕ). durable_at S (log_at S k y)) ci in
               let value : pack (m.seq + 1) (get_or (log_words m.log) y 0) ≡ log_word_of S w.words i y = sym (a.storing.stored.each y (omega arith)) in
@@ -212,7 +212,7 @@ module _ (S : Setup) where
   -- What each moment has: log words are level with their durable words, except those that their
   -- caller is about to raise, and of what was loaded only a cell's present word may not be durable.
   pub record Level (w : Moment) : Type 0 where
-    pub logs : (j x : ℕ) → j < S.callers → x < 2 * log_entries S + 1 → (durable_log S w.words j x ≡ log_word_of S w.words j x) ⊎ RaisesAt (machine_in w j).place x
+    pub logs : (j x : ℕ) → j < S.callers → x < 2 * most_entries S + 1 → (durable_log S w.words j x ≡ log_word_of S w.words j x) ⊎ RaisesAt (machine_in w j).place x
     pub loaded : All (λ (e : ℕ × ℕ). (e.1 ≤ durable_word S w.words e.0) ⊎ (e.1 ≡ get_or w.words e.0 0)) w.loaded
 
   module _ (Lawful : List ℕ → Type 0) (sound : IsSoundMeaning S.meaning Lawful (first_operation_cell S) S.cells) (B : TableStart) where
@@ -225,7 +225,7 @@ module _ (S : Setup) where
           let own : get_or w.machines i m ≡ m = get_or_default w.machines i m no_machine (omega (arith, g.core.members, h)) in
           cells S Lawful B w g.core i m h m.place (g.core.each i m h own) (λ x u. v.logs i x h u) c l
 
-      own_turn : (i : ℕ) → i < S.callers → (x : ℕ) → x < 2 * log_entries S + 1
+      own_turn : (i : ℕ) → i < S.callers → (x : ℕ) → x < 2 * most_entries S + 1
           → (durable_log S (after_event S w (Turns i)).words i x ≡ log_word_of S (after_event S w (Turns i)).words i x) ⊎ RaisesAt (machine_in (after_event S w (Turns i)) i).place x
       unfolding want take_word
       own_turn i h x u =
@@ -254,7 +254,7 @@ module _ (S : Setup) where
           durs : (c : ℕ) → c < cell_count S → (durable_word S z.words c ≡ durable_word S w.words c) ⊎ (durable_word S z.words c ≡ get_or w.words c 0)
           durs c l = step_durables S Lawful B w g.core i m h own (word_found S w.words m) (found_now S w.words m) c l
 
-          logs : (j x : ℕ) → j < S.callers → x < 2 * log_entries S + 1 → (j ≡ i) ⊎ (j ≡ i → ⊥) → (durable_log S z.words j x ≡ log_word_of S z.words j x) ⊎ RaisesAt (machine_in z j).place x
+          logs : (j x : ℕ) → j < S.callers → x < 2 * most_entries S + 1 → (j ≡ i) ⊎ (j ≡ i → ⊥) → (durable_log S z.words j x ≡ log_word_of S z.words j x) ⊎ RaisesAt (machine_in z j).place x
           logs j x l u (inl e) = subst (λ (k : ℕ). (durable_log S z.words k x ≡ log_word_of S z.words k x) ⊎ RaisesAt (machine_in z k).place x) (sym e) (own_turn i h x u)
           logs j x l u (inr away) = go (v.logs j x l u) (durs (log_at S j x) (log_in S j x l u))
             where
@@ -307,7 +307,7 @@ module _ (S : Setup) where
           under : (c : ℕ) → c < cell_count S → durable_word S z.words c ≤ get_or z.words c 0
           under c l = low S Lawful B w.words w.batches g.core.shared d.0 d.1 is c l
 
-          logs : (j x : ℕ) → j < S.callers → x < 2 * log_entries S + 1 → (durable_log S w.words j x ≡ log_word_of S w.words j x) ⊎ RaisesAt (machine_in w j).place x → (durable_log S z.words j x ≡ log_word_of S z.words j x) ⊎ RaisesAt (machine_in w j).place x
+          logs : (j x : ℕ) → j < S.callers → x < 2 * most_entries S + 1 → (durable_log S w.words j x ≡ log_word_of S w.words j x) ⊎ RaisesAt (machine_in w j).place x → (durable_log S z.words j x ≡ log_word_of S z.words j x) ⊎ RaisesAt (machine_in w j).place x
           logs j x l u (inr q) = inr q
           logs j x l u (inl q) =
               let c_in : log_at S j x < cell_count S = log_in S j x l u in
@@ -334,7 +334,7 @@ module _ (S : Setup) where
           z : Moment
           z = after_event S w (Begins i op)
 
-          logs : (j x : ℕ) → j < S.callers → x < 2 * log_entries S + 1 → (j ≡ i) ⊎ (j ≡ i → ⊥) → (durable_log S w.words j x ≡ log_word_of S w.words j x) ⊎ RaisesAt (machine_in z j).place x
+          logs : (j x : ℕ) → j < S.callers → x < 2 * most_entries S + 1 → (j ≡ i) ⊎ (j ≡ i → ⊥) → (durable_log S w.words j x ≡ log_word_of S w.words j x) ⊎ RaisesAt (machine_in z j).place x
           logs j x l u (inl e) = level (subst (λ (p : Place). (durable_log S w.words j x ≡ log_word_of S w.words j x) ⊎ RaisesAt p x) (ap (λ (k : ℕ). (machine_in w k).place) e ∙ may.1) (v.logs j x l u))
             where
               level : (durable_log S w.words j x ≡ log_word_of S w.words j x) ⊎ ⊥ → (durable_log S w.words j x ≡ log_word_of S w.words j x) ⊎ RaisesAt (machine_in z j).place x

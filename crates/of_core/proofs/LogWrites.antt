@@ -7,7 +7,7 @@ use Rattle.of_cell.specs.Words.{pack, seq_of, payload_of}
 use Rattle.of_cell.proofs.Order.{seq_less, seq_word, pay_word, seq_from, word_above}
 use Rattle.of_cell.proofs.Rooms.{room_upto}
 use Rattle.of_core.specs.declared.place.Place.TheVariants.{StoreLog, StoreRequest}
-use Rattle.of_core.specs.Table.{log_entries, Setup, script_word_at, cell_count, durable_at, request_at, log_at, script_word, current_word, request_of, data_word, log_word_of, durable_word, durable_request, committed_seq, committed_owner}
+use Rattle.of_core.specs.Table.{most_entries, Setup, script_word_at, cell_count, durable_at, request_at, log_at, script_word, current_word, request_of, data_word, log_word_of, durable_word, durable_request, committed_seq, committed_owner}
 use Rattle.of_core.specs.Machine.{CallState, log_entry, log_words}
 use Rattle.of_core.specs.Steps.{take_word_at}
 use Rattle.of_core.specs.TableMoment.{Moment, TableStart, after_counted_step}
@@ -57,7 +57,7 @@ module _ {S : Setup} {Lawful : List ℕ → Type 0} {B : TableStart} where
         ci : m.caller ≡ i
         ci = st.past.looks.round.begun.caller
 
-        x_in : x < 2 * log_entries S + 1
+        x_in : x < 2 * most_entries S + 1
         x_in = omega (arith, length-log_words m.log, st.over.over.is_log.few, a.more)
 
         fits : log_at S i x < length w.words
@@ -75,14 +75,14 @@ module _ {S : Setup} {Lawful : List ℕ → Type 0} {B : TableStart} where
         behind : (j y : ℕ) → script_word S vs j y ≡ script_word S w.words j y
         behind j y = elsewhere (script_word_at S j y) (omega (arith, log_in S i x h x_in))
 
-        counts : (j : ℕ) → j < S.callers → payload_of (log_word_of S vs j 0) ≤ log_entries S
+        counts : (j : ℕ) → j < S.callers → payload_of (log_word_of S vs j 0) ≤ most_entries S
         counts j l = count (cases_eq (log_at S j 0) (log_at S i x))
           where
-            count : (log_at S j 0 ≡ log_at S i x) ⊎ (log_at S j 0 ≡ log_at S i x → ⊥) → payload_of (log_word_of S vs j 0) ≤ log_entries S
+            count : (log_at S j 0 ≡ log_at S i x) ⊎ (log_at S j 0 ≡ log_at S i x → ⊥) → payload_of (log_word_of S vs j 0) ≤ most_entries S
             count (inr q) = rw (elsewhere (log_at S j 0) q) (g.shared.heard.counts j l)
             count (inl q) =
-                let e : j ≡ i = same_row j i (2 * log_entries S + 1) 0 x (omega arith) x_in (omega arith) in
-                let z : x ≡ 0 = omega (arith, ap (λ (k : ℕ). k * (2 * log_entries S + 1)) e) in
+                let e : j ≡ i = same_row j i (2 * most_entries S + 1) 0 x (omega arith) x_in (omega arith) in
+                let z : x ≡ 0 = omega (arith, ap (λ (k : ℕ). k * (2 * most_entries S + 1)) e) in
                 let v : new ≡ pack (m.seq + 1) (length m.log) = ap (λ (k : ℕ). pack (m.seq + 1) (get_or (log_words m.log) k 0)) z in
                 rw (q, here, v, pay_word (m.seq + 1) (length m.log) (omega (arith, st.over.over.is_log.few, g.shared.little, room_upto S.callers S.cells))) st.over.over.is_log.few
 
@@ -95,10 +95,10 @@ module _ {S : Setup} {Lawful : List ℕ → Type 0} {B : TableStart} where
         req_same : (j : ℕ) → j < S.callers → request_of vs j ≡ request_of w.words j
         req_same j l = elsewhere (j + 1) (omega arith)
 
-        log_other : (j y : ℕ) → y < 2 * log_entries S + 1 → (j ≡ i → ⊥) → log_word_of S vs j y ≡ log_word_of S w.words j y
-        log_other j y l q = elsewhere (log_at S j y) (λ e. q (same_row j i (2 * log_entries S + 1) y x l x_in (omega arith)))
+        log_other : (j y : ℕ) → y < 2 * most_entries S + 1 → (j ≡ i → ⊥) → log_word_of S vs j y ≡ log_word_of S w.words j y
+        log_other j y l q = elsewhere (log_at S j y) (λ e. q (same_row j i (2 * most_entries S + 1) y x l x_in (omega arith)))
 
-        log_row : (y : ℕ) → y < 2 * log_entries S + 1 → (y ≡ x → ⊥) → log_word_of S vs i y ≡ log_word_of S w.words i y
+        log_row : (y : ℕ) → y < 2 * most_entries S + 1 → (y ≡ x → ⊥) → log_word_of S vs i y ≡ log_word_of S w.words i y
         log_row y l q = elsewhere (log_at S i y) (omega arith)
 
         dur_same : (c : ℕ) → c < cell_count S → durable_word S vs c ≡ durable_word S w.words c
@@ -108,7 +108,7 @@ module _ {S : Setup} {Lawful : List ℕ → Type 0} {B : TableStart} where
         rises c (inl q) = rw q (omega (arith, here, up_here))
         rises c (inr q) = omega (arith, elsewhere c q)
 
-        log_how : (j y : ℕ) → j < S.callers → y < 2 * log_entries S + 1 → (j ≡ i) ⊎ (j ≡ i → ⊥) → (y ≡ x) ⊎ (y ≡ x → ⊥) → (log_word_of S vs j y ≡ log_word_of S w.words j y) ⊎ (seq_of (log_word_of S w.words j y) < seq_of (log_word_of S vs j y))
+        log_how : (j y : ℕ) → j < S.callers → y < 2 * most_entries S + 1 → (j ≡ i) ⊎ (j ≡ i → ⊥) → (y ≡ x) ⊎ (y ≡ x → ⊥) → (log_word_of S vs j y ≡ log_word_of S w.words j y) ⊎ (seq_of (log_word_of S w.words j y) < seq_of (log_word_of S vs j y))
         log_how j y l u (inr q) r = inl (log_other j y u q)
         log_how j y l u (inl q) (inr r) = inl (rw q (log_row y u r))
         log_how j y l u (inl q) (inl r) = inr (rw (q, r, here) (omega (arith, st.rest x (omega arith) x_in, seq_from (m.seq + 1) (get_or (log_words m.log) x 0) new (omega arith))))
@@ -133,7 +133,7 @@ module _ {S : Setup} {Lawful : List ℕ → Type 0} {B : TableStart} where
         kinds : WordsHaveTheirKind S B vs w.batches
         kinds = kinds_of touches g.shared (λ j l. request_same touches g.shared j l (req_same j l)) (λ j y l u. is_log_word j y l u (cases_eq j i) (cases_eq y x)) (λ j y l u. sized j y l u (cases_eq j i) (cases_eq (2 * y + 1) x))
           where
-            is_log_word : (j y : ℕ) → j < S.callers → y < 2 * log_entries S + 1 → (j ≡ i) ⊎ (j ≡ i → ⊥) → (y ≡ x) ⊎ (y ≡ x → ⊥) → IsLogWord B w.words w.batches j y (log_word_of S vs j y)
+            is_log_word : (j y : ℕ) → j < S.callers → y < 2 * most_entries S + 1 → (j ≡ i) ⊎ (j ≡ i → ⊥) → (y ≡ x) ⊎ (y ≡ x → ⊥) → IsLogWord B w.words w.batches j y (log_word_of S vs j y)
             is_log_word j y l u (inr q) r = subst (λ (v : ℕ). IsLogWord B w.words w.batches j y v) (sym (log_other j y u q)) (g.shared.kinds.logs j y l u)
             is_log_word j y l u (inl q) (inr r) = subst (λ (v : ℕ). IsLogWord B w.words w.batches j y v) (sym (ap (λ (k : ℕ). log_word_of S vs k y) q ∙ log_row y u r ∙ ap (λ (k : ℕ). log_word_of S w.words k y) (sym q))) (g.shared.kinds.logs j y l u)
             is_log_word j y l u (inl q) (inl r) = λ a b o.
@@ -141,7 +141,7 @@ module _ {S : Setup} {Lawful : List ℕ → Type 0} {B : TableStart} where
                 let f : seq_of (log_word_of S vs j y) ≡ m.seq + 1 = ap seq_of e ∙ seq_word (m.seq + 1) (get_or (log_words m.log) x 0) (fits_word x) in
                 absurd (st.past.looks.round.unowned (seq_of (log_word_of S vs j y)) (omega (arith, f)) b (o ∙ q))
 
-            sized : (j y : ℕ) → j < S.callers → y < log_entries S → (j ≡ i) ⊎ (j ≡ i → ⊥) → (2 * y + 1 ≡ x) ⊎ (2 * y + 1 ≡ x → ⊥) → payload_of (log_word_of S vs j (2 * y + 1)) < S.cells
+            sized : (j y : ℕ) → j < S.callers → y < most_entries S → (j ≡ i) ⊎ (j ≡ i → ⊥) → (2 * y + 1 ≡ x) ⊎ (2 * y + 1 ≡ x → ⊥) → payload_of (log_word_of S vs j (2 * y + 1)) < S.cells
             sized j y l u (inr q) r = rw (log_other j (2 * y + 1) (omega arith) q) (g.shared.kinds.sized j y l u)
             sized j y l u (inl q) (inr r) = rw (q, log_row (2 * y + 1) (omega arith) r) (g.shared.kinds.sized i y h u)
             sized j y l u (inl q) (inl r) =
@@ -161,7 +161,7 @@ module _ {S : Setup} {Lawful : List ℕ → Type 0} {B : TableStart} where
         durable = durable_same touches g.shared cell_same open_same logs
           where
             -- an owner whose durable request is its batch's stores no log
-            logs : (k : ℕ) → B.seq < k → k ≤ committed_seq w.words → (j : ℕ) → (batch_at B w.batches k).owner ≡ j → durable_request S w.words j ≡ pack k 0 → (y : ℕ) → y < 2 * log_entries S + 1 → log_word_of S vs j y ≡ log_word_of S w.words j y
+            logs : (k : ℕ) → B.seq < k → k ≤ committed_seq w.words → (j : ℕ) → (batch_at B w.batches k).owner ≡ j → durable_request S w.words j ≡ pack k 0 → (y : ℕ) → y < 2 * most_entries S + 1 → log_word_of S vs j y ≡ log_word_of S w.words j y
             logs k l u j o q y v = log_other j y v (λ e. let z : pack k 0 < request_of w.words i = a.storing.shut k l u (o ∙ e) in let r : durable_request S w.words i ≡ pack k 0 = rw e at q in omega (arith, a.storing.level))
 
         stored : (y : ℕ) → y < x + 1 → (y ≡ x) ⊎ (y ≡ x → ⊥) → log_word_of S vs i y ≡ pack (m.seq + 1) (get_or (log_words m.log) y 0)

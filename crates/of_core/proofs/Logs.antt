@@ -15,9 +15,9 @@ use Rattle.of_cell.proofs.Places.{row_within}
 use Rattle.of_mem.specs.declared.work.RawReply.{RawReply}
 use Rattle.of_mem.specs.Meaning.{HasDistinctCells, with_writes_in, IsFinishedWalk}
 use Rattle.of_mem.specs.declared.work.TheConstants.{LEAST_ABORT, FEW_DATA_CELLS}
-use Rattle.of_cell.specs.declared.shape.TheConstants.{LOG_OF_EACH}
+use Rattle.of_cell.specs.declared.shape.TheConstants.{LOG_SHARE}
 use Rattle.of_cell.proofs.Rooms.{room_share}
-use Rattle.of_core.specs.Table.{Setup, log_entries, first_operation_cell, ticket_cell}
+use Rattle.of_core.specs.Table.{Setup, most_entries, first_operation_cell, ticket_cell}
 use Rattle.of_core.specs.Machine.{cells_from, own_cells, flat_entries, log_words, entries_going_round}
 use Rattle.of_core.specs.History.{with_log_applied}
 use Rattle.of_core.specs.WordsMatch.{IsEntry, IsLog}
@@ -160,24 +160,24 @@ once_few S es h o =
         let here : (get_or es f.0 (0, 0)).0 ≡ f.1 = sym (at_x f.0 f.1 mk) ∙ f.3 in
         omega (arith, (h f.0 (0, 0) mk).0)
 
--- entries that a log may have, each cell once
+-- entries of a log but for its room: each cell once
 pub record AreWrites (S : Setup) (es : List (ℕ × ℕ)) : Type 0 where
   pub entries : All (IsEntry S) es
   pub once : HasDistinctCells es
 
--- they have room in a log where there is room for each data cell, or where they are within the callers' shares
-pub once_within : (S : Setup) (es : List (ℕ × ℕ)) → AreWrites S es → (S.cells ≤ FEW_DATA_CELLS) ⊎ (length es ≤ S.callers * LOG_OF_EACH) → length es ≤ log_entries S
+-- a log has room for them in a small table, or if they are within the callers' shares
+pub once_within : (S : Setup) (es : List (ℕ × ℕ)) → AreWrites S es → (S.cells ≤ FEW_DATA_CELLS) ⊎ (length es ≤ S.callers * LOG_SHARE) → length es ≤ most_entries S
 once_within S es a short = go (room_share S.callers S.cells) short
   where
     all : length es ≤ S.cells
     all = once_few S es a.entries a.once
 
-    go : (log_entries S ≡ S.cells) ⊎ (4096 + S.callers * 256 ≤ log_entries S) → (S.cells ≤ FEW_DATA_CELLS) ⊎ (length es ≤ S.callers * LOG_OF_EACH) → length es ≤ log_entries S
+    go : (most_entries S ≡ S.cells) ⊎ (4096 + S.callers * 256 ≤ most_entries S) → (S.cells ≤ FEW_DATA_CELLS) ⊎ (length es ≤ S.callers * LOG_SHARE) → length es ≤ most_entries S
     go (inl e) k = omega (arith, all, e)
     go (inr e) (inl k) = omega (arith, all, e, k)
     go (inr e) (inr k) = omega (arith, e, k)
 
--- the walk's writes and the caller's own cells are writes
+-- the walk's writes and the caller's own cells, each once
 pub whole_log : (S : Setup) (i ticket count : ℕ) (xs op : List ℕ) (es : List (ℕ × ℕ)) (r : RawReply) → i < S.callers → count ≤ S.instrs → ticket < PAYLOADS → first_operation_cell S ≤ S.cells
     → IsFinishedWalk S.meaning (first_operation_cell S) S.cells xs op es r → AreWrites S (es ++ own_cells (ticket_cell S i) ticket count r)
 whole_log S i ticket count xs op es r h c t b f = record {

@@ -5,7 +5,7 @@ use Rattle.of_cell.specs.declared.word.TheConstants.{PAYLOADS}
 use Rattle.of_cell.specs.Words.{seq_of, payload_of}
 use Rattle.of_cell.proofs.Order.{seq_word, pay_word, seq_zero, pay_zero}
 use Rattle.of_mem.specs.Meaning.{IsSoundMeaning}
-use Rattle.of_core.specs.Table.{log_entries, Setup, first_operation_cell, cell_count, durable_at, request_at, data_at, log_at, script_word_at, ticket_cell, request_of, announcement_of, committed_seq, durable_seq}
+use Rattle.of_core.specs.Table.{most_entries, Setup, first_operation_cell, cell_count, durable_at, request_at, data_at, log_at, script_word_at, ticket_cell, request_of, announcement_of, committed_seq, durable_seq}
 use Rattle.of_core.specs.Machine.{CallState, idle_machine}
 use Rattle.of_core.specs.TableMoment.{TableStart}
 use Rattle.of_core.specs.History.{data_word_after, last_ticket_by}
@@ -80,7 +80,7 @@ module _ (S : Setup) (Lawful : List ℕ → Type 0) (sound : IsSoundMeaning S.me
   request_seq : (i : ℕ) → i < S.callers → seq_of (request_of ws i) ≤ B.seq
   request_seq i l = rw (word_at (i + 1) (omega arith)) (request_old S B may.start i l)
 
-  log_zero : (j x : ℕ) → j < S.callers → x < 2 * log_entries S + 1 → get_or ws (log_at S j x) 0 ≡ 0
+  log_zero : (j x : ℕ) → j < S.callers → x < 2 * most_entries S + 1 → get_or ws (log_at S j x) 0 ≡ 0
   log_zero j x l u = word_at (log_at S j x) (log_in S j x l u) ∙ log_is S B may.start (log_at S j x) (omega arith)
 
   said_zero : (i : ℕ) → announcement_of S ws i ≡ 0

@@ -7,7 +7,7 @@ use Rattle.std.proofs.lemmas.List.Elements.{All-push}
 use Rattle.std.proofs.lemmas.List.{get_or_append_left, get_or-append_right, get_or-set_same, get_or-set_other, set-set, set_comm, get_or_past, get_or-take, length-take, get_or_push, get_or_default}
 use Rattle.std.proofs.lemmas.Bool.{eqb-true as same_num, eqb-false as other_num}
 use Rattle.of_mem.specs.declared.work.TheConstants.{LEAST_ABORT, MOST_INSTRS, FEW_DATA_CELLS, MOST_WRITES}
-use Rattle.of_cell.specs.declared.shape.TheConstants.{LOG_OF_EACH}
+use Rattle.of_cell.specs.declared.shape.TheConstants.{LOG_SHARE}
 use Rattle.of_cell.specs.declared.word.TheConstants.{PAYLOADS}
 use Rattle.of_cell.proofs.Places.{row_within}
 use Rattle.of_mem.specs.declared.work.RawReply.{RawReply}
@@ -243,10 +243,10 @@ module _ (S : Setup) (Lawful : List ℕ → Type 0) (sound : IsSoundMeaning S.me
     pub walk_fits : (known : List (Option ℕ)) (op : List ℕ) → Agrees known xs → WalkFits S.meaning (first_operation_cell S) S.cells (overlaid known ds) (with_writes_in xs ds) op (S.meaning.walk (overlaid known ds) op)
     walk_fits known op h = sound.walks (overlaid known ds) (with_writes_in xs ds) op left_length left_lawful (left_agrees known h)
 
-    -- with one call more the log is within the shares of the callers up to it
+    -- one call more stays within the shares of the callers up to it
     pub extended_short : (c t : ℕ) (op : List ℕ) (es : List (ℕ × ℕ)) (r : RawReply) → c < S.callers → t < PAYLOADS → length op ≤ S.instrs → first_operation_cell S ≤ S.cells → S.instrs ≤ MOST_INSTRS
-        → All (λ (d : Call). d.caller < c) cs → (S.cells ≤ FEW_DATA_CELLS) ⊎ (length ds ≤ c * LOG_OF_EACH) → IsFinishedWalk S.meaning (first_operation_cell S) S.cells (with_writes_in xs ds) op es r
-        → (S.cells ≤ FEW_DATA_CELLS) ⊎ (length (put_all ds (es ++ own_cells (ticket_cell S c) t (length op) r)) ≤ (c + 1) * LOG_OF_EACH)
+        → All (λ (d : Call). d.caller < c) cs → (S.cells ≤ FEW_DATA_CELLS) ⊎ (length ds ≤ c * LOG_SHARE) → IsFinishedWalk S.meaning (first_operation_cell S) S.cells (with_writes_in xs ds) op es r
+        → (S.cells ≤ FEW_DATA_CELLS) ⊎ (length (put_all ds (es ++ own_cells (ticket_cell S c) t (length op) r)) ≤ (c + 1) * LOG_SHARE)
     extended_short c t op es r h tl n b narrow others short f = go short f.few
       where
         own : List (ℕ × ℕ)
@@ -255,14 +255,14 @@ module _ (S : Setup) (Lawful : List ℕ → Type 0) (sound : IsSoundMeaning S.me
         i : IsOwn (c * (S.instrs + 2)) (S.instrs + 2) own
         i = own_is (c * (S.instrs + 2)) (length op) (S.instrs + 2) t r (omega arith) f.shape tl f.values (nat_lt r.shape LEAST_ABORT)
 
-        go : (S.cells ≤ FEW_DATA_CELLS) ⊎ (length ds ≤ c * LOG_OF_EACH) → (S.cells ≤ FEW_DATA_CELLS) ⊎ (length es ≤ MOST_WRITES) → (S.cells ≤ FEW_DATA_CELLS) ⊎ (length (put_all ds (es ++ own)) ≤ (c + 1) * LOG_OF_EACH)
+        go : (S.cells ≤ FEW_DATA_CELLS) ⊎ (length ds ≤ c * LOG_SHARE) → (S.cells ≤ FEW_DATA_CELLS) ⊎ (length es ≤ MOST_WRITES) → (S.cells ≤ FEW_DATA_CELLS) ⊎ (length (put_all ds (es ++ own)) ≤ (c + 1) * LOG_SHARE)
         go (inl k) u = inl k
         go (inr k) (inl u) = inl u
         go (inr k) (inr u) = inr (omega (arith, put_all_few ds (es ++ own), length-append es own, i.few, narrow, k, u))
 
     -- one call more
     pub extended : (c t : ℕ) (op : List ℕ) (es : List (ℕ × ℕ)) (r : RawReply) → c < S.callers → t < PAYLOADS → length op ≤ S.instrs → first_operation_cell S ≤ S.cells → S.instrs ≤ MOST_INSTRS
-        → All (λ (d : Call). d.caller < c) cs → (S.cells ≤ FEW_DATA_CELLS) ⊎ (length ds ≤ c * LOG_OF_EACH) → IsFinishedWalk S.meaning (first_operation_cell S) S.cells (with_writes_in xs ds) op es r
+        → All (λ (d : Call). d.caller < c) cs → (S.cells ≤ FEW_DATA_CELLS) ⊎ (length ds ≤ c * LOG_SHARE) → IsFinishedWalk S.meaning (first_operation_cell S) S.cells (with_writes_in xs ds) op es r
         → IsOverlayOf S xs (cs ++ record { caller = c; ticket = t; op = op; raw = r } ∷ []) (put_all ds (es ++ own_cells (ticket_cell S c) t (length op) r))
     extended c t op es r h tl n b narrow others short f = record {
       is_log = record { entries = entries; once = once; few = once_within S new (record { entries = entries; once = once }) (elim (extended_short c t op es r h tl n b narrow others short f) [ inl k ↦ inl k | inr k ↦ inr (omega arith) ]) };

@@ -8,7 +8,7 @@ use Rattle.of_cell.proofs.Order.{seq_word, pay_word, seq_mono, word_later, word_
 use Rattle.of_mem.specs.Meaning.{IsSoundMeaning}
 use Rattle.of_core.specs.declared.place.Place.{Place}
 use Rattle.of_core.specs.declared.place.Place.TheVariants.{RaiseOld, StoreLog, RaiseLog, RaiseRequest, ExchangeCurrent, RaiseCurrent, RaiseTarget, RaiseClosed}
-use Rattle.of_core.specs.Table.{log_entries, Setup, request_at, data_at, log_at, first_operation_cell, durable_at, current_word, request_of, data_word, log_word_of, durable_word, durable_request, durable_cell, durable_log, committed_seq, committed_owner, durable_seq}
+use Rattle.of_core.specs.Table.{most_entries, Setup, request_at, data_at, log_at, first_operation_cell, durable_at, current_word, request_of, data_word, log_word_of, durable_word, durable_request, durable_cell, durable_log, committed_seq, committed_owner, durable_seq}
 use Rattle.of_core.specs.Machine.{CallState, log_entry, log_words}
 use Rattle.of_core.specs.Steps.{after_raise_log, next_entry, after_raise_current, after_raise_closed, take_word_at}
 use Rattle.of_core.specs.TableMoment.{Read, Moment, Batch, TableStart, after_counted_step}
@@ -125,7 +125,7 @@ module _ {S : Setup} {Lawful : List ℕ → Type 0} {B : TableStart} where
         ci : m.caller ≡ i
         ci = a.storing.stored.past.looks.round.begun.caller
 
-        x_in : x < 2 * log_entries S + 1
+        x_in : x < 2 * most_entries S + 1
         x_in = omega (arith, length-log_words m.log, a.storing.stored.over.over.is_log.few, a.more)
 
         loads : IsLoaded S B w.words w.batches (log_at S m.caller x, new)
@@ -135,8 +135,8 @@ module _ {S : Setup} {Lawful : List ℕ → Type 0} {B : TableStart} where
             now : log_word_of S w.words i x ≡ new
             now = a.storing.stored.each x (omega arith)
 
-            same_place : (y z : ℕ) → z < 2 * log_entries S + 1 → log_at S i x ≡ log_at S y z → (i ≡ y) × (x ≡ z)
-            same_place y z u q = let r : i ≡ y = same_row i y (2 * log_entries S + 1) x z x_in u (omega arith) in (r, omega (arith, ap (λ (k : ℕ). k * (2 * log_entries S + 1)) r))
+            same_place : (y z : ℕ) → z < 2 * most_entries S + 1 → log_at S i x ≡ log_at S y z → (i ≡ y) × (x ≡ z)
+            same_place y z u q = let r : i ≡ y = same_row i y (2 * most_entries S + 1) x z x_in u (omega arith) in (r, omega (arith, ap (λ (k : ℕ). k * (2 * most_entries S + 1)) r))
 
             word_at : (y z : ℕ) → (i ≡ y) × (x ≡ z) → IsLogWord B w.words w.batches y z new × (seq_of new ≡ seq_of (log_word_of S w.words y z) → new ≡ log_word_of S w.words y z)
             word_at y z r = subst (λ (k : ℕ). IsLogWord B w.words w.batches k z new × (seq_of new ≡ seq_of (log_word_of S w.words k z) → new ≡ log_word_of S w.words k z)) r.0

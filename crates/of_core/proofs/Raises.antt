@@ -5,7 +5,7 @@ use Rattle.std.proofs.lemmas.List.{get_or-set_same, get_or-set_other}
 use Rattle.of_cell.specs.Words.{pack, seq_of, payload_of}
 use Rattle.of_cell.proofs.Order.{word_eta, seq_mono, seq_less}
 use Rattle.of_cell.proofs.Places.{row_within}
-use Rattle.of_core.specs.Table.{log_entries, Setup, cell_count, durable_at, script_word_at, request_at, log_at, script_word, current_word, request_of, data_word, log_word_of, durable_word, durable_request, durable_cell, durable_log, committed_seq, committed_owner, durable_seq}
+use Rattle.of_core.specs.Table.{most_entries, Setup, cell_count, durable_at, script_word_at, request_at, log_at, script_word, current_word, request_of, data_word, log_word_of, durable_word, durable_request, durable_cell, durable_log, committed_seq, committed_owner, durable_seq}
 use Rattle.of_core.specs.Machine.{log_words}
 use Rattle.of_core.specs.TableMoment.{Batch, TableStart}
 use Rattle.of_core.specs.History.{batch_at, data_word_after}
@@ -43,10 +43,10 @@ module _ (S : Setup) (Lawful : List ℕ → Type 0) (B : TableStart) (ws : List 
   pub cell_same : (a : ℕ) → a < S.cells → data_word S vs a ≡ data_word S ws a
   cell_same a l = table (S.callers + 1 + a) (omega arith)
 
-  log_in : (j x : ℕ) → j < S.callers → x < 2 * log_entries S + 1 → log_at S j x < cell_count S
-  log_in j x l u = let r : j * (2 * log_entries S + 1) + (2 * log_entries S + 1) ≤ S.callers * (2 * log_entries S + 1) = row_within j S.callers (2 * log_entries S + 1) l in omega arith
+  log_in : (j x : ℕ) → j < S.callers → x < 2 * most_entries S + 1 → log_at S j x < cell_count S
+  log_in j x l u = let r : j * (2 * most_entries S + 1) + (2 * most_entries S + 1) ≤ S.callers * (2 * most_entries S + 1) = row_within j S.callers (2 * most_entries S + 1) l in omega arith
 
-  pub log_same : (j x : ℕ) → j < S.callers → x < 2 * log_entries S + 1 → log_word_of S vs j x ≡ log_word_of S ws j x
+  pub log_same : (j x : ℕ) → j < S.callers → x < 2 * most_entries S + 1 → log_word_of S vs j x ≡ log_word_of S ws j x
   log_same j x l u = table (log_at S j x) (log_in j x l u)
 
   -- a durable word rises
@@ -208,7 +208,7 @@ module _ (S : Setup) (Lawful : List ℕ → Type 0) (B : TableStart) (ws : List 
           let f : pack k 0 ≤ durable_request S ws i = rw o at (g.durable.floor k l u) in
           let was : durable_request S ws i ≡ pack k 0 = omega (arith, rises (request_at i)) in
           let p = g.durable.logs k l u i o was x v m z in
-          let x_in : x < 2 * log_entries S + 1 = omega (arith, length-log_words (batch_at B bs k).log, (g.counted.logs k l u).few) in
+          let x_in : x < 2 * most_entries S + 1 = omega (arith, length-log_words (batch_at B bs k).log, (g.counted.logs k l u).few) in
           let top : durable_log S vs i x ≤ log_word_of S ws i x = rw (log_same i x i_in x_in) at (low (log_at S i x) (log_in i x i_in x_in)) in
           (log_same i x i_in x_in ∙ p.0, omega (arith, p.0, p.1, top, rises (log_at S i x)))
 

@@ -9,7 +9,7 @@ use Rattle.of_recover.specs.Row.{current_owner, is_open}
 use Rattle.of_recover.specs.Log.{owner_log_word, entry_count, log_entry_value, entry_names, first_naming}
 use Rattle.of_recover.specs.Recovered.{replayed_data, recovered_data}
 use Rattle.of_cell.proofs.Rooms.{room_upto}
-use Rattle.of_core.specs.Table.{log_entries, Setup, request_at, request_of, durable_word, durable_request, durable_cell, committed_seq, committed_owner, durable_seq}
+use Rattle.of_core.specs.Table.{most_entries, Setup, request_at, request_of, durable_word, durable_request, durable_cell, committed_seq, committed_owner, durable_seq}
 use Rattle.of_core.specs.Machine.{log_words}
 use Rattle.of_core.specs.TableMoment.{Moment, TableStart}
 use Rattle.of_core.specs.History.{batch_at, data_word_after}
@@ -72,7 +72,7 @@ module _ (S : Setup) (Lawful : List ℕ → Type 0) (B : TableStart) (w : Moment
     count_is =
         let c : owner_log_word S.callers S.cells row 0 ≡ pack d (length es) = here 0 (omega arith) in
         let p : payload_of (owner_log_word S.callers S.cells row 0) ≡ length es = ap payload_of c ∙ pay_word d (length es) (omega (arith, log.few, g.shared.little, room_upto S.callers S.cells)) in
-        one_count d (log_entries S) (owner_log_word S.callers S.cells row 0) (ap seq_of c ∙ seq_word d (length es) (omega (arith, log.few, g.shared.little, room_upto S.callers S.cells))) (omega (arith, p, log.few)) ∙ p
+        one_count d (most_entries S) (owner_log_word S.callers S.cells row 0) (ap seq_of c ∙ seq_word d (length es) (omega (arith, log.few, g.shared.little, room_upto S.callers S.cells))) (omega (arith, p, log.few)) ∙ p
 
     -- each is for its own cell alone,
     named : (a j : ℕ) → j < length es → entry_names S.callers S.cells row a j ≡ ((get_or es j (0, 0)).0 == a)

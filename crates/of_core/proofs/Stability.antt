@@ -10,7 +10,7 @@ use Rattle.of_core.specs.declared.place.Place.{Place}
 use Rattle.of_core.specs.declared.place.Place.TheVariants.{Idle, TryCurrent, TryRequest, TryCell, StoreScript, StoreAnnouncement, LoadCurrent, LoadRequest, CopyLog, LookAgain, LoadOwnTicket, LoadShape, LoadReply, LoadAnnouncement, LoadTicket, LoadScript, LoadCell, RaiseOld, StoreLog, RaiseLog, StoreRequest, RaiseRequest, ExchangeCurrent, RaiseCurrent, LoadTarget, ExchangeTarget, ReloadTarget, RaiseTarget, CloseRequest, RaiseClosed}
 use Rattle.of_core.specs.declared.place.Outcome.{Outcome}
 use Rattle.of_core.specs.declared.place.Outcome.TheVariants.{Answered, Spent}
-use Rattle.of_core.specs.Table.{log_entries, Setup, cell_count, request_at, data_at, log_at, script_words_of, script_word, announcement_of, current_word, request_of, data_word, log_word_of, durable_word, durable_request, durable_cell, committed_seq, committed_owner, durable_seq}
+use Rattle.of_core.specs.Table.{most_entries, Setup, cell_count, request_at, data_at, log_at, script_words_of, script_word, announcement_of, current_word, request_of, data_word, log_word_of, durable_word, durable_request, durable_cell, committed_seq, committed_owner, durable_seq}
 use Rattle.of_core.specs.Machine.{CallState, Call, log_entry, log_words}
 use Rattle.of_core.specs.TableMoment.{Batch, TableStart}
 use Rattle.of_core.specs.History.{state_after, batch_at, last_ticket_by, ticket_in_state}
@@ -38,7 +38,7 @@ pub said_as : (S : Setup) (ws vs : List ℕ) (c n : ℕ) → ((x : ℕ) → scri
 said_as S ws vs c zero f = refl
 said_as S ws vs c (suc n) f = rw (said_as S ws vs c n f, f n) refl
 
-pub heard_as : (S : Setup) (B : TableStart) (ws vs : List ℕ) (bs : List Batch) → ((i : ℕ) → i < S.callers → announcement_of S vs i ≡ announcement_of S ws i) → committed_seq vs ≡ committed_seq ws → ((i : ℕ) → i < S.callers → payload_of (log_word_of S vs i 0) ≤ log_entries S) → AnnouncementsAreServed S B ws bs → AnnouncementsAreServed S B vs bs
+pub heard_as : (S : Setup) (B : TableStart) (ws vs : List ℕ) (bs : List Batch) → ((i : ℕ) → i < S.callers → announcement_of S vs i ≡ announcement_of S ws i) → committed_seq vs ≡ committed_seq ws → ((i : ℕ) → i < S.callers → payload_of (log_word_of S vs i 0) ≤ most_entries S) → AnnouncementsAreServed S B ws bs → AnnouncementsAreServed S B vs bs
 heard_as S B ws vs bs same n counts h = record {
   small = λ i l. rw (same i l) (h.small i l);
   tickets = λ i l. rw (same i l) (h.tickets i l);
@@ -49,8 +49,8 @@ heard_as S B ws vs bs same n counts h = record {
   counts = counts;
 }
 
-pub log_in : (S : Setup) (j x : ℕ) → j < S.callers → x < 2 * log_entries S + 1 → log_at S j x < cell_count S
-log_in S j x l u = let r : j * (2 * log_entries S + 1) + (2 * log_entries S + 1) ≤ S.callers * (2 * log_entries S + 1) = row_within j S.callers (2 * log_entries S + 1) l in omega arith
+pub log_in : (S : Setup) (j x : ℕ) → j < S.callers → x < 2 * most_entries S + 1 → log_at S j x < cell_count S
+log_in S j x l u = let r : j * (2 * most_entries S + 1) + (2 * most_entries S + 1) ≤ S.callers * (2 * most_entries S + 1) = row_within j S.callers (2 * most_entries S + 1) l in omega arith
 
 -- two places in rows of the same width
 pub same_row : (j i k y x : ℕ) → y < k → x < k → j * k + y ≡ i * k + x → j ≡ i
@@ -96,7 +96,7 @@ module _ (S : Setup) (Lawful : List ℕ → Type 0) (B : TableStart) (i : ℕ) (
       go (inr q) = inr (q.0, omega (arith, q.1, grows), ap (λ (b : Batch). b.owner) (v.batches (seq_of w) l q.1) ∙ q.2)
 
   -- a log word that was loaded
-  loaded_log : WordsHaveTheirKind S B vs cs → (j x w : ℕ) → j < S.callers → x < 2 * log_entries S + 1 → w ≤ log_word_of S ws j x → IsLogWord B ws bs j x w → (seq_of w ≡ seq_of (log_word_of S ws j x) → w ≡ log_word_of S ws j x)
+  loaded_log : WordsHaveTheirKind S B vs cs → (j x w : ℕ) → j < S.callers → x < 2 * most_entries S + 1 → w ≤ log_word_of S ws j x → IsLogWord B ws bs j x w → (seq_of w ≡ seq_of (log_word_of S ws j x) → w ≡ log_word_of S ws j x)
       → IsLogWord B vs cs j x w × (seq_of w ≡ seq_of (log_word_of S vs j x) → w ≡ log_word_of S vs j x)
   loaded_log kinds j x w l u low h same = (λ a b o. is a b o (cases_lt (committed_seq ws) (seq_of w)), now)
     where
@@ -482,10 +482,10 @@ module _ (S : Setup) (Lawful : List ℕ → Type 0) (B : TableStart) (i : ℕ) (
       rest = λ y l u. rw (here y u) (h.rest y l u);
     }
       where
-        in_log : (y : ℕ) → y < x → y < 2 * log_entries S + 1
+        in_log : (y : ℕ) → y < x → y < 2 * most_entries S + 1
         in_log y l = omega (arith, length-log_words m.log, h.over.over.is_log.few)
 
-        here : (y : ℕ) → y < 2 * log_entries S + 1 → log_word_of S vs j y ≡ log_word_of S ws j y
+        here : (y : ℕ) → y < 2 * most_entries S + 1 → log_word_of S vs j y ≡ log_word_of S ws j y
         here y u = v.logs j member other y u
 
     logs_stable : (m : CallState) (x z : ℕ) → x ≤ length (log_words m.log) → z ≤ x → IsStoringLog S B ws bs j m x z → IsStoringLog S B vs cs j m x z

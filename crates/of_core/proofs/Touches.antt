@@ -3,7 +3,7 @@ use Rattle.std.proofs.Common.{◌≡◌, ℕ, ◌+◌, ◌*◌, ◌-◌, ◌<◌
 pub use Rattle.std.proofs.lemmas.Bool.{eqb-false as differ, eqb-true as equals}
 use Rattle.of_cell.specs.Words.{pack, seq_of, payload_of}
 use Rattle.of_mem.specs.declared.work.RawReply.{RawReply}
-use Rattle.of_core.specs.Table.{log_entries, Setup, cell_count, request_at, data_at, log_at, announcement_of, script_word, current_word, request_of, data_word, log_word_of, durable_word, durable_request, durable_cell, durable_log, committed_seq, committed_owner, durable_seq}
+use Rattle.of_core.specs.Table.{most_entries, Setup, cell_count, request_at, data_at, log_at, announcement_of, script_word, current_word, request_of, data_word, log_word_of, durable_word, durable_request, durable_cell, durable_log, committed_seq, committed_owner, durable_seq}
 use Rattle.of_core.specs.Machine.{CallState, Call, log_words}
 use Rattle.of_core.specs.TableMoment.{Moment, Batch, TableStart}
 use Rattle.of_core.specs.History.{batch_at, data_word_after}
@@ -31,11 +31,11 @@ module _ (S : Setup) (B : TableStart) where
     pub room : length vs ≡ length ws
     pub current_word : current_word vs ≡ current_word ws
     pub requests : (j : ℕ) → j < S.callers → (j ≡ i → ⊥) → (request_of vs j ≡ request_of ws j) ⊎ ((B.seq < committed_seq ws) × ((batch_at B bs (committed_seq ws)).owner ≡ j) × (request_of ws j ≡ pack (committed_seq ws) 0) × (request_of vs j ≡ pack (committed_seq ws) 1))
-    pub logs : (j : ℕ) → j < S.callers → (j ≡ i → ⊥) → (x : ℕ) → x < 2 * log_entries S + 1 → log_word_of S vs j x ≡ log_word_of S ws j x
+    pub logs : (j : ℕ) → j < S.callers → (j ≡ i → ⊥) → (x : ℕ) → x < 2 * most_entries S + 1 → log_word_of S vs j x ≡ log_word_of S ws j x
     pub changes : (a : ℕ) → a < S.cells → (data_word S vs a ≡ data_word S ws a) ⊎ (committed_seq ws ≤ seq_of (data_word S vs a))
     pub rise : (c : ℕ) → c < cell_count S → get_or ws c 0 ≤ get_or vs c 0
     pub durs : (c : ℕ) → c < cell_count S → durable_word S vs c ≡ durable_word S ws c
-    pub log_how : (j x : ℕ) → j < S.callers → x < 2 * log_entries S + 1 → (log_word_of S vs j x ≡ log_word_of S ws j x) ⊎ (seq_of (log_word_of S ws j x) < seq_of (log_word_of S vs j x))
+    pub log_how : (j x : ℕ) → j < S.callers → x < 2 * most_entries S + 1 → (log_word_of S vs j x ≡ log_word_of S ws j x) ⊎ (seq_of (log_word_of S ws j x) < seq_of (log_word_of S vs j x))
     pub script_of : (j x : ℕ) → j < S.callers → x < S.instrs + 1 → (script_word S vs j x ≡ script_word S ws j x) ⊎ ((j ≡ i) × AnnouncesNothingNew S B ws bs j)
     pub announcements : (j : ℕ) → j < S.callers → (announcement_of S vs j ≡ announcement_of S ws j) ⊎ ((j ≡ i) × ((k : ℕ) → B.seq < k → k ≤ committed_seq ws → (batch_at B bs k).announcements j ≡ announcement_of S vs j → ⊥))
 
@@ -94,7 +94,7 @@ module _ {S : Setup} {Lawful : List ℕ → Type 0} {B : TableStart} where
     pub durable_of : ((a : ℕ) → a < S.cells → seq_of (data_word S vs a) ≤ durable_seq S ws)
         → (((committed_seq ws ≡ durable_seq S ws) ⊎ ((committed_seq ws ≡ durable_seq S ws + 1) × IsLastOpen B ws)) → (committed_seq ws ≡ durable_seq S ws) ⊎ ((committed_seq ws ≡ durable_seq S ws + 1) × IsLastOpen B vs))
         → ((a : ℕ) → a < S.cells → (durable_cell S ws a ≡ data_word_after B bs (durable_seq S ws) a) ⊎ (IsLastOpen B vs × (committed_seq ws ≡ durable_seq S ws) × (durable_cell S ws a ≡ data_word_after B bs (durable_seq S ws - 1) a)))
-        → ((k : ℕ) → B.seq < k → k ≤ committed_seq ws → (j : ℕ) → (batch_at B bs k).owner ≡ j → durable_request S ws j ≡ pack k 0 → (x : ℕ) → x < 2 * log_entries S + 1 → log_word_of S vs j x ≡ log_word_of S ws j x)
+        → ((k : ℕ) → B.seq < k → k ≤ committed_seq ws → (j : ℕ) → (batch_at B bs k).owner ≡ j → durable_request S ws j ≡ pack k 0 → (x : ℕ) → x < 2 * most_entries S + 1 → log_word_of S vs j x ≡ log_word_of S ws j x)
         → DurableWordsMatch S B vs bs
     durable_of fresh step cells logs = let h = s.durable in record {
       low = low_of;
@@ -112,7 +112,7 @@ module _ {S : Setup} {Lawful : List ℕ → Type 0} {B : TableStart} where
         logs_at : (k : ℕ) → B.seq < k → k ≤ committed_seq ws → (j : ℕ) → (batch_at B bs k).owner ≡ j → durable_request S vs j ≡ pack k 0 → (x v : ℕ) → x < length (log_words (batch_at B bs k).log) → get_or (log_words (batch_at B bs k).log) x 0 ≡ v → (log_word_of S vs j x ≡ pack k v) × (durable_log S vs j x ≡ pack k v)
         logs_at k l u j o q x v m z =
             let j_in : j < S.callers = rw (← o) (s.counted.owners k l u) in
-            let x_in : x < 2 * log_entries S + 1 = omega (arith, length-log_words (batch_at B bs k).log, (s.counted.logs k l u).few) in
+            let x_in : x < 2 * most_entries S + 1 = omega (arith, length-log_words (batch_at B bs k).log, (s.counted.logs k l u).few) in
             let q' : durable_request S ws j ≡ pack k 0 = sym (t.durs (request_at j) (omega arith)) ∙ q in
             let p = s.durable.logs k l u j o q' x v m z in
             (logs k l u j o q' x x_in ∙ p.0, t.durs (log_at S j x) (log_in S j x j_in x_in) ∙ p.1)
@@ -131,7 +131,7 @@ module _ {S : Setup} {Lawful : List ℕ → Type 0} {B : TableStart} where
           each a l (inl q) = inl (rw t.current_word (same a l ∙ q))
           each a l (inr (o, q)) = inr (stays o, rw t.current_word (same a l ∙ q))
 
-      pub durable_same : ((k : ℕ) → B.seq < k → k ≤ committed_seq ws → (j : ℕ) → (batch_at B bs k).owner ≡ j → durable_request S ws j ≡ pack k 0 → (x : ℕ) → x < 2 * log_entries S + 1 → log_word_of S vs j x ≡ log_word_of S ws j x) → DurableWordsMatch S B vs bs
+      pub durable_same : ((k : ℕ) → B.seq < k → k ≤ committed_seq ws → (j : ℕ) → (batch_at B bs k).owner ≡ j → durable_request S ws j ≡ pack k 0 → (x : ℕ) → x < 2 * most_entries S + 1 → log_word_of S vs j x ≡ log_word_of S ws j x) → DurableWordsMatch S B vs bs
       durable_same logs = durable_of (λ a l. rw (same a l) (s.durable.fresh a l)) (step_open stays) (λ a l. cells_open stays (s.durable.cells a l)) logs
 
     pub request_as : (j v : ℕ) → IsRequest B ws bs j v → IsRequest B vs bs j v
@@ -141,8 +141,8 @@ module _ {S : Setup} {Lawful : List ℕ → Type 0} {B : TableStart} where
     log_as j x v h a u o = h a (rw t.current_word at u) o
 
     -- what requests and log words are, where this is so of the table's
-    pub kinds_of : ((j : ℕ) → j < S.callers → IsRequest B ws bs j (request_of vs j)) → ((j x : ℕ) → j < S.callers → x < 2 * log_entries S + 1 → IsLogWord B ws bs j x (log_word_of S vs j x))
-        → ((j y : ℕ) → j < S.callers → y < log_entries S → payload_of (log_word_of S vs j (2 * y + 1)) < S.cells) → WordsHaveTheirKind S B vs bs
+    pub kinds_of : ((j : ℕ) → j < S.callers → IsRequest B ws bs j (request_of vs j)) → ((j x : ℕ) → j < S.callers → x < 2 * most_entries S + 1 → IsLogWord B ws bs j x (log_word_of S vs j x))
+        → ((j y : ℕ) → j < S.callers → y < most_entries S → payload_of (log_word_of S vs j (2 * y + 1)) < S.cells) → WordsHaveTheirKind S B vs bs
     kinds_of r l z = record {
       requests = λ j u. request_as j (request_of vs j) (r j u);
       dur_requests = λ j u. request_as j (durable_request S vs j) (subst (λ (y : ℕ). IsRequest B ws bs j y) (sym (t.durs (request_at j) (omega arith))) (s.kinds.dur_requests j u));
@@ -152,7 +152,7 @@ module _ {S : Setup} {Lawful : List ℕ → Type 0} {B : TableStart} where
     }
 
     -- where the log words stay
-    pub kinds_same : ((j : ℕ) → j < S.callers → IsRequest B ws bs j (request_of vs j)) → ((j x : ℕ) → j < S.callers → x < 2 * log_entries S + 1 → log_word_of S vs j x ≡ log_word_of S ws j x) → WordsHaveTheirKind S B vs bs
+    pub kinds_same : ((j : ℕ) → j < S.callers → IsRequest B ws bs j (request_of vs j)) → ((j x : ℕ) → j < S.callers → x < 2 * most_entries S + 1 → log_word_of S vs j x ≡ log_word_of S ws j x) → WordsHaveTheirKind S B vs bs
     kinds_same r e = kinds_of r (λ j x u v. subst (λ (y : ℕ). IsLogWord B ws bs j x y) (sym (e j x u v)) (s.kinds.logs j x u v)) (λ j y u v. rw (e j (2 * y + 1) u (omega arith)) (s.kinds.sized j y u v))
 
     pub request_same : (j : ℕ) → j < S.callers → request_of vs j ≡ request_of ws j → IsRequest B ws bs j (request_of vs j)
@@ -163,7 +163,7 @@ module _ {S : Setup} {Lawful : List ℕ → Type 0} {B : TableStart} where
 
     -- where no script word and no announcement changed
     module _ (behind : (j x : ℕ) → script_word S vs j x ≡ script_word S ws j x) where
-      pub heard_of : ((j : ℕ) → j < S.callers → payload_of (log_word_of S vs j 0) ≤ log_entries S) → AnnouncementsAreServed S B vs bs
+      pub heard_of : ((j : ℕ) → j < S.callers → payload_of (log_word_of S vs j 0) ≤ most_entries S) → AnnouncementsAreServed S B vs bs
       heard_of counts = heard_as S B ws vs bs (λ j l. behind j S.instrs) last_same counts s.heard
 
       pub begun_of : (m : CallState) → i < S.callers → IsAnnounced S B ws bs i m → (n : CallState) → n.caller ≡ m.caller → n.made ≡ m.made → n.op ≡ m.op → n.kept ≡ m.kept → n.rounds ≡ m.rounds → n.first ≡ m.first → IsAnnounced S B vs bs i n

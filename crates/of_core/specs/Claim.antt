@@ -10,7 +10,7 @@ use Rattle.of_core.specs.declared.place.Place.TheVariants.{Idle, TryCell, LoadOw
 use Rattle.of_core.specs.declared.place.Outcome.{Outcome}
 use Rattle.of_core.specs.declared.place.Outcome.TheVariants.{Answered, Spent}
 use Rattle.std.specs.List.{All}
-use Rattle.of_core.specs.Table.{log_entries, Setup, first_operation_cell, cell_count, request_at, data_at, log_at, durable_word, announcement_of, committed_seq, durable_seq}
+use Rattle.of_core.specs.Table.{most_entries, Setup, first_operation_cell, cell_count, request_at, data_at, log_at, durable_word, announcement_of, committed_seq, durable_seq}
 use Rattle.of_core.specs.Machine.{Call, CallState, IsOpen}
 use Rattle.of_core.specs.TableMoment.{Moment, TableStart, Batch, Read}
 use Rattle.of_core.specs.Order.{AreInCallOrder}
@@ -61,7 +61,7 @@ pub record HasHeld (S : Setup) (B : TableStart) (ws : List ℕ) (bs : List Batch
   pub current : c ≡ 0 → WasHeldByCurrent B ws bs v
   pub request : (j : ℕ) → j < S.callers → c ≡ request_at j → IsRequest B ws bs j v
   pub data_word : (a : ℕ) → a < S.cells → c ≡ data_at S a → WasHeldByCell B ws bs a v
-  pub log : (j x : ℕ) → j < S.callers → x < 2 * log_entries S + 1 → c ≡ log_at S j x
+  pub log : (j x : ℕ) → j < S.callers → x < 2 * most_entries S + 1 → c ≡ log_at S j x
       → IsLogWord B ws bs j x v
 
 -- the numbers after the first n batches, by replay of their calls

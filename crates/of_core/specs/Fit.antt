@@ -7,7 +7,7 @@ use Rattle.of_cell.specs.Words.{payload_of}
 use Rattle.of_core.specs.declared.place.Place.{Place}
 use Rattle.of_core.specs.declared.place.Place.TheVariants.{Idle, TryCurrent, TryRequest, TryCell, StoreScript, StoreAnnouncement, LoadCurrent, LoadRequest, CopyLog, LookAgain, LoadOwnTicket, LoadShape, LoadReply, LoadAnnouncement, LoadTicket, LoadScript, LoadCell, RaiseOld, StoreLog, RaiseLog, StoreRequest, RaiseRequest, ExchangeCurrent, RaiseCurrent, LoadTarget, ExchangeTarget, ReloadTarget, RaiseTarget, CloseRequest, RaiseClosed}
 use Rattle.of_mem.specs.CellMap.{value_for}
-use Rattle.of_core.specs.Table.{log_entries, Setup, first_operation_cell, ticket_cell}
+use Rattle.of_core.specs.Table.{most_entries, Setup, first_operation_cell, ticket_cell}
 use Rattle.of_core.specs.Machine.{CallState, log_words}
 
 -- the scan is at a caller, has run no more calls than it has passed callers, and may still commit
@@ -30,7 +30,7 @@ FitsPlace S m (StoreScript j) = j < length m.op
 FitsPlace S m StoreAnnouncement = Unit {0}
 FitsPlace S m LoadCurrent = Unit {0}
 FitsPlace S m LoadRequest = Unit {0}
-FitsPlace S m (CopyLog x) = (x < 2 * log_entries S + 1) × (length m.copy ≡ x)
+FitsPlace S m (CopyLog x) = (x < 2 * most_entries S + 1) × (length m.copy ≡ x)
 FitsPlace S m LookAgain = Unit {0}
 FitsPlace S m LoadOwnTicket = (m.scan ≡ 0) × (m.calls ≡ [])
 FitsPlace S m LoadShape = Unit {0}
@@ -42,9 +42,9 @@ FitsPlace S m (LoadScript j) =
 FitsPlace S m (LoadCell a) = IsScanning S m × (a < S.cells)
 FitsPlace S m RaiseOld = m.seq < S.limit
 FitsPlace S m (StoreLog x) =
-    (x < length (log_words m.log)) × (m.seq < S.limit) × (x < 2 * log_entries S + 1)
+    (x < length (log_words m.log)) × (m.seq < S.limit) × (x < 2 * most_entries S + 1)
 FitsPlace S m (RaiseLog x) =
-    (x < length (log_words m.log)) × (m.seq < S.limit) × (x < 2 * log_entries S + 1)
+    (x < length (log_words m.log)) × (m.seq < S.limit) × (x < 2 * most_entries S + 1)
 FitsPlace S m StoreRequest = m.seq < S.limit
 FitsPlace S m RaiseRequest = m.seq < S.limit
 FitsPlace S m ExchangeCurrent = m.seq < S.limit
@@ -94,7 +94,7 @@ pub record HasRoomInParts (S : Setup) (m : CallState) (logs words scripts copies
   pub log : logs ≡ S.cells
   pub op : S.instrs ≤ words
   pub scripts_in : S.instrs ≤ scripts
-  pub copy : 2 * log_entries S + 1 ≤ copies
+  pub copy : 2 * most_entries S + 1 ≤ copies
   pub calls : S.callers ≤ runs
   pub scanning : is_scanning m.place ≡ true → batch ≡ m.log
   pub reading : is_reading m.place ≡ true → batch ≡ []

@@ -3,7 +3,7 @@ use Rattle.std.specs.Prelude.{ℕ, ◌+◌, ◌*◌, List, length, ◌≡◌, �
 use Rattle.std.proofs.Common.{get_or}
 use Rattle.of_cell.specs.Words.{pack, seq_of}
 use Rattle.std.specs.List.{All}
-use Rattle.of_core.specs.Table.{log_entries, Setup, cell_count, request_of, data_word, log_word_of, durable_word, script_word, announcement_of, committed_seq, committed_owner}
+use Rattle.of_core.specs.Table.{most_entries, Setup, cell_count, request_of, data_word, log_word_of, durable_word, script_word, announcement_of, committed_seq, committed_owner}
 use Rattle.of_core.specs.Machine.{Call}
 use Rattle.of_core.specs.TableMoment.{Batch, Moment, TableStart}
 use Rattle.of_core.specs.History.{state_after, batch_at, last_ticket_by}
@@ -57,14 +57,14 @@ pub record Guarantees (S : Setup) (B : TableStart) (i : ℕ) (ws : List ℕ) (bs
   pub changes : (a : ℕ) → a < S.cells
       → (data_word S vs a ≡ data_word S ws a) ⊎ (committed_seq ws ≤ seq_of (data_word S vs a))
   -- another's log words stay
-  pub logs : (j : ℕ) → j < S.callers → (j ≡ i → ⊥) → (x : ℕ) → x < 2 * log_entries S + 1
+  pub logs : (j : ℕ) → j < S.callers → (j ≡ i → ⊥) → (x : ℕ) → x < 2 * most_entries S + 1
       → log_word_of S vs j x ≡ log_word_of S ws j x
   -- a log word stays or gets a higher sequence, and i's are of at most the new batch's
-  pub log_how : (j x : ℕ) → j < S.callers → x < 2 * log_entries S + 1
+  pub log_how : (j x : ℕ) → j < S.callers → x < 2 * most_entries S + 1
       → (log_word_of S vs j x ≡ log_word_of S ws j x)
       ⊎ (seq_of (log_word_of S ws j x) < seq_of (log_word_of S vs j x))
-  pub newer_logs : (k x : ℕ) → committed_seq ws < k → k ≤ committed_seq vs → x < 2 * log_entries S + 1
-      → seq_of (log_word_of S vs i x) ≤ k
+  pub newer_logs : (k x : ℕ) → committed_seq ws < k → k ≤ committed_seq vs
+      → x < 2 * most_entries S + 1 → seq_of (log_word_of S vs i x) ≤ k
   -- cells and durable words only rise, and no durable word gets above its cell's
   pub rise : (c : ℕ) → c < cell_count S → get_or ws c 0 ≤ get_or vs c 0
   pub durs : (c : ℕ) → c < cell_count S → durable_word S ws c ≤ durable_word S vs c

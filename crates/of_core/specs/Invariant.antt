@@ -5,7 +5,7 @@ use Rattle.of_cell.specs.Words.{seq_of, payload_of}
 use Rattle.of_core.specs.declared.place.Place.{Place}
 use Rattle.of_core.specs.declared.place.Place.TheVariants.{Idle, TryCurrent, TryRequest, TryCell, StoreScript, StoreAnnouncement, LoadCurrent, LoadRequest, CopyLog, LookAgain, LoadOwnTicket, LoadShape, LoadReply, LoadAnnouncement, LoadTicket, LoadScript, LoadCell, RaiseOld, StoreLog, RaiseLog, StoreRequest, RaiseRequest, ExchangeCurrent, RaiseCurrent, LoadTarget, ExchangeTarget, ReloadTarget, RaiseTarget, CloseRequest, RaiseClosed}
 use Rattle.std.specs.List.{All}
-use Rattle.of_core.specs.Table.{log_entries, Setup, log_at, cell_count, log_word_of}
+use Rattle.of_core.specs.Table.{most_entries, Setup, log_at, cell_count, log_word_of}
 use Rattle.of_core.specs.Machine.{CallState, log_words}
 use Rattle.of_core.specs.TableMoment.{Batch, Moment, TableStart}
 use Rattle.of_core.specs.History.{batch_at}
@@ -65,7 +65,7 @@ pub record IsLoaded (S : Setup) (B : TableStart) (ws : List ℕ) (bs : List Batc
   pub held : (a : ℕ) → a < S.cells → e.0 ≡ S.callers + 1 + a → WasHeldByCell B ws bs a e.1
   pub request : (j : ℕ) → j < S.callers → e.0 ≡ j + 1 → IsRequest B ws bs j e.1
   -- one that has the sequence of its log cell is its word
-  pub log : (j x : ℕ) → j < S.callers → x < 2 * log_entries S + 1 → e.0 ≡ log_at S j x
+  pub log : (j x : ℕ) → j < S.callers → x < 2 * most_entries S + 1 → e.0 ≡ log_at S j x
       → IsLogWord B ws bs j x e.1
       × (seq_of e.1 ≡ seq_of (log_word_of S ws j x) → e.1 ≡ log_word_of S ws j x)
 

@@ -8,7 +8,7 @@ use Rattle.of_core.specs.declared.machine.trying.TheConstants.{MOST_TRIES}
 use Rattle.of_cell.specs.Words.{pack, seq_of, payload_of}
 use Rattle.of_core.specs.declared.place.Outcome.{Outcome}
 use Rattle.of_core.specs.declared.place.Outcome.TheVariants.{Answered, Spent}
-use Rattle.of_core.specs.Table.{log_entries, Setup, ticket_cell, request_of, data_word, durable_request, announcement_of, script_words_of, committed_seq, durable_seq}
+use Rattle.of_core.specs.Table.{most_entries, Setup, ticket_cell, request_of, data_word, durable_request, announcement_of, script_words_of, committed_seq, durable_seq}
 use Rattle.of_core.specs.Machine.{CallState, log_entry, log_words, no_cell_known}
 use Rattle.of_core.specs.TableMoment.{Batch, TableStart}
 use Rattle.of_core.specs.History.{state_after, batch_at, numbers_after, last_ticket_by, HasCall}
@@ -108,7 +108,7 @@ module _ (S : Setup) (B : TableStart) (ws : List ℕ) (bs : List Batch) (i : ℕ
     pub copies : IsCopyingLog S B ws bs i m x
     pub more : request_of ws m.owner ≡ pack m.seq 0
         → x < length (log_words (batch_at B bs m.seq).log)
-    pub in_log : x < 2 * log_entries S + 1
+    pub in_log : x < 2 * most_entries S + 1
 
   -- LookAgain: if the transaction is still open, its whole log is copied
   pub record IsLookingAgain : Type 0 where

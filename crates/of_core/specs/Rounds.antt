@@ -7,7 +7,7 @@ use Rattle.of_core.specs.declared.machine.trying.TheConstants.{MOST_TRIES}
 use Rattle.of_cell.specs.Words.{pack, seq_of, payload_of}
 use Rattle.of_mem.specs.Meaning.{is_marked, Agrees}
 use Rattle.std.specs.List.{All}
-use Rattle.of_core.specs.Table.{log_entries, Setup, ticket_cell, shape_cell, reply_cell, request_of, log_word_of, durable_request, announcement_of, script_words_of, committed_seq, committed_owner}
+use Rattle.of_core.specs.Table.{most_entries, Setup, ticket_cell, shape_cell, reply_cell, request_of, log_word_of, durable_request, announcement_of, script_words_of, committed_seq, committed_owner}
 use Rattle.of_core.specs.Machine.{Call, CallState}
 use Rattle.of_core.specs.TableMoment.{Batch, TableStart}
 use Rattle.of_core.specs.History.{batch_at, numbers_after, last_ticket_by}
@@ -156,4 +156,4 @@ module _ (S : Setup) (B : TableStart) (ws : List ℕ) (bs : List Batch) where
     pub shut : (k : ℕ) → B.seq < k → k ≤ committed_seq ws → (batch_at B bs k).owner ≡ i
         → pack k 0 < request_of ws i
     -- and its log words are old
-    pub logs : (y : ℕ) → y < 2 * log_entries S + 1 → seq_of (log_word_of S ws i y) ≤ n
+    pub logs : (y : ℕ) → y < 2 * most_entries S + 1 → seq_of (log_word_of S ws i y) ≤ n

@@ -3,7 +3,7 @@
 use Rattle.std.specs.Prelude.{ℕ, ◌*◌, List, length, true, false, ◌≡◌, ◌≤◌, ◌<◌, ◌⊎◌}
 use Rattle.std.proofs.Common.{get_or}
 use Rattle.of_cell.specs.declared.word.TheConstants.{PAYLOADS}
-use Rattle.of_cell.specs.declared.shape.TheConstants.{LOG_OF_EACH}
+use Rattle.of_cell.specs.declared.shape.TheConstants.{LOG_SHARE}
 use Rattle.of_mem.specs.declared.work.TheConstants.{FEW_DATA_CELLS}
 use Rattle.of_cell.specs.Words.{pack, seq_of, payload_of}
 use Rattle.of_mem.specs.declared.work.RawReply.{RawReply}
@@ -61,8 +61,8 @@ pub record HasScannedUpTo (S : Setup) (B : TableStart) (ws : List ℕ) (bs : Lis
   pub over : IsOverlayOf S (numbers_after B bs s) cs es
   pub taken : All (WasTakenByScan S (state_after B bs s)) cs
   pub below : All (λ (c : Call). c.caller < n) cs
-  -- over many cells each of them has written its share of the log at most
-  pub short : (S.cells ≤ FEW_DATA_CELLS) ⊎ (length es ≤ n * LOG_OF_EACH)
+  -- over many data cells each of the n callers has at most its share of the log
+  pub short : (S.cells ≤ FEW_DATA_CELLS) ⊎ (length es ≤ n * LOG_SHARE)
   pub ordered : CallersRise cs
   pub announced : s ≡ committed_seq ws → All (IsAnnouncedCall S ws) cs
   -- one's own call is among them

@@ -49,8 +49,8 @@ abbrev pub log_at : Setup → ℕ → ℕ → ℕ
 log_at S i x = log_cell S.callers S.cells i x
 
 -- the most entries of a log
-abbrev pub log_entries : Setup → ℕ
-log_entries S = log_room S.callers S.cells
+abbrev pub most_entries : Setup → ℕ
+most_entries S = log_room S.callers S.cells
 
 -- how many cells there are
 abbrev pub cell_count : Setup → ℕ

@@ -3,7 +3,7 @@
 use Rattle.std.specs.Prelude.{ℕ, ◌+◌, ◌*◌, List, length, Bool, true, false, ◌≡◌, ◌≤◌, ◌<◌, ◌⊎◌}
 use Rattle.std.proofs.Common.{get_or, take}
 use Rattle.of_cell.specs.Words.{pack, seq_of}
-use Rattle.of_core.specs.Table.{log_entries, Setup, request_of, data_word, log_word_of, durable_request, durable_cell, durable_log, announcement_of, committed_seq}
+use Rattle.of_core.specs.Table.{most_entries, Setup, request_of, data_word, log_word_of, durable_request, durable_cell, durable_log, announcement_of, committed_seq}
 use Rattle.of_core.specs.Machine.{CallState, log_entry, log_words}
 use Rattle.of_core.specs.TableMoment.{Batch, TableStart}
 use Rattle.of_core.specs.History.{batch_at, last_ticket_by, HasCall}
@@ -34,7 +34,7 @@ module _ (S : Setup) (B : TableStart) (ws : List ℕ) (bs : List Batch) (i : ℕ
     pub call : HasCall S (batch_at B bs m.seq).calls i m.made m.op m.raw
     pub asks : (request_of ws i ≡ pack m.seq 0) ⊎ (request_of ws i ≡ pack m.seq 1)
     pub unowned : (k : ℕ) → m.seq < k → k ≤ committed_seq ws → (batch_at B bs k).owner ≡ i → ⊥
-    pub logs : (y : ℕ) → y < 2 * log_entries S + 1 → seq_of (log_word_of S ws i y) ≤ m.seq
+    pub logs : (y : ℕ) → y < 2 * most_entries S + 1 → seq_of (log_word_of S ws i y) ≤ m.seq
 
   -- a helper: in a round or a try, with nothing of its own under way
   pub record IsHelping (m : CallState) : Type 0 where
@@ -63,7 +63,7 @@ module _ (S : Setup) (B : TableStart) (ws : List ℕ) (bs : List Batch) (i : ℕ
     pub helps : m.helps ≡ true
     pub after : B.seq < m.seq
     pub many : length m.copy ≡ x
-    pub count : 1 ≤ x → get_or m.copy 0 0 ≤ log_entries S
+    pub count : 1 ≤ x → get_or m.copy 0 0 ≤ most_entries S
     pub copied : request_of ws m.owner ≡ pack m.seq 0
         → (x ≤ length (log_words (batch_at B bs m.seq).log))
         × (m.copy ≡ take x (log_words (batch_at B bs m.seq).log))
@@ -76,7 +76,7 @@ module _ (S : Setup) (B : TableStart) (ws : List ℕ) (bs : List Batch) (i : ℕ
         → log_word_of S ws i y ≡ pack (m.seq + 1) (get_or (log_words m.log) y 0)
     pub durable : (y : ℕ) → y < z
         → durable_log S ws i y ≡ pack (m.seq + 1) (get_or (log_words m.log) y 0)
-    pub rest : (y : ℕ) → x ≤ y → y < 2 * log_entries S + 1 → seq_of (log_word_of S ws i y) ≤ m.seq
+    pub rest : (y : ℕ) → x ≤ y → y < 2 * most_entries S + 1 → seq_of (log_word_of S ws i y) ≤ m.seq
 
   -- each of caller i's batches is closed durably
   abbrev pub HasClosedDurably : Type 0

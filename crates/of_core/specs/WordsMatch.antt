@@ -6,7 +6,7 @@ use Rattle.of_cell.specs.declared.word.TheConstants.{PAYLOADS}
 use Rattle.of_cell.specs.Words.{pack, seq_of, payload_of}
 use Rattle.of_mem.specs.Meaning.{HasDistinctCells, SameFrom}
 use Rattle.std.specs.List.{All}
-use Rattle.of_core.specs.Table.{log_entries, Setup, first_operation_cell, cell_count, request_of, data_word, log_word_of, durable_word, durable_request, durable_cell, durable_log, announcement_of, committed_seq, committed_owner, durable_seq}
+use Rattle.of_core.specs.Table.{most_entries, Setup, first_operation_cell, cell_count, request_of, data_word, log_word_of, durable_word, durable_request, durable_cell, durable_log, announcement_of, committed_seq, committed_owner, durable_seq}
 use Rattle.of_core.specs.Machine.{Call, log_words}
 use Rattle.of_core.specs.TableMoment.{Batch, TableStart}
 use Rattle.of_core.specs.History.{batch_at, data_word_after, numbers_after, numbers_after_calls, CallsHaveReplies, last_ticket_by, OwnCellsShowLast, CallersRise}
@@ -19,7 +19,7 @@ IsEntry S e = (e.0 < S.cells) × (e.1 < PAYLOADS)
 pub record IsLog (S : Setup) (es : List (ℕ × ℕ)) : Type 0 where
   pub entries : All (IsEntry S) es
   pub once : HasDistinctCells es
-  pub few : length es ≤ log_entries S
+  pub few : length es ≤ most_entries S
 
 -- the words are those of such a log
 abbrev pub AreLogWords : Setup → List ℕ → Type 0
@@ -176,8 +176,8 @@ pub record AnnouncementsAreServed (S : Setup) (B : TableStart) (ws : List ℕ) (
   pub reached : (i : ℕ) → i < S.callers
       → last_ticket_by S B bs (committed_seq ws) i
       ≤ max (last_ticket_by S B bs B.seq i) (seq_of (announcement_of S ws i))
-  -- a log has no more entries than there are cells, also where its round was lost
-  pub counts : (i : ℕ) → i < S.callers → payload_of (log_word_of S ws i 0) ≤ log_entries S
+  -- a log has no more entries than it has room for, also where its round was lost
+  pub counts : (i : ℕ) → i < S.callers → payload_of (log_word_of S ws i 0) ≤ most_entries S
 
 -- a word of caller j's request above the start is open or closed, and closed only where j owned
 -- that batch
@@ -203,13 +203,13 @@ pub record WordsHaveTheirKind (S : Setup) (B : TableStart) (ws : List ℕ) (bs :
   -- also durably
   pub dur_requests : (j : ℕ) → j < S.callers → IsRequest B ws bs j (durable_request S ws j)
   -- a log word of a batch's sequence is that batch's
-  pub logs : (j x : ℕ) → j < S.callers → x < 2 * log_entries S + 1
+  pub logs : (j x : ℕ) → j < S.callers → x < 2 * most_entries S + 1
       → IsLogWord B ws bs j x (log_word_of S ws j x)
   -- also durably
-  pub dur_logs : (j x : ℕ) → j < S.callers → x < 2 * log_entries S + 1
+  pub dur_logs : (j x : ℕ) → j < S.callers → x < 2 * most_entries S + 1
       → IsLogWord B ws bs j x (durable_log S ws j x)
   -- and the cell of an entry is one, also where its round was lost
-  pub sized : (j y : ℕ) → j < S.callers → y < log_entries S
+  pub sized : (j y : ℕ) → j < S.callers → y < most_entries S
       → payload_of (log_word_of S ws j (2 * y + 1)) < S.cells
 
 -- all that is said of words and history, and of no machine

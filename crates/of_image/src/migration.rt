@@ -18,6 +18,7 @@ use crate::parse::{plot_of, read_image};
 use crate::printing::print_row;
 use crate::version::Version;
 use of_mem::Plot;
+use of_plan::table_shape;
 use of_report::Image;
 use std::alloc::{AllocError, Global};
 
@@ -70,10 +71,8 @@ fn moved_words(alloc: Global, old: &Plot, new: &Plot, words: &[u64]) -> Result<V
     requires row { IsDurableRow old.now.callers (data_cell_count old.now) words.now }
     ensures { IfOk result (λ moved. moved.items ≡ moved_words_to old.now new.now words.now) }
 {
-    let cells = new.cells();
-    let size = 1 + new.callers + cells + new.callers * (2 * cells + 1);
     let mut moved = Vec::new(alloc);
-    for cell in 0..size {
+    for cell in 0..table_shape(new).durable_cells() {
         moved.push(moved_word(old, new, words, cell))?;
     }
     Ok(moved)

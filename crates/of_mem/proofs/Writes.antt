@@ -136,7 +136,7 @@ put_all_once es once = ap (put_all []) (sym (take_all (length es) es (omega arit
         ∙ ap (λ (ds : List (ℕ × ℕ)). put_pair ds (get_or es i (0, 0)).0 (get_or es i (0, 0)).1) (go i (omega (arith, l)))
         ∙ put_next es once i l)
 
--- pairs that are put over others make at most as many more
+-- putting pairs adds at most one entry for each
 put_pair_few : (ds : List (ℕ × ℕ)) (a v : ℕ) → length (put_pair ds a v) ≤ length ds + 1
 put_pair_few [] a v = omega arith
 put_pair_few (e ∷ es) a v = go (put_pair_few es a v) (e.0 == a)

@@ -64,7 +64,7 @@ pub record IsFinishedWalk (M : Meaning) (base size : ℕ) (xs op : List ℕ) (es
     (r : RawReply) : Type 0 where
   pub inside : All (λ (e : ℕ × ℕ). (base ≤ e.0) × (e.0 < size) × FitsCell e.1) es
   pub once : HasDistinctCells es
-  -- over many cells it writes few of them
+  -- over many data cells it writes few of them
   pub few : (size ≤ FEW_DATA_CELLS) ⊎ (length es ≤ MOST_WRITES)
   pub cells : M.cells xs op ≡ with_writes_in xs es
   pub reply : M.reply xs op ≡ r

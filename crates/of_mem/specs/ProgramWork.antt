@@ -54,7 +54,7 @@ pub record AreSound (keeps : RawReply → Bool) (reads : List ℕ → Bool)
   pub lawful_from : (m n : ℕ → ℕ) → ((a : ℕ) → low ≤ a → m a ≡ n a) → lawful m → lawful n
   pub stays : (op : List ℕ) → StaysFrom low (program op)
   pub inside : (m : ℕ → ℕ) (op : List ℕ) → lawful m → StaysBetween low size (program op) m
-  -- over many cells an operation writes few of them
+  -- over many data cells an operation writes few of them
   pub few : (m : ℕ → ℕ) (op : List ℕ) → lawful m
       → (size ≤ FEW_DATA_CELLS) ⊎ (length (program_writes (program op) m) ≤ MOST_WRITES)
   pub replies : (m : ℕ → ℕ) (op : List ℕ) → lawful m → IsReplyTo op (program_answer (program op) m)

@@ -18,10 +18,10 @@ pub const MOST_CALLERS: u32 = 16;
 /// The most data cells, as many as such a table has.
 pub const MOST_DATA_CELLS: u32 = 134_217_728;
 
-/// Up to how many data cells an operation may write each of them.
+/// Over at most this number of data cells an operation may write all of them.
 pub const FEW_DATA_CELLS: u32 = 4096;
 
-/// The most cells that an operation writes where there are more data cells.
+/// Over more data cells an operation writes at most this number of them.
 pub const MOST_WRITES: u32 = 238;
 
 /// The least shape of a script that was aborted: the cause stands in the bits above it.

@@ -1,12 +1,13 @@
 //! Laws of plans and reports, and the numbers of plans.
 
-ghost use Rattle.std.specs.Prelude.{◌≡◌};
+ghost use Rattle.std.specs.Prelude.{◌≡◌, ◌+◌, ◌≤◌, ℕ};
+ghost use Rattle.of_cell.specs.Cells.{log_room};
 ghost use Rattle.of_cell.specs.declared.shape.TheConstants as cell;
 ghost use Rattle.of_mem.specs.declared.work.TheConstants as work;
 ghost use Rattle.of_mem.specs.declared.plot.TheConstants as plot;
 ghost use Rattle.of_script.specs.declared.instr.TheConstants as script;
 ghost use Rattle.of_store.specs.declared.store.TheConstants as store;
-ghost use Rattle.of_plan.specs.Plan.{Plan};
+ghost use Rattle.of_plan.specs.Plan.{Plan, data_cells};
 ghost use Rattle.of_plan.specs.Report.{Start, empty_start};
 ghost use Rattle.of_plan.specs.Legal.{IsLegal};
 ghost use Rattle.of_plan.specs.Histories.{HistoriesAreLegal};
@@ -48,10 +49,20 @@ pub fn numbers()
     ensures turns { MOST_TURNS ≡ 10000000 }
 {}
 
+/// A log of a plan's table has room for each data cell.
+#[tactic(auto, using(of_cell::proofs::Rooms::room_whole))]
+pub fn logs_are_whole()
+    ensures { (n b : ℕ) → n ≤ cell.MOST_CALLERS → b ≤ store.MOST_BLOCKS
+        → log_room n (data_cells n b) ≡ data_cells n b }
+{}
+
 /// A limit that two crates state, since neither stands on the other, is one number in both.
 pub fn limits_agree()
     ensures callers { work.MOST_CALLERS ≡ cell.MOST_CALLERS }
     ensures data_cells { work.MOST_DATA_CELLS ≡ cell.MOST_DATA_CELLS }
+    ensures few_data_cells { work.FEW_DATA_CELLS ≡ cell.FEW_DATA_CELLS }
+    // what an operation writes over many data cells, and its caller's own cells, are its share of a log
+    ensures log_share { work.MOST_WRITES + (work.MOST_INSTRS + 2) ≡ cell.LOG_SHARE }
     ensures script_words { cell.MOST_SCRIPT_WORDS ≡ script.MOST_INSTRS }
     ensures instrs { work.MOST_INSTRS ≡ script.MOST_INSTRS }
     ensures registers { plot.REGISTERS ≡ script.REGISTERS }

@@ -3,7 +3,7 @@ use Rattle.std.proofs.Common.{◌≡◌, ℕ, ◌+◌, ◌-◌, ◌*◌, ◌/◌
 use Rattle.std.proofs.Math.Nat.{mod-lt}
 use Rattle.std.proofs.lemmas.Nat.{div-add-mod'}
 use Rattle.std.proofs.lemmas.Bool.{eqb-true as is_eq, eqb-false as not_eq, ltb-false as not_less}
-use Rattle.of_cell.specs.Cells.{data_cell, durable_cells, script_place, members_place}
+use Rattle.of_cell.specs.Cells.{log_room, data_cell, durable_cells, script_place, members_place}
 use Rattle.of_mem.specs.declared.work.TheConstants.{MOST_INSTRS}
 use Rattle.of_mem.specs.Places.{base_of, fresh_at, free_at, keys_at, head_at, length_at, block_at}
 use Rattle.of_play.specs.declared.names.CellUse.{CellUse}
@@ -59,7 +59,7 @@ pub cells_named : CellsAreNamed
 cells_named n m c = either P (c == 0) _ _ (λ e. sym (is_eq c 0 e))
     (λ e. either P (nat_lt c (data_cell n 0)) _ _ (λ f. omega (arith, not_eq c 0 e))
     (λ f. either P (nat_lt c (data_cell n m)) _ _ (λ g. omega (arith, not_less c (data_cell n 0) f))
-    (λ g. let x = c - data_cell n m in omega (arith, div-add-mod' x (2 * m + 1), not_less c (data_cell n m) g))))
+    (λ g. let x = c - data_cell n m in omega (arith, div-add-mod' x (2 * log_room n m + 1), not_less c (data_cell n m) g))))
   where
     P : ShownCell → Type 0
     P x = shown_cell_number n m x ≡ c

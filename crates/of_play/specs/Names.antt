@@ -1,7 +1,7 @@
 -- The words of a plan's table by their names. What stands where is laid out in of_cell and of_mem;
 -- here it is read backwards.
 use Rattle.std.specs.Prelude.{◌≡◌, ℕ, ◌+◌, ◌-◌, ◌*◌, ◌/◌, ◌%◌, ◌<◌, ◌==◌, nat_lt, if◌then◌else◌}
-use Rattle.of_cell.specs.Cells.{request_cell, data_cell, log_cell, durable_cells, durable_place, script_place, announce_place, members_place, table_words}
+use Rattle.of_cell.specs.Cells.{log_room, request_cell, data_cell, log_cell, durable_cells, durable_place, script_place, announce_place, members_place, table_words}
 use Rattle.of_mem.specs.declared.work.TheConstants.{MOST_INSTRS}
 use Rattle.of_mem.specs.Places.{base_of, ticket_cell_at, shape_at, reply_at, register_at, fresh_at, free_at, keys_at, bucket_at, head_at, tail_at, length_at, block_at}
 use Rattle.of_play.specs.declared.names.CellUse.{CellUse}
@@ -74,7 +74,8 @@ cell_at n m c =
     if c == 0 then Current
     else if nat_lt c (data_cell n 0) then Request (c - 1)
     else if nat_lt c (data_cell n m) then Data (c - data_cell n 0)
-    else Log ((c - data_cell n m) / (2 * m + 1)) ((c - data_cell n m) % (2 * m + 1))
+    else Log ((c - data_cell n m) / (2 * log_room n m + 1))
+    ((c - data_cell n m) % (2 * log_room n m + 1))
 
 -- word x of caller i's row of script words
 abbrev pub row_word : (i x : ℕ) → ShownWord

@@ -153,7 +153,7 @@ impl ShownCell {
         } else if number < logs {
             ShownCell::Data(number - data)
         } else {
-            let log_words = 2 * shape.cells + 1;
+            let log_words = 2 * shape.log_room() + 1;
             ShownCell::Log {
                 caller: (number - logs) / log_words,
                 at: (number - logs) % log_words,

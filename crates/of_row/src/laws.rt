@@ -2,7 +2,7 @@
 
 ghost use Rattle.of_row.specs.Laws.{SeesWholeHistory, SeesOwnCalls, SeesLegal, EvictionsAreRaised};
 ghost use Rattle.of_row.specs.Laws.{NewMachinesRun, MachinesKeepRunning};
-ghost use Rattle.of_row.specs.Attached.{FreshMembersFit};
+ghost use Rattle.of_row.specs.FreshMembers.{FreshMembersFit};
 ghost use Rattle.of_core.specs.Laws.{setup_for};
 ghost use Rattle.of_row.specs.Runs.{RunsAreSchedules, RunsAreLinearizable};
 ghost use Rattle.of_row.specs.Moments.{StopsLoseNothing, ClosedHoldsCalls};
@@ -105,8 +105,9 @@ pub fn raises_are_short<W: Work>(limit: u32, work: W)
     of_core::laws::raises_are_short(limit, work);
 }
 
-/// A member that has heard of nothing since the row's start fits beside all that others have done,
-/// while its number is taken and has done nothing. So it need not be in the process of the others.
+/// If a caller's number is taken and has done nothing, the view of a member that has seen nothing
+/// since the row's start fits the rule, whatever the other callers have done. No call of a row makes
+/// such a member from outside.
 pub fn fresh_members_fit<W: Work>(limit: u32, work: W)
     ensures { FreshMembersFit (W.lawful work) (setup_for W.many W.size W.meaning limit work) }
 {

@@ -2,7 +2,7 @@
 //! schedules and traces.
 
 ghost use Rattle.std.specs.Prelude.{◌≡◌, codes};
-ghost use Rattle.of_mem.specs.declared.work.TheConstants.{MOST_CALLERS, MOST_DATA_CELLS, MOST_INSTRS};
+ghost use Rattle.of_mem.specs.declared.work.TheConstants.{FEW_DATA_CELLS, MOST_CALLERS, MOST_DATA_CELLS, MOST_INSTRS};
 ghost use Rattle.of_mem.specs.declared.plot.TheConstants.{BUCKETS, MOST_BLOCKS, QUEUES, REGISTERS};
 ghost use Rattle.of_plan.specs.Plan.{data_cells};
 ghost use Rattle.of_tool.specs.HelpText.{help_text};
@@ -43,7 +43,8 @@ pub fn numbers()
 {}
 
 /// What a plan's memory has room for, and how far a trace reaches: callers, words of a script,
-/// cells of the greatest store, registers, buckets, queues, keys and items together.
+/// cells of the greatest store, registers, buckets, queues, keys and items together. A table of a
+/// program's own work may have more data cells.
 pub fn limits()
     ensures callers { MOST_CALLERS ≡ 16 }
     ensures instrs { MOST_INSTRS ≡ 16 }
@@ -52,7 +53,8 @@ pub fn limits()
     ensures queues { QUEUES ≡ 4 }
     ensures blocks { MOST_BLOCKS ≡ 512 }
     ensures cells { data_cells 16 512 ≡ 1887 }
-    ensures data_cells { MOST_DATA_CELLS ≡ 4096 }
+    ensures few_data_cells { FEW_DATA_CELLS ≡ 4096 }
+    ensures data_cells { MOST_DATA_CELLS ≡ 134217728 }
     ensures first { MOST_FIRST ≡ 10000000 }
     ensures events { MOST_EVENTS ≡ 10000 }
 {}

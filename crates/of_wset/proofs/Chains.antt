@@ -1,11 +1,10 @@
 -- The chains of entries by their homes.
-use Rattle.std.proofs.Common.{◌≡◌, ◌≢◌, ℕ, zero, suc, ◌+◌, ◌-◌, ◌<◌, ◌≤◌, ◌⊎◌, inl, inr, ◌==◌, ◌%◌, Bool, true, false, if◌then◌else◌, List, [], ◌∷◌, ◌++◌, length, refl, sym, ◌∙◌, ap, arith}
+use Rattle.std.proofs.Common.{◌≡◌, ◌≢◌, ℕ, zero, suc, ◌-◌, ◌<◌, ◌≤◌, ◌⊎◌, inl, inr, ◌==◌, ◌%◌, Bool, true, false, if◌then◌else◌, List, length, refl, sym, ◌∙◌, ap, arith}
 use Rattle.std.proofs.lemmas.Bool.{cases_eq, cases_lt, eqb-true as same, eqb-false as other}
-use Rattle.std.proofs.lemmas.Nat.{mod_below}
 use Rattle.of_wset.specs.WriteSet.{address}
-use Rattle.of_wset.specs.Index.{latest, note_at, HasFronts, HasChains}
+use Rattle.of_wset.specs.Index.{latest, note_at, HasChains}
 
--- it is a place behind one of the first n
+-- it is at most n
 pub latest_few : (H : ℕ) (es : List (ℕ × ℕ)) (h n : ℕ) → latest H es h n ≤ n
 latest_few H es h zero = omega arith
 latest_few H es h (suc n) = go (latest_few H es h n) (address es n % H == h)
@@ -14,7 +13,7 @@ latest_few H es h (suc n) = go (latest_few H es h n) (address es n % H == h)
     go l true = omega arith
     go l false = omega arith
 
--- the entry before it has the home
+-- the entry of that place has the home
 pub latest_home : (H : ℕ) (es : List (ℕ × ℕ)) (h n : ℕ) → latest H es h n ≢ 0 → address es (latest H es h n - 1) % H ≡ h
 latest_home H es h zero p = absurd (p refl)
 latest_home H es h (suc n) p = go (latest_home H es h n) (address es n % H == h) refl p
@@ -23,7 +22,7 @@ latest_home H es h (suc n) p = go (latest_home H es h n) (address es n % H == h)
     go again true e q = ap (λ (x : ℕ). address es x % H) {x = suc n - 1} {y = n} (omega arith) ∙ same (address es n % H) h e
     go again false e q = again q
 
--- no entry from there on has it
+-- no entry after that place has it
 pub latest_last : (H : ℕ) (es : List (ℕ × ℕ)) (h n k : ℕ) → latest H es h n ≤ k → k < n → address es k % H ≢ h
 latest_last H es h zero k l m = absurd (omega arith)
 latest_last H es h (suc n) k l m = go (latest_last H es h n k) (address es n % H == h) refl l (cases_eq k n)
@@ -33,22 +32,18 @@ latest_last H es h (suc n) k l m = go (latest_last H es h n k) (address es n % H
     go again false e u (inl c) = λ q. other (address es n % H) h e (ap (λ (x : ℕ). address es x % H) (sym c) ∙ q)
     go again false e u (inr c) = again u (omega arith)
 
--- a place that has the home, and behind which none has it, is the last
-pub latest_is : (H : ℕ) (es : List (ℕ × ℕ)) (h n k : ℕ) → k < n → address es k % H ≡ h → latest H es h n ≢ 0
-latest_is H es h n k l e z = latest_last H es h n k (omega (arith, z)) l e
-
--- entries that are alike have the same chains
+-- entries of the same addresses have the same chains
 pub latest_same : (H : ℕ) (es ds : List (ℕ × ℕ)) (h n : ℕ) → ((k : ℕ) → k < n → address ds k ≡ address es k) → latest H ds h n ≡ latest H es h n
 latest_same H es ds h zero s = refl
 latest_same H es ds h (suc n) s =
     ap (λ (a : ℕ). if a % H == h then suc n else latest H ds h n) (s n (omega arith))
     ∙ ap (λ (x : ℕ). if address es n % H == h then suc n else x) (latest_same H es ds h n (λ k l. s k (omega arith)))
 
--- What a note of a home tells.
-module _ (H : ℕ) (es : List (ℕ × ℕ)) (fs : List ℕ) (h : ℕ) (told : (latest H es h (length es) ≡ 0) ⊎ (note_at fs h ≡ latest H es h (length es))) where
-  -- one that is no place tells that no entry has it
+-- What the note of a home says.
+module _ (H : ℕ) (es : List (ℕ × ℕ)) (fs : List ℕ) (h : ℕ) (noted : (latest H es h (length es) ≡ 0) ⊎ (note_at fs h ≡ latest H es h (length es))) where
+  -- if it is no place, no entry has the home
   pub front_none : (note_at fs h ≡ 0) ⊎ (length es < note_at fs h) → latest H es h (length es) ≡ 0
-  front_none p = go told p
+  front_none p = go noted p
     where
       few : latest H es h (length es) ≤ length es
       few = latest_few H es h (length es)
@@ -58,24 +53,24 @@ module _ (H : ℕ) (es : List (ℕ × ℕ)) (fs : List ℕ) (h : ℕ) (told : (l
       go (inr e) (inl q) = sym e ∙ q
       go (inr e) (inr q) = absurd (omega (arith, e, q, few))
 
-  -- the place of an entry that has it is the last
+  -- if its entry has the home, it is the last one
   pub front_here : note_at fs h ≢ 0 → note_at fs h ≤ length es → address es (note_at fs h - 1) % H ≡ h → note_at fs h ≡ latest H es h (length es)
-  front_here some few is = go told
+  front_here some few is = go noted
     where
       go : (latest H es h (length es) ≡ 0) ⊎ (note_at fs h ≡ latest H es h (length es)) → note_at fs h ≡ latest H es h (length es)
       go (inl z) = absurd (latest_last H es h (length es) (note_at fs h - 1) (omega (arith, z)) (omega (arith, some, few)) is)
       go (inr e) = e
 
-  -- the place of another one tells that no entry has it
+  -- if its entry has another home, no entry has this one
   pub front_other : (address es (note_at fs h - 1) % H ≡ h → ⊥) → latest H es h (length es) ≡ 0
-  front_other other = go told (cases_eq (latest H es h (length es)) 0)
+  front_other other = go noted (cases_eq (latest H es h (length es)) 0)
     where
       go : (latest H es h (length es) ≡ 0) ⊎ (note_at fs h ≡ latest H es h (length es)) → (latest H es h (length es) ≡ 0) ⊎ (latest H es h (length es) ≢ 0) → latest H es h (length es) ≡ 0
       go (inl z) q = z
       go (inr e) (inl q) = q
       go (inr e) (inr q) = absurd (other (ap (λ (x : ℕ). address es (x - 1) % H) e ∙ latest_home H es h (length es) q))
 
--- A search that has come to this place, behind which the address is not.
+-- A search that has come to a place: no entry after it has the address.
 module _ (H : ℕ) (es : List (ℕ × ℕ)) (os : List ℕ) (a at : ℕ) (chains : HasChains H es os) (some : at ≢ 0) (few : at ≤ length es) (home : address es (at - 1) % H ≡ a % H) where
   older_is : note_at os (at - 1) ≡ latest H es (a % H) (at - 1)
   older_is = chains (at - 1) (omega (arith, some, few)) ∙ ap (λ (h : ℕ). latest H es h (at - 1)) home
@@ -94,7 +89,7 @@ module _ (H : ℕ) (es : List (ℕ × ℕ)) (os : List ℕ) (a at : ℕ) (chains
       go (inl u) (inl c) = λ q. here (ap (address es) (sym c) ∙ q)
       go (inl u) (inr c) = λ q. latest_last H es (a % H) (at - 1) k (omega (arith, older_is, l)) (omega (arith, u, c)) (ap (λ (x : ℕ). x % H) q)
 
--- where a search begins
+-- The place that a search begins at.
 module _ (H : ℕ) (es : List (ℕ × ℕ)) (a : ℕ) where
   pub begins_home : latest H es (a % H) (length es) ≢ 0 → address es (latest H es (a % H) (length es) - 1) % H ≡ a % H
   begins_home = latest_home H es (a % H) (length es)

@@ -1,5 +1,5 @@
 -- Pairs of address and value: what a look-up says of the value at an address and of a write, and how many pairs there are.
-use Rattle.std.proofs.Common.{◌≡◌, ◌≢◌, ℕ, zero, suc, ◌+◌, ◌<◌, ◌≤◌, ◌⊎◌, inl, inr, eqb, true, List, [], ◌∷◌, ◌++◌, length, map, Some, None, get_or, set, refl, sym, ◌∙◌, ap, arith, length-append}
+use Rattle.std.proofs.Common.{◌≡◌, ◌≢◌, ℕ, zero, suc, ◌<◌, ◌≤◌, ◌⊎◌, inl, inr, eqb, true, List, [], ◌∷◌, ◌++◌, length, map, Some, None, get_or, set, refl, sym, ◌∙◌, ap, arith, length-append}
 use Rattle.std.specs.List.{list_any, Any, AllPairs}
 use Rattle.std.proofs.lemmas.Map.Steps.{length-le_from_distinct_below}
 use Rattle.std.proofs.lemmas.Map.Made.{IsDistinct-from_AllPairs}
@@ -57,31 +57,39 @@ few_addresses es n below once = rw (← size) (length-le_from_distinct_below xs 
         let here : address es f.0 ≡ f.1 = sym (at_x f.0 f.1 mk) ∙ f.3 in
         omega (arith, below f.0 mk)
 
--- there was room for one more
-pub room_left : (room : ℕ) (es : List (ℕ × ℕ)) (a : ℕ) → ((k : ℕ) → k < length es → address es k < room) → ((j k : ℕ) → j < length es → k < length es → address es j ≡ address es k → j ≡ k) → IsUnwritten es a → a < room → length es < room
-room_left room es a below once absent inside = omega (arith, size, few_addresses (es ++ (a, 0) ∷ []) room (λ k m. below' k (cases_eq k (length es)) m) (λ j k l m q. once' j k (cases_eq j (length es)) (cases_eq k (length es)) l m q))
-  where
-    size : length (es ++ (a, 0) ∷ []) ≡ suc (length es)
-    size = length-append es ((a, 0) ∷ []) ∙ omega arith
+-- An entry more, for an address that is in none.
+module _ (room : ℕ) (es : List (ℕ × ℕ)) (a v : ℕ) (within : (k : ℕ) → k < length es → address es k < room) (distinct : (j k : ℕ) → j < length es → k < length es → address es j ≡ address es k → j ≡ k) (absent : IsUnwritten es a) (inside : a < room) where
+  pub more_size : length (es ++ (a, v) ∷ []) ≡ suc (length es)
+  more_size = length-append es ((a, v) ∷ []) ∙ omega arith
 
-    old : (k : ℕ) → k < length es → address (es ++ (a, 0) ∷ []) k ≡ address es k
-    old k l = ap (λ (e : ℕ × ℕ). e.0) (get_or_append_left es ((a, 0) ∷ []) (0, 0) k l)
+  pub more_old : (k : ℕ) → k < length es → address (es ++ (a, v) ∷ []) k ≡ address es k
+  more_old k l = ap (λ (e : ℕ × ℕ). e.0) (get_or_append_left es ((a, v) ∷ []) (0, 0) k l)
 
-    new : (k : ℕ) → k ≡ length es → address (es ++ (a, 0) ∷ []) k ≡ a
-    new k e = ap (λ (e : ℕ × ℕ). e.0) (get_or_push es (a, 0) (0, 0) k (sym e))
+  pub more_new : (k : ℕ) → k ≡ length es → address (es ++ (a, v) ∷ []) k ≡ a
+  more_new k e = ap (λ (e : ℕ × ℕ). e.0) (get_or_push es (a, v) (0, 0) k (sym e))
 
-    below' : (k : ℕ) → (k ≡ length es) ⊎ (k ≢ length es) → k < length (es ++ (a, 0) ∷ []) → address (es ++ (a, 0) ∷ []) k < room
-    below' k (inl e) m = rw (new k e) inside
-    below' k (inr d) m = let s : k < length es = omega (arith, size) in rw (old k s) (below k s)
+  pub more_below : (k : ℕ) → k < length (es ++ (a, v) ∷ []) → address (es ++ (a, v) ∷ []) k < room
+  more_below k m = go (cases_eq k (length es))
+    where
+      go : (k ≡ length es) ⊎ (k ≢ length es) → address (es ++ (a, v) ∷ []) k < room
+      go (inl e) = rw (more_new k e) inside
+      go (inr d) = let s : k < length es = omega (arith, more_size) in rw (more_old k s) (within k s)
 
-    once' : (j k : ℕ) → (j ≡ length es) ⊎ (j ≢ length es) → (k ≡ length es) ⊎ (k ≢ length es) → j < length (es ++ (a, 0) ∷ []) → k < length (es ++ (a, 0) ∷ []) → address (es ++ (a, 0) ∷ []) j ≡ address (es ++ (a, 0) ∷ []) k → j ≡ k
-    once' j k (inl e) (inl f) l m q = e ∙ sym f
-    once' j k (inl e) (inr f) l m q = let s : k < length es = omega (arith, size) in absurd (absent k s (sym (old k s) ∙ sym q ∙ new j e))
-    once' j k (inr e) (inl f) l m q = let s : j < length es = omega (arith, size) in absurd (absent j s (sym (old j s) ∙ q ∙ new k f))
-    once' j k (inr e) (inr f) l m q =
-        let s : j < length es = omega (arith, size) in
-        let t : k < length es = omega (arith, size) in
-        once j k s t (sym (old j s) ∙ q ∙ old k t)
+  pub more_once : (j k : ℕ) → j < length (es ++ (a, v) ∷ []) → k < length (es ++ (a, v) ∷ []) → address (es ++ (a, v) ∷ []) j ≡ address (es ++ (a, v) ∷ []) k → j ≡ k
+  more_once j k l m q = go (cases_eq j (length es)) (cases_eq k (length es))
+    where
+      go : (j ≡ length es) ⊎ (j ≢ length es) → (k ≡ length es) ⊎ (k ≢ length es) → j ≡ k
+      go (inl e) (inl f) = e ∙ sym f
+      go (inl e) (inr f) = let s : k < length es = omega (arith, more_size) in absurd (absent k s (sym (more_old k s) ∙ sym q ∙ more_new j e))
+      go (inr e) (inl f) = let s : j < length es = omega (arith, more_size) in absurd (absent j s (sym (more_old j s) ∙ q ∙ more_new k f))
+      go (inr e) (inr f) =
+          let s : j < length es = omega (arith, more_size) in
+          let t : k < length es = omega (arith, more_size) in
+          distinct j k s t (sym (more_old j s) ∙ q ∙ more_old k t)
+
+  -- so there was room for it
+  pub room_left : length es < room
+  room_left = omega (arith, more_size, few_addresses (es ++ (a, v) ∷ []) room more_below more_once)
 
 module _ (room homes : ℕ) (es : List (ℕ × ℕ)) (os fs : List ℕ) (capacity links notes : ℕ) (h : IsIndexedSet room homes es os fs capacity links notes) where
   pub few : length es ≤ room

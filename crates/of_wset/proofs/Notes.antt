@@ -1,34 +1,22 @@
 -- What a write keeps, when an entry comes and its place is noted at its home.
-use Rattle.std.proofs.Common.{◌≡◌, ◌≢◌, ℕ, suc, ◌+◌, ◌<◌, ◌≤◌, ◌⊎◌, inl, inr, ◌==◌, ◌%◌, Bool, true, false, if◌then◌else◌, List, [], ◌∷◌, ◌++◌, length, set, refl, sym, ◌∙◌, ap, arith, length-append, length-set}
+use Rattle.std.proofs.Common.{◌≡◌, ◌≢◌, ℕ, suc, ◌+◌, ◌<◌, ◌≤◌, ◌⊎◌, inl, inr, ◌==◌, ◌%◌, Bool, if◌then◌else◌, List, [], ◌∷◌, ◌++◌, length, set, refl, sym, ◌∙◌, ap, arith, length-append, length-set}
 use Rattle.std.proofs.lemmas.Bool.{cases_eq, eq-eqb as equals, ne_eqb as differs}
 use Rattle.std.proofs.lemmas.List.{get_or_append_left, get_or_push, get_or-set_same, get_or-set_other}
 use Rattle.of_wset.specs.WriteSet.{address}
 use Rattle.of_wset.specs.Index.{IsUnwritten, IsEntryFor, NotesPlace, IsIndexedSet, note_at, latest}
+use Rattle.of_wset.proofs.Maps.{more_size, more_old, more_new, more_below, more_once}
 use Rattle.of_wset.proofs.Chains.{latest_same}
 
 -- an entry more, whose place is noted
 module _ (room homes : ℕ) (es : List (ℕ × ℕ)) (os fs gs : List ℕ) (capacity links notes a v : ℕ) (h : IsIndexedSet room homes es os fs capacity links notes) (absent : IsUnwritten es a) (inside : a < room) (n : NotesPlace fs gs (a % homes) (length es + 1)) (home : a % homes < homes) where
   size : length (es ++ (a, v) ∷ []) ≡ suc (length es)
-  size = length-append es ((a, v) ∷ []) ∙ omega arith
+  size = more_size room es a v h.below h.once absent inside
 
   old : (k : ℕ) → k < length es → address (es ++ (a, v) ∷ []) k ≡ address es k
-  old k l = ap (λ (e : ℕ × ℕ). e.0) (get_or_append_left es ((a, v) ∷ []) (0, 0) k l)
+  old = more_old room es a v h.below h.once absent inside
 
   new : (k : ℕ) → k ≡ length es → address (es ++ (a, v) ∷ []) k ≡ a
-  new k e = ap (λ (e : ℕ × ℕ). e.0) (get_or_push es (a, v) (0, 0) k (sym e))
-
-  below : (k : ℕ) → (k ≡ length es) ⊎ (k ≢ length es) → k < length (es ++ (a, v) ∷ []) → address (es ++ (a, v) ∷ []) k < room
-  below k (inl e) m = rw (new k e) inside
-  below k (inr d) m = let s : k < length es = omega (arith, size) in rw (old k s) (h.below k s)
-
-  once : (j k : ℕ) → (j ≡ length es) ⊎ (j ≢ length es) → (k ≡ length es) ⊎ (k ≢ length es) → j < length (es ++ (a, v) ∷ []) → k < length (es ++ (a, v) ∷ []) → address (es ++ (a, v) ∷ []) j ≡ address (es ++ (a, v) ∷ []) k → j ≡ k
-  once j k (inl e) (inl f) l m q = e ∙ sym f
-  once j k (inl e) (inr f) l m q = let s : k < length es = omega (arith, size) in absurd (absent k s (sym (old k s) ∙ sym q ∙ new j e))
-  once j k (inr e) (inl f) l m q = let s : j < length es = omega (arith, size) in absurd (absent j s (sym (old j s) ∙ q ∙ new k f))
-  once j k (inr e) (inr f) l m q =
-      let s : j < length es = omega (arith, size) in
-      let t : k < length es = omega (arith, size) in
-      h.once j k s t (sym (old j s) ∙ q ∙ old k t)
+  new = more_new room es a v h.below h.once absent inside
 
   -- the last entry of a home
   last : (x : ℕ) → latest homes (es ++ (a, v) ∷ []) x (length (es ++ (a, v) ∷ [])) ≡ (if a % homes == x then suc (length es) else latest homes es x (length es))
@@ -71,8 +59,8 @@ module _ (room homes : ℕ) (es : List (ℕ × ℕ)) (os fs gs : List ℕ) (capa
     spare_notes = omega (arith, h.spare_notes);
     few_notes = n.below homes h.few_notes home;
     linked = length-append os (latest homes es (a % homes) (length es) ∷ []) ∙ omega (arith, h.linked, size);
-    below = λ k m. below k (cases_eq k (length es)) m;
-    once = λ j k l m q. once j k (cases_eq j (length es)) (cases_eq k (length es)) l m q;
+    below = more_below room es a v h.below h.once absent inside;
+    once = more_once room es a v h.below h.once absent inside;
     fronts = λ x l. fronts x (cases_eq x (a % homes)) (h.fronts x l);
     chains = λ k l. chains k (cases_eq k (length es)) l;
   }

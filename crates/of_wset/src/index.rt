@@ -1,11 +1,11 @@
-//! How entries are found: by the chain of their home.
+//! How entries are found: by the chain of their home. Places are counted from 1, and 0 means none.
 
 ghost use Rattle.std.specs.Prelude.{◌≡◌, ◌<◌, ◌≤◌, ◌-◌, ◌%◌, ◌++◌, length, MatchOption};
 ghost use Rattle.std.proofs.Common.{replicate};
 ghost use Rattle.std.specs.Vec.{vec_capacity};
 ghost use Rattle.of_wset.specs.Index.{IsEntryFor, IsUnwritten, NotesPlace, note_at, latest, HasFronts, HasChains};
 
-/// What is noted at a place, and 0 at one to which no note has come.
+/// The note at an index, and 0 past the end.
 fn note_of(notes: &[u32], at: u32) -> u32
     ensures { result ≡ note_at notes.now at }
 {
@@ -16,8 +16,8 @@ fn note_of(notes: &[u32], at: u32) -> u32
     }
 }
 
-/// The place behind the last entry of a home, 0 where none has it. A note of a home that no entry
-/// has is left over from earlier.
+/// The place of the last entry of a home, 0 if it has none. The note of a home without entries may
+/// be an older one: then it is no place, or the place of an entry of another home.
 pub fn front(fronts: &[u32], entries: &[(u32, u32)], homes: u32, home: u32) -> u32
     requires some { 0 < homes }
     requires home { home < homes }
@@ -32,7 +32,7 @@ pub fn front(fronts: &[u32], entries: &[(u32, u32)], homes: u32, home: u32) -> u
     if addr % homes == home { place } else { 0 }
 }
 
-/// The place of an address among the entries.
+/// The index of the entry of an address.
 pub fn search(
     fronts: &[u32],
     older: &[u32],
@@ -57,31 +57,31 @@ pub fn search(
     None
 }
 
-/// Notes a place at an address.
-pub fn note(places: &mut Vec<u32>, addr: u32, place: u32)
-    requires { addr < vec_capacity places.old }
-    ensures notes { NotesPlace places.old.items places.new.items addr place }
-    ensures capacity { vec_capacity places.old ≤ vec_capacity places.new }
+/// Notes a place at a home.
+pub fn note(fronts: &mut Vec<u32>, home: u32, place: u32)
+    requires { home < vec_capacity fronts.old }
+    ensures notes { NotesPlace fronts.old.items fronts.new.items home place }
+    ensures capacity { vec_capacity fronts.old ≤ vec_capacity fronts.new }
 {
-    let at = addr as usize;
-    if places.len() <= at {
-        lengthen(places, at + 1);
+    let at = home as usize;
+    if fronts.len() <= at {
+        lengthen(fronts, at + 1);
     }
-    places[at] = place;
+    fronts[at] = place;
 }
 
-/// Fills the places up to a length.
+/// Fills the notes with 0 up to a length.
 // out of line, so that what is called often is small
 #[cold]
 #[inline(never)]
-fn lengthen(places: &mut Vec<u32>, len: usize)
-    requires longer { length places.old.items ≤ len }
-    requires room { len ≤ vec_capacity places.old }
-    ensures places { places.new.items
-        ≡ places.old.items ++ replicate (len - length places.old.items) 0 }
-    ensures capacity { vec_capacity places.old ≤ vec_capacity places.new }
+fn lengthen(fronts: &mut Vec<u32>, len: usize)
+    requires longer { length fronts.old.items ≤ len }
+    requires room { len ≤ vec_capacity fronts.old }
+    ensures notes { fronts.new.items
+        ≡ fronts.old.items ++ replicate (len - length fronts.old.items) 0 }
+    ensures capacity { vec_capacity fronts.old ≤ vec_capacity fronts.new }
 {
-    match places.resize(len, 0) {
+    match fronts.resize(len, 0) {
         Ok(()) => {}
         Err(_) => unreachable!(),
     }

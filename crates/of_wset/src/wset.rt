@@ -6,24 +6,25 @@ use crate::index::{front, note, search};
 use std::alloc::{AllocError, Global};
 use std::marker::Model;
 
-/// How many homes there are at most. An address is at the home that it leaves divided by their
-/// number; with as many homes as addresses each has its own.
+/// The most homes. The home of an address is its remainder by the number of homes; if there are as
+/// many homes as addresses, each address has its own.
 const MOST_HOMES: u32 = 8192;
 
 /// A map from addresses to values, in order of first writing. Only `new` takes memory, and it fills
-/// none of it. The other calls take the same time, however many addresses there may be and however
-/// many entries there are, up to some thousands; but the first write to a home above all earlier
-/// ones also fills the notes up to it.
+/// none of it. The time of the other calls doesn't depend on `room`, and depends on the number of
+/// entries only if several have one home: `get` and `put` go through these. The first write to a
+/// home above all earlier ones also fills the notes up to it, at most `MOST_HOMES`.
 #[derive(Drop)]
 pub struct WriteSet {
     room: u32,
     entries: Vec<(u32, u32)>,
+    /// How many homes there are.
     homes: u32,
-    /// For each entry the place behind the last one before it of the same home, 0 where there is
-    /// none.
+    /// With each entry the place of the last one before it of the same home, counted from 1; 0 if
+    /// there is none.
     older: Vec<u32>,
-    /// For each home that an entry has, the place behind the last of them. What stands at another
-    /// home is left over from earlier. No entry has a home past the end.
+    /// At each home that has entries, the place of the last of them, counted from 1. At another home
+    /// it may be an older one. No entry has a home past the end.
     fronts: Vec<u32>,
 }
 
@@ -74,7 +75,7 @@ impl WriteSet {
         self.entries.is_empty()
     }
 
-    /// The place of an address among the entries.
+    /// The index of the entry of an address.
     fn find(&self, addr: u32) -> Option<usize>
         ensures { MatchOption result (IsUnwritten self.now.entries addr)
             (IsEntryFor self.now.entries addr) }

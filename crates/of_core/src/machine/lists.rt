@@ -31,7 +31,8 @@ impl<W: Work> Lists<W> {
         ensures op { IfOk result (λ l. IsEmptyWithRoom MOST_INSTRS l.op) }
         ensures part { IfOk result (λ l. l.part ≡ empty_part shape.cells) }
         ensures log { IfOk result (λ l. l.log ≡ record { room = shape.cells; entries = [] }) }
-        ensures copy { IfOk result (λ l. IsEmptyWithRoom (2 * log_room shape.callers shape.cells + 1) l.copy) }
+        ensures copy { IfOk result
+            (λ l. IsEmptyWithRoom (2 * log_room shape.callers shape.cells + 1) l.copy) }
         ensures script { IfOk result (λ l. IsEmptyWithRoom MOST_INSTRS l.script) }
         ensures calls { IfOk result (λ l. IsEmptyWithRoom shape.callers l.calls) }
     {

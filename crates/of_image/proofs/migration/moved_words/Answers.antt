@@ -11,15 +11,13 @@ loop-cell-preserved c =
     c.in_ok-push.ensures.items ∙ ap (λ (w : ℕ). c.loop-cell.moved.items ++ w ∷ []) c.moved_word.ensures
     ∙ moved_pushed o.instrs n.instrs o.callers _ c.loop-cell.cell c.args.words.now c.loop-cell.moved.items c.loop-cell.invariant
 
--- the number of cells
-abbrev sized : (callers cells : ℕ) → ℕ
-sized callers cells = 1 + callers + cells + callers * (2 * cells + 1)
-
 pub returns : goal.returns
 returns c =
     let o = c.args.old.now in
     let n = c.args.new.now in
-    let end : c.loop-cell.cell ≡ sized n.callers c.cells-cells.result = omega arith in
+    let end : c.loop-cell.cell ≡ c.durable_cells-cell-end.result = omega arith in
     moved_whole o.instrs n.instrs o.callers _ c.loop-cell.cell c.args.words.now c.loop-cell.moved.items
-    (end ∙ ap (sized n.callers) c.cells-cells.ensures ∙ (λ i. durable_cells (sym c.requires.callers i) (data_cell_count_for n.instrs (sym c.requires.callers i) (sym c.requires.blocks i))))
+    (end ∙ c.durable_cells-cell-end.ensures.value
+    ∙ (λ i. durable_cells (c.table_shape.ensures.callers i) (c.table_shape.ensures.cells i))
+    ∙ (λ i. durable_cells (sym c.requires.callers i) (data_cell_count_for n.instrs (sym c.requires.callers i) (sym c.requires.blocks i))))
     c.loop-cell.invariant

@@ -16,4 +16,4 @@ returns-clause-again c =
     let D = durable_cells p.callers (data_cell_count p) in
     let r = row_in p (slice_range c.args.words.now D (D + D)) in
     let row = table_is_row p c.args.words.now c.requires.instrs c.requires.size (λ k. (c.type_inv.words k).fits) in
-    IfOk-weaker c.print_row.result (λ text. text.items ≡ image_text Two r) _ (λ text is. subst (λ (t : List ℕ). SpellsImage Two t r) (sym is) (printed_again Two r row)) (rw (c.durable_cells-cells.ensures, c.table_shape.ensures.callers, c.table_shape.ensures.cells) at c.print_row.ensures)
+    IfOk-weaker c.print_row.result (λ text. text.items ≡ image_text Two r) _ (λ text is. subst (λ (t : List ℕ). SpellsImage Two t r) (sym is) (printed_again Two r row)) (rw (c.durable_cells-cells.ensures.value, c.table_shape.ensures.callers, c.table_shape.ensures.cells) at c.print_row.ensures)

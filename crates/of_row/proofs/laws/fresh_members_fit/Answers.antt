@@ -1,4 +1,4 @@
-use Rattle.of_row.proofs.Attached.{fresh_fits}
+use Rattle.of_row.proofs.FreshMembers.{fresh_fits}
 use Rattle.of_row.proofs.laws.fresh_members_fit.Goals as goal
 
 pub returns : goal.returns

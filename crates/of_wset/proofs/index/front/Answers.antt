@@ -1,5 +1,4 @@
-use Rattle.std.proofs.Common.{◌≡◌, ℕ, ◌<◌, ◌≤◌, inl, inr, length, sym, ◌∙◌, ap, arith}
-use Rattle.of_wset.specs.Index.{note_at, latest}
+use Rattle.std.proofs.Common.{inl, inr, sym, ◌∙◌, arith}
 use Rattle.of_wset.proofs.Chains.{front_none, front_here, front_other}
 use Rattle.of_wset.proofs.index.front.Goals as goal
 use Rattle.of_wset.proofs.index.front.Goals.{then-place-eq0-via-then-place-eq0, then-place-eq0-via-else-place-eq0+then-place-entries}

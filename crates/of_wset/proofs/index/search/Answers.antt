@@ -1,6 +1,4 @@
-use Rattle.std.proofs.Common.{◌≡◌, ◌≢◌, ℕ, ◌<◌, ◌≤◌, length, sym, ◌∙◌, ap, subst, arith}
-use Rattle.of_wset.specs.WriteSet.{address}
-use Rattle.of_wset.specs.Index.{latest}
+use Rattle.std.proofs.Common.{arith}
 use Rattle.of_wset.proofs.Chains.{latest_few, begins_home, begins_unmet, older_less, older_home, older_unmet}
 use Rattle.of_wset.proofs.index.search.Goals as goal
 

@@ -1,6 +1,5 @@
 use Rattle.std.proofs.Common.{◌≡◌, ◌≢◌, ℕ, ◌<◌, ◌≤◌, ◌-◌, ◌%◌, length}
 use Rattle.of_wset.specs.WriteSet.{address}
-use Rattle.of_wset.specs.Index.{latest}
 use Rattle.of_wset.proofs.index.search.Given as goal
 
 abbrev pub invariant-loop-at : goal.invariant-loop-at

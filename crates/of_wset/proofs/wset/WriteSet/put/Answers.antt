@@ -1,10 +1,10 @@
-use Rattle.std.proofs.Common.{◌≡◌, ◌<◌, ◌≤◌, ◌+◌, ◌%◌, ℕ, List, length, ap, sym, ◌∙◌, arith}
+use Rattle.std.proofs.Common.{◌≡◌, ◌<◌, ◌+◌, ◌%◌, ℕ, List, length, ap, sym, ◌∙◌, arith}
 use Rattle.std.proofs.lemmas.List.{get_or_default}
 use Rattle.std.proofs.lemmas.Nat.{mod_below}
 use Rattle.of_wset.specs.WriteSet.{WriteSet}
 use Rattle.of_wset.specs.Index.{IsEntryFor, IsUnwritten, NotesPlace}
 use Rattle.of_wset.proofs.wset.WriteSet.put.Goals as goal
-use Rattle.of_wset.proofs.Maps.{few, put-found, put-absent, room_left}
+use Rattle.of_wset.proofs.Maps.{put-found, put-absent, room_left}
 use Rattle.of_wset.proofs.Notes.{pair_written, pair_changed}
 
 pub returns-in-Some : goal.returns-in-Some
@@ -24,19 +24,19 @@ pub push_reserved-requires : goal.push_reserved-requires
 push_reserved-requires c =
     let absent : IsUnwritten c.self.inside.entries.items c.args.addr = rw (← c.self.view_is) at c.in-None.ensures in
     let inside : c.args.addr < c.self.inside.room = omega (arith, ap (λ (p : WriteSet). p.room) c.self.view_is, c.requires) in
-    omega (arith, room_left c.self.inside.room _ c.args.addr c.self.invariant.below c.self.invariant.once absent inside, c.self.invariant.linked, c.self.invariant.spare_links, c.self.inside.older.ok.0)
+    omega (arith, room_left c.self.inside.room _ c.args.addr c.args.value c.self.invariant.below c.self.invariant.once absent inside, c.self.invariant.linked, c.self.invariant.spare_links, c.self.inside.older.ok.0)
 
 pub push_reserved-requires-in-None : goal.push_reserved-requires-in-None
 push_reserved-requires-in-None c =
     let absent : IsUnwritten c.self.inside.entries.items c.args.addr = rw (← c.self.view_is) at c.in-None.ensures in
     let inside : c.args.addr < c.self.inside.room = omega (arith, ap (λ (p : WriteSet). p.room) c.self.view_is, c.requires) in
-    omega (arith, room_left c.self.inside.room _ c.args.addr c.self.invariant.below c.self.invariant.once absent inside, c.self.invariant.spare, c.self.inside.entries.ok.0)
+    omega (arith, room_left c.self.inside.room _ c.args.addr c.args.value c.self.invariant.below c.self.invariant.once absent inside, c.self.invariant.spare, c.self.inside.entries.ok.0)
 
 pub overflow_cast-len : goal.overflow_cast-len
 overflow_cast-len c =
     let absent : IsUnwritten c.self.inside.entries.items c.args.addr = rw (← c.self.view_is) at c.in-None.ensures in
     let inside : c.args.addr < c.self.inside.room = omega (arith, ap (λ (p : WriteSet). p.room) c.self.view_is, c.requires) in
-    let left : length c.self.inside.entries.items < c.self.inside.room = room_left c.self.inside.room _ c.args.addr c.self.invariant.below c.self.invariant.once absent inside in
+    let left : length c.self.inside.entries.items < c.self.inside.room = room_left c.self.inside.room _ c.args.addr c.args.value c.self.invariant.below c.self.invariant.once absent inside in
     omega (arith, left, c.self.invariant.fits, c.len.ensures, c.push_reserved-in-None.ensures.len, c.self.inside.entries.ok.0)
 
 pub invariant_of-self : goal.invariant_of-self
@@ -50,6 +50,6 @@ invariant_of-self-in-None c =
     let absent : IsUnwritten c.self.inside.entries.items c.args.addr = rw (← c.self.view_is) at c.in-None.ensures in
     let inside : c.args.addr < c.self.inside.room = omega (arith, ap (λ (p : WriteSet). p.room) c.self.view_is, c.requires) in
     let len : c.len.result ≡ length c.self.inside.entries.items + 1 = omega (arith, c.len.ensures, c.push_reserved-in-None.ensures.len, c.self.inside.entries.ok.0) in
-    let noted : NotesPlace c.self.inside.fronts.items c.note.new.places.items (c.args.addr % c.self.inside.homes) (length c.self.inside.entries.items + 1) = rw len at c.note.ensures.notes in
+    let noted : NotesPlace c.self.inside.fronts.items c.note.new.fronts.items (c.args.addr % c.self.inside.homes) (length c.self.inside.entries.items + 1) = rw len at c.note.ensures.notes in
     rw (c.push_reserved-in-None.ensures.items, c.push_reserved.ensures.items, c.front-last.ensures, c.deref-in-None.ensures.value)
     (pair_written _ _ _ _ _ _ _ _ _ _ c.args.value c.self.invariant absent inside noted (mod_below c.args.addr c.self.inside.homes c.self.invariant.some) _ _ _ (omega (arith, c.push_reserved-in-None.ensures.capacity)) (omega (arith, c.push_reserved.ensures.capacity)) c.note.ensures.capacity)

@@ -1,5 +1,5 @@
--- A caller that begins on a row on which others have already made steps, also those of other
--- processes: its fresh view fits whatever has happened.
+-- What a member may know that has seen nothing since the row's start, on a row on which others have
+-- made steps.
 use Rattle.std.specs.Prelude.{◌≡◌, ◌<◌, ℕ, List, [], ◌∷◌, false}
 use Rattle.std.specs.Int.{bit_at}
 use Rattle.atomic_table.specs.Table.{State}
@@ -10,7 +10,7 @@ use Rattle.of_row.specs.Trail.{HasDoneNothing}
 use Rattle.of_row.specs.Rule.{members_of, ViewFits, MeetsRule}
 use Rattle.of_row.specs.Turned.{new_known_caller}
 
--- what a member of number n knows that has heard of nothing since the row's start
+-- what the member of number n knows that has seen nothing since the row's start
 abbrev pub fresh_member_view : Setup → TableStart → ℕ → View
 fresh_member_view S B n = record {
   spent = false;
@@ -24,8 +24,8 @@ fresh_member_view S B n = record {
   met = [];
 }
 
--- where a number is taken and has done nothing, that view fits at its home, whatever all others
--- have done
+-- if a number is taken and has done nothing, that view fits at its home, whatever the others have
+-- done
 abbrev pub FreshMembersFit : (List ℕ → Type 0) → Setup → Type 0
 FreshMembersFit Lawful S =
     (B : TableStart) (s : State (Unit {0}) View) (r : MeetsRule S Lawful B s) (n : ℕ)

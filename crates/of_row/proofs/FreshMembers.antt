@@ -1,4 +1,4 @@
--- A fresh member fits beside whatever others have done.
+-- A member that has seen nothing since the row's start fits, whatever the others have done.
 use Rattle.std.proofs.Common.{◌≡◌, ℕ, ◌+◌, ◌<◌, ◌≤◌, false, true, List, [], ◌∷◌, refl, arith}
 use Rattle.std.specs.Int.{bit_at}
 use Rattle.atomic_table.specs.Table.{State}
@@ -10,7 +10,7 @@ use Rattle.of_row.specs.Trail.{HasDoneNothing, IsRunBy, moment}
 use Rattle.of_row.specs.Rule.{done_before, members_of, KnowsCallsOf, ViewFits, MeetsRule}
 use Rattle.of_row.specs.RowLaws.{RowLaws}
 use Rattle.of_row.specs.Turned.{new_known_caller}
-use Rattle.of_row.specs.Attached.{fresh_member_view}
+use Rattle.of_row.specs.FreshMembers.{fresh_member_view}
 use Rattle.of_row.proofs.Events.{new_runs}
 use Rattle.of_row.proofs.Calls.{unowned}
 
