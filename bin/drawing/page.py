@@ -1,6 +1,7 @@
 """The page that steps through events: the picture, and the data from which its script fills it."""
 import json
 import pathlib
+import re
 from html import escape
 
 from texts.plan import script_text
@@ -21,13 +22,12 @@ def page(history, first, title):
         "@TITLE@": escape(title), "@HEADING@": escape(title),
         "@PICTURE@": picture.draw(),
         "@DATA@": json.dumps(data(history, first, picture), separators=(",", ":"))
-        .replace("</", "<\\/"),
+        .replace("<", "\\u003c"),
         "@SCRIPT@": (FOLDER / "page.js").read_text(encoding="utf-8"),
     }
     text = (FOLDER / "page.html").read_text(encoding="utf-8")
-    for mark, part in parts.items():
-        text = text.replace(mark, part, 1)
-    return text
+    # At once: a mark in what is put in is none.
+    return re.sub("|".join(parts), lambda mark: parts[mark[0]], text)
 
 
 def data(history, first, picture):

@@ -6,9 +6,11 @@ import subprocess
 import sys
 
 from .kinds import KIND_OF
+from .plan import shown
 
 TOP = pathlib.Path(__file__).resolve().parent.parent.parent
 MOST_LINES = 10_000  # of one trace
+MOST_SHOWN = 100  # characters of a line that is no line of a trace
 
 
 def answer(text, *words, errors=subprocess.PIPE):
@@ -18,10 +20,10 @@ def answer(text, *words, errors=subprocess.PIPE):
     """
     path = os.environ.get("ONEFILE") or str(TOP / "bin/onefile")
     done = subprocess.run([path, *words], input=text, stdout=subprocess.PIPE, stderr=errors,
-                          text=True)
+                          encoding="utf-8", errors="surrogateescape")
     if done.returncode:
         sys.stderr.write(done.stderr or "")
-        sys.exit(f"bin/draw: onefile {' '.join(words)}: {done.stdout.strip()}")
+        sys.exit(f"bin/draw: onefile {' '.join(words)}: {shown(done.stdout.strip())}")
     return done.stdout
 
 
@@ -38,6 +40,8 @@ class Event:
 
     def __init__(self, line):
         parts = self.FORM.match(line)
+        if parts is None:
+            sys.exit(f"bin/draw: no line of a trace: {shown(line)[:MOST_SHOWN]}")
         self.line, self.at, self.step = line, int(parts["at"]), parts["step"]
         self.word, self.found, self.left = parts["word"], parts["found"], parts["left"]
         self.end, self.parts = parts["end"], (parts["parts"] or "").split("; ")

@@ -83,7 +83,7 @@ module _ {A : Type 0} (left : A → Option (Option ℕ)) (brakes : List A) (word
     LoadOf Renumber = Unit {0}
     LoadOf Migrate = Unit {0}
     LoadOf Continue = Unit {0}
-    LoadOf Help = Unit {0}
+    LoadOf (Help word) = Unit {0}
     LoadOf Version = Unit {0}
 
     pub carries_run : words ≡ command_words Run → CarriesRun left brakes source (answer, ran) → Carries left brakes words source (answer, ran)
@@ -176,7 +176,7 @@ module _ {A : Type 0} (left : A → Option (Option ℕ)) (brakes : List A) (sour
     undone Recover is failed = plain_none Recover is tt
     undone Renumber is failed = plain_none Renumber is tt
     undone Migrate is failed = plain_none Migrate is tt
-    undone Help is failed = plain_none Help is tt
+    undone (Help word) is failed = plain_none (Help word) is tt
     undone Version is failed = plain_none Version is tt
 
   -- there is a record only of such a command, and only with status 0
@@ -276,5 +276,5 @@ module _ {A : Type 0} (left : A → Option (Option ℕ)) (brakes : List A) (seen
       table_told Recover is done w = none_here Recover is tt
       table_told Renumber is done w = none_here Renumber is tt
       table_told Migrate is done w = none_here Migrate is tt
-      table_told Help is done w = none_here Help is tt
+      table_told (Help word) is done w = none_here (Help word) is tt
       table_told Version is done w = none_here Version is tt

@@ -9,6 +9,7 @@ use Rattle.of_script.specs.Reading.{parsed_number}
 use Rattle.of_script.proofs.Numbers.{number_reads, number_again}
 use Rattle.of_tool.specs.declared.command.Command.{Command}
 use Rattle.of_tool.specs.declared.command.Command.TheVariants.{Serial, Play, Trace, Commits, Run, Load, Check, CheckLife, Part, Image, Recover, Renumber, Migrate, Continue, Help, Version}
+use Rattle.of_tool.specs.declared.command.HelpWord.TheVariants.{Long, Short, Bare}
 use Rattle.of_tool.specs.Commands.{command_words, IsInRange, IsTrace, IsLoad, IsPartNumber, SpellsUpTo, AreWordsOf, IsNoCommand}
 use Rattle.of_tool.specs.Inputs.{input_of, AskForInput}
 
@@ -33,7 +34,7 @@ no_load a b h Recover is = absurd (let e = ap length is.1 in omega (arith, e))
 no_load a b h Renumber is = absurd (let e = ap length is.1 in omega (arith, e))
 no_load a b h Migrate is = absurd (let e = ap length is.1 in omega (arith, e))
 no_load a b h Continue is = absurd (let e = ap length is.1 in omega (arith, e))
-no_load a b h Help is = absurd (let e = ap length is.1 in omega (arith, e))
+no_load a b h (Help word) is = absurd (let e = ap length is.1 in omega (arith, e))
 no_load a b h Version is = absurd (let e = ap length is.1 in omega (arith, e))
 no_load a b h (Trace n m) is = absurd (let e = ap (λ (ws : List (List ℕ)). length (get_or ws 0 [])) is.1 in omega (arith, e))
 no_load a b h (Load n m) is = h n m is.0 (ap (λ (ws : List (List ℕ)). get_or ws 1 []) is.1) (ap (λ (ws : List (List ℕ)). get_or ws 2 []) is.1)
@@ -59,7 +60,7 @@ no_trace a b h Recover is = absurd (let e = ap length is.1 in omega (arith, e))
 no_trace a b h Renumber is = absurd (let e = ap length is.1 in omega (arith, e))
 no_trace a b h Migrate is = absurd (let e = ap length is.1 in omega (arith, e))
 no_trace a b h Continue is = absurd (let e = ap length is.1 in omega (arith, e))
-no_trace a b h Help is = absurd (let e = ap length is.1 in omega (arith, e))
+no_trace a b h (Help word) is = absurd (let e = ap length is.1 in omega (arith, e))
 no_trace a b h Version is = absurd (let e = ap length is.1 in omega (arith, e))
 no_trace a b h (Trace n m) is = h n m is.0 (ap (λ (ws : List (List ℕ)). get_or ws 1 []) is.1) (ap (λ (ws : List (List ℕ)). get_or ws 2 []) is.1)
 no_trace a b h (Load n m) is = absurd (let e = ap (λ (ws : List (List ℕ)). length (get_or ws 0 [])) is.1 in omega (arith, e))
@@ -82,7 +83,7 @@ no_part a h Recover is = absurd (let e = ap length is.1 in omega (arith, e))
 no_part a h Renumber is = absurd (let e = ap length is.1 in omega (arith, e))
 no_part a h Migrate is = absurd (let e = ap length is.1 in omega (arith, e))
 no_part a h Continue is = absurd (let e = ap length is.1 in omega (arith, e))
-no_part a h Help is = absurd (let e = ap length is.1 in omega (arith, e))
+no_part a h (Help word) is = absurd (let e = ap length is.1 in omega (arith, e))
 no_part a h Version is = absurd (let e = ap length is.1 in omega (arith, e))
 no_part a h (Trace n m) is = absurd (let e = ap length is.1 in omega (arith, e))
 no_part a h (Load n m) is = absurd (let e = ap length is.1 in omega (arith, e))
@@ -108,7 +109,9 @@ named_by w =
     else if bytes_eq w (codes "renumber") then Some Renumber
     else if bytes_eq w (codes "migrate") then Some Migrate
     else if bytes_eq w (codes "continue") then Some Continue
-    else if bytes_eq w (codes "--help") then Some Help
+    else if bytes_eq w (codes "--help") then Some (Help Long)
+    else if bytes_eq w (codes "-h") then Some (Help Short)
+    else if bytes_eq w (codes "help") then Some (Help Bare)
     else if bytes_eq w (codes "--version") then Some Version
     else None
 
@@ -131,7 +134,9 @@ command_again Recover range = refl
 command_again Renumber range = refl
 command_again Migrate range = refl
 command_again Continue range = refl
-command_again Help range = refl
+command_again (Help Long) range = refl
+command_again (Help Short) range = refl
+command_again (Help Bare) range = refl
 command_again Version range = refl
 command_again (Part number) range =
     let one : digits_value 10 (decimal number) ≡ number = (decimal_is_IsNumeral number (omega (arith, range.few))).1 in

@@ -18,7 +18,7 @@ use Rattle.of_tool.specs.Inputs.{Input, PlanAlone, PlanAndReport, ImageAlone, Im
 use Rattle.of_tool.specs.Refusals.{Refusal, ReadFault, TooLong, BadPlan, BadImage, UnlawfulImage, DoesNotFit, Illegal, status_of, HasBadPlan, HasBadImage, HasMisfit, IsIllegal, IsRefused}
 use Rattle.of_tool.specs.Statuses.{IsAnswerTo, Done, Refused, IsAnswer, Ends, IsDone, FindsReportIllegal, FindsLifeIllegal, FindsMisfit, FindsLifeMisfit}
 use Rattle.of_tool.proofs.Telling.{answer_to}
-use Rattle.of_tool.proofs.Readings.{read_is, more_bytes, no_plan, no_first, no_second, cut_same}
+use Rattle.of_tool.proofs.Readings.{read_is, more_bytes, no_plan, no_first, no_second, cut_same, no_fewer}
 
 -- ---- which command reads what
 
@@ -42,7 +42,7 @@ within PlanAndReport left v = (v.bytes, v.left_is)
 within (ImageAlone edition) left v = (v.bytes, v.left_is)
 within ImageAndPlan left v = (v.bytes, v.left_is)
 within WholeLife left v = (v.bytes, v.left_is)
-within AnyTexts left v = (v.bytes, v.left_is)
+within (AnyTexts number) left v = (v.bytes, v.left_is)
 
 not_too_long : (input : Input) (source : Change) → IsInputOf (Some input) source.before → TakesMoreThan (most_of input) source.before source.after → ⊥
 not_too_long input source valid takes =
@@ -68,7 +68,7 @@ not_bad one_cut WholeLife source line v h =
     let next = cut_same source v.bytes v.left_is.are one_cut v.behind h.behind v.second v.others h.second h.others cut.1 v.second_parts h.second_parts in
     let Q : List ℕ → Type 0 = λ text. SpellsPlan text v.plan in
     h.bad.none (v.plan, subst Q next.0 v.spelled)
-not_bad one_cut AnyTexts source line v h = h
+not_bad one_cut (AnyTexts number) source line v h = h
 
 module _ (Is : Edition → List ℕ → Type 0) (apart : (edition : Edition) (text : List ℕ) (image : AnImage) → ReadsImage edition text image → Is edition text → ⊥) (one_cut : HasOneCut) where
   not_image : (input : Input) (source : Change) → IsInputOf (Some input) source.before → HasBadImage Is input source → ⊥
@@ -83,7 +83,7 @@ module _ (Is : Edition → List ℕ → Type 0) (apart : (edition : Edition) (te
       let r = h.read in
       let cut = cut_same source v.bytes v.left_is.are one_cut v.bytes r.bytes v.first v.behind r.first r.behind (read_is source v.bytes v.left_is.are MOST_WITH_REPORT r.bytes r.read) v.parts r.parts in
       apart Two r.first v.image (subst (λ (b : List ℕ). ReadsImage Two b v.image) cut.0 v.image_of) r.is
-  not_image AnyTexts source v h = h
+  not_image (AnyTexts number) source v h = h
 
 -- a text with an image has no bad line and no cell at fault
 pub no_bad_line : (line : ℕ) (edition : Edition) (text : List ℕ) (image : AnImage) → ReadsImage edition text image → HasBadLine (IsImageText edition) text line → ⊥
@@ -94,13 +94,14 @@ no_fault_cell none cell edition text image r fault = none edition text cell imag
 
 -- ---- how a command ends
 
-misfit_ends : (c : Command) (input : Input) (source : Change) (status : ℕ) → input_of c ≡ Some input → HasMisfit input source → status ≡ status_of DoesNotFit → Ends c status
-misfit_ends c PlanAlone source status reads h e = absurd h
-misfit_ends c PlanAndReport source status reads h e = absurd h
-misfit_ends c (ImageAlone edition) source status reads h e = absurd h
-misfit_ends c ImageAndPlan source status reads h e = FindsMisfit (goes_on c reads) e
-misfit_ends c WholeLife source status reads h e = FindsLifeMisfit (lives c reads) e
-misfit_ends c AnyTexts source status reads h e = absurd h
+misfit_ends : HasOneCut → (c : Command) (input : Input) (source : Change) (status : ℕ) → input_of c ≡ Some input → IsInputOf (Some input) source.before → HasMisfit input source → status ≡ status_of DoesNotFit → Ends c status
+misfit_ends one_cut c PlanAlone source status reads v h e = absurd h
+misfit_ends one_cut c PlanAndReport source status reads v h e = absurd h
+misfit_ends one_cut c (ImageAlone edition) source status reads v h e = absurd h
+misfit_ends one_cut c ImageAndPlan source status reads v h e = FindsMisfit (goes_on c reads) e
+misfit_ends one_cut c WholeLife source status reads v h e = FindsLifeMisfit (lives c reads) e
+misfit_ends one_cut c (AnyTexts number) source status reads v h e =
+    absurd (no_fewer source v.bytes v.left_is.are one_cut number v.bytes h.bytes v.part (read_is source v.bytes v.left_is.are MOST_WITH_REPORT h.bytes h.read) v.is v.some h.none)
 
 illegal_ends : (c : Command) (input : Input) (source : Change) (status : ℕ) → input_of c ≡ Some input → IsIllegal input source → status ≡ status_of Illegal → Ends c status
 illegal_ends c PlanAlone source status reads h e = absurd h
@@ -108,7 +109,7 @@ illegal_ends c PlanAndReport source status reads h e = FindsReportIllegal (check
 illegal_ends c (ImageAlone edition) source status reads h e = absurd h
 illegal_ends c ImageAndPlan source status reads h e = absurd h
 illegal_ends c WholeLife source status reads h e = FindsLifeIllegal (lives c reads) e
-illegal_ends c AnyTexts source status reads h e = absurd h
+illegal_ends c (AnyTexts number) source status reads h e = absurd h
 
 refused_ends : HasOneCut → UnlawfulHaveNone → (c : Command) (input : Input) (source : Change) (status : ℕ) → input_of c ≡ Some input → IsInputOf (Some input) source.before → ¬ (HasRisen source.faults source.faults_after)
     → (why : Refusal) → IsRefused input source why → status ≡ status_of why → Ends c status
@@ -117,7 +118,7 @@ refused_ends one_cut none c input source status reads valid calm TooLong h e = a
 refused_ends one_cut none c input source status reads valid calm (BadPlan line) h e = absurd (not_bad one_cut input source line valid h)
 refused_ends one_cut none c input source status reads valid calm (BadImage line) h e = absurd (not_image _ (no_bad_line line) one_cut input source valid h)
 refused_ends one_cut none c input source status reads valid calm (UnlawfulImage cell) h e = absurd (not_image _ (no_fault_cell none cell) one_cut input source valid h)
-refused_ends one_cut none c input source status reads valid calm DoesNotFit h e = misfit_ends c input source status reads h e
+refused_ends one_cut none c input source status reads valid calm DoesNotFit h e = misfit_ends one_cut c input source status reads valid h e
 refused_ends one_cut none c input source status reads valid calm Illegal h e = illegal_ends c input source status reads h e
 
 ends : HasOneCut → UnlawfulHaveNone → (c : Command) (source : Change) (status : ℕ) (text : List ℕ) → IsValidInput c source.before → ¬ (HasRisen source.faults source.faults_after) → IsAnswerTo c source status text → Ends c status

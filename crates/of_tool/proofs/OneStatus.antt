@@ -22,13 +22,13 @@ use Rattle.of_tool.specs.declared.command.Command.TheVariants.{Serial, Play, Tra
 use Rattle.of_tool.specs.declared.status.TheConstants.{DONE, READ_FAULT, BAD_PLAN, TOO_LONG, BAD_IMAGE, ILLEGAL, DOES_NOT_FIT}
 use Rattle.of_tool.specs.Lives.{IsLegalLife}
 use Rattle.of_tool.specs.Seen.{Change, ReadsAll, CanRise}
-use Rattle.of_tool.specs.Inputs.{Input, PlanAlone, PlanAndReport, ImageAlone, ImageAndPlan, WholeLife, AnyTexts, input_of, most_of, ReadsPlan, ReadsBoth, ReadsLegal, ReadsOne, ReadsBehind, ReadsLife, ReadsFour, ReadsLived, ReadsLegalLife}
+use Rattle.of_tool.specs.Inputs.{Input, PlanAlone, PlanAndReport, ImageAlone, ImageAndPlan, WholeLife, AnyTexts, input_of, most_of, ReadsPlan, ReadsBoth, ReadsLegal, ReadsOne, ReadsBehind, ReadsLife, ReadsFour, ReadsLived, ReadsLegalLife, ReadsPart}
 use Rattle.of_tool.specs.Refusals.{Refusal, ReadFault, TooLong, BadPlan, BadImage, UnlawfulImage, DoesNotFit, Illegal, status_of, ReadFails, HasBadPlan, HasBadImage, HasMisfit, IsIllegal, IsRefused, text_of}
 use Rattle.of_tool.specs.Makes.{Makes}
 use Rattle.of_tool.specs.Statuses.{IsAnswerTo, Done, Refused, IsAnswer, To, NoCommand, Told, WriteFault, OutOfMemory, OneStatus, OneError}
 use Rattle.of_tool.proofs.Telling.{answer_to}
 use Rattle.of_tool.proofs.Completeness.{no_bad_line, no_fault_cell}
-use Rattle.of_tool.proofs.Readings.{cut_same, same_read, not_both, not_longer, no_plan, no_one, no_first, both_same, no_second, behind_same, no_behind, no_life_plan, four_same, no_four}
+use Rattle.of_tool.proofs.Readings.{cut_same, same_read, not_both, not_longer, no_plan, no_one, no_first, both_same, no_second, behind_same, no_behind, no_life_plan, four_same, no_four, no_fewer}
 
 -- ---- a text has one bad line
 
@@ -217,8 +217,13 @@ module _ (one_cut : HasOneCut) (one_plan : (text : List ℕ) (plan other : Plan)
           let K : List ℕ → Type 0 = λ t. IsLegalLife l.image l.plan l.told t in
           c.illegal (subst F one.image_is (subst G one.plan_is (subst H same.told_is (subst K same.left_is l.legal))))
 
-  texts_done : (bytes : List ℕ) → ReadsAll (most_of AnyTexts) s bytes → Passes 6 AnyTexts s
-  texts_done bytes r = ((((read_passes AnyTexts bytes r, λ c. c.1), λ c. elim c [ inl h ↦ h.1 | inr h ↦ h.1 ]), λ c. c), λ c. c)
+  -- texts that were read
+  texts_passes : (number : ℕ) (bytes : List ℕ) → ReadsAll (most_of (AnyTexts number)) s bytes → Passes 4 (AnyTexts number) s
+  texts_passes number bytes r = ((read_passes (AnyTexts number) bytes r, λ c. c.1), λ c. elim c [ inl h ↦ h.1 | inr h ↦ h.1 ])
+
+  -- and of which one has the number
+  texts_done : (number : ℕ) (part : List ℕ) → ReadsPart number s part → Passes 6 (AnyTexts number) s
+  texts_done number part r = ((texts_passes number r.bytes r.read, λ c. no_fewer s all known one_cut number r.bytes c.bytes part (same_read s all known MOST_WITH_REPORT MOST_WITH_REPORT r.bytes c.bytes r.read c.read) r.is r.some c.none), λ c. c)
 
   -- ---- an input that is refused has no cause of a lower rank
 
@@ -228,7 +233,7 @@ module _ (one_cut : HasOneCut) (one_plan : (text : List ℕ) (plan other : Plan)
   no_plan_passes (ImageAlone edition) line h = absurd h
   no_plan_passes ImageAndPlan line h = read_passes ImageAndPlan h.bytes h.read
   no_plan_passes WholeLife line h = read_passes WholeLife h.bytes h.read
-  no_plan_passes AnyTexts line h = absurd h
+  no_plan_passes (AnyTexts number) line h = absurd h
 
   no_image_passes : (Is : Edition → List ℕ → Type 0) (i : Input) → HasBadImage Is i s → Passes 3 i s
   no_image_passes Is PlanAlone h = absurd h
@@ -236,7 +241,7 @@ module _ (one_cut : HasOneCut) (one_plan : (text : List ℕ) (plan other : Plan)
   no_image_passes Is (ImageAlone edition) h = (read_passes (ImageAlone edition) h.bytes h.read, λ c. c.1)
   no_image_passes Is ImageAndPlan h = behind_passes h.0 h.1
   no_image_passes Is WholeLife h = four_passes h.plan h.told h.left h.read
-  no_image_passes Is AnyTexts h = absurd h
+  no_image_passes Is (AnyTexts number) h = absurd h
 
   misfit_passes : (i : Input) → HasMisfit i s → Passes 4 i s
   misfit_passes PlanAlone h = absurd h
@@ -244,7 +249,7 @@ module _ (one_cut : HasOneCut) (one_plan : (text : List ℕ) (plan other : Plan)
   misfit_passes (ImageAlone edition) h = absurd h
   misfit_passes ImageAndPlan h = life_passes h.image h.plan h.read
   misfit_passes WholeLife h = lived_passes h.image h.plan h.told h.left h.read
-  misfit_passes AnyTexts h = absurd h
+  misfit_passes (AnyTexts number) h = texts_passes number h.bytes h.read
 
   illegal_passes : (i : Input) → IsIllegal i s → Passes 5 i s
   illegal_passes PlanAlone h = absurd h
@@ -252,7 +257,7 @@ module _ (one_cut : HasOneCut) (one_plan : (text : List ℕ) (plan other : Plan)
   illegal_passes (ImageAlone edition) h = absurd h
   illegal_passes ImageAndPlan h = absurd h
   illegal_passes WholeLife h = fitting_passes h.image h.plan h.told h.left h.read h.fits
-  illegal_passes AnyTexts h = absurd h
+  illegal_passes (AnyTexts number) h = absurd h
 
   refused_rank : (i : Input) (status : ℕ) (why : Refusal) → IsRefused i s why → status ≡ status_of why → Ranked i s status
   refused_rank i status TooLong h e = record { rank = 0; cause = h; passes = tt; status_is = e }
@@ -278,13 +283,13 @@ module _ (one_cut : HasOneCut) (one_plan : (text : List ℕ) (plan other : Plan)
   done_passes (Load callers scripts) text m = tt
   done_passes Check text m = report_done m.legal
   done_passes CheckLife text m = whole_done m.legal
-  done_passes (Part number) text m = texts_done m.bytes m.read
+  done_passes (Part number) text m = texts_done number text m
   done_passes Image text m = plan_done m.plan m.read
   done_passes Recover text m = image_done Two m.image m.read
   done_passes Renumber text m = image_done Two m.image m.read
   done_passes Migrate text m = image_done One m.is.image (record { bytes = m.bytes; read = m.read; is = m.is.read })
   done_passes Continue text m = life_done m.image m.plan m.read m.life.goes_on.fits
-  done_passes Help text m = tt
+  done_passes (Help word) text m = tt
   done_passes Version text m = tt
 
   done_rank : (c : Command) (i : Input) (status : ℕ) (text : List ℕ) → input_of c ≡ Some i → status ≡ DONE → Makes c s text → Ranked i s status
@@ -327,7 +332,7 @@ module _ (one_cut : HasOneCut) (one_plan : (text : List ℕ) (plan other : Plan)
       let next = cut_same s all known one_cut h.behind k.behind h.second h.others k.second k.others cut.1 h.second_parts k.second_parts in
       let P : List ℕ → Type 0 = λ text. HasBadLine IsPlanText text a in
       one_bad_line IsPlanText k.second a b (subst P next.0 h.bad) k.bad
-  plan_line AnyTexts a b h k = absurd h
+  plan_line (AnyTexts number) a b h k = absurd h
 
   -- what two causes say of the image's text, they say of one
   image_text_same : (P Q : Edition → List ℕ → Type 0) (R : Type 0) → ((edition : Edition) (text : List ℕ) → P edition text → Q edition text → R) → (i : Input) → HasBadImage P i s → HasBadImage Q i s → R
@@ -336,7 +341,7 @@ module _ (one_cut : HasOneCut) (one_plan : (text : List ℕ) (plan other : Plan)
   image_text_same P Q R both (ImageAlone edition) h k = both edition k.bytes (subst (P edition) (same_read s all known MOST_IMAGE MOST_IMAGE h.bytes k.bytes h.read k.read) h.is) k.is
   image_text_same P Q R both ImageAndPlan h k = both Two k.1.first (subst (P Two) (behind_same s all known one_cut h.0 k.0 h.1 k.1).0 h.1.is) k.1.is
   image_text_same P Q R both WholeLife h k = both Two k.read.first (subst (P Two) (four_same s all known one_cut h.plan k.plan h.told h.left k.told k.left h.read k.read).first h.read.is) k.read.is
-  image_text_same P Q R both AnyTexts h k = absurd h
+  image_text_same P Q R both (AnyTexts number) h k = absurd h
 
   -- a text with a cell at fault is in the grammar, so it has no bad line
   no_both : (line cell : ℕ) (edition : Edition) (text : List ℕ) → HasBadLine (IsImageText edition) text line → IsUnlawful edition text cell → ⊥

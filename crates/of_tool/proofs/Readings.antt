@@ -1,5 +1,5 @@
 -- What two readings of one source have in common: the bytes, their parts, and what these spell.
-use Rattle.std.proofs.Common.{◌≡◌, ◌≤◌, ℕ, List, Option, None, Some, length, ◌++◌, sym, ap, subst, ◌∙◌, arith, append-nil, length-append}
+use Rattle.std.proofs.Common.{◌≡◌, ◌≤◌, ℕ, zero, suc, List, [], Option, None, Some, length, ◌++◌, sym, ap, subst, ◌∙◌, arith, append-nil, length-append}
 use Rattle.std.specs.Io.KnownBytes.{Consumes, IsAtEnd}
 use Rattle.of_io.specs.Faults.{TakesMoreThan, TakesAtMost}
 use Rattle.of_plan.specs.Plan.{Plan}
@@ -7,6 +7,7 @@ use Rattle.of_plan.specs.Grammar.{SpellsPlan}
 use Rattle.of_plan.specs.Parts.{AreParts, HasOneCut}
 use Rattle.of_tool.specs.declared.commands.TheConstants.{MOST_INPUT}
 use Rattle.of_tool.specs.Seen.{Change, ReadsAll}
+use Rattle.of_tool.specs.Cutting.{IsPart}
 use Rattle.of_tool.specs.Inputs.{ReadsPlan, ReadsNoPlan, ReadsBoth, ReadsNoFirst, ReadsOne, ReadsBehind, ReadsNoSecond, ReadsFour, ReadsNoLifePlan}
 
 -- ---- bytes
@@ -108,3 +109,15 @@ module _ (source : Change) (all : List ℕ) (known : source.before ≡ Some all)
 
     pub no_four : {P Q : List ℕ → Type 0} → ((text : List ℕ) → P text → Q text → ⊥) → (plan other : Plan) (told left said rest : List ℕ) → ReadsFour P source plan told left → ReadsFour Q source other said rest → ⊥
     no_four {P} {Q} apart plan other told left said rest r s = apart s.first (subst P (four_same plan other told left said rest r s).first r.is) s.is
+
+    -- ---- any texts
+
+    -- a text has one part with a number
+    one_part : (number : ℕ) (b c part other : List ℕ) → b ≡ c → IsPart number b part → IsPart number c other → part ≡ other
+    one_part zero b c part other e h k = absurd h
+    one_part (suc zero) b c part other e h k = (cut_same b c part h.0 other k.0 e h.1 k.1).0
+    one_part (suc (suc n)) b c part other e h k = one_part (suc n) h.1 k.1 part other (cut_same b c h.0 h.1 k.0 k.1 e h.2 k.2).1 h.3 k.3
+
+    -- so one that is there is not missing
+    pub no_fewer : (number : ℕ) (b c part : List ℕ) → b ≡ c → IsPart number b part → 1 ≤ length part → IsPart number c [] → ⊥
+    no_fewer number b c part e h some k = omega (arith, ap length (one_part number b c part [] e h k), some)

@@ -4,6 +4,8 @@ use Rattle.std.specs.Global.{Global}
 use Rattle.of_cell.specs.declared.shape.TheConstants.{MOST_CALLERS}
 use Rattle.of_plan.specs.declared.plan.TheConstants.{MOST_SCRIPTS}
 use Rattle.of_tool.specs.declared.command.Command.{Command}
+use Rattle.of_tool.specs.declared.command.HelpWord.{HelpWord}
+use Rattle.of_tool.specs.declared.command.HelpWord.TheVariants.{Long, Short, Bare}
 use Rattle.of_tool.specs.declared.command.TheConstants.{MOST_FIRST, MOST_EVENTS, MOST_PART}
 use Rattle.of_tool.specs.declared.command.Command.TheVariants.{Serial, Play, Trace, Commits, Run, Load, Check, CheckLife, Part, Image, Recover, Renumber, Migrate, Continue, Help, Version}
 
@@ -15,6 +17,12 @@ word_bytes words = map string_bytes words
 -- others
 abbrev pub SpellsUpTo : (most : ℕ) → List ℕ → ℕ → Type 0
 SpellsUpTo most word n = (n ≤ most) × (word ≡ decimal n)
+
+-- the words that ask for help
+abbrev pub help_word : HelpWord → List ℕ
+help_word Long = codes "--help"
+help_word Short = codes "-h"
+help_word Bare = codes "help"
 
 -- the one list of words that is this command
 abbrev pub command_words : Command → List (List ℕ)
@@ -32,7 +40,7 @@ command_words Recover = codes "recover" ∷ []
 command_words Renumber = codes "renumber" ∷ []
 command_words Migrate = codes "migrate" ∷ []
 command_words Continue = codes "continue" ∷ []
-command_words Help = codes "--help" ∷ []
+command_words (Help word) = help_word word ∷ []
 command_words Version = codes "--version" ∷ []
 
 -- so many events from this one on
@@ -69,7 +77,7 @@ IsInRange Recover = Unit {0}
 IsInRange Renumber = Unit {0}
 IsInRange Migrate = Unit {0}
 IsInRange Continue = Unit {0}
-IsInRange Help = Unit {0}
+IsInRange (Help word) = Unit {0}
 IsInRange Version = Unit {0}
 
 -- it is a command that runs no callers at once
@@ -88,7 +96,7 @@ IsPlain Image = Unit {0}
 IsPlain Recover = Unit {0}
 IsPlain Renumber = Unit {0}
 IsPlain Migrate = Unit {0}
-IsPlain Help = Unit {0}
+IsPlain (Help word) = Unit {0}
 IsPlain Version = Unit {0}
 
 -- the words are this command

@@ -1,6 +1,6 @@
 -- What commands read: the kinds of inputs, which command reads which, and what an input is found to
 -- be.
-use Rattle.std.specs.Prelude.{◌≡◌, ℕ, ◌≤◌, List, length, Option, Some, None}
+use Rattle.std.specs.Prelude.{◌≡◌, ℕ, ◌≤◌, List, [], length, Option, Some, None}
 use Rattle.of_plan.specs.Plan.{Plan}
 use Rattle.of_plan.specs.Grammar.{SpellsPlan, IsPlanText}
 use Rattle.of_plan.specs.BadLine.{HasBadLine}
@@ -30,8 +30,8 @@ pub data Input : Type 0 where
   ImageAndPlan : Input
   -- an image, a plan, a report and an image
   WholeLife : Input
-  -- texts of any kind
-  AnyTexts : Input
+  -- texts of any kind, and which of them is asked for
+  AnyTexts : (number : ℕ) → Input
 
 -- what a command reads, where it reads
 abbrev pub input_of : Command → Option Input
@@ -43,13 +43,13 @@ input_of Run = Some PlanAlone
 input_of (Load callers scripts) = None
 input_of Check = Some PlanAndReport
 input_of CheckLife = Some WholeLife
-input_of (Part number) = Some AnyTexts
+input_of (Part number) = Some (AnyTexts number)
 input_of Image = Some PlanAlone
 input_of Recover = Some (ImageAlone Two)
 input_of Renumber = Some (ImageAlone Two)
 input_of Migrate = Some (ImageAlone One)
 input_of Continue = Some ImageAndPlan
-input_of Help = None
+input_of (Help word) = None
 input_of Version = None
 
 -- how many bytes it has at most
@@ -59,7 +59,7 @@ most_of PlanAndReport = MOST_WITH_REPORT
 most_of (ImageAlone edition) = MOST_IMAGE
 most_of ImageAndPlan = MOST_WITH_REPORT
 most_of WholeLife = MOST_WITH_REPORT
-most_of AnyTexts = MOST_WITH_REPORT
+most_of (AnyTexts number) = MOST_WITH_REPORT
 
 -- the words are those of a command that reads
 pub record AskForInput (words : List (List ℕ)) : Type 0 where
@@ -235,11 +235,18 @@ pub record ReadsIllegalLife (source : Change) : Type 0 where
 
 -- ---- any texts
 
--- the whole input has this part with this number
+-- the whole input has this part with this number, and it is not empty
 pub record ReadsPart (number : ℕ) (source : Change) (part : List ℕ) : Type 0 where
   pub bytes : List ℕ
   pub read : ReadsAll MOST_WITH_REPORT source bytes
   pub is : IsPart number bytes part
+  pub some : 1 ≤ length part
+
+-- the whole input has fewer texts: its part with this number is empty
+pub record ReadsFewer (number : ℕ) (source : Change) : Type 0 where
+  pub bytes : List ℕ
+  pub read : ReadsAll MOST_WITH_REPORT source bytes
+  pub none : IsPart number bytes []
 
 -- ---- valid inputs
 
@@ -301,10 +308,13 @@ pub record IsLivedInput (left : Option (List ℕ)) : Type 0 where
   pub plan : Plan
   pub spelled : SpellsPlan second plan
 
--- the bytes that are left are within the limit
-pub record IsAnyInput (left : Option (List ℕ)) : Type 0 where
+-- the bytes that are left have a part with this number, within the limit
+pub record IsTextsInput (number : ℕ) (left : Option (List ℕ)) : Type 0 where
   pub bytes : List ℕ
   pub left_is : AreLeft MOST_WITH_REPORT left bytes
+  pub part : List ℕ
+  pub is : IsPart number bytes part
+  pub some : 1 ≤ length part
 
 -- the bytes that are left are a valid input of a kind, or of a command that reads nothing any
 abbrev pub IsInputOf : Option Input → Option (List ℕ) → Type 0
@@ -314,7 +324,7 @@ IsInputOf (Some PlanAndReport) left = IsCheckInput left
 IsInputOf (Some (ImageAlone edition)) left = IsImageInput edition left
 IsInputOf (Some ImageAndPlan) left = IsLifeInput left
 IsInputOf (Some WholeLife) left = IsLivedInput left
-IsInputOf (Some AnyTexts) left = IsAnyInput left
+IsInputOf (Some (AnyTexts number)) left = IsTextsInput number left
 
 -- the input of a command is what the command reads
 abbrev pub IsValidInput : Command → Option (List ℕ) → Type 0

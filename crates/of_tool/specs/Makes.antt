@@ -118,7 +118,7 @@ Makes Recover source text = MakesRecovered source text
 Makes Renumber source text = MakesRenumbered source text
 Makes Migrate source text = ReadsEarlier source text
 Makes Continue source text = MakesLife source text
-Makes Help source text = text ≡ HELP.now
+Makes (Help word) source text = text ≡ HELP.now
 Makes Version source text = text ≡ VERSION.now
 
 -- what each command has done: it has written what it makes of its input

@@ -9,7 +9,7 @@ use Rattle.of_image.specs.ImageText.{IsImageText}
 use Rattle.of_image.specs.Parsed.{IsUnlawful}
 use Rattle.of_tool.specs.declared.status.TheConstants.{READ_FAULT, BAD_PLAN, TOO_LONG, BAD_IMAGE, ILLEGAL, DOES_NOT_FIT}
 use Rattle.of_tool.specs.Seen.{Change}
-use Rattle.of_tool.specs.Inputs.{Input, PlanAlone, PlanAndReport, ImageAlone, ImageAndPlan, WholeLife, AnyTexts, most_of, ReadsNoPlan, ReadsNoFirst, ReadsIllegal, ReadsOne, ReadsBehind, ReadsNoSecond, ReadsMisfit, ReadsNoLifePlan, ReadsFirstOfFour, ReadsLifeMisfit, ReadsIllegalLife}
+use Rattle.of_tool.specs.Inputs.{Input, PlanAlone, PlanAndReport, ImageAlone, ImageAndPlan, WholeLife, AnyTexts, most_of, ReadsNoPlan, ReadsNoFirst, ReadsIllegal, ReadsOne, ReadsBehind, ReadsNoSecond, ReadsMisfit, ReadsNoLifePlan, ReadsFirstOfFour, ReadsLifeMisfit, ReadsIllegalLife, ReadsFewer}
 
 -- why an input is refused
 pub data Refusal : Type 0 where
@@ -36,6 +36,11 @@ abbrev pub illegal_text : Input → List ℕ
 illegal_text WholeLife = codes "error: not a legal life\n"
 illegal_text input = codes "error: not a legal report\n"
 
+-- what is written of an input that doesn't fit: there is no such part, or else a plan doesn't fit
+abbrev pub misfit_text : Input → List ℕ
+misfit_text (AnyTexts number) = codes "error: no such part\n"
+misfit_text input = codes "error: plan does not fit image\n"
+
 -- what is written
 abbrev pub text_of : Input → Refusal → List ℕ
 text_of input ReadFault = codes "error: read fault\n"
@@ -44,7 +49,7 @@ text_of input (BadPlan line) = codes "error: bad plan, line " ++ decimal line ++
 text_of input (BadImage line) = codes "error: bad image, line " ++ decimal line ++ codes "\n"
 text_of input (UnlawfulImage cell) =
     codes "error: unlawful image, cell " ++ decimal cell ++ codes "\n"
-text_of input DoesNotFit = codes "error: plan does not fit image\n"
+text_of input DoesNotFit = misfit_text input
 text_of input Illegal = illegal_text input
 
 -- ---- the causes
@@ -61,7 +66,7 @@ HasBadPlan PlanAndReport source line = ReadsNoFirst source line
 HasBadPlan (ImageAlone edition) source line = ⊥
 HasBadPlan ImageAndPlan source line = ReadsNoSecond source line
 HasBadPlan WholeLife source line = ReadsNoLifePlan source line
-HasBadPlan AnyTexts source line = ⊥
+HasBadPlan (AnyTexts number) source line = ⊥
 
 -- the plan of the input is one, where there is to be one, and of the image's text this holds
 abbrev pub HasBadImage : (Edition → List ℕ → Type 0) → Input → Change → Type 0
@@ -70,16 +75,16 @@ HasBadImage Is PlanAndReport source = ⊥
 HasBadImage Is (ImageAlone edition) source = ReadsOne (Is edition) source
 HasBadImage Is ImageAndPlan source = (plan : Plan) × ReadsBehind (Is Two) source plan
 HasBadImage Is WholeLife source = ReadsFirstOfFour (Is Two) source
-HasBadImage Is AnyTexts source = ⊥
+HasBadImage Is (AnyTexts number) source = ⊥
 
--- the plan of the input does not fit its image
+-- the plan of the input does not fit its image, or the input has fewer texts
 abbrev pub HasMisfit : Input → Change → Type 0
 HasMisfit PlanAlone source = ⊥
 HasMisfit PlanAndReport source = ⊥
 HasMisfit (ImageAlone edition) source = ⊥
 HasMisfit ImageAndPlan source = ReadsMisfit source
 HasMisfit WholeLife source = ReadsLifeMisfit source
-HasMisfit AnyTexts source = ⊥
+HasMisfit (AnyTexts number) source = ReadsFewer number source
 
 -- the report, or the life, is not a legal one
 abbrev pub IsIllegal : Input → Change → Type 0
@@ -88,7 +93,7 @@ IsIllegal PlanAndReport source = ReadsIllegal source
 IsIllegal (ImageAlone edition) source = ⊥
 IsIllegal ImageAndPlan source = ⊥
 IsIllegal WholeLife source = ReadsIllegalLife source
-IsIllegal AnyTexts source = ⊥
+IsIllegal (AnyTexts number) source = ⊥
 
 -- why an input of this kind is refused so
 abbrev pub IsRefused : Input → Change → Refusal → Type 0

@@ -1,7 +1,8 @@
 //! The commands and their words.
 
-ghost use Rattle.std.specs.Prelude.{◌≡◌, ◌∷◌, [], ℕ, MatchOption, codes, string_bytes};
+ghost use Rattle.std.specs.Prelude.{◌≡◌, ◌∷◌, [], ℕ, IsTrue, MatchOption, codes, string_bytes};
 ghost use Rattle.of_tool.specs.Commands.{word_bytes, AreWordsOf, IsNoCommand, SpellsUpTo};
+ghost use Rattle.of_tool.specs.Inputs.{input_of};
 
 use of_cell::MOST_CALLERS;
 use of_plan::MOST_SCRIPTS;
@@ -25,11 +26,31 @@ recover     reads an image, prints what recovery finds in it
 renumber    reads an image, prints it recovered and with its sequences begun anew
 migrate     reads an image of version 1, prints it recovered and in version 2
 continue    reads an image and a plan, goes on from the image, prints a report and an image
---help      reads nothing, prints this text
+--help      reads nothing, prints this text; -h and help are the same
 --version   reads nothing, prints the name and the version
 
-Input is read from standard input. An example:
-    onefile serial < examples/first.plan
+Input is read from standard input. A plan of one caller, and how it is run:
+    onefile plan 1
+    callers 1
+    blocks 4
+    script 0 put 1 5; get 1
+    end
+    onefile run < my.plan
+
+Exit status:
+    0  the work is done; the report or the life is legal
+    1  memory ran out
+    2  the words are no command
+    3  a read failed
+    4  a write failed
+    5  the input is no plan
+    6  the input is too long
+    7  the input is no image, or an unlawful one
+    8  the report is not a legal one of its plan, or the life not one from its image
+    9  the plan does not fit the image, or the input has no part N
+Errors have a fixed text on standard output, and their reason on standard error.
+
+Read on: onefile(1), docs/LANGUAGE.md, docs/TEXTS.md, docs/PROTOCOL.md.
 ";
 
 /// What `--version` prints.
@@ -43,6 +64,17 @@ pub const MOST_EVENTS: u32 = 10_000;
 
 /// The greatest number of a part.
 pub const MOST_PART: u32 = 1_000_000;
+
+/// A word that asks for help.
+#[derive(Clone, Copy, Debug, PartialEq, Eq)]
+pub enum HelpWord {
+    /// `--help`
+    Long,
+    /// `-h`
+    Short,
+    /// `help`
+    Bare,
+}
 
 /// What the program can be told to do.
 #[derive(Clone, Copy, Debug, PartialEq, Eq)]
@@ -79,8 +111,8 @@ pub enum Command {
     /// Reads an image and a plan, runs the plan's callers at once from where the image left, and
     /// prints the report and the image of what they leave.
     Continue,
-    /// Prints how the program is used.
-    Help,
+    /// Prints how the program is used, whichever word asks for it.
+    Help { word: HelpWord },
     /// Prints the name and the version.
     Version,
 }
@@ -110,7 +142,15 @@ impl Command {
             "renumber" => Some(Command::Renumber),
             "migrate" => Some(Command::Migrate),
             "continue" => Some(Command::Continue),
-            "--help" => Some(Command::Help),
+            "--help" => Some(Command::Help {
+                word: HelpWord::Long,
+            }),
+            "-h" => Some(Command::Help {
+                word: HelpWord::Short,
+            }),
+            "help" => Some(Command::Help {
+                word: HelpWord::Bare,
+            }),
             "--version" => Some(Command::Version),
             _ => None,
         }
@@ -155,6 +195,16 @@ impl Command {
             return None;
         }
         Some(Command::Part { number })
+    }
+
+    /// Whether the command reads its input.
+    pub fn reads(&self) -> bool
+        ensures { MatchOption (input_of self.now) (¬ (IsTrue result)) (λ input. IsTrue result) }
+    {
+        match self {
+            Command::Load { .. } | Command::Help { .. } | Command::Version => false,
+            _ => true,
+        }
     }
 
     /// The command that the words are, where they are one. Numbers are spelled by digits alone,

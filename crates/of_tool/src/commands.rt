@@ -292,7 +292,7 @@ fn plain_answer<S: Source>(
         Command::Recover => recover_answer(alloc, source),
         Command::Renumber => renumber_answer(alloc, source),
         Command::Migrate => migrate_answer(alloc, source),
-        Command::Help => Ok(Output {
+        Command::Help { .. } => Ok(Output {
             status: status::DONE,
             text: Vec::from_slice(alloc, HELP.as_bytes())?,
         }),
@@ -406,7 +406,8 @@ pub fn tool<R: Threads + Sync, S: Source, K: Sink>(
         K.written K.finished K.faults sink.old sink.new) }
 
     // With status 8 the report that `check` reads, or the life that `check-life` reads, is not
-    // legal. With status 9 the plan that `continue` or `check-life` reads does not fit the image.
+    // legal. With status 9 the plan that `continue` or `check-life` reads does not fit the image, or
+    // the input of `part` has fewer texts.
     ensures judged { (command : Command) → AreWordsOf (word_bytes words.now) command
         → FindsWrong (input_of command)
         (bytes_change S.remaining S.faults source.old source.new) result }

@@ -36,11 +36,19 @@ pub(crate) fn part_answer<S: Source>(
     ensures { IfOk result (IsOutputFor (Part number)
         (bytes_change S.remaining S.faults source.old source.new)) }
 {
-    match read_input(alloc, source, MOST_WITH_REPORT)? {
-        ReadInput::Read(bytes) => Ok(Output {
-            status: status::DONE,
-            text: Vec::from_slice(alloc, part(&bytes, number))?,
-        }),
-        ReadInput::Refused(answer) => Ok(answer),
+    let bytes = match read_input(alloc, source, MOST_WITH_REPORT)? {
+        ReadInput::Read(bytes) => bytes,
+        ReadInput::Refused(answer) => return Ok(answer),
+    };
+    let found = part(&bytes, number);
+    if found.is_empty() {
+        return Ok(Output {
+            status: status::DOES_NOT_FIT,
+            text: Vec::from_slice(alloc, b"error: no such part\n")?,
+        });
     }
+    Ok(Output {
+        status: status::DONE,
+        text: Vec::from_slice(alloc, found)?,
+    })
 }

@@ -12,7 +12,7 @@ mod life_check;
 mod run;
 pub mod status;
 
-pub use command::{Command, HELP, VERSION};
+pub use command::{Command, HELP, HelpWord, MOST_EVENTS, MOST_FIRST, MOST_PART, VERSION};
 pub use commands::{MOST_IMAGE, MOST_INPUT, MOST_WITH_REPORT, TeamRecord, tool};
 pub use cutting::part;
 pub use legal_life::{LeftFault, LifeCause, check_life, why_life};

@@ -27,5 +27,5 @@ pub const BAD_IMAGE: u8 = 7;
 /// The report is not a legal one of its plan.
 pub const ILLEGAL: u8 = 8;
 
-/// The plan does not fit the image.
+/// The plan does not fit the image, or the input has fewer texts than the number of the part.
 pub const DOES_NOT_FIT: u8 = 9;

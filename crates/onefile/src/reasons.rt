@@ -1,101 +1,13 @@
-//! What the program says on standard error: why a plan or an image is refused, and what to do about
-//! words that are no command.
+//! What the program says on standard error: why the words or the input are refused.
 
 use crate::causes::{print_cause, print_life};
-use crate::guide::GUIDE;
+use crate::usage::usage;
 use of_check::why;
 use of_image::{Version, image_parse};
 use of_lives::fits;
 use of_plan::{fault, parse, parts};
-use of_tool::{status, why_life};
+use of_tool::{Command, status, why_life};
 use std::alloc::{AllocError, Global};
-use std::fmt::Write;
-
-// The commands that read something, but `trace` and `part`.
-const READERS: [&str; 10] = [
-    "serial",
-    "play",
-    "run",
-    "check",
-    "check-life",
-    "image",
-    "recover",
-    "renumber",
-    "migrate",
-    "continue",
-];
-
-// Whether a command of one word reads its input.
-fn reads(word: &str) -> bool {
-    READERS.iter().any(|reader| *reader == word)
-}
-
-/// Whether the words are a command that reads its input.
-pub(crate) fn read_input(words: &[String]) -> bool {
-    match words {
-        [word] => reads(word.as_str()),
-        [word, _] => word.as_str() == "part",
-        [word, _, _] => word.as_str() == "trace",
-        _ => false,
-    }
-}
-
-// Whether the words ask for help.
-fn asks_help(words: &[String]) -> bool {
-    match words {
-        [word] => word.as_str() == "--help",
-        _ => false,
-    }
-}
-
-// The command that would be right, where the last of the words names a file in place of `<`.
-fn put_redirected(out: &mut String, words: &[String]) -> Result<(), AllocError> {
-    match words {
-        [word, file] => {
-            if reads(word.as_str()) {
-                writeln!(
-                    out,
-                    "input is read from standard input: onefile {word} < {file}"
-                )?;
-            }
-        }
-        [word, number, file] => {
-            if word.as_str() == "part" {
-                writeln!(
-                    out,
-                    "input is read from standard input: onefile part {number} < {file}"
-                )?;
-            }
-        }
-        [word, first, count, file] => {
-            if word.as_str() == "trace" {
-                writeln!(
-                    out,
-                    "input is read from standard input: onefile trace {first} {count} < {file}"
-                )?;
-            }
-        }
-        _ => {}
-    }
-    Ok(())
-}
-
-// What is said of words that are no command.
-fn usage(alloc: Global, words: &[String]) -> Result<Vec<u8>, AllocError> {
-    let mut out = String::new(alloc);
-    if words.is_empty() {
-        out.push_str("a command is missing\n")?;
-    } else {
-        out.push_str("no command:")?;
-        for word in words {
-            write!(out, " {word}")?;
-        }
-        out.push_str("\n")?;
-        put_redirected(&mut out, words)?;
-    }
-    out.push_str("onefile --help prints the commands\n")?;
-    Ok(out.into_bytes())
-}
 
 // The part of an input that is a plan.
 fn plan_part<'a>(words: &[String], input: &'a [u8]) -> &'a [u8] {
@@ -170,6 +82,28 @@ fn illegal_life(alloc: Global, input: &[u8]) -> Result<Vec<u8>, AllocError> {
     }
 }
 
+// How many texts there are one after another, counted up to so many.
+fn texts(input: &[u8], most: u32) -> u32 {
+    let mut rest = input;
+    for count in 0..most {
+        if rest.is_empty() {
+            return count;
+        }
+        rest = parts(rest).1;
+    }
+    most
+}
+
+// Why an input does not fit: how many texts it has, if it is asked for one that it has not.
+fn misfit(alloc: Global, words: &[String], input: &[u8]) -> Result<Vec<u8>, AllocError> {
+    let Some(Command::Part { number }) = Command::from_words(words) else {
+        return Ok(Vec::new(alloc));
+    };
+    let count = texts(input, number);
+    let text = format!(in alloc; "the input has no part {number}: it has {count}\n")?;
+    Ok(text.into_bytes())
+}
+
 // Whether the words ask about a life.
 fn asks_life(words: &[String]) -> bool {
     match words {
@@ -188,11 +122,6 @@ pub(crate) fn reasons(
     if status == status::USAGE {
         return usage(alloc, words);
     }
-    if status == status::DONE && asks_help(words) {
-        let mut out = Vec::new(alloc);
-        out.extend_from_slice(GUIDE.as_bytes())?;
-        return Ok(out);
-    }
     let Some(input) = input else {
         return Ok(Vec::new(alloc));
     };
@@ -202,6 +131,9 @@ pub(crate) fn reasons(
     if status == status::BAD_IMAGE {
         let (text, version) = image_part(words, input);
         return bad_image(alloc, text, version);
+    }
+    if status == status::DOES_NOT_FIT {
+        return misfit(alloc, words, input);
     }
     if status == status::ILLEGAL {
         if asks_life(words) {
