@@ -1,6 +1,6 @@
 -- A write set over others.
 use Rattle.std.proofs.Common.{◌≡◌, ℕ, ◌+◌, ◌<◌, List, [], ◌∷◌, ◌++◌, length, get_or, take, refl, ◌∙◌, ap}
-use Rattle.of_mem.specs.WriteSet.{put_pair, put_all}
+use Rattle.of_mem.specs.CellMap.{put_pair, put_all}
 use Rattle.std.proofs.lemmas.List.{take_more}
 
 pub put_all_more : (es ds : List (ℕ × ℕ)) (d : ℕ × ℕ) → put_all es (ds ++ d ∷ []) ≡ put_pair (put_all es ds) d.0 d.1

@@ -3,7 +3,7 @@ use Rattle.std.proofs.Common.{◌≡◌, ℕ, inl, inr, List, refl, sym, ◌∙�
 use Rattle.std.proofs.lemmas.Option.{none-some}
 use Rattle.std.proofs.lemmas.Bool.{cases_eq}
 use Rattle.std.proofs.lemmas.List.{get_or-set_other}
-use Rattle.of_mem.specs.WriteSet.{value_for}
+use Rattle.of_mem.specs.CellMap.{value_for}
 use Rattle.of_mem.specs.Part.{Part, newest_at, newer_of, write, Extends, with_known}
 use Rattle.of_mem.specs.Programs.{Program, Done, Read, Write, RunEnd, Lacks, Ends, with_number, run_program}
 use Rattle.of_mem.proofs.Runs.{run_read}

@@ -5,7 +5,8 @@ use Rattle.std.proofs.lemmas.Bool.Decides.{nat_tests}
 use Rattle.std.proofs.lemmas.List.{drop_more, get_or-drop, length-drop, get_or-set_same, get_or-set_other}
 use Rattle.std.specs.Option.{option_or}
 use Rattle.std.proofs.lemmas.Bool.{ne_eqb as differs}
-use Rattle.of_mem.specs.WriteSet.{WriteSet, IsWriteSet, value_for, put_pair, put_all, entry_address, IsAbsent}
+use Rattle.of_mem.specs.CellMap.{value_for, put_pair, put_all, entry_address, IsAbsent}
+use Rattle.of_mem.specs.WriteSet.{WriteSet, IsWriteSet}
 use Rattle.of_mem.specs.Part.{Part, newest_at, newer_of, empty_part, learn, write, keep}
 use Rattle.of_mem.specs.Newest.{HasNewest}
 use Rattle.of_mem.proofs.WriteSets.{value_at_put, value_at-absent}

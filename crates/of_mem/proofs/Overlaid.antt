@@ -2,7 +2,7 @@
 use Rattle.std.proofs.Common.{◌≡◌, ℕ, ◌<◌, ◌==◌, refl, sym, ◌∙◌, ap, subst, arith, Bool, true, false, if◌then◌else◌, Option, Some, None, List, [], ◌∷◌, length, get_or, set, length-set}
 use Rattle.std.proofs.lemmas.Bool.Decides.{nat_tests}
 use Rattle.std.proofs.lemmas.List.{get_or-set_same, get_or-set_other}
-use Rattle.of_mem.specs.WriteSet.{value_for, put_pair}
+use Rattle.of_mem.specs.CellMap.{value_for, put_pair}
 use Rattle.of_mem.specs.Part.{Part, newest_at, write, newer_of, overlaid}
 use Rattle.of_mem.specs.Programs.{Program, Done, Read, Write, RunEnd, Lacks, Ends, with_number, run_program, with_value, StaysBetween, IsPartOf}
 use Rattle.of_mem.proofs.Runs.{part_wrote}

@@ -5,7 +5,7 @@ use Rattle.std.proofs.lemmas.Option.{none-some}
 use Rattle.std.proofs.lemmas.Bool.{cases_eq, cases_lt}
 use Rattle.std.proofs.lemmas.List.{get_or-replicate, get_or_past, length-replicate, get_or-set_same, get_or-set_other}
 use Rattle.std.proofs.lemmas.Bool.Decides.{nat_tests}
-use Rattle.of_mem.specs.WriteSet.{value_for, put_pair, put_all}
+use Rattle.of_mem.specs.CellMap.{value_for, put_pair, put_all}
 use Rattle.of_mem.specs.Part.{newer_of, Part, newest_at, write}
 use Rattle.of_mem.specs.Programs.{Program, Done, Read, Write, RunEnd, Lacks, Ends, with_number, run_program, then_do, with_value, program_answer, memory_after, program_writes, with_writes, StaysBetween, StaysFrom, AlwaysYields, OnlyReads, IsPartOf}
 use Rattle.of_mem.proofs.Changes.{changed_same, changed_other}

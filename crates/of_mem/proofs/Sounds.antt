@@ -5,7 +5,7 @@ use Rattle.std.proofs.lemmas.Bool.{cases_eq}
 use Rattle.std.proofs.lemmas.List.{get_or-set_same, get_or-set_other, get_or-drop}
 use Rattle.of_mem.specs.Numbers.{FitsCell}
 use Rattle.of_mem.specs.declared.work.RawReply.{RawReply}
-use Rattle.of_mem.specs.WriteSet.{put_pair, put_all}
+use Rattle.of_mem.specs.CellMap.{put_pair, put_all}
 use Rattle.of_mem.specs.Part.{Part, newest_at, write}
 use Rattle.of_mem.specs.Programs.{Program, Done, Read, Write, RunEnd, Lacks, Ends, with_number, run_program, with_value, program_answer, memory_after, program_writes, StaysBetween, StaysFrom, OnlyReads, IsPartOf}
 use Rattle.of_mem.specs.Meaning.{IsSoundMeaning, Gives, with_writes_in, Agrees, SameFrom, HasDistinctCells, IsFinishedWalk, WalkFits}

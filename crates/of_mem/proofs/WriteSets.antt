@@ -5,7 +5,8 @@ use Rattle.std.proofs.lemmas.Bool.Decides.{nat_tests}
 use Rattle.std.proofs.lemmas.Bool.{eq-eqb as equals, ne_eqb as differs}
 use Rattle.std.proofs.lemmas.Slice.Zip.{length-zip, get_or-zip, firsts-zip, seconds-zip}
 use Rattle.of_mem.specs.Index.{address, IsUnlisted, IsListedAt, IsIndex}
-use Rattle.of_mem.specs.WriteSet.{value_for, put_pair, entry_address, IsAbsent, IsWriteSet}
+use Rattle.of_mem.specs.CellMap.{value_for, put_pair, entry_address, IsAbsent}
+use Rattle.of_mem.specs.WriteSet.{IsWriteSet}
 use Rattle.of_mem.proofs.Zips.{zip_set, zip_push}
 
 -- where the address is absent

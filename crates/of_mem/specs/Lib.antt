@@ -1,4 +1,5 @@
 pub mod Meaning
+pub mod CellMap
 pub mod WriteSet
 pub mod Index
 pub mod Chains

@@ -3,7 +3,7 @@
 use Rattle.std.specs.Prelude.{◌≡◌, ℕ, Bool, true, false, Result, MatchResult, List, [], ◌∷◌, Option, Some, None}
 use Rattle.std.proofs.Common.{get_or, set, replicate}
 use Rattle.of_mem.specs.declared.part.Need.{Need}
-use Rattle.of_mem.specs.WriteSet.{value_for, put_pair, put_all}
+use Rattle.of_mem.specs.CellMap.{value_for, put_pair, put_all}
 
 -- the writes of batch and script stand in order of first writing
 pub record Part : Type 0 where

@@ -3,7 +3,7 @@
 use Rattle.std.specs.Prelude.{◌≡◌, ℕ, cond, eqb, ◌<◌, ◌≤◌, List, [], ◌∷◌, Option, Some, None}
 use Rattle.std.specs.Option.{unwrap_or}
 use Rattle.of_mem.specs.Numbers.{FitsCell}
-use Rattle.of_mem.specs.WriteSet.{value_for}
+use Rattle.of_mem.specs.CellMap.{value_for}
 use Rattle.of_mem.specs.Part.{Part, newest_at, write}
 
 pub data Program (A : Type 0) : Type 0 where

@@ -1,35 +1,13 @@
--- What was written: pairs of address and number, in order of first writing.
-use Rattle.std.specs.Prelude.{◌≡◌, ℕ, ◌<◌, ◌≤◌, ◌==◌, List, [], ◌∷◌, length, Option, Some, None, if◌then◌else◌}
-use Rattle.std.proofs.Common.{get_or}
+-- What was written.
+use Rattle.std.specs.Prelude.{◌≡◌, ℕ, ◌<◌, ◌≤◌, List, length}
+use Rattle.of_mem.specs.CellMap.{entry_address}
 use Rattle.of_mem.specs.Numbers.{FitsCell}
 
 pub record WriteSet : Type 0 where
   -- addresses are below it
   pub room : ℕ
+  -- each address and its number, in order of first writing
   pub entries : List (ℕ × ℕ)
-
--- the number at an address
-abbrev pub value_for : List (ℕ × ℕ) → ℕ → Option ℕ
-value_for [] a = None
-value_for (e ∷ es) a = if e.0 == a then Some e.1 else value_for es a
-
--- the number changes in its place where the address is there, and else the pair comes last
-abbrev pub put_pair : List (ℕ × ℕ) → ℕ → ℕ → List (ℕ × ℕ)
-put_pair [] a v = (a, v) ∷ []
-put_pair (e ∷ es) a v = if e.0 == a then (a, v) ∷ es else e ∷ put_pair es a v
-
--- pairs with others put over them
-abbrev pub put_all : List (ℕ × ℕ) → List (ℕ × ℕ) → List (ℕ × ℕ)
-put_all es [] = es
-put_all es (d ∷ ds) = put_all (put_pair es d.0 d.1) ds
-
--- the address in entry k
-abbrev pub entry_address : List (ℕ × ℕ) → ℕ → ℕ
-entry_address es k = (get_or es k (0, 0)).0
-
--- the address is in no entry
-abbrev pub IsAbsent : List (ℕ × ℕ) → ℕ → Type 0
-IsAbsent es a = (k : ℕ) → k < length es → entry_address es k ≡ a → ⊥
 
 -- no address is there twice, and each is below the room
 pub record IsWriteSet (p : WriteSet) : Type 0 where

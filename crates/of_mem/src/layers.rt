@@ -3,7 +3,7 @@
 ghost use Rattle.std.specs.Prelude.{◌≡◌, ◌<◌, ◌≤◌, ◌↔◌, IsTrue, [], length, slice_index_or, IfOk, None};
 ghost use Rattle.std.proofs.Common.{get_or, is_some};
 ghost use Rattle.std.specs.Option.{option_or};
-ghost use Rattle.of_mem.specs.WriteSet.{value_for};
+ghost use Rattle.of_mem.specs.CellMap.{value_for};
 ghost use Rattle.of_mem.specs.Part.{empty_part, learn, write, keep, ReadsAt};
 
 use crate::part::Need;

@@ -1,7 +1,8 @@
 //! A map from cells to numbers, in order of first writing.
 
 ghost use Rattle.std.specs.Prelude.{◌↔◌, IsTrue, ◌≡◌, ◌<◌, ◌==◌, [], length, IfOk, slice_index_or};
-ghost use Rattle.of_mem.specs.WriteSet.{value_for, put_pair, IsWriteSet};
+ghost use Rattle.of_mem.specs.CellMap.{value_for, put_pair};
+ghost use Rattle.of_mem.specs.WriteSet.{IsWriteSet};
 
 use crate::index::Index;
 use std::alloc::{AllocError, Global};

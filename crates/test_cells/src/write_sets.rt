@@ -1,6 +1,6 @@
 //! Write-sets: what was written first, and all room taken.
 
-use of_wset::WriteSet;
+use of_mem::WriteSet;
 use std::test::Fail;
 
 #[test]

@@ -1,5 +1,6 @@
 use Rattle.std.proofs.Common.{◌≡◌, ◌∙◌, ap, refl, sym, subst, ℕ, ◌<◌, ◌+◌, List, [], ◌∷◌, length, get_or, take, arith}
-use Rattle.of_mem.specs.WriteSet.{WriteSet, put_pair, put_all}
+use Rattle.of_mem.specs.CellMap.{put_pair, put_all}
+use Rattle.of_mem.specs.WriteSet.{WriteSet}
 use Rattle.of_mem.specs.Meaning.{HasDistinctCells}
 use Rattle.of_mem.specs.Newest.{HasNewest}
 use Rattle.of_mem.specs.Part.{Part, keep}

@@ -1,5 +1,5 @@
 use Rattle.std.proofs.Common.{◌≡◌, length, take}
-use Rattle.of_mem.specs.WriteSet.{put_all}
+use Rattle.of_mem.specs.CellMap.{put_all}
 use Rattle.of_mem.proofs.layers.Layers.keep.Given as goal
 
 abbrev pub invariant-loop-i : goal.invariant-loop-i

@@ -1,7 +1,7 @@
 use Rattle.std.proofs.Common.{◌≡◌, ◌<◌, length, get_or, Some, None, length-set, sym, ◌∙◌, rules}
 use Rattle.std.specs.Option.{option_or}
 use Rattle.of_mem.specs.Part.{Part}
-use Rattle.of_mem.specs.WriteSet.{value_for}
+use Rattle.of_mem.specs.CellMap.{value_for}
 use Rattle.of_mem.proofs.Newest.{newest_learnt, none_written}
 use Rattle.of_mem.proofs.Unread.{unknown_there}
 use Rattle.of_mem.proofs.layers.Layers.learn.Goals as goal

@@ -1,6 +1,6 @@
 use Rattle.std.proofs.Common.{◌≡◌, ◌<◌, length, None, get_or, arith}
 use Rattle.std.specs.Option.{option_or}
-use Rattle.of_mem.specs.WriteSet.{value_for, entry_address}
+use Rattle.of_mem.specs.CellMap.{value_for, entry_address}
 use Rattle.of_mem.specs.Part.{Part}
 use Rattle.of_mem.proofs.Newest.{newest_undone}
 use Rattle.of_mem.proofs.layers.Layers.undo.Goals as goal

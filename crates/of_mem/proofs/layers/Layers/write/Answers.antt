@@ -1,5 +1,6 @@
 use Rattle.std.proofs.Common.{◌≡◌, ◌<◌, length, ◌∙◌, ap, rules}
-use Rattle.of_mem.specs.WriteSet.{WriteSet, put_pair}
+use Rattle.of_mem.specs.CellMap.{put_pair}
+use Rattle.of_mem.specs.WriteSet.{WriteSet}
 use Rattle.of_mem.specs.Part.{Part, write}
 use Rattle.of_mem.proofs.Newest.{newest_wrote}
 use Rattle.of_mem.proofs.layers.Layers.write.Goals as goal

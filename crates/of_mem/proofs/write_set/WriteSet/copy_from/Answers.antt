@@ -1,5 +1,6 @@
 use Rattle.std.proofs.Common.{ℕ, ◌<◌, List, length, get_or, ◌∙◌, ap, refl, arith}
-use Rattle.of_mem.specs.WriteSet.{WriteSet, put_pair}
+use Rattle.of_mem.specs.CellMap.{put_pair}
+use Rattle.of_mem.specs.WriteSet.{WriteSet}
 use Rattle.of_mem.proofs.Writes.{put_next}
 use Rattle.of_mem.proofs.write_set.WriteSet.copy_from.Goals as goal
 
