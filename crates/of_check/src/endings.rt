@@ -13,10 +13,11 @@ use std::alloc::{AllocError, Global};
 pub(crate) fn step_bound(plan: &Plan) -> u32
     ensures { result ≡ bound_of plan.now }
 {
-    let shape = plan.shape();
-    let announcing = shape.instrs + 1;
-    let round = 15 * shape.cells + (shape.instrs + 1) * shape.callers + 15;
-    let attempt = 7 * shape.cells + 7;
+    let plot = plan.plot();
+    let cells = plot.cells();
+    let announcing = plot.instrs + 1;
+    let round = 15 * cells + (plot.instrs + 1) * plot.callers + 15;
+    let attempt = 7 * cells + 7;
     announcing + 3 * round + 4 * attempt
 }
 

@@ -220,6 +220,9 @@ few_cells Two n b few low =
     let rows : 2 * log_room n (data_cell_count_for (instrs_of Two) n b) + 1 ≤ 3903 = omega (arith, room_upto n (data_cell_count_for (instrs_of Two) n b)) in
     omega (arith, mul-le-mul_left n rows)
 
+pub row_short : (v : Version) (r : DurableRow) → IsRow (instrs_of v) r → length r.words ≤ 65536
+row_short v r h = omega (arith, h.size, few_cells v r.callers r.blocks h.few_callers h.few_blocks)
+
 line_in_range : (c w : ℕ) → c ≤ 4294967295 → w < 2 ^ 64 → AllByRecursion IsImageLineInRange (cell_line c w)
 line_in_range c w low h = go (eqb w 0)
   where
@@ -236,4 +239,4 @@ number_small One = lit≤ tt
 number_small Two = lit≤ tt
 
 pub image_in_range : (v : Version) (r : DurableRow) → IsRow (instrs_of v) r → AllByRecursion IsImageLineInRange (image_lines v r)
-image_in_range v r h = (number_small v, (h.few_callers, (h.few_blocks, all-both IsImageLineInRange (cell_lines 0 r.words) (End ∷ []) (lines_in_range 0 r.words (omega (arith, h.size, few_cells v r.callers r.blocks h.few_callers h.few_blocks)) h.words) (tt, tt))))
+image_in_range v r h = (number_small v, (h.few_callers, (h.few_blocks, all-both IsImageLineInRange (cell_lines 0 r.words) (End ∷ []) (lines_in_range 0 r.words (omega (arith, row_short v r h)) h.words) (tt, tt))))

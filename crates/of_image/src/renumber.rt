@@ -30,6 +30,7 @@ fn renumbered(alloc: Global, shape: &Shape, durable: &[u64]) -> Result<Vec<u64>,
 
 /// The text of an image whose sequences begin anew, with the same store, tickets, shapes and
 /// replies. The error is want of memory.
+#[tactic(auto, using(of_cell::proofs::Rooms::cells_small))]
 pub fn renumbered_print(alloc: Global, image: &Image) -> Result<Vec<u8>, AllocError>
     requires { IsImage MOST_INSTRS image.now }
     ensures { IfOk result (λ text. Renumbers image.now text.items) }
