@@ -22,7 +22,7 @@ def words(folder):
     if not library.exists():
         return {}, ["no c/out/libonefile.a: c/build makes it"]
     path = folder / "calls"
-    command = ["cc", "-std=c11", "-O2", f"-I{TOP / 'c'}", TOP / "bench/peers/calls.c", library,
+    command = ["cc", "-std=c11", "-O2", f"-I{library.parent}", TOP / "bench/peers/calls.c", library,
                "-o", path, "-lpthread"]
     done = subprocess.run(command, stdout=subprocess.PIPE, stderr=subprocess.STDOUT, text=True)
     if done.returncode:

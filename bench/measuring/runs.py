@@ -5,6 +5,8 @@
 import re
 import typing
 
+from texts.layout import Layout
+
 CALLERS = (1, 2, 4, 8, 16)
 KEYS = (1, 8, 64, 512)
 # The greatest number of a register or key, and the greatest payload and sequence of a cell.
@@ -144,12 +146,11 @@ def with_every_cell(image):
     callers, blocks = (int(re.search(rb"^%s (\d+)$" % it, image, re.M)[1]) for it in
                        (b"callers", b"blocks"))
     found = {int(it[1]): it[0] for it in re.finditer(rb"^cell (\d+) \d+ \d+$", image, re.M)}
-    cells = 18 * callers + 63 + 3 * blocks
-    logs = 1 + callers + cells
+    layout = Layout(callers, blocks)
     seq = int(found[0].split()[2])
     lines = image.splitlines()[:3]
-    for cell in range(logs + callers * (2 * cells + 1)):
-        other = (seq, 0) if cell < logs else (GREATEST_SEQ, GREATEST)
+    for cell in range(layout.durable):
+        other = (seq, 0) if cell < layout.first_log else (GREATEST_SEQ, GREATEST)
         lines.append(found.get(cell, b"cell %d %d %d" % (cell, *other)))
     return b"\n".join([*lines, b"end", b""])
 

@@ -2,6 +2,9 @@
 import concurrent.futures
 import os
 
+from texts.plan import script_text
+from texts.report import Report
+
 from .kinds import KINDS
 from .trace import answer, read_trace, sequence_of
 
@@ -44,23 +47,6 @@ class Call:
         self.text, self.outcome, self.is_answered = f"{event.script}: {script}", "", False
 
 
-class Report:
-    """The lines of a report, as words."""
-
-    def __init__(self, text):
-        self.lines = [line.split(" ") for line in text.splitlines()]
-        self.sequence = next(int(words[1]) for words in self.lines if words[0] == "seq")
-        self.entries = {
-            (int(words[2]), int(words[3])): (int(words[1]), words[4], " ".join(words[5:]))
-            for words in self.lines if words[0] == "entry"
-        }
-
-    def batch(self, sequence):
-        """The calls of a batch, as caller and script."""
-        return [call for call, (at, how, _) in self.entries.items()
-                if (at, how) == (sequence, "run")]
-
-
 class History:
     """The first `stop` events of a plan, and the report of what its whole schedule leaves."""
 
@@ -95,7 +81,7 @@ class History:
                 continue
             if event.caller not in open_calls:
                 script = self.plan.scripts[event.caller][event.script]
-                open_calls[event.caller] = Call(event, script)
+                open_calls[event.caller] = Call(event, script_text(script))
                 calls.append(open_calls[event.caller])
             if event.end:
                 self.end_call(open_calls.pop(event.caller), event)
@@ -116,8 +102,8 @@ class History:
         """A call is open after the last event."""
         call.stop = self.stop
         if self.ends_with_crash:
-            entry = self.report.entries.get((call.caller, call.script))
-            call.outcome = f"open, kept at {entry[0]}" if entry else "open, not kept"
+            entry = self.report.entry(call.caller, call.script)
+            call.outcome = f"open, kept at {entry.seq}" if entry else "open, not kept"
 
     def words(self, done):
         """The words that are not as at the start after this many events, by name."""

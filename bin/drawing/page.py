@@ -4,6 +4,8 @@ import pathlib
 import re
 from html import escape
 
+from texts.plan import script_text
+
 from .history import crash_reports
 from .kinds import KIND_OF, KINDS
 from .svg import GUTTER, Picture
@@ -37,7 +39,7 @@ def data(history, first, picture):
     cells = {it: f"cell {1 + plan.callers + it} ({name})" for it, name in logged.items()}
     return {
         "first": first, "stop": history.stop, "planned": plan.events, "callers": plan.callers,
-        "scripts": [plan.scripts.get(caller, []) for caller in range(plan.callers)],
+        "scripts": [[*map(script_text, own)] for own in plan.scripts],
         "words": names, "steps": steps, "start": history.words(first),
         "events": [event_data(it, place, steps) for it in history.events[first:]],
         "holding": logged,

@@ -290,8 +290,7 @@ class Picture:
     def draw_commit(self, event):
         """A line across all lanes; dashed and hollow if the crash loses the transaction."""
         sequence, place, is_lost = event.sequence, self.effect(event), not self.is_kept(event)
-        batch = ", ".join(f"{caller}.{script}" for caller, script
-                          in self.history.report.batch(sequence))
+        batch = ", ".join(f"{it.caller}.{it.index}" for it in self.history.report.batch(sequence))
         title = f"transaction {sequence}, committed by caller {event.caller}"
         title += "; the crash loses it" if is_lost else f": calls {batch}"
         colour, wide = KINDS["commit"].colour, LETTER * len(str(sequence)) + 12
@@ -306,7 +305,7 @@ class Picture:
 
     def is_kept(self, event):
         """Whether recovery finds the transaction of a commit."""
-        return event.sequence <= self.history.report.sequence
+        return event.sequence <= self.history.report.seq
 
     def draw_crash(self):
         bolts = (self.bands + 2 * BAND) // 8

@@ -144,7 +144,7 @@ class Lines:
 
     def write_commit(self, event, lanes):
         place, sequence = self.place(event.at), event.sequence
-        is_lost = sequence > self.history.report.sequence
+        is_lost = sequence > self.history.report.seq
         self.head.write(max(place - 1, 0), f"({sequence})" + "?" * is_lost)
         for line in lanes:
             line.cross(place, "|")

@@ -6,7 +6,7 @@ import subprocess
 import sys
 
 from .kinds import KIND_OF
-from .plan import shown
+from .shown import shown
 
 TOP = pathlib.Path(__file__).resolve().parent.parent.parent
 MOST_LINES = 10_000  # of one trace

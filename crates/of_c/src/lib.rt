@@ -1,5 +1,5 @@
 //! A memory, its callers and what it leaves, for C: each call tests what it is given and answers a
-//! code. The header c/onefile.h is the manual.
+//! code. The header c/include/onefile.h is the manual.
 #![tactic(auto)]
 
 mod callers;

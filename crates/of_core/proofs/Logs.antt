@@ -20,7 +20,7 @@ use Rattle.of_cell.proofs.Rooms.{room_share}
 use Rattle.of_core.specs.Table.{Setup, most_entries, first_operation_cell, ticket_cell}
 use Rattle.of_core.specs.Machine.{cells_from, own_cells, flat_entries, log_words, entries_going_round}
 use Rattle.of_core.specs.History.{with_log_applied}
-use Rattle.of_core.specs.WordsMatch.{IsEntry, IsLog}
+use Rattle.of_core.specs.WordsMatch.{IsEntry}
 use Rattle.of_core.specs.Transaction.{IsReorderingOf}
 
 pub written_append : (xs : List ℕ) (es ds : List (ℕ × ℕ)) → with_writes_in xs (es ++ ds) ≡ with_writes_in (with_writes_in xs es) ds

@@ -18,7 +18,7 @@ use Rattle.of_mem.proofs.Writes.{put_all_few}
 use Rattle.of_core.specs.Table.{Setup, first_operation_cell, ticket_cell, shape_cell, reply_cell}
 use Rattle.of_core.specs.Machine.{Call, cells_from, own_cells, no_call}
 use Rattle.of_core.specs.History.{IsCellOfCaller, numbers_after_calls, CallsHaveReplies}
-use Rattle.of_core.specs.WordsMatch.{IsEntry, IsLog}
+use Rattle.of_core.specs.WordsMatch.{IsEntry}
 use Rattle.of_core.specs.Scan.{LogsCell, LogsOwnCells, IsOverlayOf}
 use Rattle.of_core.proofs.States.{once_tail}
 use Rattle.of_core.proofs.Logs.{AreWrites, once_within, written_append, drop_written, own_below, whole_log, length-listed, listed_at, length-written, own_is, IsOwn}

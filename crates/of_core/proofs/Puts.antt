@@ -1,8 +1,7 @@
--- Filling a log: the puts of write-set and partial memory are those of the definitions, and where no cell stands twice they list the entries one behind the other.
-use Rattle.std.proofs.Common.{◌≡◌, ℕ, zero, suc, ◌+◌, ◌-◌, ◌*◌, ◌/◌, ◌%◌, ◌^◌, ◌<◌, ◌≤◌, ◌==◌, List, [], ◌∷◌, ◌++◌, length, get_or, take, drop, Option, Some, None, if◌then◌else◌, Bool, true, false, refl, ap, ◌∙◌, sym, subst, arith, append_assoc, length-append, replicate}
+-- Filling a log: if no cell is there twice, the puts list the entries one after the other.
+use Rattle.std.proofs.Common.{◌≡◌, ℕ, zero, suc, ◌+◌, ◌-◌, ◌*◌, ◌/◌, ◌%◌, ◌^◌, ◌<◌, ◌≤◌, List, [], ◌∷◌, ◌++◌, length, get_or, take, drop, Option, Some, None, Bool, true, false, refl, ap, ◌∙◌, sym, subst, arith, append_assoc, length-append, replicate}
 use Rattle.std.proofs.lemmas.List.{get_or_append_left, get_or_push, append-nil, take_more, length-replicate, get_or-drop, get_or-take, length-take, length-drop, length-take-le, drop_all, take_all, drop-append-le}
 use Rattle.std.proofs.lemmas.Bool.{eq-eqb as same_test, ne_eqb as other_test}
-use Rattle.of_wset.specs.WriteSet as wset
 use Rattle.of_cell.specs.declared.word.TheConstants.{PAYLOADS}
 use Rattle.of_mem.specs.CellMap.{value_for, put_pair, put_all}
 use Rattle.of_mem.specs.Part.{Part, newest_at, write}
@@ -16,11 +15,6 @@ use Rattle.of_core.specs.Steps.{after_read_run, first_marked_place}
 use Rattle.of_mem.proofs.Lists.{zero_at}
 use Rattle.of_core.proofs.Unknown.{known_not}
 use Rattle.of_core.proofs.Logs.{whole_log, once_append}
-
--- a write-set's put
-pub wset_put : (ds : List (ℕ × ℕ)) (a v : ℕ) → wset.put ds a v ≡ put_pair ds a v
-wset_put [] a v = refl
-wset_put (d ∷ ds) a v = ap (λ (xs : List (ℕ × ℕ)). if d.0 == a then (a, v) ∷ ds else d ∷ xs) (wset_put ds a v)
 
 pub put_all_append : (ds es fs : List (ℕ × ℕ)) → put_all ds (es ++ fs) ≡ put_all (put_all ds es) fs
 put_all_append ds [] fs = refl

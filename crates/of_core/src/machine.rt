@@ -28,8 +28,7 @@ use crate::machine::lists::Lists;
 use crate::performer::{NameStep, Performer};
 use crate::place::{Op, Outcome, Place};
 use of_cell::{GREATEST_LIMIT, Shape, pack};
-use of_mem::{MOST_INSTRS, RawReply, Work, Workspace};
-use of_wset::WriteSet;
+use of_mem::{MOST_INSTRS, RawReply, Work, Workspace, WriteSet};
 use std::alloc::{AllocError, Global};
 use std::marker::Model;
 

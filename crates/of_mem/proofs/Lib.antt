@@ -1,7 +1,10 @@
 pub mod Lists
-pub mod Indexed
+pub mod Chains
+pub mod Listed
+pub mod Zips
+pub mod WriteSets
 pub mod Cells
-pub mod Eras
+pub mod SlotValues
 pub mod Newest
 pub mod PlotPlaces
 pub mod Changes

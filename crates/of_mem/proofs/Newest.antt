@@ -5,13 +5,14 @@ use Rattle.std.proofs.lemmas.Bool.Decides.{nat_tests}
 use Rattle.std.proofs.lemmas.List.{drop_more, get_or-drop, length-drop, get_or-set_same, get_or-set_other}
 use Rattle.std.specs.Option.{option_or}
 use Rattle.std.proofs.lemmas.Bool.{ne_eqb as differs}
-use Rattle.of_mem.specs.CellMap.{CellMap, IsCellMap, value_for, put_pair, put_all, entry_address, IsAbsent}
+use Rattle.of_mem.specs.CellMap.{value_for, put_pair, put_all, entry_address, IsAbsent}
+use Rattle.of_mem.specs.WriteSet.{WriteSet, IsWriteSet}
 use Rattle.of_mem.specs.Part.{Part, newest_at, newer_of, empty_part, learn, write, keep}
 use Rattle.of_mem.specs.Newest.{HasNewest}
-use Rattle.of_mem.proofs.Indexed.{value_at_put, value_at-absent}
+use Rattle.of_mem.proofs.WriteSets.{value_at_put, value_at-absent}
 
 -- the older of two lists of pairs has no address twice
-absent_behind : (p : CellMap) (i : ℕ) → IsCellMap p → i < length p.entries → IsAbsent (drop (i + 1) p.entries) (entry_address p.entries i)
+absent_behind : (p : WriteSet) (i : ℕ) → IsWriteSet p → i < length p.entries → IsAbsent (drop (i + 1) p.entries) (entry_address p.entries i)
 absent_behind p i h l k m e =
     let size : length (drop (i + 1) p.entries) + (i + 1) ≡ length p.entries = omega (arith, length-drop (i + 1) p.entries) in
     let there : entry_address p.entries (i + 1 + k) ≡ entry_address p.entries i = ap (λ (x : ℕ × ℕ). x.0) (sym (get_or-drop (i + 1) p.entries k (0, 0))) ∙ e in
@@ -77,7 +78,7 @@ newest_wrote p cells a v l h = record { size = length-set cells a (Some v) ∙ h
     at b m (inl q) = rw (q, value_at_put p.script a v a, eq-eqb a a refl) (get_or-set_same cells a (Some v) None (omega (arith, h.size, l)))
     at b m (inr n) = rw (value_at_put p.script a v b, differs a b (λ q. n (sym q))) (get_or-set_other cells a b (Some v) None n ∙ h.at b m)
 
-pub newest_kept : (p : Part) (room : ℕ) (cells : List (Option ℕ)) → IsCellMap (record { room = room; entries = p.script }) → HasNewest p cells → HasNewest (keep p) cells
+pub newest_kept : (p : Part) (room : ℕ) (cells : List (Option ℕ)) → IsWriteSet (record { room = room; entries = p.script }) → HasNewest p cells → HasNewest (keep p) cells
 unfolding newest_at
 newest_kept p room cells m h = record {
   size = h.size;
@@ -89,7 +90,7 @@ newest_kept p room cells m h = record {
     one (Some w) q r = refl
 
 -- without the first of the script's numbers
-pub newest_undone : (p : Part) (room : ℕ) (cells : List (Option ℕ)) (i : ℕ) → IsCellMap (record { room = room; entries = p.script }) → i < length p.script → entry_address p.script i < length p.known
+pub newest_undone : (p : Part) (room : ℕ) (cells : List (Option ℕ)) (i : ℕ) → IsWriteSet (record { room = room; entries = p.script }) → i < length p.script → entry_address p.script i < length p.known
     → HasNewest (record p { script = drop i p.script }) cells
     → HasNewest (record p { script = drop (i + 1) p.script }) (set cells (entry_address p.script i) (option_or (value_for p.batch (entry_address p.script i)) (get_or p.known (entry_address p.script i) None)))
 unfolding newest_at

@@ -9,7 +9,7 @@ use Rattle.of_mem.specs.CellMap.{value_for, put_pair, put_all}
 use Rattle.of_mem.specs.Part.{newer_of, Part, newest_at, write}
 use Rattle.of_mem.specs.Programs.{Program, Done, Read, Write, RunEnd, Lacks, Ends, with_number, run_program, then_do, with_value, program_answer, memory_after, program_writes, with_writes, StaysBetween, StaysFrom, AlwaysYields, OnlyReads, IsPartOf}
 use Rattle.of_mem.proofs.Changes.{changed_same, changed_other}
-use Rattle.of_mem.proofs.Indexed.{value_at_put}
+use Rattle.of_mem.proofs.WriteSets.{value_at_put}
 
 pub value_at_same : (es : List (ℕ × ℕ)) (a v : ℕ) → value_for (put_pair es a v) a ≡ Some v
 value_at_same es a v = let e : (a == a) ≡ true = grind (arith, nat_tests) in value_at_put es a v a ∙ rw e refl

@@ -7,7 +7,7 @@ use Rattle.std.proofs.lemmas.List.{set_comm, drop-set-lt, drop-set-add, take_mor
 use Rattle.of_mem.specs.CellMap.{put_pair, put_all, IsAbsent}
 use Rattle.of_mem.specs.Meaning.{with_writes_in, HasDistinctCells, SameFrom}
 use Rattle.of_mem.proofs.Cells.{put_all_take}
-use Rattle.of_mem.proofs.Indexed.{put-absent}
+use Rattle.of_mem.proofs.WriteSets.{put-absent}
 
 absent_tail : (e : ℕ × ℕ) (es : List (ℕ × ℕ)) (a : ℕ) → IsAbsent (e ∷ es) a → IsAbsent es a
 absent_tail e es a h k l q = h (suc k) (omega arith) q

@@ -1,12 +1,6 @@
 -- Numbers of cells as pairs of address and number, in order of first writing.
-use Rattle.std.specs.Prelude.{◌≡◌, ℕ, ◌<◌, ◌≤◌, ◌==◌, List, [], ◌∷◌, length, Option, Some, None, if◌then◌else◌}
+use Rattle.std.specs.Prelude.{◌≡◌, ℕ, ◌<◌, ◌==◌, List, [], ◌∷◌, length, Option, Some, None, if◌then◌else◌}
 use Rattle.std.proofs.Common.{get_or}
-use Rattle.of_mem.specs.Numbers.{FitsCell}
-
-pub record CellMap : Type 0 where
-  -- addresses are below it
-  pub room : ℕ
-  pub entries : List (ℕ × ℕ)
 
 -- the number at an address
 abbrev pub value_for : List (ℕ × ℕ) → ℕ → Option ℕ
@@ -30,11 +24,3 @@ entry_address es k = (get_or es k (0, 0)).0
 -- the address is in no entry
 abbrev pub IsAbsent : List (ℕ × ℕ) → ℕ → Type 0
 IsAbsent es a = (k : ℕ) → k < length es → entry_address es k ≡ a → ⊥
-
--- no address is there twice, and each is below the room
-pub record IsCellMap (p : CellMap) : Type 0 where
-  pub once : (j k : ℕ) → j < length p.entries → k < length p.entries
-      → entry_address p.entries j ≡ entry_address p.entries k → j ≡ k
-  pub below : (k : ℕ) → k < length p.entries → entry_address p.entries k < p.room
-  pub few : length p.entries ≤ p.room
-  pub room : FitsCell p.room

@@ -1,7 +1,9 @@
 pub mod Meaning
 pub mod CellMap
-pub mod Indexed
-pub mod Eras
+pub mod WriteSet
+pub mod Index
+pub mod Chains
+pub mod Slots
 pub mod Newest
 pub mod Numbers
 pub mod Part

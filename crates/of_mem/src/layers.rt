@@ -6,9 +6,9 @@ ghost use Rattle.std.specs.Option.{option_or};
 ghost use Rattle.of_mem.specs.CellMap.{value_for};
 ghost use Rattle.of_mem.specs.Part.{empty_part, learn, write, keep, ReadsAt};
 
-use crate::cell_map::CellMap;
 use crate::part::Need;
 use crate::slots::Slots;
+use crate::write_set::WriteSet;
 use std::alloc::{AllocError, Global};
 use std::marker::Model;
 use std::mem;
@@ -18,8 +18,8 @@ use std::mem;
 #[derive(Drop)]
 pub(crate) struct Layers {
     known: Slots,
-    batch: CellMap,
-    script: CellMap,
+    batch: WriteSet,
+    script: WriteSet,
     // What each cell holds, so that a read is one look-up.
     newest: Slots,
 }
@@ -54,8 +54,8 @@ impl Layers {
         ensures { IfOk result (λ p. p ≡ empty_part cells) }
     {
         let known = Slots::new(alloc, cells)?;
-        let batch = CellMap::new(alloc, cells)?;
-        let script = CellMap::new(alloc, cells)?;
+        let batch = WriteSet::new(alloc, cells)?;
+        let script = WriteSet::new(alloc, cells)?;
         let newest = Slots::new(alloc, cells)?;
         Ok(Layers {
             known,
@@ -189,7 +189,7 @@ impl Layers {
     }
 
     /// Copies what the script wrote.
-    pub fn copy_script(&self, to: &mut CellMap)
+    pub fn copy_script(&self, to: &mut WriteSet)
         requires { to.old.room ≡ length self.now.known }
         ensures entries { to.new.entries ≡ self.now.script }
         ensures room { to.new.room ≡ to.old.room }
@@ -198,7 +198,7 @@ impl Layers {
     }
 
     /// Whether the script wrote these, in this order.
-    pub fn has_written(&self, writes: &CellMap) -> bool
+    pub fn has_written(&self, writes: &WriteSet) -> bool
         ensures { IsTrue result ↔ (self.now.script ≡ writes.now.entries) }
     {
         self.script.has_entries_of(writes)
@@ -208,7 +208,7 @@ impl Layers {
     // out of line: mostly the script has written them
     #[cold]
     #[inline(never)]
-    pub fn set_script(&mut self, writes: &CellMap)
+    pub fn set_script(&mut self, writes: &WriteSet)
         requires { writes.now.room ≡ length self.old.known }
         ensures { self.new ≡ record self.old { script = writes.now.entries } }
     {

@@ -1,7 +1,7 @@
 //! Partial memory, the places of data cells, and what runs operations on cells.
 #![tactic(auto)]
 
-mod cell_map;
+mod index;
 pub mod laws;
 mod layers;
 mod part;
@@ -10,6 +10,7 @@ mod slots;
 mod suspended_run;
 mod work;
 mod workspace;
+mod write_set;
 
 pub use part::{Need, Part, Walk};
 pub use plot::{BUCKETS, MOST_BLOCKS, Plot, QUEUES, REGISTERS};
@@ -19,3 +20,4 @@ pub use work::{
     Work,
 };
 pub use workspace::Workspace;
+pub use write_set::WriteSet;

@@ -8,9 +8,9 @@ ghost use Rattle.of_mem.specs.Places.{bucket_at};
 ghost use Rattle.of_mem.specs.Plots.{base};
 ghost use Rattle.of_mem.specs.Walks.{Passes};
 
-use crate::cell_map::CellMap;
 use crate::layers::Layers;
 use crate::plot::{BUCKETS, Plot};
+use crate::write_set::WriteSet;
 use std::alloc::{AllocError, Global};
 use std::marker::Model;
 
@@ -217,7 +217,7 @@ impl Part {
     }
 
     // Copies what the script wrote.
-    pub(crate) fn copy_script(&self, to: &mut CellMap)
+    pub(crate) fn copy_script(&self, to: &mut WriteSet)
         requires { to.old.room ≡ length self.now.known }
         ensures entries { to.new.entries ≡ self.now.script }
         ensures room { to.new.room ≡ to.old.room }
@@ -231,7 +231,7 @@ impl Part {
 
     // Lets these be what the script wrote. It takes no time where the script wrote the same before
     // it was undone, but for a look.
-    pub(crate) fn set_script(&mut self, writes: &CellMap)
+    pub(crate) fn set_script(&mut self, writes: &WriteSet)
         requires { writes.now.room ≡ length self.old.known }
         ensures { self.new ≡ record self.old { script = writes.now.entries } }
     {

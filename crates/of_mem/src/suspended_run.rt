@@ -5,9 +5,9 @@ ghost use Rattle.std.proofs.Common.{set};
 ghost use Rattle.of_mem.specs.declared.work.TheConstants.{MOST_INSTRS};
 ghost use Rattle.of_mem.specs.SuspendedRun.{nothing_suspended, begin_run, IsSuspensionOf};
 
-use crate::cell_map::CellMap;
 use crate::part::Part;
 use crate::work::MOST_INSTRS;
+use crate::write_set::WriteSet;
 use std::alloc::{AllocError, Global};
 use std::marker::Model;
 
@@ -23,7 +23,7 @@ pub struct SuspendedRun {
     words: [u64; MOST_INSTRS],
     done: u32,
     values: [Option<u32>; MOST_INSTRS],
-    writes: CellMap,
+    writes: WriteSet,
     sought: Option<u32>,
 }
 
@@ -57,7 +57,7 @@ impl SuspendedRun {
     pub fn new(alloc: Global, cells: u32) -> Result<Self, AllocError>
         ensures { IfOk result (λ k. k ≡ nothing_suspended cells) }
     {
-        let writes = CellMap::new(alloc, cells)?;
+        let writes = WriteSet::new(alloc, cells)?;
         Ok(SuspendedRun {
             callers: 0,
             blocks: 0,

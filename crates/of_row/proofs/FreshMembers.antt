@@ -1,12 +1,12 @@
 -- A member that has seen nothing since the row's start fits, whatever the others have done.
-use Rattle.std.proofs.Common.{◌≡◌, ℕ, ◌+◌, ◌<◌, ◌≤◌, false, true, List, [], ◌∷◌, refl, arith}
+use Rattle.std.proofs.Common.{◌≡◌, ℕ, ◌+◌, ◌<◌, List, refl, arith}
 use Rattle.std.specs.Int.{bit_at}
 use Rattle.atomic_table.specs.Table.{State}
 use Rattle.of_core.specs.Table.{Setup}
 use Rattle.of_core.specs.Machine.{idle_machine}
 use Rattle.of_core.specs.TableMoment.{TableStart}
 use Rattle.of_row.specs.Views.{View}
-use Rattle.of_row.specs.Trail.{HasDoneNothing, IsRunBy, moment}
+use Rattle.of_row.specs.Trail.{HasDoneNothing, moment}
 use Rattle.of_row.specs.Rule.{done_before, members_of, KnowsCallsOf, ViewFits, MeetsRule}
 use Rattle.of_row.specs.RowLaws.{RowLaws}
 use Rattle.of_row.specs.Turned.{new_known_caller}

@@ -3,18 +3,15 @@
 
 ghost use Rattle.std.specs.Prelude.{◌≤◌};
 
-use crate::top::told;
-use of_brake::{Brake, Fuel, Pattern, hold_pair};
+use crate::top::{answer, fill};
+use of_brake::{Brake, Pattern, hold_pair};
 use of_io::{MemSink, MemSource};
 use of_plan::Ending;
-use of_tool::{TeamRecord, status, tool};
+use of_tool::status;
 use std::alloc::{AllocError, Global};
 use std::process::Abort;
 use std::test::Fail;
 use std::thread::Threads;
-
-/// How many brakes the top call takes.
-const BRAKES: usize = 16;
 
 /// How often a holder looks for its teller's flag at most.
 const TURNS: u64 = 1_000_000_000;
@@ -73,66 +70,30 @@ const DENIED: [(&str, [&[u64]; 2], [Ending; 2]); 5] = [
     ),
 ];
 
-/// How the callers of a plan end that `run` runs under these brakes, and what it prints. None where
-/// there are not as many brakes as the top call takes, or the plan was not run.
-fn run_under<R: Threads + Sync + AllocGlobal>(
+/// The most that is written.
+const ROOM: usize = 100_000;
+
+/// How the callers of a plan end that `run` runs under these brakes.
+fn endings<R: Abort + Threads + Sync + AllocGlobal>(
     rt: &R,
     plan: &str,
     brakes: Vec<Box<dyn Brake + Send>>,
-) -> Result<Option<(Vec<Ending>, Vec<u8>)>, Fail> {
-    if brakes.len() != BRAKES {
-        return Ok(None);
-    }
+) -> Result<Vec<Ending>, Fail> {
     let alloc = rt.alloc();
-    let mut words = Vec::new(alloc);
-    words.push(String::from_str(alloc, "run")?)?;
     let input = Vec::from_slice(alloc, plan.as_bytes())?;
     let mut source = MemSource::new(input, usize::MAX, Vec::new(alloc));
-    let mut sink = MemSink::new(alloc, 100_000, usize::MAX, Vec::new(alloc))?;
-    let mut ran: TeamRecord = None;
-    let words = words.as_slice();
-    if tool(rt, alloc, words, &mut source, &mut sink, brakes, &mut ran) != status::DONE {
-        return Ok(None);
+    let mut sink = MemSink::new(alloc, ROOM, usize::MAX, Vec::new(alloc))?;
+    let (status, ran) = answer(rt, &["run"], &mut source, &mut sink, brakes)?;
+    assert_eq!(rt; status, status::DONE);
+    match ran {
+        Some((ended, _pass)) => Ok(ended.endings),
+        None => panic!(rt; "the plan was not run"),
     }
-    let Some((ended, _pass)) = ran else {
-        return Ok(None);
-    };
-    let printed = Vec::from_slice(alloc, sink.bytes())?;
-    Ok(Some((ended.endings, printed)))
-}
-
-/// Looks that the callers of a plan end so under these brakes, and that the report is a legal one.
-fn ends_so<R: Abort + Threads + Sync + AllocGlobal>(
-    rt: &R,
-    case: &str,
-    plan: &str,
-    brakes: Vec<Box<dyn Brake + Send>>,
-    wanted: &[Ending],
-) -> Result<(), Fail> {
-    let Some((endings, printed)) = run_under(rt, plan, brakes)? else {
-        panic!(rt; "{case}: the plan was not run");
-    };
-    assert_eq!(rt; endings.as_slice(), wanted, "{case}");
-    let mut both = Vec::from_slice(rt.alloc(), plan.as_bytes())?;
-    both.extend_from_slice(printed.as_slice())?;
-    let (told, text) = told(rt, &["check"], both.as_slice(), &[], &[])?;
-    assert_eq!(rt; told, status::DONE, "{case}");
-    assert_eq!(rt; text.as_slice(), b"legal report\n".as_slice(), "{case}");
-    Ok(())
-}
-
-/// Adds brakes that tell their steps left, up to as many as the top call takes.
-fn fill(alloc: Global, brakes: &mut Vec<Box<dyn Brake + Send>>) -> Result<(), AllocError> {
-    for _ in brakes.len()..BRAKES {
-        let brake: Box<dyn Brake + Send> = Box::new(alloc, Fuel::new())?;
-        brakes.push(brake)?;
-    }
-    Ok(())
 }
 
 /// The brakes of so many pairs of callers, the first with the last, and so on inwards: of each pair
 /// one is held at its ask `at` until the other's call is answered, the first one, or the second
-/// where they are exchanged.
+/// if they are exchanged.
 fn pairs(
     alloc: Global,
     pairs: u32,
@@ -155,49 +116,50 @@ fn pairs(
             partners.push(teller)?;
         }
     }
-    for _ in 0..pairs {
-        if let Some(partner) = partners.pop() {
-            brakes.push(partner)?;
-        }
+    while let Some(partner) = partners.pop() {
+        brakes.push(partner)?;
     }
     fill(alloc, &mut brakes)?;
     Ok(brakes)
 }
 
-/// The brakes of two callers, of which each denies the asks of its list; a caller with an empty
-/// list has one that tells its steps left.
+/// The brakes of two callers, of which each denies the asks of its list.
 fn patterns(alloc: Global, denied: [&[u64]; 2]) -> Result<Vec<Box<dyn Brake + Send>>, AllocError> {
     let mut brakes: Vec<Box<dyn Brake + Send>> = Vec::new(alloc);
     for asks in denied {
-        let brake: Box<dyn Brake + Send> = if asks.is_empty() {
-            Box::new(alloc, Fuel::new())?
-        } else {
-            Box::new(alloc, Pattern::new(Vec::from_slice(alloc, asks)?))?
-        };
+        let pattern = Pattern::new(Vec::from_slice(alloc, asks)?);
+        let brake: Box<dyn Brake + Send> = Box::new(alloc, pattern)?;
         brakes.push(brake)?;
     }
     fill(alloc, &mut brakes)?;
     Ok(brakes)
 }
 
-// The ask behind the exchange of the current-transaction word.
+// In the first row the ask is that after the exchange of the current-transaction word.
 #[test]
-fn one_waits_for_the_other(rt: HostRuntime) -> Result<(), Fail> {
-    for exchanged in [false, true] {
-        let brakes = pairs(rt.alloc(), 1, 32, exchanged)?;
-        let case = if exchanged { "exchanged" } else { "a pair" };
-        ends_so(&rt, case, TWO, brakes, &[Ending::Done; 2])?;
+fn one_of_each_pair_waits_for_the_other(rt: HostRuntime) -> Result<(), Fail> {
+    for (plan, count, at) in [(TWO, 1, 32), (WIDE, 8, 1)] {
+        for exchanged in [false, true] {
+            assert!(rt; at >= 1);
+            let brakes = pairs(rt.alloc(), count, at, exchanged)?;
+            let endings = endings(&rt, plan, brakes)?;
+            assert!(rt;
+                endings.iter().all(|ending| *ending == Ending::Done),
+                "{count} pairs, {exchanged}"
+            );
+        }
     }
     Ok(())
 }
 
+// So a caller whose partner isn't answered meanwhile would be stopped in the test above.
 #[test]
-fn eight_wait_for_the_others(rt: HostRuntime) -> Result<(), Fail> {
-    for exchanged in [false, true] {
-        let brakes = pairs(rt.alloc(), 8, 1, exchanged)?;
-        let case = if exchanged { "exchanged" } else { "pairs" };
-        ends_so(&rt, case, WIDE, brakes, &[Ending::Done; 16])?;
-    }
+fn a_holder_that_is_not_told_denies_its_ask(rt: HostRuntime) -> Result<(), AllocError> {
+    let (mut holder, _teller) = hold_pair(rt.alloc(), 2, 10)?;
+    assert!(rt; holder.ask() && !holder.ask() && holder.ask());
+    let (mut holder, mut teller) = hold_pair(rt.alloc(), 1, 10)?;
+    teller.answered();
+    assert!(rt; holder.ask());
     Ok(())
 }
 
@@ -206,7 +168,8 @@ fn eight_wait_for_the_others(rt: HostRuntime) -> Result<(), Fail> {
 fn asks_are_denied_by_number(rt: HostRuntime) -> Result<(), Fail> {
     for (case, denied, wanted) in DENIED {
         let brakes = patterns(rt.alloc(), denied)?;
-        ends_so(&rt, case, TWO, brakes, &wanted)?;
+        let endings = endings(&rt, TWO, brakes)?;
+        assert_eq!(rt; endings.as_slice(), wanted.as_slice(), "{case}");
     }
     Ok(())
 }

@@ -1,12 +1,10 @@
-//! The tests of what is read and printed: scripts, plans and images, and of the plain store. There
-//! is nothing to call here.
+//! The tests of printed texts: scripts, plans, and why a text is refused. There is nothing to call
+//! here.
 #![tactic(auto)]
 
 #[cfg(test)]
-mod images;
+mod errors;
 #[cfg(test)]
 mod plans;
 #[cfg(test)]
 mod scripts;
-#[cfg(test)]
-mod stores;

@@ -8,8 +8,7 @@ ghost use Rattle.of_core.specs.Fit.{IsEmptyWithRoom};
 
 use crate::call::Call;
 use of_cell::Shape;
-use of_mem::{MOST_INSTRS, Work, Workspace};
-use of_wset::WriteSet;
+use of_mem::{MOST_INSTRS, Work, Workspace, WriteSet};
 use std::alloc::{AllocError, Global};
 
 /// What a machine keeps in lists. Made in one place, so that the machine itself is made in one

@@ -10,8 +10,7 @@ ghost use Rattle.of_mem.specs.Part.{keep};
 ghost use Rattle.of_core.specs.Machine.{log_of, log_words, own_cells, reply_cell_pairs, entries_going_round};
 ghost use Rattle.of_core.specs.Steps.{first_marked_place};
 
-use of_mem::{LEAST_ABORT, MOST_INSTRS, MaySuspend, RawReply, Workspace};
-use of_wset::WriteSet;
+use of_mem::{LEAST_ABORT, MOST_INSTRS, MaySuspend, RawReply, Workspace, WriteSet};
 
 /// Hands what the script wrote to the log and to the batch.
 pub fn hand_to_log<W: MaySuspend>(part: &mut Workspace<W>, log: &mut WriteSet)

@@ -1,4 +1,4 @@
-use Rattle.test_cells.proofs.ThreeCallers.{by_time, otherwise}
+use Rattle.test_cells.proofs.three_callers.Schedules.{by_time, otherwise}
 use Rattle.test_cells.proofs.three_callers.real_time_decides.Goals as goal
 
 pub returns-clause-in_turn : goal.returns-clause-in_turn

@@ -1,7 +1,7 @@
 use Rattle.std.proofs.Common.{◌≡◌, ◌==◌, ◌%◌, length, true, arith, ap, ◌∙◌, refl}
 use Rattle.std.proofs.lemmas.Bool.Decides.{nat_tests}
 use Rattle.of_cell.specs.Words.{pack}
-use Rattle.of_wset.specs.WriteSet.{WriteSet}
+use Rattle.of_mem.specs.WriteSet.{WriteSet}
 use Rattle.of_core.specs.Machine.{log_of, entries_going_round}
 use Rattle.of_core.proofs.Puts.{put_all_once, once_turned, log_of_words}
 use Rattle.of_core.proofs.machine.Machine.after_look_again.Goals as goal

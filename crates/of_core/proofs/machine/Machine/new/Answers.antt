@@ -1,7 +1,7 @@
 use Rattle.std.proofs.Common.{rules, sym, ap, ◌∙◌, length, arith, None}
 use Rattle.std.proofs.lemmas.List.{length-replicate}
 use Rattle.of_mem.specs.Part.{Part}
-use Rattle.of_wset.specs.WriteSet.{WriteSet}
+use Rattle.of_mem.specs.WriteSet.{WriteSet}
 use Rattle.of_core.proofs.machine.Machine.new.Goals as goal
 
 pub invariant_of-result : goal.invariant_of-result

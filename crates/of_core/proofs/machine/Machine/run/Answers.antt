@@ -6,7 +6,7 @@ use Rattle.of_mem.specs.CellMap.{put_all}
 use Rattle.of_mem.specs.Part.{Part, overlaid}
 use Rattle.of_mem.specs.Meaning.{IsSoundMeaning, Needs, Gives}
 use Rattle.of_mem.specs.declared.work.RawReply.{RawReply}
-use Rattle.of_wset.specs.WriteSet.{WriteSet}
+use Rattle.of_mem.specs.WriteSet.{WriteSet}
 use Rattle.of_core.specs.Table.{Setup, setup_of, first_operation_cell, ticket_cell}
 use Rattle.of_core.specs.Machine.{own_cells}
 use Rattle.of_core.specs.Inside.{call_value}

@@ -1,7 +1,7 @@
 use Rattle.std.proofs.Common.{◌≡◌, ◌<◌, ℕ, List, length, get_or, ◌∙◌, ap, sym, refl, arith}
-use Rattle.of_wset.specs.WriteSet.{WriteSet}
+use Rattle.of_mem.specs.WriteSet.{WriteSet}
 use Rattle.of_mem.specs.CellMap.{put_pair}
-use Rattle.of_core.proofs.Puts.{wset_put, put_all_take}
+use Rattle.of_core.proofs.Puts.{put_all_take}
 use Rattle.of_core.proofs.machine.logs.hand_to_log.Goals as goal
 
 pub loop-i-preserved : goal.loop-i-preserved
@@ -10,7 +10,7 @@ loop-i-preserved g c =
     let i : ℕ = c.loop-i.i in
     let here : i < length script = omega (arith, c.pending_len-i-end.ensures.value) in
     let added : c.put.new.self.entries ≡ put_pair c.loop-i.log.entries (get_or script i (0, 0)).0 (get_or script i (0, 0)).1 =
-    ap (λ (p : WriteSet). p.entries) c.put.ensures ∙ wset_put c.loop-i.log.entries _ _ ∙ ap (λ (e : ℕ × ℕ). put_pair c.loop-i.log.entries e.0 e.1) c.pending-addr.ensures.value
+    ap (λ (p : WriteSet). p.entries) c.put.ensures ∙ ap (λ (e : ℕ × ℕ). put_pair c.loop-i.log.entries e.0 e.1) c.pending-addr.ensures.value
     in
     record {
       entries = added ∙ ap (λ (ds : List (ℕ × ℕ)). put_pair ds (get_or script i (0, 0)).0 (get_or script i (0, 0)).1) c.loop-i.invariant.entries ∙ sym (put_all_take c.args.log.now.entries script i (0, 0) here);

@@ -1,9 +1,9 @@
 use Rattle.std.proofs.Common.{◌≡◌, ℕ, ◌<◌, ◌+◌, ◌*◌, List, length, get_or, take, drop, arith, ap, ◌∙◌, sym, refl}
-use Rattle.of_wset.specs.WriteSet.{WriteSet}
+use Rattle.of_mem.specs.WriteSet.{WriteSet}
 use Rattle.of_mem.specs.CellMap.{put_pair, put_all}
 use Rattle.of_core.specs.Machine.{log_words, log_of}
 use Rattle.of_core.proofs.Logs.{length-log_words, words_at}
-use Rattle.of_core.proofs.Puts.{log_of_words, put_part, wset_put}
+use Rattle.of_core.proofs.Puts.{log_of_words, put_part}
 use Rattle.of_core.proofs.machine.logs.put_entries.Goals as goal
 
 pub bounds-copy-at : goal.bounds-copy-at
@@ -37,7 +37,7 @@ loop-j-preserved c =
     let all : log_of c.args.copy.now ≡ es = ap log_of c.requires.entries.1 ∙ log_of_words es in
     let entry : (get_or c.args.copy.now (2 * j + 1) 0, get_or c.args.copy.now (2 * j + 1 + 1) 0) ≡ get_or es j (0, 0) = rw (addr, value) refl in
     let added : c.put.new.self.entries ≡ put_pair c.loop-j.log.entries (get_or es j (0, 0)).0 (get_or es j (0, 0)).1 =
-    ap (λ (p : WriteSet). p.entries) c.put.ensures ∙ wset_put c.loop-j.log.entries _ _ ∙ ap (λ (e : ℕ × ℕ). put_pair c.loop-j.log.entries e.0 e.1) entry
+    ap (λ (p : WriteSet). p.entries) c.put.ensures ∙ ap (λ (e : ℕ × ℕ). put_pair c.loop-j.log.entries e.0 e.1) entry
     in
     record {
       entries = added ∙ ap (λ (ds : List (ℕ × ℕ)). put_pair ds (get_or es j (0, 0)).0 (get_or es j (0, 0)).1) (c.loop-j.invariant.entries ∙ ap (λ (ds : List (ℕ × ℕ)). put_all first (drop from (take j ds))) all) ∙ sym (put_part first es from j (omega arith) here)

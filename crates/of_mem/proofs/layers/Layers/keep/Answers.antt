@@ -1,5 +1,6 @@
 use Rattle.std.proofs.Common.{◌≡◌, ◌∙◌, ap, refl, sym, subst, ℕ, ◌<◌, ◌+◌, List, [], ◌∷◌, length, get_or, take, arith}
 use Rattle.of_mem.specs.CellMap.{put_pair, put_all}
+use Rattle.of_mem.specs.WriteSet.{WriteSet}
 use Rattle.of_mem.specs.Meaning.{HasDistinctCells}
 use Rattle.of_mem.specs.Newest.{HasNewest}
 use Rattle.of_mem.specs.Part.{Part, keep}
@@ -15,14 +16,23 @@ loop-i-preserved c =
     let first : List (ℕ × ℕ) = c.self.inside.batch.entries in
     let here : c.loop-i.i < length script = omega (arith, c.len-count.ensures.value) in
     let more : put_all first (take (c.loop-i.i + 1) script) ≡ put_pair (put_all first (take c.loop-i.i script)) (get_or script c.loop-i.i (0, 0)).0 (get_or script c.loop-i.i (0, 0)).1 = put_all_take first script c.loop-i.i (0, 0) here in
-    record { written = cc; batch = cc; script = cc; known = cc; newest = c.loop-i.invariant.newest }
+    let entry : c.entry-addr.result ≡ get_or script c.loop-i.i (0, 0) = c.entry-addr.ensures.value ∙ ap (λ (w : WriteSet). get_or w.entries c.loop-i.i (0, 0)) c.loop-i.invariant.script in
+    record {
+      written = ap (λ (w : WriteSet). w.entries) c.put.ensures ∙ ap (λ (e : ℕ × ℕ). put_pair c.loop-i.self-inside.batch.entries e.0 e.1) entry
+          ∙ ap (λ (ds : List (ℕ × ℕ)). put_pair ds (get_or script c.loop-i.i (0, 0)).0 (get_or script c.loop-i.i (0, 0)).1) c.loop-i.invariant.written ∙ sym more;
+      batch = ap (λ (w : WriteSet). w.room) c.put.ensures ∙ c.loop-i.invariant.batch;
+      script = cc;
+      known = cc;
+      newest = c.loop-i.invariant.newest;
+    }
 
 pub invariant_of-self-2 : goal.invariant_of-self-2
 invariant_of-self-2 c =
     let p : Part = record { known = c.self.inside.known; batch = c.self.inside.batch.entries; script = c.self.inside.script.entries } in
     let all : take c.loop-i.i p.script ≡ p.script = take_all c.loop-i.i p.script (omega (arith, c.len-count.ensures.value, c.loop-i-test.false)) in
     let batch : c.loop-i.self-inside.batch.entries ≡ put_all p.batch p.script = c.loop-i.invariant.written ∙ ap (put_all p.batch) all in
-    (cc, cc, rw (c.clear.ensures.entries, batch, c.loop-i.invariant.known, c.loop-i.invariant.newest) (newest_kept p c.self.inside.script.room _ c.len-count.ensures.map c.self.invariant.2))
+    let empty : c.clear.new.self.entries ≡ [] = ap (λ (w : WriteSet). w.entries) c.clear.ensures in
+    (cc, cc, rw (empty, batch, c.loop-i.invariant.known, c.loop-i.invariant.newest) (newest_kept p c.self.inside.script.room _ c.len-count.ensures.map c.self.invariant.2))
 
 -- over an empty batch the script's entries are all
 swapped : (p : Part) → HasDistinctCells p.script → p.batch ≡ [] → put_all p.batch p.script ≡ p.script

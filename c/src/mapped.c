@@ -1,0 +1,498 @@
+/* mapped.c: memories whose table is in a mapped file.
+ *
+ * A file is one page that is its header, and then the words of the table, in the machine's own byte
+ * order. Of a file that is there the header and the durable words are read, and nothing is written:
+ * reopening makes a new file beside it, opens the memory there, and gives that one the name. So a
+ * process that is killed leaves the old file or the new one.
+ *
+ * It has the three functions too by which the proved code takes memory. All of it is malloc's, but
+ * for the words of a table that is being opened in a file. */
+#define _GNU_SOURCE
+#include "of_c.h"
+#include "slots.h"
+
+#include <errno.h>
+#include <fcntl.h>
+#include <pthread.h>
+#include <stdatomic.h>
+#include <stdio.h>
+#include <stdlib.h>
+#include <string.h>
+#include <sys/file.h>
+#include <sys/mman.h>
+#include <sys/resource.h>
+#include <sys/stat.h>
+#include <unistd.h>
+
+enum { PAGE = 4096, VERSION = 1, ORDER = 0x01020304, MOST_FILES = 64, MOST_PATH = 4096 };
+
+static const char magic[8] = {'O', 'n', 'e', 'F', 'i', 'l', 'e', '\n'};
+static const uint64_t IS_CLOSED = 0x6f66636c6f736564;
+
+/* What is at the front of a file. */
+typedef struct header {
+  char magic[8];
+  uint32_t version, order;
+  uint32_t callers, blocks;
+  of_c_table table;
+  uint64_t offset; /* of the table */
+  uint64_t lives;  /* how many memories there were, this one too */
+  char boot[40];   /* the run of the machine in which the file was made */
+  uint64_t sum;    /* of all bytes above */
+  uint64_t closed; /* IS_CLOSED as soon as the memory is closed and the disk has all of it */
+} header;
+
+/* ---- Tables in files. */
+
+/* A table in a file. */
+typedef struct table {
+  _Atomic uintptr_t words; /* where it is; 0 if there is none */
+  header *map;             /* the file in memory */
+  size_t size;             /* of the file */
+  int file;                /* its descriptor; -1 in a forked child */
+  int is_opening;          /* no memory has it yet */
+} table;
+
+static table tables[MOST_FILES];
+
+/* Who has it opens or closes a file, or forks. */
+static pthread_mutex_t files = PTHREAD_MUTEX_INITIALIZER;
+
+/* What the thread that opens a memory in a file waits for: the first request of so many bytes is
+ * the table's, if there is no second one. */
+static _Thread_local struct {
+  size_t bytes;
+  unsigned count;
+  char *words;
+} awaited;
+
+static table *table_at(const void *words) {
+  if ((uintptr_t)words % PAGE != 0) return NULL;
+  for (size_t i = 0; i < MOST_FILES; i++) {
+    if (atomic_load(&tables[i].words) == (uintptr_t)words) return &tables[i];
+  }
+  return NULL;
+}
+
+/* Lets a file go. The mark that it is closed is written once the disk has all else. */
+static void let_go(table *one) {
+  pthread_mutex_lock(&files);
+  atomic_store(&one->words, 0);
+  if (msync(one->map, one->size, MS_SYNC) == 0) {
+    one->map->closed = IS_CLOSED;
+    msync(one->map, PAGE, MS_SYNC);
+  }
+  munmap(one->map, one->size);
+  flock(one->file, LOCK_UN); /* a forked child may have the descriptor still */
+  close(one->file);
+  pthread_mutex_unlock(&files);
+}
+
+/* An answer to a request for memory: the pointer is never null. */
+typedef struct given {
+  _Bool is_given;
+  void *block;
+} given;
+
+static given give(void *block) {
+  static char nothing;
+  return (given){block != NULL, block ? block : &nothing};
+}
+
+given rattle_alloc(size_t size, size_t align) {
+  if (awaited.bytes != 0 && size == awaited.bytes && awaited.count++ == 0) {
+    return give(awaited.words);
+  }
+  return give(malloc(size ? size : align));
+}
+
+given rattle_realloc(void *block, size_t kept, size_t size, size_t align) {
+  (void)kept;
+  if (table_at(block)) return give(NULL); /* a table stays as large as it is */
+  return give(realloc(block, size ? size : align));
+}
+
+void rattle_dealloc(void *block) {
+  table *one = table_at(block);
+  if (!one) {
+    free(block);
+  } else if (!one->is_opening) {
+    if (one->file >= 0) let_go(one);
+    else atomic_store(&one->words, 0);
+  }
+}
+
+/* ---- Forks: the child has neither the table nor the lock. */
+
+static void before_fork(void) { pthread_mutex_lock(&files); }
+
+static void after_fork(void) { pthread_mutex_unlock(&files); }
+
+static void in_child(void) {
+  for (size_t i = 0; i < MOST_FILES; i++) {
+    if (atomic_load(&tables[i].words) == 0 || tables[i].file < 0) continue;
+    close(tables[i].file);
+    tables[i].file = -1;
+  }
+  pthread_mutex_unlock(&files);
+}
+
+static int watches_forks(void) {
+  static int is_done;
+  if (!is_done) is_done = pthread_atfork(before_fork, after_fork, in_child) == 0;
+  return is_done;
+}
+
+/* ---- Headers. */
+
+static uint64_t sum_of(const header *one) {
+  const unsigned char *bytes = (const unsigned char *)one;
+  uint64_t sum = 14695981039346656037u;
+  for (size_t i = 0; i < offsetof(header, sum); i++) sum = (sum ^ bytes[i]) * 1099511628211u;
+  return sum;
+}
+
+/* The name of this run of the machine. SYSTEM. */
+static uint32_t read_boot(char boot[40]) {
+  int file = open("/proc/sys/kernel/random/boot_id", O_RDONLY | O_CLOEXEC);
+  if (file < 0) return ONEFILE_SYSTEM;
+  memset(boot, 0, 40);
+  ssize_t size = read(file, boot, 36);
+  close(file);
+  return size == 36 ? ONEFILE_DONE : ONEFILE_SYSTEM;
+}
+
+/* The header of a file for a memory. RANGE, SYSTEM. */
+static uint32_t header_for(uint32_t callers, uint32_t blocks, uint64_t lives, header *made) {
+  *made = (header){.version = VERSION, .order = ORDER, .callers = callers, .blocks = blocks};
+  memcpy(made->magic, magic, sizeof magic);
+  made->offset = PAGE;
+  made->lives = lives;
+  uint32_t answer = of_c_sizes(callers, blocks, &made->table);
+  if (answer == ONEFILE_DONE) answer = read_boot(made->boot);
+  made->sum = sum_of(made);
+  return answer;
+}
+
+static size_t size_for(const header *one) {
+  size_t size = PAGE + one->table.words * sizeof(uint64_t);
+  return (size + PAGE - 1) / PAGE * PAGE;
+}
+
+/* Whether this is the header of a file of so many bytes. */
+static int is_header(const header *one, uint64_t size) {
+  of_c_table sizes;
+  return memcmp(one->magic, magic, sizeof magic) == 0 && one->version == VERSION &&
+         one->order == ORDER && one->sum == sum_of(one) && one->offset == PAGE &&
+         (one->closed == 0 || one->closed == IS_CLOSED) &&
+         of_c_sizes(one->callers, one->blocks, &sizes) == ONEFILE_DONE &&
+         memcmp(&sizes, &one->table, sizeof sizes) == 0 && size == size_for(one);
+}
+
+/* Whether the words of a file are those that were in memory: it was closed, or the machine has run
+ * since. TORN, SYSTEM. */
+static uint32_t is_whole(const header *one) {
+  char boot[40];
+  if (one->closed == IS_CLOSED) return ONEFILE_DONE;
+  uint32_t answer = read_boot(boot);
+  if (answer != ONEFILE_DONE) return answer;
+  return memcmp(boot, one->boot, sizeof boot) == 0 ? ONEFILE_DONE : ONEFILE_TORN;
+}
+
+/* ---- Files. */
+
+/* The answer if the system refuses something: errno says what. */
+static uint32_t refusal(void) {
+  switch (errno) {
+    case ENOENT: return ONEFILE_NO_FILE;
+    case EEXIST: return ONEFILE_FILE_EXISTS;
+    case EWOULDBLOCK: return ONEFILE_FILE_IN_USE;
+    case ENOMEM: return ONEFILE_NO_MEMORY;
+    case ENOSPC:
+    case EDQUOT:
+    case EFBIG: return ONEFILE_NO_SPACE;
+    default: return ONEFILE_SYSTEM;
+  }
+}
+
+static int is_named(int file, const char *path) {
+  struct stat one, other;
+  return fstat(file, &one) == 0 && stat(path, &other) == 0 && one.st_dev == other.st_dev &&
+         one.st_ino == other.st_ino;
+}
+
+/* Opens the file of this name and locks it. A lock belongs to the file and not to the name, which
+ * may be another file's by then: so it looks, and tries again. */
+static uint32_t open_locked(const char *path, int flags, int *opened) {
+  for (int tries = 0; tries < 100; tries++) {
+    int file = open(path, flags | O_RDWR | O_CLOEXEC | O_NOFOLLOW, 0600);
+    if (file < 0) return refusal();
+    uint32_t answer = flock(file, LOCK_EX | LOCK_NB) == 0 ? ONEFILE_DONE : refusal();
+    if (answer == ONEFILE_DONE && is_named(file, path)) {
+      *opened = file;
+      return ONEFILE_DONE;
+    }
+    int why = errno;
+    close(file);
+    errno = why;
+    if (answer != ONEFILE_DONE) return answer;
+  }
+  return ONEFILE_FILE_IN_USE;
+}
+
+/* Reads all these bytes. BAD_FILE if there are fewer. */
+static uint32_t read_all(int file, void *bytes, size_t size, off_t from) {
+  for (size_t done = 0; done < size;) {
+    ssize_t count = pread(file, (char *)bytes + done, size - done, from + (off_t)done);
+    if (count < 0 && errno != EINTR) return refusal();
+    if (count == 0) return ONEFILE_BAD_FILE;
+    if (count > 0) done += (size_t)count;
+  }
+  return ONEFILE_DONE;
+}
+
+/* Has the disk keep the name of a file, as far as it can be had. */
+static void sync_name(const char *path) {
+  char folder[MOST_PATH];
+  snprintf(folder, sizeof folder, "%s", path);
+  char *slash = strrchr(folder, '/');
+  if (slash) slash[slash == folder] = 0;
+  int file = open(slash ? folder : ".", O_RDONLY | O_DIRECTORY | O_CLOEXEC);
+  if (file < 0) return;
+  fsync(file);
+  close(file);
+}
+
+/* ---- A memory in a new file. */
+
+/* What is to be opened. */
+typedef struct birth {
+  const char *path;
+  char beside[MOST_PATH]; /* the name that the file has until the memory is open */
+  header head;
+  mode_t mode;
+  onefile_slot *start; /* what the memory starts from */
+} birth;
+
+/* Whether this process may have a file of so many bytes. One that may not is told so, and not ended
+ * by SIGXFSZ. */
+static int may_have(size_t size) {
+  struct rlimit most;
+  if (getrlimit(RLIMIT_FSIZE, &most) != 0 || size <= most.rlim_cur) return 1;
+  errno = EFBIG;
+  return 0;
+}
+
+/* Makes the file with all its blocks, so that a full disk is told now and not by a signal later,
+ * and maps it. What a process that was killed has left there goes. */
+static uint32_t make_file(birth *born, table *one) {
+  one->size = size_for(&born->head);
+  if (!may_have(one->size)) return refusal();
+  if (ftruncate(one->file, 0) != 0 || fchmod(one->file, born->mode) != 0) return refusal();
+  do errno = posix_fallocate(one->file, 0, (off_t)one->size);
+  while (errno == EINTR);
+  if (errno != 0) return refusal();
+  void *map = mmap(NULL, one->size, PROT_READ | PROT_WRITE, MAP_SHARED, one->file, 0);
+  if (map == MAP_FAILED) return refusal();
+  one->map = map;
+  if (madvise(map, one->size, MADV_DONTFORK) != 0) return refusal();
+  /* Words that no table may start from, until the table is there. */
+  memset((char *)map + PAGE, 0xff, one->size - PAGE);
+  memcpy(map, &born->head, sizeof born->head);
+  return ONEFILE_DONE;
+}
+
+/* The answer if the proved code does not take its memory as this file expects. */
+static uint32_t mistaken(void) {
+  errno = ENOTSUP;
+  return ONEFILE_SYSTEM;
+}
+
+/* Whether the memory that was opened has its table in the file: a memory can start from what is
+ * there, and knows the same calls. */
+static uint32_t read_back(const birth *born, const table *one) {
+  const header *head = &born->head;
+  const uint64_t *durable = (const uint64_t *)atomic_load(&one->words) + head->table.first;
+  onefile_slot there = {0};
+  uint32_t answer = of_c_from_words(head->callers, head->blocks, ONEFILE_GREATEST_LIMIT, durable,
+                                    head->table.durable, &there);
+  if (answer == ONEFILE_BAD_FILE || answer == ONEFILE_RANGE) answer = mistaken();
+  for (uint32_t i = 0; answer == ONEFILE_DONE && i < head->callers; i++) {
+    uint32_t held = 0, wanted = 0;
+    of_c_ticket(&there, i, &held);
+    of_c_ticket(born->start, i, &wanted);
+    if (held != wanted) answer = mistaken();
+  }
+  of_c_free(&there);
+  return answer;
+}
+
+/* Opens the memory on the words of the file. */
+static uint32_t open_there(const birth *born, table *one, onefile_slot *memory) {
+  char *words = (char *)one->map + PAGE;
+  atomic_store(&one->words, (uintptr_t)words);
+  awaited.bytes = born->head.table.words * sizeof(uint64_t);
+  awaited.count = 0;
+  awaited.words = words;
+  uint32_t answer = of_c_reopen(born->start, memory);
+  unsigned count = awaited.count;
+  awaited.bytes = 0;
+  if (answer == ONEFILE_DONE && count != 1) answer = mistaken();
+  return answer == ONEFILE_DONE ? read_back(born, one) : answer;
+}
+
+/* Gives the file its name, once the disk has it. */
+static uint32_t name_file(const birth *born, const table *one) {
+  if (msync(one->map, one->size, MS_SYNC) != 0 || fsync(one->file) != 0) return refusal();
+  unsigned flags = born->head.lives == 1 ? RENAME_NOREPLACE : 0;
+  if (renameat2(AT_FDCWD, born->beside, AT_FDCWD, born->path, flags) != 0) return refusal();
+  sync_name(born->path);
+  return ONEFILE_DONE;
+}
+
+/* Undoes what has been done of it. */
+static void undo(const birth *born, table *one, onefile_slot *memory) {
+  int why = errno;
+  of_c_free(memory);
+  atomic_store(&one->words, 0);
+  if (one->map) munmap(one->map, one->size);
+  unlink(born->beside);
+  close(one->file);
+  errno = why;
+}
+
+static table *free_table(void) {
+  for (size_t i = 0; i < MOST_FILES; i++) {
+    if (atomic_load(&tables[i].words) == 0) return &tables[i];
+  }
+  return NULL;
+}
+
+/* Opens the memory in a new file, which then has the name. `files` is held. */
+static uint32_t begin(birth *born, onefile_memory *memory) {
+  table *one = free_table();
+  if (!one || !watches_forks()) return ONEFILE_NO_MEMORY;
+  if ((size_t)snprintf(born->beside, MOST_PATH, "%s.new", born->path) >= MOST_PATH) {
+    errno = ENAMETOOLONG;
+    return ONEFILE_SYSTEM;
+  }
+  one->map = NULL;
+  one->is_opening = 1;
+  uint32_t answer = open_locked(born->beside, O_CREAT, &one->file);
+  if (answer != ONEFILE_DONE) return answer;
+  answer = make_file(born, one);
+  if (answer == ONEFILE_DONE) answer = open_there(born, one, &memory->memory.slot);
+  if (answer == ONEFILE_DONE) answer = name_file(born, one);
+  if (answer != ONEFILE_DONE) undo(born, one, &memory->memory.slot);
+  one->is_opening = 0;
+  return answer;
+}
+
+/* An empty memory comes from what an empty one leaves, so that there is one way to open a file. */
+static uint32_t open_first(onefile_memory *memory, const char *path, uint32_t callers,
+                           uint32_t blocks, uint32_t limit) {
+  onefile_slot empty = {0}, start = {0};
+  birth born = {.path = path, .mode = 0600, .start = &start};
+  if (access(path, F_OK) == 0) return ONEFILE_FILE_EXISTS;
+  uint32_t answer = of_c_open(callers, blocks, limit, &empty);
+  if (answer == ONEFILE_DONE) answer = of_c_close(&empty, &start);
+  if (answer == ONEFILE_DONE) answer = header_for(callers, blocks, 1, &born.head);
+  if (answer == ONEFILE_DONE) answer = begin(&born, memory);
+  of_c_free(&empty);
+  of_c_free(&start);
+  return answer;
+}
+
+int onefile_open_file(onefile_memory *memory, const char *path, uint32_t callers, uint32_t blocks,
+                      uint32_t limit) {
+  if (!memory || !path) return ONEFILE_NULL;
+  if (!claim_all(memory)) return ONEFILE_BUSY;
+  uint32_t answer = ONEFILE_FULL;
+  if (memory->memory.slot.state == 0 && !has_caller(memory)) {
+    pthread_mutex_lock(&files);
+    answer = open_first(memory, path, callers, blocks, limit);
+    pthread_mutex_unlock(&files);
+  }
+  release_all(memory);
+  return (int)answer;
+}
+
+/* ---- A memory that goes on from a file. */
+
+/* What recovery finds in the durable words of a file. */
+static uint32_t find(int file, const header *head, onefile_slot *found) {
+  size_t bytes = head->table.durable * sizeof(uint64_t);
+  off_t from = (off_t)(head->offset + head->table.first * sizeof(uint64_t));
+  uint64_t *words = malloc(bytes);
+  if (!words) return ONEFILE_NO_MEMORY;
+  uint32_t answer = read_all(file, words, bytes, from);
+  if (answer == ONEFILE_DONE) {
+    answer = of_c_from_words(head->callers, head->blocks, ONEFILE_GREATEST_LIMIT, words,
+                             head->table.durable, found);
+    if (answer == ONEFILE_RANGE) answer = ONEFILE_BAD_FILE;
+  }
+  free(words);
+  return answer;
+}
+
+/* The header of a file that holds a memory, and its mode. BAD_FILE, TORN, SYSTEM. */
+static uint32_t look(int file, header *head, mode_t *mode) {
+  struct stat about;
+  if (fstat(file, &about) != 0) return refusal();
+  if (!S_ISREG(about.st_mode)) return ONEFILE_BAD_FILE;
+  *mode = about.st_mode & 0777;
+  uint32_t answer = read_all(file, head, sizeof *head, 0);
+  if (answer != ONEFILE_DONE) return answer;
+  return is_header(head, (uint64_t)about.st_size) ? is_whole(head) : ONEFILE_BAD_FILE;
+}
+
+/* Goes on from a file that is locked. What was found is kept in `found`, with new sequences. */
+static uint32_t go_on_from(int file, const char *path, uint32_t limit, onefile_memory *memory,
+                           onefile_slot *found) {
+  header head;
+  birth born = {.path = path, .start = found};
+  uint32_t answer = look(file, &head, &born.mode);
+  if (answer == ONEFILE_DONE) answer = find(file, &head, found);
+  if (answer == ONEFILE_DONE) answer = of_c_renumber(found);
+  if (answer == ONEFILE_DONE) answer = of_c_set_limit(found, limit);
+  if (answer == ONEFILE_DONE) {
+    answer = header_for(head.callers, head.blocks, head.lives + 1, &born.head);
+  }
+  return answer == ONEFILE_DONE ? begin(&born, memory) : answer;
+}
+
+/* Fills both slots, or neither. */
+static uint32_t reopen(onefile_memory *memory, const char *path, uint32_t limit,
+                       onefile_slot *saved) {
+  onefile_slot found = {0};
+  int file = -1;
+  pthread_mutex_lock(&files);
+  uint32_t answer = open_locked(path, 0, &file);
+  if (answer == ONEFILE_DONE) {
+    answer = go_on_from(file, path, limit, memory, &found);
+    int why = errno;
+    close(file); /* the new file has been locked since before it had the name */
+    errno = why;
+  }
+  pthread_mutex_unlock(&files);
+  if (answer == ONEFILE_DONE && saved) *saved = found;
+  else of_c_free(&found);
+  return answer;
+}
+
+int onefile_reopen_file(onefile_memory *memory, const char *path, uint32_t limit,
+                        onefile_saved *saved) {
+  if (!memory || !path) return ONEFILE_NULL;
+  if (saved && !claim(&saved->saved)) return ONEFILE_BUSY;
+  uint32_t answer = ONEFILE_BUSY;
+  if (claim_all(memory)) {
+    answer = ONEFILE_FULL;
+    if (memory->memory.slot.state == 0 && !has_caller(memory) &&
+        (!saved || saved->saved.slot.state == 0)) {
+      answer = reopen(memory, path, limit, saved ? &saved->saved.slot : NULL);
+    }
+    release_all(memory);
+  }
+  if (saved) release(&saved->saved);
+  return (int)answer;
+}

@@ -1,3 +1,0 @@
-pub mod Maps
-pub mod Notes
-pub mod Chains

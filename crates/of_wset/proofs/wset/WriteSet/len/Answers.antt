@@ -1,9 +1,0 @@
-use Rattle.std.proofs.Common.{arith, ◌≤◌, length}
-use Rattle.of_wset.proofs.wset.WriteSet.len.Goals as goal
-use Rattle.of_wset.proofs.Maps.{few, is_map}
-
-pub overflow_cast-result : goal.overflow_cast-result
-overflow_cast-result c = let h : length c.self.inside.entries.items ≤ c.self.inside.room = few _ _ _ _ _ _ _ _ c.self.invariant in search arith
-
-pub returns-clause-map : goal.returns-clause-map
-returns-clause-map c = rw (← c.self.view_is) (is_map _ _ _ _ _ _ _ _ c.self.invariant)

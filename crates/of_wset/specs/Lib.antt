@@ -1,2 +1,0 @@
-pub mod WriteSet
-pub mod Index

@@ -1,4 +1,0 @@
-pub mod Starting
-pub mod Zeros
-pub mod Asked
-pub mod ThreeCallers

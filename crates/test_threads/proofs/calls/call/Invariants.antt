@@ -1,4 +1,0 @@
-use Rattle.test_threads.proofs.calls.call.Given as goal
-
-abbrev pub ghosts-counted_call : goal.ghosts-counted_call
-ghosts-counted_call g a = record { name = a.blank.name; parts = 1 }

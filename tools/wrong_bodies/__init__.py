@@ -1,0 +1,8 @@
+"""Wrong bodies: the table of docs/WRONG.md, and the trial of the edits that it names.
+
+table.py    compares the page with what there is
+places.py   says in which function a place of a source is
+checks.py   reads what `rt check` says of each function; the kit's words are known there alone
+trial.py    tries the edits of a crate in rounds, each in a copy
+verdicts.py keeps what a trial came to, with a sum of what it rests on
+"""
