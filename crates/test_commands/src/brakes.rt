@@ -116,8 +116,10 @@ fn pairs(
             partners.push(teller)?;
         }
     }
-    while let Some(partner) = partners.pop() {
-        brakes.push(partner)?;
+    for _ in 0..pairs {
+        if let Some(partner) = partners.pop() {
+            brakes.push(partner)?;
+        }
     }
     fill(alloc, &mut brakes)?;
     Ok(brakes)
