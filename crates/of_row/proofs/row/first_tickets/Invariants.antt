@@ -9,5 +9,5 @@ invariant-loop-caller g l = record {
   long : length l.tickets.items ≡ l.caller;
   within : l.caller ≤ l.shape.callers;
   fits : l.shape.callers ≤ vec_capacity l.tickets;
-  each : (i : ℕ) → i < l.caller → get_or l.tickets.items i 0 ≡ ticket_in l.shape.callers l.words.now i;
+  each : (i : ℕ) → i < l.caller → get_or l.tickets.items i 0 ≡ ticket_in l.shape.callers l.words i;
 }
