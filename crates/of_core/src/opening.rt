@@ -16,7 +16,7 @@ fn closed(seq: u32) -> u64
     if seq == 0 { 0 } else { pack(seq, 1) }
 }
 
-// The cells at the start that a durable row is.
+// The cells at the start that a durable row is, with room for the other words of the table.
 fn first_cells(alloc: Global, shape: &Shape, durable: &[u64]) -> Result<Vec<u64>, AllocError>
     requires row { length durable.now ≡ durable_cells shape.now.callers shape.now.cells }
     requires owner { payload_of (get_or durable.now 0 0) < shape.now.callers }
@@ -26,6 +26,7 @@ fn first_cells(alloc: Global, shape: &Shape, durable: &[u64]) -> Result<Vec<u64>
     let current = durable[shape.cur() as usize];
     let first = shape.data_cell(0) as usize;
     let mut cells = vec![in alloc; 0; shape.callers as usize + 1]?;
+    cells.reserve(shape.words() as usize)?;
     cells[0] = current;
     cells[shape.request(payload_of(current)) as usize] = closed(seq_of(current));
     cells.extend_from_slice(&durable[first..first + shape.cells as usize])?;
@@ -44,9 +45,8 @@ pub fn first_words(alloc: Global, shape: &Shape, durable: &[u64]) -> Result<Vec<
         ≡ first_words shape.now.callers shape.now.cells (start_on shape.now durable.now)
         (cell_words shape.now.callers shape.now.instrs shape.now.cells)) }
 {
-    let cells = first_cells(alloc, shape, durable)?;
-    let mut words = Vec::from_slice(alloc, &cells)?;
-    words.extend_from_slice(&cells)?;
+    let mut words = first_cells(alloc, shape, durable)?;
+    words.extend_from_within(..)?;
     words.resize(shape.words() as usize, 0)?;
     Ok(words)
 }
