@@ -4,6 +4,7 @@ All that the trial of wrong bodies knows of the words of a check is here, and te
 on a crate of its own: if another kit words its lines otherwise, that test says so.
 """
 import enum
+import os
 import re
 import subprocess
 
@@ -17,6 +18,9 @@ ENDED = re.compile(r"^logic=(proved|not-proved)\b|^only=\d+ proved=\d+$", re.M)
 # An error in a text that holds no proof: a name or a form that the check cannot read. An error that
 # begins with the name of a declaration says that it is not so, unless it is one of those below.
 ERROR = re.compile(r"^(?:\./)?(?:src|specs)/\S+?:\d+:\d+: error(\[[\w-]+\])?: (`[^`]*`: )?(.*)", re.M)
+# What it says of lemmas: one is rejected, and those that cite it are not looked at.
+LEMMA = re.compile(r"^\S+?:\d+:\d+: error: `([^`]*)`: ", re.M)
+CITING = re.compile(r"^\S+?:\d+:\d+: error: \d+ declarations? that depends? on .*? not checked: (.*)$", re.M)
 UNREAD = re.compile(r"is not in scope|has no field|is no name|operand is missing|expected the end|cannot continue")
 
 
@@ -56,9 +60,22 @@ def verdicts(text):
     return {path: verdict(said) for path, said in LINE.findall(text)}
 
 
+def rejected(text):
+    """The lemmas and definitions that a check has rejected, or not looked at for these."""
+    citing = (it.split()[0] for line in CITING.findall(text) for it in line.split(", "))
+    return {*LEMMA.findall(text), *citing}
+
+
 def check(folder, only=(), jobs=None):
-    """What `rt check` prints of the crate in this folder, or of the functions with these paths."""
-    pipes = {"stdin": subprocess.DEVNULL, "stdout": subprocess.PIPE, "stderr": subprocess.STDOUT}
+    """What `rt check` prints of the crate in this folder, and how many processor seconds it took.
+
+    If paths of functions are given, it checks these and what they call.
+    """
     words = ["rt", "check", *(word for path in only for word in ("--only", path))]
     words += ["--jobs", str(jobs)] if jobs else []
-    return subprocess.run(words, cwd=folder, text=True, errors="replace", **pipes).stdout
+    pipes = {"stdin": subprocess.DEVNULL, "stdout": subprocess.PIPE, "stderr": subprocess.STDOUT}
+    with subprocess.Popen(words, cwd=folder, text=True, errors="replace", **pipes) as process:
+        text = process.stdout.read()
+        _, status, used = os.wait4(process.pid, 0)
+        process.returncode = os.waitstatus_to_exitcode(status)
+    return text, used.ru_utime + used.ru_stime

@@ -35,14 +35,15 @@ class Row(typing.NamedTuple):
 
 
 def rows():
-    """The rows of all tables after the first heading of the second rank."""
+    """The rows of all tables of bodies."""
     crate, inside = None, False
     for number, line in enumerate(PAGE.read_text().splitlines(), 1):
         heading = re.match(r"(##+) (.*)", line)
         if heading:
-            inside, crate = True, heading[2] if heading[1] == "###" else None
-        elif inside and line.startswith("| ") and not line.startswith("| The body |"):
+            crate = heading[2] if heading[1] == "###" else None
+        elif inside and line.startswith("| "):
             yield Row(number, crate, line.strip("| ").split(" | "))
+        inside = line.startswith("| The body |") or inside and line.startswith("|")
 
 
 def named():

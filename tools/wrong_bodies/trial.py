@@ -7,7 +7,8 @@ at its own function.
 - A function that is only refused because of one that it calls has not been tried: its wrong body
   goes to a later round, as does a second one of the same function.
 - An edit of a definition or of a contract may change what other functions have to prove. It is tried
-  alone, by a check of the functions that its row of docs/WRONG.md names: one must be refused.
+  alone, by a check of the functions that its row of docs/WRONG.md names: one must be refused. If the
+  row names none of the crate, a lemma that it names must be rejected.
 - First the crate is checked as it is, in its own place: all of it must be proved. In each round only
   edited functions may be refused by themselves.
 - A round that the check cannot read, or that breaks more than it should, counts for nothing. It is
@@ -18,7 +19,6 @@ import os
 import pathlib
 import shutil
 import tempfile
-import time
 import typing
 
 import repository
@@ -131,9 +131,8 @@ class Trial:
         self.results.append(Result(edit.name, ", ".join(sorted(refused)), fault))
 
     def checked(self, what, folder, only=()):
-        begun = time.monotonic()
-        text = checks.check(folder, only, self.jobs)
-        self.say(f"{self.crate.name}: {what}, {time.monotonic() - begun:.0f} s")
+        text, seconds = checks.check(folder, only, self.jobs)
+        self.say(f"{self.crate.name}: {what}, {seconds:.0f} s")
         return text
 
     def try_together(self, bodies):
@@ -186,20 +185,19 @@ class Trial:
         return True
 
     def try_alone(self, it, found):
-        """Tries an edit of definitions or contracts, by the functions that its row names."""
+        """Tries an edit of definitions or contracts, by the functions or lemmas that its row names."""
         rows = self.named.get((self.crate.name, it.edit.name), [])
         paths = sorted(path for path in found if any(path.endswith(f"::{row}") for row in rows))
-        if not paths:
-            self.note(it.edit, fault="its row names no function of the crate")
-            return
         with room(self.crate, self.every) as folder:
             chosen(folder, [it])
             text = self.checked(f"{it.edit.name} alone", folder, paths)
         said = checks.verdicts(text)
-        refused = [path for path in paths if said.get(path, Verdict.PROVED) != Verdict.PROVED]
+        refused = [path.partition("::")[2] for path in paths if said.get(path) not in (None, Verdict.PROVED)]
+        if not paths:
+            refused = sorted(checks.rejected(text) & set(rows))
         if fault := checks.unread(text):
             self.note(it.edit, fault=f"BAD EDIT: {fault}")
         elif refused:
-            self.note(it.edit, [path.partition("::")[2] for path in refused])
+            self.note(it.edit, refused)
         else:
-            self.note(it.edit, fault=f"NOT REFUSED: {', '.join(paths)}")
+            self.note(it.edit, fault=f"NOT REFUSED by what its row names: {', '.join(paths or rows)}")

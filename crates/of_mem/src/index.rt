@@ -159,6 +159,28 @@ fn search(older: &[u32], addresses: &[u32], last: u32, addr: u32) -> Option<usiz
     ensures { MatchOption result (IsUnlisted addresses.now addr)
         (λ place. (place < length addresses.now) × (get_or addresses.now place 0 ≡ addr)) }
 {
+    if last == 0 {
+        return None;
+    }
+    let place = last as usize - 1;
+    if addresses[place] == addr {
+        Some(place)
+    } else {
+        follow(older, addresses, last, addr)
+    }
+}
+
+/// The same along the whole chain.
+// out of line, so that what is called often is small
+#[cold]
+#[inline(never)]
+fn follow(older: &[u32], addresses: &[u32], last: u32, addr: u32) -> Option<usize>
+    requires last { last ≡ latest HOMES addresses.now (addr % HOMES) (length addresses.now) }
+    requires chains { HasChains HOMES addresses.now older.now }
+    requires linked { length older.now ≡ length addresses.now }
+    ensures { MatchOption result (IsUnlisted addresses.now addr)
+        (λ place. (place < length addresses.now) × (get_or addresses.now place 0 ≡ addr)) }
+{
     let mut at = last;
     while at != 0 {
         let place = at as usize - 1;

@@ -48,18 +48,20 @@ fn put_words(out: &mut String, words: &[String]) -> Result<(), AllocError> {
 }
 
 // What is wrong with words that begin with this one. A command has the numbers that it takes.
-fn put_mistake(out: &mut String, first: &str, words: &[String]) -> Result<(), AllocError> {
-    match first {
+fn put_mistake(out: &mut String, first: &String, words: &[String]) -> Result<(), AllocError> {
+    match first.as_str() {
         "trace" => writeln!(
             out,
-            "trace takes two numbers: the first event, from 0 to {MOST_FIRST}, and how many, from 1 to {MOST_EVENTS}"
+            "trace takes two numbers: the first event, from 0 to {MOST_FIRST}, \
+             and how many, from 1 to {MOST_EVENTS}"
         ),
         "load" => writeln!(
             out,
-            "load takes two numbers: callers, from 1 to {MOST_CALLERS}, and scripts of each, from 0, at most {MOST_SCRIPTS} in all"
+            "load takes two numbers: callers, from 1 to {MOST_CALLERS}, \
+             and scripts of each, from 0, at most {MOST_SCRIPTS} in all"
         ),
         "part" => writeln!(out, "part takes one number, from 1 to {MOST_PART}"),
-        _ => match Command::from_words(&words[..1]) {
+        _ => match Command::from_words(std::slice::from_ref(first)) {
             Some(_) => writeln!(out, "{first} takes no words after it"),
             None => {
                 out.push_str("no command:")?;
@@ -91,7 +93,7 @@ pub(crate) fn usage(alloc: Global, words: &[String]) -> Result<Vec<u8>, AllocErr
     match words.first() {
         None => out.push_str("a command is missing\n")?,
         Some(first) => {
-            put_mistake(&mut out, first.as_str(), words)?;
+            put_mistake(&mut out, first, words)?;
             put_redirected(&mut out, words)?;
         }
     }

@@ -4,12 +4,11 @@ use Rattle.of_mem.specs.Part.{Part}
 use Rattle.of_mem.specs.Plots.{base}
 use Rattle.of_mem.specs.Programs.{Ends, run_program}
 use Rattle.of_mem.specs.Calls.{RunsProgram}
-use Rattle.of_mem.specs.SuspendedRun.{IsSuspensionOf}
 use Rattle.of_script.specs.declared.instr.TheConstants.{MOST_INSTRS}
 use Rattle.of_store.proofs.Values.{small_values, none_left}
 use Rattle.of_eval.specs.ScriptPrograms.{InstrResult}
 use Rattle.of_eval.specs.Calls.{run_word}
-use Rattle.of_eval.specs.Resuming.{part_with, MayResume}
+use Rattle.of_eval.specs.Resuming.{part_with}
 use Rattle.of_eval.proofs.Walks.{ran_aborts, ran_lacks, ran_more, ran_ends}
 use Rattle.of_eval.proofs.Resumed.{after_word, goes_more, ran_so, of_store, has_store, holds_so}
 use Rattle.of_eval.proofs.walk.run_words.Goals as goal

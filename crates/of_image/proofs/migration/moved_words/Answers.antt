@@ -1,4 +1,4 @@
-use Rattle.std.proofs.Common.{◌≡◌, ℕ, [], ◌∷◌, ◌++◌, ◌+◌, sym, ap, ◌∙◌, arith}
+use Rattle.std.proofs.Common.{◌≡◌, ℕ, [], ◌∷◌, ◌++◌, sym, ap, ◌∙◌, arith}
 use Rattle.of_cell.specs.Cells.{durable_cells}
 use Rattle.of_report.specs.ImageRow.{data_cell_count_for}
 use Rattle.of_image.proofs.MovedRows.{moved_pushed, moved_whole}

@@ -1,22 +1,19 @@
-use Rattle.std.proofs.Common.{arith}
-use Rattle.of_mem.proofs.Chains.{latest_few, begins_home, begins_unmet, older_less, older_home, older_unmet}
+use Rattle.std.proofs.Common.{◌≡◌, ◌<◌, ◌≤◌, ◌%◌, ◌∙◌, length, sym, arith}
+use Rattle.of_mem.specs.declared.index.TheConstants.{HOMES}
+use Rattle.of_mem.specs.Chains.{latest}
+use Rattle.of_mem.proofs.Chains.{latest_few, begins_unmet}
 use Rattle.of_mem.proofs.index.search.Goals as goal
 
-pub loop-at-init : goal.loop-at-init
-loop-at-init c = rw c.requires.last (record {
-  few = latest_few _ _ _ _;
-  home = begins_home _ _ _;
-  unmet = begins_unmet _ _ _;
-})
+pub returns-then-last-eq0 : goal.returns-then-last-eq0
+returns-then-last-eq0 c =
+    let none : latest HOMES c.args.addresses.now (c.args.addr % HOMES) (length c.args.addresses.now) ≡ 0 = sym c.requires.last ∙ c.if-last-eq0.true in
+    λ k l. begins_unmet HOMES c.args.addresses.now c.args.addr k (omega (arith, none)) l
 
-pub loop-at-smaller : goal.loop-at-smaller
-loop-at-smaller c = older_less _ _ _ c.args.addr _ c.requires.chains c.loop-at-test.true c.loop-at.invariant.few (c.loop-at.invariant.home c.loop-at-test.true)
+pub bounds-addresses-place : goal.bounds-addresses-place
+bounds-addresses-place c = omega (arith, c.if-last-eq0.false, c.requires.last, latest_few HOMES c.args.addresses.now (c.args.addr % HOMES) (length c.args.addresses.now))
 
-pub loop-at-preserved : goal.loop-at-preserved
-loop-at-preserved c =
-    let h = c.loop-at.invariant.home c.loop-at-test.true in
-    record {
-      few = omega (arith, older_less _ _ _ c.args.addr _ c.requires.chains c.loop-at-test.true c.loop-at.invariant.few h, c.loop-at.invariant.few);
-      home = older_home _ _ _ c.args.addr _ c.requires.chains c.loop-at-test.true c.loop-at.invariant.few h;
-      unmet = older_unmet _ _ _ c.args.addr _ c.requires.chains c.loop-at-test.true c.loop-at.invariant.few h c.if-addresses-place.false c.loop-at.invariant.unmet;
-    }
+pub returns-then-addresses-place : goal.returns-then-addresses-place
+returns-then-addresses-place c = (
+  omega (arith, c.if-last-eq0.false, c.requires.last, latest_few HOMES c.args.addresses.now (c.args.addr % HOMES) (length c.args.addresses.now)),
+  c.if-addresses-place.true,
+)

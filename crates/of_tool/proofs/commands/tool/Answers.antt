@@ -1,6 +1,6 @@
 use Rattle.std.proofs.Common.{subst}
 use Rattle.std.specs.Io.KnownBytes.{Appends}
-use Rattle.of_tool.proofs.Telling.{did}
+use Rattle.of_tool.proofs.Telling.{did, judges}
 use Rattle.of_tool.proofs.Completeness.{ends_where_valid}
 use Rattle.of_tool.proofs.Carried.{run_told, life_told, load_told, table_told, no_record}
 use Rattle.of_tool.proofs.commands.tool.Goals as goal
@@ -36,3 +36,6 @@ returns-in-Ok-write_all-clause-done g c = λ command is done.
 pub returns-in-Ok-write_all-clause-complete : goal.returns-in-Ok-write_all-clause-complete
 returns-in-Ok-write_all-clause-complete g c = λ command is valid calm written.
     ends_where_valid c.one_cut.ensures c.unlawful_have_none.ensures.none _ command _ _ _ is valid calm c.in-Ok.ensures.answered
+
+pub returns-in-Ok-write_all-clause-judged : goal.returns-in-Ok-write_all-clause-judged
+returns-in-Ok-write_all-clause-judged g c = λ command is. judges _ command _ _ _ is c.in-Ok.ensures.answered

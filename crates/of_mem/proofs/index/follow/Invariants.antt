@@ -1,7 +1,7 @@
 use Rattle.std.proofs.Common.{◌≡◌, ◌≢◌, ℕ, ◌<◌, ◌≤◌, ◌-◌, ◌%◌, length}
 use Rattle.of_mem.specs.declared.index.TheConstants.{HOMES}
 use Rattle.of_mem.specs.Index.{address}
-use Rattle.of_mem.proofs.index.search.Given as goal
+use Rattle.of_mem.proofs.index.follow.Given as goal
 
 abbrev pub invariant-loop-at : goal.invariant-loop-at
 invariant-loop-at l = record {
