@@ -8,7 +8,7 @@ mod day;
 mod teller;
 mod transfer;
 
-ghost use Rattle.std.specs.Prelude.{◌≡◌, IfOk, length};
+ghost use Rattle.std.specs.Prelude.{◌≡◌, ◌≤◌, IfOk, length};
 ghost use Rattle.example_accounts.specs.Accounts.{cell_count};
 ghost use Rattle.example_accounts.specs.Days.{IsSavedBank};
 
@@ -17,6 +17,7 @@ use crate::day::{Evening, Log, two_days};
 use crate::transfer::{Reply, Transfer};
 use anyhow::Result;
 use std::alloc::{AllocError, Global};
+use std::thread::Threads;
 
 fn pay(from: u32, to: u32, amount: u32) -> Transfer {
     Transfer { from, to, amount }
@@ -87,6 +88,22 @@ fn show_end(rt: &impl Print, accounts: Accounts, evening: &Evening) -> Result<()
     Ok(())
 }
 
+// Two days of these jobs, and what they came to.
+fn work<R: Threads + Print + Sync>(
+    rt: &R,
+    alloc: Global,
+    accounts: Accounts,
+    jobs: Vec<Vec<Transfer>>,
+) -> Result<()>
+    requires { length jobs.items ≤ accounts.callers }
+{
+    let (first, second) = two_days(rt, alloc, accounts, jobs)?;
+    for log in &first.logs {
+        show_log(rt, log)?;
+    }
+    show_end(rt, accounts, &second)
+}
+
 fn main(rt: HostRuntime) -> Result<()> {
     let alloc: Global = rt.alloc();
     let accounts = Accounts {
@@ -94,9 +111,5 @@ fn main(rt: HostRuntime) -> Result<()> {
         accounts: LAST + 1,
         money: 1_000,
     };
-    let (first, second) = two_days(&rt, alloc, accounts, jobs(alloc)?)?;
-    for log in &first.logs {
-        show_log(&rt, log)?;
-    }
-    show_end(&rt, accounts, &second)
+    work(&rt, alloc, accounts, jobs(alloc)?)
 }
