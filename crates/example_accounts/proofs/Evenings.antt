@@ -1,5 +1,5 @@
 -- What the close of a day's memory leaves: all the money, and the balances after one history.
-use Rattle.std.proofs.Common.{◌≡◌, ℕ, ◌<◌, ap, ◌∙◌, subst, arith, List, length, replicate}
+use Rattle.std.proofs.Common.{◌≡◌, ℕ, ◌<◌, ap, ◌∙◌, subst, arith, List, length}
 use Rattle.std.proofs.lemmas.List.{length-map}
 use Rattle.of_cell.specs.Words.{payload_of}
 use Rattle.of_mem.specs.ProgramWork.{memory_of}
@@ -18,16 +18,21 @@ use Rattle.example_accounts.specs.Accounts.{account_cell, cell_count, flipped, b
 use Rattle.example_accounts.specs.Meaning.{accounts_meaning, LawfulCells}
 use Rattle.example_accounts.specs.Days.{IsHistory, balance_after}
 
-module _ (w : Accounts) (m k : CellMemory Accounts) (d : SavedCells Accounts) (still : IsStill m k) (work : work_of m ≡ w) (zeros : cells_before accounts_meaning m ≡ replicate (cell_count w) 0) (tickets : (n : ℕ) → tickets_before accounts_meaning m n ≡ 0)
-    (saved : IsSavedCells (λ (x : Accounts). x.callers) cell_count accounts_meaning LawfulCells d) (lawful : HoldsLawful LawfulCells d) (saved_is : saved_work d ≡ work_of k) (calls : List Call) (leads : LeadsTo accounts_meaning k d calls) where
-  work_is : work_of k ≡ w
-  work_is = ap (λ (r : Row Accounts). (key_of r).work) still ∙ work
+module _ (m k : CellMemory Accounts) (d : SavedCells Accounts) (still : IsStill m k) (saved : IsSavedCells (λ (x : Accounts). x.callers) cell_count accounts_meaning LawfulCells d) (lawful : HoldsLawful LawfulCells d) (saved_is : saved_work d ≡ work_of k) (calls : List Call) (leads : LeadsTo accounts_meaning k d calls) where
+  abbrev w : Accounts
+  w = work_of m
 
-  before_is : cells_before accounts_meaning k ≡ replicate (cell_count w) 0
-  before_is = ap (cells_at_start accounts_meaning) still ∙ zeros
+  abbrev before : List ℕ
+  before = cells_before accounts_meaning m
 
-  pub none : (n : ℕ) → tickets_before accounts_meaning k n ≡ 0
-  none n = ap (λ (r : Row Accounts). made_before accounts_meaning r n) still ∙ tickets n
+  pub work_is : work_of k ≡ w
+  work_is = ap (λ (r : Row Accounts). (key_of r).work) still
+
+  before_is : cells_before accounts_meaning k ≡ before
+  before_is = ap (cells_at_start accounts_meaning) still
+
+  pub tickets : (n : ℕ) → tickets_before accounts_meaning k n ≡ tickets_before accounts_meaning m n
+  tickets n = ap (λ (r : Row Accounts). made_before accounts_meaning r n) still
 
   pub size : length (saved_cells d) ≡ cell_count w
   size = length-map (start_on d.shape d.row.items).cells payload_of ∙ saved.row.may_start.start.size ∙ saved.cells ∙ ap cell_count (saved_is ∙ work_is)
@@ -35,14 +40,14 @@ module _ (w : Accounts) (m k : CellMemory Accounts) (d : SavedCells Accounts) (s
   pub money : HasAllMoney w (memory_of (saved_cells d))
   money = subst (λ (x : Accounts). LawfulCells x (saved_cells d)) (saved_is ∙ work_is) lawful
 
-  pub history : IsHistory w calls
+  pub history : IsHistory w before calls
   history = subst (λ (z : Accounts × List ℕ). IsSerial (accounts_meaning z.0) z.1 calls) (λ i. (work_is i, before_is i)) leads.serial
 
-  ends : SavedHolds d (cells_after (accounts_meaning w) (replicate (cell_count w) 0) calls)
+  ends : SavedHolds d (cells_after (accounts_meaning w) before calls)
   ends = subst (λ (z : Accounts × List ℕ). SavedHolds d (cells_after (accounts_meaning z.0) z.1 calls)) (λ i. (work_is i, before_is i)) leads.ends
 
   callers : saved_callers d ≡ w.callers
   callers = saved.callers ∙ ap (λ (x : Accounts). x.callers) (saved_is ∙ work_is)
 
-  pub balances : (a : ℕ) → a < w.accounts → balance_in w (memory_of (saved_cells d)) a ≡ balance_after w calls a
+  pub balances : (a : ℕ) → a < w.accounts → balance_in w (memory_of (saved_cells d)) a ≡ balance_after w before calls a
   balances a lt = ap (flipped w.money a) (ends (account_cell w a) (omega (arith, callers)) (omega (arith, lt, size)))

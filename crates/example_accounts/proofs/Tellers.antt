@@ -73,21 +73,22 @@ logged_still m k n ls long others all p d lt = let l = all p d lt in record { nu
 
 -- ---- logs
 
-has_log : (m : CellMemory Accounts) (d : SavedCells Accounts) (calls : List Call) (n : ℕ) (l : Log) → LeadsTo accounts_meaning m d calls → tickets_before accounts_meaning m n ≡ 0 → IsLoggedAt m n l → HasLog calls l
-has_log m d calls n l leads none is = record { follows = is.follows; each = each }
+has_log : (m : CellMemory Accounts) (d : SavedCells Accounts) (calls : List Call) (before : ℕ → ℕ) (n : ℕ) (l : Log) → LeadsTo accounts_meaning m d calls → tickets_before accounts_meaning m n ≡ before n → IsLoggedAt m n l → HasLog calls before n l
+has_log m d calls before n l leads were is = record { number = is.number; follows = is.follows; each = each }
   where
     es : List EndedCall
     es = map ended_call l.answers.items
 
-    each : (k : ℕ) → k < length l.answers.items → ExplainsEnd calls l.number (k + 1) (transfer_words (get_or l.answers.items k no_answer).transfer) (get_or l.answers.items k no_answer).outcome
+    each : (k : ℕ) → k < length l.answers.items → ExplainsEnd calls n (before n + k + 1) (transfer_words (get_or l.answers.items k no_answer).transfer) (get_or l.answers.items k no_answer).outcome
     each k lt =
         let at : get_or es k no_ended ≡ ended_call (get_or l.answers.items k no_answer) = get_or-map ended_call l.answers.items k no_answer no_ended lt in
-        let ticket : tickets_before accounts_meaning m n + k + 1 ≡ k + 1 = omega (arith, none) in
-        subst (λ (e : ℕ × (ℕ × EndedCall)). ExplainsEnd calls e.0 e.1.0 e.1.1.op e.1.1.outcome) (λ i. (sym is.number i, (ticket i, at i)))
+        let ticket : tickets_before accounts_meaning m n + k + 1 ≡ before n + k + 1 = omega (arith, were) in
+        subst (λ (e : ℕ × EndedCall). ExplainsEnd calls n e.0 e.1.op e.1.outcome) (λ i. (ticket i, at i))
         (leads.made n es is.made k (omega (arith, lt, length-map l.answers.items ended_call)))
 
-pub have_logs : (m : CellMemory Accounts) (d : SavedCells Accounts) (calls : List Call) (ls : List Log) → LeadsTo accounts_meaning m d calls → ((n : ℕ) → tickets_before accounts_meaning m n ≡ 0) → AreLogged m ls → All (HasLog calls) ls
-have_logs m d calls ls leads none all p e lt = has_log m d calls p (get_or ls p e) leads (none p) (all p e lt)
+pub have_logs : (m : CellMemory Accounts) (d : SavedCells Accounts) (calls : List Call) (before : ℕ → ℕ) (ls : List Log) → LeadsTo accounts_meaning m d calls → ((n : ℕ) → tickets_before accounts_meaning m n ≡ before n) → AreLogged m ls
+    → (p : ℕ) (e : Log) → p < length ls → HasLog calls before p (get_or ls p e)
+have_logs m d calls before ls leads were all p e lt = has_log m d calls before p (get_or ls p e) leads (were p) (all p e lt)
 
 -- ---- jobs
 

@@ -1,6 +1,6 @@
 -- What a day leaves: one history of transfers, which has each that was answered, and all the money.
-use Rattle.std.specs.Prelude.{◌≡◌, ℕ, ◌+◌, ◌<◌, List, length, map}
-use Rattle.std.specs.List.{All}
+-- The next day goes on from there.
+use Rattle.std.specs.Prelude.{◌≡◌, ℕ, ◌+◌, ◌<◌, List, length, map, drop}
 use Rattle.std.specs.declared.vec.Vec.{Vec}
 use Rattle.std.proofs.Common.{get_or, replicate, take, Global}
 use Rattle.of_mem.specs.ProgramWork.{memory_of}
@@ -11,6 +11,8 @@ use Rattle.of_cells.specs.declared.memory.CellMemory.{CellMemory}
 use Rattle.of_cells.specs.History.{IsSerial, cells_after, StandsInOrder, ExplainsEnd}
 use Rattle.of_cells.specs.Handles.{IsCellHandle, IsSame, number_of_handle, made_by}
 use Rattle.of_cells.specs.Memories.{IsFrom, HasMadeOf}
+use Rattle.of_cells.specs.declared.saved.SavedCells.{SavedCells}
+use Rattle.of_cells.specs.Saving.{IsSavedCells, saved_cells, saved_ticket, saved_work}
 use Rattle.example_accounts.specs.declared.accounts.Accounts.{Accounts}
 use Rattle.example_accounts.specs.declared.transfer.Transfer.{Transfer}
 use Rattle.example_accounts.specs.declared.teller.Answer.{Answer}
@@ -18,7 +20,7 @@ use Rattle.example_accounts.specs.declared.teller.Teller.{Teller}
 use Rattle.example_accounts.specs.declared.day.Log.{Log}
 use Rattle.example_accounts.specs.declared.day.Evening.{Evening}
 use Rattle.example_accounts.specs.Accounts.{transfer_words, cell_count, balance_in, HasAllMoney}
-use Rattle.example_accounts.specs.Meaning.{accounts_meaning}
+use Rattle.example_accounts.specs.Meaning.{accounts_meaning, LawfulCells}
 
 -- the call that an answer is the end of
 abbrev pub ended_call : Answer → EndedCall
@@ -66,14 +68,14 @@ pub record IsLoggedAt (m : CellMemory Accounts) (n : ℕ) (l : Log) : Type 0 whe
 abbrev pub AreLogged : CellMemory Accounts → List Log → Type 0
 AreLogged m ls = (p : ℕ) (d : Log) → p < length ls → IsLoggedAt m p (get_or ls p d)
 
--- the calls, made one after the other on a table of zeros, have their replies
-abbrev pub IsHistory : Accounts → List Call → Type 0
-IsHistory w calls = IsSerial (accounts_meaning w) (replicate (cell_count w) 0) calls
+-- the calls, made one after the other on a table with these numbers, have their replies
+abbrev pub IsHistory : Accounts → (before : List ℕ) → List Call → Type 0
+IsHistory w before calls = IsSerial (accounts_meaning w) before calls
 
 -- the balance of an account after them
-abbrev pub balance_after : Accounts → List Call → (account : ℕ) → ℕ
-balance_after w calls a =
-    balance_in w (memory_of (cells_after (accounts_meaning w) (replicate (cell_count w) 0) calls)) a
+abbrev pub balance_after : Accounts → (before : List ℕ) → List Call → (account : ℕ) → ℕ
+balance_after w before calls a =
+    balance_in w (memory_of (cells_after (accounts_meaning w) before calls)) a
 
 abbrev pub no_answer : Answer
 no_answer = record {
@@ -81,13 +83,15 @@ no_answer = record {
   outcome = Spent 0;
 }
 
--- The log has the first transfers of its job, in their order. The history has each of them with its
--- reply, as the teller's calls from the first on. It has none for which no sequence was left.
-pub record HasLog (calls : List Call) (l : Log) : Type 0 where
+-- The log is that of the caller n, which had made so many calls before the day. It has the first
+-- transfers of its job, in their order. The history has each of them with its reply, as the calls
+-- of the teller after those. It has none for which no sequence was left.
+pub record HasLog (calls : List Call) (before : ℕ → ℕ) (n : ℕ) (l : Log) : Type 0 where
+  pub number : l.number ≡ n
   pub follows : FollowsJob l.answers.items l.job.items
   pub each : (k : ℕ) → k < length l.answers.items →
       let a : Answer = get_or l.answers.items k no_answer in
-      ExplainsEnd calls l.number (k + 1) (transfer_words a.transfer) a.outcome
+      ExplainsEnd calls n (before n + k + 1) (transfer_words a.transfer) a.outcome
 
 abbrev pub job_of_teller : Teller → Vec Transfer Global
 job_of_teller t = t.job
@@ -95,18 +99,45 @@ job_of_teller t = t.job
 abbrev pub job_of : Log → Vec Transfer Global
 job_of l = l.job
 
--- what a day leaves whose tellers had these jobs
-pub record IsEvening (w : Accounts) (given : List (Vec Transfer Global)) (e : Evening)
-    : Type 0 where
+-- a memory may go on from what is saved
+abbrev pub IsSavedBank : SavedCells Accounts → Type 0
+IsSavedBank d =
+    IsSavedCells (λ (w : Accounts). w.callers) cell_count accounts_meaning LawfulCells d
+
+-- What a day leaves whose tellers had these jobs. Its memory began with these numbers, of which the
+-- callers had made so many calls.
+pub record IsEvening (w : Accounts) (before : List ℕ) (tickets : ℕ → ℕ)
+    (given : List (Vec Transfer Global)) (e : Evening) : Type 0 where
+  pub saved : IsSavedBank e.saved
+  pub work : saved_work e.saved ≡ w
+  pub cells : e.cells.items ≡ saved_cells e.saved
   pub size : length e.cells.items ≡ cell_count w
   -- all accounts together have the money that account 0 had at first
   pub money : HasAllMoney w (memory_of e.cells.items)
   -- the balances are those after one history, which has the transfers of all logs
   pub calls : List Call
-  pub history : IsHistory w calls
+  pub history : IsHistory w before calls
   pub order : StandsInOrder calls
   pub balances : (a : ℕ) → a < w.accounts
-      → balance_in w (memory_of e.cells.items) a ≡ balance_after w calls a
-  pub logs : All (HasLog calls) e.logs.items
+      → balance_in w (memory_of e.cells.items) a ≡ balance_after w before calls a
+  pub logs : (n : ℕ) (d : Log) → n < length e.logs.items
+      → HasLog calls tickets n (get_or e.logs.items n d)
   -- there is a log for each job, in the order of the jobs
   pub jobs : map job_of e.logs.items ≡ given
+
+-- what the first day leaves, which began with zeros
+abbrev pub IsFirstEvening : Accounts → List (Vec Transfer Global) → Evening → Type 0
+IsFirstEvening w given e = IsEvening w (replicate (cell_count w) 0) (λ n. 0) given e
+
+-- of each job those transfers are left that the saved memory does not hold
+pub record AreLeft (e : Evening) (rest : List (Vec Transfer Global)) : Type 0 where
+  pub size : length rest ≡ length e.logs.items
+  pub each : (n : ℕ) (v : Vec Transfer Global) (d : Log) → n < length e.logs.items
+      → (get_or rest n v).items ≡ drop (saved_ticket e.saved n) (get_or e.logs.items n d).job.items
+
+-- What the next day leaves: it began with the numbers and the calls of the evening before, and the
+-- tellers had what was left of their jobs.
+pub record IsNextEvening (w : Accounts) (e next : Evening) : Type 0 where
+  pub rest : List (Vec Transfer Global)
+  pub left : AreLeft e rest
+  pub evening : IsEvening w e.cells.items (saved_ticket e.saved) rest next

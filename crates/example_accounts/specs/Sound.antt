@@ -16,6 +16,7 @@ use Rattle.example_accounts.specs.declared.accounts.Accounts.{Accounts}
 use Rattle.example_accounts.specs.declared.transfer.Reply.TheVariants.{Done as Moved, NoAccount}
 use Rattle.example_accounts.specs.Accounts.{first_cell, account_cell, cell_count, flipped, balance_in, total_of, HasAllMoney, raw_reply, paying_in, paying, has_both, moving_if, transferring}
 use Rattle.example_accounts.specs.Meaning.{accounts_meaning, LawfulCells}
+use Rattle.example_accounts.specs.Writes.{WritesAtMost, few_writes}
 use Rattle.example_accounts.specs.Money.{flipped_low, with_balance, total_same, zeros, total_with, balance_below}
 
 pub accounts_fit : (w : Accounts) → HasRoom w.callers (cell_count w)
@@ -194,6 +195,27 @@ module _ (w : Accounts) where
   stays (from ∷ to ∷ amount ∷ []) = moving_stays from to amount (has_both w from to)
   stays (from ∷ to ∷ amount ∷ more ∷ words) = tt
 
+  -- ---- how much they write
+
+  paying_writes : (from to amount balance : ℕ) (b : Bool)
+      → WritesAtMost 2 (paying w from to amount balance b)
+  paying_writes from to amount balance true = tt
+  paying_writes from to amount balance false = λ v. tt
+
+  moving_writes : (from to amount : ℕ) (b : Bool) → WritesAtMost 2 (moving_if w from to amount b)
+  moving_writes from to amount true = λ n.
+      let balance : ℕ = flipped w.money from n in
+      paying_writes from to amount balance (ltb balance amount)
+  moving_writes from to amount false = tt
+
+  -- at most the cells of the two accounts
+  writes_two : (op : List ℕ) → WritesAtMost 2 (transferring w op)
+  writes_two [] = tt
+  writes_two (from ∷ []) = tt
+  writes_two (from ∷ to ∷ []) = tt
+  writes_two (from ∷ to ∷ amount ∷ []) = moving_writes from to amount (has_both w from to)
+  writes_two (from ∷ to ∷ amount ∷ more ∷ words) = tt
+
   -- ---- so they are a work
 
   pub are_sound :
@@ -206,7 +228,9 @@ module _ (w : Accounts) where
         sym (total_same w m n w.accounts (λ a l. same (account_cell w a) (omega arith))) ∙ h;
     stays = stays;
     inside = λ m op h. (good m op h).inside;
-    few = λ m op h. inl (omega (arith, w.few_callers, w.few_accounts));
+    few = λ m op h.
+        let two = few_writes 2 (transferring w op) m (writes_two op) in
+        inr (omega (arith, two));
     replies = λ m op h. (good m op h).reply;
     reads_only = λ op e. absurd (true≢false (sym e));
   }

@@ -7,13 +7,16 @@ ghost use Rattle.example_accounts.specs.declared.accounts.TheConstants.{MOST_ACC
 
 use crate::transfer::Reply;
 use of_cell::Shape;
-use of_mem::{MOST_CALLERS, MOST_INSTRS, MaySuspend, Need, Part, RawReply, SuspendedRun, Work};
-
-/// The most accounts: with the own cells of sixteen callers they fit into a table.
-pub const MOST_ACCOUNTS: u32 = 3_000;
+use of_mem::{
+    MOST_CALLERS, MOST_DATA_CELLS, MOST_INSTRS, MaySuspend, Need, Part, RawReply, SuspendedRun,
+    Work,
+};
 
 /// How many cells belong to each caller.
 const OWN_CELLS: u32 = MOST_INSTRS as u32 + 2;
+
+/// The most accounts: with the own cells of all callers they fit into the largest table.
+pub const MOST_ACCOUNTS: u32 = MOST_DATA_CELLS - MOST_CALLERS * OWN_CELLS;
 
 /// Accounts, each in a cell after those of the callers. At first account 0 has all the money. A
 /// table starts with zeros, so the cell of account 0 holds how much of the money it does not have.

@@ -36,6 +36,8 @@ pub struct Teller {
     pub handle: CellHandle<Accounts>,
     /// Its transfers, in the order in which it makes them.
     pub job: Vec<Transfer>,
+    /// How many steps the last one may take. It is stopped then, and stays open.
+    pub last_steps: u64,
     /// Those whose calls have ended. There is room for all of them.
     pub answers: Vec<Answer>,
 }
@@ -51,7 +53,8 @@ fn put(answers: &mut Vec<Answer>, answer: Answer)
 }
 
 impl Teller {
-    /// Makes the transfers of its job that are left, one after the other, until no ticket is left.
+    /// Makes the transfers of its job that are left, one after the other, until it is stopped or no
+    /// ticket is left.
     pub fn work(&mut self)
         requires { Serves self.old }
         ensures { HasWorked self.old self.new }
@@ -72,7 +75,9 @@ impl Teller {
         }
         let transfer = self.job[next];
         let words = transfer.words();
-        let outcome = match self.handle.run(words.as_slice()) {
+        let is_last = next + 1 == self.job.len();
+        let steps = if is_last { self.last_steps } else { u64::MAX };
+        let outcome = match self.handle.run_within(words.as_slice(), steps) {
             Ok(answer) => answer.outcome(),
             Err(RunErr::Spent { seq }) => Outcome::Spent { seq },
             Err(_) => return,

@@ -12,7 +12,7 @@ loop-job-preserved c =
     let e = c.in_ok-handle.ensures in
     let long = ap length c.in-Some.ensures.items ∙ length-append front (c.in-Some.job ∷ []) in
     let at : c.len-in-Some.result ≡ length front = omega (arith, c.len-in-Some.ensures, c.pop.new.self.ok) in
-    let t : Teller = record { handle = c.in_ok-handle.handle; job = c.in-Some.job; answers = c.in_ok-answers.answers } in
+    let t : Teller = record { handle = c.in_ok-handle.handle; job = c.in-Some.job; last_steps = c.if-is_empty.last_steps; answers = c.in_ok-answers.answers } in
     let empty = c.in_ok-answers.ensures.items in
     let was = inv.none c.len-in-Some.result (omega (arith, at, long)) in
     record {
