@@ -4,7 +4,7 @@ pub mod Listed
 pub mod Zips
 pub mod WriteSets
 pub mod Cells
-pub mod SlotValues
+pub mod Eras
 pub mod Newest
 pub mod PlotPlaces
 pub mod Changes

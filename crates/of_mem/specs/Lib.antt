@@ -3,7 +3,7 @@ pub mod CellMap
 pub mod WriteSet
 pub mod Index
 pub mod Chains
-pub mod Slots
+pub mod Eras
 pub mod Newest
 pub mod Numbers
 pub mod Part
