@@ -1,8 +1,7 @@
 pub mod Lists
+pub mod WriteSets
 pub mod Chains
 pub mod Listed
-pub mod Zips
-pub mod WriteSets
 pub mod Cells
 pub mod Eras
 pub mod Newest

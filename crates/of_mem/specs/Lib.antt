@@ -1,7 +1,6 @@
 pub mod Meaning
 pub mod CellMap
 pub mod WriteSet
-pub mod Index
 pub mod Chains
 pub mod Eras
 pub mod Newest
