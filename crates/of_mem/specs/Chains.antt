@@ -34,13 +34,15 @@ pub record NotesPlace (old new : List ℕ) (home number : ℕ) : Type 0 where
 
 -- the invariant of a write-set: no address is in two entries, each is found from the note of its
 -- home, and there is room for an entry at each address
-pub record IsChained (homes room : ℕ) (es : List (ℕ × ℕ)) (os fs : List ℕ) (capacity links notes : ℕ) : Type 0 where
+pub record IsChained (homes room : ℕ) (es : List (ℕ × ℕ)) (os fs : List ℕ)
+    (capacity links notes : ℕ) : Type 0 where
   pub fits : FitsCell room
   pub spare : room ≤ capacity
   pub spare_links : room ≤ links
   pub spare_notes : (h : ℕ) → h < room → h < homes → h < notes
   pub linked : length os ≡ length es
   pub below : (k : ℕ) → k < length es → entry_address es k < room
-  pub once : (j k : ℕ) → j < length es → k < length es → entry_address es j ≡ entry_address es k → j ≡ k
+  pub once : (j k : ℕ) → j < length es → k < length es
+      → entry_address es j ≡ entry_address es k → j ≡ k
   pub fronts : HasFronts homes es fs
   pub chains : HasChains homes es os
