@@ -118,8 +118,10 @@ impl WriteSet {
     pub fn clear(&mut self)
         ensures { self.new ≡ record self.old { entries = [] } }
     {
-        self.entries.clear();
-        self.older.clear();
+        if !self.entries.is_empty() {
+            self.entries.clear();
+            self.older.clear();
+        }
     }
 
     /// Whether its entries are those of another one, in the same order.
