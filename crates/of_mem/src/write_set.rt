@@ -11,7 +11,8 @@ use std::marker::Model;
 /// What was written: a map from cells to numbers, in order of first writing. Only `new` takes
 /// memory, and it fills none of it. The other calls take the same time, however many cells there
 /// may be and however many entries there are, up to some thousands; but the first address at a home
-/// above all earlier ones also fills the notes up to it.
+/// above all earlier ones also fills the notes up to it, and `has_entries_of` and `copy_from` go
+/// through the entries.
 #[derive(Drop)]
 pub struct WriteSet {
     room: u32,
