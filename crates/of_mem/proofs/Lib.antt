@@ -1,10 +1,9 @@
 pub mod Lists
+pub mod WriteSets
 pub mod Chains
 pub mod Listed
-pub mod Zips
-pub mod WriteSets
 pub mod Cells
-pub mod SlotValues
+pub mod Eras
 pub mod Newest
 pub mod PlotPlaces
 pub mod Changes

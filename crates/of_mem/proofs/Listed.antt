@@ -1,121 +1,185 @@
--- What an index keeps when an address comes and its number is noted at its home.
-use Rattle.std.proofs.Common.{◌≡◌, ◌≢◌, ℕ, suc, ◌+◌, ◌<◌, ◌≤◌, ◌⊎◌, inl, inr, ◌==◌, eqb, true, ◌%◌, Bool, if◌then◌else◌, List, [], ◌∷◌, ◌++◌, length, get_or, refl, sym, ◌∙◌, ap, arith, length-append}
+-- What a write-set keeps when an entry comes and its number is noted at its home, or gets another number.
+use Rattle.std.proofs.Common.{◌≡◌, ◌≢◌, ℕ, suc, ◌+◌, ◌<◌, ◌≤◌, ◌⊎◌, inl, inr, ◌==◌, eqb, true, ◌%◌, Bool, if◌then◌else◌, List, [], ◌∷◌, ◌++◌, length, map, Some, get_or, set, refl, sym, ◌∙◌, ap, arith, length-append, length-set}
 use Rattle.std.specs.List.{list_any, Any, AllPairs}
 use Rattle.std.proofs.lemmas.Map.Steps.{length-le_from_distinct_below}
 use Rattle.std.proofs.lemmas.Map.Made.{IsDistinct-from_AllPairs}
 use Rattle.std.proofs.lemmas.List.Folds.{Any-from_list_any}
 use Rattle.std.proofs.lemmas.Bool.Decides.{Decides-eqb, nat_tests}
 use Rattle.std.proofs.lemmas.Bool.{cases_eq, eq-eqb as equals, ne_eqb as differs}
-use Rattle.std.proofs.lemmas.List.{get_or_append_left, get_or_push, get_or_default}
-use Rattle.of_mem.specs.Index.{address, IsUnlisted, IsListedAt, IsIndex}
+use Rattle.std.proofs.lemmas.List.{get_or-map, length-map, get_or_append_left, get_or_push, get_or-set_same, get_or-set_other}
+use Rattle.of_mem.specs.CellMap.{value_for, put_pair, entry_address, IsAbsent, IsEntryFor}
+use Rattle.of_mem.specs.WriteSet.{IsWriteSet}
 use Rattle.of_mem.specs.Chains.{NotesPlace, IsChained, note_at, latest}
 use Rattle.of_mem.proofs.Chains.{latest_same}
+use Rattle.of_mem.proofs.WriteSets.{value_at-here, put-here}
 
 -- of different addresses below n there are at most n
-few_addresses : (xs : List ℕ) (n : ℕ) → ((k : ℕ) → k < length xs → address xs k < n) → ((j k : ℕ) → j < length xs → k < length xs → address xs j ≡ address xs k → j ≡ k) → length xs ≤ n
-few_addresses xs n below once = length-le_from_distinct_below xs n (IsDistinct-from_AllPairs Decides-eqb xs apart) within
+few_addresses : (es : List (ℕ × ℕ)) (n : ℕ) → ((k : ℕ) → k < length es → entry_address es k < n) → ((j k : ℕ) → j < length es → k < length es → entry_address es j ≡ entry_address es k → j ≡ k) → length es ≤ n
+few_addresses es n below once = rw (← size) (length-le_from_distinct_below xs n (IsDistinct-from_AllPairs Decides-eqb xs apart) within)
   where
-    at_x : (k d : ℕ) → k < length xs → get_or xs k d ≡ address xs k
-    at_x k d l = get_or_default xs k d 0 l
+    xs : List ℕ
+    xs = map (λ (e : ℕ × ℕ). e.0) es
+
+    size : length xs ≡ length es
+    size = length-map es (λ (e : ℕ × ℕ). e.0)
+
+    at_x : (k d : ℕ) → k < length es → get_or xs k d ≡ entry_address es k
+    at_x k d l = get_or-map (λ (e : ℕ × ℕ). e.0) es k (0, 0) d l
 
     apart : AllPairs (λ x y. x ≢ y) xs
     apart j k d l m q =
-        let e : j ≡ k = once j k (omega arith) m (sym (at_x j d (omega arith)) ∙ q ∙ at_x k d m) in
+        let mk : k < length es = omega (arith, size) in
+        let e : j ≡ k = once j k (omega arith) mk (sym (at_x j d (omega arith)) ∙ q ∙ at_x k d mk) in
         omega arith
 
     within : (q : ℕ) → list_any (eqb q) xs ≡ true → q < n
     within q e =
         let f : Any (λ (x : ℕ). eqb q x ≡ true) xs = Any-from_list_any (eqb q) xs e in
+        let mk : f.0 < length es = omega (arith, size, f.2) in
         let same : q ≡ f.1 = grind (arith, nat_tests, f.4) in
-        let here : address xs f.0 ≡ f.1 = sym (at_x f.0 f.1 f.2) ∙ f.3 in
-        omega (arith, below f.0 f.2)
+        let here : entry_address es f.0 ≡ f.1 = sym (at_x f.0 f.1 mk) ∙ f.3 in
+        omega (arith, below f.0 mk)
 
-module _ (homes room : ℕ) (xs os fs : List ℕ) (capacity links notes : ℕ) (h : IsChained homes room xs os fs capacity links notes) where
-  pub few : length xs ≤ room
-  few = few_addresses xs room h.below h.once
+-- there was room for one more
+pub room_left : (room : ℕ) (es : List (ℕ × ℕ)) (a : ℕ) → ((k : ℕ) → k < length es → entry_address es k < room) → ((j k : ℕ) → j < length es → k < length es → entry_address es j ≡ entry_address es k → j ≡ k) → IsAbsent es a → a < room → length es < room
+room_left room es a below once absent inside = omega (arith, size, few_addresses (es ++ (a, 0) ∷ []) room (λ k m. below' k (cases_eq k (length es)) m) (λ j k l m q. once' j k (cases_eq j (length es)) (cases_eq k (length es)) l m q))
+  where
+    size : length (es ++ (a, 0) ∷ []) ≡ suc (length es)
+    size = length-append es ((a, 0) ∷ []) ∙ omega arith
 
-  pub is_index : IsIndex (record { room = room; addresses = xs })
-  is_index = record { once = h.once; below = h.below; few = few; room = h.fits }
+    old : (k : ℕ) → k < length es → entry_address (es ++ (a, 0) ∷ []) k ≡ entry_address es k
+    old k l = ap (λ (e : ℕ × ℕ). e.0) (get_or_append_left es ((a, 0) ∷ []) (0, 0) k l)
 
-  pub listed_at : (a k : ℕ) → k < length xs → address xs k ≡ a → IsListedAt xs a k
-  listed_at a k l e = record { below = l; here = e; only = λ j m q. h.once j k m l (q ∙ sym e) }
+    new : (k : ℕ) → k ≡ length es → entry_address (es ++ (a, 0) ∷ []) k ≡ a
+    new k e = ap (λ (e : ℕ × ℕ). e.0) (get_or_push es (a, 0) (0, 0) k (sym e))
 
--- an address more
-module _ (homes room : ℕ) (xs os fs : List ℕ) (capacity links notes : ℕ) (h : IsChained homes room xs os fs capacity links notes) (a : ℕ) (absent : IsUnlisted xs a) (inside : a < room) where
-  size : length (xs ++ a ∷ []) ≡ suc (length xs)
-  size = length-append xs (a ∷ []) ∙ omega arith
+    below' : (k : ℕ) → (k ≡ length es) ⊎ (k ≢ length es) → k < length (es ++ (a, 0) ∷ []) → entry_address (es ++ (a, 0) ∷ []) k < room
+    below' k (inl e) m = rw (new k e) inside
+    below' k (inr d) m = let s : k < length es = omega (arith, size) in rw (old k s) (below k s)
 
-  old : (k : ℕ) → k < length xs → address (xs ++ a ∷ []) k ≡ address xs k
-  old k l = get_or_append_left xs (a ∷ []) 0 k l
+    once' : (j k : ℕ) → (j ≡ length es) ⊎ (j ≢ length es) → (k ≡ length es) ⊎ (k ≢ length es) → j < length (es ++ (a, 0) ∷ []) → k < length (es ++ (a, 0) ∷ []) → entry_address (es ++ (a, 0) ∷ []) j ≡ entry_address (es ++ (a, 0) ∷ []) k → j ≡ k
+    once' j k (inl e) (inl f) l m q = e ∙ sym f
+    once' j k (inl e) (inr f) l m q = let s : k < length es = omega (arith, size) in absurd (absent k s (sym (old k s) ∙ sym q ∙ new j e))
+    once' j k (inr e) (inl f) l m q = let s : j < length es = omega (arith, size) in absurd (absent j s (sym (old j s) ∙ q ∙ new k f))
+    once' j k (inr e) (inr f) l m q =
+        let s : j < length es = omega (arith, size) in
+        let t : k < length es = omega (arith, size) in
+        once j k s t (sym (old j s) ∙ q ∙ old k t)
 
-  new : (k : ℕ) → k ≡ length xs → address (xs ++ a ∷ []) k ≡ a
-  new k e = get_or_push xs a 0 k (sym e)
+module _ (homes room : ℕ) (es : List (ℕ × ℕ)) (os fs : List ℕ) (capacity links notes : ℕ) (h : IsChained homes room es os fs capacity links notes) where
+  pub few : length es ≤ room
+  few = few_addresses es room h.below h.once
 
-  below : (k : ℕ) → (k ≡ length xs) ⊎ (k ≢ length xs) → k < length (xs ++ a ∷ []) → address (xs ++ a ∷ []) k < room
+  pub is_write_set : IsWriteSet (record { room = room; entries = es })
+  is_write_set = record { once = h.once; below = h.below; few = few; room = h.fits }
+
+  module _ (a k : ℕ) (f : IsEntryFor es a k) where
+    first : (j : ℕ) → j < k → entry_address es j ≢ a
+    first j m e = let s : j ≡ k = h.once j k (omega (arith, f.0)) f.0 (e ∙ sym f.1) in omega arith
+
+    pub value_at-found : value_for es a ≡ Some (get_or es k (0, 0)).1
+    value_at-found = value_at-here es a k f.0 f.1 first
+
+    pub put-found : (v : ℕ) → put_pair es a v ≡ set es k (a, v)
+    put-found v = put-here es a v k f.0 f.1 first
+
+-- an entry more, whose number is noted
+module _ (homes room : ℕ) (es : List (ℕ × ℕ)) (os fs gs : List ℕ) (capacity links notes a v : ℕ) (h : IsChained homes room es os fs capacity links notes) (absent : IsAbsent es a) (inside : a < room) (n : NotesPlace fs gs (a % homes) (length es + 1)) where
+  size : length (es ++ (a, v) ∷ []) ≡ suc (length es)
+  size = length-append es ((a, v) ∷ []) ∙ omega arith
+
+  old : (k : ℕ) → k < length es → entry_address (es ++ (a, v) ∷ []) k ≡ entry_address es k
+  old k l = ap (λ (e : ℕ × ℕ). e.0) (get_or_append_left es ((a, v) ∷ []) (0, 0) k l)
+
+  new : (k : ℕ) → k ≡ length es → entry_address (es ++ (a, v) ∷ []) k ≡ a
+  new k e = ap (λ (e : ℕ × ℕ). e.0) (get_or_push es (a, v) (0, 0) k (sym e))
+
+  below : (k : ℕ) → (k ≡ length es) ⊎ (k ≢ length es) → k < length (es ++ (a, v) ∷ []) → entry_address (es ++ (a, v) ∷ []) k < room
   below k (inl e) m = rw (new k e) inside
-  below k (inr d) m = let s : k < length xs = omega (arith, size) in rw (old k s) (h.below k s)
+  below k (inr d) m = let s : k < length es = omega (arith, size) in rw (old k s) (h.below k s)
 
-  once : (j k : ℕ) → (j ≡ length xs) ⊎ (j ≢ length xs) → (k ≡ length xs) ⊎ (k ≢ length xs) → j < length (xs ++ a ∷ []) → k < length (xs ++ a ∷ []) → address (xs ++ a ∷ []) j ≡ address (xs ++ a ∷ []) k → j ≡ k
+  once : (j k : ℕ) → (j ≡ length es) ⊎ (j ≢ length es) → (k ≡ length es) ⊎ (k ≢ length es) → j < length (es ++ (a, v) ∷ []) → k < length (es ++ (a, v) ∷ []) → entry_address (es ++ (a, v) ∷ []) j ≡ entry_address (es ++ (a, v) ∷ []) k → j ≡ k
   once j k (inl e) (inl f) l m q = e ∙ sym f
-  once j k (inl e) (inr f) l m q = let s : k < length xs = omega (arith, size) in absurd (absent k s (sym (old k s) ∙ sym q ∙ new j e))
-  once j k (inr e) (inl f) l m q = let s : j < length xs = omega (arith, size) in absurd (absent j s (sym (old j s) ∙ q ∙ new k f))
+  once j k (inl e) (inr f) l m q = let s : k < length es = omega (arith, size) in absurd (absent k s (sym (old k s) ∙ sym q ∙ new j e))
+  once j k (inr e) (inl f) l m q = let s : j < length es = omega (arith, size) in absurd (absent j s (sym (old j s) ∙ q ∙ new k f))
   once j k (inr e) (inr f) l m q =
-      let s : j < length xs = omega (arith, size) in
-      let t : k < length xs = omega (arith, size) in
+      let s : j < length es = omega (arith, size) in
+      let t : k < length es = omega (arith, size) in
       h.once j k s t (sym (old j s) ∙ q ∙ old k t)
 
-  all_below : (k : ℕ) → k < length (xs ++ a ∷ []) → address (xs ++ a ∷ []) k < room
-  all_below k m = below k (cases_eq k (length xs)) m
+  -- the last entry of a home
+  last : (x : ℕ) → latest homes (es ++ (a, v) ∷ []) x (length (es ++ (a, v) ∷ [])) ≡ (if a % homes == x then suc (length es) else latest homes es x (length es))
+  last x =
+      ap (latest homes (es ++ (a, v) ∷ []) x) size
+      ∙ ap (λ (b : ℕ). if b % homes == x then suc (length es) else latest homes (es ++ (a, v) ∷ []) x (length es)) (new (length es) refl)
+      ∙ ap (λ (y : ℕ). if a % homes == x then suc (length es) else y) (latest_same homes es (es ++ (a, v) ∷ []) x (length es) old)
 
-  all_once : (j k : ℕ) → j < length (xs ++ a ∷ []) → k < length (xs ++ a ∷ []) → address (xs ++ a ∷ []) j ≡ address (xs ++ a ∷ []) k → j ≡ k
-  all_once j k l m q = once j k (cases_eq j (length xs)) (cases_eq k (length xs)) l m q
+  one : length es + 1 ≡ suc (length es)
+  one = omega arith
 
-  -- there was room for it
-  pub room_left : length xs < room
-  room_left = omega (arith, size, few_addresses (xs ++ a ∷ []) room all_below all_once)
+  here : latest homes (es ++ (a, v) ∷ []) (a % homes) (length (es ++ (a, v) ∷ [])) ≡ suc (length es)
+  here = last (a % homes) ∙ ap (λ (b : Bool). if b then suc (length es) else latest homes es (a % homes) (length es)) (equals (a % homes) (a % homes) refl)
 
-  -- whose number is noted
-  module _ (gs : List ℕ) (n : NotesPlace fs gs (a % homes) (length xs + 1)) where
-    last : (x : ℕ) → latest homes (xs ++ a ∷ []) x (length (xs ++ a ∷ [])) ≡ (if a % homes == x then suc (length xs) else latest homes xs x (length xs))
-    last x =
-        ap (latest homes (xs ++ a ∷ []) x) size
-        ∙ ap (λ (b : ℕ). if b % homes == x then suc (length xs) else latest homes (xs ++ a ∷ []) x (length xs)) (new (length xs) refl)
-        ∙ ap (λ (y : ℕ). if a % homes == x then suc (length xs) else y) (latest_same homes xs (xs ++ a ∷ []) x (length xs) old)
+  elsewhere : (x : ℕ) → x ≢ a % homes → latest homes (es ++ (a, v) ∷ []) x (length (es ++ (a, v) ∷ [])) ≡ latest homes es x (length es)
+  elsewhere x d = last x ∙ ap (λ (b : Bool). if b then suc (length es) else latest homes es x (length es)) (differs (a % homes) x (λ q. d (sym q)))
 
-    one : length xs + 1 ≡ suc (length xs)
-    one = omega arith
+  fronts : (x : ℕ) → (x ≡ a % homes) ⊎ (x ≢ a % homes) → (latest homes es x (length es) ≡ 0) ⊎ (note_at fs x ≡ latest homes es x (length es)) → (latest homes (es ++ (a, v) ∷ []) x (length (es ++ (a, v) ∷ [])) ≡ 0) ⊎ (note_at gs x ≡ latest homes (es ++ (a, v) ∷ []) x (length (es ++ (a, v) ∷ [])))
+  fronts x (inl e) z = inr (rw e (n.here ∙ one ∙ sym here))
+  fronts x (inr d) (inl z) = inl (elsewhere x d ∙ z)
+  fronts x (inr d) (inr z) = inr (n.others x d ∙ z ∙ sym (elsewhere x d))
 
-    here : latest homes (xs ++ a ∷ []) (a % homes) (length (xs ++ a ∷ [])) ≡ suc (length xs)
-    here = last (a % homes) ∙ ap (λ (b : Bool). if b then suc (length xs) else latest homes xs (a % homes) (length xs)) (equals (a % homes) (a % homes) refl)
+  chains : (k : ℕ) → (k ≡ length es) ⊎ (k ≢ length es) → k < length (es ++ (a, v) ∷ []) → note_at (os ++ latest homes es (a % homes) (length es) ∷ []) k ≡ latest homes (es ++ (a, v) ∷ []) (entry_address (es ++ (a, v) ∷ []) k % homes) k
+  chains k (inl e) l =
+      get_or_push os (latest homes es (a % homes) (length es)) 0 k (h.linked ∙ sym e)
+      ∙ ap (latest homes es (a % homes)) (sym e)
+      ∙ sym (ap (λ (b : ℕ). latest homes (es ++ (a, v) ∷ []) (b % homes) k) (new k e) ∙ latest_same homes es (es ++ (a, v) ∷ []) (a % homes) k (λ j m. old j (omega (arith, e))))
+  chains k (inr d) l =
+      let s : k < length es = omega (arith, size) in
+      get_or_append_left os (latest homes es (a % homes) (length es) ∷ []) 0 k (omega (arith, h.linked))
+      ∙ h.chains k s
+      ∙ sym (ap (λ (b : ℕ). latest homes (es ++ (a, v) ∷ []) (b % homes) k) (old k s) ∙ latest_same homes es (es ++ (a, v) ∷ []) (entry_address es k % homes) k (λ j m. old j (omega arith)))
 
-    elsewhere : (x : ℕ) → x ≢ a % homes → latest homes (xs ++ a ∷ []) x (length (xs ++ a ∷ [])) ≡ latest homes xs x (length xs)
-    elsewhere x d = last x ∙ ap (λ (b : Bool). if b then suc (length xs) else latest homes xs x (length xs)) (differs (a % homes) x (λ q. d (sym q)))
+  pub pair_written : (c d f : ℕ) → capacity ≤ c → links ≤ d → notes ≤ f → IsChained homes room (es ++ (a, v) ∷ []) (os ++ latest homes es (a % homes) (length es) ∷ []) gs c d f
+  pair_written c d f more more_links more_notes = record {
+    fits = h.fits;
+    spare = omega (arith, h.spare);
+    spare_links = omega (arith, h.spare_links);
+    spare_notes = λ x l m. omega (arith, h.spare_notes x l m);
+    linked = length-append os (latest homes es (a % homes) (length es) ∷ []) ∙ omega (arith, h.linked, size);
+    below = λ k m. below k (cases_eq k (length es)) m;
+    once = λ j k l m q. once j k (cases_eq j (length es)) (cases_eq k (length es)) l m q;
+    fronts = λ x l. fronts x (cases_eq x (a % homes)) (h.fronts x l);
+    chains = λ k l. chains k (cases_eq k (length es)) l;
+  }
 
-    fronts : (x : ℕ) → (x ≡ a % homes) ⊎ (x ≢ a % homes) → (latest homes xs x (length xs) ≡ 0) ⊎ (note_at fs x ≡ latest homes xs x (length xs)) → (latest homes (xs ++ a ∷ []) x (length (xs ++ a ∷ [])) ≡ 0) ⊎ (note_at gs x ≡ latest homes (xs ++ a ∷ []) x (length (xs ++ a ∷ [])))
-    fronts x (inl e) z = inr (rw e (n.here ∙ one ∙ sym here))
-    fronts x (inr d) (inl z) = inl (elsewhere x d ∙ z)
-    fronts x (inr d) (inr z) = inr (n.others x d ∙ z ∙ sym (elsewhere x d))
+-- an entry with another value
+module _ (homes room : ℕ) (es : List (ℕ × ℕ)) (os fs : List ℕ) (capacity links notes a v k : ℕ) (h : IsChained homes room es os fs capacity links notes) (f : IsEntryFor es a k) where
+  kept_size : length (set es k (a, v)) ≡ length es
+  kept_size = length-set es k (a, v)
 
-    chains : (k : ℕ) → (k ≡ length xs) ⊎ (k ≢ length xs) → k < length (xs ++ a ∷ []) → note_at (os ++ latest homes xs (a % homes) (length xs) ∷ []) k ≡ latest homes (xs ++ a ∷ []) (address (xs ++ a ∷ []) k % homes) k
-    chains k (inl e) l =
-        get_or_push os (latest homes xs (a % homes) (length xs)) 0 k (h.linked ∙ sym e)
-        ∙ ap (latest homes xs (a % homes)) (sym e)
-        ∙ sym (ap (λ (b : ℕ). latest homes (xs ++ a ∷ []) (b % homes) k) (new k e) ∙ latest_same homes xs (xs ++ a ∷ []) (a % homes) k (λ j m. old j (omega (arith, e))))
-    chains k (inr d) l =
-        let s : k < length xs = omega (arith, size) in
-        get_or_append_left os (latest homes xs (a % homes) (length xs) ∷ []) 0 k (omega (arith, h.linked))
-        ∙ h.chains k s
-        ∙ sym (ap (λ (b : ℕ). latest homes (xs ++ a ∷ []) (b % homes) k) (old k s) ∙ latest_same homes xs (xs ++ a ∷ []) (address xs k % homes) k (λ j m. old j (omega arith)))
+  kept : (j : ℕ) → entry_address (set es k (a, v)) j ≡ entry_address es j
+  kept j = go (cases_eq j k)
+    where
+      go : (j ≡ k) ⊎ (j ≢ k) → entry_address (set es k (a, v)) j ≡ entry_address es j
+      go (inl e) = rw e (ap (λ (x : ℕ × ℕ). x.0) (get_or-set_same es k (a, v) (0, 0) f.0) ∙ sym f.1)
+      go (inr d) = ap (λ (x : ℕ × ℕ). x.0) (get_or-set_other es k j (a, v) (0, 0) d)
 
-    pub address_added : (c d f : ℕ) → capacity ≤ c → links ≤ d → notes ≤ f → IsChained homes room (xs ++ a ∷ []) (os ++ latest homes xs (a % homes) (length xs) ∷ []) gs c d f
-    address_added c d f more more_links more_notes = record {
-      fits = h.fits;
-      spare = omega (arith, h.spare);
-      spare_links = omega (arith, h.spare_links);
-      spare_notes = λ x l m. omega (arith, h.spare_notes x l m);
-      linked = length-append os (latest homes xs (a % homes) (length xs) ∷ []) ∙ omega (arith, h.linked, size);
-      below = all_below;
-      once = all_once;
-      fronts = λ x l. fronts x (cases_eq x (a % homes)) (h.fronts x l);
-      chains = λ k l. chains k (cases_eq k (length xs)) l;
-    }
+  kept_last : (x : ℕ) → latest homes (set es k (a, v)) x (length (set es k (a, v))) ≡ latest homes es x (length es)
+  kept_last x = ap (latest homes (set es k (a, v)) x) kept_size ∙ latest_same homes es (set es k (a, v)) x (length es) (λ j l. kept j)
+
+  kept_front : (x : ℕ) → (latest homes es x (length es) ≡ 0) ⊎ (note_at fs x ≡ latest homes es x (length es)) → (latest homes (set es k (a, v)) x (length (set es k (a, v))) ≡ 0) ⊎ (note_at fs x ≡ latest homes (set es k (a, v)) x (length (set es k (a, v))))
+  kept_front x (inl z) = inl (kept_last x ∙ z)
+  kept_front x (inr z) = inr (z ∙ sym (kept_last x))
+
+  pub pair_changed : IsChained homes room (set es k (a, v)) os fs capacity links notes
+  pair_changed = record {
+    fits = h.fits;
+    spare = h.spare;
+    spare_links = h.spare_links;
+    spare_notes = h.spare_notes;
+    linked = h.linked ∙ sym kept_size;
+    below = λ j l. rw (kept j) (h.below j (omega (arith, l, kept_size)));
+    once = λ i j l m q. h.once i j (omega (arith, l, kept_size)) (omega (arith, m, kept_size)) (sym (kept i) ∙ q ∙ kept j);
+    fronts = λ x l. kept_front x (h.fronts x l);
+    chains = λ j l. h.chains j (omega (arith, l, kept_size)) ∙ sym (ap (λ (b : ℕ). latest homes (set es k (a, v)) (b % homes) j) (kept j) ∙ latest_same homes es (set es k (a, v)) (entry_address es j % homes) j (λ i m. kept i));
+  }

@@ -24,3 +24,7 @@ entry_address es k = (get_or es k (0, 0)).0
 -- the address is in no entry
 abbrev pub IsAbsent : List (ℕ × ℕ) → ℕ → Type 0
 IsAbsent es a = (k : ℕ) → k < length es → entry_address es k ≡ a → ⊥
+
+-- the address is in entry k
+abbrev pub IsEntryFor : List (ℕ × ℕ) → ℕ → ℕ → Type 0
+IsEntryFor es a k = (k < length es) × (entry_address es k ≡ a)

@@ -1,9 +1,8 @@
 pub mod Meaning
 pub mod CellMap
 pub mod WriteSet
-pub mod Index
 pub mod Chains
-pub mod Slots
+pub mod Eras
 pub mod Newest
 pub mod Numbers
 pub mod Part

@@ -111,6 +111,9 @@ impl Layers {
     }
 
     /// What a cell holds under what the script wrote.
+    // out of line: mostly the script's writes count
+    #[cold]
+    #[inline(never)]
     pub fn read_under(&self, addr: u32) -> Result<u32, Need>
         requires { addr < length self.now.known }
         ensures { ReadsAt (record self.now { script = [] }) addr result }

@@ -1,21 +1,28 @@
 //! A map from cells to numbers, in order of first writing.
 
-ghost use Rattle.std.specs.Prelude.{◌↔◌, IsTrue, ◌≡◌, ◌<◌, ◌==◌, [], length, IfOk, slice_index_or};
-ghost use Rattle.of_mem.specs.CellMap.{value_for, put_pair};
+ghost use Rattle.std.specs.Prelude.{◌↔◌, IsTrue, ◌≡◌, ◌<◌, ◌==◌, [], length, IfOk, MatchOption, slice_index_or};
+ghost use Rattle.of_mem.specs.CellMap.{value_for, put_pair, IsAbsent, IsEntryFor};
 ghost use Rattle.of_mem.specs.WriteSet.{IsWriteSet};
 
-use crate::index::Index;
+use crate::index::{HOMES, front, note, search};
 use std::alloc::{AllocError, Global};
 use std::marker::Model;
 
 /// What was written: a map from cells to numbers, in order of first writing. Only `new` takes
 /// memory, and it fills none of it. The other calls take the same time, however many cells there
-/// may be and however many entries there are, up to some thousands.
+/// may be and however many entries there are, up to some thousands; but the first address at a home
+/// above all earlier ones also fills the notes up to it, and `has_entries_of` and `copy_from` go
+/// through the entries.
 #[derive(Drop)]
 pub struct WriteSet {
-    index: Index,
-    /// For each address of the index its number.
-    values: Vec<u32>,
+    room: u32,
+    entries: Vec<(u32, u32)>,
+    /// For each entry the number of the one before it with the same home. The number of an entry is
+    /// its place and one more; 0 says that there is none.
+    older: Vec<u32>,
+    /// For each home of an entry, the number of the last one there. At another home there may be a
+    /// number that is left over from before a `clear`, or none.
+    fronts: Vec<u32>,
 }
 
 impl Model for WriteSet {
@@ -23,14 +30,14 @@ impl Model for WriteSet {
 
     ghost Value = { WriteSet };
 
-    ghost use Rattle.std.specs.Prelude.{◌≡◌, ◌≤◌, length};
-    ghost use Rattle.std.specs.List.{zip};
     ghost use Rattle.std.specs.Vec.{vec_capacity};
+    ghost use Rattle.of_mem.specs.declared.index.TheConstants.{HOMES};
+    ghost use Rattle.of_mem.specs.Chains.{IsChained};
 
-    ghost view = { λ w. record { room = w.index.room; entries = zip w.index.addresses w.values.items } };
+    ghost view = { λ w. record { room = w.room; entries = w.entries.items } };
 
-    ghost invariant = { λ w. (length w.values.items ≡ length w.index.addresses)
-        × (w.index.room ≤ vec_capacity w.values) };
+    ghost invariant = { λ w. IsChained HOMES w.room w.entries.items w.older.items w.fronts.items
+        (vec_capacity w.entries) (vec_capacity w.older) (vec_capacity w.fronts) };
 }
 
 impl WriteSet {
@@ -38,9 +45,15 @@ impl WriteSet {
     pub fn new(alloc: Global, room: u32) -> Result<Self, AllocError>
         ensures { IfOk result (λ w. w ≡ record { room = room; entries = [] }) }
     {
-        let index = Index::new(alloc, room)?;
-        let values = Vec::with_capacity(alloc, room as usize)?;
-        Ok(WriteSet { index, values })
+        let entries = Vec::with_capacity(alloc, room as usize)?;
+        let older = Vec::with_capacity(alloc, room as usize)?;
+        let fronts = Vec::with_capacity(alloc, room.min(HOMES) as usize)?;
+        Ok(WriteSet {
+            room,
+            entries,
+            older,
+            fronts,
+        })
     }
 
     /// The number of entries.
@@ -48,22 +61,31 @@ impl WriteSet {
         ensures value { result ≡ length self.now.entries }
         ensures map { IsWriteSet self.now }
     {
-        self.index.len()
+        self.entries.len() as u32
     }
 
     /// Whether nothing was written.
     pub fn is_empty(&self) -> bool
         ensures { result ≡ (length self.now.entries == 0) }
     {
-        self.len() == 0
+        self.entries.is_empty()
+    }
+
+    /// The place of an address among the entries.
+    fn find(&self, addr: u32) -> Option<usize>
+        ensures { MatchOption result (IsAbsent self.now.entries addr)
+            (IsEntryFor self.now.entries addr) }
+    {
+        let last = front(&self.fronts, &self.entries, addr % HOMES);
+        search(&self.older, &self.entries, last, addr)
     }
 
     /// The number at an address, if it was written.
     pub fn get(&self, addr: u32) -> Option<u32>
         ensures { result ≡ value_for self.now.entries addr }
     {
-        let place = self.index.find(addr)?;
-        Some(self.values[place])
+        let place = self.find(addr)?;
+        Some(self.entries[place].1)
     }
 
     /// Writes a number: in its place if the address was written before, and else as the last entry.
@@ -71,10 +93,16 @@ impl WriteSet {
         requires { addr < self.old.room }
         ensures { self.new ≡ record self.old { entries = put_pair self.old.entries addr value } }
     {
-        match self.index.enter(addr) {
-            Some(place) => self.values[place] = value,
-            // there is room for each address below `room`
-            None => self.values.push_reserved(value),
+        let home = addr % HOMES;
+        let last = front(&self.fronts, &self.entries, home);
+        match search(&self.older, &self.entries, last, addr) {
+            Some(place) => self.entries[place].1 = value,
+            None => {
+                // there is room for each address below `room`
+                self.older.push_reserved(last);
+                self.entries.push_reserved((addr, value));
+                note(&mut self.fronts, home, self.entries.len() as u32);
+            }
         }
     }
 
@@ -84,23 +112,24 @@ impl WriteSet {
         ensures value { result ≡ slice_index_or self.now.entries i (0, 0) }
         ensures below { result.0 < self.now.room }
     {
-        (self.index.address(i as usize), self.values[i as usize])
+        self.entries[i as usize]
     }
 
     /// Empties it.
     pub fn clear(&mut self)
         ensures { self.new ≡ record self.old { entries = [] } }
     {
-        self.index.clear();
-        self.values.clear();
+        if !self.entries.is_empty() {
+            self.entries.clear();
+            self.older.clear();
+        }
     }
 
     /// Whether its entries are those of another one, in the same order.
     pub fn has_entries_of(&self, other: &WriteSet) -> bool
         ensures { IsTrue result ↔ (self.now.entries ≡ other.now.entries) }
     {
-        self.index.has_addresses_of(&other.index)
-            && self.values.as_slice() == other.values.as_slice()
+        self.entries.as_slice() == other.entries.as_slice()
     }
 
     /// Takes the entries of another one.

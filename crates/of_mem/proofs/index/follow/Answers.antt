@@ -18,5 +18,5 @@ loop-at-preserved c =
     record {
       few = omega (arith, older_less _ _ _ c.args.addr _ c.requires.chains c.loop-at-test.true c.loop-at.invariant.few h, c.loop-at.invariant.few);
       home = older_home _ _ _ c.args.addr _ c.requires.chains c.loop-at-test.true c.loop-at.invariant.few h;
-      unmet = older_unmet _ _ _ c.args.addr _ c.requires.chains c.loop-at-test.true c.loop-at.invariant.few h c.if-addresses-place.false c.loop-at.invariant.unmet;
+      unmet = older_unmet _ _ _ c.args.addr _ c.requires.chains c.loop-at-test.true c.loop-at.invariant.few h c.if-entries-place.false c.loop-at.invariant.unmet;
     }

@@ -1,16 +1,21 @@
-use Rattle.std.proofs.Common.{◌<◌, length, None, sym, ◌∙◌, ap, arith}
-use Rattle.std.specs.List.{zip}
-use Rattle.std.proofs.lemmas.List.{get_or_default}
-use Rattle.of_mem.proofs.SlotValues.{slots_size, none_there, slot_there}
+use Rattle.std.proofs.Common.{◌≡◌, get_or, sym, ◌∙◌, ap, arith}
+use Rattle.std.proofs.lemmas.List.{get_or_past}
+use Rattle.std.proofs.lemmas.Grind.{common_steps}
+use Rattle.of_mem.specs.Eras.{slot_number}
+use Rattle.of_mem.proofs.Eras.{number_read, number_here, number_gone}
 use Rattle.of_mem.proofs.slots.Slots.get.Goals as goal
 
-pub returns-in_err-place : goal.returns-in_err-place
-returns-in_err-place c =
-    let inside : c.args.addr < c.self.inside.index.room = omega (arith, c.requires, ap length c.self.view_is, slots_size c.self.inside.index.room (zip c.self.inside.index.addresses c.self.inside.values.items)) in
-    rw (← c.self.view_is) (c.from_residual.ensures ∙ sym (none_there _ _ _ c.self.invariant.0 _ c.in_err-place.ensures inside))
+pub returns-in_err-era : goal.returns-in_err-era
+returns-in_err-era c =
+    let past : get_or c.self.inside.slots.items c.args.addr (0, 0) ≡ (0, 0) = get_or_past c.self.inside.slots.items c.args.addr (0, 0) (grind (arith, common_steps)) in
+    c.from_residual.ensures ∙ sym (number_read c.self.inside.era c.self.inside.cells c.self.inside.slots.items _ c.args.addr c.self.view_is c.requires ∙ ap (slot_number c.self.inside.era) past ∙ number_gone c.self.inside.era (0, 0) (λ q. omega (arith, q, c.self.invariant.0)))
 
-pub returns : goal.returns
-returns c =
-    let inside : c.args.addr < c.self.inside.index.room = omega (arith, c.requires, ap length c.self.view_is, slots_size c.self.inside.index.room (zip c.self.inside.index.addresses c.self.inside.values.items)) in
-    let f = c.in_ok-place.ensures in
-    rw (← c.self.view_is) (c.index.ensures ∙ get_or_default c.self.inside.values.items _ _ None (omega (arith, f.below, c.self.invariant.0)) ∙ sym (slot_there _ _ _ c.self.invariant.0 _ _ f inside))
+pub returns-then-era-self : goal.returns-then-era-self
+returns-then-era-self c =
+    let there : get_or c.self.inside.slots.items c.args.addr (0, 0) ≡ c.in_ok-era.field-0.now = grind (arith, common_steps) in
+    sym (number_read c.self.inside.era c.self.inside.cells c.self.inside.slots.items _ c.args.addr c.self.view_is c.requires ∙ ap (slot_number c.self.inside.era) there ∙ number_here c.self.inside.era c.in_ok-era.field-0.now c.if-era-self.true)
+
+pub returns-else-era-self : goal.returns-else-era-self
+returns-else-era-self c =
+    let there : get_or c.self.inside.slots.items c.args.addr (0, 0) ≡ c.in_ok-era.field-0.now = grind (arith, common_steps) in
+    sym (number_read c.self.inside.era c.self.inside.cells c.self.inside.slots.items _ c.args.addr c.self.view_is c.requires ∙ ap (slot_number c.self.inside.era) there ∙ number_gone c.self.inside.era c.in_ok-era.field-0.now c.if-era-self.false)
