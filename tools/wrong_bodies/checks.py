@@ -7,6 +7,7 @@ import enum
 import os
 import re
 import subprocess
+import sys
 
 # `fn PATH: proved`; of one that is refused by itself `not proved` or `no proof: expected answers in ..`,
 # also if `; it calls ..` comes after that; of one that is not, `no proof: it calls ..`.
@@ -22,6 +23,10 @@ ERROR = re.compile(r"^(?:\./)?(?:src|specs)/\S+?:\d+:\d+: error(\[[\w-]+\])?: (`
 LEMMA = re.compile(r"^\S+?:\d+:\d+: error: `([^`]*)`: ", re.M)
 CITING = re.compile(r"^\S+?:\d+:\d+: error: \d+ declarations? that depends? on .*? not checked: (.*)$", re.M)
 UNREAD = re.compile(r"is not in scope|has no field|is no name|operand is missing|expected the end|cannot continue")
+
+
+# The checks that run now, and the signals that came to end them.
+RUNNING, ENDING = set(), []
 
 
 class Verdict(enum.Enum):
@@ -75,7 +80,21 @@ def check(folder, only=(), jobs=None):
     words += ["--jobs", str(jobs)] if jobs else []
     pipes = {"stdin": subprocess.DEVNULL, "stdout": subprocess.PIPE, "stderr": subprocess.STDOUT}
     with subprocess.Popen(words, cwd=folder, text=True, errors="replace", **pipes) as process:
+        RUNNING.add(process)
+        if ENDING:
+            process.terminate()
         text = process.stdout.read()
         _, status, used = os.wait4(process.pid, 0)
         process.returncode = os.waitstatus_to_exitcode(status)
+        RUNNING.discard(process)
+    if ENDING:
+        raise InterruptedError("the trial was ended")
     return text, used.ru_utime + used.ru_stime
+
+
+def end(number, _):
+    """Ends all checks, and this program, at a signal."""
+    ENDING.append(number)
+    for process in list(RUNNING):
+        process.terminate()
+    sys.exit(128 + number)
