@@ -10,10 +10,11 @@ import subprocess
 import sys
 
 # `fn PATH: proved`; of one that is refused by itself `not proved` or `no proof: expected answers in ..`,
-# also if `; it calls ..` comes after that; of one that is not, `no proof: it calls ..`.
+# also if `; it calls ..` comes after that.
 LINE = re.compile(r"^(?:fn|impl|struct) (\S+): (.*)$", re.M)
 UNPROVED = re.compile(r"not proved|no proof")
-CALLS = re.compile(r"no proof: (it calls|it passes|a call of)")
+# `no proof: it calls ..` is of a function, `not proved; it waits for ..` of the impl that it is in.
+CALLS = re.compile(r"no proof: (it calls|it passes|a call of)|not proved; it waits for the proof of")
 # Its last line but for advice: of all functions, or of those that `--only` names and what they call.
 ENDED = re.compile(r"^logic=(proved|not-proved)\b|^only=\d+ proved=\d+$", re.M)
 # An error in a text that holds no proof: a name or a form that the check cannot read. An error that
