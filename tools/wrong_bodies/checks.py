@@ -7,12 +7,14 @@ import enum
 import os
 import re
 import subprocess
+import sys
 
 # `fn PATH: proved`; of one that is refused by itself `not proved` or `no proof: expected answers in ..`,
-# also if `; it calls ..` comes after that; of one that is not, `no proof: it calls ..`.
+# also if `; it calls ..` comes after that.
 LINE = re.compile(r"^(?:fn|impl|struct) (\S+): (.*)$", re.M)
 UNPROVED = re.compile(r"not proved|no proof")
-CALLS = re.compile(r"no proof: (it calls|it passes|a call of)")
+# `no proof: it calls ..` is of a function, `not proved; it waits for ..` of the impl that it is in.
+CALLS = re.compile(r"no proof: (it calls|it passes|a call of)|not proved; it waits for the proof of")
 # Its last line but for advice: of all functions, or of those that `--only` names and what they call.
 ENDED = re.compile(r"^logic=(proved|not-proved)\b|^only=\d+ proved=\d+$", re.M)
 # An error in a text that holds no proof: a name or a form that the check cannot read. An error that
@@ -22,6 +24,10 @@ ERROR = re.compile(r"^(?:\./)?(?:src|specs)/\S+?:\d+:\d+: error(\[[\w-]+\])?: (`
 LEMMA = re.compile(r"^\S+?:\d+:\d+: error: `([^`]*)`: ", re.M)
 CITING = re.compile(r"^\S+?:\d+:\d+: error: \d+ declarations? that depends? on .*? not checked: (.*)$", re.M)
 UNREAD = re.compile(r"is not in scope|has no field|is no name|operand is missing|expected the end|cannot continue")
+
+
+# The checks that run now, and the signals that came to end them.
+RUNNING, ENDING = set(), []
 
 
 class Verdict(enum.Enum):
@@ -75,7 +81,21 @@ def check(folder, only=(), jobs=None):
     words += ["--jobs", str(jobs)] if jobs else []
     pipes = {"stdin": subprocess.DEVNULL, "stdout": subprocess.PIPE, "stderr": subprocess.STDOUT}
     with subprocess.Popen(words, cwd=folder, text=True, errors="replace", **pipes) as process:
+        RUNNING.add(process)
+        if ENDING:
+            process.terminate()
         text = process.stdout.read()
         _, status, used = os.wait4(process.pid, 0)
         process.returncode = os.waitstatus_to_exitcode(status)
+        RUNNING.discard(process)
+    if ENDING:
+        raise InterruptedError("the trial was ended")
     return text, used.ru_utime + used.ru_stime
+
+
+def end(number, _):
+    """Ends all checks, and this program, at a signal."""
+    ENDING.append(number)
+    for process in list(RUNNING):
+        process.terminate()
+    sys.exit(128 + number)
