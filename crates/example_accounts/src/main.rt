@@ -1,6 +1,7 @@
 //! Tellers move money between a million accounts in one memory, each in a thread of its own, by an
 //! operation that this program brings along. One is stopped in a call, the memory is closed and
-//! opened again, each transfer is made once, and in the evening all the money is there.
+//! opened again, each teller goes on after its last transfer, and in the evening all the money is
+//! there.
 #![tactic(auto)]
 
 mod accounts;
