@@ -9,23 +9,26 @@ import re
 import subprocess
 import sys
 
-# `fn PATH: proved`; of one that is refused by itself `not proved` or `no proof: expected answers in ..`,
-# also if `; it calls ..` comes after that.
+# `fn PATH: proved`; of one that is refused by itself `not proved` or `no proof: expected answers in
+# ..`, also if `; it calls ..` comes after that.
 LINE = re.compile(r"^(?:fn|impl|struct) (\S+): (.*)$", re.M)
 UNPROVED = re.compile(r"not proved|no proof")
 # `no proof: it calls ..` is of a function, `not proved; it waits for ..` of the impl that it is in.
-CALLS = re.compile(r"no proof: (it calls|it passes|a call of)|not proved; it waits for the proof of")
-# Its last line but for advice: of all functions, or of those that `--only` names and what they call.
+CALLS = re.compile(r"no proof: (it calls|it passes|a call of)|not proved; it waits for the proof")
+# Its last line but for advice: of all functions, or of those that `--only` names and their callees.
 ENDED = re.compile(r"^logic=(proved|not-proved)\b|^only=\d+ proved=\d+$", re.M)
 # An error in a text that holds no proof: a name or a form that the check cannot read. An error that
 # begins with the name of a declaration says that it is not so, unless it is one of those below.
-ERROR = re.compile(r"^(?:\./)?(?:src|specs)/\S+?:\d+:\d+: error(\[[\w-]+\])?: (`[^`]*`: )?(.*)", re.M)
+PLACE = r"^\S+?:\d+:\d+: error"
+ERROR = re.compile(
+    r"^(?:\./)?(?:src|specs)/\S+?:\d+:\d+: error(\[[\w-]+\])?: (`[^`]*`: )?(.*)", re.M
+)
+UNREAD = re.compile(
+    "is not in scope|has no field|is no name|operand is missing|expected the end|cannot continue"
+)
 # What it says of lemmas: one is rejected, and those that cite it are not looked at.
-LEMMA = re.compile(r"^\S+?:\d+:\d+: error: `([^`]*)`: ", re.M)
-CITING = re.compile(r"^\S+?:\d+:\d+: error: \d+ declarations? that depends? on .*? not checked: (.*)$", re.M)
-UNREAD = re.compile(r"is not in scope|has no field|is no name|operand is missing|expected the end|cannot continue")
-
-
+LEMMA = re.compile(rf"{PLACE}: `([^`]*)`: ", re.M)
+CITING = re.compile(rf"{PLACE}: \d+ declarations? that depends? on .*? not checked: (.*)$", re.M)
 # The checks that run now, and the signals that came to end them.
 RUNNING, ENDING = set(), []
 
@@ -46,14 +49,15 @@ def verdict(said):
 
 
 def unread(text):
-    """Why a check did not come to verdicts: the first error, or its last line; or None if it did."""
+    """Why a check came to no verdicts: the first error, or its last line; or None if it did."""
     for mark, named, said in ERROR.findall(text):
         if mark or not named or UNREAD.search(re.sub(r"`[^`]*`", "", said)):
             return f"the check cannot read it: {said}"
     if ENDED.search(text):
         return None
     lines = [it for it in text.splitlines() if it] or ["it said nothing"]
-    return f"the check came to no verdict: {next((it for it in lines if ': error' in it), lines[-1])}"
+    last = next((it for it in lines if ": error" in it), lines[-1])
+    return f"the check came to no verdict: {last}"
 
 
 def is_proved(text):

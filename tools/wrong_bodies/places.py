@@ -8,7 +8,7 @@ NAME = re.compile(r"\w+(?=\W*$)")
 
 
 class Function(typing.NamedTuple):
-    """A function: its module, as in `machine::helping`, the type and the trait of its impl, its name."""
+    """A function: its module, as in `machine::helping`, its impl's type and trait, its name."""
 
     module: str
     holder: str
@@ -52,7 +52,7 @@ def bare(text):
 
 
 def held(lines, at):
-    """The type and the trait of the impl, or the trait, whose head is in this line or goes on after it."""
+    """The type and the trait of the impl, or the trait, whose head begins in this line."""
     head = ""
     for line in lines[at:]:
         head += " " + line.strip()
@@ -83,7 +83,7 @@ def body(lines, head):
 
 
 def bodies(text):
-    """The heads' lines of the functions of a text, each with the first and last line of its body."""
+    """Of the functions of a text the head's line, and the first and last line of the body."""
     lines = text.split("\n")
     heads = [at for at, line in enumerate(lines) if HEAD.match(line)]
     return [(it, *span) for it in heads if (span := body(lines, it))]
@@ -98,13 +98,14 @@ def function(file, text, at):
     # (the innermost)
     head = found[-1][0]
     indent, name = HEAD.match(lines[head]).groups()
-    above = [it for it in range(head) if (of := HOLDER.match(lines[it])) and len(of[1]) < len(indent)]
-    holder, trait = held(lines, above[-1]) if indent and above else ("", "")
+    holders = [(it, HOLDER.match(lines[it])) for it in range(head)]
+    above = [it for it, found in holders if found and len(found[1]) < len(indent)]
+    holder, trait = held(lines, above[-1]) if above else ("", "")
     return Function(module_of(file), holder, trait, name)
 
 
 def contracts(text):
-    """A .rt file without the bodies of its functions and without comments: what callers may rest on."""
+    """A .rt file without bodies of functions and without comments: what callers may rest on."""
     lines, gone = text.split("\n"), set()
     for _, first, last in bodies(text):
         gone |= set(range(first + 1, last + 1))

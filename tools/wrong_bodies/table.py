@@ -31,7 +31,8 @@ class Row(typing.NamedTuple):
 
     def edits(self):
         """The edits that its last cell names, each with the crate."""
-        return [(self.crate, name) for kind, name in SHOWN.findall(self.cells[-1]) if kind == "edit"]
+        shown = SHOWN.findall(self.cells[-1])
+        return [(self.crate, name) for kind, name in shown if kind == "edit"]
 
 
 def rows():
@@ -53,7 +54,7 @@ def named():
 
 @functools.cache
 def edits():
-    """The edits by their crates and names, each with its file: those of tests/wrong and of the gate."""
+    """The edits by their crates and names, each with its file."""
     found = {}
     for pattern, up in (("tests/wrong/*", 0), ("crates/*/must-fail", 1)):
         for folder in repository.TOP.glob(pattern):

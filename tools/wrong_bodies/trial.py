@@ -6,11 +6,11 @@ at its own function.
 
 - A function that is only refused because of one that it calls has not been tried: its wrong body
   goes to a later round, as does a second one of the same function.
-- An edit of a definition or of a contract may change what other functions have to prove. It is tried
-  alone, by a check of the functions that its row of docs/WRONG.md names: one must be refused. If the
-  row names none of the crate, a lemma that it names must be rejected.
-- First the crate is checked as it is, in its own place: all of it must be proved. In each round only
-  edited functions may be refused by themselves.
+- An edit of a definition or of a contract may change what other functions have to prove. It is
+  tried alone, by a check of the functions that its row of docs/WRONG.md names: one must be refused.
+  If the row names none of the crate, a lemma that it names must be rejected.
+- First the crate is checked as it is, in its own place: all of it must be proved. In each round
+  only edited functions may be refused by themselves.
 - A round that the check cannot read, or that breaks more than it should, counts for nothing. It is
   halved until the edit that does so is alone.
 """
@@ -30,7 +30,7 @@ PARTS = ("src", "specs", "proofs")
 
 
 class Body(typing.NamedTuple):
-    """A wrong body: its edit, the functions that it changes, and whether it changes nothing else."""
+    """A wrong body: its edit, the functions that it changes, whether it changes nothing else."""
 
     edit: repository.Edit
     functions: frozenset
@@ -46,7 +46,7 @@ class Result(typing.NamedTuple):
 
 
 def body(crate, edit):
-    """The wrong body of an edit, by the places of what it replaces; Unfit if it cannot be applied."""
+    """The wrong body of an edit, by the places of what it replaces. Unfit if it does not apply."""
     edit.applied(crate.folder)
     texts, found = {}, []
     for file, old, new in edit.changes:
@@ -80,7 +80,8 @@ def room(crate, every):
                     shutil.copytree(every[it].folder / part, top / "crates" / it / part)
             # (another check may be at work there: what it takes away in the meantime is not needed)
             with contextlib.suppress(OSError, shutil.Error):
-                shutil.copytree(every[it].folder / "out", top / "crates" / it / "out", copy_function=link)
+                kept = top / "crates" / it / "out"
+                shutil.copytree(every[it].folder / "out", kept, copy_function=link)
         yield top / "crates" / crate.name
 
 
@@ -160,7 +161,8 @@ class Trial:
         edited = {path for paths in at.values() for path in paths}
         broken = sorted(it for it in found if found[it] == Verdict.REFUSED and it not in edited)
         if broken and len(now) == 1:
-            self.note(now[0].edit, fault=f"NOT REFUSED at its own function, but at {', '.join(broken)}")
+            some = ", ".join(broken)
+            self.note(now[0].edit, fault=f"NOT REFUSED at its own function, but at {some}")
         if broken:
             return now if len(now) > 1 else []
         return [it for it in now if not self.is_judged(it, at, found, len(now) == 1)]
@@ -185,19 +187,20 @@ class Trial:
         return True
 
     def try_alone(self, it, found):
-        """Tries an edit of definitions or contracts, by the functions or lemmas that its row names."""
+        """Tries an edit of definitions or contracts, by what its row names."""
         rows = self.named.get((self.crate.name, it.edit.name), [])
         paths = sorted(path for path in found if any(path.endswith(f"::{row}") for row in rows))
         with room(self.crate, self.every) as folder:
             chosen(folder, [it])
             text = self.checked(f"{it.edit.name} alone", folder, paths)
         said = checks.verdicts(text)
-        refused = [path.partition("::")[2] for path in paths if said.get(path) not in (None, Verdict.PROVED)]
+        refused = [it for it in paths if said.get(it) not in (None, Verdict.PROVED)]
         if not paths:
-            refused = sorted(checks.rejected(text) & set(rows))
+            refused = checks.rejected(text) & set(rows)
         if fault := checks.unread(text):
             self.note(it.edit, fault=f"BAD EDIT: {fault}")
         elif refused:
-            self.note(it.edit, refused)
+            self.note(it.edit, {path.removeprefix(f"{self.crate.name}::") for path in refused})
         else:
-            self.note(it.edit, fault=f"NOT REFUSED by what its row names: {', '.join(paths or rows)}")
+            some = ", ".join(paths or rows)
+            self.note(it.edit, fault=f"NOT REFUSED by what its row names: {some}")

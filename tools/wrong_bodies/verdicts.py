@@ -1,8 +1,8 @@
 """What trials came to, kept in tests/wrong/CRATE/VERDICT with a sum of what it rests on.
 
-A refusal rests on the crate's sources, definitions and proofs, and on its edits; of the crates below
-it on their definitions and on the contracts of their sources, since nothing above sees a body; and on
-the lines of crates.txt. It does not name the kit: another one may prove more or less.
+A refusal rests on the crate's sources, definitions and proofs, and on its edits; of the crates
+below it on their definitions and on the contracts of their sources, since nothing above sees a body;
+and on the lines of crates.txt. It does not name the kit: another one may prove more or less.
 """
 import hashlib
 
@@ -14,7 +14,7 @@ SUM = "sum: "
 
 
 def edits(name):
-    """The edits of a crate that a trial tries: those that are not in must-fail, which `rt ci` tries."""
+    """The edits of a crate that a trial tries: `rt ci` tries those of must-fail."""
     return list(repository.edits(trial.WRONG / name).values())
 
 
@@ -51,6 +51,6 @@ def is_kept(crate, every):
 
 
 def keep(crate, at, results):
-    """Keeps the results of a crate whose wrong bodies are all refused, with the sum before the trial."""
+    """Keeps the results of a crate whose wrong bodies are all refused, with its sum."""
     lines = [f"{SUM}{at}", *(f"{it.name}: refused at {it.refused}" for it in results)]
     file_of(crate).write_text("".join(f"{it}\n" for it in lines))
