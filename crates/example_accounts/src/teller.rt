@@ -1,6 +1,6 @@
 //! A teller: a handle with a job.
 
-ghost use Rattle.std.specs.Prelude.{◌≡◌, ◌<◌, ◌∷◌, ◌++◌, [], vec_len, vec_capacity};
+ghost use Rattle.std.specs.Prelude.{◌≡◌, ◌<◌, ◌∷◌, ◌++◌, [], length, vec_len, vec_capacity};
 ghost use Rattle.example_accounts.specs.Days.{Serves, HasWorked};
 
 use crate::accounts::Accounts;
@@ -64,6 +64,17 @@ impl Teller {
         }
     }
 
+    // How many steps the transfer at a place of the job may take.
+    fn steps_at(&self, place: usize) -> u64
+        requires { place < length self.now.job.items }
+    {
+        if place + 1 == self.job.len() {
+            self.last_steps
+        } else {
+            u64::MAX
+        }
+    }
+
     // Makes the next one, if there is one.
     fn make_next(&mut self)
         requires { Serves self.old }
@@ -75,8 +86,7 @@ impl Teller {
         }
         let transfer = self.job[next];
         let words = transfer.words();
-        let is_last = next + 1 == self.job.len();
-        let steps = if is_last { self.last_steps } else { u64::MAX };
+        let steps = self.steps_at(next);
         let outcome = match self.handle.run_within(words.as_slice(), steps) {
             Ok(answer) => answer.outcome(),
             Err(RunErr::Spent { seq }) => Outcome::Spent { seq },
