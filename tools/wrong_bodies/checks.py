@@ -28,7 +28,8 @@ UNREAD = re.compile(
 )
 # What it says of lemmas: one is rejected, and those that cite it are not looked at.
 LEMMA = re.compile(rf"{PLACE}: `([^`]*)`: ", re.M)
-CITING = re.compile(rf"{PLACE}: \d+ declarations? that depends? on .*? not checked: (.*)$", re.M)
+CITERS = r"\d+ declarations? that depends? on .*? not checked: (.*)$"
+CITING = re.compile(rf"{PLACE}: {CITERS}", re.M)
 # The checks that run now, and the signals that came to end them.
 RUNNING, ENDING = set(), []
 
@@ -51,6 +52,8 @@ def verdict(said):
 def unread(text):
     """Why a check came to no verdicts: the first error, or its last line; or None if it did."""
     for mark, named, said in ERROR.findall(text):
+        if re.match(CITERS, said):
+            continue
         if mark or not named or UNREAD.search(re.sub(r"`[^`]*`", "", said)):
             return f"the check cannot read it: {said}"
     if ENDED.search(text):
