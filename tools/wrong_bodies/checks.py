@@ -1,7 +1,7 @@
 """What `rt check` says of each function of a crate.
 
-All that the trial of wrong bodies knows of the words of a check is here, and tests/scripts tries it
-on a crate of its own: if another kit words its lines otherwise, that test says so.
+All that the trial of wrong bodies knows of the words of a check is here, and tests/wrong_trial tries
+it on a crate of its own: if another kit words its lines otherwise, that test says so.
 """
 import enum
 import os
