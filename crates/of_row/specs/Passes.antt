@@ -3,6 +3,7 @@
 use Rattle.std.specs.Prelude.{◌≡◌, ℕ, List}
 use Rattle.std.specs.Int.{bit_at}
 use Rattle.of_mem.specs.Meaning.{Meaning}
+use Rattle.of_core.specs.Starts.{IsDurable}
 use Rattle.of_row.specs.declared.member.Member.{Member}
 use Rattle.of_row.specs.declared.member.Pass.{Pass}
 use Rattle.of_row.specs.declared.member.Taken.{Taken}
@@ -58,3 +59,11 @@ abbrev pub ClosesWith : {W : Type 0} → (W → Meaning) → (W → List ℕ →
 ClosesWith meaning lawful r p ws =
     ViewMeetsRule (setup_at meaning r) (lawful (key_of r).work) (row_start meaning r) ws
     (view_of_pass p)
+
+-- the row is the durable words, cell by cell, of words that meet the row's rule with what the pass
+-- knew
+pub record ClosesWithDurable {W : Type 0} (meaning : W → Meaning) (lawful : W → List ℕ → Type 0)
+    (r : Row W) (p : Pass) (row : List ℕ) : Type 0 where
+  pub words : List ℕ
+  pub meets : ClosesWith meaning lawful r p words
+  pub durable : IsDurable (setup_at meaning r) words row
