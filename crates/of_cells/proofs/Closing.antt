@@ -1,6 +1,6 @@
 -- What recovery finds in the words of a closed table of a work.
 use Rattle.std.proofs.Common.{◌≡◌, ℕ, ◌+◌, ◌-◌, ◌≤◌, ◌<◌, ◌⊎◌, inl, inr, Bool, true, false, refl, sym, ◌∙◌, ap, subst, arith, List, [], ◌∷◌, ◌++◌, length, get_or, map, length-append}
-use Rattle.std.specs.Prelude.{slice_range, slice_index}
+use Rattle.std.specs.Prelude.{slice_index}
 use Rattle.std.specs.List.{AllByRecursion as Each}
 use Rattle.std.proofs.lemmas.Bool.{cases_lt}
 use Rattle.std.proofs.lemmas.List.{get_or-map, length-map, get_or_append_left}
@@ -9,16 +9,16 @@ use Rattle.std.proofs.Math.Seq.{get_or-append_seam}
 use Rattle.std.proofs.Math.ListN.{get_or-map as get_or_map_at}
 use Rattle.of_cell.specs.Words.{payload_of}
 use Rattle.of_cell.specs.declared.word.TheConstants.{GREATEST_LIMIT}
-use Rattle.of_cell.specs.Cells.{data_cell, durable_cells, table_words}
+use Rattle.of_cell.specs.Cells.{data_cell}
 use Rattle.of_mem.specs.Meaning.{Meaning, HasRoom}
 use Rattle.of_mem.specs.Places.{ticket_cell_at, shape_at, reply_at}
 use Rattle.of_mem.specs.declared.work.TheConstants.{MOST_INSTRS}
-use Rattle.of_mem.proofs.Lists.{part_at, part_long}
+use Rattle.of_mem.proofs.Lists.{part_at}
 use Rattle.of_recover.specs.Recovered.{recovered_words, recovered_data, RecoversData}
 use Rattle.of_recover.proofs.Agreeing.{recovered_data-same}
 use Rattle.of_core.specs.declared.place.Outcome.{Outcome}
 use Rattle.of_core.specs.declared.place.Outcome.TheVariants.{Answered, Spent}
-use Rattle.of_core.specs.Table.{Setup, setup_of, cell_count, durable_word, words_before_members, ticket_cell, shape_cell, reply_cell}
+use Rattle.of_core.specs.Table.{Setup, setup_of, durable_word, ticket_cell, shape_cell, reply_cell}
 use Rattle.of_core.specs.TableMoment.{TableStart}
 use Rattle.of_core.specs.Machine.{Call, no_call, is_idle, IsOpen}
 use Rattle.of_core.specs.Events.{start_ticket}
@@ -34,7 +34,7 @@ use Rattle.of_row.specs.Told.{open_operation, operations_known}
 use Rattle.of_row.specs.Trail.{IsRunBy}
 use Rattle.of_row.specs.Rows.{key_of, setup_at, row_start, view_of_pass, IsRowPass, MayStartFrom}
 use Rattle.of_row.specs.Keys.{FitsWork}
-use Rattle.of_row.specs.Passes.{ClosesWith}
+use Rattle.of_row.specs.Passes.{ClosesWith, ClosesWithDurable}
 use Rattle.of_row.specs.Moments.{ExplainsEndedCalls, StopsLoseNothing, LosesNothing, words_alone}
 use Rattle.of_cells.specs.declared.saved.SavedCells.{SavedCells}
 use Rattle.of_cells.specs.History.{ExplainsEnd, IsOneOf}
@@ -67,7 +67,7 @@ begun_at x b place k lt = elim (cases_lt k (length x.ended)) [
         (at ∙ long, is, ap (λ (n : ℕ). get_or (map (λ (e : EndedCall). e.op) x.ended ++ x.machine.op ∷ []) n []) at ∙ get_or-append_seam (map (λ (e : EndedCall). e.op) x.ended) x.machine.op [] [])
 
 module _ {W : Type 0} (meaning : W → Meaning) (lawful : W → List ℕ → Type 0) (r : Row W) (room : HasRoom (key_of r).callers (key_of r).cells) (law : StopsLoseNothing (lawful (key_of r).work) (setup_at meaning r))
-    (p : Pass) (seat : IsRowPass r p) (ws : List ℕ) (closes : ClosesWith meaning lawful r p ws) (long : length ws ≡ table_words (key_of r).callers MOST_INSTRS (key_of r).cells) where
+    (p : Pass) (seat : IsRowPass r p) (ws : List ℕ) (closes : ClosesWith meaning lawful r p ws) where
   abbrev S : Setup
   S = setup_at meaning r
 
@@ -159,16 +159,7 @@ module _ {W : Type 0} (meaning : W → Meaning) (lawful : W → List ℕ → Typ
 
   -- ---- what recovery finds
 
-  module _ (durable : List ℕ) (part : durable ≡ slice_range ws (cell_count S) (cell_count S + cell_count S)) (recovers : RecoversData S.callers S.cells durable (recovered_words S.callers S.cells durable)) where
-    much : length ws ≡ words_before_members S + 1
-    much = long
-
-    durable_at : (c : ℕ) → c < cell_count S → get_or durable c 0 ≡ durable_word S ws c
-    durable_at c l = ap (λ xs. get_or xs c 0) part ∙ part_at ws (cell_count S) (cell_count S) c l
-
-    is_durable : IsDurable S ws durable
-    is_durable = record { long = ap length part ∙ part_long ws (cell_count S) (cell_count S) (omega (arith, much)); each = durable_at }
-
+  module _ (durable : List ℕ) (is_durable : IsDurable S ws durable) (recovers : RecoversData S.callers S.cells durable (recovered_words S.callers S.cells durable)) where
     abbrev found : List ℕ
     found = recovered_words S.callers S.cells durable
 
@@ -186,14 +177,14 @@ module _ {W : Type 0} (meaning : W → Meaning) (lawful : W → List ℕ → Typ
         let e : data_cell S.callers 0 + a ≡ data_cell S.callers a = omega arith in
         get_or-map payload_of cells a 0 0 (omega (arith, l, starts.may_start.start.size))
         ∙ ap payload_of (part_at found (data_cell S.callers 0) S.cells a l ∙ ap (λ n. get_or found n 0) e ∙ recovers a l
-        ∙ recovered_data-same S.callers S.cells (slice_index durable) (durable_word S ws) durable_at a l (omega (arith, l, room.few, room.small))
+        ∙ recovered_data-same S.callers S.cells (slice_index durable) (durable_word S ws) is_durable.each a l (omega (arith, l, room.few, room.small))
         ∙ ap (λ xs. recovered_data S.callers S.cells (durable_word S xs) a) (sym meets.words))
 
 -- ---- the same of what is saved, with the sizes and the limit that the row tells
 
-module _ {W : Type 0} (many size : W → ℕ) (meaning : W → Meaning) (lawful : W → List ℕ → Type 0) (fits : (w : W) → HasRoom (many w) (size w)) (r : Row W) (p : Pass) (seat : IsRowPass r p) (ws : List ℕ) (closes : ClosesWith meaning lawful r p ws) (long : length ws ≡ table_words (key_of r).callers MOST_INSTRS (key_of r).cells)
+module _ {W : Type 0} (many size : W → ℕ) (meaning : W → Meaning) (lawful : W → List ℕ → Type 0) (fits : (w : W) → HasRoom (many w) (size w)) (r : Row W) (p : Pass) (seat : IsRowPass r p) (durable : List ℕ) (closes : ClosesWithDurable meaning lawful r p durable)
     (d : SavedCells W) (work_is : d.work ≡ (key_of r).work) (limit_is : d.limit ≡ (key_of r).limit) (few_limit : d.limit ≤ GREATEST_LIMIT) (callers_are : d.shape.callers ≡ (key_of r).callers) (instrs : d.shape.instrs ≡ MOST_INSTRS) (cells_are : d.shape.cells ≡ (key_of r).cells) (fit : FitsWork many size (key_of r))
-    (law : StopsLoseNothing (lawful d.work) (setup_for many size meaning d.limit d.work)) (durable : List ℕ) (part : durable ≡ slice_range ws (durable_cells d.shape.callers d.shape.cells) (durable_cells d.shape.callers d.shape.cells + durable_cells d.shape.callers d.shape.cells))
+    (law : StopsLoseNothing (lawful d.work) (setup_for many size meaning d.limit d.work))
     (row_is : d.row.items ≡ recovered_words d.shape.callers d.shape.cells durable) (recovers : RecoversData d.shape.callers d.shape.cells durable (recovered_words d.shape.callers d.shape.cells durable)) where
   law_at : StopsLoseNothing (lawful (key_of r).work) (setup_at meaning r)
   law_at = subst (λ (k : (W × ℕ) × (ℕ × ℕ)). StopsLoseNothing (lawful k.0.0) (setup_of k.0.1 k.1.0 k.1.1 (meaning k.0.0)))
@@ -201,9 +192,6 @@ module _ {W : Type 0} (many size : W → ℕ) (meaning : W → Meaning) (lawful 
 
   room_at : HasRoom (key_of r).callers (key_of r).cells
   room_at = subst (λ (k : ℕ × ℕ). HasRoom k.0 k.1) (λ i. (sym fit.0 i, sym fit.1 i)) (fits (key_of r).work)
-
-  part_here : durable ≡ slice_range ws (durable_cells (key_of r).callers (key_of r).cells) (durable_cells (key_of r).callers (key_of r).cells + durable_cells (key_of r).callers (key_of r).cells)
-  part_here = part ∙ ap (λ (n : ℕ). slice_range ws n (n + n)) (λ i. durable_cells (callers_are i) (cells_are i))
 
   recovers_here : RecoversData (key_of r).callers (key_of r).cells durable (recovered_words (key_of r).callers (key_of r).cells durable)
   recovers_here = subst (λ (k : ℕ × ℕ). RecoversData k.0 k.1 durable (recovered_words k.0 k.1 durable)) (λ i. (callers_are i, cells_are i)) recovers
@@ -217,7 +205,7 @@ module _ {W : Type 0} (many size : W → ℕ) (meaning : W → Meaning) (lawful 
   may_start : MayStartFrom meaning lawful d.shape d.limit d.work d.row.items
   may_start = subst (λ (k : ((W × ℕ) × (ℕ × ℕ)) × List ℕ). IsStartRow (setup_of k.0.0.1 k.0.1.0 k.0.1.1 (meaning k.0.0.0)) (lawful k.0.0.0) k.1)
       (λ i. (((sym work_is i, sym callers_are i), (sym cells_are i, sym limit_is i)), sym row_here i))
-      (starts meaning lawful r room_at law_at p seat ws closes long durable part_here recovers_here)
+      (starts meaning lawful r room_at law_at p seat closes.words closes.meets durable closes.durable recovers_here)
 
   pub saved_so : IsSavedCells many size meaning lawful d
   saved_so = record {
@@ -230,8 +218,8 @@ module _ {W : Type 0} (many size : W → ℕ) (meaning : W → Meaning) (lawful 
 
   pub history_so : SavesHistory meaning r (view_of_pass p) d
   history_so = (
-    h meaning lawful r room_at law_at p seat ws closes long,
-    leads meaning lawful r room_at law_at p seat ws closes long d callers_are
-        (ap (λ (C : TableStart). length (map payload_of C.cells)) start_here ∙ cells_found meaning lawful r room_at law_at p seat ws closes long durable part_here recovers_here)
-        (λ a l. ap (λ (C : TableStart). get_or (map payload_of C.cells) a 0) start_here ∙ number_found meaning lawful r room_at law_at p seat ws closes long durable part_here recovers_here a l),
+    h meaning lawful r room_at law_at p seat closes.words closes.meets,
+    leads meaning lawful r room_at law_at p seat closes.words closes.meets d callers_are
+        (ap (λ (C : TableStart). length (map payload_of C.cells)) start_here ∙ cells_found meaning lawful r room_at law_at p seat closes.words closes.meets durable closes.durable recovers_here)
+        (λ a l. ap (λ (C : TableStart). get_or (map payload_of C.cells) a 0) start_here ∙ number_found meaning lawful r room_at law_at p seat closes.words closes.meets durable closes.durable recovers_here a l),
   )

@@ -1,7 +1,6 @@
 //! What a closed memory leaves.
 
-ghost use Rattle.std.specs.Prelude.{◌≡◌, ◌<◌, ◌≤◌, ◌+◌, IfOk, length, map};
-ghost use Rattle.std.specs.Prelude.{slice_index_or, slice_range};
+ghost use Rattle.std.specs.Prelude.{◌≡◌, ◌<◌, IfOk, length, map, slice_index_or};
 ghost use Rattle.of_cell.specs.Words.{payload_of};
 ghost use Rattle.of_core.specs.Starts.{start_on};
 ghost use Rattle.of_recover.specs.OfShape.{IsShapeRow, row_after_recovery};
@@ -32,17 +31,6 @@ fn numbers(alloc: Global, words: &[u64]) -> Result<Vec<u32>, AllocError>
     ensures { IfOk result (λ numbers. numbers.items ≡ map payload_of words.now) }
 {
     words.iter().map(|word| payload_of(*word)).collect(alloc)
-}
-
-// Leaves the durable words of a table's words. It takes no memory.
-fn keep_durable(cells: usize, words: &mut Vec<u64>)
-    requires { cells + cells ≤ length words.old.items }
-    ensures { words.new.items ≡ slice_range words.old.items cells (cells + cells) }
-{
-    for cell in 0..cells {
-        words[cell] = words[cells + cell];
-    }
-    words.truncate(cells);
 }
 
 // Recovers durable words, in place.
@@ -84,8 +72,7 @@ impl<W: Work> SavedCells<W> {
         let limit = row.limit();
         stops_lose_nothing(limit, work);
         let shape = row.shape();
-        let (mut words, _pass) = row.close(pass);
-        keep_durable(shape.durable_cells() as usize, &mut words);
+        let (mut words, _pass) = row.close_durable(pass);
         recover_words(&shape, &mut words);
         SavedCells {
             work,

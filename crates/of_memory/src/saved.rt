@@ -1,6 +1,6 @@
 //! What a closed memory leaves.
 
-ghost use Rattle.std.specs.Prelude.{◌≡◌, ◌<◌, ◌≤◌, ◌↔◌, ◌+◌, IfOk, IfSome, IsNone, length, map};
+ghost use Rattle.std.specs.Prelude.{◌≡◌, ◌<◌, ◌↔◌, ◌+◌, IfOk, IfSome, IsNone, length, map};
 ghost use Rattle.std.specs.Prelude.{slice_index_or, slice_range};
 ghost use Rattle.of_cell.specs.Words.{payload_of};
 ghost use Rattle.of_cell.specs.Cells.{data_cell, durable_cells};
@@ -35,17 +35,6 @@ fn numbers(alloc: Global, words: &[u64]) -> Result<Vec<u32>, AllocError>
     ensures { IfOk result (λ numbers. numbers.items ≡ map payload_of words.now) }
 {
     words.iter().map(|word| payload_of(*word)).collect(alloc)
-}
-
-// Leaves the durable words of a table's words. It takes no memory.
-fn keep_durable(cells: usize, words: &mut Vec<u64>)
-    requires { cells + cells ≤ length words.old.items }
-    ensures { words.new.items ≡ slice_range words.old.items cells (cells + cells) }
-{
-    for cell in 0..cells {
-        words[cell] = words[cells + cell];
-    }
-    words.truncate(cells);
 }
 
 // Recovers durable words, in place.
@@ -90,8 +79,7 @@ impl Saved {
         let limit = row.limit();
         history_is_held(scripts, limit);
         let shape = row.shape();
-        let (mut words, _pass) = row.close(pass);
-        keep_durable(shape.durable_cells() as usize, &mut words);
+        let (mut words, _pass) = row.close_durable(pass);
         recover_words(&shape, &mut words);
         Saved {
             scripts,

@@ -1,5 +1,3 @@
-use Rattle.std.proofs.Common.{◌+◌, ap, ◌∙◌}
-use Rattle.std.specs.Prelude.{slice_range}
 use Rattle.of_cells.proofs.Closing.{saved_so, history_so}
 use Rattle.of_cells.proofs.saved.SavedCells.close.Goals as goal
 
@@ -7,10 +5,9 @@ pub returns-clause-saved : goal.returns-clause-saved
 returns-clause-saved g c =
     let laws = g.met.W.Work g.world.𝓛 g.world.𝓜 g.world.𝓡 ((λ s x. x), (λ x. x), (λ x. x), λ x. x) in
     let shape = c.shape-shape in
-    let part = c.keep_durable.ensures ∙ ap (λ n. slice_range c.close-words.result.0.items n (n + n)) c.durable_cells.ensures.value in
-    saved_so g.W.Work.many g.W.Work.size g.W.Work.meaning g.W.Work.lawful laws.fits c.args.row c.args.pass c.requires _ c.close-words.ensures.words c.close-words.ensures.size
+    saved_so g.W.Work.many g.W.Work.size g.W.Work.meaning g.W.Work.lawful laws.fits c.args.row c.args.pass c.requires _ c.close_durable-words.ensures.words
     _ c.work-work.ensures c.limit-limit.ensures.is c.limit-limit.ensures.small shape.ensures.callers shape.ensures.instrs shape.ensures.cells shape.ensures.work
-    c.stops_lose_nothing.ensures.stops _ part c.recover_words.ensures.row c.recover_words.ensures.on_data
+    c.stops_lose_nothing.ensures.stops c.recover_words.ensures.row c.recover_words.ensures.on_data
 
 pub returns-clause-lawful : goal.returns-clause-lawful
 returns-clause-lawful g c = (returns-clause-saved g c).row.may_start.lawful
@@ -19,7 +16,6 @@ pub returns-clause-leads : goal.returns-clause-leads
 returns-clause-leads g c =
     let laws = g.met.W.Work g.world.𝓛 g.world.𝓜 g.world.𝓡 ((λ s x. x), (λ x. x), (λ x. x), λ x. x) in
     let shape = c.shape-shape in
-    let part = c.keep_durable.ensures ∙ ap (λ n. slice_range c.close-words.result.0.items n (n + n)) c.durable_cells.ensures.value in
-    history_so g.W.Work.many g.W.Work.size g.W.Work.meaning g.W.Work.lawful laws.fits c.args.row c.args.pass c.requires _ c.close-words.ensures.words c.close-words.ensures.size
+    history_so g.W.Work.many g.W.Work.size g.W.Work.meaning g.W.Work.lawful laws.fits c.args.row c.args.pass c.requires _ c.close_durable-words.ensures.words
     _ c.work-work.ensures c.limit-limit.ensures.is c.limit-limit.ensures.small shape.ensures.callers shape.ensures.instrs shape.ensures.cells shape.ensures.work
-    c.stops_lose_nothing.ensures.stops _ part c.recover_words.ensures.row c.recover_words.ensures.on_data
+    c.stops_lose_nothing.ensures.stops c.recover_words.ensures.row c.recover_words.ensures.on_data

@@ -1,5 +1,4 @@
-use Rattle.std.proofs.Common.{ℕ, ◌+◌, ◌≤◌, List, ap, subst, sym, ◌∙◌}
-use Rattle.std.specs.Prelude.{slice_range}
+use Rattle.std.proofs.Common.{ℕ, ◌≤◌, List, subst, sym}
 use Rattle.of_store.specs.Store.{Store}
 use Rattle.of_cell.specs.declared.word.TheConstants.{GREATEST_LIMIT}
 use Rattle.of_eval.specs.declared.scripts.Scripts.{Scripts}
@@ -19,8 +18,7 @@ returns-clause-saved c =
     let l = c.limit-limit.ensures.is in
     let law = subst (λ (k : Scripts × ℕ). HoldsHistory k.0 k.1) (λ i. (w i, l i)) c.history_is_held.ensures in
     let shape = c.shape-shape in
-    let part = c.keep_durable.ensures ∙ ap (λ (n : ℕ). slice_range c.close-words.result.0.items n (n + n)) c.durable_cells.ensures.value in
-    let found = closed r c.requires.row c.args.pass _ c.close-words.ensures.words c.close-words.ensures.size shape.result.callers shape.result.cells c.keep_durable.new.words.items shape.ensures.callers shape.ensures.cells part law c.requires.pass c.requires.keeps in
+    let found = closed r c.requires.row c.args.pass _ c.close_durable-words.ensures.words shape.result.callers shape.result.cells shape.ensures.callers shape.ensures.cells law c.requires.pass c.requires.keeps in
     record {
       row = subst (λ (k : Scripts × ℕ). IsStartRow (setup_with k.0 k.1) (LawfulCells k.0) c.recover_words.new.words.items) (λ i. (sym w i, sym l i))
           (subst (IsStartRow (setup_with (key_of r).work (key_of r).limit) (LawfulCells (key_of r).work)) (sym c.recover_words.ensures) found.starts);
@@ -37,7 +35,6 @@ returns-clause-leads c =
     let l = c.limit-limit.ensures.is in
     let law = subst (λ (k : Scripts × ℕ). HoldsHistory k.0 k.1) (λ i. (w i, l i)) c.history_is_held.ensures in
     let shape = c.shape-shape in
-    let part = c.keep_durable.ensures ∙ ap (λ (n : ℕ). slice_range c.close-words.result.0.items n (n + n)) c.durable_cells.ensures.value in
-    let found = closed r c.requires.row c.args.pass _ c.close-words.ensures.words c.close-words.ensures.size shape.result.callers shape.result.cells c.keep_durable.new.words.items shape.ensures.callers shape.ensures.cells part law c.requires.pass c.requires.keeps in
+    let found = closed r c.requires.row c.args.pass _ c.close_durable-words.ensures.words shape.result.callers shape.result.cells shape.ensures.callers shape.ensures.cells law c.requires.pass c.requires.keeps in
     subst (λ (xs : List ℕ). (s : Store) → StandsAt (key_of r).work (start_of_row r) s → (h : List HistoryEntry) × HistoryLeads (key_of r).work (key_of r).limit (start_of_row r) c.args.pass.seat.me.0 s xs h)
     (sym c.recover_words.ensures) found.leads
