@@ -1,31 +1,20 @@
 -- Each step on a door keeps its rule.
-use Rattle.std.proofs.Common.{◌≡◌, ◌≢◌, ℕ, zero, suc, ◌<◌, ◌⊎◌, inl, inr, ⊎_elim, Bool, true, false, List, [], ◌∷◌, ◌++◌, length, get_or, set, Option, Some, None, refl, sym, ◌∙◌, ap, subst, arith, eqb}
+use Rattle.std.proofs.Common.{◌≡◌, ◌≢◌, ℕ, zero, suc, ◌<◌, ◌⊎◌, inl, inr, ⊎_elim, true, false, List, [], ◌∷◌, ◌++◌, length, get_or, set, Option, Some, None, refl, sym, ◌∙◌, ap, subst, arith, eqb}
+use Rattle.std.proofs.lemmas.Bool.{true≢false}
 use mathlib.Core.Option.{some, some-injective, some-ne-none}
 use mathlib.Core.Option as maybe
 use lib.ListN.{get_elem?}
 use prog.Atomic.{either}
-use Rattle.atomic_table.specs.Table.{State, Me, Act, keeps, takes, gives, Valid, Allows, Splits, rest, stepped, homes_after, carried_after, opening}
+use Rattle.atomic_table.specs.Table.{State, Me, Act, keeps, takes, gives, Valid, Allows, Splits, rest, stepped, homes_after, carried_after}
 use Rattle.atomic_table.proofs.Lists.{at_set, set_again, exchanged}
 use Rattle.of_row.specs.declared.member.Member.{Member}
 use Rattle.of_row.specs.declared.row.Row.{Row}
 use Rattle.of_row.specs.Views.{last_caller}
 use Rattle.of_row.specs.Rows.{IsSeatOf, HasNoCall}
-use Rattle.of_door.specs.Hands.{HandLog, no_exchange, log_after_exchange, after_store}
+use Rattle.of_door.specs.Hands.{HandLog, log_after_exchange, after_store}
 use Rattle.of_door.specs.Rule.{SlotHolds, SlotMatchesWord, IsMemberAtDoor, IsMemberAtToldDoor, DoorMeetsRule, TakesSlot, GivesSlotBack}
 
-no : (b : Bool) → b ≡ false → b ≡ true → ⊥
-no true p q = cc
-no false p q = cc
-
 module _ (May : Member → Type 0) where
-  -- a door at its start
-  pub opens : DoorMeetsRule May (opening (0 ∷ []) (None ∷ []) no_exchange)
-  opens = record { word = 0; words = refl; home = inl (refl, refl); out = λ j v e h. absurd (none j v e h); one = λ j k v w e f h g. absurd (none j v e h) }
-    where
-      none : (j : ℕ) (v : HandLog) → get_elem? (no_exchange ∷ []) j ≡ some v → v.holds ≡ true → ⊥
-      none zero v e h = let z : false ≡ true = ap (λ (u : HandLog). u.holds) (some-injective no_exchange v e) ∙ h in cc
-      none (suc j) v e h = some-ne-none v (sym e)
-
   -- the rule where one view was changed for one that doesn't hold the slot, and so no other does
   module _ (s : State (Option Member) HandLog) (r : DoorMeetsRule May s) (id : ℕ) (v : HandLog) (at : get_elem? s.views id ≡ some v) where
     -- no hand holds the slot while the word isn't 2
@@ -134,10 +123,10 @@ module _ (May : Member → Type 0) where
         word = r.word;
         words = r.words;
         home = r.home;
-        out = λ j u e h. ⊎_elim (λ (t : (j < length s.views) × (get_elem? s.views j ≡ some u)). r.out j u t.1 h) (λ (t : (j ≡ length s.views) × (v ≡ u)). absurd (no v.holds free (ap (λ (x : HandLog). x.holds) t.1 ∙ h))) (at_end s.views v u j e);
+        out = λ j u e h. ⊎_elim (λ (t : (j < length s.views) × (get_elem? s.views j ≡ some u)). r.out j u t.1 h) (λ (t : (j ≡ length s.views) × (v ≡ u)). absurd (true≢false (sym (ap (λ (x : HandLog). x.holds) t.1 ∙ h) ∙ free))) (at_end s.views v u j e);
         one = λ j k u w e f h g. ⊎_elim
-            (λ (t : (j < length s.views) × (get_elem? s.views j ≡ some u)). ⊎_elim (λ (q : (k < length s.views) × (get_elem? s.views k ≡ some w)). r.one j k u w t.1 q.1 h g) (λ (q : (k ≡ length s.views) × (v ≡ w)). absurd (no v.holds free (ap (λ (x : HandLog). x.holds) q.1 ∙ g))) (at_end s.views v w k f))
-            (λ (t : (j ≡ length s.views) × (v ≡ u)). absurd (no v.holds free (ap (λ (x : HandLog). x.holds) t.1 ∙ h)))
+            (λ (t : (j < length s.views) × (get_elem? s.views j ≡ some u)). ⊎_elim (λ (q : (k < length s.views) × (get_elem? s.views k ≡ some w)). r.one j k u w t.1 q.1 h g) (λ (q : (k ≡ length s.views) × (v ≡ w)). absurd (true≢false (sym (ap (λ (x : HandLog). x.holds) q.1 ∙ g) ∙ free))) (at_end s.views v w k f))
+            (λ (t : (j ≡ length s.views) × (v ≡ u)). absurd (true≢false (sym (ap (λ (x : HandLog). x.holds) t.1 ∙ h) ∙ free)))
             (at_end s.views v u j e);
       }
     where

@@ -19,16 +19,13 @@ use Rattle.of_row.specs.Told.{operations_known}
 use Rattle.of_row.specs.Trail.{first_of, moment, AreSteps, IsToldBy, IsRunBy, HasDoneNothing, HasPast}
 use Rattle.of_row.proofs.Pasts.{prefix_more}
 use Rattle.of_row.proofs.Events.{schedule_append, turns_append, busy_append, steps_append}
+use Rattle.of_row.proofs.Members.{place_made}
 use Rattle.of_row.proofs.Tellings.{begun_idle, begun_open, begun_after, outcomes_after}
 
 -- a call of either machine begins anew
 opened_anew : (S : Setup) (m d : CallState) (op : List ℕ) → MayReplace S m d → begin_call S d op ≡ begin_call S m op
 opened_anew S m d op (inl e) = ap (λ (z : CallState). begin_call S z op) e
 opened_anew S m d op (inr q) = ap (λ (z : CallState). begin_call S z op) q.1
-
-as_many : (S : Setup) (m d : CallState) → MayReplace S m d → d.made ≡ m.made
-as_many S m d (inl e) = ap (λ (z : CallState). z.made) e
-as_many S m d (inr q) = ap (λ (z : CallState). z.made) q.1
 
 none_only : {A : Type 0} (b : Bool) → if_so {A = A} b [] ≡ []
 none_only true = refl
@@ -82,7 +79,7 @@ module _ (S : Setup) (B : TableStart) (es : List Event) (schedule : IsSchedule S
       let is : d ≡ begin_call S (machine_in W i) q.op = q.is ∙ (opened_anew S x.machine q.begins q.op q.takes ∙ ap (λ (m : CallState). begin_call S m q.op) (sym run_by.machine_is)) in
       record {
         before = Begins i q.op ∷ [];
-        may = ((below, ap (λ (m : CallState). m.place) run_by.machine_is ∙ q.at_rest, q.some, q.few, omega (arith, q.ticket, as_many S x.machine q.begins q.takes, ap (λ (m : CallState). m.made) run_by.machine_is)), tt);
+        may = ((below, ap (λ (m : CallState). m.place) run_by.machine_is ∙ q.at_rest, q.some, q.few, omega (arith, q.ticket, place_made S x.machine q.begins q.takes, ap (λ (m : CallState). m.made) run_by.machine_is)), tt);
         leads = λ k. with_machine (sym is k);
         new = q.op ∷ [];
         begun = λ k. (begun_idle x q.at_rest) k ++ (ap (λ (m : CallState). m.op) (sym q.is)) k ∷ [];
