@@ -4,6 +4,7 @@ use Rattle.of_core.specs.Events.{opening_moment}
 use Rattle.of_core.specs.Laws.{setup_for}
 use Rattle.of_core.proofs.InTime.{ends_in_time}
 use Rattle.of_core.proofs.Footprints.{by_footprint}
+use Rattle.of_core.proofs.FewTouched.{touches_few}
 use Rattle.of_core.proofs.GivenUp.{given_up}
 use Rattle.of_core.proofs.Lost.{has_lost}
 use Rattle.of_core.proofs.Openings.{start_good}
