@@ -174,10 +174,10 @@ by_touch S Lawful sound B may some low own_in total room narrow little es s i h 
 
 -- three callers, a call of four words that may write, and no operation reads or writes more than two
 -- cells
-worked : (S : Setup) (op : List ℕ) → S.callers ≡ 3 → S.instrs ≡ 16 → length op ≡ 4 → S.meaning.reads_only op ≡ false → touched_bound S op 2 2 ≡ 2267
+worked : (S : Setup) (op : List ℕ) → S.callers ≡ 3 → S.instrs ≡ 16 → length op ≡ 4 → S.meaning.reads_only op ≡ false → touched_bound S op 2 2 ≡ 2270
 worked S op e d l r = rw (e, d, l, r) refl
 
 -- and in general, of a call that may write
 in_general : (S : Setup) (op : List ℕ) (r w : ℕ) → S.meaning.reads_only op ≡ false
-    → touched_bound S op r w ≡ 34 * (S.callers * (w + (S.instrs + 2))) + 3 * (S.callers * (r + S.instrs + 2)) + length op + 43
+    → touched_bound S op r w ≡ 34 * (S.callers * (w + (S.instrs + 2))) + 3 * (S.callers * (r + S.instrs + 2)) + length op + 46
 in_general S op r w q = rw q (grind arith)
