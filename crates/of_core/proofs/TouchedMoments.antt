@@ -172,9 +172,9 @@ by_touch S Lawful sound B may some low own_in total room narrow little es s i h 
     sum : (s t u k r q a : ℕ) → s < t + k + (r + a) → t ≤ u → r ≤ q → s + 1 ≤ u + k + (q + a)
     sum s t u k r q a l x y = omega arith
 
--- three callers, a call of four words that may write, and no operation reads or writes more than two
--- cells
-worked : (S : Setup) (op : List ℕ) → S.callers ≡ 3 → S.instrs ≡ 16 → length op ≡ 4 → S.meaning.reads_only op ≡ false → touched_bound S op 2 2 ≡ 2270
+-- three callers, a call of three words that may write, and no operation reads or writes more than
+-- two cells
+worked : (S : Setup) (op : List ℕ) → S.callers ≡ 3 → S.instrs ≡ 16 → length op ≡ 3 → S.meaning.reads_only op ≡ false → touched_bound S op 2 2 ≡ 2269
 worked S op e d l r = rw (e, d, l, r) refl
 
 -- and in general, of a call that may write
