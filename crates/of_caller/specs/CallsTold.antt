@@ -8,6 +8,7 @@ use Rattle.of_core.specs.Table.{Setup}
 use Rattle.of_core.specs.Machine.{CallState, IsOpen, begin_call}
 use Rattle.of_core.specs.TableMoment.{TableStart}
 use Rattle.of_core.specs.Bound.{bound}
+use Rattle.of_core.specs.Touched.{IsWithinTouched}
 use Rattle.of_core.specs.Turn.{IsIdle}
 use Rattle.of_core.specs.Calls.{operations_begun, IsNotBefore, IsAnswered}
 use Rattle.of_row.specs.Views.{KnownCaller, View, seen_seq, seen_history}
@@ -107,6 +108,9 @@ pub record TellsCall (S : Setup) (Lawful : List ℕ → Type 0) (B : TableStart)
   pub turns : kept.turns ≡ before.turns + steps
   -- and the member keeps what was seen when the call began, also where it was stopped
   pub since : 0 < steps → kept.since ≡ since_after B v before
+  -- with the steps before it was gone on with, the call has made no more than what operations of
+  -- the work touch allows, however large the memory
+  pub touched : 0 < steps → IsWithinTouched S Lawful m.op (m.steps + steps)
   pub result : TellsResult S Lawful B m v before steps d w kept r
 
 -- what is told of the call m of a caller of the row

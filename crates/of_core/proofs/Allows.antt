@@ -26,6 +26,7 @@ use Rattle.of_core.proofs.Assembling.{logs_of}
 use Rattle.of_core.proofs.Overlays.{left_lawful, left_agrees, left_length}
 use Rattle.of_core.proofs.Rounds.{at_risen, learn_past, watch_more}
 use Rattle.of_core.proofs.Helping.{copied_count}
+use Rattle.of_core.proofs.KnownStates.{try_state, scan_state}
 
 -- a call's steps are still counted
 pub few_steps : (n m l : ℕ) (M : Meaning) (Lawful : List ℕ → Type 0) (d : CallState) (found : ℕ) → n ≤ MOST_CALLERS → m ≤ MOST_DATA_CELLS → MayTake (setup_of n m l M) Lawful d found → d.steps + 1 < 18446744073709551616
@@ -96,22 +97,13 @@ module _ (S : Setup) (Lawful : List ℕ → Type 0) (m : CallState) (found : ℕ
       let whole : length m.copy ≡ length (log_words es) = a.whole (sym f ∙ e) in
       (es, b.1 ∙ take_all (length m.copy) (log_words es) (omega (arith, whole)), h.good.core.shared.counted.logs m.seq a.copies.after a.copies.helping.current_word.upto)
 
-  -- the state of a sequence that stands
-  numbers_length : (s : ℕ) → h.start.seq ≤ s → s ≤ h.start.seq + length h.world.batches → length (numbers_after h.start h.world.batches s) ≡ S.cells
-  numbers_length s l u = length-map (state_after h.start h.world.batches s) payload_of ∙ state_length S h.start h.world.batches h.good.core.shared.start (logs_of h.good.core) s l u
-
   -- what is known behind a load in a try agrees with its state
   pub try_agrees : (x : ℕ) → m.place ≡ TryCell x → seq_of found ≤ m.seq → (xs : List ℕ) × (length xs ≡ S.cells) × Lawful xs × Agrees (with_cell_known S m x found) xs
   try_agrees x q l =
       let f : found ≡ data_word S h.world.words x = found_at (TryCell x) q in
       let a = place_at (TryCell x) q in
       let fresh : seq_of (data_word S h.world.words x) ≤ m.seq = rw (← f) l in
-      let upto : m.seq ≤ h.start.seq + length h.world.batches = omega (arith, a.current_word.upto, h.good.core.shared.counted.count) in (
-        numbers_after h.start h.world.batches m.seq,
-        numbers_length m.seq a.current_word.from upto,
-        h.good.core.shared.stands.lawful m.seq a.current_word.from upto,
-        rw f (watch_more h.good.core h.in_range m.seq m.owner m a.current_word a.state x a.in_cells fresh).agrees,
-      )
+      rw f (try_state h.good.core h.in_range m.seq m.owner (with_cell_known S m x (data_word S h.world.words x)) a.current_word (watch_more h.good.core h.in_range m.seq m.owner m a.current_word a.state x a.in_cells fresh))
 
   -- the announcement of the caller that the scan has come to
   pub announced_small : m.place ≡ LoadAnnouncement → payload_of found ≤ S.instrs
@@ -157,26 +149,12 @@ module _ (S : Setup) (Lawful : List ℕ → Type 0) (m : CallState) (found : ℕ
       let new : 0 < seq_of m.heard = omega (arith, p.loaded.new) in
       omega (arith, p.loaded.many, p.heard.some new)
 
-  -- what is known in a scan, under the log, agrees with what its calls lead to
-  scan_agrees : IsSoundMeaning S.meaning Lawful (first_operation_cell S) S.cells → (n : CallState) → IsPastOwnTicket S h.start h.world.words h.world.batches h.caller n → IsInScan S h.start h.world.words h.world.batches h.caller n
-      → (xs : List ℕ) × (length xs ≡ S.cells) × Lawful xs × Agrees (overlaid n.known n.log) xs
-  scan_agrees sound n p o =
-      let xs : List ℕ = numbers_after h.start h.world.batches n.seq in
-      let upto : n.seq ≤ h.start.seq + length h.world.batches = at_risen h.good.core h.in_range n p.looks in
-      let size : length xs ≡ S.cells = numbers_length n.seq p.looks.round.current_word.from upto in
-      let lawful : Lawful xs = h.good.core.shared.stands.lawful n.seq p.looks.round.current_word.from upto in (
-        with_writes_in xs n.log,
-        left_length S Lawful sound xs n.calls n.log size lawful o.over,
-        left_lawful S Lawful sound xs n.calls n.log size lawful o.over,
-        left_agrees S Lawful sound xs n.calls n.log size lawful o.over n.known p.looks.state.agrees,
-      )
-
   pub script_agrees : IsSoundMeaning S.meaning Lawful (first_operation_cell S) S.cells → (j : ℕ) → m.place ≡ LoadScript j → (xs : List ℕ) × (length xs ≡ S.cells) × Lawful xs × Agrees (overlaid m.known m.log) xs
-  script_agrees sound j q = let a = place_at (LoadScript j) q in scan_agrees sound m a.scanning.past a.scanning.scan
+  script_agrees sound j q = let a = place_at (LoadScript j) q in scan_state h.good.core h.in_range sound m a.scanning.past a.scanning.scan
 
   pub cell_agrees : IsSoundMeaning S.meaning Lawful (first_operation_cell S) S.cells → (x : ℕ) → m.place ≡ LoadCell x → seq_of found ≤ m.seq → (xs : List ℕ) × (length xs ≡ S.cells) × Lawful xs × Agrees (overlaid (with_cell_known S m x found) m.log) xs
   cell_agrees sound x q l =
       let f : found ≡ data_word S h.world.words x = found_at (LoadCell x) q in
       let a = place_at (LoadCell x) q in
       let fresh : seq_of (data_word S h.world.words x) ≤ m.seq = rw (← f) l in
-      rw f (scan_agrees sound (record m { known = with_cell_known S m x (data_word S h.world.words x) }) (learn_past h.good.core h.in_range m a.scanning.past x a.in_cells fresh) a.scanning.scan)
+      rw f (scan_state h.good.core h.in_range sound (record m { known = with_cell_known S m x (data_word S h.world.words x) }) (learn_past h.good.core h.in_range m a.scanning.past x a.in_cells fresh) a.scanning.scan)

@@ -17,6 +17,7 @@ use Rattle.of_core.specs.TableMoment.{Moment, TableStart}
 use Rattle.of_core.specs.Invariant.{HoldsAtPlace, MeetsCore, MeetsInvariant}
 use Rattle.of_core.specs.Events.{Event, Begins, Turns, Loads, Evicts, Raises, after_event, MayHappen, machine_in, after_events, turn_count, turns_in_event, IsSchedule, StaysOpen}
 use Rattle.of_core.specs.Footprint.{knowns, next_load, Touches, TouchesOnly, apply_steps, help_steps, store_steps, try_steps, round_steps, footprint, HasFootprint}
+use Rattle.of_core.proofs.KnownCells.{knowns_none, knowns_set}
 use Rattle.of_core.proofs.Logs.{length-log_words}
 use Rattle.of_core.proofs.Tests.{differ, mark_some, is_newer}
 use Rattle.of_core.proofs.Rounds.{own_row_old}
@@ -26,19 +27,6 @@ use Rattle.of_core.proofs.Happenings.{event_good}
 use Rattle.of_core.proofs.InTime.{steps_rise, of_machine, now_open}
 use Rattle.of_mem.proofs.Lists.{none_at}
 use Rattle.of_core.proofs.StepSums.{fewer, row_cost, first_row, next_sum, done_sum, known_sum, known_sum0, again_sum, again_sum0, try_lost, cell_learnt, word_stored, words_stored, word_copied, words_copied, still_open, now_closed, round_lost, shape_read, reply_read, replies_skipped, row_heard, row_begun, row_skipped, word_loaded, words_loaded, log_word_stored, log_word_raised, log_raised, older_found, newer_found, entry_exchanged, entry_raised, entries_raised, request_closed, apply_ended}
-
--- nothing is known at first
-knowns_none : (n : ℕ) → knowns (replicate n None) ≡ 0
-knowns_none zero = refl
-knowns_none (suc n) = knowns_none n
-
--- one more cell is known
-knowns_set : (ks : List (Option ℕ)) (a v : ℕ) → a < length ks → get_or ks a None ≡ None → knowns (set ks a (Some v)) ≡ knowns ks + 1
-knowns_set [] a v l e = absurd (omega arith)
-knowns_set (None ∷ ks) zero v l e = omega arith
-knowns_set (Some x ∷ ks) zero v l e = cc
-knowns_set (None ∷ ks) (suc a) v l e = knowns_set ks a v (omega arith) e
-knowns_set (Some x ∷ ks) (suc a) v l e = omega (arith, knowns_set ks a v (omega arith) e)
 
 one_more : (r q : ℕ) → (r + 1) * q ≡ r * q + q
 one_more r q = grind arith
@@ -101,22 +89,22 @@ module _ (S : Setup) (W R : ℕ) where
   left_at m RaiseClosed = 1 + behind_apply m m.helps
 
 -- the tries and rounds of a call
-abbrev Few : Setup → CallState → Type 0
+abbrev pub Few : Setup → CallState → Type 0
 Few S m = (m.tries ≤ MOST_TRIES) × (m.rounds ≤ 3) × (S.meaning.reads_only m.op ≡ false → m.tries ≡ 0)
 
 -- a helper copies no more words than its log has
-abbrev CopiesUpto : ℕ → Place → Type 0
+abbrev pub CopiesUpto : ℕ → Place → Type 0
 CopiesUpto W (CopyLog x) = x < 2 * W + 1
 CopiesUpto W p = Unit {0}
 
 -- the steps made and those left are at most what is allowed
-record Spares (S : Setup) (W R : ℕ) (m : CallState) (p : Place) : Type 0 where
+pub record Spares (S : Setup) (W R : ℕ) (m : CallState) (p : Place) : Type 0 where
   pub steps : m.steps + left_at S W R m p ≤ allowed S W R m
   pub few : Few S m
   pub copies : CopiesUpto W p
 
 -- a call that opens
-opens_sparing : (S : Setup) (W R : ℕ) (m : CallState) (op : List ℕ) → Spares S W R (begin_call S m op) (begin_call S m op).place
+pub opens_sparing : (S : Setup) (W R : ℕ) (m : CallState) (op : List ℕ) → Spares S W R (begin_call S m op) (begin_call S m op).place
 opens_sparing S W R m op = go (S.meaning.reads_only op)
   where
     few : Few S (begin_call S m op)
@@ -506,7 +494,7 @@ module _ (S : Setup) (Lawful : List ℕ → Type 0) (sound : IsSoundMeaning S.me
   unfolding want take_word
   own_turn w g m e o u v t = sparing S W R Lawful B w g.core i m h u m.place o (g.core.each i m h e) t refl v
 
-  own_kept : (w : Moment) → MeetsInvariant S Lawful B w → IsOpen (machine_in w i).place → Touches (machine_in w i) W R
+  pub own_kept : (w : Moment) → MeetsInvariant S Lawful B w → IsOpen (machine_in w i).place → Touches (machine_in w i) W R
       → Touches (machine_in (after_event S w (Turns i)) i) W R → Sparing w → Sparing (after_event S w (Turns i))
   own_kept w g o u v t =
       let x : machine_in (after_event S w (Turns i)) i ≡ take_word S (machine_in w i) (word_found S w.words (machine_in w i)) = get_or-set_same w.machines i _ no_machine (omega (arith, g.core.members)) in
@@ -536,7 +524,7 @@ module _ (S : Setup) (Lawful : List ℕ → Type 0) (sound : IsSoundMeaning S.me
   fewer_than : (s x y : ℕ) → s + x ≤ y → 1 ≤ x → s < y
   fewer_than s x y l u = omega arith
 
-  at_end : (w : Moment) → MeetsInvariant S Lawful B w → (m : CallState) → get_or w.machines i m ≡ m → IsOpen m.place → Touches m W R → Spares S W R m m.place → HasFootprint S W R m m.steps
+  pub at_end : (w : Moment) → MeetsInvariant S Lawful B w → (m : CallState) → get_or w.machines i m ≡ m → IsOpen m.place → Touches m W R → Spares S W R m m.place → HasFootprint S W R m m.steps
   at_end w g m e o u t = record {
     within = fewer_than m.steps (left_at S W R m m.place) (allowed S W R m) t.steps (some_left S W R Lawful B w g.core i m h u m.place o (g.core.each i m h e) t (left_at S W R m m.place) refl);
     tries = t.few.0;

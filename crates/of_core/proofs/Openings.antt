@@ -80,7 +80,7 @@ module _ (S : Setup) (Lawful : List ℕ → Type 0) (sound : IsSoundMeaning S.me
   request_seq : (i : ℕ) → i < S.callers → seq_of (request_of ws i) ≤ B.seq
   request_seq i l = rw (word_at (i + 1) (omega arith)) (request_old S B may.start i l)
 
-  log_zero : (j x : ℕ) → j < S.callers → x < 2 * most_entries S + 1 → get_or ws (log_at S j x) 0 ≡ 0
+  pub log_zero : (j x : ℕ) → j < S.callers → x < 2 * most_entries S + 1 → get_or ws (log_at S j x) 0 ≡ 0
   log_zero j x l u = word_at (log_at S j x) (log_in S j x l u) ∙ log_is S B may.start (log_at S j x) (omega arith)
 
   said_zero : (i : ℕ) → announcement_of S ws i ≡ 0

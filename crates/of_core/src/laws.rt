@@ -11,6 +11,7 @@ ghost use Rattle.of_core.specs.Laws.{EveryCallStands, TurnsCountSteps, EventsLea
 ghost use Rattle.of_core.specs.Laws.{EveryOrder, Detectable, RealTime, LateCalls, OwnTime, EveryLife};
 ghost use Rattle.of_core.specs.Commits.{DoneAfterTwoCommits, GivenUp, LostToCommits, OutcomesAreNew};
 ghost use Rattle.of_core.specs.Footprint.{ByFootprint};
+ghost use Rattle.of_core.specs.Touched.{ByTouch};
 ghost use Rattle.of_core.specs.Written.{LogsAreWrites, OwnersTakePart, CellsRise};
 ghost use Rattle.of_core.specs.Needed.{LoadsNeeded, CopiesOpenLogs};
 ghost use Rattle.of_core.specs.SpentRound.{SpentInRounds};
@@ -124,6 +125,7 @@ pub fn ends_in_time<W: Work>(limit: u32, work: W)
     ensures in_time { CallsEndInTime
         (setup_for W.many W.size W.meaning limit work) (W.lawful work) }
     ensures footprint { ByFootprint (setup_for W.many W.size W.meaning limit work) (W.lawful work) }
+    ensures touched { ByTouch (setup_for W.many W.size W.meaning limit work) (W.lawful work) }
     ensures needed { LoadsNeeded (setup_for W.many W.size W.meaning limit work) (W.lawful work) }
     ensures helped { CopiesOpenLogs (setup_for W.many W.size W.meaning limit work) (W.lawful work) }
     ensures two_commits { DoneAfterTwoCommits

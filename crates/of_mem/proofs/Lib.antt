@@ -20,4 +20,5 @@ pub mod Counts
 pub mod Calls
 pub mod Extended
 pub mod Filled
+pub mod FewTouches
 pub mod Walks

@@ -14,3 +14,4 @@ pub mod Stores
 pub mod ProgramWork
 pub mod Calls
 pub mod Walks
+pub mod Touching

@@ -5,6 +5,7 @@ use Rattle.of_core.specs.Laws.{StartsMeetInvariant, FirstWordsHoldStart, FirstMa
 use Rattle.of_core.specs.Laws.{IdleRestsOnNothing, StepsFindTheirWord, TurnsAreSteps, NextBatchIsNumberedNext, LongerKeepsBatches, LongerKeepsStates}
 use Rattle.of_core.specs.Written.{OwnersTakePart}
 use Rattle.of_core.specs.Grounds.{GoodGrounds}
+use Rattle.of_core.specs.Touched.{ByTouch}
 
 -- of histories by themselves: what stands in a longer one
 pub record HistoryLaws : Type 0 where
@@ -20,6 +21,7 @@ pub record RowLaws (S : Setup) (Lawful : List ℕ → Type 0) : Type 0 where
   pub runs : SchedulesKeepInvariant S Lawful
   pub calls : EveryCallStands S Lawful
   pub owners : OwnersTakePart S Lawful
+  pub touched : ByTouch S Lawful
   pub sound : InvariantIsSound S Lawful
   pub grounds : GoodGrounds S Lawful
   -- of one step, and of the begin of a call

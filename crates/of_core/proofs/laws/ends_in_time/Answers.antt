@@ -4,6 +4,7 @@ use Rattle.of_core.specs.Events.{opening_moment}
 use Rattle.of_core.specs.Laws.{setup_for}
 use Rattle.of_core.proofs.InTime.{ends_in_time}
 use Rattle.of_core.proofs.Footprints.{by_footprint}
+use Rattle.of_core.proofs.TouchedMoments.{by_touch}
 use Rattle.of_core.proofs.GivenUp.{given_up}
 use Rattle.of_core.proofs.Lost.{has_lost}
 use Rattle.of_core.proofs.Openings.{start_good}
@@ -22,6 +23,7 @@ returns g c =
     record {
       in_time = ends_in_time S L sound;
       footprint = λ B w h i op may es s o x y u. by_footprint S L sound B w h i op may es s o x y u;
+      touched = λ B may n room es s. by_touch S L sound B may fits.some (omega (arith, fits.few)) fits.own n room (omega arith) (omega (arith, fits.small)) es s;
       two_commits = λ B may n room es s k i member new more.
           done_in_schedule S L sound B (opening_moment S B n) (start_good S L sound B may fits.some (omega (arith, fits.few)) fits.own n room (omega arith) (omega (arith, fits.small))) es s k i member new more;
       given_up = λ B w h i m l e n f. given_up S L B w h.core i m l e n f;

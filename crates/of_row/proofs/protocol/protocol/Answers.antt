@@ -8,6 +8,7 @@ returns g c = record {
   runs = c.every_moment.ensures.runs;
   calls = c.every_call.ensures.calls;
   owners = c.batches.ensures.owners;
+  touched = c.ends_in_time.ensures.touched;
   sound = c.step_kept.ensures.sound;
   grounds = c.step_kept.ensures.grounds;
   taken = c.step_kept.ensures.taken;

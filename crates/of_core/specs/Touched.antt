@@ -1,0 +1,44 @@
+-- How many steps a call makes at most if the operations of its work touch few cells, whatever the
+-- size of the memory.
+use Rattle.std.specs.Prelude.{ℕ, ◌+◌, ◌*◌, List, Bool, true, false, ◌≤◌, ◌<◌}
+use Rattle.of_mem.specs.Touching.{TouchesFew}
+use Rattle.of_core.specs.declared.machine.trying.TheConstants.{MOST_TRIES}
+use Rattle.of_core.specs.Table.{Setup}
+use Rattle.of_core.specs.Machine.{CallState, IsOpen}
+use Rattle.of_core.specs.Events.{after_events, machine_in, opening_moment}
+use Rattle.of_core.specs.Footprint.{footprint}
+use Rattle.of_core.specs.Laws.{EachSchedule}
+
+-- the longest log: of each caller's operation its writes, and the caller's own cells
+abbrev pub longest_log : Setup → (writes : ℕ) → ℕ
+longest_log S writes = S.callers * (writes + (S.instrs + 2))
+
+-- the most data cells that one try or round loads: one's own ticket, and of each caller the ticket
+-- and what its operation reads
+abbrev pub most_loads : Setup → (reads : ℕ) → ℕ
+most_loads S reads = S.callers * (reads + 1) + 1
+
+-- a call that may write makes no try
+abbrev pub most_tries : (reads_only : Bool) → ℕ
+most_tries true = MOST_TRIES
+most_tries false = 0
+
+-- the most steps of a call with these words, in three rounds, where no operation reads or writes
+-- more cells than this
+abbrev pub touched_bound : Setup → List ℕ → (reads writes : ℕ) → ℕ
+touched_bound S op reads writes =
+    footprint S op (longest_log S writes) (most_loads S reads)
+    (most_tries (S.meaning.reads_only op)) 3
+
+-- so many steps are within that bound, for whatever operations of the work read and write at most
+abbrev pub IsWithinTouched : Setup → (List ℕ → Type 0) → (op : List ℕ) → (steps : ℕ) → Type 0
+IsWithinTouched S Lawful op steps =
+    (reads writes : ℕ) → TouchesFew S.meaning Lawful S.cells reads writes
+    → steps ≤ touched_bound S op reads writes
+
+-- in each schedule from a start a call that is open has made fewer steps
+abbrev pub ByTouch : Setup → (List ℕ → Type 0) → Type 0
+ByTouch S Lawful = EachSchedule S Lawful (λ B n es.
+    (i : ℕ) → i < S.callers
+    → let m : CallState = machine_in (after_events S (opening_moment S B n) es) i in
+    IsOpen m.place → IsWithinTouched S Lawful m.op (m.steps + 1))
