@@ -13,9 +13,9 @@ put_pair [] a v = (a, v) ∷ []
 put_pair (e ∷ es) a v = if e.0 == a then (a, v) ∷ es else e ∷ put_pair es a v
 
 -- a pair comes last where no place was found
-abbrev pub with_entry : List (ℕ × ℕ) → ℕ → ℕ → Option ℕ → List (ℕ × ℕ)
-with_entry es a v None = es ++ (a, v) ∷ []
-with_entry es a v (Some place) = es
+abbrev pub with_last_pair : List (ℕ × ℕ) → ℕ → ℕ → Option ℕ → List (ℕ × ℕ)
+with_last_pair es a v None = es ++ (a, v) ∷ []
+with_last_pair es a v (Some place) = es
 
 -- pairs with others put over them
 abbrev pub put_all : List (ℕ × ℕ) → List (ℕ × ℕ) → List (ℕ × ℕ)

@@ -1,7 +1,7 @@
 //! A map from cells to numbers, in order of first writing.
 
 ghost use Rattle.std.specs.Prelude.{◌↔◌, IsTrue, ◌≡◌, ◌<◌, ◌==◌, [], length, IfOk, MatchOption, slice_index_or};
-ghost use Rattle.of_mem.specs.CellMap.{value_for, put_pair, with_entry, IsAbsent, IsEntryFor};
+ghost use Rattle.of_mem.specs.CellMap.{value_for, put_pair, with_last_pair, IsAbsent, IsEntryFor};
 ghost use Rattle.of_mem.specs.WriteSet.{IsWriteSet};
 
 use crate::index::{HOMES, find, front, search};
@@ -96,7 +96,7 @@ impl WriteSet {
         ensures place { MatchOption result (IsAbsent self.old.entries addr)
             (IsEntryFor self.old.entries addr) }
         ensures entries { self.new ≡ record self.old {
-          entries = with_entry self.old.entries addr value result;
+          entries = with_last_pair self.old.entries addr value result;
         } }
     {
         let home = addr % HOMES;
