@@ -3,7 +3,7 @@ pub mod WriteSets
 pub mod Chains
 pub mod Listed
 pub mod Cells
-pub mod Eras
+pub mod Held
 pub mod Newest
 pub mod PlotPlaces
 pub mod Changes

@@ -9,7 +9,7 @@ use Rattle.std.proofs.lemmas.Bool.{cases_eq, eq-eqb as equals, ne_eqb as differs
 use Rattle.std.proofs.lemmas.List.{get_or-map, length-map, get_or_append_left, get_or_push, get_or-set_same, get_or-set_other}
 use Rattle.of_mem.specs.CellMap.{value_for, put_pair, entry_address, IsAbsent, IsEntryFor}
 use Rattle.of_mem.specs.WriteSet.{IsWriteSet}
-use Rattle.of_mem.specs.Chains.{NotesPlace, IsChained, note_at, latest}
+use Rattle.of_mem.specs.Chains.{IsChained, note_at, latest}
 use Rattle.of_mem.proofs.Chains.{latest_same}
 use Rattle.of_mem.proofs.WriteSets.{value_at-here, put-here}
 
@@ -66,7 +66,7 @@ room_left room es a below once absent inside = omega (arith, size, few_addresses
         let t : k < length es = omega (arith, size) in
         once j k s t (sym (old j s) ∙ q ∙ old k t)
 
-module _ (homes room : ℕ) (es : List (ℕ × ℕ)) (os fs : List ℕ) (capacity links notes : ℕ) (h : IsChained homes room es os fs capacity links notes) where
+module _ (homes room : ℕ) (es : List (ℕ × ℕ)) (os fs : List ℕ) (capacity links : ℕ) (h : IsChained homes room es os fs capacity links) where
   pub few : length es ≤ room
   few = few_addresses es room h.below h.once
 
@@ -83,8 +83,11 @@ module _ (homes room : ℕ) (es : List (ℕ × ℕ)) (os fs : List ℕ) (capacit
     pub put-found : (v : ℕ) → put_pair es a v ≡ set es k (a, v)
     put-found v = put-here es a v k f.0 f.1 first
 
--- an entry more, whose number is noted
-module _ (homes room : ℕ) (es : List (ℕ × ℕ)) (os fs gs : List ℕ) (capacity links notes a v : ℕ) (h : IsChained homes room es os fs capacity links notes) (absent : IsAbsent es a) (inside : a < room) (n : NotesPlace fs gs (a % homes) (length es + 1)) where
+-- an entry more, whose number is noted at its home
+module _ (homes room : ℕ) (es : List (ℕ × ℕ)) (os fs : List ℕ) (capacity links a v : ℕ) (h : IsChained homes room es os fs capacity links) (absent : IsAbsent es a) (inside : a < room) (home : a % homes < homes) where
+  abbrev pub gs : List ℕ
+  gs = set fs (a % homes) (length es + 1)
+
   size : length (es ++ (a, v) ∷ []) ≡ suc (length es)
   size = length-append es ((a, v) ∷ []) ∙ omega arith
 
@@ -124,9 +127,9 @@ module _ (homes room : ℕ) (es : List (ℕ × ℕ)) (os fs gs : List ℕ) (capa
   elsewhere x d = last x ∙ ap (λ (b : Bool). if b then suc (length es) else latest homes es x (length es)) (differs (a % homes) x (λ q. d (sym q)))
 
   fronts : (x : ℕ) → (x ≡ a % homes) ⊎ (x ≢ a % homes) → (latest homes es x (length es) ≡ 0) ⊎ (note_at fs x ≡ latest homes es x (length es)) → (latest homes (es ++ (a, v) ∷ []) x (length (es ++ (a, v) ∷ [])) ≡ 0) ⊎ (note_at gs x ≡ latest homes (es ++ (a, v) ∷ []) x (length (es ++ (a, v) ∷ [])))
-  fronts x (inl e) z = inr (rw e (n.here ∙ one ∙ sym here))
+  fronts x (inl e) z = inr (rw e (get_or-set_same fs (a % homes) (length es + 1) 0 (omega (arith, h.homes_noted, home)) ∙ one ∙ sym here))
   fronts x (inr d) (inl z) = inl (elsewhere x d ∙ z)
-  fronts x (inr d) (inr z) = inr (n.others x d ∙ z ∙ sym (elsewhere x d))
+  fronts x (inr d) (inr z) = inr (get_or-set_other fs (a % homes) x (length es + 1) 0 d ∙ z ∙ sym (elsewhere x d))
 
   chains : (k : ℕ) → (k ≡ length es) ⊎ (k ≢ length es) → k < length (es ++ (a, v) ∷ []) → note_at (os ++ latest homes es (a % homes) (length es) ∷ []) k ≡ latest homes (es ++ (a, v) ∷ []) (entry_address (es ++ (a, v) ∷ []) k % homes) k
   chains k (inl e) l =
@@ -139,12 +142,12 @@ module _ (homes room : ℕ) (es : List (ℕ × ℕ)) (os fs gs : List ℕ) (capa
       ∙ h.chains k s
       ∙ sym (ap (λ (b : ℕ). latest homes (es ++ (a, v) ∷ []) (b % homes) k) (old k s) ∙ latest_same homes es (es ++ (a, v) ∷ []) (entry_address es k % homes) k (λ j m. old j (omega arith)))
 
-  pub pair_written : (c d f : ℕ) → capacity ≤ c → links ≤ d → notes ≤ f → IsChained homes room (es ++ (a, v) ∷ []) (os ++ latest homes es (a % homes) (length es) ∷ []) gs c d f
-  pair_written c d f more more_links more_notes = record {
+  pub pair_written : (c d : ℕ) → capacity ≤ c → links ≤ d → IsChained homes room (es ++ (a, v) ∷ []) (os ++ latest homes es (a % homes) (length es) ∷ []) gs c d
+  pair_written c d more more_links = record {
     fits = h.fits;
     spare = omega (arith, h.spare);
     spare_links = omega (arith, h.spare_links);
-    spare_notes = λ x l m. omega (arith, h.spare_notes x l m);
+    homes_noted = length-set fs (a % homes) (length es + 1) ∙ h.homes_noted;
     linked = length-append os (latest homes es (a % homes) (length es) ∷ []) ∙ omega (arith, h.linked, size);
     below = λ k m. below k (cases_eq k (length es)) m;
     once = λ j k l m q. once j k (cases_eq j (length es)) (cases_eq k (length es)) l m q;
@@ -153,7 +156,7 @@ module _ (homes room : ℕ) (es : List (ℕ × ℕ)) (os fs gs : List ℕ) (capa
   }
 
 -- an entry with another value
-module _ (homes room : ℕ) (es : List (ℕ × ℕ)) (os fs : List ℕ) (capacity links notes a v k : ℕ) (h : IsChained homes room es os fs capacity links notes) (f : IsEntryFor es a k) where
+module _ (homes room : ℕ) (es : List (ℕ × ℕ)) (os fs : List ℕ) (capacity links a v k : ℕ) (h : IsChained homes room es os fs capacity links) (f : IsEntryFor es a k) where
   kept_size : length (set es k (a, v)) ≡ length es
   kept_size = length-set es k (a, v)
 
@@ -171,12 +174,12 @@ module _ (homes room : ℕ) (es : List (ℕ × ℕ)) (os fs : List ℕ) (capacit
   kept_front x (inl z) = inl (kept_last x ∙ z)
   kept_front x (inr z) = inr (z ∙ sym (kept_last x))
 
-  pub pair_changed : IsChained homes room (set es k (a, v)) os fs capacity links notes
+  pub pair_changed : IsChained homes room (set es k (a, v)) os fs capacity links
   pair_changed = record {
     fits = h.fits;
     spare = h.spare;
     spare_links = h.spare_links;
-    spare_notes = h.spare_notes;
+    homes_noted = h.homes_noted;
     linked = h.linked ∙ sym kept_size;
     below = λ j l. rw (kept j) (h.below j (omega (arith, l, kept_size)));
     once = λ i j l m q. h.once i j (omega (arith, l, kept_size)) (omega (arith, m, kept_size)) (sym (kept i) ∙ q ∙ kept j);

@@ -1,5 +1,5 @@
 -- A run depends on the batch and the known cells only through the newer of the two: it goes as on the known cells with the batch over them.
-use Rattle.std.proofs.Common.{◌≡◌, ℕ, ◌<◌, ◌==◌, refl, sym, ◌∙◌, ap, subst, arith, Bool, true, false, if◌then◌else◌, Option, Some, None, List, [], ◌∷◌, length, get_or, set, length-set}
+use Rattle.std.proofs.Common.{◌≡◌, ℕ, ◌<◌, ◌==◌, refl, ◌∙◌, ap, subst, arith, Bool, true, false, if◌then◌else◌, Option, Some, None, List, [], ◌∷◌, length, get_or, set, length-set}
 use Rattle.std.proofs.lemmas.Bool.Decides.{nat_tests}
 use Rattle.std.proofs.lemmas.List.{get_or-set_same, get_or-set_other}
 use Rattle.of_mem.specs.CellMap.{value_for, put_pair}
@@ -51,9 +51,3 @@ run_alike low size (Done r) p q m h is i = (refl, h.script)
 run_alike low size (Read a k) p q m h is i = subst (λ (o : Option ℕ). RunsAlike (with_number (newest_at p a) a (λ v. run_program (k v) p)) (with_number o a (λ v. run_program (k v) q))) (same_newest size p q h a i.1)
     (alike_option a k p q (newest_at p a) (λ v e. run_alike low size (k v) p q m h is (subst (λ (w : ℕ). StaysBetween low size (k w) m) (is a v e) i.2)))
 run_alike low size (Write a v f) p q m h is i = run_alike low size f (write p a v) (write q a v) (with_value m a v) (same_wrote size p q a v h) (part_wrote p m a v is) i.3
-
--- with a batch, and with its numbers among the known cells
-pub run_over : {A : Type 0} (low size : ℕ) (f : Program A) (p : Part) (m : ℕ → ℕ) → length p.known ≡ size → IsPartOf p m → StaysBetween low size f m
-    → RunsAlike (run_program f p) (run_program f (record { known = overlaid p.known p.batch; batch = []; script = p.script }))
-run_over low size f p m e is i = run_alike low size f p (record { known = overlaid p.known p.batch; batch = []; script = p.script }) m
-    (record { below = λ a l. sym (over_at p.known p.batch a (omega arith)); script = refl }) is i

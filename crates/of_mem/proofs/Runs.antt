@@ -1,12 +1,11 @@
 -- Programs on partial memory and on whole memory: a run on partial memory names a cell that is not known, or it does what the run on the whole memory does.
-use Rattle.std.proofs.Common.{replicate, length, get_or, set, List, [], ◌∷◌, ◌++◌, ◌≡◌, ℕ, ◌<◌, ◌≤◌, ◌≢◌, inl, inr, List, refl, sym, ◌∙◌, ap, subst, arith, true, false, Option, Some, None, ◌==◌}
+use Rattle.std.proofs.Common.{List, [], ◌∷◌, ◌≡◌, ℕ, ◌<◌, ◌≤◌, ◌≢◌, inl, inr, List, refl, sym, ◌∙◌, ap, subst, arith, true, false, Option, Some, None, ◌==◌}
 use Rattle.std.specs.Option.{unwrap_or}
 use Rattle.std.proofs.lemmas.Option.{none-some}
-use Rattle.std.proofs.lemmas.Bool.{cases_eq, cases_lt}
-use Rattle.std.proofs.lemmas.List.{get_or-replicate, get_or_past, length-replicate, get_or-set_same, get_or-set_other}
+use Rattle.std.proofs.lemmas.Bool.{cases_eq}
 use Rattle.std.proofs.lemmas.Bool.Decides.{nat_tests}
 use Rattle.of_mem.specs.CellMap.{value_for, put_pair, put_all}
-use Rattle.of_mem.specs.Part.{newer_of, Part, newest_at, write}
+use Rattle.of_mem.specs.Part.{Part, newest_at, write}
 use Rattle.of_mem.specs.Programs.{Program, Done, Read, Write, RunEnd, Lacks, Ends, with_number, run_program, then_do, with_value, program_answer, memory_after, program_writes, with_writes, StaysBetween, StaysFrom, AlwaysYields, OnlyReads, IsPartOf}
 use Rattle.of_mem.proofs.Changes.{changed_same, changed_other}
 use Rattle.of_mem.proofs.WriteSets.{value_at_put}
@@ -79,10 +78,6 @@ run_follows low size (Write a v f) p m h i = follows_write low size f p m a v (r
 -- a run that ended
 pub run_ended : {A : Type 0} (low size : ℕ) (f : Program A) (p q : Part) (m : ℕ → ℕ) (r : A) → IsPartOf p m → StaysBetween low size f m → run_program f p ≡ Ends r q → Ended f p m r q
 run_ended low size f p q m r h i e = subst (Follows low size f p m) e (run_follows low size f p m h i)
-
--- a run that lacks a cell
-pub run_lacks : {A : Type 0} (low size : ℕ) (f : Program A) (p : Part) (m : ℕ → ℕ) (a : ℕ) → IsPartOf p m → StaysBetween low size f m → run_program f p ≡ Lacks a → (low ≤ a) × (a < size) × (newest_at p a ≡ None)
-run_lacks low size f p m a h i e = subst (Follows low size f p m) e (run_follows low size f p m h i)
 
 -- A memory after a program is the memory with what the script wrote.
 
@@ -190,11 +185,6 @@ reads_then (Done r) g h k = k r
 reads_then (Read a q) g h k = λ v. reads_then (q v) g (h v) k
 reads_then (Write a v f) g h k = absurd h
 
-pub writes_then : {A B : Type 0} (f : Program A) (g : A → Program B) (m : ℕ → ℕ) → program_writes (then_do f g) m ≡ program_writes f m ++ program_writes (g (program_answer f m)) (memory_after f m)
-writes_then (Done r) g m = refl
-writes_then (Read a k) g m = writes_then (k (m a)) g m
-writes_then (Write a v f) g m = ap (λ (es : List (ℕ × ℕ)). (a, v) ∷ es) (writes_then f g (with_value m a v))
-
 abbrev pad : List (Option ℕ) → List (ℕ × ℕ) → List (ℕ × ℕ) → Part
 pad known batch script = record { known = known; batch = batch; script = script }
 
@@ -209,28 +199,6 @@ run_read a k p v e = rw e refl
 
 pub run_unknown : {A : Type 0} (a : ℕ) (k : ℕ → Program A) (p : Part) → newest_at p a ≡ None → run_program (Read a k) p ≡ Lacks a
 run_unknown a k p e = rw e refl
-
--- What is known at first, and after a cell was learnt.
-
-none_at : (n a : ℕ) → newest_at (record { known = replicate n None; batch = []; script = [] }) a ≡ None
-unfolding newest_at
-none_at n a = elim (cases_lt a n) [ inl l ↦ get_or-replicate {A = Option ℕ} n a None None l | inr l ↦ get_or_past {X = Option ℕ} (replicate n None) a None (rw length-replicate l) ]
-
-pub part_of_nothing : (p : Part) (n : ℕ) (m : ℕ → ℕ) → p ≡ record { known = replicate n None; batch = []; script = [] } → IsPartOf p m
-part_of_nothing p n m e a v q = let k : None ≡ Some v = sym (none_at n a) ∙ subst (λ (x : Part). newest_at x a ≡ Some v) e q in cc
-
--- the newest number where one cell more is known
-by_known : (b s k l : Option ℕ) (m v w : ℕ) → (newer_of s (newer_of b l) ≡ Some w → m ≡ w) → k ≡ Some v → m ≡ v → newer_of s (newer_of b k) ≡ Some w → m ≡ w
-by_known b (Some x) k l m v w h e is q = h q
-by_known (Some x) None k l m v w h e is q = h q
-by_known None None k l m v w h e is q = let t : Some v ≡ Some w = sym e ∙ q in cc
-
-pub part_learned : (p : Part) (m : ℕ → ℕ) (a v : ℕ) → a < length p.known → m a ≡ v → IsPartOf p m → IsPartOf (record p { known = set p.known a (Some v) }) m
-unfolding newest_at
-part_learned p m a v l is h x w q = elim (cases_eq x a) [
-  | inl e ↦ by_known (value_for p.batch x) (value_for p.script x) (get_or (set p.known a (Some v)) x None) (get_or p.known x None) (m x) v w (h x w) (rw e (get_or-set_same p.known a (Some v) None l)) (rw e is) q
-  | inr n ↦ h x w (rw (get_or-set_other p.known a x (Some v) None n) at q)
-]
 
 -- what is read of a cell after writes to other cells
 pub read_before : (p : Part) (a v x w : ℕ) → x ≢ a → newest_at (write p a v) x ≡ Some w → newest_at p x ≡ Some w

@@ -1,5 +1,5 @@
 -- Numbers of cells as pairs of address and number, in order of first writing.
-use Rattle.std.specs.Prelude.{◌≡◌, ℕ, ◌<◌, ◌==◌, List, [], ◌∷◌, length, Option, Some, None, if◌then◌else◌}
+use Rattle.std.specs.Prelude.{◌≡◌, ℕ, ◌<◌, ◌==◌, List, [], ◌∷◌, ◌++◌, length, Option, Some, None, if◌then◌else◌}
 use Rattle.std.proofs.Common.{get_or}
 
 -- the number at an address
@@ -11,6 +11,11 @@ value_for (e ∷ es) a = if e.0 == a then Some e.1 else value_for es a
 abbrev pub put_pair : List (ℕ × ℕ) → ℕ → ℕ → List (ℕ × ℕ)
 put_pair [] a v = (a, v) ∷ []
 put_pair (e ∷ es) a v = if e.0 == a then (a, v) ∷ es else e ∷ put_pair es a v
+
+-- a pair comes last where no place was found
+abbrev pub with_last_pair : List (ℕ × ℕ) → ℕ → ℕ → Option ℕ → List (ℕ × ℕ)
+with_last_pair es a v None = es ++ (a, v) ∷ []
+with_last_pair es a v (Some place) = es
 
 -- pairs with others put over them
 abbrev pub put_all : List (ℕ × ℕ) → List (ℕ × ℕ) → List (ℕ × ℕ)

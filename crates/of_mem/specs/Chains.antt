@@ -1,7 +1,7 @@
 -- How the code finds addresses: each has a home, the entries of one home are a chain from the last
 -- to the first, and for each home the last one is noted. The number of an entry is its place and
 -- one more. No public contract speaks of it.
-use Rattle.std.specs.Prelude.{◌≡◌, ◌≢◌, ℕ, zero, suc, ◌<◌, ◌≤◌, ◌⊎◌, ◌==◌, ◌%◌, if◌then◌else◌, List, length}
+use Rattle.std.specs.Prelude.{◌≡◌, ℕ, zero, suc, ◌<◌, ◌≤◌, ◌⊎◌, ◌==◌, ◌%◌, if◌then◌else◌, List, length}
 use Rattle.std.proofs.Common.{get_or}
 use Rattle.of_mem.specs.CellMap.{entry_address}
 use Rattle.of_mem.specs.Numbers.{FitsCell}
@@ -12,7 +12,7 @@ latest homes es h zero = 0
 latest homes es h (suc n) =
     if entry_address es n % homes == h then suc n else latest homes es h n
 
--- what is noted at a place, and 0 at one to which no note has come
+-- what is noted at a place
 abbrev pub note_at : List ℕ → ℕ → ℕ
 note_at ns k = get_or ns k 0
 
@@ -27,19 +27,14 @@ abbrev pub HasChains : (homes : ℕ) → List (ℕ × ℕ) → List ℕ → Type
 HasChains homes es os =
     (k : ℕ) → k < length es → note_at os k ≡ latest homes es (entry_address es k % homes) k
 
--- a number is noted at a home, and the other notes stay
-pub record NotesPlace (old new : List ℕ) (home number : ℕ) : Type 0 where
-  pub here : note_at new home ≡ number
-  pub others : (h : ℕ) → h ≢ home → note_at new h ≡ note_at old h
-
 -- the invariant of a write-set: no address is in two entries, each is found from the note of its
 -- home, and there is room for an entry at each address
 pub record IsChained (homes room : ℕ) (es : List (ℕ × ℕ)) (os fs : List ℕ)
-    (capacity links notes : ℕ) : Type 0 where
+    (capacity links : ℕ) : Type 0 where
   pub fits : FitsCell room
   pub spare : room ≤ capacity
   pub spare_links : room ≤ links
-  pub spare_notes : (h : ℕ) → h < room → h < homes → h < notes
+  pub homes_noted : length fs ≡ homes
   pub linked : length os ≡ length es
   pub below : (k : ℕ) → k < length es → entry_address es k < room
   pub once : (j k : ℕ) → j < length es → k < length es

@@ -2,7 +2,7 @@ pub mod Meaning
 pub mod CellMap
 pub mod WriteSet
 pub mod Chains
-pub mod Eras
+pub mod TouchedCells
 pub mod Newest
 pub mod Numbers
 pub mod Part

@@ -7,7 +7,7 @@ ghost use Rattle.of_mem.specs.CellMap.{value_for};
 ghost use Rattle.of_mem.specs.Part.{empty_part, learn, write, keep, ReadsAt};
 
 use crate::part::Need;
-use crate::slots::Slots;
+use crate::touched_cells::TouchedCells;
 use crate::write_set::WriteSet;
 use std::alloc::{AllocError, Global};
 use std::marker::Model;
@@ -17,11 +17,10 @@ use std::mem;
 // both. A contract sees what `Part` shows of them.
 #[derive(Drop)]
 pub(crate) struct Layers {
-    known: Slots,
+    // What is known of each cell, and what it holds, so that a read is one look-up.
+    cells: TouchedCells,
     batch: WriteSet,
     script: WriteSet,
-    // What each cell holds, so that a read is one look-up.
-    newest: Slots,
 }
 
 impl Model for Layers {
@@ -33,17 +32,18 @@ impl Model for Layers {
     ghost use Rattle.of_mem.specs.Newest.{HasNewest};
 
     ghost view = { λ p. record {
-      known = p.known;
+      known = p.cells.known;
       batch = p.batch.entries;
       script = p.script.entries;
     } };
 
-    ghost invariant = { λ p. (p.batch.room ≡ length p.known) × (p.script.room ≡ length p.known)
+    ghost invariant = { λ p. (p.batch.room ≡ length p.cells.known)
+        × (p.script.room ≡ length p.cells.known)
         × HasNewest (record {
-          known = p.known;
+          known = p.cells.known;
           batch = p.batch.entries;
           script = p.script.entries;
-        }) p.newest };
+        }) p.cells.newest };
 }
 
 #[tactic(auto, unfolding(crate::specs::Part::newest_at, crate::specs::Part::write))]
@@ -53,58 +53,50 @@ impl Layers {
     pub fn new(alloc: Global, cells: u32) -> Result<Self, AllocError>
         ensures { IfOk result (λ p. p ≡ empty_part cells) }
     {
-        let known = Slots::new(alloc, cells)?;
         let batch = WriteSet::new(alloc, cells)?;
         let script = WriteSet::new(alloc, cells)?;
-        let newest = Slots::new(alloc, cells)?;
+        let cells = TouchedCells::new(alloc, cells)?;
         Ok(Layers {
-            known,
+            cells,
             batch,
             script,
-            newest,
         })
     }
 
-    /// Makes a cell's number known.
-    pub fn learn(&mut self, addr: u32, value: u32)
+    /// Makes a cell's number known, and says whether it was known before.
+    pub fn learn(&mut self, addr: u32, value: u32) -> bool
         requires { addr < length self.old.known }
-        ensures { self.new ≡ learn self.old addr value }
+        ensures learnt { self.new ≡ learn self.old addr value }
+        ensures before { result ≡ is_some (get_or self.old.known addr None) }
     {
-        if self.newest.get(addr).is_some() {
-            self.learn_under(addr, value);
-            return;
+        if self.cells.meet(addr, value) {
+            return false;
         }
-        self.known.set(addr, Some(value));
-        self.newest.set(addr, Some(value));
+        self.learn_under(addr, value)
     }
 
-    // Makes the number of a cell known that may have been written.
+    // Makes the number of a cell known that may have been known or written before.
     #[cold]
     #[inline(never)]
-    fn learn_under(&mut self, addr: u32, value: u32)
+    fn learn_under(&mut self, addr: u32, value: u32) -> bool
         requires { addr < length self.old.known }
-        ensures { self.new ≡ learn self.old addr value }
+        ensures learnt { self.new ≡ learn self.old addr value }
+        ensures before { result ≡ is_some (get_or self.old.known addr None) }
     {
+        let before = self.cells.known(addr).is_some();
         let over = self.script.get(addr).or(self.batch.get(addr));
-        self.known.set(addr, Some(value));
-        self.newest.set(addr, over.or(Some(value)));
-    }
-
-    /// Whether a cell's number is known.
-    pub fn knows(&self, addr: u32) -> bool
-        requires { addr < length self.now.known }
-        ensures { result ≡ is_some (get_or self.now.known addr None) }
-    {
-        self.known.get(addr).is_some()
+        self.cells.set(addr, Some(value), over.or(Some(value)));
+        before
     }
 
     /// What a cell holds: the script's number, else the batch's, else the known one. The error
     /// names the cell where there is none.
+    #[inline(always)]
     pub fn read(&self, addr: u32) -> Result<u32, Need>
         requires { addr < length self.now.known }
         ensures { ReadsAt self.now addr result }
     {
-        match self.newest.get(addr) {
+        match self.cells.newest(addr) {
             Some(value) => Ok(value),
             None => Err(Need { addr }),
         }
@@ -118,7 +110,7 @@ impl Layers {
         requires { addr < length self.now.known }
         ensures { ReadsAt (record self.now { script = [] }) addr result }
     {
-        match self.batch.get(addr).or(self.known.get(addr)) {
+        match self.batch.get(addr).or(self.cells.known(addr)) {
             Some(value) => Ok(value),
             None => Err(Need { addr }),
         }
@@ -132,7 +124,7 @@ impl Layers {
         ensures batch { self.new.batch ≡ self.old.batch }
     {
         self.script.put(addr, value);
-        self.newest.set(addr, Some(value));
+        self.cells.hold(addr, Some(value));
     }
 
     /// How many cells the script wrote.
@@ -175,8 +167,8 @@ impl Layers {
     {
         for i in 0..self.script.len() {
             let (addr, _) = self.script.entry(i);
-            let under = self.batch.get(addr).or(self.known.get(addr));
-            self.newest.set(addr, under);
+            let under = self.batch.get(addr).or(self.cells.known(addr));
+            self.cells.hold(addr, under);
         }
         self.script.clear();
     }
@@ -185,8 +177,7 @@ impl Layers {
     pub fn clear(&mut self)
         ensures { self.new ≡ empty_part (length self.old.known) }
     {
-        self.known.clear();
-        self.newest.clear();
+        self.cells.clear();
         self.batch.clear();
         self.script.clear();
     }

@@ -91,22 +91,25 @@ impl Part {
         requires { addr < length self.old.known }
         ensures { self.new ≡ learn self.old addr value }
     {
-        if self.last.walk.passed > 0 && self.layers.knows(addr) {
-            self.last.walk.passed = 0;
-        }
-        self.layers.learn(addr, value);
+        self.meet(addr, value);
     }
 
-    // Whether a cell's number is known.
-    pub(crate) fn knows(&self, addr: u32) -> bool
-        requires { addr < length self.now.known }
-        ensures { result ≡ is_some (get_or self.now.known addr None) }
+    // The same, and says whether it was known before.
+    pub(crate) fn meet(&mut self, addr: u32, value: u32) -> bool
+        requires { addr < length self.old.known }
+        ensures learnt { self.new ≡ learn self.old addr value }
+        ensures before { result ≡ is_some (get_or self.old.known addr None) }
     {
-        self.layers.knows(addr)
+        let before = self.layers.learn(addr, value);
+        if before {
+            self.last.walk.passed = 0;
+        }
+        before
     }
 
     /// What a cell holds: the script's number, else the batch's, else the known one. The error
     /// names the cell where there is none.
+    #[inline(always)]
     pub fn read(&self, addr: u32) -> Result<u32, Need>
         requires { addr < length self.now.known }
         ensures { ReadsAt self.now addr result }

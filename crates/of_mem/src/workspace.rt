@@ -50,10 +50,9 @@ impl<W: MaySuspend> Workspace<W> {
         requires { addr < length self.old.known }
         ensures { self.new ≡ learn self.old addr value }
     {
-        if self.part.knows(addr) {
+        if self.part.meet(addr, value) {
             self.kept.forget();
         }
-        self.part.learn(addr, value);
     }
 
     /// What a cell holds: the script's number, else the batch's, else the known one. The error

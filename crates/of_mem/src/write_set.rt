@@ -1,18 +1,17 @@
 //! A map from cells to numbers, in order of first writing.
 
 ghost use Rattle.std.specs.Prelude.{◌↔◌, IsTrue, ◌≡◌, ◌<◌, ◌==◌, [], length, IfOk, MatchOption, slice_index_or};
-ghost use Rattle.of_mem.specs.CellMap.{value_for, put_pair, IsAbsent, IsEntryFor};
+ghost use Rattle.of_mem.specs.CellMap.{value_for, put_pair, with_last_pair, IsAbsent, IsEntryFor};
 ghost use Rattle.of_mem.specs.WriteSet.{IsWriteSet};
 
-use crate::index::{HOMES, front, note, search};
+use crate::index::{HOMES, find, front, search};
 use std::alloc::{AllocError, Global};
 use std::marker::Model;
 
 /// What was written: a map from cells to numbers, in order of first writing. Only `new` takes
-/// memory, and it fills none of it. The other calls take the same time, however many cells there
-/// may be and however many entries there are, up to some thousands; but the first address at a home
-/// above all earlier ones also fills the notes up to it, and `has_entries_of` and `copy_from` go
-/// through the entries.
+/// memory, and it fills a note for each home. The other calls take the same time, however many
+/// cells there may be and however many entries there are, up to some thousands; but
+/// `has_entries_of` and `copy_from` go through the entries.
 #[derive(Drop)]
 pub struct WriteSet {
     room: u32,
@@ -21,7 +20,7 @@ pub struct WriteSet {
     /// its place and one more; 0 says that there is none.
     older: Vec<u32>,
     /// For each home of an entry, the number of the last one there. At another home there may be a
-    /// number that is left over from before a `clear`, or none.
+    /// number that is left over from before a `clear`, or 0.
     fronts: Vec<u32>,
 }
 
@@ -37,7 +36,7 @@ impl Model for WriteSet {
     ghost view = { λ w. record { room = w.room; entries = w.entries.items } };
 
     ghost invariant = { λ w. IsChained HOMES w.room w.entries.items w.older.items w.fronts.items
-        (vec_capacity w.entries) (vec_capacity w.older) (vec_capacity w.fronts) };
+        (vec_capacity w.entries) (vec_capacity w.older) };
 }
 
 impl WriteSet {
@@ -47,7 +46,8 @@ impl WriteSet {
     {
         let entries = Vec::with_capacity(alloc, room as usize)?;
         let older = Vec::with_capacity(alloc, room as usize)?;
-        let fronts = Vec::with_capacity(alloc, room.min(HOMES) as usize)?;
+        let mut fronts = Vec::with_capacity(alloc, HOMES as usize)?;
+        fronts.resize(HOMES as usize, 0)?;
         Ok(WriteSet {
             room,
             entries,
@@ -72,12 +72,13 @@ impl WriteSet {
     }
 
     /// The place of an address among the entries.
-    fn find(&self, addr: u32) -> Option<usize>
-        ensures { MatchOption result (IsAbsent self.now.entries addr)
+    #[inline(always)]
+    pub(crate) fn find(&self, addr: u32) -> Option<usize>
+        ensures map { IsWriteSet self.now }
+        ensures place { MatchOption result (IsAbsent self.now.entries addr)
             (IsEntryFor self.now.entries addr) }
     {
-        let last = front(&self.fronts, &self.entries, addr % HOMES);
-        search(&self.older, &self.entries, last, addr)
+        find(&self.fronts, &self.older, &self.entries, addr)
     }
 
     /// The number at an address, if it was written.
@@ -88,21 +89,37 @@ impl WriteSet {
         Some(self.entries[place].1)
     }
 
+    /// The place of an address, if it was written before; else it comes last, with this number.
+    pub(crate) fn enter(&mut self, addr: u32, value: u32) -> Option<usize>
+        requires { addr < self.old.room }
+        ensures map { IsWriteSet self.old }
+        ensures place { MatchOption result (IsAbsent self.old.entries addr)
+            (IsEntryFor self.old.entries addr) }
+        ensures entries { self.new ≡ record self.old {
+          entries = with_last_pair self.old.entries addr value result;
+        } }
+    {
+        let home = addr % HOMES;
+        let last = front(&self.fronts, &self.entries, home);
+        match search(&self.older, &self.entries, last, addr) {
+            Some(place) => Some(place),
+            None => {
+                // there is room for each address below `room`
+                self.older.push_reserved(last);
+                self.entries.push_reserved((addr, value));
+                self.fronts[home as usize] = self.entries.len() as u32;
+                None
+            }
+        }
+    }
+
     /// Writes a number: in its place if the address was written before, and else as the last entry.
     pub fn put(&mut self, addr: u32, value: u32)
         requires { addr < self.old.room }
         ensures { self.new ≡ record self.old { entries = put_pair self.old.entries addr value } }
     {
-        let home = addr % HOMES;
-        let last = front(&self.fronts, &self.entries, home);
-        match search(&self.older, &self.entries, last, addr) {
-            Some(place) => self.entries[place].1 = value,
-            None => {
-                // there is room for each address below `room`
-                self.older.push_reserved(last);
-                self.entries.push_reserved((addr, value));
-                note(&mut self.fronts, home, self.entries.len() as u32);
-            }
+        if let Some(place) = self.enter(addr, value) {
+            self.entries[place].1 = value;
         }
     }
 

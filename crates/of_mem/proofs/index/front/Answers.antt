@@ -1,4 +1,4 @@
-use Rattle.std.proofs.Common.{inl, inr, sym, ◌∙◌, arith}
+use Rattle.std.proofs.Common.{inl, inr, sym, arith}
 use Rattle.of_mem.specs.declared.index.TheConstants.{HOMES}
 use Rattle.of_mem.proofs.Chains.{front_none, front_here, front_other}
 use Rattle.of_mem.proofs.index.front.Goals as goal
@@ -7,14 +7,14 @@ use Rattle.of_mem.proofs.index.front.Goals.{then-number-eq0-via-then-number-eq0,
 pub returns-then-number-eq0 : goal.returns-then-number-eq0
 returns-then-number-eq0 c =
     elim c.then-number-eq0.branch [
-      | then-number-eq0-via-then-number-eq0 w ↦ sym (front_none HOMES c.args.entries.now c.args.fronts.now c.args.home (c.requires.fronts _ c.requires.home) (inl (sym c.note_of-number.ensures ∙ w.if-number-eq0.true)))
-      | then-number-eq0-via-else-number-eq0+then-number-entries w ↦ sym (front_none HOMES c.args.entries.now c.args.fronts.now c.args.home (c.requires.fronts _ c.requires.home) (inr (omega (arith, c.note_of-number.ensures, w.if-number-entries.true))))
+      | then-number-eq0-via-then-number-eq0 w ↦ sym (front_none HOMES c.args.entries.now c.args.fronts.now c.args.home (c.requires.fronts _ c.requires.home) (inl w.if-number-eq0.true))
+      | then-number-eq0-via-else-number-eq0+then-number-entries w ↦ sym (front_none HOMES c.args.entries.now c.args.fronts.now c.args.home (c.requires.fronts _ c.requires.home) (inr (omega (arith, w.if-number-entries.true))))
     ]
 
 pub returns-then-entries-number : goal.returns-then-entries-number
 returns-then-entries-number c =
-    rw c.note_of-number.ensures (front_here HOMES c.args.entries.now c.args.fronts.now c.args.home (c.requires.fronts _ c.requires.home) (rw c.note_of-number.ensures at c.if-number-eq0.false) (rw c.note_of-number.ensures at c.if-number-entries.false) (rw c.note_of-number.ensures at c.if-entries-number.true))
+    front_here HOMES c.args.entries.now c.args.fronts.now c.args.home (c.requires.fronts _ c.requires.home) c.if-number-eq0.false c.if-number-entries.false c.if-entries-number.true
 
 pub returns-else-entries-number : goal.returns-else-entries-number
 returns-else-entries-number c =
-    sym (front_other HOMES c.args.entries.now c.args.fronts.now c.args.home (c.requires.fronts _ c.requires.home) (rw c.note_of-number.ensures at c.if-entries-number.false))
+    sym (front_other HOMES c.args.entries.now c.args.fronts.now c.args.home (c.requires.fronts _ c.requires.home) c.if-entries-number.false)

@@ -22,17 +22,16 @@ loop-i-preserved c =
           ∙ ap (λ (ds : List (ℕ × ℕ)). put_pair ds (get_or script c.loop-i.i (0, 0)).0 (get_or script c.loop-i.i (0, 0)).1) c.loop-i.invariant.written ∙ sym more;
       batch = ap (λ (w : WriteSet). w.room) c.put.ensures ∙ c.loop-i.invariant.batch;
       script = cc;
-      known = cc;
-      newest = c.loop-i.invariant.newest;
+      cells = c.loop-i.invariant.cells;
     }
 
 pub invariant_of-self-2 : goal.invariant_of-self-2
 invariant_of-self-2 c =
-    let p : Part = record { known = c.self.inside.known; batch = c.self.inside.batch.entries; script = c.self.inside.script.entries } in
+    let p : Part = record { known = c.self.inside.cells.known; batch = c.self.inside.batch.entries; script = c.self.inside.script.entries } in
     let all : take c.loop-i.i p.script ≡ p.script = take_all c.loop-i.i p.script (omega (arith, c.len-count.ensures.value, c.loop-i-test.false)) in
     let batch : c.loop-i.self-inside.batch.entries ≡ put_all p.batch p.script = c.loop-i.invariant.written ∙ ap (put_all p.batch) all in
     let empty : c.clear.new.self.entries ≡ [] = ap (λ (w : WriteSet). w.entries) c.clear.ensures in
-    (cc, cc, rw (empty, batch, c.loop-i.invariant.known, c.loop-i.invariant.newest) (newest_kept p c.self.inside.script.room _ c.len-count.ensures.map c.self.invariant.2))
+    (cc, cc, rw (empty, batch, c.loop-i.invariant.cells) (newest_kept p c.self.inside.script.room _ c.len-count.ensures.map c.self.invariant.2))
 
 -- over an empty batch the script's entries are all
 swapped : (p : Part) → HasDistinctCells p.script → p.batch ≡ [] → put_all p.batch p.script ≡ p.script
@@ -44,15 +43,15 @@ none_there (e ∷ es) q = absurd (omega (arith, q))
 
 pub invariant_of-self : goal.invariant_of-self
 invariant_of-self c =
-    let p : Part = record { known = c.self.inside.known; batch = c.self.inside.batch.entries; script = c.self.inside.script.entries } in
+    let p : Part = record { known = c.self.inside.cells.known; batch = c.self.inside.batch.entries; script = c.self.inside.script.entries } in
     let none : p.batch ≡ [] = none_there p.batch (sym c.len.ensures.value ∙ c.if-len-eq0.true) in
-    let kept : HasNewest (keep p) c.self.inside.newest = newest_kept p c.self.inside.script.room _ c.len-count.ensures.map c.self.invariant.2 in
-    let held : HasNewest (record p { batch = p.script; script = [] }) c.self.inside.newest = subst (λ (es : List (ℕ × ℕ)). HasNewest (record p { batch = es; script = [] }) c.self.inside.newest) (swapped p c.len-count.ensures.map.once none) kept in
-    rw (c.swap.ensures.x_after, c.swap.ensures.y_after) (c.self.invariant.1, c.self.invariant.0, subst (λ (es : List (ℕ × ℕ)). HasNewest (record p { batch = p.script; script = es }) c.self.inside.newest) (sym none) held)
+    let kept : HasNewest (keep p) c.self.inside.cells.newest = newest_kept p c.self.inside.script.room _ c.len-count.ensures.map c.self.invariant.2 in
+    let held : HasNewest (record p { batch = p.script; script = [] }) c.self.inside.cells.newest = subst (λ (es : List (ℕ × ℕ)). HasNewest (record p { batch = es; script = [] }) c.self.inside.cells.newest) (swapped p c.len-count.ensures.map.once none) kept in
+    rw (c.swap.ensures.x_after, c.swap.ensures.y_after) (c.self.invariant.1, c.self.invariant.0, subst (λ (es : List (ℕ × ℕ)). HasNewest (record p { batch = p.script; script = es }) c.self.inside.cells.newest) (sym none) held)
 
 pub returns-then-len-eq0 : goal.returns-then-len-eq0
 returns-then-len-eq0 c =
-    let p : Part = record { known = c.self.inside.known; batch = c.self.inside.batch.entries; script = c.self.inside.script.entries } in
+    let p : Part = record { known = c.self.inside.cells.known; batch = c.self.inside.batch.entries; script = c.self.inside.script.entries } in
     let none : p.batch ≡ [] = none_there p.batch (sym c.len.ensures.value ∙ c.if-len-eq0.true) in
     let all : put_all p.batch p.script ≡ p.script = swapped p c.len-count.ensures.map.once none in
     rw (← c.self.view_is, c.swap.ensures.x_after, c.swap.ensures.y_after) (λ i. record p { batch = sym all i; script = none i })

@@ -5,8 +5,7 @@ use Rattle.of_mem.proofs.layers.Layers.keep.Given as goal
 abbrev pub invariant-loop-i : goal.invariant-loop-i
 invariant-loop-i l = record {
   written : l.self-inside.batch.entries ≡ put_all l.initial.self-inside.batch.entries (take l.i l.initial.self-inside.script.entries);
-  batch : l.self-inside.batch.room ≡ length l.initial.self-inside.known;
+  batch : l.self-inside.batch.room ≡ length l.initial.self-inside.cells.known;
   script : l.self-inside.script ≡ l.initial.self-inside.script;
-  known : l.self-inside.known ≡ l.initial.self-inside.known;
-  newest : l.self-inside.newest ≡ l.initial.self-inside.newest;
+  cells : l.self-inside.cells ≡ l.initial.self-inside.cells;
 }
