@@ -91,7 +91,7 @@ HEAD = re.compile(rf"((?:{MODIFIER})*)([^\s:({{)}}]+)")
 MEMBER = re.compile(rf"^\s*(?:{MODIFIER})*([\w?']+) (?:[({{].*)?:", re.M)
 CONSTRUCTOR = re.compile(r"\s+(?:pub )?([^\s:]+)\s*:")
 IMPORT = re.compile(r"(?:pub )?use ([\w.◌']+)\.\{(.*)\}")
-LONG_IMPORT = re.compile(r"(?m)^((?:pub )?use [^}\n]*\n[^}]*\})")
+LONG_IMPORT = re.compile(r"(?m)^((?:pub )?use [^{}\n]*\{[^}\n]*\n[^}]*\})")
 COMMENT = re.compile(r"(^|\s)--(\s.*)?$")
 
 
@@ -144,6 +144,9 @@ class Module:
             if imported:
                 self.add_imports(*imported.groups())
                 current = None
+            elif line.startswith("unfolding "):
+                # It stands between the type of a definition and what it is.
+                pass
             elif head := HEAD.match(line):
                 current = self.definitions.setdefault(head[2], Definition(head[2], []))
             if current:

@@ -1,9 +1,8 @@
 -- Tellers: their places, what they have made, and their logs.
-use Rattle.std.proofs.Common.{◌≡◌, ℕ, suc, ◌+◌, ◌<◌, inl, inr, refl, sym, ◌∙◌, ap, subst, arith, List, [], ◌∷◌, ◌++◌, length, get_or, map, take, reverse, length-append, Global}
-use Rattle.std.specs.List.{All}
+use Rattle.std.proofs.Common.{◌≡◌, ℕ, suc, ◌+◌, ◌<◌, inl, inr, refl, sym, ◌∙◌, ap, subst, arith, List, [], ◌∷◌, ◌++◌, length, get_or, map, reverse, length-append, Global}
 use Rattle.std.specs.declared.vec.Vec.{Vec}
 use Rattle.std.proofs.lemmas.Bool.{cases_lt}
-use Rattle.std.proofs.lemmas.List.{get_or-map, length-map, map-append, reverse-append, append_assoc, take_more, get_or_append_left}
+use Rattle.std.proofs.lemmas.List.{get_or-map, length-map, map-append, reverse-append, append_assoc, get_or_append_left}
 use Rattle.std.proofs.Math.Seq.{get_or-append_seam}
 use Rattle.of_core.specs.Machine.{Call}
 use Rattle.of_row.specs.Views.{EndedCall, no_ended}
@@ -18,7 +17,7 @@ use Rattle.example_accounts.specs.declared.teller.Teller.{Teller}
 use Rattle.example_accounts.specs.declared.day.Log.{Log}
 use Rattle.example_accounts.specs.declared.transfer.Transfer.{Transfer}
 use Rattle.example_accounts.specs.Meaning.{accounts_meaning}
-use Rattle.example_accounts.specs.Days.{ended_call, transfer_of, job_of_teller, FollowsJob, Serves, HasWorked, IsSeatedAt, AreSeated, IsLoggedAt, AreLogged, HasLog, no_answer}
+use Rattle.example_accounts.specs.Days.{ended_call, job_of_teller, FollowsJob, Serves, HasWorked, IsSeatedAt, AreSeated, IsLoggedAt, AreLogged, HasLog, no_answer}
 use Rattle.example_accounts.specs.Accounts.{transfer_words}
 
 -- ---- facts of each place of a list
@@ -51,21 +50,7 @@ module _ {A : Type 0} (P : ℕ → A → Type 0) where
 pub seated_still : (m k : CellMemory Accounts) (count : ℕ) (ts : List Teller) → IsStill m k → AreSeated m count ts → AreSeated k count ts
 seated_still m k count ts still all p d lt = let s = all p d lt in record { serves = s.serves; from = s.from ∙ sym still; number = s.number }
 
-pub serve_all : (m : CellMemory Accounts) (count : ℕ) (ts : List Teller) → AreSeated m count ts → All Serves ts
-serve_all m count ts all p d lt = (all p d lt).serves
-
--- they have worked
-pub seated_after : (m : CellMemory Accounts) (count : ℕ) (ts us : List Teller) → length us ≡ length ts → ((i : ℕ) (d : Teller) → i < length ts → HasWorked (get_or ts i d) (get_or us i d)) → AreSeated m count ts → AreSeated m count us
-seated_after m count ts us same worked all p d lt =
-    let low : p < length ts = omega (arith, lt, same) in
-    let s = all p d low in
-    let w = worked p d low in
-    record { serves = w.serves; from = w.same.handle.home ∙ s.from; number = omega (arith, w.same.handle.number, s.number) }
-
 -- ---- what a number has made
-
-pub same_made : (m : CellMemory Accounts) (n : ℕ) (xs ys : List EndedCall) → HasMadeOf m n xs → xs ≡ ys → HasMadeOf m n ys
-same_made m n xs ys h is = subst (HasMadeOf m n) is h
 
 -- one more leaves
 pub logged_still : (m k : CellMemory Accounts) (n : ℕ) (ls : List Log) → length ls ≡ n → KnowsOthers n m k → AreLogged m ls → AreLogged k ls
@@ -103,12 +88,6 @@ same_jobs [] [] e h = refl
 same_jobs [] (u ∷ us) e h = absurd (omega (arith, e))
 same_jobs (t ∷ ts) [] e h = absurd (omega (arith, e))
 same_jobs (t ∷ ts) (u ∷ us) e h = λ i. h 0 t (omega arith) i ∷ same_jobs ts us (omega (arith, e)) (λ j d l. h (suc j) d (omega (arith, l))) i
-
--- the next transfer of the job is made
-pub follows_more : (made now : List Answer) (a : Answer) (job : List Transfer) → FollowsJob made job → now ≡ made ++ a ∷ [] → length made < length job → a.transfer ≡ get_or job (length made) a.transfer → FollowsJob now job
-follows_more made now a job h is lt next = subst (λ xs. FollowsJob xs job) (sym is)
-    (map-append transfer_of made (a ∷ []) ∙ ap (λ xs. xs ++ a.transfer ∷ []) h ∙ ap (λ x. take (length made) job ++ x ∷ []) next
-    ∙ sym (take_more job (length made) a.transfer lt) ∙ ap (λ n. take n job) (sym (length-append made (a ∷ []))))
 
 -- ---- a teller that works
 

@@ -1,5 +1,5 @@
 -- A clerk goes on with its job.
-use Rattle.std.proofs.Common.{◌≡◌, ℕ, ◌+◌, ◌<◌, ◌⊎◌, inl, inr, List, [], ◌∷◌, ◌++◌, length, get_or, take, map, Option, Some, None, Ok, Err, false, vec_len, refl, sym, ap, subst, ◌∙◌, arith, append_assoc}
+use Rattle.std.proofs.Common.{◌≡◌, ℕ, ◌+◌, ◌<◌, ◌⊎◌, inl, inr, List, [], ◌∷◌, ◌++◌, length, get_or, take, map, Option, Some, None, Ok, Err, vec_len, refl, sym, ap, subst, ◌∙◌, arith, append_assoc}
 use Rattle.std.proofs.lemmas.List.{append-nil, length-append, length-map, get_or-map, take_more}
 use Rattle.of_script.specs.declared.instr.Instr.{Instr}
 use Rattle.of_store.specs.Store.{Reply}
@@ -73,20 +73,6 @@ script_is y t is lt =
     sym (get_or-map script y.job.items (counted y) t [] (omega (arith, lt, y.job.ok.0)) ∙ ap script (sym is))
 
 -- ---- the day begins
-
-pub begins : (x y : Clerk) (h : Handle) → y.job ≡ x.job → CountsNone x y → y.answered ≡ 0 → y.end ≡ None → y.steps ≡ x.steps → y.pending ≡ false → HasMade h [] → (HasCallOpen h → ⊥) → HasWorked x y h
-begins x y h job none answered end steps pending has idle = record {
-  made = [];
-  has = has;
-  counts = counts_none x y job none;
-  answered = answered;
-  whole = λ not. answered;
-  open_call = λ script opened. absurd (idle opened.open_call);
-  left = λ early. absurd (subst IsEarly end early);
-  cause = subst (HasCause x.steps (tickets_behind h) y.answered) (sym end) tt;
-  steps = steps;
-  pending = pending;
-}
 
 -- ---- a call
 

@@ -1,7 +1,7 @@
 -- What asks take off the steps of a brake, one after the other.
-use Rattle.std.proofs.Common.{◌≡◌, ℕ, ◌+◌, ◌≤◌, true, false, Option, Some, None, refl, sym, ap, ◌∙◌, suc, subst, arith}
-use Rattle.of_brake.specs.Stops.{HasRisen, ChargesAsk, ChargesAskFrom, HasHeardAnswer, Asked}
-use Rattle.of_caller.specs.Brakes.{TakesSteps, TakesStepsFrom, StopsWhenUsedUp, StopsWhenToldUsedUp, AskedFor, later}
+use Rattle.std.proofs.Common.{◌≡◌, ℕ, ◌+◌, true, Option, Some, None, refl, sym, ap, ◌∙◌, suc, subst, arith}
+use Rattle.of_brake.specs.Stops.{ChargesAsk, ChargesAskFrom, HasHeardAnswer, Asked}
+use Rattle.of_caller.specs.Brakes.{TakesSteps, TakesStepsFrom, AskedFor, later}
 
 gave_of_more : (a b c : Option ℕ) (n : ℕ) → TakesStepsFrom a b n → ChargesAskFrom b c true → TakesStepsFrom a c (n + 1)
 gave_of_more None (Some b) c n u k = cc
@@ -17,20 +17,6 @@ gave_more (Some a) None c n u k = absurd u
 gave_more (Some a) (Some b) None n u k = absurd k
 gave_more (Some a) (Some b) (Some c) n u k = gave_of_more a b c n u k
 
-gave_of_stop : (a b c : Option ℕ) (n : ℕ) → TakesStepsFrom a b n → ChargesAskFrom b c false → TakesStepsFrom a c n × StopsWhenUsedUp a (n + 1)
-gave_of_stop None None c n u k = let bad : false ≡ true = k.1 in cc
-gave_of_stop None (Some b) c n u k = cc
-gave_of_stop (Some m) None c n u k = cc
-gave_of_stop (Some m) (Some b) c n u k = let e : b ≡ u.0 = cc in ((0, omega (arith, e, k.0, u.1), k.1), omega (arith, e, k.0, u.1))
-
--- one that is denied takes none, and comes where none is left
-pub gave_stop : (a b c : Option (Option ℕ)) (n : ℕ) → TakesSteps a b n → ChargesAsk b c false → TakesSteps a c n × StopsWhenToldUsedUp a (n + 1)
-gave_stop None None c n u k = (k, tt)
-gave_stop None (Some b) c n u k = cc
-gave_stop (Some a) None c n u k = absurd u
-gave_stop (Some a) (Some b) None n u k = absurd k
-gave_stop (Some a) (Some b) (Some c) n u k = gave_of_stop a b c n u k
-
 gave_of_none : (a : Option ℕ) → TakesStepsFrom a a 0
 gave_of_none None = refl
 gave_of_none (Some m) = (m, omega arith, refl)
@@ -39,9 +25,6 @@ gave_of_none (Some m) = (m, omega arith, refl)
 pub gave_none : (a : Option (Option ℕ)) → TakesSteps a a 0
 gave_none None = refl
 gave_none (Some a) = gave_of_none a
-
-pub rises : (a b c : ℕ) → a ≤ b → HasRisen b c → HasRisen a c
-rises a b c h r = omega (arith, h, r)
 
 -- steps left that stay as they are
 pub gave_same : (a b c : Option (Option ℕ)) (n : ℕ) → TakesSteps a b n → c ≡ b → TakesSteps a c n

@@ -51,30 +51,6 @@ same_kept x y e = ap (λ l. first_kept l x) e
 
 -- ---- the start of a call
 
-open_not_idle : (d : CallState) → IsOpen d.place → IsIdle d → ⊥
-open_not_idle d o idle = absurd (let z : true ≡ false = sym (ap is_idle idle) ∙ o in cc)
-
-pub starts_at : (S : Setup) (L : List ℕ → Type 0) (B : TableStart) (d : CallState) (v : View) → IsOpen d.place → d.steps < bound S → (x : KnownCaller) → v.kept ≡ x ∷ [] → Progress S L B d v 0 d v
-starts_at S L B d v o within x one = record {
-  seen = ([], append-nil v.seen);
-  past = ([], append-nil v.past);
-  caller = refl;
-  made = refl;
-  op = refl;
-  before = x;
-  kept = x;
-  kept_before = one;
-  kept_now = one;
-  none = λ z. (refl, refl);
-  some = λ h. absurd (omega (arith, h));
-  turns = omega arith;
-  since = λ h. absurd (omega (arith, h));
-  behind = λ h. absurd (omega (arith, h));
-  touched = λ h. absurd (omega (arith, h));
-  still = λ z. record { open_call = o; steps = omega arith; within = within; kept = refl };
-  ended = λ idle. absurd (open_not_idle d o idle);
-}
-
 -- ---- one step more
 
 pub none_ended : (e : CallState) → IsOpen e.place → ended_call_of_step e ≡ []

@@ -1,5 +1,5 @@
 -- What a pass has evicted after so many items of a schedule.
-use Rattle.std.proofs.Common.{◌≡◌, ℕ, ◌+◌, ◌<◌, List, [], ◌∷◌, ◌++◌, length, map, get_or, take, refl, sym, ap, ◌∙◌, append_assoc}
+use Rattle.std.proofs.Common.{◌≡◌, ℕ, ◌+◌, ◌<◌, List, [], ◌∷◌, ◌++◌, length, map, get_or, take, sym, ap, ◌∙◌, append_assoc}
 use Rattle.std.specs.List.{filter_map}
 use Rattle.std.proofs.lemmas.List.{append-nil, map-append, take_more}
 use Rattle.std.proofs.lemmas.List.Elements.{filter_map-append}
@@ -34,7 +34,3 @@ module _ (items : List Item) (i : ℕ) (d : Item) (lt : i < length items) where
     evicted = ap (λ (z : View). map (λ (f : ℕ × ℕ). f.0) z.evicted) led ∙ (map-append (λ (f : ℕ × ℕ). f.0) w.evicted ((a, n) ∷ []) ∙ ap (λ (l : List ℕ). l ++ a ∷ []) h.evicted) ∙ append_assoc (map (λ (f : ℕ × ℕ). f.0) v.evicted) (filter_map evicted_by (take i items)) (a ∷ [])
         ∙ ap (λ (l : List ℕ). map (λ (f : ℕ × ℕ). f.0) v.evicted ++ l) (sym (more ∙ ap (λ (t : Item). filter_map evicted_by (take i items) ++ filter_map evicted_by (t ∷ [])) is));
   }
-
--- before the first item
-pub evicts_nothing : (v : View) → EvictsCells [] v v
-evicts_nothing v = record { first = refl; asked = refl; kept = refl; loaded = λ none. none; evicted = sym (append-nil (map (λ (f : ℕ × ℕ). f.0) v.evicted)) }

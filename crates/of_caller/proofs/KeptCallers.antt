@@ -40,7 +40,7 @@ told_then_spent (Answered t q r k ∷ xs) [] s none told = absurd told
 told_then_spent (Answered t q r k ∷ xs) (b ∷ others) s none told = (told.0, told_then_spent xs others s none.1 told.1)
 told_then_spent (Spent t ∷ xs) answers s none told = absurd none.0
 
-unspent : (xs : List Outcome) (before : Option Outcome) → is_spent before ≡ false → NoneSpent xs → is_spent (last_outcome_or before xs) ≡ false
+pub unspent : (xs : List Outcome) (before : Option Outcome) → is_spent before ≡ false → NoneSpent xs → is_spent (last_outcome_or before xs) ≡ false
 unspent [] before is none = is
 unspent (Answered t q r k ∷ xs) before is none = unspent xs (Some (Answered t q r k)) refl none.1
 unspent (Spent t ∷ xs) before is none = absurd none.0
@@ -58,9 +58,6 @@ told_steps (Answered s announced raw steps ∷ outs) (a ∷ others) told = omega
 told_steps (Spent s ∷ outs) answers told = omega (arith, told_steps outs answers told)
 
 -- ---- what is kept
-
-ops_of : List EndedCall → List (List ℕ)
-ops_of es = map (λ (e : EndedCall). e.op) es
 
 pub begun_idle : (x : KnownCaller) → IsIdle x.machine → operations_known x ≡ map (λ (e : EndedCall). e.op) x.ended
 begun_idle x idle = ap (λ (b : Bool). map (λ (e : EndedCall). e.op) x.ended ++ open_operation x.machine b) (ap is_idle idle) ∙ append-nil (map (λ (e : EndedCall). e.op) x.ended)

@@ -1,5 +1,5 @@
 -- Lists whose items are paired.
-use Rattle.std.proofs.Common.{◌≡◌, ℕ, suc, ◌+◌, ◌<◌, List, [], ◌∷◌, ◌++◌, length, get_or, set, remove, take, drop, append_assoc, sym, refl, ap, ◌∙◌, subst, arith}
+use Rattle.std.proofs.Common.{◌≡◌, ℕ, suc, ◌+◌, ◌<◌, List, [], ◌∷◌, ◌++◌, length, get_or, remove, take, drop, append_assoc, sym, refl, ap, ◌∙◌, subst, arith}
 use Rattle.std.specs.List.{AllByRecursion as Each}
 use Rattle.of_caller.specs.Trees.{AllPaired, PrefixPaired}
 
@@ -8,27 +8,6 @@ both_append P [] [] c d p q = q
 both_append P [] (y ∷ b) c d p q = absurd p
 both_append P (x ∷ a) [] c d p q = absurd p
 both_append P (x ∷ a) (y ∷ b) c d p q = (p.0, both_append P a b c d p.1 q)
-
-pub each_front : {A : Type 0} (P : A → Type 0) (a b : List A) → Each P (a ++ b) → Each P a
-each_front P [] b e = tt
-each_front P (x ∷ a) b e = (e.0, each_front P a b e.1)
-
-pub each_back : {A : Type 0} (P : A → Type 0) (a b : List A) → Each P (a ++ b) → Each P b
-each_back P [] b e = e
-each_back P (x ∷ a) b e = each_back P a b e.1
-
-pub each_first : {A : Type 0} (P : A → Type 0) (a : List A) (d : A) → 0 < length a → Each P a → P (get_or a 0 d)
-each_first P [] d h e = absurd (omega arith)
-each_first P (x ∷ a) d h e = e.0
-
-pub both_none : {A : Type 0} (P : A → A → Type 0) (a : List A) → length a ≡ 0 → AllPaired P a a
-both_none P [] e = tt
-both_none P (x ∷ a) e = absurd (omega arith)
-
-pub both_one : {A : Type 0} (P : A → A → Type 0) (a : List A) (d y : A) → length a < 2 → 0 < length a → P (get_or a 0 d) y → AllPaired P a (set a 0 y)
-both_one P [] d y h o p = absurd (omega arith)
-both_one P (x ∷ []) d y h o p = (p, tt)
-both_one P (x ∷ z ∷ a) d y h o p = absurd (omega arith)
 
 pub both_map : {A : Type 0} (P Q : A → A → Type 0) (xs ys : List A) → ((x y : A) → P x y → Q x y) → AllPaired P xs ys → AllPaired Q xs ys
 both_map P Q [] [] f b = tt

@@ -1,5 +1,5 @@
 -- A team's run is a schedule.
-use Rattle.std.proofs.Common.{◌≡◌, ◌==◌, ◌&&◌, not, nat_lt, ℕ, zero, suc, ◌+◌, ◌<◌, ◌≤◌, ◌⊎◌, inl, inr, Bool, true, false, if◌then◌else◌, List, [], ◌∷◌, ◌++◌, length, map, take, drop, get_or, set, Option, Some, None, refl, sym, ap, ◌∙◌, subst, arith}
+use Rattle.std.proofs.Common.{◌≡◌, ◌==◌, ◌&&◌, not, nat_lt, ℕ, zero, suc, ◌+◌, ◌<◌, ◌≤◌, ◌⊎◌, inl, inr, Bool, true, false, if◌then◌else◌, List, [], ◌∷◌, ◌++◌, length, map, take, drop, get_or, set, Option, None, refl, sym, ap, ◌∙◌, subst, arith}
 use Rattle.std.specs.List.{filter_map, flat_map, slice_index_or, AllByRecursion as Each}
 use Rattle.std.proofs.lemmas.Bool.{eq-eqb}
 use Rattle.std.proofs.lemmas.Bool.Decides.{nat_tests}
@@ -22,7 +22,7 @@ use Rattle.of_core.specs.Machine.{CallState, IsOpen, is_idle}
 use Rattle.of_core.specs.TableMoment.{Moment, TableStart}
 use Rattle.of_core.specs.Turn.{IsIdle}
 use Rattle.of_core.specs.Events.{Event, Begins, Turns, Loads, Evicts, Raises, after_event, machine_in, after_events, IsSchedule, MayHappen, start_ticket}
-use Rattle.of_core.specs.Calls.{HasCalls, TurnsFindOpenCalls, NoneSpent, if_so, last_outcome_or, last_outcome, operations_begun, outcomes}
+use Rattle.of_core.specs.Calls.{HasCalls, TurnsFindOpenCalls, NoneSpent, if_so, last_outcome, operations_begun, outcomes}
 use Rattle.of_core.proofs.Parts.{run_append, operations_append, outcomes_append, first_part, second_part}
 use Rattle.of_row.specs.Views.{EndedCall, KnownCaller, View}
 use Rattle.of_row.specs.Told.{operations_known, outcomes_of}
@@ -35,7 +35,7 @@ use Rattle.of_caller.specs.PlanLaws.{KeepsLaws}
 use Rattle.of_caller.specs.Runs.{AreNextScripts}
 use Rattle.of_caller.specs.Teams.{KeepsCaller, KeepsLastCall, IsTeamOf, TeamsAreScheduled}
 use Rattle.of_caller.proofs.Schedules.{ticket_is}
-use Rattle.of_caller.proofs.KeptCallers.{begun_idle}
+use Rattle.of_caller.proofs.KeptCallers.{begun_idle, unspent}
 use Rattle.of_caller.proofs.Teams.{ran, keeps, tells, told_by, calls_of, machine_is}
 use Rattle.of_caller.specs.Scheduled.{item_events, begins_call, next_begin, with_begin, events_from, events_of_items, evicted_by, IsScheduled}
 
@@ -135,11 +135,6 @@ none_front (Answered t q r k ∷ xs) ys (a ∷ zs) us e l n = (tt, none_front xs
     tail_is : Answered t q r k ∷ (xs ++ ys) ≡ a ∷ (zs ++ us) → xs ++ ys ≡ zs ++ us
     tail_is e = cc
 none_front (Spent t ∷ xs) ys (a ∷ zs) us e l n = let same : Spent t ≡ a = cc in absurd (subst (λ (o : Outcome). NoneSpent (o ∷ zs)) (sym same) n).0
-
-unspent : (xs : List Outcome) (before : Option Outcome) → is_spent before ≡ false → NoneSpent xs → is_spent (last_outcome_or before xs) ≡ false
-unspent [] before is none = is
-unspent (Answered t q r k ∷ xs) before is none = unspent xs (Some (Answered t q r k)) refl none.1
-unspent (Spent t ∷ xs) before is none = absurd none.0
 
 at_map : (scripts : List (List Instr)) (k : ℕ) → k < length scripts → get_or (map operation_of scripts) k [] ≡ operation_of (get_or scripts k [])
 at_map [] k l = absurd (omega (arith, l))

@@ -13,7 +13,6 @@ use Rattle.of_caller.specs.Ends.{TellsAnswer}
 use Rattle.of_caller.specs.Brakes.{TakesSteps, TakesStepsFrom, UsesCountedSteps, StopsWhenToldUsedUp}
 use Rattle.of_caller.specs.Stops.{answer_steps, open_call_steps, KeepsStop}
 use Rattle.of_caller.specs.Lanes.{Appends, TakesStepsOfAnswers, KeepsToBrake, KeepsLeft}
-use Rattle.of_caller.proofs.BrakeCharges.{gave_none}
 
 told_push : (xs : List Answer) (a : Answer) → answer_steps (xs ++ a ∷ []) ≡ answer_steps xs + a.steps
 told_push [] a = omega arith
@@ -40,9 +39,6 @@ gave_both (Some a) (Some b) (Some c) n m g h = gave_of_both a b c n m g h
 
 pub gave_then : (a b c : Option (Option ℕ)) (xs ys zs : List Answer) → TakesStepsOfAnswers a b xs ys → TakesStepsOfAnswers b c ys zs → TakesStepsOfAnswers a c xs zs
 gave_then a b c xs ys zs g h = (g.0 + h.0, omega (arith, g.1, h.1), gave_both a b c g.0 h.0 g.2 h.2)
-
-pub gave_no_answer : (a : Option (Option ℕ)) (xs : List Answer) → TakesStepsOfAnswers a a xs xs
-gave_no_answer a xs = (0, omega arith, gave_none a)
 
 stop_more : (a b : Option ℕ) (n m o : ℕ) (state : EndState) → TakesStepsFrom a b n → KeepsStop b (m + o) state → KeepsStop a (n + m + o) state
 stop_more None b n m o state g k = subst (λ (z : Option ℕ). KeepsStop z (m + o) state) g k

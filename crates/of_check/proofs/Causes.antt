@@ -9,7 +9,7 @@ use Rattle.of_check.specs.declared.replay.Replay.{Replay as RustReplay}
 use Rattle.of_check.specs.Claims.{call_claims_of_text, end_claims_of_text}
 use Rattle.of_check.specs.Verdict.{IsClaimed}
 use Rattle.of_check.specs.Causes.{DifferFirst, DiffersAt}
-use Rattle.of_check.specs.Replay.{Replay, replay_at_start, entry_for, entries_from, course_end, after_claimed_call, MayFollow, AllFollow, replay_value, entries_so_far, HasRunCall, HasRunCalls}
+use Rattle.of_check.specs.Replay.{Replay, replay_at_start, entry_for, entries_from, course_end, after_claimed_call, MayFollow, AllFollow, HasRunCall, HasRunCalls}
 
 -- one call more
 
@@ -24,9 +24,6 @@ end_more p c (r ∷ qs) q = end_more p (after_claimed_call p c r) qs q
 entries_more : (p : Plan) (c : Replay) (qs : List CallClaim) (q : CallClaim) → entries_from p c (qs ++ q ∷ []) ≡ entries_from p c qs ++ entry_for p (course_end p c qs) q ∷ []
 entries_more p c [] q = refl
 entries_more p c (r ∷ qs) q = ap (λ (es : List Entry). entry_for p c r ∷ es) (entries_more p (after_claimed_call p c r) qs q)
-
-pub took_none : (p : Plan) (s : Start) (r : RustReplay) → replay_value r ≡ replay_at_start s → entries_so_far r ≡ [] → HasRunCalls p s [] r
-took_none p s r course entries = record { follow = tt; course = course; entries = entries }
 
 pub took_more : (p : Plan) (s : Start) (qs : List CallClaim) (q : CallClaim) (r now : RustReplay) → HasRunCalls p s qs r → HasRunCall p r now q → HasRunCalls p s (qs ++ q ∷ []) now
 took_more p s qs q r now all took = record {

@@ -139,10 +139,6 @@ module _ {X : Type 0} (work : X) (callers cells limit : ℕ) where
 pub at_end : (i n : ℕ) → i ≤ n → n ≤ i → i ≡ n
 at_end i n l u = omega arith
 
--- two reads of one machine
-pub same_read : {X : Type 0} (xs : List X) (i : ℕ) (s t : X) → i < length xs → s ≡ get_or xs i s → t ≡ get_or xs i t → t ≡ s
-same_read xs i s t l p q = q ∙ get_or_default xs i t s l ∙ sym p
-
 -- what a machine asks for at its place, and how it goes on there
 pub asks_here : (S : Setup) (m : CallState) (p : Place) → p ≡ m.place → want_at S m p ≡ want S m
 unfolding want

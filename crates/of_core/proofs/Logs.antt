@@ -1,5 +1,5 @@
 -- The log of a call: what its walk writes, and then its own cells.
-use Rattle.std.proofs.Common.{◌≡◌, ℕ, zero, suc, ◌+◌, ◌-◌, ◌*◌, ◌<◌, ◌≤◌, ◌⊎◌, inl, inr, List, [], ◌∷◌, ◌++◌, length, get_or, set, take, drop, refl, sym, ◌∙◌, ap, arith, length-set, length-append, map, Bool, true, false, nat_lt, if◌then◌else◌, eqb, ◌≢◌}
+use Rattle.std.proofs.Common.{◌≡◌, ℕ, zero, suc, ◌+◌, ◌-◌, ◌*◌, ◌<◌, ◌≤◌, ◌⊎◌, inl, inr, List, [], ◌∷◌, ◌++◌, length, get_or, set, take, drop, refl, sym, ◌∙◌, ap, arith, length-append, map, Bool, true, false, nat_lt, if◌then◌else◌, eqb, ◌≢◌}
 use Rattle.std.specs.List.{All, AllPairs, Any, list_any}
 use Rattle.std.proofs.lemmas.Map.Steps.{length-le_from_distinct_below}
 use Rattle.std.proofs.lemmas.Map.Made.{IsDistinct-from_AllPairs}
@@ -36,10 +36,6 @@ pay_changed k ws [] h = refl
 pay_changed k ws (e ∷ es) h =
     pay_changed k (set ws e.0 (pack k e.1)) es (All-tail (λ (e : ℕ × ℕ). e.1 < PAYLOADS) e es h)
     ∙ ap (λ (xs : List ℕ). with_writes_in xs es) (map-set payload_of ws e.0 (pack k e.1) ∙ ap (λ (v : ℕ). set (map payload_of ws) e.0 v) (pay_word k e.1 (h 0 (0, 0) (omega arith))))
-
-pub length-written : (xs : List ℕ) (es : List (ℕ × ℕ)) → length (with_writes_in xs es) ≡ length xs
-length-written xs [] = refl
-length-written xs (e ∷ es) = length-written (set xs e.0 e.1) es ∙ length-set xs e.0 e.1
 
 pub once_append : (xs ys : List (ℕ × ℕ)) → HasDistinctCells xs → HasDistinctCells ys → ((j k : ℕ) → j < length xs → k < length ys → (get_or xs j (0, 0)).0 ≡ (get_or ys k (0, 0)).0 → ⊥) → HasDistinctCells (xs ++ ys)
 once_append xs ys ox oy away = λ j k lj lk q. go j k (rw length-append at lj) (rw length-append at lk) q (cases_lt j (length xs)) (cases_lt k (length xs))

@@ -15,7 +15,8 @@ use Rattle.of_core.specs.History.{state_after, batch_at, data_word_after, with_l
 use Rattle.of_core.specs.WordsMatch.{IsLog, IsStart, StatesFollowBatches}
 use Rattle.of_core.specs.Scan.{LogsCell, LogsOwnCells, IsOverlayOf, WasTakenByScan}
 use Rattle.of_core.proofs.States.{state_same, batch_same, batch_new, state_next, state_length, old, changed_at, changed_other}
-use Rattle.of_core.proofs.Logs.{pay_changed, length-written}
+use Rattle.of_mem.proofs.Writes.{written_length}
+use Rattle.of_core.proofs.Logs.{pay_changed}
 use Rattle.of_core.proofs.Overlays.{calls_length, calls_lawful}
 
 -- some call is the caller's, or none is
@@ -225,7 +226,7 @@ module _ (S : Setup) (Lawful : List ℕ → Type 0) (sound : IsSoundMeaning S.me
       xs_size = length-map (state_after B bs n) payload_of ∙ size
 
       new_size : length (numbers_after B cs (n + 1)) ≡ S.cells
-      new_size = rw (new_numbers, length-written) xs_size
+      new_size = rw (new_numbers, written_length) xs_size
 
       same_from : SameFrom (first_operation_cell S) (numbers_after B cs (n + 1)) (numbers_after_calls S.meaning (numbers_after B bs n) b.calls)
       same_from = rw new_numbers over.effect

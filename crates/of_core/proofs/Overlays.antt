@@ -4,8 +4,8 @@ use Rattle.std.specs.List.{All}
 use Rattle.std.proofs.lemmas.Bool.{cases_eq, cases_lt}
 use Rattle.std.proofs.lemmas.Bool.Decides.{nat_tests}
 use Rattle.std.proofs.lemmas.List.Elements.{All-push}
-use Rattle.std.proofs.lemmas.List.{get_or_append_left, get_or-append_right, get_or-set_same, get_or-set_other, set-set, set_comm, get_or_past, get_or-take, length-take, get_or_push, get_or_default}
-use Rattle.std.proofs.lemmas.Bool.{eqb-true as same_num, eqb-false as other_num}
+use Rattle.std.proofs.lemmas.List.{get_or_append_left, get_or-append_right, get_or-set_same, get_or-set_other, set_comm, get_or_past, get_or-take, length-take, get_or_push, get_or_default}
+use Rattle.std.proofs.lemmas.Bool.{eqb-true as same_num}
 use Rattle.of_mem.specs.declared.work.TheConstants.{LEAST_ABORT, MOST_INSTRS, FEW_DATA_CELLS, MOST_WRITES}
 use Rattle.of_cell.specs.declared.shape.TheConstants.{LOG_SHARE}
 use Rattle.of_cell.specs.declared.word.TheConstants.{PAYLOADS}
@@ -14,14 +14,13 @@ use Rattle.of_mem.specs.declared.work.RawReply.{RawReply}
 use Rattle.of_mem.specs.Meaning.{HasDistinctCells, with_writes_in, SameFrom, Meaning, IsFinishedWalk, IsSoundMeaning, WalkFits, Agrees, is_marked}
 use Rattle.of_mem.specs.CellMap.{put_pair, put_all}
 use Rattle.of_mem.specs.Part.{overlaid}
-use Rattle.of_mem.proofs.Writes.{put_all_few}
+use Rattle.of_mem.proofs.Writes.{once_tail, once_put_all, put_all_few, written_length, written_put_all}
 use Rattle.of_core.specs.Table.{Setup, first_operation_cell, ticket_cell, shape_cell, reply_cell}
 use Rattle.of_core.specs.Machine.{Call, cells_from, own_cells, no_call}
 use Rattle.of_core.specs.History.{IsCellOfCaller, numbers_after_calls, CallsHaveReplies}
 use Rattle.of_core.specs.WordsMatch.{IsEntry}
 use Rattle.of_core.specs.Scan.{LogsCell, LogsOwnCells, IsOverlayOf}
-use Rattle.of_core.proofs.States.{once_tail}
-use Rattle.of_core.proofs.Logs.{AreWrites, once_within, written_append, drop_written, own_below, whole_log, length-listed, listed_at, length-written, own_is, IsOwn}
+use Rattle.of_core.proofs.Logs.{AreWrites, once_within, written_append, drop_written, own_below, whole_log, length-listed, listed_at, own_is, IsOwn}
 
 -- a write of a cell that no later one names may as well come last
 written_set : (xs : List ℕ) (es : List (ℕ × ℕ)) (a v : ℕ) → ((j : ℕ) → j < length es → (get_or es j (0, 0)).0 ≡ a → ⊥) → with_writes_in (set xs a v) es ≡ set (with_writes_in xs es) a v
@@ -32,17 +31,6 @@ written_set xs (e ∷ es) a v away =
 
 pub apart_head : (e : ℕ × ℕ) (es : List (ℕ × ℕ)) → HasDistinctCells (e ∷ es) → (j : ℕ) → j < length es → (get_or es j (0, 0)).0 ≡ e.0 → ⊥
 apart_head e es o j l q = let r : suc j ≡ 0 = o (suc j) 0 (omega arith) (omega arith) q in omega arith
-
-written_put : (xs : List ℕ) (ds : List (ℕ × ℕ)) (e : ℕ × ℕ) → HasDistinctCells ds → with_writes_in xs (put_pair ds e.0 e.1) ≡ set (with_writes_in xs ds) e.0 e.1
-written_put xs [] e o = refl
-written_put xs (d ∷ ds) e o = go (d.0 == e.0) refl (written_put (set xs d.0 d.1) ds e (once_tail d ds o))
-  where
-    go : (b : Bool) → (d.0 == e.0) ≡ b → with_writes_in (set xs d.0 d.1) (put_pair ds e.0 e.1) ≡ set (with_writes_in (set xs d.0 d.1) ds) e.0 e.1 → with_writes_in xs (if b then (e.0, e.1) ∷ ds else d ∷ put_pair ds e.0 e.1) ≡ set (with_writes_in (set xs d.0 d.1) ds) e.0 e.1
-    go true q r =
-        let s : e.0 ≡ d.0 = sym (same_num d.0 e.0 q) in
-        ap (λ (ys : List ℕ). with_writes_in ys ds) (rw s (sym (set-set xs d.0 d.1 e.1)))
-        ∙ written_set (set xs d.0 d.1) ds e.0 e.1 (λ j l r. apart_head d ds o j l (r ∙ s))
-    go false q r = r
 
 abbrev FromPut : List (ℕ × ℕ) → List (ℕ × ℕ) → ℕ × ℕ → Type 0
 FromPut ds es x = ((k : ℕ) × (k < length es) × (x ≡ get_or es k (0, 0))) ⊎ ((k : ℕ) × (k < length ds) × (x ≡ get_or ds k (0, 0)))
@@ -67,24 +55,6 @@ put_from (d ∷ ds) e (suc j) l = go (d.0 == e.0) l (λ m. put_from ds e j m)
         pick (inl q) = inl q
         pick (inr q) = inr (suc q.0, omega (arith, q.1), q.2)
 
-once_cons : (d : ℕ × ℕ) (es : List (ℕ × ℕ)) → HasDistinctCells es → ((j : ℕ) → j < length es → (get_or es j (0, 0)).0 ≡ d.0 → ⊥) → HasDistinctCells (d ∷ es)
-once_cons d es o away zero zero l m q = refl
-once_cons d es o away zero (suc k) l m q = absurd (away k (omega arith) (sym q))
-once_cons d es o away (suc j) zero l m q = absurd (away j (omega arith) q)
-once_cons d es o away (suc j) (suc k) l m q = let r : j ≡ k = o j k (omega arith) (omega arith) q in omega arith
-
-once_put : (ds : List (ℕ × ℕ)) (e : ℕ × ℕ) → HasDistinctCells ds → HasDistinctCells (put_pair ds e.0 e.1)
-once_put [] e o = once_cons e [] o (λ j l q. omega arith)
-once_put (d ∷ ds) e o = go (d.0 == e.0) refl (once_put ds e (once_tail d ds o))
-  where
-    go : (b : Bool) → (d.0 == e.0) ≡ b → HasDistinctCells (put_pair ds e.0 e.1) → HasDistinctCells (if b then (e.0, e.1) ∷ ds else d ∷ put_pair ds e.0 e.1)
-    go true q r = once_cons e ds (once_tail d ds o) (λ j l s. apart_head d ds o j l (s ∙ sym (same_num d.0 e.0 q)))
-    go false q r = once_cons d (put_pair ds e.0 e.1) r (λ j l s. away j s (put_from ds e j l))
-      where
-        away : (j : ℕ) → (get_or (put_pair ds e.0 e.1) j (0, 0)).0 ≡ d.0 → (get_or (put_pair ds e.0 e.1) j (0, 0) ≡ e) ⊎ ((k : ℕ) × (k < length ds) × (get_or (put_pair ds e.0 e.1) j (0, 0) ≡ get_or ds k (0, 0))) → ⊥
-        away j s (inl f) = other_num d.0 e.0 q (sym s ∙ ap (λ (x : ℕ × ℕ). x.0) f)
-        away j s (inr f) = apart_head d ds o f.0 f.1 (sym (ap (λ (x : ℕ × ℕ). x.0) f.2) ∙ s)
-
 names_later : (d : ℕ × ℕ) (es : List (ℕ × ℕ)) (a v : ℕ) → LogsCell es a v → LogsCell (d ∷ es) a v
 names_later d es a v n = record { place = suc n.place; among = omega (arith, n.among); names = n.names }
 
@@ -105,15 +75,6 @@ names_put (d ∷ ds) e a v away n = go (d.0 == e.0) refl n.place n.among n.names
     go true q (suc k) l r f = record { place = suc k; among = omega arith; names = r }
     go false q zero l r f = record { place = 0; among = omega arith; names = r }
     go false q (suc k) l r f = names_later d (put_pair ds e.0 e.1) a v (f (record { place = k; among = omega arith; names = r }))
-
--- the same of several entries, one after the other
-pub written_put_all : (xs : List ℕ) (ds es : List (ℕ × ℕ)) → HasDistinctCells ds → with_writes_in xs (put_all ds es) ≡ with_writes_in (with_writes_in xs ds) es
-written_put_all xs ds [] o = refl
-written_put_all xs ds (e ∷ es) o = written_put_all xs (put_pair ds e.0 e.1) es (once_put ds e o) ∙ ap (λ (ys : List ℕ). with_writes_in ys es) (written_put xs ds e o)
-
-once_put_all : (ds es : List (ℕ × ℕ)) → HasDistinctCells ds → HasDistinctCells (put_all ds es)
-once_put_all ds [] o = o
-once_put_all ds (e ∷ es) o = once_put_all (put_pair ds e.0 e.1) es (once_put ds e o)
 
 put_all_from : (ds es : List (ℕ × ℕ)) (j : ℕ) → j < length (put_all ds es) → FromPut ds es (get_or (put_all ds es) j (0, 0))
 put_all_from ds [] j l = inr (j, l, refl)
@@ -159,7 +120,7 @@ pub over_agrees : (known : List (Option ℕ)) (xs : List ℕ) (ds : List (ℕ ×
 over_agrees known xs [] o i h = h
 over_agrees known xs (e ∷ es) o i h =
     subst (Agrees (set (overlaid known es) e.0 (Some e.1))) (sym (written_set xs es e.0 e.1 (apart_head e es o)))
-    (agrees_set (overlaid known es) (with_writes_in xs es) e.0 e.1 (rw length-written (i 0 (0, 0) (omega arith))) (over_agrees known xs es (once_tail e es o) (λ k d l. i (suc k) d (omega arith)) h))
+    (agrees_set (overlaid known es) (with_writes_in xs es) e.0 e.1 (rw written_length (i 0 (0, 0) (omega arith))) (over_agrees known xs es (once_tail e es o) (λ k d l. i (suc k) d (omega arith)) h))
 
 pub over_unknown : (known : List (Option ℕ)) (ds : List (ℕ × ℕ)) (a : ℕ) → get_or (overlaid known ds) a None ≡ None → get_or known a None ≡ None
 over_unknown known [] a h = h
@@ -232,7 +193,7 @@ module _ (S : Setup) (Lawful : List ℕ → Type 0) (sound : IsSoundMeaning S.me
   module _ (xs : List ℕ) (cs : List Call) (ds : List (ℕ × ℕ)) (size : length xs ≡ S.cells) (lawful : Lawful xs) (o : IsOverlayOf S xs cs ds) where
     -- the list that the log leaves
     pub left_length : length (with_writes_in xs ds) ≡ S.cells
-    left_length = length-written xs ds ∙ size
+    left_length = written_length xs ds ∙ size
 
     pub left_lawful : Lawful (with_writes_in xs ds)
     left_lawful = sound.lawful_from (numbers_after_calls S.meaning xs cs) (with_writes_in xs ds) (calls_length xs cs size) left_length (sym o.effect) (calls_lawful xs cs size lawful)

@@ -1,7 +1,7 @@
 -- Filling a log: if no cell is there twice, the puts list the entries one after the other.
-use Rattle.std.proofs.Common.{◌≡◌, ℕ, zero, suc, ◌+◌, ◌-◌, ◌*◌, ◌/◌, ◌%◌, ◌^◌, ◌<◌, ◌≤◌, List, [], ◌∷◌, ◌++◌, length, get_or, take, drop, Option, Some, None, Bool, true, false, refl, ap, ◌∙◌, sym, subst, arith, append_assoc, length-append, replicate}
-use Rattle.std.proofs.lemmas.List.{get_or_append_left, get_or_push, append-nil, take_more, length-replicate, get_or-drop, get_or-take, length-take, length-drop, length-take-le, drop_all, take_all, drop-append-le}
-use Rattle.std.proofs.lemmas.Bool.{eq-eqb as same_test, ne_eqb as other_test}
+use Rattle.std.proofs.Common.{◌≡◌, ℕ, zero, suc, ◌+◌, ◌-◌, ◌*◌, ◌/◌, ◌%◌, ◌^◌, ◌<◌, ◌≤◌, List, [], ◌∷◌, ◌++◌, length, get_or, take, drop, Option, None, Bool, true, false, refl, ap, ◌∙◌, sym, subst, arith, append_assoc, length-append, replicate}
+use Rattle.std.proofs.lemmas.List.{get_or_append_left, get_or_push, append-nil, take_more, length-replicate, get_or-drop, get_or-take, length-take, length-drop, length-take-le, take_all, drop-append-le}
+use Rattle.std.proofs.lemmas.Bool.{ne_eqb as other_test}
 use Rattle.of_cell.specs.declared.word.TheConstants.{PAYLOADS}
 use Rattle.of_mem.specs.CellMap.{value_for, put_pair, put_all}
 use Rattle.of_mem.specs.Part.{Part, newest_at, write}
@@ -9,9 +9,8 @@ use Rattle.of_mem.specs.Meaning.{Meaning, IsSoundMeaning, Agrees, HasDistinctCel
 use Rattle.of_core.specs.Table.{Setup, first_operation_cell, ticket_cell}
 use Rattle.of_mem.specs.declared.work.TheConstants.{MOST_INSTRS}
 use Rattle.of_mem.specs.declared.work.RawReply.{RawReply}
-use Rattle.of_core.specs.declared.place.Place.{Place}
-use Rattle.of_core.specs.Machine.{CallState, flat_entries, log_words, entries_of_words, log_of, own_cells, cells_from, entries_going_round}
-use Rattle.of_core.specs.Steps.{after_read_run, first_marked_place}
+use Rattle.of_core.specs.Machine.{flat_entries, log_words, entries_of_words, log_of, own_cells, cells_from, entries_going_round}
+use Rattle.of_core.specs.Steps.{first_marked_place}
 use Rattle.of_mem.proofs.Lists.{zero_at}
 use Rattle.of_core.proofs.Unknown.{known_not}
 use Rattle.of_core.proofs.Logs.{whole_log, once_append}
@@ -19,10 +18,6 @@ use Rattle.of_core.proofs.Logs.{whole_log, once_append}
 pub put_all_append : (ds es fs : List (ℕ × ℕ)) → put_all ds (es ++ fs) ≡ put_all (put_all ds es) fs
 put_all_append ds [] fs = refl
 put_all_append ds (e ∷ es) fs = put_all_append (put_pair ds e.0 e.1) es fs
-
--- one entry more
-pub put_all_take : (ds es : List (ℕ × ℕ)) (i : ℕ) (d : ℕ × ℕ) → i < length es → put_all ds (take (i + 1) es) ≡ put_pair (put_all ds (take i es)) (get_or es i d).0 (get_or es i d).1
-put_all_take ds es i d l = ap (put_all ds) (take_more es i d l) ∙ put_all_append ds (take i es) (get_or es i d ∷ [])
 
 -- an entry of a cell that isn't there comes last
 put_absent : (e : ℕ × ℕ) (ds : List (ℕ × ℕ)) → ((k : ℕ) → k < length ds → (get_or ds k (0, 0)).0 ≡ e.0 → ⊥) → put_pair ds e.0 e.1 ≡ ds ++ e ∷ []
@@ -44,9 +39,6 @@ put_all_apart es (d ∷ ds) o =
         let new : get_or (es ++ d ∷ ds) (length es) (0, 0) ≡ d = rw (← regroup) (get_or_append_left (es ++ d ∷ []) ds (0, 0) (length es) (omega (arith, length-append es (d ∷ []))) ∙ get_or_push es d (0, 0) (length es) refl) in
         let s : k ≡ length es = o k (length es) (omega arith) (omega arith) (ap (λ (e : ℕ × ℕ). e.0) old ∙ q ∙ sym (ap (λ (e : ℕ × ℕ). e.0) new)) in
         omega arith
-
-pub put_all_once : (ds : List (ℕ × ℕ)) → HasDistinctCells ds → put_all [] ds ≡ ds
-put_all_once ds o = put_all_apart [] ds o
 
 pub log_of_words : (es : List (ℕ × ℕ)) → log_of (log_words es) ≡ es
 log_of_words es = go es
@@ -78,23 +70,9 @@ module _ (S : Setup) (Lawful : List ℕ → Type 0) (sound : IsSoundMeaning S.me
       → put_all es (own_cells (ticket_cell S i) ticket (length op) r) ≡ es ++ own_cells (ticket_cell S i) ticket (length op) r
   own_behind i ticket es r h c t b e = put_all_apart es (own_cells (ticket_cell S i) ticket (length op) r) (whole_log S i ticket (length op) xs op es r h c t b (walk_fits (Gives es r) e)).once
 
--- where a run needs a cell the place before doesn't matter
-pub read_anywhere : (m : CallState) (p : Place) (r : WalkEnd) → after_read_run (record m { place = p }) r ≡ after_read_run m r
-read_anywhere m p (Needs a) = refl
-read_anywhere m p (Gives es r) = refl
-
--- places that a shape marks
-pub mark_true : (shape j : ℕ) → shape / 2 ^ j % 2 ≡ 1 → is_marked shape j ≡ true
-unfolding is_marked
-mark_true shape j e = same_test (shape / 2 ^ j % 2) 1 e
-
 pub mark_false : (shape j : ℕ) → (shape / 2 ^ j % 2 ≡ 1 → ⊥) → is_marked shape j ≡ false
 unfolding is_marked
 mark_false shape j e = other_test (shape / 2 ^ j % 2) 1 e
-
-pub mark_here : (shape j n : ℕ) → 0 < n → is_marked shape j ≡ true → first_marked_place shape j n ≡ Some j
-mark_here shape j zero l e = absurd (omega arith)
-mark_here shape j (suc n) l e = rw e refl
 
 pub mark_later : (shape j n k : ℕ) → n ≡ k + 1 → is_marked shape j ≡ false → first_marked_place shape j n ≡ first_marked_place shape (j + 1) k
 mark_later shape j zero k l e = absurd (omega arith)
@@ -129,19 +107,9 @@ put_part ds es from j p l =
     ∙ ap (put_all ds) (drop-append-le from (take j es) (get_or es j (0, 0) ∷ []) (omega arith))
     ∙ put_all_append ds (drop from (take j es)) (get_or es j (0, 0) ∷ [])
 
-pub put_no_part : (ds es : List (ℕ × ℕ)) (from : ℕ) → put_all ds (drop from (take from es)) ≡ ds
-put_no_part ds es from = ap (put_all ds) (drop_all from (take from es) (omega (arith, length-take from es)))
-
 -- the parts of a log, going round
 pub put_round : (ds es : List (ℕ × ℕ)) (f n : ℕ) → length es ≡ n → put_all (put_all ds (drop f (take n es))) (drop 0 (take f es)) ≡ put_all ds (entries_going_round f es)
 put_round ds es f n e = ap (λ (xs : List (ℕ × ℕ)). put_all (put_all ds (drop f xs)) (take f es)) (take_all n es (omega arith)) ∙ sym (put_all_append ds (drop f es) (take f es))
-
-pub turned_none : (es : List (ℕ × ℕ)) (f : ℕ) → length es ≡ 0 → entries_going_round f es ≡ []
-turned_none es f e = ap (λ (xs : List (ℕ × ℕ)). xs ++ take f es) (drop_all f es (omega arith)) ∙ none (take f es) (omega (arith, length-take f es))
-  where
-    none : (xs : List (ℕ × ℕ)) → length xs ≡ 0 → xs ≡ []
-    none [] q = refl
-    none (x ∷ xs) q = absurd (omega arith)
 
 -- going round names no cell twice either
 pub once_turned : (es : List (ℕ × ℕ)) (f : ℕ) → HasDistinctCells es → HasDistinctCells (entries_going_round f es)

@@ -24,7 +24,7 @@ absent_put (e ∷ es) a v b n h = go (absent_put es a v b n (absent_tail e es b 
     go again true = absent_more (a, v) es b n (absent_tail e es b h)
     go again false = absent_more e (put_pair es a v) b (h 0 (omega arith)) again
 
-once_tail : (e : ℕ × ℕ) (es : List (ℕ × ℕ)) → HasDistinctCells (e ∷ es) → HasDistinctCells es
+pub once_tail : (e : ℕ × ℕ) (es : List (ℕ × ℕ)) → HasDistinctCells (e ∷ es) → HasDistinctCells es
 once_tail e es h j k l m q = let s : suc j ≡ suc k = h (suc j) (suc k) (omega arith) (omega arith) q in omega arith
 
 once_head : (e : ℕ × ℕ) (es : List (ℕ × ℕ)) → HasDistinctCells (e ∷ es) → IsAbsent es e.0

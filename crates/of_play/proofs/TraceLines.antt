@@ -27,17 +27,6 @@ lines_more l p k w (m ∷ ms) e =
     ap (λ (ls : List (List ℕ)). l k w m ∷ ls) (lines_more l p (k + 1) v ms e
     ∙ (λ i. lines_from l p (k + 1) v ms ++ l (number i) (world i) e ∷ []))
 
--- the lines of more events begin with those before
-pub lines_begin : (l : ℕ → Moment → Event → List ℕ) (p : Plan) (k : ℕ) (w : Moment) (ms ns : List Event)
-    → lines_from l p k w (ms ++ ns) ≡ lines_from l p k w ms ++ lines_from l p (k + length ms) (after_events (plan_setup p) w (events_from p w ms)) ns
-lines_begin l p k w [] ns = ap (λ (n : ℕ). lines_from l p n w ns) (omega arith)
-lines_begin l p k w (m ∷ ms) ns =
-    let v = after_events (plan_setup p) w (with_begin p w m) in
-    let number : k + 1 + length ms ≡ k + suc (length ms) = omega arith in
-    let world = sym (run_append (plan_setup p) w (with_begin p w m) (events_from p v ms)) in
-    ap (λ (ls : List (List ℕ)). l k w m ∷ ls) (lines_begin l p (k + 1) v ms ns
-    ∙ (λ i. lines_from l p (k + 1) v ms ++ lines_from l p (number i) (world i) ns))
-
 -- no line is shown before the first,
 pub shown_none : (f c : ℕ) (xs ys : List (List ℕ)) → length xs ≤ f → length ys ≤ f → shown_lines f c xs ≡ shown_lines f c ys
 shown_none f c xs ys h l = ap (λ (ls : List (List ℕ)). flat_map (λ line. line) (take c ls)) (drop_all f xs h ∙ sym (drop_all f ys l))

@@ -1,6 +1,5 @@
 -- Changes and what takes them back.
-use Rattle.std.proofs.lemmas.Bool.Decides.{eqb_tells}
-use Rattle.std.proofs.Common.{◌≡◌, inl, inr, ℕ, zero, suc, ◌+◌, ◌-◌, ◌<◌, ◌≤◌, Bool, true, false, cond, List, [], ◌∷◌, ◌++◌, length, take, get_or, set, Option, Some, None, is_some, Ok, Err, OnOk, OnErr, IfOk, Result, refl, sym, ap, subst, ◌∙◌, arith}
+use Rattle.std.proofs.Common.{◌≡◌, ℕ, zero, suc, ◌+◌, ◌-◌, ◌<◌, ◌≤◌, Bool, true, false, cond, List, [], ◌∷◌, ◌++◌, length, take, get_or, set, Option, Some, None, is_some, Ok, Err, OnOk, OnErr, IfOk, Result, refl, sym, ap, subst, ◌∙◌, arith}
 use Rattle.std.specs.Prelude.{slice_get, IsSome}
 use Rattle.std.specs.FinMap as fm
 use Rattle.std.specs.FinMap.{get-insert, get-remove, same_map, nat_cmp-IsAntisymmetric}
@@ -182,9 +181,6 @@ aborts_may_fail s First cause e = absurd cc
 aborts_may_fail s (Next k) cause e = absurd cc
 aborts_may_fail s (DropBelow k) cause e = refl
 
-some_same : (a b : Instr) → Some a ≡ Some b → a ≡ b
-some_same a b e = cc
-
 -- the first n instructions take nothing out
 abbrev pub TakesNone : List Instr → ℕ → Type 0
 TakesNone script n = (j : ℕ) (a : Instr) → j < n → slice_get script j ≡ Some a → takes_out a ≡ false
@@ -199,15 +195,6 @@ none_taken script n b h at fails j a lt is = elim (takes_out a) as (λ (x : Bool
 -- of the first n instructions none can fail behind what takes something out
 abbrev pub FailsFirstOf : List Instr → ℕ → Type 0
 FailsFirstOf script n = (i j : ℕ) (a b : Instr) → i < j → j < n → slice_get script i ≡ Some a → slice_get script j ≡ Some b → takes_out a ≡ true → may_fail b ≡ false
-
--- one instruction more that cannot fail, or behind which nothing was taken out
-pub first_on : (script : List Instr) (n : ℕ) (c : Instr) (taken : Bool) → ((j : ℕ) (a : Instr) → j < n → slice_get script j ≡ Some a → takes_out a ≡ true → taken ≡ true) → slice_get script n ≡ Some c → (taken ≡ true → may_fail c ≡ false) → FailsFirstOf script n → FailsFirstOf script (n + 1)
-first_on script n c taken were at safe h i j a b lt most is it out =
-    elim (eqb_tells j n) [
-      | inl p ↦ (let same : b ≡ c = some_same b c (sym it ∙ ap (slice_get script) p.1 ∙ at) in
-          ap may_fail same ∙ safe (were i a (omega (arith, p.1)) is out))
-      | inr p ↦ (let other = p.1 in h i j a b lt (omega (arith, other)) is it out)
-    ]
 
 -- ---- lists of changes
 
@@ -240,22 +227,6 @@ leads_one cs n c first now after lt back h =
 pub leads_on : (cs : List Change) (n : ℕ) (c : Change) (first now after : Store) → n < length cs → TakesBack c now after → ChangesLead cs n first now → ChangesLead (set cs n c) (n + 1) first after
 leads_on cs n c first now after lt back h =
     subst (λ (m : ℕ). ChangesLead (set cs n c) m first after) (let e : suc n ≡ n + 1 = omega arith in e) (leads_one cs n c first now after lt back h)
-
-pub leads_none : (cs : List Change) (s : Store) → ChangesLead cs 0 s s
-leads_none cs s = record { there = tt; back = refl }
-
--- one change fewer
-pub undone_one : (cs : List Change) (n : ℕ) (s : Store) → 0 < n → undone cs n s ≡ undone cs (n - 1) (without (get_or cs (n - 1) Nothing) s)
-undone_one cs zero s some = absurd (omega (arith, some))
-undone_one cs (suc n) s some =
-    let e : n ≡ suc n - 1 = omega arith in
-    ap (λ (m : ℕ). undone cs m (without (get_or cs m Nothing) s)) e
-
-pub there_one : (cs : List Change) (n : ℕ) (s : Store) → 0 < n → AreThere cs n s → IsChange (get_or cs (n - 1) Nothing) s × AreThere cs (n - 1) (without (get_or cs (n - 1) Nothing) s)
-there_one cs zero s some h = absurd (omega (arith, some))
-there_one cs (suc n) s some h =
-    let e : n ≡ suc n - 1 = omega arith in
-    subst (λ (m : ℕ). IsChange (get_or cs m Nothing) s × AreThere cs m (without (get_or cs m Nothing) s)) e h
 
 -- ---- what a failed script leaves
 

@@ -47,10 +47,6 @@ kept_empty room = ap (λ (n : ℕ). n + 0) (len-empty nat_cmp ℕ)
 
 -- ---- how many, for each answer
 
-pub none_grown : (o : Option ℕ) → is_some o ≡ false → o ≡ None
-none_grown None e = refl
-none_grown (Some v) e = absurd cc
-
 pub some_fewer : (o : Option ℕ) → is_some o ≡ true → fewer o ≡ 1
 some_fewer None e = absurd cc
 some_fewer (Some v) e = refl

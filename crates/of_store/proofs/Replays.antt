@@ -1,5 +1,5 @@
 -- Serial replay of one list of scripts behind another, and scripts that only read.
-use Rattle.std.proofs.Common.{◌≡◌, ℕ, Bool, true, false, cond, List, [], ◌∷◌, ◌++◌, length, Option, None, IfOk, Ok, Err, All, IsTrue, refl, sym, ap, subst}
+use Rattle.std.proofs.Common.{◌≡◌, ℕ, Bool, true, false, cond, List, [], ◌∷◌, ◌++◌, Option, None, IfOk, Ok, Err, All, IsTrue, refl, sym, ap, subst}
 use Rattle.std.specs.List.{AllByRecursion}
 use Rattle.std.proofs.lemmas.List.Elements.{recursion_from_All}
 use Rattle.of_script.specs.declared.instr.Instr.{Instr}
@@ -15,10 +15,6 @@ replies-append s (x ∷ xs) ys = ap (λ (rs : List Reply). (run s x).1 ∷ rs) (
 pub last_store-append : (s : Store) (xs ys : List (List Instr)) → last_store s (xs ++ ys) ≡ last_store (last_store s xs) ys
 last_store-append s [] ys = refl
 last_store-append s (x ∷ xs) ys = last_store-append (run s x).0 xs ys
-
-pub length-replies : (s : Store) (xs : List (List Instr)) → length (replies_in_order s xs) ≡ length xs
-length-replies s [] = refl
-length-replies s (x ∷ xs) = let rest = length-replies (run s x).0 xs in cc
 
 -- ---- scripts that only read
 

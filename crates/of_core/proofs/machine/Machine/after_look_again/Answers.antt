@@ -3,7 +3,8 @@ use Rattle.std.proofs.lemmas.Bool.Decides.{nat_tests}
 use Rattle.of_cell.specs.Words.{pack}
 use Rattle.of_mem.specs.WriteSet.{WriteSet}
 use Rattle.of_core.specs.Machine.{log_of, entries_going_round}
-use Rattle.of_core.proofs.Puts.{put_all_once, once_turned, log_of_words}
+use Rattle.of_mem.proofs.Writes.{put_all_once}
+use Rattle.of_core.proofs.Puts.{once_turned, log_of_words}
 use Rattle.of_core.proofs.machine.Machine.after_look_again.Goals as goal
 
 pub returns-then-found-pack : goal.returns-then-found-pack
