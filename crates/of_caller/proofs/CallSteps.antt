@@ -49,8 +49,6 @@ pub same_kept : (x y : KnownCaller) → ◌≡◌ {A = List KnownCaller} (x ∷ 
 unfolding first_kept
 same_kept x y e = ap (λ l. first_kept l x) e
 
--- ---- the start of a call
-
 -- ---- one step more
 
 pub none_ended : (e : CallState) → IsOpen e.place → ended_call_of_step e ≡ []
