@@ -13,6 +13,3 @@ free_stays o blocks (suc b) = (omega arith, λ link. (omega arith, tt))
 
 pub take_stays : (o blocks : ℕ) → StaysFrom o (take_program o blocks)
 take_stays o blocks = (omega arith, λ f. free_stays o blocks f)
-
-pub give_stays : (o b : ℕ) → StaysFrom o (give_program o b)
-give_stays o b = (omega arith, λ front. (omega arith, (omega arith, tt)))

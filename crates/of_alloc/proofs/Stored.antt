@@ -25,9 +25,6 @@ module _ (o blocks : ℕ) (few : blocks ≤ MOST_BLOCKS) (m : ℕ → ℕ) (s : 
   pub take_inside : StaysBetween o (cells_at o blocks) (take_program o blocks) m
   take_inside = (taking o blocks m few (h.chains 0) free_list).inside
 
-  pub take_quiet : program_answer (take_program o blocks) m ≡ None → program_writes (take_program o blocks) m ≡ []
-  take_quiet = (taking o blocks m few (h.chains 0) free_list).quiet
-
   pub takes_off : TakesOff o blocks m h.chains (program_answer (take_program o blocks) m) (memory_after (take_program o blocks) m)
   takes_off = take_takes_off o blocks m h.chains h.owner h.heap h.none_out
 

@@ -37,10 +37,6 @@ some_is : (x : Option ℕ) → is_some x ≡ true → (v : ℕ) × (x ≡ Some v
 some_is None e = absurd (false≢true e)
 some_is (Some v) e = (v, refl)
 
-pub none_is : (x : Option ℕ) → is_some x ≡ false → x ≡ None
-none_is None e = refl
-none_is (Some v) e = absurd (false≢true (sym e))
-
 module _ (p : Plot) (cells : List ℕ) (k : ℕ) (chains : ℕ → List ℕ) (owners : List ℕ) (s : Store) (k_in : k < 32) (w : HasWalked p cells (1 + k) 0 chains owners) (h : HoldsWhatWasMet p cells chains s) where
   -- a key that the store has was met in its bucket
   pub met_key : (key : ℕ) → key % 32 ≡ k → is_some (fin.get s.keys key) ≡ true → IsNoKey (base p) (memory_of cells) k (chains (1 + k)) key

@@ -32,9 +32,6 @@ push_run s q v room =
     let not_full : leb s.room (stored_count s) ≡ false = elim (leb_tells s.room (stored_count s)) [ inl p ↦ absurd (let h = p.1 in omega arith) | inr p ↦ p.0 ] in
     one_run s (with_queue s q (queue s q ++ v ∷ [])) (Push q v) None (rw not_full refl)
 
-pub store_run : (s : Store) (r v : ℕ) → (run s (StoreInstr r v ∷ [])).0 ≡ with_register s r v
-store_run s r v = refl
-
 nil_at : (n q : ℕ) → get_or {A = List ℕ} (replicate n []) q [] ≡ []
 nil_at zero q = refl
 nil_at (suc n) zero = refl

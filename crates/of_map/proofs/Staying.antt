@@ -43,6 +43,3 @@ module _ (o blocks key : ℕ) where
 
 pub count_stays : (o : ℕ) → StaysFrom o (key_count_program o)
 count_stays o = (omega arith, λ n. tt)
-
-pub count_reads : (o : ℕ) → OnlyReads (key_count_program o)
-count_reads o n = tt

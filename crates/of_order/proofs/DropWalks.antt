@@ -106,10 +106,6 @@ module _ (plot : Plot) (p : Part) (low i cell f gone : ℕ) (small : i < 32) (h 
           within = subst (λ (x : ℕ). IsInsideBucket o plot.blocks low i h.first (memory_after (give_program o b) (with_value h.memory cell (h.memory (link_at o b)))) cell x (gone + 1) here.0) link_is (leaves o plot.blocks low i small h.first h.memory cell f gone b here.0 w plot.few_blocks key_less);
         }
 
--- no more keys are gone than there were
-pub gone_small : (plot : Plot) (p : Part) (low i cell f gone : ℕ) → Stays plot p low i cell f gone → gone ≤ 512
-gone_small plot p low i cell f gone h = omega (arith, h.within.state.fewer.count, h.within.state.few, plot.few_blocks)
-
 -- the pointer cell is a cell of the plot
 pub cell_fits : (plot : Plot) (p : Part) (low i cell f gone : ℕ) → i < 32 → (h : Stays plot p low i cell f gone) → f ≢ 0 → (k a c g : ℕ) → a ≡ first_at (base plot) (f - 1) → newest_at p a ≡ Some k → k < low → cell < data_cell_count plot
 cell_fits plot p low i cell f gone small h some k a c g is e less =

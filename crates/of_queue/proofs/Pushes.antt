@@ -67,9 +67,6 @@ module _ (o blocks : ℕ) (m : ℕ → ℕ) (s : CellStore) (h : StandsForStore 
   heap4 : IsHeap o blocks m4 chains (with_value t.owner b (33 + q))
   heap4 = heap_append o blocks m3 t.chains_after t.owner heap3 (33 + q) b (omega (arith, q_in)) t.out (changed_same m2 (link_at o b) 0)
 
-  front_not : (a : ℕ) → ((c : ℕ) → c < 37 → front_at o c ≢ a) → a ≢ front_at o (33 + q)
-  front_not a n e = n (33 + q) (omega (arith, q_in)) (sym e)
-
   -- where no front stands
   tail_no_front : (r c : ℕ) → c < 37 → front_at o c ≢ tail_at o r
   tail_no_front r c l e = omega (arith, fronts o c l)

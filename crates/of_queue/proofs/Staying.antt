@@ -31,9 +31,3 @@ module _ (o q : ℕ) where
 
   pub pop_stays : StaysFrom o (pop_program o q)
   pop_stays = (omega arith, λ f. head_stays f)
-
-  pub len_stays : StaysFrom o (len_program o q)
-  len_stays = (omega arith, λ n. tt)
-
-  pub len_reads : OnlyReads (len_program o q)
-  len_reads n = tt

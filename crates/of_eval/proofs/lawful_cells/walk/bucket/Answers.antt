@@ -7,7 +7,8 @@ use Rattle.of_mem.proofs.Heaps.{front_bucket}
 use Rattle.of_eval.specs.Walking.{LinkLeadsOn}
 use Rattle.of_eval.proofs.Beginnings.{here_below, stepped_smaller, stepped_end}
 use Rattle.of_eval.proofs.Passing.{counted_few, pointer_fault, here_push, with_block}
-use Rattle.of_eval.proofs.Buckets.{here_start, none_is, met_key, key_fault, second_fault, room, met_entry, bucket_ends}
+use Rattle.of_mem.proofs.Unread.{unknown_there}
+use Rattle.of_eval.proofs.Buckets.{here_start, met_key, key_fault, second_fault, room, met_entry, bucket_ends}
 use Rattle.of_eval.proofs.lawful_cells.walk.bucket.Goals as goal
 use Rattle.of_eval.proofs.lawful_cells.walk.bucket.Goals.{then-key-gt-GREATEST-via-then-key-gt-GREATEST, then-key-gt-GREATEST-via-else-key-gt-GREATEST+then-key-b, then-key-gt-GREATEST-via-else-key-gt-GREATEST+else-key-b+then-is_some}
 
@@ -43,7 +44,7 @@ pub returns-then-value-gt-GREATEST-clause-err : goal.returns-then-value-gt-GREAT
 returns-then-value-gt-GREATEST-clause-err c =
     let i = c.loop-block.invariant in
     let s = subst (λ (o : Option ℕ). LinkLeadsOn c.args.cells.now c.loop-block.cell (1 + c.args.b) c.loop-block.owners c.next.new.owners o) c.in-Some.is c.in_ok-block.ensures.ok in
-    let absent : fin.get c.loop-block.store.keys (memory_of c.args.cells.now c.block-first.result) ≡ None = none_is (fin.get c.loop-block.store.keys (memory_of c.args.cells.now c.block-first.result)) (sym (c.is_some.ensures ∙ ap is_some c.key.ensures.value) ∙ c.if-is_some.false) in
+    let absent : fin.get c.loop-block.store.keys (memory_of c.args.cells.now c.block-first.result) ≡ None = unknown_there (fin.get c.loop-block.store.keys (memory_of c.args.cells.now c.block-first.result)) (sym (c.is_some.ensures ∙ ap is_some c.key.ensures.value) ∙ c.if-is_some.false) in
     second_fault c.args.plot.now c.args.cells.now c.args.b i.0 c.loop-block.owners c.loop-block.store c.requires.b i.1 i.2 c.loop-block.cell c.in-Some.block c.next.new.owners i.3 s c.block-first.result c.block-second.result c.block-first.ensures c.block-second.ensures (omega (arith, c.if-key-gt-GREATEST.false)) (omega (arith, c.if-key-b.false)) absent c.if-value-gt-GREATEST.true
 
 pub put-requires-clause-room : goal.put-requires-clause-room
@@ -61,7 +62,7 @@ pub loop-block-preserved : goal.loop-block-preserved
 loop-block-preserved c =
     let i = c.loop-block.invariant in
     let s = subst (λ (o : Option ℕ). LinkLeadsOn c.args.cells.now c.loop-block.cell (1 + c.args.b) c.loop-block.owners c.next.new.owners o) c.in-Some.is c.in_ok-block.ensures.ok in
-    let absent : fin.get c.loop-block.store.keys (memory_of c.args.cells.now c.block-first.result) ≡ None = none_is (fin.get c.loop-block.store.keys (memory_of c.args.cells.now c.block-first.result)) (sym (c.is_some.ensures ∙ ap is_some c.key.ensures.value) ∙ c.if-is_some.false) in
+    let absent : fin.get c.loop-block.store.keys (memory_of c.args.cells.now c.block-first.result) ≡ None = unknown_there (fin.get c.loop-block.store.keys (memory_of c.args.cells.now c.block-first.result)) (sym (c.is_some.ensures ∙ ap is_some c.key.ensures.value) ∙ c.if-is_some.false) in
     let m = met_entry c.args.plot.now c.args.cells.now c.args.b i.0 c.loop-block.owners c.loop-block.store c.requires.b i.1 i.2 c.loop-block.cell c.in-Some.block c.next.new.owners i.3 s c.block-first.result c.block-second.result c.block-first.ensures c.block-second.ensures (omega (arith, c.if-key-gt-GREATEST.false)) (omega (arith, c.if-key-b.false)) absent c.put.new.store (omega (arith, c.if-value-gt-GREATEST.false)) c.in_ok-put.ensures in (
       with_block i.0 (1 + c.args.b) c.in-Some.block,
       m.0,
