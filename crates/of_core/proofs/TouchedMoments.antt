@@ -178,6 +178,6 @@ worked : (S : Setup) (op : List ℕ) → S.callers ≡ 3 → S.instrs ≡ 16 →
 worked S op e d l r = rw (e, d, l, r) refl
 
 -- and in general, of a call that may write
-in_general : (S : Setup) (op : List ℕ) (r w : ℕ) → S.meaning.reads_only op ≡ false
+worked_in_general : (S : Setup) (op : List ℕ) (r w : ℕ) → S.meaning.reads_only op ≡ false
     → touched_bound S op r w ≡ 34 * (S.callers * (w + (S.instrs + 2))) + 3 * (S.callers * (r + S.instrs + 2)) + length op + 46
-in_general S op r w q = rw q (grind arith)
+worked_in_general S op r w q = rw q (grind arith)

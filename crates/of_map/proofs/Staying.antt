@@ -6,7 +6,7 @@ use Rattle.of_mem.proofs.Runs.{stays_then, stays_after, reads_then}
 use Rattle.of_alloc.specs.BlockPrograms.{take_program}
 use Rattle.of_alloc.proofs.Staying.{take_stays}
 use Rattle.of_map.specs.declared.answers.Position.{Position}
-use Rattle.of_map.specs.MapPrograms.{seek_program, get_at, get_program, put_new, put_found, put_program, del_found, del_program, key_count_program}
+use Rattle.of_map.specs.MapPrograms.{seek_program, get_at, get_program, put_new, put_found, put_program, del_found, del_program}
 use Rattle.of_map.proofs.Seeks.{seek_stays, seek_yields, IsFrom}
 
 module _ (o blocks key : ℕ) where
@@ -40,6 +40,3 @@ module _ (o blocks key : ℕ) where
 
   pub del_stays : StaysFrom o (del_program o blocks key)
   del_stays = stays_after o (IsFrom o) (seek_program o blocks key) (del_found o) seeking.0 (seek_yields o key (blocks + 1) (bucket_at o (key % 32)) (omega arith)) unlink_stays
-
-pub count_stays : (o : ℕ) → StaysFrom o (key_count_program o)
-count_stays o = (omega arith, λ n. tt)

@@ -1,7 +1,7 @@
 -- Lemmas on lists and options that this crate and the ones above it share: what stands at a place
 -- of a list of equals, a part of a list, a front of a list, and a table of a function.
 use mathlib.Core.List.{IsPrefix}
-use Rattle.std.proofs.Common.{◌≡◌, ℕ, zero, suc, ◌+◌, ◌-◌, ◌<◌, ◌≤◌, Option, Some, None, List, [], ◌∷◌, ◌++◌, length, take, drop, get_or, map, replicate, refl, sym, ap, subst, ◌∙◌, arith}
+use Rattle.std.proofs.Common.{◌≡◌, ℕ, zero, suc, ◌+◌, ◌-◌, ◌<◌, ◌≤◌, Option, Some, None, List, [], ◌∷◌, ◌++◌, length, take, drop, get_or, map, replicate, refl, sym, ap, ◌∙◌, arith}
 use Rattle.std.specs.List.{range_with_len, slice_range}
 use Rattle.std.proofs.lemmas.List.{append_assoc, ext_get_or, get_or-take, get_or-drop, length-take-le, length-drop}
 use Rattle.std.proofs.lemmas.List.FromFn.{get_or-map-range_with_len, length-map-range_with_len}
@@ -22,14 +22,6 @@ part_at xs a n i l = get_or-take (a + n - a) (drop a xs) i 0 (omega arith) ∙ g
 
 pub part_long : (xs : List ℕ) (a n : ℕ) → a + n ≤ length xs → length (slice_range xs a (a + n)) ≡ n
 part_long xs a n l = let e : a + n - a ≡ n = omega arith in length-take-le (a + n - a) (drop a xs) (omega (arith, length-drop a xs)) ∙ e
-
--- if the first k words are those that stood from n on, the first n are the second half of the old ones
-pub second_half : (n k : ℕ) (old ws : List ℕ) → n + n ≤ length old → length ws ≡ length old → n ≤ k → ((i : ℕ) → i < k → get_or ws i 0 ≡ get_or old (n + i) 0) → take n ws ≡ slice_range old n (n + n)
-second_half n k old ws room long all same =
-    let left : length (take n ws) ≡ n = length-take-le n ws (omega (arith, room, long)) in
-    ext_get_or 0 (take n ws) (slice_range old n (n + n)) (left ∙ sym (part_long old n n room)) (λ i lt.
-    let low : i < n = subst (λ (m : ℕ). i < m) left lt in
-    get_or-take n ws i 0 low ∙ same i (omega (arith, low, all)) ∙ sym (part_at old n n i low))
 
 pub take_none : {A : Type 0} (xs : List A) → take 0 xs ≡ []
 take_none [] = refl

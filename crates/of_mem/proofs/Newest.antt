@@ -1,5 +1,5 @@
 -- What each cell holds, where a number is learnt, written, kept or undone.
-use Rattle.std.proofs.Common.{◌≡◌, ℕ, suc, ◌+◌, ◌<◌, ◌==◌, Bool, true, false, if◌then◌else◌, List, [], ◌∷◌, length, Option, Some, None, get_or, set, drop, replicate, refl, sym, ◌∙◌, ap, arith, length-set, ◌⊎◌, inl, inr}
+use Rattle.std.proofs.Common.{◌≡◌, ℕ, suc, ◌+◌, ◌<◌, ◌==◌, Bool, true, false, if◌then◌else◌, List, [], ◌∷◌, length, Option, Some, None, get_or, set, drop, refl, sym, ◌∙◌, ap, arith, length-set, ◌⊎◌, inl, inr}
 use Rattle.std.proofs.lemmas.Bool.{cases_eq, eq-eqb}
 use Rattle.std.proofs.lemmas.Bool.Decides.{nat_tests}
 use Rattle.std.proofs.lemmas.List.{drop_more, get_or-drop, length-drop, get_or-set_same, get_or-set_other}
@@ -7,7 +7,7 @@ use Rattle.std.specs.Option.{option_or}
 use Rattle.std.proofs.lemmas.Bool.{ne_eqb as differs}
 use Rattle.of_mem.specs.CellMap.{value_for, put_pair, put_all, entry_address, IsAbsent}
 use Rattle.of_mem.specs.WriteSet.{WriteSet, IsWriteSet}
-use Rattle.of_mem.specs.Part.{Part, newest_at, newer_of, empty_part, learn, write, keep}
+use Rattle.of_mem.specs.Part.{Part, newest_at, newer_of, learn, write, keep}
 use Rattle.of_mem.specs.Newest.{HasNewest}
 use Rattle.of_mem.proofs.WriteSets.{value_at_put, value_at-absent}
 
@@ -34,20 +34,6 @@ value_at_put_all ds (e ∷ es) a once = value_at_put_all (put_pair ds e.0 e.1) e
     go : (t : Bool) → (e.0 == a) ≡ t → newer_of (value_for es a) (if t then Some e.1 else value_for ds a) ≡ newer_of (if t then Some e.1 else value_for es a) (value_for ds a)
     go true q = ap (λ (x : Option ℕ). newer_of x (Some e.1)) (value_at-absent es a (absent (grind (arith, nat_tests))))
     go false q = refl
-
-pub newest_unknown : (n : ℕ) → HasNewest (empty_part n) (replicate n None)
-unfolding newest_at
-newest_unknown n = record { size = refl; at = λ a l. refl }
-
--- a cell that holds no number was not written
-pub none_written : (p : Part) (cells : List (Option ℕ)) (a : ℕ) → a < length p.known → HasNewest p cells → get_or cells a None ≡ None → option_or (value_for p.script a) (value_for p.batch a) ≡ None
-unfolding newest_at
-none_written p cells a l h e = none (value_for p.script a) (value_for p.batch a) (get_or p.known a None) (sym (h.at a l) ∙ e)
-  where
-    none : (x y z : Option ℕ) → newer_of x (newer_of y z) ≡ None → option_or x y ≡ None
-    none None None z q = refl
-    none None (Some v) z q = q
-    none (Some v) y z q = q
 
 -- what is learnt shows where neither batch nor script has a number
 pub newest_learnt : (p : Part) (cells : List (Option ℕ)) (a v : ℕ) → a < length p.known → HasNewest p cells
