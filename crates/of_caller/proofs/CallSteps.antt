@@ -124,6 +124,7 @@ module _ (S : Setup) (L : List ℕ → Type 0) (B : TableStart) (d0 : CallState)
           meant = subst (λ (op : List ℕ). IsMeantReply S B (seen_history w.seen) op q) p.op ends.meant;
           steps = subst (λ (k : ℕ). TellsSteps k q) steps ends.steps;
           within = omega (arith, (p.still o).steps, (p.still o).within);
+          touched = touched_is;
           beyond = subst (λ (k : ℕ). IsNotBefore k q) since_is ends.beyond;
           last = record { machine = d; found = found; meets = t.meets; open_call = o; leads = refl; spent = spent_exactly S d found o idle q ends.answer };
         },
