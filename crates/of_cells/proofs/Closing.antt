@@ -1,11 +1,12 @@
 -- What recovery finds in the words of a closed table of a work.
-use Rattle.std.proofs.Common.{◌≡◌, ℕ, ◌+◌, ◌-◌, ◌≤◌, ◌<◌, ◌⊎◌, inl, inr, Bool, true, false, refl, sym, ◌∙◌, ap, subst, arith, List, [], ◌∷◌, ◌++◌, length, get_or, map, length-append}
+use Rattle.std.proofs.Common.{◌≡◌, ℕ, ◌+◌, ◌-◌, ◌≤◌, ◌<◌, ◌⊎◌, inl, inr, Bool, true, false, refl, sym, ◌∙◌, ap, subst, arith, List, [], ◌∷◌, ◌++◌, length, get_or, map, take, length-append}
 use Rattle.std.specs.Prelude.{slice_index}
 use Rattle.std.specs.List.{AllByRecursion as Each}
 use Rattle.std.proofs.lemmas.Bool.{cases_lt}
 use Rattle.std.proofs.lemmas.List.{get_or-map, length-map, get_or_append_left}
 use Rattle.std.proofs.lemmas.List.Elements.{All-from_get_or}
-use Rattle.std.proofs.Math.Seq.{get_or-append_seam}
+use Rattle.std.proofs.Math.Seq.{get_or-append_seam, take-append_seam}
+use mathlib.Core.List.{IsPrefix}
 use Rattle.std.proofs.Math.ListN.{get_or-map as get_or_map_at}
 use Rattle.of_cell.specs.Words.{payload_of}
 use Rattle.of_cell.specs.declared.word.TheConstants.{GREATEST_LIMIT}
@@ -13,7 +14,7 @@ use Rattle.of_cell.specs.Cells.{data_cell}
 use Rattle.of_mem.specs.Meaning.{Meaning, HasRoom}
 use Rattle.of_mem.specs.Places.{ticket_cell_at, shape_at, reply_at}
 use Rattle.of_mem.specs.declared.work.TheConstants.{MOST_INSTRS}
-use Rattle.of_mem.proofs.Lists.{part_at}
+use Rattle.of_mem.proofs.Lists.{part_at, prefix_trans}
 use Rattle.of_recover.specs.Recovered.{recovered_words, recovered_data, RecoversData}
 use Rattle.of_recover.proofs.Agreeing.{recovered_data-same}
 use Rattle.of_core.specs.declared.place.Outcome.{Outcome}
@@ -21,7 +22,8 @@ use Rattle.of_core.specs.declared.place.Outcome.TheVariants.{Answered, Spent}
 use Rattle.of_core.specs.Table.{Setup, setup_of, durable_word, ticket_cell, shape_cell, reply_cell}
 use Rattle.of_core.specs.TableMoment.{TableStart}
 use Rattle.of_core.specs.Machine.{Call, no_call, is_idle, IsOpen}
-use Rattle.of_core.specs.Events.{start_ticket}
+use Rattle.of_core.specs.Events.{Event, start_ticket}
+use Rattle.of_cells.specs.Times.{calls_ended_in, calls_begun_in}
 use Rattle.of_core.specs.Calls.{operations_begun}
 use Rattle.of_core.specs.Laws.{setup_for}
 use Rattle.of_core.specs.Linear.{ExplainsOutcome, FindsCall, recovered_number}
@@ -39,7 +41,7 @@ use Rattle.of_row.specs.Moments.{ExplainsEndedCalls, StopsLoseNothing, LosesNoth
 use Rattle.of_cells.specs.declared.saved.SavedCells.{SavedCells}
 use Rattle.of_cells.specs.History.{ExplainsEnd, IsOneOf}
 use Rattle.of_cells.specs.Serving.{made_before}
-use Rattle.of_cells.specs.Saving.{ExplainsKept, HasOpenOperation, HasOnlyKept, HistoryLeads, HoldsReply, TellsLast, IsSavedCells, SavesHistory, saved_cells}
+use Rattle.of_cells.specs.Saving.{ExplainsKept, HasOpenOperation, HasOnlyKept, RespectsEvents, HistoryLeads, HoldsReply, TellsLast, IsSavedCells, SavesHistory, saved_cells}
 
 -- ---- lists
 
@@ -142,6 +144,20 @@ module _ {W : Type 0} (meaning : W → Meaning) (lawful : W → List ℕ → Typ
       )
     ]
 
+    -- what the view knows of real time, the order respects
+    on_time : RespectsEvents meaning r v.past h
+    on_time n x k y before p q lt high first later =
+        let es = lost.events in
+        let known : IsPrefix before.moment es = prefix_trans before.moment v.past es before.early (lost.reached.pasts meets.seat v meets.view seat.2) in
+        let cut : take (length before.moment) es ≡ before.moment = ap (take (length before.moment)) (sym known.1) ∙ take-append_seam before.moment known.0 in
+        let c : Call = get_or h q no_call in
+        let e : Call = get_or h p no_call in
+        lost.linearizes.real_time p q lt high (
+          length before.moment,
+          subst (λ (z : List Event × ℕ). c.ticket ≤ start_ticket S B z.1 + calls_ended_in S B z.0 z.1) (λ i. (sym cut i, sym first.0 i)) (omega (arith, first.1, before.ended)),
+          subst (λ (z : List Event × ℕ). start_ticket S B z.1 + calls_begun_in z.0 z.1 < e.ticket) (λ i. (sym cut i, sym later.0 i)) (omega (arith, later.1, before.begun)),
+        )
+
     pub leads : HistoryLeads meaning r v d h
     leads = record {
       serial = lost.linearizes.legal;
@@ -151,6 +167,7 @@ module _ {W : Type 0} (meaning : W → Meaning) (lawful : W → List ℕ → Typ
       only = each_of owned v.kept (lost.reached.callers meets.seat v meets.view seat.2);
       callers = λ y x l. (lost.linearizes.begun y x l).0;
       last = tells_last;
+      time = on_time;
       upto = λ n low y x l mine writes.
           let few = (lost.recovered_so.own n low).upto y x l mine writes in
           let at = ticket_at n low in

@@ -1,5 +1,5 @@
 -- What a memory knows of its callers, and the history that its close leaves.
-use Rattle.std.proofs.Common.{◌≡◌, ℕ, zero, suc, ◌<◌, inl, inr, List, [], ◌∷◌, length, get_or, set, map, replicate, Option, Some, None, refl, sym, ap, subst, ◌∙◌, arith}
+use Rattle.std.proofs.Common.{◌≡◌, ℕ, zero, suc, ◌+◌, ◌<◌, inl, inr, List, [], ◌∷◌, length, get_or, set, map, replicate, Option, Some, None, refl, sym, ap, subst, ◌∙◌, arith}
 use Rattle.std.specs.List.{AllByRecursion as Each}
 use Rattle.std.proofs.lemmas.List.{get_or-set_same, get_or-set_other, get_or-map, length-map, length-replicate, get_or-replicate, ext_get_or}
 use mathlib.Core.Bool.{true≢false}
@@ -12,22 +12,24 @@ use Rattle.of_core.specs.Machine.{Call, CallState, IsOpen, is_idle}
 use Rattle.of_core.specs.Turn.{IsIdle}
 use Rattle.of_row.specs.declared.row.Row.{Row}
 use Rattle.of_row.specs.Rows.{key_of, setup_at, row_start, IsSeatOf, StartsAtZeros}
+use Rattle.of_row.specs.declared.member.Pass.{Pass}
 use Rattle.of_row.specs.Rule.{done_before}
 use Rattle.of_mem.specs.Places.{ticket_cell_at}
-use Rattle.of_mem.proofs.Lists.{same_some}
-use Rattle.of_row.specs.Views.{EndedCall, KnownCaller, View}
+use Rattle.of_mem.proofs.Lists.{same_some, prefix_trans}
+use Rattle.of_cells.specs.Times.{EndBefore}
+use Rattle.of_row.specs.Views.{EndedCall, KnownCaller, View, last_caller}
 use Rattle.of_caller.specs.declared.caller.Caller.{Caller}
-use Rattle.of_caller.specs.Callers.{caller_call}
+use Rattle.of_caller.specs.Callers.{IsCaller, caller_call}
 use Rattle.of_cells.specs.declared.memory.CellMemory.{CellMemory}
 use Rattle.of_cells.specs.declared.handle.CellHandle.{CellHandle}
 use Rattle.of_cells.specs.declared.saved.SavedCells.{SavedCells}
-use Rattle.of_cells.specs.History.{ExplainsAll, HasOnly, IsOneOf}
+use Rattle.of_cells.specs.History.{ExplainsAll, HasOnly, IsOneOf, ComeInOrder}
 use Rattle.of_cells.specs.Called.{IsOpenAt}
-use Rattle.of_cells.specs.Serving.{KeepsSo, IsNew, Serves, ServeAll, AllStand, IsKeptOf, KeepsThose, ended_of, cells_at_start, made_before}
+use Rattle.of_cells.specs.Serving.{KeepsSo, IsNew, Serves, ServeAll, AllStand, IsKeptOf, KeepsThose, KnowsPasts, KnowsMore, IsKnowledge, ended_of, events_known_to, cells_at_start, made_before}
 use Rattle.of_cells.specs.Saving.{ExplainsKept, HasOpenOperation, HasOnlyKept, HistoryLeads}
 use Rattle.of_cells.specs.Handles.{IsCellHandle}
-use Rattle.of_cells.specs.Memories.{IsCellMemory, IsFrom, HasMadeOf, HasOpenOf, HasMadeNothing, HasNoneOpen, KnowsOthers, OthersStayOpen, HasHistory, row_of}
-use Rattle.of_cells.proofs.Seats.{number_below, is_within}
+use Rattle.of_cells.specs.Memories.{IsCellMemory, IsFrom, HasMadeOf, HasOpenOf, HasMadeNothing, HasNoneOpen, HasOrderOf, KnowsOthers, OthersStayOpen, OthersKnowOrder, PutsCaller, HasHistory, row_of}
+use Rattle.of_cells.proofs.Seats.{number_below, is_within, serves_same}
 
 -- ---- zeros
 
@@ -83,6 +85,23 @@ module _ {W : Type 0} where
     opened = h.opened;
   }
 
+  pub orders_set : (meaning : W → Meaning) (m k : CellMemory W) (i : ℕ) (x : Option (Caller W)) → row_of k ≡ row_of m → k.callers.items ≡ set m.callers.items i x → OthersKnowOrder meaning i m k
+  orders_set meaning m k i x still is j n a l b ne h = record {
+    caller = h.caller;
+    here = ap (λ (cs : List (Option (Caller W))). get_or cs j None) is ∙ get_or-set_other m.callers.items i j x None ne ∙ h.here;
+    order = subst (λ (r : Row W). EndBefore (setup_at meaning r) (row_start meaning r) (events_known_to h.caller) n a l b) (sym still) h.order;
+  }
+
+  -- with the same calls
+  pub same_ended : (c d : Caller W) → KnowsMore c d → ended_of d ≡ ended_of c
+  same_ended c d same = ap (λ (xs : List KnownCaller). (last_caller xs).ended) same.kept
+
+  pub open_still : (c d : Caller W) (op : List ℕ) → KnowsMore c d → IsOpenAt op c → IsOpenAt op d
+  open_still c d op same opened = subst (λ (x : CallState). IsOpen x.place × (x.op ≡ op)) (sym same.call) opened
+
+  pub open_before : (c d : Caller W) (op : List ℕ) → KnowsMore c d → IsOpenAt op d → IsOpenAt op c
+  open_before c d op same opened = subst (λ (x : CallState). IsOpen x.place × (x.op ≡ op)) same.call opened
+
   pub same_open : (m : CellMemory W) (i : ℕ) (c : Caller W) (op : List ℕ) → get_or m.callers.items i None ≡ Some c → HasOpenOf m i op → IsOpenAt op c
   same_open m i c op here h = subst (IsOpenAt op) (same_some h.caller c (get_or m.callers.items i None) h.here here) h.opened
 
@@ -110,13 +129,17 @@ module _ {W : Type 0} where
     pub serves_there : (m : CellMemory W) (h : CellHandle W) → IsFrom m h → IsCellHandle meaning h → Serves meaning (row_of m) h.number h.caller
     serves_there m h from is = subst (λ (r : Row W). Serves meaning r h.number h.caller) from is
 
+    pub low_handle : (m : CellMemory W) (h : CellHandle W) → IsCellMemory meaning m → IsCellHandle meaning h → IsFrom m h → h.number < length m.callers.items
+    low_handle m h is handle from = low_number m h.number h.caller is (serves_there m h from handle)
+
     -- ---- a memory over a row
 
-    pub is_memory : (m : CellMemory W) (r : Row W) → row_of m ≡ r → IsSeatOf r m.pass.seat → length m.callers.items ≡ (key_of r).callers → ServeAll meaning r m.callers.items → IsCellMemory meaning m
-    is_memory m r is pass each serve = record {
+    pub is_memory : (m : CellMemory W) (r : Row W) → row_of m ≡ r → IsSeatOf r m.pass.seat → length m.callers.items ≡ (key_of r).callers → ServeAll meaning r m.callers.items → m.known ≡ None → IsCellMemory meaning m
+    is_memory m r is pass each serve none = record {
       pass = subst (λ (x : Row W). IsSeatOf x m.pass.seat) (sym is) pass;
       each = each ∙ ap (λ (x : Row W). (key_of x).callers) (sym is);
       serve = λ n c here. subst (λ (x : Row W). Serves meaning x n c) (sym is) (serve n c here);
+      known = subst (IsKnowledge (row_of m)) (sym none) tt;
     }
 
     pub none_made : (m : CellMemory W) (r : Row W) → row_of m ≡ r → AllStand (IsNew meaning r) (key_of r).callers m.callers.items → HasMadeNothing m
@@ -161,8 +184,8 @@ module _ {W : Type 0} where
             )
     only_kept m r h n c here (x ∷ xs) (inr k) all = only_kept m r h n c here xs k all.1
 
-    pub history : (m : CellMemory W) (d : SavedCells W) (r : Row W) (v : View) → r ≡ row_of m → KeepsThose m.callers.items (length m.callers.items) v.kept → (h : List Call) × HistoryLeads meaning r v d h → HasHistory meaning m d
-    history m d r v same keeps found =
+    pub history : (m : CellMemory W) (d : SavedCells W) (r : Row W) (v : View) → r ≡ row_of m → KeepsThose m.callers.items (length m.callers.items) v.kept → KnowsPasts m.callers.items (length m.callers.items) v.past → (h : List Call) × HistoryLeads meaning r v d h → HasHistory meaning m d
+    history m d r v same keeps pasts found =
         let h = found.0 in
         let leads = found.1 in
         let Leads : Row W → Type 0 = λ x. (n : ℕ) (es : List EndedCall) → HasMadeOf m n es → ExplainsAll h n (made_before meaning x n) es × HasOnly h n (made_before meaning x n) es (HasOpenOf m n) in
@@ -182,5 +205,13 @@ module _ {W : Type 0} where
             callers = there.callers;
             last = there.last;
             upto = there.upto;
+            time = λ j n x k y has.
+                let past = pasts j has.caller (is_within m.callers.items j has.caller has.here) has.here in
+                there.time n x k y (record {
+                  moment = has.order.moment;
+                  early = prefix_trans has.order.moment (events_known_to has.caller) v.past has.order.early past;
+                  ended = has.order.ended;
+                  begun = has.order.begun;
+                });
           },
         )

@@ -1,4 +1,7 @@
 pub mod Called
 pub mod Seats
+pub mod Times
 pub mod Closing
 pub mod Holding
+pub mod Still
+pub mod Renumbering

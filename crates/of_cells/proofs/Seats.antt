@@ -1,13 +1,14 @@
 -- The callers of a memory at their places, and what a pass keeps that gathers them.
 use Rattle.std.specs.Prelude.{is_some, not}
-use Rattle.std.proofs.Common.{◌≡◌, ◌≢◌, ℕ, ◌+◌, ◌<◌, ◌⊎◌, inl, inr, Bool, false, List, [], ◌∷◌, ◌++◌, length, get_or, set, Option, Some, None, refl, sym, ap, subst, ◌∙◌, arith}
+use Rattle.std.proofs.Common.{◌≡◌, ◌≢◌, ℕ, ◌+◌, ◌≤◌, ◌<◌, ◌⊎◌, inl, inr, Bool, false, List, [], ◌∷◌, ◌++◌, length, get_or, set, Option, Some, None, refl, sym, ap, subst, ◌∙◌, arith}
 use Rattle.std.specs.List.{AllByRecursion as Each}
 use Rattle.std.proofs.lemmas.Bool.{cases_lt}
 use mathlib.Core.Bool.{true≢false}
+use mathlib.Core.List.{IsPrefix}
 use Rattle.std.proofs.lemmas.List.{get_or-set_same, get_or-set_other, get_or_append_left, get_or_past}
 use Rattle.std.proofs.Math.Seq.{get_or-append_seam}
 use Rattle.of_mem.specs.Meaning.{Meaning}
-use Rattle.of_mem.proofs.Lists.{same_some}
+use Rattle.of_mem.proofs.Lists.{same_some, prefix_trans}
 use Rattle.of_row.specs.declared.member.Member.{Member}
 use Rattle.of_row.specs.declared.member.Pass.{Pass}
 use Rattle.of_row.specs.declared.row.Row.{Row}
@@ -20,10 +21,13 @@ use Rattle.of_core.specs.Table.{Setup}
 use Rattle.of_core.specs.declared.place.Place.{Place}
 use Rattle.of_core.specs.Machine.{CallState, IsOpen, is_idle, MayReplace}
 use Rattle.of_core.specs.Turn.{IsIdle}
+use Rattle.of_core.specs.Events.{Event}
 use Rattle.of_core.specs.MachineValue.{machine_setup}
 use Rattle.of_caller.specs.declared.caller.Caller.{Caller}
 use Rattle.of_caller.specs.Callers.{IsCaller, caller_call, calls_begun_by, sight_of}
-use Rattle.of_cells.specs.Serving.{KeepsSo, IsNew, Serves, ServeAll, Enrols, AllStand, AllHere, IsKeptOf, KeepsThose}
+use Rattle.of_caller.proofs.Behind.{ended_later}
+use Rattle.of_cells.specs.Times.{calls_ended_in}
+use Rattle.of_cells.specs.Serving.{KeepsSo, IsNew, Serves, ServeAll, Enrols, AllStand, AllHere, IsKeptOf, KeepsThose, KnowsPasts, KnowsMore, HasStartedIfOpen, made_before, events_known_to}
 
 -- ---- the number of a caller
 
@@ -93,7 +97,7 @@ keeps_right n P [] ys k = k
 keeps_right n P (x ∷ xs) ys k = inr (keeps_right n P xs ys k)
 
 -- the open machine that a member keeps is its caller's
-open_same : (S : Setup) (x : KnownCaller) (d : CallState) → StandsForMachine S x d → IsOpen x.machine.place → x.machine ≡ d
+pub open_same : (S : Setup) (x : KnownCaller) (d : CallState) → StandsForMachine S x d → IsOpen x.machine.place → x.machine ≡ d
 open_same S x d (inl (inl e)) is_open = sym e
 open_same S x d (inl (inr e)) is_open = absurd (true≢false (sym (ap is_idle e.0) ∙ is_open))
 open_same S x d (inr o) is_open = absurd (true≢false (sym (ap is_idle o.at_rest) ∙ is_open))
@@ -130,6 +134,8 @@ module _ {W : Type 0} where
             let many : length (last_caller (sight_of c).kept).ended ≡ 0 = ap (λ (x : KnownCaller). length x.ended) kept in
             let none : open_call_count (is_idle (caller_call c).place) ≡ 0 = ap (λ (p : Place). open_call_count (is_idle p)) rest in
             omega (arith, begun, e.made, many, none);
+        told = let many : length (last_caller (sight_of c).kept).ended ≡ 0 = ap (λ (x : KnownCaller). length x.ended) kept in omega (arith, many);
+        started = λ is_open. absurd (true≢false (ap (λ (x : KnownCaller). is_idle x.machine.place) (sym kept) ∙ is_open));
       };
       none = ap (λ (x : KnownCaller). x.ended) kept;
       idle = rest;
@@ -174,6 +180,24 @@ module _ {W : Type 0} where
       ]
     ]
 
+    -- ---- with the same calls, and knowing more, it serves as before
+
+    pub later_ended : (es ds : List Event) (n : ℕ) → IsPrefix es ds → calls_ended_in (setup_at meaning r) (row_start meaning r) es n ≤ calls_ended_in (setup_at meaning r) (row_start meaning r) ds n
+    later_ended es ds n more = ended_later meaning (λ w xs. Unit {0}) r es ds n more
+
+    pub serves_same : (n : ℕ) (c k : Caller W) → Serves meaning r n c → IsCaller meaning r k → KnowsMore c k → Serves meaning r n k
+    serves_same n c k s is same = record {
+      caller = is;
+      number = ap (λ (d : CallState). d.caller) same.call ∙ s.number;
+      counts = subst (λ (z : CallState × List KnownCaller). z.0.made ≡ made_before meaning r n + length (last_caller z.1).ended + open_call_count (is_idle z.0.place)) (λ i. (sym same.call i, sym same.kept i)) s.counts;
+      told =
+          let low = s.told in
+          let later = later_ended (events_known_to c) (events_known_to k) n same.past in
+          let many : length (last_caller (sight_of k).kept).ended ≡ length (last_caller (sight_of c).kept).ended = ap (λ (xs : List KnownCaller). length (last_caller xs).ended) same.kept in
+          omega (arith, low, later, many);
+      started = subst (λ (xs : List KnownCaller). HasStartedIfOpen (last_caller xs)) (sym same.kept) s.started;
+    }
+
     -- ---- a caller's number is one of the row's
 
     each_below : (x : KnownCaller) (xs : List KnownCaller) → xs ≡ x ∷ [] → Each (λ (y : KnownCaller). y.machine.caller < (key_of r).callers) xs → x.machine.caller < (key_of r).callers
@@ -203,4 +227,11 @@ module _ {W : Type 0} where
     | inr high ↦
         let at : n ≡ i = omega (arith, lt, high) in
         subst (λ (k : ℕ). KeepsSo k (IsKeptOf c) ys) (sym at) (own c (ap (λ (k : ℕ). get_or fs k None) (sym at) ∙ here))
+  ]
+
+  -- what the callers know of real time is known when they are gathered
+  pub pasts_more : (fs : List (Option (Caller W))) (i : ℕ) (es ds : List Event) → KnowsPasts fs i es → IsPrefix es ds → ((c : Caller W) → get_or fs i None ≡ Some c → IsPrefix (sight_of c).past ds) → KnowsPasts fs (i + 1) ds
+  pasts_more fs i es ds all more own n c lt here = elim (cases_lt n i) [
+    | inl low ↦ prefix_trans (sight_of c).past es ds (all n c low here) more
+    | inr high ↦ let at : n ≡ i = omega (arith, lt, high) in own c (ap (λ (k : ℕ). get_or fs k None) (sym at) ∙ here)
   ]

@@ -1,14 +1,17 @@
 -- What a call of an operation comes to.
-use Rattle.std.specs.Prelude.{◌≡◌, ℕ, List, [], ◌∷◌, ◌++◌, Result, Ok, Err}
+use Rattle.std.specs.Prelude.{◌≡◌, ℕ, ◌<◌, ◌≤◌, ◌⊎◌, List, [], ◌∷◌, ◌++◌, length, Result, Ok, Err}
+use mathlib.Core.List.{IsPrefix}
 use Rattle.of_core.specs.declared.place.Outcome.{Outcome}
 use Rattle.of_core.specs.declared.place.Outcome.TheVariants.{Answered, Spent}
 use Rattle.of_core.specs.Machine.{IsOpen}
-use Rattle.of_row.specs.Views.{EndedCall}
+use Rattle.of_row.specs.Views.{EndedCall, last_caller}
 use Rattle.of_caller.specs.declared.caller.Caller.{Caller}
-use Rattle.of_caller.specs.Callers.{caller_call}
+use Rattle.of_caller.specs.Callers.{caller_call, sight_of}
 use Rattle.of_cells.specs.declared.answer.RawAnswer.{RawAnswer}
 use Rattle.of_cells.specs.declared.error.RunErr.{RunErr}
 use Rattle.of_cells.specs.declared.error.RunErr.TheVariants.{Stopped, Spent as NoneLeft, Open, NoTicket}
+use Rattle.of_cells.specs.Times.{calls_begun_in}
+use Rattle.of_cells.specs.Serving.{HasStartedIfOpen, ended_of, events_known_to}
 
 -- the outcome that an answer tells
 abbrev pub outcome_of : RawAnswer → Outcome
@@ -38,6 +41,14 @@ LeavesOpen op (Err (NoneLeft seq)) c = IsInCall c → ⊥
 LeavesOpen op (Err Open) c = Unit {0}
 LeavesOpen op (Err NoTicket) c = Unit {0}
 
+-- a call that is open now is one of this operation, or was open before
+abbrev pub CallerOpensOnly : {W : Type 0} → (op : List ℕ) → (before now : Caller W) → Type 0
+CallerOpensOnly op c d = (o : List ℕ) → IsOpenAt o d → (o ≡ op) ⊎ IsOpenAt o c
+
+-- a call that is open now was open before
+abbrev pub CallerOpensNone : {W : Type 0} → (before now : Caller W) → Type 0
+CallerOpensNone c d = (o : List ℕ) → IsOpenAt o d → IsOpenAt o c
+
 -- the call was made: it was not refused
 abbrev pub WasTried : Result RawAnswer RunErr → Type 0
 WasTried (Ok a) = Unit {0}
@@ -45,6 +56,34 @@ WasTried (Err (Stopped asked)) = Unit {0}
 WasTried (Err (NoneLeft seq)) = Unit {0}
 WasTried (Err Open) = ⊥
 WasTried (Err NoTicket) = ⊥
+
+-- the call has made a step
+abbrev pub HasStarted : Result RawAnswer RunErr → Type 0
+HasStarted (Ok a) = Unit {0}
+HasStarted (Err (Stopped asked)) = 1 < asked
+HasStarted (Err (NoneLeft seq)) = Unit {0}
+HasStarted (Err Open) = ⊥
+HasStarted (Err NoTicket) = ⊥
+
+-- Before a call that has made a step, the caller of this number knew of no call of its number but
+-- those that have ended.
+abbrev pub BeginsAsNext : {W : Type 0} → (number : ℕ) → Result RawAnswer RunErr → Caller W → Type 0
+BeginsAsNext n result c =
+    HasStarted result → calls_begun_in (events_known_to c) n ≤ length (ended_of c)
+
+-- so it is whatever its number
+abbrev pub BeginsItsNext : {W : Type 0} → Result RawAnswer RunErr → Caller W → Type 0
+BeginsItsNext result c = BeginsAsNext (caller_call c).caller result c
+
+-- the same of an open call that had made no step, when it goes on
+abbrev pub ResumesItsNext : {W : Type 0} → Result RawAnswer RunErr → Caller W → Type 0
+ResumesItsNext result c =
+    HasStartedIfOpen (last_caller (sight_of c).kept) → (caller_call c).steps ≡ 0
+    → BeginsItsNext result c
+
+-- the events that the caller knows go on
+abbrev pub LearnsMore : {W : Type 0} → (before now : Caller W) → Type 0
+LearnsMore c d = IsPrefix (events_known_to c) (events_known_to d)
 
 -- a call that is not made leaves everything as it was
 abbrev pub LeavesAsItWas : {A : Type 0} → Result RawAnswer RunErr → (before now : A) → Type 0

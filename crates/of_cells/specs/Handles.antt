@@ -1,8 +1,9 @@
 -- A handle of a memory of cells, and what its calls come to.
-use Rattle.std.specs.Prelude.{◌≡◌, ℕ, ◌+◌, ◌<◌, List, Result, Ok, Err}
+use Rattle.std.specs.Prelude.{◌≡◌, ℕ, ◌+◌, ◌<◌, ◌≤◌, List, length, Result, Ok, Err}
 use Rattle.std.specs.Arc.{arc_value}
 use Rattle.of_mem.specs.Meaning.{Meaning}
 use Rattle.of_row.specs.declared.row.Row.{Row}
+use Rattle.of_row.specs.Rows.{key_of}
 use Rattle.of_row.specs.Views.{EndedCall}
 use Rattle.of_caller.specs.declared.caller.Caller.{Caller}
 use Rattle.of_caller.specs.Callers.{caller_call, calls_begun_by}
@@ -10,8 +11,8 @@ use Rattle.of_cells.specs.declared.answer.RawAnswer.{RawAnswer}
 use Rattle.of_cells.specs.declared.error.RunErr.{RunErr}
 use Rattle.of_cells.specs.declared.error.RunErr.TheVariants.{Stopped, Spent, Open, NoTicket}
 use Rattle.of_cells.specs.declared.handle.CellHandle.{CellHandle}
-use Rattle.of_cells.specs.Called.{IsInCall, IsOpenAt, LeavesOpen}
-use Rattle.of_cells.specs.Serving.{Serves, ended_of, row_step_bound}
+use Rattle.of_cells.specs.Called.{IsInCall, IsOpenAt, LeavesOpen, CallerOpensOnly, CallerOpensNone}
+use Rattle.of_cells.specs.Serving.{Serves, ended_of, made_before, row_step_bound, steps_made_by}
 
 -- the memory that it is a handle of
 abbrev pub home_of : {W : Type 0} → CellHandle W → Row W
@@ -54,27 +55,68 @@ StaysOpenOnlyIfStopped op result h = LeavesOpen op result (caller_of h)
 abbrev pub steps_so_far : {W : Type 0} → CellHandle W → ℕ
 steps_so_far h = (caller_call (caller_of h)).steps
 
+-- how many atomic steps the calls of its number have made since the memory was opened, those that
+-- were spent and its open one with them
+abbrev pub steps_of_calls : {W : Type 0} → CellHandle W → ℕ
+steps_of_calls h = steps_made_by (caller_of h)
+
+-- its calls have made at most so many steps more
+abbrev pub MakesAtMost : {W : Type 0} → (most : ℕ) → (before now : CellHandle W) → Type 0
+MakesAtMost most h k = steps_of_calls k ≤ steps_of_calls h + most
+
+-- so it is if its open call goes on: with the steps that the call has made already
+abbrev pub GoesOnWithin : {W : Type 0} → (most : ℕ) → (before now : CellHandle W) → Type 0
+GoesOnWithin most h k = HasCallOpen h → steps_so_far h + steps_of_calls k ≤ steps_of_calls h + most
+
+-- the last sequence that may be committed in its memory
+abbrev pub limit_at : {W : Type 0} → CellHandle W → ℕ
+limit_at h = (key_of (home_of h)).limit
+
 -- the step bound of its memory: how many steps a call makes at most
 abbrev pub step_bound_of : {W : Type 0} → (W → Meaning) → CellHandle W → ℕ
 step_bound_of meaning h = row_step_bound meaning (home_of h)
 
+-- how many calls of its number were begun, those before its memory was opened with them
+abbrev pub calls_begun : {W : Type 0} → CellHandle W → ℕ
+calls_begun h = calls_begun_by (caller_of h)
+
+-- how many calls of its number its memory was opened with
+abbrev pub tickets_behind : {W : Type 0} → (W → Meaning) → CellHandle W → ℕ
+tickets_behind meaning h = made_before meaning (home_of h) (number_of_handle h)
+
 -- its number has made all calls that it may make, those before its memory was opened with them
 abbrev pub HasNoTicketLeft : {W : Type 0} → CellHandle W → Type 0
-HasNoTicketLeft h = calls_begun_by (caller_of h) + 1 < 4294967296 → ⊥
+HasNoTicketLeft h = calls_begun h + 1 < 4294967296 → ⊥
 
--- it refuses a call only if one is open, or its number has made all calls that it may make
+-- the calls of a handle that has none open are those with which its memory was opened, and those
+-- that it has made since
+abbrev pub CallsAreCounted : {W : Type 0} → (W → Meaning) → Type 0
+CallsAreCounted {W} meaning =
+    (h : CellHandle W) → IsCellHandle meaning h → (HasCallOpen h → ⊥)
+    → calls_begun h ≡ tickets_behind meaning h + length (made_by h)
+
+-- a call that is open now is one of this operation, or was open before
+abbrev pub OpensOnly : {W : Type 0} → (op : List ℕ) → (before now : CellHandle W) → Type 0
+OpensOnly op h k = CallerOpensOnly op (caller_of h) (caller_of k)
+
+-- a call that is open now was open before
+abbrev pub OpensNone : {W : Type 0} → (before now : CellHandle W) → Type 0
+OpensNone h k = CallerOpensNone (caller_of h) (caller_of k)
+
+-- It refuses a call only if one is open, or its number has made all calls that it may make. A call
+-- is spent only where the sequence has come to the limit.
 abbrev pub RefusesCall : {W : Type 0} → CellHandle W → Result RawAnswer RunErr → Type 0
 RefusesCall h (Ok a) = Unit {0}
 RefusesCall h (Err (Stopped asked)) = Unit {0}
-RefusesCall h (Err (Spent seq)) = Unit {0}
+RefusesCall h (Err (Spent seq)) = seq ≡ limit_at h
 RefusesCall h (Err Open) = HasCallOpen h
 RefusesCall h (Err NoTicket) = HasNoTicketLeft h
 
--- it refuses to go on only if no call is open
+-- it refuses to go on only if no call is open, and a call is spent only at the limit
 abbrev pub RefusesToGoOn : {W : Type 0} → CellHandle W → Result RawAnswer RunErr → Type 0
 RefusesToGoOn h (Ok a) = Unit {0}
 RefusesToGoOn h (Err (Stopped asked)) = Unit {0}
-RefusesToGoOn h (Err (Spent seq)) = Unit {0}
+RefusesToGoOn h (Err (Spent seq)) = seq ≡ limit_at h
 RefusesToGoOn h (Err Open) = HasCallOpen h → ⊥
 RefusesToGoOn h (Err NoTicket) = ⊥
 

@@ -68,3 +68,16 @@ HasOnly h c n es IsOpenCall = All (λ (e : Call). e.caller ≡ c → IsOneOf n e
 abbrev pub IsUpTo : Meaning → List Call → (caller ticket : ℕ) → Type 0
 IsUpTo M h c t =
     All (λ (e : Call). e.caller ≡ c → M.reads_only e.op ≡ false → e.ticket ≤ t) h
+
+-- the call is of this caller, up to this ticket, or above it
+abbrev pub IsUpToTicket : (caller ticket : ℕ) → Call → Type 0
+IsUpToTicket n t e = (e.caller ≡ n) × (e.ticket ≤ t)
+
+abbrev pub IsAboveTicket : (caller ticket : ℕ) → Call → Type 0
+IsAboveTicket k u e = (e.caller ≡ k) × (u < e.ticket)
+
+-- the calls of caller n up to ticket t come before those of caller k above ticket u
+abbrev pub ComeInOrder : List Call → (n t k u : ℕ) → Type 0
+ComeInOrder h n t k u =
+    (p q : ℕ) → p < q → q < length h → IsUpToTicket n t (get_or h q no_call)
+    → IsAboveTicket k u (get_or h p no_call) → ⊥

@@ -1,3 +1,4 @@
+pub mod Times
 pub mod History
 pub mod Serving
 pub mod Called
@@ -5,3 +6,5 @@ pub mod Within
 pub mod Saving
 pub mod Handles
 pub mod Memories
+pub mod Telling
+pub mod Joining

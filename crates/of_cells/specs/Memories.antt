@@ -1,5 +1,5 @@
 -- A memory of cells that a program has opened, and what its close leaves.
-use Rattle.std.specs.Prelude.{◌≡◌, ◌≢◌, ℕ, ◌<◌, ◌≤◌, ◌⊎◌, List, [], Some, None, length}
+use Rattle.std.specs.Prelude.{◌≡◌, ◌≢◌, ℕ, ◌+◌, ◌<◌, ◌≤◌, ◌⊎◌, List, [], Some, None, length, slice_set}
 use Rattle.std.specs.Arc.{arc_value}
 use Rattle.std.specs.List.{All}
 use Rattle.std.proofs.Common.{get_or}
@@ -7,7 +7,8 @@ use Rattle.of_cell.specs.declared.word.TheConstants.{GREATEST_LIMIT}
 use Rattle.of_mem.specs.Meaning.{Meaning}
 use Rattle.of_core.specs.Machine.{Call}
 use Rattle.of_row.specs.declared.row.Row.{Row}
-use Rattle.of_row.specs.Rows.{key_of, IsRowPass}
+use Rattle.of_core.specs.Events.{Event}
+use Rattle.of_row.specs.Rows.{key_of, setup_at, row_start, IsRowPass}
 use Rattle.of_row.specs.Views.{EndedCall}
 use Rattle.of_caller.specs.declared.caller.Caller.{Caller}
 use Rattle.of_cells.specs.declared.error.EnrolErr.{EnrolErr}
@@ -17,11 +18,12 @@ use Rattle.of_cells.specs.declared.error.OpenErr.TheVariants.{OutOfMemory as NoR
 use Rattle.of_cells.specs.declared.memory.CellMemory.{CellMemory}
 use Rattle.of_cells.specs.declared.handle.CellHandle.{CellHandle}
 use Rattle.of_cells.specs.declared.saved.SavedCells.{SavedCells}
-use Rattle.of_cells.specs.History.{IsSerial, cells_after, StandsInOrder, ExplainsAll, HasOnly, IsUpTo}
+use Rattle.of_cells.specs.History.{IsSerial, cells_after, StandsInOrder, ExplainsAll, HasOnly, IsUpTo, ComeInOrder}
+use Rattle.of_cells.specs.Times.{calls_ended_in, EndBefore}
 use Rattle.of_cells.specs.Called.{IsOpenAt}
-use Rattle.of_cells.specs.Serving.{ServeAll, AllHere, ended_of, cells_at_start, made_before}
+use Rattle.of_cells.specs.Serving.{ServeAll, AllHere, KnowsMore, IsKnowledge, ended_of, events_known_to, events_in, cells_at_start, made_before}
 use Rattle.of_cells.specs.Saving.{SavedHolds, TellsLast, saved_ticket}
-use Rattle.of_cells.specs.Handles.{home_of}
+use Rattle.of_cells.specs.Handles.{home_of, number_of_handle, caller_of}
 
 abbrev pub row_of : {W : Type 0} → CellMemory W → Row W
 row_of m = arc_value m.row
@@ -31,6 +33,7 @@ pub record IsCellMemory {W : Type 0} (meaning : W → Meaning) (m : CellMemory W
   pub pass : IsRowPass (row_of m) m.pass
   pub each : length m.callers.items ≡ (key_of (row_of m)).callers
   pub serve : ServeAll meaning (row_of m) m.callers.items
+  pub known : IsKnowledge (row_of m) m.known
 
 -- the work whose operations it runs
 abbrev pub work_of : {W : Type 0} → CellMemory W → W
@@ -39,6 +42,10 @@ work_of m = (key_of (row_of m)).work
 -- how many callers it has
 abbrev pub callers_of : {W : Type 0} → CellMemory W → ℕ
 callers_of m = (key_of (row_of m)).callers
+
+-- how many data cells it has
+abbrev pub cell_count_of : {W : Type 0} → CellMemory W → ℕ
+cell_count_of m = (key_of (row_of m)).cells
 
 -- the last sequence that may be committed in it
 abbrev pub limit_of : {W : Type 0} → CellMemory W → ℕ
@@ -64,6 +71,30 @@ pub record HasOpenOf {W : Type 0} (m : CellMemory W) (n : ℕ) (op : List ℕ) :
   pub caller : Caller W
   pub here : get_or m.callers.items n None ≡ Some caller
   pub opened : IsOpenAt op caller
+
+-- no handle of number j is out, and it knows that the first x calls of number n had ended before
+-- number k began any call but its first y
+pub record HasOrderOf {W : Type 0} (meaning : W → Meaning) (m : CellMemory W) (j n x k y : ℕ)
+    : Type 0 where
+  pub caller : Caller W
+  pub here : get_or m.callers.items j None ≡ Some caller
+  pub order : EndBefore (setup_at meaning (row_of m)) (row_start meaning (row_of m))
+      (events_known_to caller) n x k y
+
+-- the events that the memory knows: all that handles have known that have left it
+abbrev pub events_heard : {W : Type 0} → CellMemory W → List Event
+events_heard m = events_in m.known
+
+-- it knows that the first `count` calls of a number since it was opened have ended
+abbrev pub HasHeardOf : {W : Type 0} → (W → Meaning) → CellMemory W → (number count : ℕ) → Type 0
+HasHeardOf meaning m n count =
+    count ≤ calls_ended_in (setup_at meaning (row_of m)) (row_start meaning (row_of m))
+    (events_heard m) n
+
+-- it knows still what it knew of the calls that have ended
+abbrev pub RemembersAll : {W : Type 0} → (W → Meaning) → (before now : CellMemory W) → Type 0
+RemembersAll meaning m k =
+    (n count : ℕ) → HasHeardOf meaning m n count → HasHeardOf meaning k n count
 
 -- no number has made a call
 abbrev pub HasMadeNothing : {W : Type 0} → CellMemory W → Type 0
@@ -95,11 +126,39 @@ abbrev pub OthersStayOpen : {W : Type 0} → ℕ → (before now : CellMemory W)
 OthersStayOpen n m k =
     (i : ℕ) (op : List ℕ) → i ≢ n → HasOpenOf m i op → HasOpenOf k i op
 
+-- they know each order that they knew
+abbrev pub OthersKnowOrder : {W : Type 0} → (W → Meaning) → ℕ → (before now : CellMemory W)
+    → Type 0
+OthersKnowOrder meaning i m l =
+    (j n x k y : ℕ) → j ≢ i → HasOrderOf meaning m j n x k y → HasOrderOf meaning l j n x k y
+
+-- The caller of the handle's number was in the memory, and is taken out of it. The handle has its
+-- calls, and knows what it knew.
+pub record TakesOut {W : Type 0} (m k : CellMemory W) (h : CellHandle W) : Type 0 where
+  pub caller : Caller W
+  pub was : get_or m.callers.items (number_of_handle h) None ≡ Some caller
+  pub same : KnowsMore caller (caller_of h)
+  pub now : k.callers.items ≡ slice_set m.callers.items (number_of_handle h) None
+
+-- no caller is taken out
+abbrev pub TakesNone : {W : Type 0} → (before now : CellMemory W) → Type 0
+TakesNone m k = k.callers.items ≡ m.callers.items
+
+-- a caller with the calls of this one, which knows what it knew, is put into the memory
+pub record PutsCaller {W : Type 0} (n : ℕ) (c : Caller W) (m k : CellMemory W) : Type 0 where
+  pub caller : Caller W
+  pub same : KnowsMore c caller
+  pub now : k.callers.items ≡ slice_set m.callers.items n (Some caller)
+
+-- so is the handle's
+abbrev pub PutsBack : {W : Type 0} → (before now : CellMemory W) → CellHandle W → Type 0
+PutsBack m k h = PutsCaller (number_of_handle h) (caller_of h) m k
+
 -- The history leads from the cells with which the memory was opened to the saved ones. It is
 -- serial, and the calls of each caller are there in the order in which it made them, each once at
 -- most. It has each call that was answered, with its reply, and no call that was spent; beside
 -- these it has open calls alone. What is saved tells the last call of each caller, and no call that
--- may write is later.
+-- may write is later. It respects the time between calls, where one of the numbers knows of it.
 pub record LeadsTo {W : Type 0} (meaning : W → Meaning) (m : CellMemory W) (d : SavedCells W)
     (h : List Call) : Type 0 where
   pub serial : IsSerial (meaning (work_of m)) (cells_before meaning m) h
@@ -112,6 +171,8 @@ pub record LeadsTo {W : Type 0} (meaning : W → Meaning) (m : CellMemory W) (d 
   pub callers : All (λ (e : Call). e.caller < callers_of m) h
   pub last : (n : ℕ) → n < callers_of m → TellsLast d h n (tickets_before meaning m n)
   pub upto : (n : ℕ) → n < callers_of m → IsUpTo (meaning (work_of m)) h n (saved_ticket d n)
+  pub time : (j n x k y : ℕ) → HasOrderOf meaning m j n x k y
+      → ComeInOrder h n (tickets_before meaning m n + x) k (tickets_before meaning m k + y)
 
 -- there is one that does
 abbrev pub HasHistory : {W : Type 0} → (W → Meaning) → CellMemory W → SavedCells W → Type 0

@@ -11,10 +11,12 @@ use Rattle.of_mem.specs.declared.work.TheConstants.{MOST_INSTRS}
 use Rattle.of_core.specs.Machine.{Call, no_call, IsOpen}
 use Rattle.of_core.specs.Starts.{start_on}
 use Rattle.of_row.specs.declared.row.Row.{Row}
-use Rattle.of_row.specs.Rows.{key_of, MayStartFrom}
+use Rattle.of_core.specs.Events.{Event}
+use Rattle.of_row.specs.Rows.{key_of, setup_at, row_start, MayStartFrom}
 use Rattle.of_row.specs.Views.{KnownCaller, View}
 use Rattle.of_cells.specs.declared.saved.SavedCells.{SavedCells}
-use Rattle.of_cells.specs.History.{IsSerial, cells_after, StandsInOrder, ExplainsAll, HasOnly, IsUpTo}
+use Rattle.of_cells.specs.History.{IsSerial, cells_after, StandsInOrder, ExplainsAll, HasOnly, IsUpTo, ComeInOrder}
+use Rattle.of_cells.specs.Times.{EndBefore}
 use Rattle.of_cells.specs.Serving.{cells_at_start, made_before}
 
 -- the work whose cells these are
@@ -42,6 +44,27 @@ pub record HoldsReply {W : Type 0} (d : SavedCells W) (n : ℕ) (raw : RawReply)
   pub shape : get_or (saved_cells d) (shape_at MOST_INSTRS n) 0 ≡ raw.shape
   pub numbers : (y : ℕ) → y < MOST_INSTRS → is_marked raw.shape y ≡ true
       → get_or (saved_cells d) (reply_at MOST_INSTRS n y) 0 ≡ get_or raw.values y 0
+
+-- the reply in the own cells of caller n
+pub record IsReplyIn {W : Type 0} (d : SavedCells W) (n : ℕ) (raw : RawReply) : Type 0 where
+  pub shape : raw.shape ≡ get_or (saved_cells d) (shape_at MOST_INSTRS n) 0
+  pub long : length raw.values ≡ MOST_INSTRS
+  pub numbers : (y : ℕ) → y < MOST_INSTRS
+      → get_or raw.values y 0 ≡ get_or (saved_cells d) (reply_at MOST_INSTRS n y) 0
+
+-- the last sequence that was committed in it
+abbrev pub saved_seq : {W : Type 0} → SavedCells W → ℕ
+saved_seq d = (start_on d.shape d.row.items).seq
+
+-- it has the same work and as many callers, and the same numbers in its data cells
+pub record SavesSame {W : Type 0} (before now : SavedCells W) : Type 0 where
+  pub work : saved_work now ≡ saved_work before
+  pub callers : saved_callers now ≡ saved_callers before
+  pub cells : saved_cells now ≡ saved_cells before
+
+-- the limit is out of its range, or below the last sequence that was committed
+abbrev pub IsNoLimitOf : {W : Type 0} → SavedCells W → (limit : ℕ) → Type 0
+IsNoLimitOf d limit = (limit ≡ 0) ⊎ ((GREATEST_LIMIT < limit) ⊎ (limit < saved_seq d))
 
 -- a memory may go on from it: its sizes are the work's, and a table may start from its words
 pub record IsSavedCells {W : Type 0} (many size : W → ℕ) (meaning : W → Meaning)
@@ -84,6 +107,13 @@ abbrev pub HasOnlyKept : {W : Type 0} → (W → Meaning) → Row W → List Cal
 HasOnlyKept meaning r h x =
     HasOnly h x.machine.caller (made_before meaning r x.machine.caller) x.ended (HasOpenOperation x)
 
+-- the history has calls in the order in which these events have them: those that had ended come
+-- before those that had not begun
+abbrev pub RespectsEvents : {W : Type 0} → (W → Meaning) → Row W → List Event → List Call → Type 0
+RespectsEvents meaning r es h =
+    (n x k y : ℕ) → EndBefore (setup_at meaning r) (row_start meaning r) es n x k y
+    → ComeInOrder h n (made_before meaning r n + x) k (made_before meaning r k + y)
+
 -- A serial history of what callers have made on a row leads to what is saved of the row. The view
 -- is that of the pass with which it was closed.
 pub record HistoryLeads {W : Type 0} (meaning : W → Meaning) (r : Row W) (v : View)
@@ -97,6 +127,7 @@ pub record HistoryLeads {W : Type 0} (meaning : W → Meaning) (r : Row W) (v : 
   pub last : (n : ℕ) → n < (key_of r).callers → TellsLast d h n (made_before meaning r n)
   pub upto : (n : ℕ) → n < (key_of r).callers
       → IsUpTo (meaning (key_of r).work) h n (saved_ticket d n)
+  pub time : RespectsEvents meaning r v.past h
 
 abbrev pub SavesHistory : {W : Type 0} → (W → Meaning) → Row W → View → SavedCells W → Type 0
 SavesHistory meaning r v d = (h : List Call) × HistoryLeads meaning r v d h

@@ -1,18 +1,21 @@
 -- A row of a work, and its callers.
-use Rattle.std.specs.Prelude.{◌≡◌, ℕ, ◌+◌, ◌<◌, ◌⊎◌, List, [], ◌∷◌, length, map, Option, Some, None}
+use Rattle.std.specs.Prelude.{◌≡◌, ℕ, ◌+◌, ◌<◌, ◌≤◌, ◌⊎◌, List, [], ◌∷◌, length, map, Option, Some, None}
 use Rattle.std.proofs.Common.{get_or}
+use mathlib.Core.List.{IsPrefix}
 use Rattle.of_cell.specs.Words.{payload_of}
 use Rattle.of_mem.specs.Meaning.{Meaning}
 use Rattle.of_core.specs.Machine.{IsOpen, is_idle}
 use Rattle.of_core.specs.Bound.{bound}
+use Rattle.of_core.specs.Events.{Event}
 use Rattle.of_core.specs.Turn.{IsIdle}
 use Rattle.of_row.specs.declared.row.Row.{Row}
 use Rattle.of_row.specs.declared.member.Pass.{Pass}
-use Rattle.of_row.specs.Rows.{setup_at, row_start, view_of_pass, IsRowPass, IsFirstPass}
+use Rattle.of_row.specs.Rows.{setup_at, row_start, view_of_pass, IsRowPass, IsFirstPass, KeepsNobody}
 use Rattle.of_row.specs.Rule.{IsAsked, done_before, open_call_count}
 use Rattle.of_row.specs.Views.{KnownCaller, EndedCall, last_caller}
 use Rattle.of_caller.specs.declared.caller.Caller.{Caller}
 use Rattle.of_caller.specs.Callers.{IsCaller, caller_call, calls_begun_by, sight_of}
+use Rattle.of_cells.specs.Times.{calls_ended_in}
 
 -- the numbers of the data cells with which the row started
 abbrev pub cells_at_start : {W : Type 0} → (W → Meaning) → Row W → List ℕ
@@ -38,12 +41,33 @@ CountsCalls meaning r n c =
     ≡ made_before meaning r n + length (ended_of c)
     + open_call_count (is_idle (caller_call c).place)
 
--- a caller of the row with this number
+-- the events of the row that the caller knows
+abbrev pub events_known_to : {W : Type 0} → Caller W → List Event
+events_known_to c = (sight_of c).past
+
+-- how many atomic steps the calls of the caller have made on the row, whatever they came to
+abbrev pub steps_made_by : {W : Type 0} → Caller W → ℕ
+steps_made_by c = (last_caller (sight_of c).kept).turns
+
+-- a call that is kept open has made a step
+abbrev pub HasStartedIfOpen : KnownCaller → Type 0
+HasStartedIfOpen x = IsOpen x.machine.place → 0 < x.machine.steps
+
+-- a caller of the row with this number, which knows of its own calls that they have ended
 pub record Serves {W : Type 0} (meaning : W → Meaning) (r : Row W) (n : ℕ) (c : Caller W)
     : Type 0 where
   pub caller : IsCaller meaning r c
   pub number : (caller_call c).caller ≡ n
   pub counts : CountsCalls meaning r n c
+  pub told : length (ended_of c)
+      ≤ calls_ended_in (setup_at meaning r) (row_start meaning r) (events_known_to c) n
+  pub started : HasStartedIfOpen (last_caller (sight_of c).kept)
+
+-- it has the same calls, ended and open, and knows as much or more
+pub record KnowsMore {W : Type 0} (before now : Caller W) : Type 0 where
+  pub call : caller_call now ≡ caller_call before
+  pub kept : (sight_of now).kept ≡ (sight_of before).kept
+  pub past : IsPrefix (events_known_to before) (events_known_to now)
 
 -- whatever number it serves, it serves it still
 abbrev pub KeepsServing : {W : Type 0} → (W → Meaning) → Row W → (before now : Caller W) → Type 0
@@ -91,3 +115,18 @@ abbrev pub KeepsThose : {W : Type 0} → List (Option (Caller W)) → (count : �
     → Type 0
 KeepsThose {W} cs count xs =
     (n : ℕ) (c : Caller W) → n < count → get_or cs n None ≡ Some c → KeepsSo n (IsKeptOf c) xs
+
+-- the events that are known to each caller at a place below the count are how these events begin
+abbrev pub KnowsPasts : {W : Type 0} → List (Option (Caller W)) → (count : ℕ) → List Event → Type 0
+KnowsPasts {W} cs count es =
+    (n : ℕ) (c : Caller W) → n < count → get_or cs n None ≡ Some c → IsPrefix (events_known_to c) es
+
+-- it is a pass of the row that keeps nobody, or none
+abbrev pub IsKnowledge : {W : Type 0} → Row W → Option Pass → Type 0
+IsKnowledge r None = Unit {0}
+IsKnowledge r (Some p) = IsRowPass r p × KeepsNobody p
+
+-- the events that are known by it
+abbrev pub events_in : Option Pass → List Event
+events_in None = []
+events_in (Some p) = (view_of_pass p).past

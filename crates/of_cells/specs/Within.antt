@@ -35,3 +35,16 @@ EndsWithin most (Err (Stopped asked)) = asked ≤ most
 EndsWithin most (Err (Spent seq)) = Unit {0}
 EndsWithin most (Err Open) = Unit {0}
 EndsWithin most (Err NoTicket) = Unit {0}
+
+-- a call is spent only where the sequence has come to the limit
+abbrev pub IsSpentAtLimit : (limit : ℕ) → Result RawAnswer RunErr → Type 0
+IsSpentAtLimit limit (Ok a) = Unit {0}
+IsSpentAtLimit limit (Err (Stopped asked)) = Unit {0}
+IsSpentAtLimit limit (Err (Spent seq)) = seq ≡ limit
+IsSpentAtLimit limit (Err Open) = Unit {0}
+IsSpentAtLimit limit (Err NoTicket) = Unit {0}
+
+-- A count of steps has risen by no more than a call was given, if it was given so many.
+abbrev pub RisesWithin : (stop : Option ℕ) → (before now : ℕ) → Type 0
+RisesWithin None before now = Unit {0}
+RisesWithin (Some more) before now = now ≤ before + more

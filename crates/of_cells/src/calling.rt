@@ -6,9 +6,12 @@ ghost use Rattle.of_core.specs.Machine.{IsOpen};
 ghost use Rattle.of_core.specs.Turn.{IsIdle};
 ghost use Rattle.of_core.specs.Calls.{IsAnswered};
 ghost use Rattle.of_caller.specs.Callers.{IsCaller, caller_call, calls_begun_by};
-ghost use Rattle.of_cells.specs.Serving.{KeepsServing, ended_of, row_step_bound};
+ghost use Rattle.of_row.specs.Rows.{key_of};
+ghost use Rattle.of_cells.specs.Serving.{KeepsServing, ended_of, row_step_bound, steps_made_by};
 ghost use Rattle.of_cells.specs.Called.{outcome_of, made_with, LeavesOpen, WasTried};
-ghost use Rattle.of_cells.specs.Within.{EndsWithin, KeepsToStop};
+ghost use Rattle.of_cells.specs.Called.{BeginsItsNext, ResumesItsNext, LearnsMore};
+ghost use Rattle.of_cells.specs.Called.{CallerOpensOnly, CallerOpensNone};
+ghost use Rattle.of_cells.specs.Within.{EndsWithin, KeepsToStop, IsSpentAtLimit, RisesWithin};
 
 use crate::answer::RawAnswer;
 use crate::error::RunErr;
@@ -73,6 +76,13 @@ fn call_counted<W: Work, L: Ledger>(
     ensures tried { WasTried result }
     ensures bound { EndsWithin (row_step_bound W.meaning row.now) result }
     ensures stop { KeepsToStop 0 stop (caller_call caller.new).steps result }
+    ensures given { RisesWithin stop (steps_made_by caller.old) (steps_made_by caller.new) }
+    ensures rise { steps_made_by caller.new
+        ≤ steps_made_by caller.old + row_step_bound W.meaning row.now }
+    ensures spent { IsSpentAtLimit (key_of row.now).limit result }
+    ensures only { CallerOpensOnly op.now caller.old caller.new }
+    ensures next { BeginsItsNext result caller.old }
+    ensures more { LearnsMore caller.old caller.new }
 {
     let mut brake = fuel_of(stop);
     let mut steps: Steps<L> = Steps::new(blank);
@@ -102,6 +112,13 @@ fn go_on_counted<W: Work, L: Ledger>(
     ensures bound { EndsWithin (row_step_bound W.meaning row.now) result }
     ensures stop { KeepsToStop (caller_call caller.old).steps stop
         (caller_call caller.new).steps result }
+    ensures given { RisesWithin stop (steps_made_by caller.old) (steps_made_by caller.new) }
+    ensures rise { (caller_call caller.old).steps + steps_made_by caller.new
+        ≤ steps_made_by caller.old + row_step_bound W.meaning row.now }
+    ensures spent { IsSpentAtLimit (key_of row.now).limit result }
+    ensures only { CallerOpensNone caller.old caller.new }
+    ensures next { ResumesItsNext result caller.old }
+    ensures more { LearnsMore caller.old caller.new }
 {
     let mut brake = fuel_of(stop);
     let mut steps: Steps<L> = Steps::new(blank);
@@ -130,6 +147,13 @@ pub(crate) fn call_with<W: Work>(
     ensures tried { WasTried result }
     ensures bound { EndsWithin (row_step_bound W.meaning row.now) result }
     ensures stop { KeepsToStop 0 stop (caller_call caller.new).steps result }
+    ensures given { RisesWithin stop (steps_made_by caller.old) (steps_made_by caller.new) }
+    ensures rise { steps_made_by caller.new
+        ≤ steps_made_by caller.old + row_step_bound W.meaning row.now }
+    ensures spent { IsSpentAtLimit (key_of row.now).limit result }
+    ensures only { CallerOpensOnly op.now caller.old caller.new }
+    ensures next { BeginsItsNext result caller.old }
+    ensures more { LearnsMore caller.old caller.new }
 {
     call_counted::<W, Brand>(row, caller, op, stop, Blank::new(1))
 }
@@ -150,6 +174,13 @@ pub(crate) fn go_on_with<W: Work>(
     ensures bound { EndsWithin (row_step_bound W.meaning row.now) result }
     ensures stop { KeepsToStop (caller_call caller.old).steps stop
         (caller_call caller.new).steps result }
+    ensures given { RisesWithin stop (steps_made_by caller.old) (steps_made_by caller.new) }
+    ensures rise { (caller_call caller.old).steps + steps_made_by caller.new
+        ≤ steps_made_by caller.old + row_step_bound W.meaning row.now }
+    ensures spent { IsSpentAtLimit (key_of row.now).limit result }
+    ensures only { CallerOpensNone caller.old caller.new }
+    ensures next { ResumesItsNext result caller.old }
+    ensures more { LearnsMore caller.old caller.new }
 {
     go_on_counted::<W, Brand>(row, caller, stop, Blank::new(1))
 }

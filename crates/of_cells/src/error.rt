@@ -1,6 +1,7 @@
 //! Why something can't be done.
 
 use crate::memory::CellMemory;
+use crate::saved::SavedCells;
 use of_mem::Work;
 use std::alloc::AllocError;
 use std::error::Error as StdError;
@@ -46,6 +47,24 @@ pub enum RunErr {
     #[error("no ticket is left")]
     NoTicket,
 }
+
+/// What is saved can't have this limit. It is handed back.
+#[derive(Drop)]
+pub struct LimitErr<W: Work>(pub SavedCells<W>);
+
+impl<W: Work> fmt::Debug for LimitErr<W> {
+    fn fmt<F: fmt::Write>(&self, f: &mut fmt::Formatter<F>) -> fmt::Result {
+        f.write_str("LimitErr")
+    }
+}
+
+impl<W: Work> fmt::Display for LimitErr<W> {
+    fn fmt<F: fmt::Write>(&self, f: &mut fmt::Formatter<F>) -> fmt::Result {
+        f.write_str("the limit is none that this can have")
+    }
+}
+
+impl<W: Work> StdError for LimitErr<W> {}
 
 /// A memory isn't closed while one of its handles is out. It is handed back.
 #[derive(Drop)]

@@ -27,7 +27,13 @@ impl<W: Work> CellHandle<W> {
     ghost use Rattle.of_cells.specs.Handles.{last_operation_of, steps_so_far, step_bound_of, HasOpen};
     ghost use Rattle.of_cells.specs.Handles.{StaysOpenOnlyIfStopped, RefusesCall, RefusesToGoOn};
     ghost use Rattle.of_cells.specs.Memories.{IsCellMemory, IsFrom, IsStill, HasMadeOf, HasOpenOf};
-    ghost use Rattle.of_cells.specs.Memories.{KnowsOthers, OthersStayOpen};
+    ghost use Rattle.of_cells.specs.Handles.{OpensOnly, OpensNone, MakesAtMost, GoesOnWithin};
+    ghost use Rattle.of_cells.specs.Handles.{steps_of_calls};
+    ghost use Rattle.of_cells.specs.Within.{RisesWithin};
+    ghost use Rattle.of_cells.specs.Telling.{BeginsAfterHeard, ResumesAfterHeard, KeepsKnown};
+    ghost use Rattle.of_cells.specs.Telling.{LeavesOrder, TellsMemory};
+    ghost use Rattle.of_cells.specs.Memories.{KnowsOthers, OthersStayOpen, OthersKnowOrder};
+    ghost use Rattle.of_cells.specs.Memories.{PutsBack, RemembersAll};
 
     /// Its number.
     pub fn number(&self) -> u32
@@ -49,6 +55,10 @@ impl<W: Work> CellHandle<W> {
         ensures unmade { LeavesAsItWas result self.old self.new }
         ensures bound { EndsWithin (step_bound_of W.meaning self.old) result }
         ensures stopped { IsNeverStopped result }
+        ensures only { OpensOnly op.now self.old self.new }
+        ensures rise { MakesAtMost (step_bound_of W.meaning self.old) self.old self.new }
+        ensures behind { BeginsAfterHeard W.meaning result self.old self.new }
+        ensures knows { KeepsKnown W.meaning self.old self.new }
     {
         self.begin(op, None)
     }
@@ -66,6 +76,11 @@ impl<W: Work> CellHandle<W> {
         ensures unmade { LeavesAsItWas result self.old self.new }
         ensures bound { EndsWithin (step_bound_of W.meaning self.old) result }
         ensures within { KeepsWithin 0 steps (steps_so_far self.new) result }
+        ensures only { OpensOnly op.now self.old self.new }
+        ensures rise { MakesAtMost (step_bound_of W.meaning self.old) self.old self.new }
+        ensures behind { BeginsAfterHeard W.meaning result self.old self.new }
+        ensures knows { KeepsKnown W.meaning self.old self.new }
+        ensures given { MakesAtMost steps self.old self.new }
     {
         self.begin(op, Some(steps))
     }
@@ -82,6 +97,11 @@ impl<W: Work> CellHandle<W> {
         ensures unmade { LeavesAsItWas result self.old self.new }
         ensures bound { EndsWithin (step_bound_of W.meaning self.old) result }
         ensures stop { KeepsToStop 0 stop (steps_so_far self.new) result }
+        ensures only { OpensOnly op.now self.old self.new }
+        ensures rise { MakesAtMost (step_bound_of W.meaning self.old) self.old self.new }
+        ensures behind { BeginsAfterHeard W.meaning result self.old self.new }
+        ensures knows { KeepsKnown W.meaning self.old self.new }
+        ensures given { RisesWithin stop (steps_of_calls self.old) (steps_of_calls self.new) }
     {
         if !self.caller.is_idle() {
             return Err(RunErr::Open);
@@ -104,6 +124,10 @@ impl<W: Work> CellHandle<W> {
         ensures unmade { LeavesAsItWas result self.old self.new }
         ensures bound { EndsWithin (step_bound_of W.meaning self.old) result }
         ensures stopped { IsNeverStopped result }
+        ensures only { OpensNone self.old self.new }
+        ensures rise { GoesOnWithin (step_bound_of W.meaning self.old) self.old self.new }
+        ensures behind { ResumesAfterHeard W.meaning result self.old self.new }
+        ensures knows { KeepsKnown W.meaning self.old self.new }
     {
         self.resume(None)
     }
@@ -121,6 +145,11 @@ impl<W: Work> CellHandle<W> {
         ensures bound { EndsWithin (step_bound_of W.meaning self.old) result }
         ensures within { KeepsWithin (steps_so_far self.old) steps
             (steps_so_far self.new) result }
+        ensures only { OpensNone self.old self.new }
+        ensures rise { GoesOnWithin (step_bound_of W.meaning self.old) self.old self.new }
+        ensures behind { ResumesAfterHeard W.meaning result self.old self.new }
+        ensures knows { KeepsKnown W.meaning self.old self.new }
+        ensures given { MakesAtMost steps self.old self.new }
     {
         self.resume(Some(steps))
     }
@@ -137,6 +166,11 @@ impl<W: Work> CellHandle<W> {
         ensures bound { EndsWithin (step_bound_of W.meaning self.old) result }
         ensures stop { KeepsToStop (steps_so_far self.old) stop
             (steps_so_far self.new) result }
+        ensures only { OpensNone self.old self.new }
+        ensures rise { GoesOnWithin (step_bound_of W.meaning self.old) self.old self.new }
+        ensures behind { ResumesAfterHeard W.meaning result self.old self.new }
+        ensures knows { KeepsKnown W.meaning self.old self.new }
+        ensures given { RisesWithin stop (steps_of_calls self.old) (steps_of_calls self.new) }
     {
         if self.caller.is_idle() {
             return Err(RunErr::Open);
@@ -157,6 +191,13 @@ impl<W: Work> CellHandle<W> {
             → HasOpenOf memory.new (number_of_handle self) op }
         ensures others { KnowsOthers (number_of_handle self) memory.old memory.new }
         ensures others_open { OthersStayOpen (number_of_handle self) memory.old memory.new }
+        ensures back { PutsBack memory.old memory.new self }
+        ensures order { LeavesOrder W.meaning self memory.new }
+        ensures others_order { OthersKnowOrder W.meaning (number_of_handle self)
+            memory.old memory.new }
+        // So a call that begins later comes later in the history, whatever its number.
+        ensures heard { TellsMemory W.meaning self memory.new }
+        ensures remembers { RemembersAll W.meaning memory.old memory.new }
     {
         let CellHandle {
             row: _,

@@ -8,6 +8,7 @@ use crate::error::{EnrolErr, InUse, OpenErr};
 use crate::handle::CellHandle;
 use crate::saved::SavedCells;
 use crate::seating::{all_here, gather, put_at, seat_all, take_at};
+use crate::telling::exchange;
 use of_caller::Caller;
 use of_cell::{GREATEST_LIMIT, Shape};
 use of_mem::{MOST_INSTRS, Work};
@@ -20,6 +21,8 @@ use std::sync::Arc;
 pub struct CellMemory<W: Work> {
     row: Arc<Row<W>, Global>,
     pass: Pass,
+    /// What the handles knew that have left.
+    known: Option<Pass>,
     /// The callers that have no handle, by their numbers.
     callers: Vec<Option<Caller<W>>>,
 }
@@ -49,10 +52,17 @@ impl<W: Work> CellMemory<W> {
     ghost use Rattle.of_cells.specs.Saving.{saved_callers, saved_limit, saved_ticket};
     ghost use Rattle.of_cells.specs.Handles.{IsCellHandle, HasOpen, number_of_handle, made_by};
     ghost use Rattle.of_cells.specs.Memories.{IsCellMemory, row_of, work_of, callers_of, limit_of};
+    ghost use Rattle.of_cells.specs.Memories.{cell_count_of};
     ghost use Rattle.of_cells.specs.Memories.{cells_before, tickets_before, HasMadeOf, HasOpenOf};
     ghost use Rattle.of_cells.specs.Memories.{HasNoneOpen, HasNoHandleOut, IsFrom, IsStill};
     ghost use Rattle.of_cells.specs.Memories.{KnowsOthers, OthersStayOpen, HasHistory};
     ghost use Rattle.of_cells.specs.Memories.{IsOpenCause, IsEnrolCause, HasMadeNothing};
+    ghost use Rattle.of_cells.specs.Memories.{TakesOut, TakesNone, PutsCaller, OthersKnowOrder};
+    ghost use Rattle.of_cells.specs.Memories.{RemembersAll, events_heard};
+    ghost use Rattle.of_cells.specs.Telling.{KnowsOrdersOf, HearsMemory};
+    ghost use Rattle.of_cells.specs.Serving.{events_known_to};
+    ghost use mathlib.Core.List.{IsPrefix};
+    ghost use Rattle.std.specs.Prelude.{OnErr};
 
     /// A memory of zeros for this work. `limit` is the last sequence that may be committed.
     pub fn open(alloc: Global, work: W, limit: u32) -> Result<CellMemory<W>, OpenErr>
@@ -60,6 +70,7 @@ impl<W: Work> CellMemory<W> {
         ensures work { IfOk result (λ m. work_of m ≡ work) }
         ensures callers { IfOk result (λ m. callers_of m ≡ W.many work) }
         ensures limit { IfOk result (λ m. limit_of m ≡ limit) }
+        ensures size { IfOk result (λ m. cell_count_of m ≡ W.size work) }
         ensures zeros { IfOk result (λ m. cells_before W.meaning m ≡ replicate (W.size work) 0) }
         ensures tickets { IfOk result (λ m. (n : ℕ) → tickets_before W.meaning m n ≡ 0) }
         ensures none { IfOk result HasMadeNothing }
@@ -82,6 +93,7 @@ impl<W: Work> CellMemory<W> {
         ensures work { IfOk result (λ m. work_of m ≡ work) }
         ensures callers { IfOk result (λ m. callers_of m ≡ W.many work) }
         ensures limit { IfOk result (λ m. limit_of m ≡ limit) }
+        ensures size { IfOk result (λ m. cell_count_of m ≡ W.size work) }
         ensures zeros { IfOk result (λ m. cells_before W.meaning m ≡ replicate (W.size work) 0) }
         ensures tickets { IfOk result (λ m. (n : ℕ) → tickets_before W.meaning m n ≡ 0) }
         ensures none { IfOk result HasMadeNothing }
@@ -99,6 +111,7 @@ impl<W: Work> CellMemory<W> {
         ensures work { IfOk result (λ m. work_of m ≡ saved_work saved.now) }
         ensures callers { IfOk result (λ m. callers_of m ≡ saved_callers saved.now) }
         ensures limit { IfOk result (λ m. limit_of m ≡ saved_limit saved.now) }
+        ensures size { IfOk result (λ m. cell_count_of m ≡ W.size (saved_work saved.now)) }
         ensures goes_on { IfOk result (λ m. cells_before W.meaning m ≡ saved_cells saved.now) }
         ensures tickets { IfOk result (λ m.
             (n : ℕ) → tickets_before W.meaning m n ≡ saved_ticket saved.now n) }
@@ -120,7 +133,12 @@ impl<W: Work> CellMemory<W> {
     {
         let (callers, pass) = seat_all(alloc, &row, pass)?;
         let row = Arc::new(alloc, row)?;
-        Ok(CellMemory { row, pass, callers })
+        Ok(CellMemory {
+            row,
+            pass,
+            known: None,
+            callers,
+        })
     }
 
     /// The work whose operations it runs.
@@ -159,6 +177,13 @@ impl<W: Work> CellMemory<W> {
         ensures others { KnowsOthers number self.old self.new }
         ensures others_open { OthersStayOpen number self.old self.new }
         ensures cause { IfErr result (IsEnrolCause self.old number) }
+        ensures taken { IfOk result (TakesOut self.old self.new) }
+        ensures refused { OnErr result (TakesNone self.old self.new) }
+        ensures order { IfOk result (KnowsOrdersOf W.meaning self.old) }
+        ensures others_order { OthersKnowOrder W.meaning number self.old self.new }
+        // So its calls come, in the history, after all calls of handles that have left.
+        ensures heard { IfOk result (HearsMemory W.meaning self.old) }
+        ensures remembers { RemembersAll W.meaning self.old self.new }
     {
         if number >= self.callers() {
             return Err(EnrolErr::NoCaller { number });
@@ -167,17 +192,20 @@ impl<W: Work> CellMemory<W> {
             return Err(EnrolErr::OutOfMemory(AllocError));
         };
         match take_at(&mut self.callers, number as usize) {
-            Some(caller) => Ok(CellHandle {
-                row,
-                number,
-                caller,
-            }),
+            Some(mut caller) => {
+                exchange(&self.row, &mut caller, &mut self.known);
+                Ok(CellHandle {
+                    row,
+                    number,
+                    caller,
+                })
+            }
             None => Err(EnrolErr::Enrolled { number }),
         }
     }
 
-    // Takes a caller in that has no handle any more.
-    pub(crate) fn take_in(&mut self, number: u32, caller: Caller<W>)
+    // Takes a caller in that has no handle any more, with all that it knows.
+    pub(crate) fn take_in(&mut self, number: u32, mut caller: Caller<W>)
         requires memory { IsCellMemory W.meaning self.old }
         requires caller { Serves W.meaning (row_of self.old) number caller }
         ensures memory { IsCellMemory W.meaning self.new }
@@ -186,7 +214,12 @@ impl<W: Work> CellMemory<W> {
         ensures open_call { (op : List ℕ) → IsOpenAt op caller → HasOpenOf self.new number op }
         ensures others { KnowsOthers number self.old self.new }
         ensures others_open { OthersStayOpen number self.old self.new }
+        ensures back { PutsCaller number caller self.old self.new }
+        ensures others_order { OthersKnowOrder W.meaning number self.old self.new }
+        ensures known { IsPrefix (events_known_to caller) (events_heard self.new) }
+        ensures remembers { IsPrefix (events_heard self.old) (events_heard self.new) }
     {
+        exchange(&self.row, &mut caller, &mut self.known);
         put_at(&mut self.callers, number as usize, caller);
     }
 
@@ -226,6 +259,7 @@ impl<W: Work> CellMemory<W> {
         let CellMemory {
             row,
             pass,
+            known,
             mut callers,
         } = self;
         match Arc::try_unwrap(row) {
@@ -233,7 +267,12 @@ impl<W: Work> CellMemory<W> {
                 let pass = gather(&row, pass, &mut callers);
                 Ok(SavedCells::close(row, pass))
             }
-            Err(row) => Err(InUse(CellMemory { row, pass, callers })),
+            Err(row) => Err(InUse(CellMemory {
+                row,
+                pass,
+                known,
+                callers,
+            })),
         }
     }
 }

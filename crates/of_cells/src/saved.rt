@@ -1,13 +1,13 @@
 //! What a closed memory leaves.
 
-ghost use Rattle.std.specs.Prelude.{◌≡◌, ◌<◌, IfOk, length, map, slice_index_or};
+ghost use Rattle.std.specs.Prelude.{◌≡◌, ◌<◌, ◌≤◌, ◌+◌, ◌↔◌, IfOk, IfSome, IsNone, length, map, slice_index_or};
 ghost use Rattle.of_cell.specs.Words.{payload_of};
 ghost use Rattle.of_core.specs.Starts.{start_on};
 ghost use Rattle.of_recover.specs.OfShape.{IsShapeRow, row_after_recovery};
 ghost use Rattle.of_recover.specs.Recovered.{RecoversData};
 
 use of_cell::{Shape, payload_of};
-use of_mem::{MOST_INSTRS, Work};
+use of_mem::{MOST_INSTRS, RawReply, Work};
 use of_recover::laws::recovered_cells;
 use of_recover::recover;
 use of_row::laws::stops_lose_nothing;
@@ -57,6 +57,7 @@ impl<W: Work> SavedCells<W> {
     ghost use Rattle.of_row.specs.Rows.{key_of, view_of_pass, IsRowPass};
     ghost use Rattle.of_cells.specs.Saving.{IsSavedCells, HoldsLawful, SavesHistory, saved_work};
     ghost use Rattle.of_cells.specs.Saving.{saved_callers, saved_limit, saved_cells, saved_ticket};
+    ghost use Rattle.of_cells.specs.Saving.{IsReplyIn};
 
     // Closes a row, takes its durable words alone, as a crash does, and recovers them.
     pub(crate) fn close(row: Row<W>, pass: Pass) -> SavedCells<W>
@@ -140,5 +141,38 @@ impl<W: Work> SavedCells<W> {
         ensures { result ≡ saved_ticket self.now number }
     {
         self.number(number * OWN_CELLS)
+    }
+
+    // The reply in a caller's own cells.
+    fn reply(&self, number: u32) -> RawReply
+        requires saved { IsSavedCells W.many W.size W.meaning W.lawful self.now }
+        requires number { number < saved_callers self.now }
+        ensures { IsReplyIn self.now number result }
+    {
+        let own = number * OWN_CELLS;
+        let mut values = [0; MOST_INSTRS];
+        for place in 0..MOST_INSTRS {
+            values[place] = self.number(own + 2 + place as u32);
+        }
+        RawReply {
+            shape: self.number(own + 1),
+            values,
+        }
+    }
+
+    /// The number of a caller's last call that it holds, and the reply to it as cells hold it, also
+    /// if the caller was stopped before it was answered. None if it holds no call of the caller.
+    pub fn last_reply(&self, number: u32) -> Option<(u32, RawReply)>
+        requires saved { IsSavedCells W.many W.size W.meaning W.lawful self.now }
+        requires number { number < saved_callers self.now }
+        ensures none { IsNone result ↔ (saved_ticket self.now number ≡ 0) }
+        ensures ticket { IfSome result (λ r. r.0 ≡ saved_ticket self.now number) }
+        ensures reply { IfSome result (λ r. IsReplyIn self.now number r.1) }
+    {
+        let ticket = self.ticket(number);
+        if ticket == 0 {
+            return None;
+        }
+        Some((ticket, self.reply(number)))
     }
 }

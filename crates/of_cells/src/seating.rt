@@ -6,7 +6,9 @@ ghost use Rattle.of_row.specs.Rows.{key_of, view_of_pass, IsRowPass};
 ghost use Rattle.of_row.specs.Passes.{IsFirst};
 ghost use Rattle.of_caller.specs.declared.caller.Caller.{Caller as TheCaller};
 ghost use Rattle.of_cells.specs.Serving.{KeepsSo, IsNew, Serves, ServeAll, Enrols, AllStand};
-ghost use Rattle.of_cells.specs.Serving.{AllHere, IsKeptOf, KeepsThose};
+ghost use Rattle.of_cells.specs.Serving.{AllHere, IsKeptOf, KeepsThose, KnowsPasts};
+ghost use Rattle.of_cells.specs.Serving.{events_known_to};
+ghost use mathlib.Core.List.{IsPrefix};
 
 use of_caller::Caller;
 use of_mem::Work;
@@ -96,6 +98,8 @@ fn gather_one<W: Work>(row: &Row<W>, pass: Pass, number: usize, caller: Caller<W
     ensures others { (n : ℕ) (c : TheCaller W)
         → KeepsSo n (IsKeptOf c) (view_of_pass pass).kept
         → KeepsSo n (IsKeptOf c) (view_of_pass result).kept }
+    ensures past { IsPrefix (events_known_to caller) (view_of_pass result).past }
+    ensures more { IsPrefix (view_of_pass pass).past (view_of_pass result).past }
 {
     row.join(pass, caller.leave())
 }
@@ -111,6 +115,8 @@ pub(crate) fn gather<W: Work>(
     ensures pass { IsRowPass row.now result }
     ensures keeps { KeepsThose callers.old.items (length callers.old.items)
         (view_of_pass result).kept }
+    ensures pasts { KnowsPasts callers.old.items (length callers.old.items)
+        (view_of_pass result).past }
 {
     for number in 0..callers.len() {
         if let Some(caller) = take_at(callers, number) {

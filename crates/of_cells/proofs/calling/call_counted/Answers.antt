@@ -1,5 +1,5 @@
 use Rattle.std.proofs.Common.{◌∙◌, ap, refl, Some, Err}
-use Rattle.of_cells.proofs.Called.{serves_on, begin_counts, made_answered, made_spent, made_none, none_after_answer, none_after_spent, open_after_stop, answers_within, stops_within, keeps_answered, keeps_stopped, keeps_over}
+use Rattle.of_cells.proofs.Called.{serves_on, begin_counts, made_answered, made_spent, made_none, none_after_answer, none_after_spent, open_after_stop, answers_within, stops_within, keeps_answered, keeps_stopped, keeps_over, answered_some, stopped_some, spent_some, begun_within, rises_as_given, spent_at_limit, opens_only, kept_idle, next_call}
 use Rattle.of_cells.proofs.calling.call_counted.Goals as goal
 
 pub answer_of-requires : goal.answer_of-requires
@@ -66,3 +66,51 @@ returns-in-Err-Stopped-clause-stop g c =
 
 pub returns-clause-stop : goal.returns-clause-stop
 returns-clause-stop g c = keeps_over _ _ _ _ _ _ _ _ _ _ c.call.ensures.told c.args.stop _
+
+pub returns-in-Ok-clause-given : goal.returns-in-Ok-clause-given
+returns-in-Ok-clause-given g c = rises_as_given _ _ _ _ _ _ _ _ _ _ c.in-Ok.ensures.told c.args.stop _ (Some c.call.new.brake.left) c.fuel_of-brake.ensures c.in-Ok.ensures.left
+
+pub returns-in-Ok-clause-rise : goal.returns-in-Ok-clause-rise
+returns-in-Ok-clause-rise g c = begun_within _ _ _ _ _ _ _ _ _ _ c.in-Ok.ensures.told refl
+
+pub returns-in-Ok-clause-only : goal.returns-in-Ok-clause-only
+returns-in-Ok-clause-only g c = opens_only c.args.op.now c.args.caller.now c.call.new.self c.in-Ok.ensures.told.op
+
+pub returns-in-Ok-clause-next : goal.returns-in-Ok-clause-next
+returns-in-Ok-clause-next g c started =
+    let told = c.in-Ok.ensures.told in
+    next_call g.W.Work.meaning c.args.row.now _ c.args.caller.now c.call.new.self _ _ _ _ told refl (kept_idle g.W.Work.meaning c.args.row.now c.args.caller.now c.requires.caller c.requires.idle)
+    (answered_some _ _ _ _ _ _ _ _ _ _ told c.in-Ok.outcome told.result)
+
+pub returns-in-Err-Stopped-clause-given : goal.returns-in-Err-Stopped-clause-given
+returns-in-Err-Stopped-clause-given g c = rises_as_given _ _ _ _ _ _ _ _ _ _ c.call.ensures.told c.args.stop _ (Some c.call.new.brake.left) c.fuel_of-brake.ensures c.call.ensures.left
+
+pub returns-in-Err-Stopped-clause-rise : goal.returns-in-Err-Stopped-clause-rise
+returns-in-Err-Stopped-clause-rise g c = begun_within _ _ _ _ _ _ _ _ _ _ c.call.ensures.told refl
+
+pub returns-in-Err-Stopped-clause-only : goal.returns-in-Err-Stopped-clause-only
+returns-in-Err-Stopped-clause-only g c = opens_only c.args.op.now c.args.caller.now c.call.new.self c.call.ensures.told.op
+
+pub returns-in-Err-Stopped-clause-next : goal.returns-in-Err-Stopped-clause-next
+returns-in-Err-Stopped-clause-next g c started =
+    let told = c.call.ensures.told in
+    next_call g.W.Work.meaning c.args.row.now _ c.args.caller.now c.call.new.self _ _ _ _ told refl (kept_idle g.W.Work.meaning c.args.row.now c.args.caller.now c.requires.caller c.requires.idle)
+    (stopped_some _ _ _ _ _ _ _ _ _ _ told c.in-Err-Stopped.asked (c.in-Err-Stopped.is ∙ ap (λ e. Err e) c.in-Err-Stopped.field-0-is) started)
+
+pub returns-clause-given : goal.returns-clause-given
+returns-clause-given g c = rises_as_given _ _ _ _ _ _ _ _ _ _ c.call.ensures.told c.args.stop _ (Some c.call.new.brake.left) c.fuel_of-brake.ensures c.call.ensures.left
+
+pub returns-clause-rise : goal.returns-clause-rise
+returns-clause-rise g c = begun_within _ _ _ _ _ _ _ _ _ _ c.call.ensures.told refl
+
+pub returns-clause-only : goal.returns-clause-only
+returns-clause-only g c = opens_only c.args.op.now c.args.caller.now c.call.new.self c.call.ensures.told.op
+
+pub returns-clause-next : goal.returns-clause-next
+returns-clause-next g c started =
+    let told = c.call.ensures.told in
+    next_call g.W.Work.meaning c.args.row.now _ c.args.caller.now c.call.new.self _ _ _ _ told refl (kept_idle g.W.Work.meaning c.args.row.now c.args.caller.now c.requires.caller c.requires.idle)
+    (spent_some _ _ _ _ _ _ _ _ _ _ told c.in-Err-Spent.seq (c.in-Err-Spent.is ∙ ap (λ e. Err e) c.in-Err-Spent.field-0-is))
+
+pub returns-clause-spent : goal.returns-clause-spent
+returns-clause-spent g c = spent_at_limit _ _ _ _ _ _ _ _ _ _ c.call.ensures.told c.in-Err-Spent.seq (c.in-Err-Spent.is ∙ ap (λ e. Err e) c.in-Err-Spent.field-0-is)

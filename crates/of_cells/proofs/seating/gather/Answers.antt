@@ -1,11 +1,12 @@
-use Rattle.std.proofs.Common.{◌≢◌, ◌≤◌, ◌+◌, sym, ap, subst, ◌∙◌, arith, length, get_or, None}
+use Rattle.std.proofs.Common.{◌≢◌, ◌≤◌, ◌+◌, sym, ap, subst, ◌∙◌, arith, length, get_or, None, [], append-nil}
+use mathlib.Core.List.{IsPrefix}
 use Rattle.std.proofs.lemmas.List.{get_or-set_other, length-set}
 use Rattle.of_mem.proofs.Lists.{same_some}
 use Rattle.of_row.specs.declared.member.Pass.{Pass}
 use Rattle.of_row.specs.Rows.{IsSeatOf}
 use Rattle.of_caller.specs.declared.caller.Caller.{Caller}
-use Rattle.of_cells.specs.Serving.{KeepsSo, IsKeptOf, KeepsThose}
-use Rattle.of_cells.proofs.Seats.{kept_more}
+use Rattle.of_cells.specs.Serving.{KeepsSo, IsKeptOf, KeepsThose, KnowsPasts, events_known_to}
+use Rattle.of_cells.proofs.Seats.{kept_more, pasts_more}
 use Rattle.of_cells.proofs.seating.gather.Goals as goal
 use Rattle.of_cells.proofs.seating.gather.Goals.{in-Some, in_default}
 
@@ -37,6 +38,15 @@ loop-number-preserved g c =
             (same_some w.in-Some.caller k (get_or fs i None) (sym (inv.rest i low) ∙ sym w.in-Some.ensures.caller) here) w.gather_one-pass.ensures.own))
         | in_default w ↦ subst (λ (p : Pass). KeepsThose fs (i + 1) p.seat.me.0.kept) (sym w.pass-is)
             (kept_more fs i c.loop-number.pass.seat.me.0.kept c.loop-number.pass.seat.me.0.kept inv.kept (λ n k h. h)
+            (λ k here. absurd (w.in_default.not-Some k (c.take_at.ensures.caller ∙ inv.rest i low ∙ here))))
+      ];
+      pasts = elim c.match-take_at.branch [
+        | in-Some w ↦ subst (λ (p : Pass). KnowsPasts fs (i + 1) p.seat.me.0.past) (sym w.pass-is)
+            (pasts_more fs i c.loop-number.pass.seat.me.0.past w.gather_one-pass.result.seat.me.0.past inv.pasts w.gather_one-pass.ensures.more
+            (λ k here. subst (λ (x : Caller _). IsPrefix (events_known_to x) w.gather_one-pass.result.seat.me.0.past)
+            (same_some w.in-Some.caller k (get_or fs i None) (sym (inv.rest i low) ∙ sym w.in-Some.ensures.caller) here) w.gather_one-pass.ensures.past))
+        | in_default w ↦ subst (λ (p : Pass). KnowsPasts fs (i + 1) p.seat.me.0.past) (sym w.pass-is)
+            (pasts_more fs i c.loop-number.pass.seat.me.0.past c.loop-number.pass.seat.me.0.past inv.pasts ([], append-nil c.loop-number.pass.seat.me.0.past)
             (λ k here. absurd (w.in_default.not-Some k (c.take_at.ensures.caller ∙ inv.rest i low ∙ here))))
       ];
     }

@@ -1,6 +1,9 @@
-use Rattle.std.proofs.Common.{subst}
-use Rattle.of_cells.specs.Serving.{KeepsServing}
+use Rattle.std.proofs.Common.{refl, sym, ap, subst, ◌∙◌}
+use Rattle.of_row.specs.Rows.{key_of}
+use Rattle.of_cells.specs.Serving.{KeepsServing, row_step_bound}
+use Rattle.of_cells.specs.Within.{IsSpentAtLimit}
 use Rattle.of_cells.proofs.Called.{tried_is, was_made}
+use Rattle.of_cells.proofs.Times.{keeps_known, begins_after}
 use Rattle.of_cells.proofs.handle.CellHandle.begin.Goals as goal
 
 pub returns-clause-handle : goal.returns-clause-handle
@@ -9,6 +12,15 @@ returns-clause-handle g c =
 
 pub returns-clause-cause : goal.returns-clause-cause
 returns-clause-cause g c = tried_is c.args.self.now c.call_with.result c.call_with.ensures.tried
+    (subst (λ r. IsSpentAtLimit (key_of r).limit c.call_with.result) c.deref.ensures c.call_with.ensures.spent)
 
 pub returns-clause-unmade : goal.returns-clause-unmade
 returns-clause-unmade g c = was_made c.args.self.now _ c.call_with.result c.call_with.ensures.tried
+
+pub returns-clause-knows : goal.returns-clause-knows
+returns-clause-knows g c = let h = c.args.self.now in keeps_known g.W.Work.meaning h (record h { caller = c.call_with.new.caller }) refl c.call_with.ensures.more
+
+pub returns-clause-behind : goal.returns-clause-behind
+returns-clause-behind g c =
+    let h = c.args.self.now in
+    begins_after g.W.Work.meaning c.call_with.result h (record h { caller = c.call_with.new.caller }) refl c.call_with.ensures.more c.requires.handle.number c.call_with.ensures.next

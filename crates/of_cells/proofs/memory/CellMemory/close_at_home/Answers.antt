@@ -8,4 +8,4 @@ gather-pass-requires-clause-serve g c κs within = subst (λ r. ServeAll g.W.Wor
 
 pub returns-in-Ok-clause-history : goal.returns-in-Ok-clause-history
 returns-in-Ok-clause-history g c =
-    history g.W.Work.meaning c.args.self c.close.result c.in-Ok.row c.gather-pass.result.seat.me.0 c.in-Ok.ensures.ok c.gather-pass.ensures.keeps c.close.ensures.leads
+    history g.W.Work.meaning c.args.self c.close.result c.in-Ok.row c.gather-pass.result.seat.me.0 c.in-Ok.ensures.ok c.gather-pass.ensures.keeps c.gather-pass.ensures.pasts c.close.ensures.leads

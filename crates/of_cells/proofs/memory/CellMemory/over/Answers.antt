@@ -1,3 +1,4 @@
+use Rattle.std.proofs.Common.{refl}
 use Rattle.of_row.specs.Rows.{key_of}
 use Rattle.of_cells.proofs.Seats.{serve_new}
 use Rattle.of_cells.proofs.Holding.{is_memory, none_made, none_open}
@@ -7,7 +8,7 @@ pub returns-clause-memory : goal.returns-clause-memory
 returns-clause-memory g c =
     let r = c.args.row in
     let seats = c.in_ok-callers.ensures in
-    is_memory g.W.Work.meaning _ r c.in_ok-row.ensures.ok seats.pass seats.each (serve_new g.W.Work.meaning r (key_of r).callers c.in_ok-callers.callers.items seats.each seats.new)
+    is_memory g.W.Work.meaning _ r c.in_ok-row.ensures.ok seats.pass seats.each (serve_new g.W.Work.meaning r (key_of r).callers c.in_ok-callers.callers.items seats.each seats.new) refl
 
 pub returns-clause-none : goal.returns-clause-none
 returns-clause-none g c = none_made g.W.Work.meaning _ c.args.row c.in_ok-row.ensures.ok c.in_ok-callers.ensures.new

@@ -1,5 +1,5 @@
 use Rattle.std.proofs.Common.{ap, ◌∙◌}
-use Rattle.of_row.specs.Rows.{start_for}
+use Rattle.of_row.specs.Rows.{key_of, start_for}
 use Rattle.of_cells.specs.Serving.{cells_at_start, made_before}
 use Rattle.of_cells.proofs.Holding.{cells_on, tickets_on}
 use Rattle.of_cells.proofs.memory.CellMemory.reopen.Goals as goal
@@ -15,3 +15,6 @@ returns-clause-tickets g c n =
     let d = c.args.saved.now in
     ap (λ r. made_before g.W.Work.meaning r n) c.in_ok-memory.ensures.row
     ∙ tickets_on g.W.Work.meaning c.in_ok-row.row (start_for d.shape d.row.items) (c.in_ok-row.ensures.start ∙ ap (start_for d.shape) c.deref.ensures.value) n
+
+pub returns-clause-size : goal.returns-clause-size
+returns-clause-size g c = ap (λ r. (key_of r).cells) c.in_ok-memory.ensures.row ∙ c.in_ok-row.ensures.row.1 ∙ c.requires.cells

@@ -1,0 +1,35 @@
+-- Laws of memories, for programs that reason about what is saved.
+use Rattle.std.specs.Prelude.{◌≡◌, ◌++◌, ℕ, List}
+use Rattle.of_mem.specs.Meaning.{Meaning}
+use Rattle.of_core.specs.Machine.{Call}
+use Rattle.of_cells.specs.declared.memory.CellMemory.{CellMemory}
+use Rattle.of_cells.specs.declared.handle.CellHandle.{CellHandle}
+use Rattle.of_cells.specs.History.{IsSerial, cells_after}
+use Rattle.of_cells.specs.Handles.{IsSame, HasCallOpen}
+use Rattle.of_cells.specs.Memories.{IsStill, HasNoneOpen, TakesOut, PutsBack}
+use Rattle.of_cells.specs.Memories.{work_of, callers_of, cells_before, tickets_before}
+
+-- a history and one that goes on from its end are one history
+abbrev pub HistoriesJoin : Meaning → Type 0
+HistoriesJoin M =
+    (cells : List ℕ) (h k : List Call) → IsSerial M cells h
+    → IsSerial M (cells_after M cells h) k → IsSerial M cells (h ++ k)
+    × (cells_after M cells (h ++ k) ≡ cells_after M (cells_after M cells h) k)
+
+-- it has the same work and as many callers, and was opened with the same cells and the same calls
+pub record StaysAsOpened {W : Type 0} (meaning : W → Meaning) (before now : CellMemory W)
+    : Type 0 where
+  pub work : work_of now ≡ work_of before
+  pub callers : callers_of now ≡ callers_of before
+  pub cells : cells_before meaning now ≡ cells_before meaning before
+  pub tickets : (n : ℕ) → tickets_before meaning now n ≡ tickets_before meaning before n
+
+-- so it is while handles come and go
+abbrev pub MemoriesStay : {W : Type 0} → (W → Meaning) → Type 0
+MemoriesStay {W} meaning = (m k : CellMemory W) → IsStill m k → StaysAsOpened meaning m k
+
+-- if no call is open, a handle that comes, makes its calls and leaves with none open leaves it so
+abbrev pub NoneStaysOpen : Type 0 → Type 0
+NoneStaysOpen W =
+    (m k l : CellMemory W) (h g : CellHandle W) → HasNoneOpen m → TakesOut m k h → IsSame h g
+    → (HasCallOpen g → ⊥) → PutsBack k l g → HasNoneOpen l

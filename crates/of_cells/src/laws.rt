@@ -1,0 +1,42 @@
+//! What memories of cells and their histories hold: functions that do nothing, whose contracts are
+//! the theorems.
+
+ghost use Rattle.of_cells.specs.Handles.{CallsAreCounted};
+ghost use Rattle.of_cells.specs.Joining.{HistoriesJoin, MemoriesStay, NoneStaysOpen};
+ghost use Rattle.of_cells.specs.Telling.{ToldCallsComeFirst, CallsComeInTurn};
+
+use of_mem::Work;
+
+/// A handle that has no open call has begun as many calls as its memory was opened with, and those
+/// that it has made since.
+pub fn calls_are_counted<W: Work>()
+    ensures { CallsAreCounted W.meaning }
+{}
+
+/// The history of a memory and that of the one that goes on from what it has left are one history.
+pub fn histories_join<W: Work>(work: W)
+    ensures { HistoriesJoin (W.meaning work) }
+{}
+
+/// A memory has the same work and callers, and was opened with the same cells and tickets, while
+/// handles come and go.
+pub fn memories_stay<W: Work>()
+    ensures { MemoriesStay W.meaning }
+{}
+
+/// A handle that comes and leaves with no call open leaves none open.
+pub fn none_stays_open<W: Work>()
+    ensures { NoneStaysOpen W }
+{}
+
+/// Calls that a handle tells another of come first in the history: before each call that the other
+/// begins when it has heard of them.
+pub fn told_calls_come_first<W: Work>()
+    ensures { ToldCallsComeFirst W.meaning }
+{}
+
+/// Calls that a program makes one after the other come in that order in the history, whatever their
+/// numbers: those of a handle that has left before those of one that comes then.
+pub fn calls_come_in_turn<W: Work>()
+    ensures { CallsComeInTurn W.meaning }
+{}
