@@ -11,12 +11,13 @@ use Rattle.of_mem.specs.Numbers.{FitsCell}
 use Rattle.of_mem.specs.Meaning.{IsSoundMeaning, HasRoom, is_marked}
 use Rattle.of_mem.specs.Programs.{Program, program_answer, memory_after, StaysBetween, StaysFrom}
 use Rattle.of_mem.specs.ProgramWork.{IsReplyTo, AreSound}
+use Rattle.of_mem.specs.Touching.{TouchesFew, ReadsAtMost, WritesAtMost}
+use Rattle.of_mem.proofs.FewTouches.{few_reads, few_writes, programs_touch_few}
 use Rattle.of_mem.proofs.Sounds.{sound}
 use Rattle.example_accounts.specs.declared.accounts.Accounts.{Accounts}
 use Rattle.example_accounts.specs.declared.transfer.Reply.TheVariants.{Done as Moved, NoAccount}
 use Rattle.example_accounts.specs.Accounts.{first_cell, account_cell, cell_count, flipped, balance_in, total_of, HasAllMoney, raw_reply, paying_in, paying, has_both, moving_if, transferring}
 use Rattle.example_accounts.specs.Meaning.{accounts_meaning, LawfulCells}
-use Rattle.example_accounts.specs.Writes.{WritesAtMost, few_writes}
 use Rattle.example_accounts.specs.Money.{flipped_low, with_balance, total_same, zeros, total_with, balance_below}
 
 pub accounts_fit : (w : Accounts) → HasRoom w.callers (cell_count w)
@@ -216,6 +217,26 @@ module _ (w : Accounts) where
   writes_two (from ∷ to ∷ amount ∷ []) = moving_writes from to amount (has_both w from to)
   writes_two (from ∷ to ∷ amount ∷ more ∷ words) = tt
 
+  -- ---- and how much they read
+
+  paying_reads : (from to amount balance : ℕ) (b : Bool)
+      → ReadsAtMost 1 (paying w from to amount balance b)
+  paying_reads from to amount balance true = tt
+  paying_reads from to amount balance false = λ v. tt
+
+  moving_reads : (from to amount : ℕ) (b : Bool) → ReadsAtMost 2 (moving_if w from to amount b)
+  moving_reads from to amount true = λ n.
+      let balance : ℕ = flipped w.money from n in
+      paying_reads from to amount balance (ltb balance amount)
+  moving_reads from to amount false = tt
+
+  reads_two : (op : List ℕ) → ReadsAtMost 2 (transferring w op)
+  reads_two [] = tt
+  reads_two (from ∷ []) = tt
+  reads_two (from ∷ to ∷ []) = tt
+  reads_two (from ∷ to ∷ amount ∷ []) = moving_reads from to amount (has_both w from to)
+  reads_two (from ∷ to ∷ amount ∷ more ∷ words) = tt
+
   -- ---- so they are a work
 
   pub are_sound :
@@ -240,3 +261,13 @@ module _ (w : Accounts) where
   accounts_sound =
       sound (λ r. true) (λ op. false) (transferring w) (HasAllMoney w) (first_cell w)
       (cell_count w) are_sound
+
+  -- no operation touches more than the cells of two accounts, however many there are
+  pub accounts_touch_few : TouchesFew (accounts_meaning w) (LawfulCells w) (cell_count w) 2 2
+  accounts_touch_few =
+      programs_touch_few (λ r. true) (λ op. false) (transferring w) (HasAllMoney w) (first_cell w)
+      (cell_count w) 2 2 are_sound
+      (λ m op h. (
+        few_reads 2 (transferring w op) m (reads_two op),
+        few_writes 2 (transferring w op) m (writes_two op),
+      ))

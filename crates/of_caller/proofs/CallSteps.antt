@@ -8,6 +8,7 @@ use Rattle.of_core.specs.Machine.{CallState, IsOpen, is_idle, begin_call}
 use Rattle.of_core.specs.Steps.{take_word}
 use Rattle.of_core.specs.TableMoment.{TableStart}
 use Rattle.of_core.specs.Bound.{bound}
+use Rattle.of_core.specs.Touched.{IsWithinTouched, touched_bound}
 use Rattle.of_core.specs.Turn.{IsIdle}
 use Rattle.of_core.specs.Calls.{operations_begun, IsNotBefore}
 use Rattle.of_core.specs.Laws.{IsIdleOrOpen}
@@ -34,6 +35,7 @@ pub record Progress (S : Setup) (L : List ℕ → Type 0) (B : TableStart) (m : 
   pub turns : kept.turns ≡ before.turns + n
   pub since : 0 < n → kept.since ≡ since_after B v before
   pub behind : 0 < n → length (operations_begun v.past m.caller) ≤ length (operations_known before)
+  pub touched : 0 < n → IsWithinTouched S L m.op (m.steps + n)
   pub still : IsOpen d.place → IsStillOpen S m before n d kept
   pub ended : IsIdle d → (o : Outcome) × HasEndedWith S L B m v before n d w kept o
 
@@ -68,6 +70,7 @@ starts_at S L B d v o within x one = record {
   turns = omega arith;
   since = λ h. absurd (omega (arith, h));
   behind = λ h. absurd (omega (arith, h));
+  touched = λ h. absurd (omega (arith, h));
   still = λ z. record { open_call = o; steps = omega arith; within = within; kept = refl };
   ended = λ idle. absurd (open_not_idle d o idle);
 }
@@ -110,6 +113,15 @@ module _ (S : Setup) (L : List ℕ → Type 0) (B : TableStart) (d0 : CallState)
           omega (arith, few, there, ap (λ (x : KnownCaller). length (operations_known x)) kept)
       go (suc m) z = p.behind (omega (arith, z))
 
+  -- this step is one of those that operations allow by what they touch
+  touched_is : IsWithinTouched S L d0.op (d0.steps + (n + 1))
+  touched_is reads writes few =
+      let now : d.steps + 1 ≤ touched_bound S d0.op reads writes = subst (λ (op : List ℕ). d.steps + 1 ≤ touched_bound S op reads writes) p.op (t.touched reads writes few) in
+      sum d.steps d0.steps (touched_bound S d0.op reads writes) (p.still o).steps now
+    where
+      sum : (a b x : ℕ) → a ≡ b + n → a + 1 ≤ x → b + (n + 1) ≤ x
+      sum a b x e l = omega arith
+
   abbrev next : KnownCaller
   next = known_after_step B v p.kept e
 
@@ -138,6 +150,7 @@ module _ (S : Setup) (L : List ℕ → Type 0) (B : TableStart) (d0 : CallState)
           meant = subst (λ (op : List ℕ). IsMeantReply S B (seen_history w.seen) op q) p.op ends.meant;
           steps = subst (λ (k : ℕ). TellsSteps k q) steps ends.steps;
           within = omega (arith, (p.still o).steps, (p.still o).within);
+          touched = touched_is;
           beyond = subst (λ (k : ℕ). IsNotBefore k q) since_is ends.beyond;
           last = record { machine = d; found = found; meets = t.meets; open_call = o; leads = refl; spent = spent_exactly S d found o idle q ends.answer };
         },
@@ -159,6 +172,7 @@ module _ (S : Setup) (L : List ℕ → Type 0) (B : TableStart) (d0 : CallState)
     turns = omega (arith, p.turns);
     since = λ h. since_is;
     behind = λ h. behind_is;
+    touched = λ h. touched_is;
     still = stays;
     ended = closes;
   }

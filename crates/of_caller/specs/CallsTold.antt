@@ -8,6 +8,7 @@ use Rattle.of_core.specs.Table.{Setup}
 use Rattle.of_core.specs.Machine.{CallState, IsOpen, begin_call}
 use Rattle.of_core.specs.TableMoment.{TableStart}
 use Rattle.of_core.specs.Bound.{bound}
+use Rattle.of_core.specs.Touched.{IsWithinTouched}
 use Rattle.of_core.specs.Turn.{IsIdle}
 use Rattle.of_core.specs.Calls.{operations_begun, IsNotBefore, IsAnswered}
 use Rattle.of_row.specs.Views.{KnownCaller, View, seen_seq, seen_history}
@@ -44,6 +45,8 @@ pub record HasEndedWith (S : Setup) (Lawful : List ℕ → Type 0) (B : TableSta
   pub steps : TellsSteps (m.steps + n) o
   -- and those of no call, a spent one neither, are more than the bound
   pub within : m.steps + n ≤ bound S
+  -- or more than what operations of the work touch allows, however large the memory
+  pub touched : IsWithinTouched S Lawful m.op (m.steps + n)
   -- an announced call is above all that was seen when it began, and no read is below
   pub beyond : IsNotBefore (since_after B v x) o
   -- it is spent exactly where a round that began at the limit looked for it in vain
@@ -107,6 +110,9 @@ pub record TellsCall (S : Setup) (Lawful : List ℕ → Type 0) (B : TableStart)
   pub turns : kept.turns ≡ before.turns + steps
   -- and the member keeps what was seen when the call began, also where it was stopped
   pub since : 0 < steps → kept.since ≡ since_after B v before
+  -- however it went on, also where it was stopped: with its steps before this call it has made no
+  -- more than what operations of the work touch allows
+  pub touched : 0 < steps → IsWithinTouched S Lawful m.op (m.steps + steps)
   pub result : TellsResult S Lawful B m v before steps d w kept r
 
 -- what is told of the call m of a caller of the row
