@@ -116,12 +116,11 @@ pub fn every_order<W: Work>(limit: u32, work: W)
 /// Every call is answered or spent within the step bound of its own steps, in three rounds at most.
 /// It also ends within a bound that doesn't grow with the memory. That one is by the longest log
 /// that the call writes, copies or applies, the most cells that one of its tries or rounds loads,
-/// and the tries and rounds that it has begun. If no operation of the work reads or writes more
-/// cells than some number, a bound follows from that number alone. Tries and rounds load a cell
-/// only if a run needs it, and copy a log only if its transaction is open. An announced call is
-/// done after at most two commits that follow its announcement. A try or a round is lost only to a
-/// commit: if nobody commits, a read ends in its first try and any other call in its first round. A
-/// call is spent only in one of its rounds.
+/// and the tries and rounds that it has begun. These load a cell only if a run needs it, and copy a
+/// log only if its transaction is open. An announced call is done after at most two commits that
+/// follow its announcement. A try or a round is lost only to a commit: if nobody commits, a read
+/// ends in its first try and any other call in its first round. A call is spent only in one of its
+/// rounds.
 pub fn ends_in_time<W: Work>(limit: u32, work: W)
     ensures in_time { CallsEndInTime
         (setup_for W.many W.size W.meaning limit work) (W.lawful work) }
