@@ -12,6 +12,7 @@ use Rattle.of_core.specs.Turn.{IsIdle}
 use Rattle.of_core.specs.Bound.{bound}
 use Rattle.of_core.specs.TableMoment.{TableStart}
 use Rattle.of_core.specs.MachineValue.{machine_setup}
+use Rattle.of_core.specs.Touched.{IsWithinTouched}
 use Rattle.of_row.specs.declared.row.Row.{Row}
 use Rattle.of_row.specs.Rows.{key_of, setup_at, row_start}
 use Rattle.of_row.specs.Told.{open_operation, operations_known}
@@ -225,6 +226,12 @@ module _ (S : Setup) (L : List ℕ → Type 0) (B : TableStart) (m : CallState) 
   -- so it is of a call that had made none
   pub begun_within : m.steps ≡ 0 → now.turns ≤ before.turns + bound S
   begun_within none = omega (arith, none, rises_within)
+
+  -- nor more than what operations of the work touch allows
+  pub rises_by_touch : (more : ℕ) → 0 < more → now.turns ≡ before.turns + more → IsWithinTouched S L m.op (m.steps + more)
+  rises_by_touch more some is =
+      let same : told.steps ≡ more = omega (arith, rises, is) in
+      subst (λ (k : ℕ). IsWithinTouched S L m.op (m.steps + k)) same (told.touched (omega (arith, same, some)))
 
   given_by : (stop : Option ℕ) (after : Option (Option ℕ)) → UsesCountedSteps (Some stop) after a b → RisesWithin stop before.turns now.turns
   given_by None after uses = tt

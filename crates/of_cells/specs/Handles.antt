@@ -12,7 +12,7 @@ use Rattle.of_cells.specs.declared.error.RunErr.{RunErr}
 use Rattle.of_cells.specs.declared.error.RunErr.TheVariants.{Stopped, Spent, Open, NoTicket}
 use Rattle.of_cells.specs.declared.handle.CellHandle.{CellHandle}
 use Rattle.of_cells.specs.Called.{IsInCall, IsOpenAt, LeavesOpen, CallerOpensOnly, CallerOpensNone}
-use Rattle.of_cells.specs.Serving.{Serves, ended_of, made_before, row_step_bound, steps_made_by}
+use Rattle.of_cells.specs.Serving.{Serves, RisesByTouch, ended_of, made_before, row_step_bound, steps_made_by}
 
 -- the memory that it is a handle of
 abbrev pub home_of : {W : Type 0} → CellHandle W → Row W
@@ -67,6 +67,21 @@ MakesAtMost most h k = steps_of_calls k ≤ steps_of_calls h + most
 -- so it is if its open call goes on: with the steps that the call has made already
 abbrev pub GoesOnWithin : {W : Type 0} → (most : ℕ) → (before now : CellHandle W) → Type 0
 GoesOnWithin most h k = HasCallOpen h → steps_so_far h + steps_of_calls k ≤ steps_of_calls h + most
+
+-- its call of this operation makes no more steps than what operations of the work touch allows,
+-- however many cells there are
+abbrev pub MakesByTouch : {W : Type 0} → (W → Meaning) → (W → List ℕ → Type 0) → (op : List ℕ)
+    → (before now : CellHandle W) → Type 0
+MakesByTouch meaning lawful op h k =
+    RisesByTouch meaning lawful (home_of h) op 0 (steps_of_calls h) (steps_of_calls k)
+
+-- nor does its open call if it goes on, with the steps that it has made already
+abbrev pub GoesOnByTouch : {W : Type 0} → (W → Meaning) → (W → List ℕ → Type 0)
+    → (before now : CellHandle W) → Type 0
+GoesOnByTouch meaning lawful h k =
+    HasCallOpen h
+    → RisesByTouch meaning lawful (home_of h) (last_operation_of h) (steps_so_far h)
+    (steps_of_calls h) (steps_of_calls k)
 
 -- the last sequence that may be committed in its memory
 abbrev pub limit_at : {W : Type 0} → CellHandle W → ℕ

@@ -7,10 +7,11 @@ use Rattle.of_mem.specs.Meaning.{Meaning}
 use Rattle.of_core.specs.Machine.{IsOpen, is_idle}
 use Rattle.of_core.specs.Bound.{bound}
 use Rattle.of_core.specs.Events.{Event}
+use Rattle.of_core.specs.Touched.{IsWithinTouched}
 use Rattle.of_core.specs.Turn.{IsIdle}
 use Rattle.of_row.specs.declared.row.Row.{Row}
 use Rattle.of_row.specs.declared.member.Pass.{Pass}
-use Rattle.of_row.specs.Rows.{setup_at, row_start, view_of_pass, IsRowPass, IsFirstPass, KeepsNobody}
+use Rattle.of_row.specs.Rows.{key_of, setup_at, row_start, view_of_pass, IsRowPass, IsFirstPass, KeepsNobody}
 use Rattle.of_row.specs.Rule.{IsAsked, done_before, open_call_count}
 use Rattle.of_row.specs.Views.{KnownCaller, EndedCall, last_caller}
 use Rattle.of_caller.specs.declared.caller.Caller.{Caller}
@@ -48,6 +49,14 @@ events_known_to c = (sight_of c).past
 -- how many atomic steps the calls of the caller have made on the row, whatever they came to
 abbrev pub steps_made_by : {W : Type 0} → Caller W → ℕ
 steps_made_by c = (last_caller (sight_of c).kept).turns
+
+-- Between these two counts the calls of a caller of the row have made no more steps than what
+-- operations of its work touch allows, with those that the open call had made before.
+abbrev pub RisesByTouch : {W : Type 0} → (W → Meaning) → (W → List ℕ → Type 0) → Row W
+    → (op : List ℕ) → (made before now : ℕ) → Type 0
+RisesByTouch meaning lawful r op made before now =
+    (more : ℕ) → 0 < more → now ≡ before + more
+    → IsWithinTouched (setup_at meaning r) (lawful (key_of r).work) op (made + more)
 
 -- a call that is kept open has made a step
 abbrev pub HasStartedIfOpen : KnownCaller → Type 0

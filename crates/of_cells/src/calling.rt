@@ -8,6 +8,7 @@ ghost use Rattle.of_core.specs.Calls.{IsAnswered};
 ghost use Rattle.of_caller.specs.Callers.{IsCaller, caller_call, calls_begun_by};
 ghost use Rattle.of_row.specs.Rows.{key_of};
 ghost use Rattle.of_cells.specs.Serving.{KeepsServing, ended_of, row_step_bound, steps_made_by};
+ghost use Rattle.of_cells.specs.Serving.{RisesByTouch};
 ghost use Rattle.of_cells.specs.Called.{outcome_of, made_with, LeavesOpen, WasTried};
 ghost use Rattle.of_cells.specs.Called.{BeginsItsNext, ResumesItsNext, LearnsMore};
 ghost use Rattle.of_cells.specs.Called.{CallerOpensOnly, CallerOpensNone};
@@ -79,6 +80,8 @@ fn call_counted<W: Work, L: Ledger>(
     ensures given { RisesWithin stop (steps_made_by caller.old) (steps_made_by caller.new) }
     ensures rise { steps_made_by caller.new
         ≤ steps_made_by caller.old + row_step_bound W.meaning row.now }
+    ensures touched { RisesByTouch W.meaning W.lawful row.now op.now 0
+        (steps_made_by caller.old) (steps_made_by caller.new) }
     ensures spent { IsSpentAtLimit (key_of row.now).limit result }
     ensures only { CallerOpensOnly op.now caller.old caller.new }
     ensures next { BeginsItsNext result caller.old }
@@ -115,6 +118,8 @@ fn go_on_counted<W: Work, L: Ledger>(
     ensures given { RisesWithin stop (steps_made_by caller.old) (steps_made_by caller.new) }
     ensures rise { (caller_call caller.old).steps + steps_made_by caller.new
         ≤ steps_made_by caller.old + row_step_bound W.meaning row.now }
+    ensures touched { RisesByTouch W.meaning W.lawful row.now (caller_call caller.old).op
+        (caller_call caller.old).steps (steps_made_by caller.old) (steps_made_by caller.new) }
     ensures spent { IsSpentAtLimit (key_of row.now).limit result }
     ensures only { CallerOpensNone caller.old caller.new }
     ensures next { ResumesItsNext result caller.old }
@@ -150,6 +155,8 @@ pub(crate) fn call_with<W: Work>(
     ensures given { RisesWithin stop (steps_made_by caller.old) (steps_made_by caller.new) }
     ensures rise { steps_made_by caller.new
         ≤ steps_made_by caller.old + row_step_bound W.meaning row.now }
+    ensures touched { RisesByTouch W.meaning W.lawful row.now op.now 0
+        (steps_made_by caller.old) (steps_made_by caller.new) }
     ensures spent { IsSpentAtLimit (key_of row.now).limit result }
     ensures only { CallerOpensOnly op.now caller.old caller.new }
     ensures next { BeginsItsNext result caller.old }
@@ -177,6 +184,8 @@ pub(crate) fn go_on_with<W: Work>(
     ensures given { RisesWithin stop (steps_made_by caller.old) (steps_made_by caller.new) }
     ensures rise { (caller_call caller.old).steps + steps_made_by caller.new
         ≤ steps_made_by caller.old + row_step_bound W.meaning row.now }
+    ensures touched { RisesByTouch W.meaning W.lawful row.now (caller_call caller.old).op
+        (caller_call caller.old).steps (steps_made_by caller.old) (steps_made_by caller.new) }
     ensures spent { IsSpentAtLimit (key_of row.now).limit result }
     ensures only { CallerOpensNone caller.old caller.new }
     ensures next { ResumesItsNext result caller.old }

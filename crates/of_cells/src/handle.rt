@@ -28,6 +28,7 @@ impl<W: Work> CellHandle<W> {
     ghost use Rattle.of_cells.specs.Handles.{StaysOpenOnlyIfStopped, RefusesCall, RefusesToGoOn};
     ghost use Rattle.of_cells.specs.Memories.{IsCellMemory, IsFrom, IsStill, HasMadeOf, HasOpenOf};
     ghost use Rattle.of_cells.specs.Handles.{OpensOnly, OpensNone, MakesAtMost, GoesOnWithin};
+    ghost use Rattle.of_cells.specs.Handles.{MakesByTouch, GoesOnByTouch};
     ghost use Rattle.of_cells.specs.Handles.{steps_of_calls};
     ghost use Rattle.of_cells.specs.Within.{RisesWithin};
     ghost use Rattle.of_cells.specs.Telling.{BeginsAfterHeard, ResumesAfterHeard, KeepsKnown};
@@ -57,6 +58,7 @@ impl<W: Work> CellHandle<W> {
         ensures stopped { IsNeverStopped result }
         ensures only { OpensOnly op.now self.old self.new }
         ensures rise { MakesAtMost (step_bound_of W.meaning self.old) self.old self.new }
+        ensures touched { MakesByTouch W.meaning W.lawful op.now self.old self.new }
         ensures behind { BeginsAfterHeard W.meaning result self.old self.new }
         ensures knows { KeepsKnown W.meaning self.old self.new }
     {
@@ -78,6 +80,7 @@ impl<W: Work> CellHandle<W> {
         ensures within { KeepsWithin 0 steps (steps_so_far self.new) result }
         ensures only { OpensOnly op.now self.old self.new }
         ensures rise { MakesAtMost (step_bound_of W.meaning self.old) self.old self.new }
+        ensures touched { MakesByTouch W.meaning W.lawful op.now self.old self.new }
         ensures behind { BeginsAfterHeard W.meaning result self.old self.new }
         ensures knows { KeepsKnown W.meaning self.old self.new }
         ensures given { MakesAtMost steps self.old self.new }
@@ -99,6 +102,7 @@ impl<W: Work> CellHandle<W> {
         ensures stop { KeepsToStop 0 stop (steps_so_far self.new) result }
         ensures only { OpensOnly op.now self.old self.new }
         ensures rise { MakesAtMost (step_bound_of W.meaning self.old) self.old self.new }
+        ensures touched { MakesByTouch W.meaning W.lawful op.now self.old self.new }
         ensures behind { BeginsAfterHeard W.meaning result self.old self.new }
         ensures knows { KeepsKnown W.meaning self.old self.new }
         ensures given { RisesWithin stop (steps_of_calls self.old) (steps_of_calls self.new) }
@@ -126,6 +130,7 @@ impl<W: Work> CellHandle<W> {
         ensures stopped { IsNeverStopped result }
         ensures only { OpensNone self.old self.new }
         ensures rise { GoesOnWithin (step_bound_of W.meaning self.old) self.old self.new }
+        ensures touched { GoesOnByTouch W.meaning W.lawful self.old self.new }
         ensures behind { ResumesAfterHeard W.meaning result self.old self.new }
         ensures knows { KeepsKnown W.meaning self.old self.new }
     {
@@ -147,6 +152,7 @@ impl<W: Work> CellHandle<W> {
             (steps_so_far self.new) result }
         ensures only { OpensNone self.old self.new }
         ensures rise { GoesOnWithin (step_bound_of W.meaning self.old) self.old self.new }
+        ensures touched { GoesOnByTouch W.meaning W.lawful self.old self.new }
         ensures behind { ResumesAfterHeard W.meaning result self.old self.new }
         ensures knows { KeepsKnown W.meaning self.old self.new }
         ensures given { MakesAtMost steps self.old self.new }
@@ -168,6 +174,7 @@ impl<W: Work> CellHandle<W> {
             (steps_so_far self.new) result }
         ensures only { OpensNone self.old self.new }
         ensures rise { GoesOnWithin (step_bound_of W.meaning self.old) self.old self.new }
+        ensures touched { GoesOnByTouch W.meaning W.lawful self.old self.new }
         ensures behind { ResumesAfterHeard W.meaning result self.old self.new }
         ensures knows { KeepsKnown W.meaning self.old self.new }
         ensures given { RisesWithin stop (steps_of_calls self.old) (steps_of_calls self.new) }

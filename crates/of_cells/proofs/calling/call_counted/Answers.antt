@@ -1,5 +1,5 @@
 use Rattle.std.proofs.Common.{◌∙◌, ap, refl, Some, Err}
-use Rattle.of_cells.proofs.Called.{serves_on, begin_counts, made_answered, made_spent, made_none, none_after_answer, none_after_spent, open_after_stop, answers_within, stops_within, keeps_answered, keeps_stopped, keeps_over, answered_some, stopped_some, spent_some, begun_within, rises_as_given, spent_at_limit, opens_only, kept_idle, next_call}
+use Rattle.of_cells.proofs.Called.{serves_on, begin_counts, made_answered, made_spent, made_none, none_after_answer, none_after_spent, open_after_stop, answers_within, stops_within, keeps_answered, keeps_stopped, keeps_over, answered_some, stopped_some, spent_some, begun_within, rises_as_given, rises_by_touch, spent_at_limit, opens_only, kept_idle, next_call}
 use Rattle.of_cells.proofs.calling.call_counted.Goals as goal
 
 pub answer_of-requires : goal.answer_of-requires
@@ -73,6 +73,9 @@ returns-in-Ok-clause-given g c = rises_as_given _ _ _ _ _ _ _ _ _ _ c.in-Ok.ensu
 pub returns-in-Ok-clause-rise : goal.returns-in-Ok-clause-rise
 returns-in-Ok-clause-rise g c = begun_within _ _ _ _ _ _ _ _ _ _ c.in-Ok.ensures.told refl
 
+pub returns-in-Ok-clause-touched : goal.returns-in-Ok-clause-touched
+returns-in-Ok-clause-touched g c = rises_by_touch _ _ _ _ _ _ _ _ _ _ c.in-Ok.ensures.told
+
 pub returns-in-Ok-clause-only : goal.returns-in-Ok-clause-only
 returns-in-Ok-clause-only g c = opens_only c.args.op.now c.args.caller.now c.call.new.self c.in-Ok.ensures.told.op
 
@@ -88,6 +91,9 @@ returns-in-Err-Stopped-clause-given g c = rises_as_given _ _ _ _ _ _ _ _ _ _ c.c
 pub returns-in-Err-Stopped-clause-rise : goal.returns-in-Err-Stopped-clause-rise
 returns-in-Err-Stopped-clause-rise g c = begun_within _ _ _ _ _ _ _ _ _ _ c.call.ensures.told refl
 
+pub returns-in-Err-Stopped-clause-touched : goal.returns-in-Err-Stopped-clause-touched
+returns-in-Err-Stopped-clause-touched g c = rises_by_touch _ _ _ _ _ _ _ _ _ _ c.call.ensures.told
+
 pub returns-in-Err-Stopped-clause-only : goal.returns-in-Err-Stopped-clause-only
 returns-in-Err-Stopped-clause-only g c = opens_only c.args.op.now c.args.caller.now c.call.new.self c.call.ensures.told.op
 
@@ -102,6 +108,9 @@ returns-clause-given g c = rises_as_given _ _ _ _ _ _ _ _ _ _ c.call.ensures.tol
 
 pub returns-clause-rise : goal.returns-clause-rise
 returns-clause-rise g c = begun_within _ _ _ _ _ _ _ _ _ _ c.call.ensures.told refl
+
+pub returns-clause-touched : goal.returns-clause-touched
+returns-clause-touched g c = rises_by_touch _ _ _ _ _ _ _ _ _ _ c.call.ensures.told
 
 pub returns-clause-only : goal.returns-clause-only
 returns-clause-only g c = opens_only c.args.op.now c.args.caller.now c.call.new.self c.call.ensures.told.op

@@ -1,6 +1,6 @@
 use Rattle.std.proofs.Common.{refl, sym, ap, subst, ◌∙◌}
 use Rattle.of_row.specs.Rows.{key_of}
-use Rattle.of_cells.specs.Serving.{KeepsServing, row_step_bound}
+use Rattle.of_cells.specs.Serving.{KeepsServing, RisesByTouch, row_step_bound, steps_made_by}
 use Rattle.of_cells.specs.Within.{IsSpentAtLimit}
 use Rattle.of_cells.proofs.Called.{tried_is, was_made}
 use Rattle.of_cells.proofs.Times.{keeps_known, begins_after}
@@ -24,3 +24,7 @@ pub returns-clause-behind : goal.returns-clause-behind
 returns-clause-behind g c =
     let h = c.args.self.now in
     begins_after g.W.Work.meaning c.call_with.result h (record h { caller = c.call_with.new.caller }) refl c.call_with.ensures.more c.requires.handle.number c.call_with.ensures.next
+
+pub returns-clause-touched : goal.returns-clause-touched
+returns-clause-touched g c =
+    subst (λ r. RisesByTouch g.W.Work.meaning g.W.Work.lawful r c.args.op.now 0 (steps_made_by c.args.self.now.caller) (steps_made_by c.call_with.new.caller)) c.deref.ensures c.call_with.ensures.touched

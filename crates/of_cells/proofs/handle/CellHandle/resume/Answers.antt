@@ -1,6 +1,7 @@
 use Rattle.std.proofs.Common.{refl, subst}
 use Rattle.of_row.specs.Rows.{key_of}
-use Rattle.of_cells.specs.Serving.{KeepsServing}
+use Rattle.of_cells.specs.Serving.{KeepsServing, RisesByTouch, steps_made_by}
+use Rattle.of_caller.specs.Callers.{caller_call}
 use Rattle.of_cells.specs.Within.{IsSpentAtLimit}
 use Rattle.of_cells.proofs.Called.{went_on, was_made}
 use Rattle.of_cells.proofs.Times.{keeps_known, begins_after}
@@ -24,3 +25,8 @@ pub returns-clause-behind : goal.returns-clause-behind
 returns-clause-behind g c none =
     let h = c.args.self.now in
     begins_after g.W.Work.meaning c.go_on_with.result h (record h { caller = c.go_on_with.new.caller }) refl c.go_on_with.ensures.more c.requires.number (c.go_on_with.ensures.next c.requires.started none)
+
+pub returns-clause-touched : goal.returns-clause-touched
+returns-clause-touched g c is_open =
+    let m = caller_call c.args.self.now.caller in
+    subst (λ r. RisesByTouch g.W.Work.meaning g.W.Work.lawful r m.op m.steps (steps_made_by c.args.self.now.caller) (steps_made_by c.go_on_with.new.caller)) c.deref.ensures c.go_on_with.ensures.touched
