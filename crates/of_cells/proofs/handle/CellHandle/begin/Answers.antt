@@ -1,6 +1,6 @@
-use Rattle.std.proofs.Common.{refl, sym, ap, subst, ◌∙◌}
+use Rattle.std.proofs.Common.{refl, subst}
 use Rattle.of_row.specs.Rows.{key_of}
-use Rattle.of_cells.specs.Serving.{KeepsServing, row_step_bound}
+use Rattle.of_cells.specs.Serving.{KeepsServing}
 use Rattle.of_cells.specs.Within.{IsSpentAtLimit}
 use Rattle.of_cells.proofs.Called.{tried_is, was_made}
 use Rattle.of_cells.proofs.Times.{keeps_known, begins_after}
