@@ -14,7 +14,7 @@ use Rattle.of_core.specs.TableMoment.{TableStart}
 use Rattle.of_core.specs.MachineValue.{machine_setup}
 use Rattle.of_core.specs.Touched.{IsWithinTouched}
 use Rattle.of_row.specs.declared.row.Row.{Row}
-use Rattle.of_row.specs.Rows.{key_of, setup_at, row_start}
+use Rattle.of_row.specs.Rows.{setup_at, row_start}
 use Rattle.of_row.specs.Told.{open_operation, operations_known}
 use Rattle.of_row.specs.Rule.{open_call_count}
 use Rattle.of_row.specs.Views.{EndedCall, KnownCaller, View, last_caller}
@@ -32,7 +32,7 @@ use Rattle.of_cells.specs.Called.{outcome_of, WasTried, LeavesAsItWas, CallerOpe
 use Rattle.of_cells.specs.Within.{KeepsToStop, IsSpentAtLimit, RisesWithin}
 use Rattle.of_cells.specs.Times.{calls_ended_in, calls_begun_in}
 use Rattle.of_cells.specs.Serving.{Serves, HasStartedIfOpen, ended_of, events_known_to, made_before}
-use Rattle.of_cells.specs.Handles.{IsCellHandle, HasCallOpen, CallsAreCounted, RefusesCall, RefusesToGoOn, home_of, limit_at, number_of_handle}
+use Rattle.of_cells.specs.Handles.{CallsAreCounted, RefusesCall, RefusesToGoOn, home_of, limit_at, number_of_handle}
 use Rattle.of_cells.proofs.Seats.{open_same}
 
 pub none_open : (m : CallState) → IsIdle m → IsOpen m.place → ⊥

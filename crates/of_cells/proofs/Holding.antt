@@ -1,5 +1,5 @@
 -- What a memory knows of its callers, and the history that its close leaves.
-use Rattle.std.proofs.Common.{◌≡◌, ℕ, zero, suc, ◌+◌, ◌<◌, inl, inr, List, [], ◌∷◌, length, get_or, set, map, replicate, Option, Some, None, refl, sym, ap, subst, ◌∙◌, arith}
+use Rattle.std.proofs.Common.{◌≡◌, ℕ, zero, suc, ◌<◌, inl, inr, List, [], ◌∷◌, length, get_or, set, map, replicate, Option, Some, None, refl, sym, ap, subst, ◌∙◌, arith}
 use Rattle.std.specs.List.{AllByRecursion as Each}
 use Rattle.std.proofs.lemmas.List.{get_or-set_same, get_or-set_other, get_or-map, length-map, length-replicate, get_or-replicate, ext_get_or}
 use mathlib.Core.Bool.{true≢false}
@@ -12,24 +12,23 @@ use Rattle.of_core.specs.Machine.{Call, CallState, IsOpen, is_idle}
 use Rattle.of_core.specs.Turn.{IsIdle}
 use Rattle.of_row.specs.declared.row.Row.{Row}
 use Rattle.of_row.specs.Rows.{key_of, setup_at, row_start, IsSeatOf, StartsAtZeros}
-use Rattle.of_row.specs.declared.member.Pass.{Pass}
 use Rattle.of_row.specs.Rule.{done_before}
 use Rattle.of_mem.specs.Places.{ticket_cell_at}
 use Rattle.of_mem.proofs.Lists.{same_some, prefix_trans}
 use Rattle.of_cells.specs.Times.{EndBefore}
 use Rattle.of_row.specs.Views.{EndedCall, KnownCaller, View, last_caller}
 use Rattle.of_caller.specs.declared.caller.Caller.{Caller}
-use Rattle.of_caller.specs.Callers.{IsCaller, caller_call}
+use Rattle.of_caller.specs.Callers.{caller_call}
 use Rattle.of_cells.specs.declared.memory.CellMemory.{CellMemory}
 use Rattle.of_cells.specs.declared.handle.CellHandle.{CellHandle}
 use Rattle.of_cells.specs.declared.saved.SavedCells.{SavedCells}
-use Rattle.of_cells.specs.History.{ExplainsAll, HasOnly, IsOneOf, ComeInOrder}
+use Rattle.of_cells.specs.History.{ExplainsAll, HasOnly, IsOneOf}
 use Rattle.of_cells.specs.Called.{IsOpenAt}
 use Rattle.of_cells.specs.Serving.{KeepsSo, IsNew, Serves, ServeAll, AllStand, IsKeptOf, KeepsThose, KnowsPasts, KnowsMore, IsKnowledge, ended_of, events_known_to, cells_at_start, made_before}
 use Rattle.of_cells.specs.Saving.{ExplainsKept, HasOpenOperation, HasOnlyKept, HistoryLeads}
 use Rattle.of_cells.specs.Handles.{IsCellHandle}
-use Rattle.of_cells.specs.Memories.{IsCellMemory, IsFrom, HasMadeOf, HasOpenOf, HasMadeNothing, HasNoneOpen, HasOrderOf, KnowsOthers, OthersStayOpen, OthersKnowOrder, PutsCaller, HasHistory, row_of}
-use Rattle.of_cells.proofs.Seats.{number_below, is_within, serves_same}
+use Rattle.of_cells.specs.Memories.{IsCellMemory, IsFrom, HasMadeOf, HasOpenOf, HasMadeNothing, HasNoneOpen, KnowsOthers, OthersStayOpen, OthersKnowOrder, HasHistory, row_of}
+use Rattle.of_cells.proofs.Seats.{number_below, is_within}
 
 -- ---- zeros
 

@@ -6,7 +6,7 @@ use Rattle.of_cell.specs.Words.{seq_of, payload_of}
 use Rattle.of_cell.specs.Cells.{data_cell}
 use Rattle.of_cell.specs.declared.shape.Shape.{Shape}
 use Rattle.of_cell.proofs.Order.{seq_zero, seq_word, pay_word, pay_small}
-use Rattle.of_mem.specs.Meaning.{Meaning, HasRoom}
+use Rattle.of_mem.specs.Meaning.{Meaning}
 use Rattle.of_mem.proofs.Lists.{part_at, part_long}
 use Rattle.of_recover.specs.Row.{IsDurableRow}
 use Rattle.of_recover.specs.Renumbered.{BeginsAnew}

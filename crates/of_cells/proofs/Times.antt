@@ -1,27 +1,26 @@
 -- What callers, handles and memories know of real time, and go on knowing.
-use Rattle.std.proofs.Common.{◌≡◌, ℕ, ◌+◌, ◌≤◌, ◌<◌, List, [], length, append-nil, get_or, Option, Some, None, Result, refl, sym, ap, subst, ◌∙◌, arith}
+use Rattle.std.proofs.Common.{◌≡◌, ℕ, ◌≤◌, List, [], length, append-nil, get_or, Some, None, Result, refl, sym, ap, subst, ◌∙◌, arith}
 use mathlib.Core.List.{IsPrefix}
 use Rattle.of_mem.specs.Meaning.{Meaning}
 use Rattle.of_mem.proofs.Lists.{prefix_trans, same_some}
-use Rattle.of_core.specs.Machine.{CallState}
 use Rattle.of_core.specs.Events.{Event}
 use Rattle.of_row.specs.declared.row.Row.{Row}
 use Rattle.of_row.specs.Rows.{setup_at, row_start}
-use Rattle.of_row.specs.Views.{KnownCaller, View, last_caller}
+use Rattle.of_row.specs.Views.{View}
 use Rattle.of_caller.specs.declared.caller.Caller.{Caller}
-use Rattle.of_caller.specs.Callers.{IsCaller, caller_call, sight_of}
+use Rattle.of_caller.specs.Callers.{caller_call, sight_of}
 use Rattle.of_cells.specs.declared.answer.RawAnswer.{RawAnswer}
 use Rattle.of_cells.specs.declared.error.RunErr.{RunErr}
 use Rattle.of_cells.specs.declared.memory.CellMemory.{CellMemory}
 use Rattle.of_cells.specs.declared.handle.CellHandle.{CellHandle}
 use Rattle.of_cells.specs.declared.telling.CellNews.{CellNews}
-use Rattle.of_cells.specs.Times.{calls_ended_in, calls_begun_in, EndBefore}
-use Rattle.of_cells.specs.Serving.{Serves, KnowsMore, ended_of, events_known_to}
+use Rattle.of_cells.specs.Times.{calls_ended_in, EndBefore}
+use Rattle.of_cells.specs.Serving.{KnowsMore, events_known_to}
 use Rattle.of_cells.specs.Called.{BeginsItsNext, BeginsAsNext, LearnsMore}
 use Rattle.of_cells.specs.Handles.{IsCellHandle, home_of, number_of_handle, caller_of, made_by}
 use Rattle.of_cells.specs.Memories.{IsFrom, HasOrderOf, HasHeardOf as MemoryHasHeardOf, RemembersAll, events_heard, row_of}
-use Rattle.of_cells.specs.Telling.{HasHeardOf, KeepsKnown, BeginsAfterHeard, KnowsOrder, KnowsOrdersOf, LeavesOrder, HearsMemory, TellsMemory, TellsOf, TellsOwn, TellsHeard, HearsAll, ToldCallsComeFirst, CallsComeInTurn, events_told}
-use Rattle.of_cells.proofs.Seats.{later_ended, serves_same}
+use Rattle.of_cells.specs.Telling.{HasHeardOf, KeepsKnown, BeginsAfterHeard, KnowsOrder, HearsMemory, TellsMemory, TellsOf, TellsOwn, TellsHeard, HearsAll, ToldCallsComeFirst, CallsComeInTurn, events_told}
+use Rattle.of_cells.proofs.Seats.{later_ended}
 
 -- ---- a caller that knows more
 

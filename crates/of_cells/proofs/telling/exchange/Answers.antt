@@ -1,4 +1,4 @@
-use Rattle.std.proofs.Common.{◌≡◌, refl, sym, ap, subst, ◌∙◌, Some, None}
+use Rattle.std.proofs.Common.{◌≡◌, refl, sym, ap, subst, ◌∙◌, Some}
 use mathlib.Core.List.{IsPrefix}
 use Rattle.of_row.specs.Views.{View}
 use Rattle.of_caller.specs.Callers.{sight_of}

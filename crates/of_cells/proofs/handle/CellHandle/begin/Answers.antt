@@ -1,6 +1,6 @@
-use Rattle.std.proofs.Common.{refl, sym, ap, subst, ◌∙◌}
+use Rattle.std.proofs.Common.{refl, subst}
 use Rattle.of_row.specs.Rows.{key_of}
-use Rattle.of_cells.specs.Serving.{KeepsServing, RisesByTouch, row_step_bound, steps_made_by}
+use Rattle.of_cells.specs.Serving.{KeepsServing, RisesByTouch, steps_made_by}
 use Rattle.of_cells.specs.Within.{IsSpentAtLimit}
 use Rattle.of_cells.proofs.Called.{tried_is, was_made}
 use Rattle.of_cells.proofs.Times.{keeps_known, begins_after}
