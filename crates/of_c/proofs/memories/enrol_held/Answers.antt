@@ -18,6 +18,7 @@ returns-in-Ok-clause-enrolled c done = record {
   of_number = c.in-Ok.ensures.number;
   made = c.in-Ok.ensures.made;
   open_call = c.in-Ok.ensures.open_call;
+  taken = c.in-Ok.ensures.taken;
   others = c.enrol.ensures.others;
   others_open = c.enrol.ensures.others_open;
 }
@@ -39,7 +40,7 @@ pub returns-in-Memory-clause-taken : goal.returns-in-Memory-clause-taken
 returns-in-Memory-clause-taken c out = record {
   memory = c.in-Memory.home.memory;
   is = subst (λ (h : Held). HasMemory h c.in-Memory.home.memory) (sym c.in-Memory.is) refl;
-  so = (rw c.in-Err-Enrolled.field-0-is at c.in-Err-Enrolled.ensures.cause).1;
+  so = (refl, (rw c.in-Err-Enrolled.field-0-is at c.in-Err-Enrolled.ensures.cause).1);
 }
 
 pub returns-in-Memory-clause-kept : goal.returns-in-Memory-clause-kept
