@@ -10,6 +10,8 @@ use Rattle.of_memory.specs.Handles.{HasMade, HasOpen, number_of_handle}
 use Rattle.of_memory.specs.Memories.{callers_of, StartsWith, tickets_before, HasMadeOf, HasOpenOf}
 use Rattle.of_memory.specs.Memories.{HasNoneOpen, IsFrom, IsStill, KnowsOthers, OthersStayOpen}
 use Rattle.of_memory.specs.Memories.{HasHistory, HasNoHandleOut, limit_of, TakesOut, PutsBack}
+use Rattle.of_memory.specs.Memories.{OthersKnowOrder}
+use Rattle.of_memory.specs.Telling.{KnowsOrdersOf, LeavesOrder}
 use Rattle.of_memory.specs.Saving.{SavedHolds, saved_callers, saved_limit, saved_ticket}
 use Rattle.of_c.specs.declared.held.Held.{Held}
 use Rattle.of_c.specs.Slots.{HoldsMemory, HoldsHandle, HoldsSaved}
@@ -60,6 +62,9 @@ pub record HoldsEnrolled (number : ℕ) (before now caller : Option Held) : Type
   pub taken : TakesOut memory next handle
   pub others : KnowsOthers number memory next
   pub others_open : OthersStayOpen number memory next
+  -- which calls had ended before which others began is known still
+  pub order : KnowsOrdersOf memory handle
+  pub others_order : OthersKnowOrder number memory next
 
 -- the caller is in the memory again as it was, with no call that it has not begun: the memory knows
 -- of its number what the caller knew, and of the others what it knew
@@ -78,6 +83,9 @@ pub record HoldsLeft (before caller now : Option Held) : Type 0 where
   pub back : PutsBack memory next handle
   pub others : KnowsOthers (number_of_handle handle) memory next
   pub others_open : OthersStayOpen (number_of_handle handle) memory next
+  -- which calls had ended before which others began is known still
+  pub order : LeavesOrder handle next
+  pub others_order : OthersKnowOrder (number_of_handle handle) memory next
 
 -- what the memory has left is held: one serial history leads to it, with each call that was
 -- answered. Each caller had left

@@ -2,6 +2,7 @@
 
 ghost use Rattle.std.specs.Prelude.{◌≡◌, Some, None, [], ◌∷◌};
 ghost use Rattle.of_lives.specs.OneHistory.{LivesAreOneHistory, SpansAreOneHistory};
+ghost use Rattle.of_lives.specs.RenumberedStarts.{RenumberedImagesStart};
 ghost use Rattle.of_lives.specs.Restarts.{LivesRestart};
 ghost use Rattle.of_lives.specs.Worked.{FollowsFirst, FollowsRenumbered, second_life, runs_again, begins_anew, forgets_store, skips_read, asked_by, replies_to, one_number_reply, done_in_both};
 
@@ -21,6 +22,12 @@ pub fn any_lives()
 /// the entries of the lives between two such places.
 pub fn renumbered_lives()
     ensures { SpansAreOneHistory }
+{}
+
+/// A life from an image whose sequences begin anew starts at the store and the tickets of the image
+/// that was renumbered, at sequence 0.
+pub fn renumbered_images_start()
+    ensures { RenumberedImagesStart }
 {}
 
 /// A life leaves where the next one begins: from what recovery makes of the durable words of its

@@ -21,6 +21,8 @@ returns-in-Ok-clause-enrolled c done = record {
   taken = c.in-Ok.ensures.taken;
   others = c.enrol.ensures.others;
   others_open = c.enrol.ensures.others_open;
+  order = c.in-Ok.ensures.order;
+  others_order = c.enrol.ensures.others_order;
 }
 
 pub returns-in-Err-OutOfMemory-clause-kept : goal.returns-in-Err-OutOfMemory-clause-kept

@@ -23,4 +23,6 @@ returns-clause-left c done = record {
   back = c.leave.ensures.back;
   others = c.leave.ensures.others;
   others_open = c.leave.ensures.others_open;
+  order = c.leave.ensures.order;
+  others_order = c.leave.ensures.others_order;
 }
