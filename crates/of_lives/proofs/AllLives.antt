@@ -13,7 +13,7 @@ use Rattle.of_plan.specs.Report.{Entry, Start, finished_of}
 use Rattle.of_plan.specs.Legal.{script_of_entry, IsLegal}
 use Rattle.of_plan.specs.Histories.{IsIn}
 use Rattle.of_plan.proofs.HistoriesLists.{each_at, each_from_in, each_weaker, each_append, in_left, in_right, any_in, in_line_append, pairs_in_line, InLine}
-use Rattle.of_lives.specs.Lives.{Life, done_behind, start_behind, start_behind_all, renumbered, start_behind_spans, EachLife, AreLives, EachSpan, AreSpans}
+use Rattle.of_lives.specs.Lives.{Life, done_behind, start_behind, start_behind_all, renumbered_start, start_behind_spans, EachLife, AreLives, EachSpan, AreSpans}
 use Rattle.of_lives.specs.OneHistory.{entries_in, life_scripts, entries_of_spans, scripts_of_spans, ComesBefore, ComesLater, IsBetween, IsAnnouncedAt, IsKnownTo, IsBehind, NoneAnnouncedOf, IsCall, HasReads, HasAnswered, AreOneHistory, LivesAreOneHistory, SpansAreOneHistory}
 use Rattle.of_lives.proofs.Tickets.{done_append, not_done}
 use Rattle.of_lives.proofs.Callers.{is_of}
@@ -116,7 +116,7 @@ module _ (s t u : Start) (es fs : List Entry) (xs ys : List (List Instr)) (a : C
   }
 
 -- they are the same if sequences begin anew behind them
-calls_renumbered : (s t : Start) (es : List Entry) (xs : List (List Instr)) → Calls s t es xs → Calls s (renumbered t) es xs
+calls_renumbered : (s t : Start) (es : List Entry) (xs : List (List Instr)) → Calls s t es xs → Calls s (renumbered_start t) es xs
 calls_renumbered s t es xs a = record {
   replies_are = a.replies_are;
   final = a.final;
@@ -236,12 +236,12 @@ calls_of_spans : (s : Start) (spans : List (List Life)) → AreSpans s spans →
 calls_of_spans s [] lives = calls_none s
 calls_of_spans s (ls ∷ spans) lives =
     let t = start_behind_all s ls in
-    calls_more s (renumbered t) (start_behind_spans (renumbered t) spans) (entries_in ls) (entries_of_spans spans) (life_scripts ls) (scripts_of_spans spans)
-    (calls_renumbered s t (entries_in ls) (life_scripts ls) (calls s ls lives.0)) (calls_of_spans (renumbered t) spans lives.1)
+    calls_more s (renumbered_start t) (start_behind_spans (renumbered_start t) spans) (entries_in ls) (entries_of_spans spans) (life_scripts ls) (scripts_of_spans spans)
+    (calls_renumbered s t (entries_in ls) (life_scripts ls) (calls s ls lives.0)) (calls_of_spans (renumbered_start t) spans lives.1)
 
 each_span : (s : Start) (spans : List (List Life)) → AreSpans s spans → EachSpan AreOneHistory s spans
 each_span s [] lives = tt
-each_span s (ls ∷ spans) lives = (any_lives s ls lives.0, each_span (renumbered (start_behind_all s ls)) spans lives.1)
+each_span s (ls ∷ spans) lives = (any_lives s ls lives.0, each_span (renumbered_start (start_behind_all s ls)) spans lives.1)
 
 pub renumbered_lives : SpansAreOneHistory
 renumbered_lives s spans lives =

@@ -26,8 +26,8 @@ tickets_same i j is_i is_j same =
     ∙ ticket_same i j is_i is_j same c in_i in_j
     ∙ sym (get_or-map-range_with_len (image_ticket i) 0 i.row.callers c c 0 in_i (omega arith)))
 
-pub renumbered_start : RenumberedImagesStart
-renumbered_start i j is_i is_j same = λ k. record {
+pub images_start : RenumberedImagesStart
+images_start i j is_i is_j same = λ k. record {
   store = same.store k;
   seq = same.seq k;
   finished = tickets_same i j is_i is_j same k;

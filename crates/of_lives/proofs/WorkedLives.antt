@@ -10,7 +10,7 @@ use Rattle.of_plan.specs.Legal.{scripts_left, StandsBefore, HasSequence, HasOpen
 use Rattle.of_plan.specs.Worked.{worked_entry}
 use Rattle.of_plan.proofs.HistoriesLists.{any_in, pairs_in_line}
 use Rattle.of_plan.specs.Histories.{IsIn}
-use Rattle.of_lives.specs.Lives.{Life, start_behind, renumbered}
+use Rattle.of_lives.specs.Lives.{Life, start_behind, renumbered_start}
 use Rattle.of_lives.specs.OneHistory.{IsAnnouncedAt}
 use Rattle.of_lives.specs.Worked.{first_life, second_life, begins_anew, adds_and_reads, one_more_script, worked_start, FollowsRenumbered}
 use Rattle.of_lives.proofs.AllLives.{at_in}
@@ -81,7 +81,7 @@ module _ (n : ℕ) where
 pub second_is_legal : IsLegal one_more_script behind_first second_life.report
 second_is_legal = life_is_legal 1
 
-pub anew_is_legal : IsLegal one_more_script (renumbered behind_first) begins_anew.report
+pub anew_is_legal : IsLegal one_more_script (renumbered_start behind_first) begins_anew.report
 anew_is_legal = life_is_legal 0
 
 none_at_one : (e : Entry) → IsIn e second_life.report.entries → IsAnnouncedAt 1 e → ⊥

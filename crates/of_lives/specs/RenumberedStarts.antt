@@ -3,7 +3,7 @@ use Rattle.std.specs.Prelude.{◌≡◌}
 use Rattle.of_script.specs.declared.instr.TheConstants.{MOST_INSTRS}
 use Rattle.of_report.specs.ImageRow.{data_numbers_in}
 use Rattle.of_report.specs.Image.{Image, IsImage, start_of_image}
-use Rattle.of_lives.specs.Lives.{renumbered}
+use Rattle.of_lives.specs.Lives.{renumbered_start}
 
 -- the second image has the callers, the store and the numbers of the data cells of the first, and
 -- sequence 0: so it is of what `renumber` prints
@@ -17,4 +17,4 @@ pub record IsRenumberedImage (i j : Image) : Type 0 where
 abbrev pub RenumberedImagesStart : Type 0
 RenumberedImagesStart =
     (i j : Image) → IsImage MOST_INSTRS i → IsImage MOST_INSTRS j → IsRenumberedImage i j
-    → start_of_image j ≡ renumbered (start_of_image i)
+    → start_of_image j ≡ renumbered_start (start_of_image i)
