@@ -237,7 +237,7 @@ pub extern "C" fn of_c_close(alloc: Global, memory: &mut Slot, saved: &mut Slot)
     ensures gone { result ≡ DONE → memory.new.raw.held ≡ None }
     ensures refused { result ≢ DONE → saved.new.raw.held ≡ saved.old.raw.held }
     ensures back { result ≢ DONE → HoldsStill memory.old.raw.held memory.new.raw.held }
-    ensures other { HoldsNo IsNotMemory memory.old.raw.held
+    ensures same { result ≢ DONE → result ≢ IN_USE
         → memory.new.raw.held ≡ memory.old.raw.held }
 {
     if !saved.is_empty() {

@@ -140,7 +140,7 @@ fn limit_held(held: &mut Held, limit: u32) -> u32
     ensures empty { (result ≡ EMPTY) ↔ IsNotSaved held.old }
     ensures range { result ≡ RANGE → HoldsSavedWith (RefusesLimit limit) (Some held.old) }
     ensures same { result ≢ DONE → KeepsSaved (Some held.old) (Some held.new) }
-    ensures other { IsNotSaved held.old → held.new ≡ held.old }
+    ensures other { result ≡ EMPTY → held.new ≡ held.old }
 {
     match replace(held, Held::Nothing) {
         Held::Saved(kept) => {
@@ -172,8 +172,7 @@ pub extern "C" fn of_c_set_limit(alloc: Global, saved: &mut Slot, limit: u32) ->
     ensures empty { (result ≡ EMPTY) ↔ HoldsNo IsNotSaved saved.old.raw.held }
     ensures range { result ≡ RANGE → HoldsSavedWith (RefusesLimit limit) saved.old.raw.held }
     ensures same { result ≢ DONE → KeepsSaved saved.old.raw.held saved.new.raw.held }
-    ensures other { HoldsNo IsNotSaved saved.old.raw.held
-        → saved.new.raw.held ≡ saved.old.raw.held }
+    ensures other { result ≡ EMPTY → saved.new.raw.held ≡ saved.old.raw.held }
 {
     let Some(mut held) = saved.take(alloc) else {
         return EMPTY;
