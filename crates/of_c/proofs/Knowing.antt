@@ -1,18 +1,26 @@
--- A memory from which no caller is taken keeps what it has, and so does what is held.
-use Rattle.std.proofs.Common.{◌≡◌, Option, Some, None, refl, sym, subst}
+-- A memory from which no caller is taken knows what it knew, and so does what is held.
+use Rattle.std.proofs.Common.{◌≡◌, get_or, Option, Some, None, refl, sym, subst}
+use Rattle.of_memory.specs.declared.memory.Memory.{Memory as TheMemory}
 use Rattle.of_memory.specs.Memories.{IsStill, TakesNone}
+use Rattle.of_memory.proofs.Handing.{knows_same}
 use Rattle.of_c.specs.declared.held.Home.{Home}
 use Rattle.of_c.specs.declared.held.Held.{Held}
 use Rattle.of_c.specs.declared.held.Held.TheVariants.{Nothing, Memory, Caller, Saved}
-use Rattle.of_c.specs.Causes.{KeepsHeld, KeepsSlot}
+use Rattle.of_c.specs.Causes.{KnowsAll, KeepsHeld, KeepsSlot}
+
+knows_all : (m k : TheMemory) → IsStill m k → TakesNone m k → KnowsAll m k
+knows_all m k still none = record {
+  still = still;
+  knows = λ n. knows_same n m k (λ i. get_or (none i) n None);
+}
 
 pub keeps_memory : (before : Held) (home now : Home) → before ≡ Memory home → IsStill home.memory now.memory → TakesNone home.memory now.memory → KeepsHeld before (Memory now)
 keeps_memory before home now is still none =
-    subst (λ (h : Held). KeepsHeld h (Memory now)) (sym is) (record { memory = now.memory; is = refl; so = record { still = still; none = none } })
+    subst (λ (h : Held). KeepsHeld h (Memory now)) (sym is) (record { memory = now.memory; is = refl; so = knows_all home.memory now.memory still none })
 
 keeps_held : (h : Held) → KeepsHeld h h
 keeps_held Nothing = refl
-keeps_held (Memory home) = record { memory = home.memory; is = refl; so = record { still = refl; none = refl } }
+keeps_held (Memory home) = record { memory = home.memory; is = refl; so = knows_all home.memory home.memory refl refl }
 keeps_held (Caller s) = refl
 keeps_held (Saved d) = refl
 

@@ -12,7 +12,6 @@ use Rattle.of_memory.specs.Handles.{IsSame, MakesCall, StaysOpenOnlyIfStopped, R
 use Rattle.of_memory.specs.Handles.{ResumesCall, OpenCallStays, RefusesToGoOn, OpensNone}
 use Rattle.of_memory.specs.Handles.{steps_so_far, step_bound_of}
 use Rattle.of_memory.specs.Within.{EndsWithin, KeepsToStop}
-use Rattle.of_memory.specs.Telling.{BeginsAfterHeard, ResumesAfterHeard, KeepsKnown}
 use Rattle.of_c.specs.declared.codes.TheConstants.{DONE, EMPTY, NO_TICKET, SPENT, STOPPED, CALL_OPEN}
 use Rattle.of_c.specs.declared.held.Held.{Held}
 use Rattle.of_c.specs.declared.held.Held.TheVariants.{Nothing, Memory, Caller, Saved}
@@ -55,8 +54,6 @@ pub record CallsScript (script : List Instr) (stop : Option ℕ) (h : Handle)
   pub bound : EndsWithin (step_bound_of h) a
   pub within : KeepsToStop 0 stop (steps_so_far k) a
   pub only : OpensOnly script h k
-  pub behind : BeginsAfterHeard a h k
-  pub knows : KeepsKnown h k
 
 -- so has the call that was open
 pub record GoesOn (stop : Option ℕ) (h : Handle) (a : Result Answer RunErr) (k : Handle)
@@ -69,8 +66,6 @@ pub record GoesOn (stop : Option ℕ) (h : Handle) (a : Result Answer RunErr) (k
   pub bound : EndsWithin (step_bound_of h) a
   pub within : KeepsToStop (steps_so_far h) stop (steps_so_far k) a
   pub only : OpensNone h k
-  pub behind : ResumesAfterHeard a h k
-  pub knows : KeepsKnown h k
 
 -- what a call does with a handle
 abbrev pub CallWork : Type 1

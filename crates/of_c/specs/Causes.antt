@@ -1,5 +1,6 @@
 -- When which code is answered: the causes. That there is no memory may come at any time.
 use Rattle.std.specs.Prelude.{◌≡◌, ◌≢◌, ◌⊎◌, ℕ, ◌<◌, ◌≤◌, List, [], ◌∷◌, Option, Some, None, length}
+use Rattle.std.proofs.Common.{get_or}
 use Rattle.of_cell.specs.declared.word.TheConstants.{GREATEST_LIMIT}
 use Rattle.of_mem.specs.declared.work.TheConstants.{MOST_CALLERS}
 use Rattle.of_mem.specs.declared.plot.TheConstants.{MOST_BLOCKS}
@@ -7,9 +8,9 @@ use Rattle.of_memory.specs.declared.memory.Memory.{Memory as TheMemory}
 use Rattle.of_memory.specs.declared.saved.Saved.{Saved as TheSaved}
 use Rattle.of_memory.specs.declared.error.WordsErr.{WordsErr}
 use Rattle.of_memory.specs.declared.error.WordsErr.TheVariants.{OutOfMemory, Callers, Blocks, Limit, Count, Unlawful, PastLimit}
-use Rattle.of_memory.specs.declared.error.EnrolErr.TheVariants.{Enrolled}
-use Rattle.of_memory.specs.Memories.{IsStill, IsEnrolCause, TakesNone, callers_of}
+use Rattle.of_memory.specs.Memories.{IsStill, callers_of}
 use Rattle.of_memory.specs.Saving.{saved_callers}
+use Rattle.of_memory.specs.Tasks.{KnowsSame}
 use Rattle.of_memory.specs.Texts.{IsNoLimitOf}
 use Rattle.of_memory.specs.Words.{IsFaultIn, IsPastLimit, durable_count}
 use Rattle.of_c.specs.declared.codes.TheConstants.{EMPTY, NO_MEMORY, NO_START, RANGE}
@@ -67,16 +68,16 @@ HasNoNumber n m = callers_of m ≤ n
 
 -- a caller of this number is enrolled
 abbrev pub IsEnrolled : ℕ → TheMemory → Type 0
-IsEnrolled n m = IsEnrolCause m n (Enrolled n)
+IsEnrolled n m = get_or m.callers.items n None ≡ None
 
--- it is the same memory still, and no caller is taken out of it: each is as it was
-pub record KeepsCallers (m k : TheMemory) : Type 0 where
+-- it is the same memory still, and knows of every number what it knew
+pub record KnowsAll (m k : TheMemory) : Type 0 where
   pub still : IsStill m k
-  pub none : TakesNone m k
+  pub knows : (n : ℕ) → KnowsSame n m k
 
--- what is held is held still; a memory has all its callers
+-- what is held is held still; a memory knows what it knew
 abbrev pub KeepsHeld : (before now : Held) → Type 0
-KeepsHeld (Memory h) now = HoldsMemoryWith (KeepsCallers h.memory) (Some now)
+KeepsHeld (Memory h) now = HoldsMemoryWith (KnowsAll h.memory) (Some now)
 KeepsHeld Nothing now = now ≡ Nothing
 KeepsHeld (Caller s) now = now ≡ Caller s
 KeepsHeld (Saved d) now = now ≡ Saved d

@@ -9,9 +9,7 @@ use Rattle.of_memory.specs.History.{Made}
 use Rattle.of_memory.specs.Handles.{HasMade, HasOpen, number_of_handle}
 use Rattle.of_memory.specs.Memories.{callers_of, StartsWith, tickets_before, HasMadeOf, HasOpenOf}
 use Rattle.of_memory.specs.Memories.{HasNoneOpen, IsFrom, IsStill, KnowsOthers, OthersStayOpen}
-use Rattle.of_memory.specs.Memories.{HasHistory, HasNoHandleOut, limit_of, TakesOut, PutsBack}
-use Rattle.of_memory.specs.Memories.{OthersKnowOrder}
-use Rattle.of_memory.specs.Telling.{KnowsOrdersOf, LeavesOrder}
+use Rattle.of_memory.specs.Memories.{HasHistory, HasNoHandleOut, limit_of}
 use Rattle.of_memory.specs.Saving.{SavedHolds, saved_callers, saved_limit, saved_ticket}
 use Rattle.of_c.specs.declared.held.Held.{Held}
 use Rattle.of_c.specs.Slots.{HoldsMemory, HoldsHandle, HoldsSaved}
@@ -45,8 +43,8 @@ pub record HoldsNext (saved now : Option Held) : Type 0 where
 abbrev pub HoldsStill : (before now : Option Held) → Type 0
 HoldsStill before now = (m : Memory) → HoldsMemory before m → HoldsMemory now m
 
--- of the memory the caller with this number is held, as it was in the memory: it knows what the
--- memory knew of it, and begins no call; of the other numbers the memory knows what it knew
+-- of the memory the caller with this number is held, which knows what the memory knew of it; of the
+-- other numbers the memory knows what it knew
 pub record HoldsEnrolled (number : ℕ) (before now caller : Option Held) : Type 0 where
   pub memory : Memory
   pub was : HoldsMemory before memory
@@ -59,15 +57,10 @@ pub record HoldsEnrolled (number : ℕ) (before now caller : Option Held) : Type
   pub of_number : number_of_handle handle ≡ number
   pub made : (ms : List Made) → HasMadeOf memory number ms → HasMade handle ms
   pub open_call : (script : List Instr) → HasOpenOf memory number script → HasOpen handle script
-  pub taken : TakesOut memory next handle
   pub others : KnowsOthers number memory next
   pub others_open : OthersStayOpen number memory next
-  -- which calls had ended before which others began is known still
-  pub order : KnowsOrdersOf memory handle
-  pub others_order : OthersKnowOrder number memory next
 
--- the caller is in the memory again as it was, with no call that it has not begun: the memory knows
--- of its number what the caller knew, and of the others what it knew
+-- the memory knows of the caller's number what the caller knew, and of the others what it knew
 pub record HoldsLeft (before caller now : Option Held) : Type 0 where
   pub memory : Memory
   pub was : HoldsMemory before memory
@@ -80,12 +73,8 @@ pub record HoldsLeft (before caller now : Option Held) : Type 0 where
       → HasMadeOf next (number_of_handle handle) ms
   pub open_call : (script : List Instr) → HasOpen handle script
       → HasOpenOf next (number_of_handle handle) script
-  pub back : PutsBack memory next handle
   pub others : KnowsOthers (number_of_handle handle) memory next
   pub others_open : OthersStayOpen (number_of_handle handle) memory next
-  -- which calls had ended before which others began is known still
-  pub order : LeavesOrder handle next
-  pub others_order : OthersKnowOrder (number_of_handle handle) memory next
 
 -- what the memory has left is held: one serial history leads to it, with each call that was
 -- answered. Each caller had left

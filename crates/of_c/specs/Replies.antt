@@ -55,10 +55,3 @@ pub record ShowsAnswer (a : Answer) (r : CReply) : Type 0 where
   pub seq : r.seq ≡ a.seq
   pub announced : r.announced ≡ flag_number a.announced
   pub steps : r.steps ≡ a.steps
-  pub ticket : r.ticket ≡ 0
-
--- what it tells of the call beside the reply is as it was
-pub record LeavesCall (before now : CReply) : Type 0 where
-  pub seq : now.seq ≡ before.seq
-  pub announced : now.announced ≡ before.announced
-  pub steps : now.steps ≡ before.steps

@@ -11,7 +11,7 @@ use crate::codes::{CALL_OPEN, DONE, EMPTY, NO_CALL, NO_SCRIPT, NO_TICKET, SPENT,
 use crate::held::{Held, Seat};
 use crate::reply::CReply;
 use crate::slot::Slot;
-use crate::truth::{OfHandle, recall_invariant};
+use crate::truth::{OfHandle, surely};
 use of_memory::{Answer, Handle, Instr, RunErr, Script, ScriptErr, parse};
 use of_script::from_words_into;
 use std::alloc::Global;
@@ -53,7 +53,7 @@ impl Seat {
     fn run(&mut self, script: &Script) -> Result<Answer, RunErr>
         ensures { CallsScript script.now None self.old.handle result self.new.handle }
     {
-        recall_invariant::<Handle, OfHandle>(&self.handle);
+        surely::<Handle, OfHandle>(&self.handle);
         self.handle.run(script)
     }
 
@@ -61,7 +61,7 @@ impl Seat {
     fn run_within(&mut self, script: &Script, steps: u64) -> Result<Answer, RunErr>
         ensures { CallsScript script.now (Some steps) self.old.handle result self.new.handle }
     {
-        recall_invariant::<Handle, OfHandle>(&self.handle);
+        surely::<Handle, OfHandle>(&self.handle);
         self.handle.run_within(script, steps)
     }
 
@@ -69,7 +69,7 @@ impl Seat {
     fn go_on(&mut self, limit: Option<u64>) -> Result<Answer, RunErr>
         ensures { GoesOn limit self.old.handle result self.new.handle }
     {
-        recall_invariant::<Handle, OfHandle>(&self.handle);
+        surely::<Handle, OfHandle>(&self.handle);
         match limit {
             Some(steps) => self.handle.go_on_within(steps),
             None => self.handle.go_on(),

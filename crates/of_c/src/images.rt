@@ -10,7 +10,7 @@ ghost use Rattle.of_c.specs.Images.{IsOfNoneSaved, fault_code};
 use crate::codes::{DONE, EMPTY, FULL, NO_IMAGE, NO_MEMORY, NO_ROOM};
 use crate::held::{Held, Kept};
 use crate::slot::Slot;
-use crate::truth::{OfSaved, recall_invariant};
+use crate::truth::{OfSaved, surely};
 use of_memory::{ImageTextErr, Saved};
 use std::alloc::Global;
 
@@ -21,7 +21,7 @@ fn text_held(alloc: Global, held: &Held) -> Result<Vec<u8>, u32>
 {
     match held {
         Held::Saved(kept) => {
-            recall_invariant::<Saved, OfSaved>(&kept.saved);
+            surely::<Saved, OfSaved>(&kept.saved);
             match kept.saved.image_text(alloc) {
                 Ok(text) => Ok(text),
                 Err(_) => Err(NO_MEMORY),

@@ -15,7 +15,7 @@ use crate::codes::{DONE, EMPTY, FULL, IN_USE, NO_MEMORY, RANGE, TAKEN};
 use crate::held::{Held, Home, Kept, Seat};
 use crate::pair::Pair;
 use crate::slot::Slot;
-use crate::truth::{OfHandle, OfMemory, OfPair, OfSaved, recall_invariant};
+use crate::truth::{OfHandle, OfMemory, OfPair, OfSaved, surely};
 use of_memory::{EnrolErr, Handle, InUse, Memory, OpenErr, Saved};
 use std::alloc::Global;
 
@@ -53,7 +53,7 @@ fn reopen_held(alloc: Global, held: &Held, memory: &mut Slot) -> u32
 {
     match held {
         Held::Saved(kept) => {
-            recall_invariant::<Saved, OfSaved>(&kept.saved);
+            surely::<Saved, OfSaved>(&kept.saved);
             match Memory::reopen(alloc, &kept.saved) {
                 Ok(opened) => memory.keep(alloc, Held::Memory(Home { memory: opened })),
                 Err(_) => NO_MEMORY,
@@ -99,7 +99,7 @@ fn enrol_held(held: &mut Held, number: u32, mut place: Box<Held, Global>, caller
 {
     match held {
         Held::Memory(home) => {
-            recall_invariant::<Memory, OfMemory>(&home.memory);
+            surely::<Memory, OfMemory>(&home.memory);
             match home.memory.enrol(number) {
                 Ok(handle) => {
                     *place = Held::Caller(Seat { handle });
@@ -167,8 +167,8 @@ fn leave_held(held: &mut Held, seat: Box<Held, Global>, caller: &mut Slot) -> u3
     }
     match Box::into_inner(seat) {
         Held::Caller(seat) => {
-            recall_invariant::<Memory, OfMemory>(&home.memory);
-            recall_invariant::<Handle, OfHandle>(&seat.handle);
+            surely::<Memory, OfMemory>(&home.memory);
+            surely::<Handle, OfHandle>(&seat.handle);
             seat.handle.leave(&mut home.memory);
             DONE
         }
@@ -188,7 +188,7 @@ pub extern "C" fn of_c_leave(alloc: Global, pair: &mut Pair) -> u32
     ensures refused { result ≢ DONE → pair.new.caller.raw.held ≡ pair.old.caller.raw.held }
     ensures same { result ≢ DONE → pair.new.memory.raw.held ≡ pair.old.memory.raw.held }
 {
-    recall_invariant::<Pair, OfPair>(pair);
+    surely::<Pair, OfPair>(pair);
     let Some(mut held) = pair.memory.take(alloc) else {
         return EMPTY;
     };
@@ -211,7 +211,7 @@ fn close_home(home: Home, mut place: Box<Held, Global>, memory: &mut Slot, saved
     ensures refused { result ≢ DONE → saved.new.raw.held ≡ saved.old.raw.held }
     ensures back { result ≢ DONE → HoldsMemory memory.new.raw.held home.memory }
 {
-    recall_invariant::<Memory, OfMemory>(&home.memory);
+    surely::<Memory, OfMemory>(&home.memory);
     match home.memory.close() {
         Ok(left) => {
             *place = Held::Saved(Kept { saved: left });
@@ -237,8 +237,6 @@ pub extern "C" fn of_c_close(alloc: Global, memory: &mut Slot, saved: &mut Slot)
     ensures gone { result ≡ DONE → memory.new.raw.held ≡ None }
     ensures refused { result ≢ DONE → saved.new.raw.held ≡ saved.old.raw.held }
     ensures back { result ≢ DONE → HoldsStill memory.old.raw.held memory.new.raw.held }
-    ensures same { result ≢ DONE → result ≢ IN_USE
-        → memory.new.raw.held ≡ memory.old.raw.held }
 {
     if !saved.is_empty() {
         return FULL;

@@ -80,13 +80,12 @@ fn number_of_cause(cause: Cause) -> u32
 }
 
 impl CReply {
-    ghost use Rattle.of_c.specs.Replies.{ShowsReply, ShowsAnswer, LeavesCall};
+    ghost use Rattle.of_c.specs.Replies.{ShowsReply, ShowsAnswer};
 
     /// Writes what a script answered.
     #[inline(always)]
     pub(crate) fn show(&mut self, reply: &Reply)
-        ensures shows { ShowsReply reply.now self.new }
-        ensures stays { LeavesCall self.old self.new }
+        ensures { ShowsReply reply.now self.new }
     {
         self.len = u32::from(reply.len);
         write_values(&reply.values, &mut self.given, &mut self.values);

@@ -8,7 +8,6 @@ ghost use Rattle.of_script.specs.declared.instr.TheConstants.{GREATEST, QUEUES, 
 ghost use Rattle.of_memory.specs.Saving.{saved_ticket};
 ghost use Rattle.of_c.specs.declared.codes.TheConstants.{ABSENT, DONE, EMPTY, NO_MEMORY, RANGE};
 ghost use Rattle.of_c.specs.States.{HoldsStore, HasCallerWith, ShowsLast};
-ghost use Rattle.of_c.specs.Replies.{LeavesCall};
 ghost use Rattle.of_c.specs.Causes.{IsOneCode, IsUnread, HoldsNo, IsNotSaved};
 ghost use Rattle.of_c.specs.Causes.{HoldsSavedWith, HasNoTicketOf};
 
@@ -16,7 +15,7 @@ use crate::codes::{ABSENT, DONE, EMPTY, NO_MEMORY, RANGE};
 use crate::held::Held;
 use crate::reply::CReply;
 use crate::slot::Slot;
-use crate::truth::{OfSaved, recall_invariant};
+use crate::truth::{OfSaved, surely};
 use of_memory::{Saved, Store};
 use of_script::{GREATEST, QUEUES, REGISTERS};
 use std::alloc::Global;
@@ -28,7 +27,7 @@ fn store_held(alloc: Global, held: &Held) -> Result<Store, u32>
 {
     match held {
         Held::Saved(kept) => {
-            recall_invariant::<Saved, OfSaved>(&kept.saved);
+            surely::<Saved, OfSaved>(&kept.saved);
             match kept.saved.store(alloc) {
                 Ok(store) => Ok(store),
                 Err(_) => Err(NO_MEMORY),
@@ -167,7 +166,7 @@ fn ticket_held(held: &Held, number: u32, ticket: &mut u32) -> u32
             if number >= kept.saved.callers() {
                 return RANGE;
             }
-            recall_invariant::<Saved, OfSaved>(&kept.saved);
+            surely::<Saved, OfSaved>(&kept.saved);
             *ticket = kept.saved.ticket(number);
             DONE
         }
@@ -203,14 +202,13 @@ fn last_reply_held(held: &Held, number: u32, reply: &mut CReply) -> u32
     ensures range { result ≡ RANGE → HoldsSavedWith (HasNoTicketOf number) (Some held.now) }
     ensures empty { (result ≡ EMPTY) ↔ IsNotSaved held.now }
     ensures unread { result ≢ DONE → reply.new ≡ reply.old }
-    ensures stays { LeavesCall reply.old reply.new }
 {
     match held {
         Held::Saved(kept) => {
             if number >= kept.saved.callers() {
                 return RANGE;
             }
-            recall_invariant::<Saved, OfSaved>(&kept.saved);
+            surely::<Saved, OfSaved>(&kept.saved);
             match kept.saved.last_reply(number) {
                 Some((ticket, last)) => {
                     reply.show(&last);
@@ -240,7 +238,6 @@ pub extern "C" fn of_c_last_reply(
     ensures range { result ≡ RANGE → HoldsSavedWith (HasNoTicketOf number) saved.old.raw.held }
     ensures empty { (result ≡ EMPTY) ↔ HoldsNo IsNotSaved saved.old.raw.held }
     ensures unread { result ≢ DONE → reply.new ≡ reply.old }
-    ensures stays { LeavesCall reply.old reply.new }
     ensures same { saved.new.raw.held ≡ saved.old.raw.held }
 {
     let Some(held) = saved.take(alloc) else {

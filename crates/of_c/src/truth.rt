@@ -42,7 +42,7 @@ impl Claim<Pair> for OfPair {
 }
 
 /// What is kept as a mere fact is so.
-pub(crate) fn recall_invariant<T, C: Claim<T>>(_thing: &T)
+pub(crate) fn surely<T, C: Claim<T>>(_thing: &T)
     requires { ∥ C.claim _thing.now ∥₁ }
     ensures { C.claim _thing.now }
 {}

@@ -14,7 +14,7 @@ ghost use Rattle.of_c.specs.Causes.{AreOutOfWords, HasCellAtFault, RefusesLimit,
 use crate::codes::{DONE, EMPTY, FULL, NO_MEMORY, NO_START, RANGE};
 use crate::held::{Held, Kept};
 use crate::slot::Slot;
-use crate::truth::{OfSaved, recall_invariant};
+use crate::truth::{OfSaved, surely};
 use of_memory::{LimitErr, Saved, WordsErr, sizes};
 use std::alloc::Global;
 use std::mem::replace;
@@ -104,7 +104,7 @@ fn renumber_held(held: &mut Held) -> u32
 {
     match replace(held, Held::Nothing) {
         Held::Saved(kept) => {
-            recall_invariant::<Saved, OfSaved>(&kept.saved);
+            surely::<Saved, OfSaved>(&kept.saved);
             let saved = kept.saved.renumbered();
             *held = Held::Saved(Kept { saved });
             DONE
@@ -140,11 +140,11 @@ fn limit_held(held: &mut Held, limit: u32) -> u32
     ensures empty { (result ≡ EMPTY) ↔ IsNotSaved held.old }
     ensures range { result ≡ RANGE → HoldsSavedWith (RefusesLimit limit) (Some held.old) }
     ensures same { result ≢ DONE → KeepsSaved (Some held.old) (Some held.new) }
-    ensures other { result ≡ EMPTY → held.new ≡ held.old }
+    ensures other { IsNotSaved held.old → held.new ≡ held.old }
 {
     match replace(held, Held::Nothing) {
         Held::Saved(kept) => {
-            recall_invariant::<Saved, OfSaved>(&kept.saved);
+            surely::<Saved, OfSaved>(&kept.saved);
             match kept.saved.with_limit(limit) {
                 Ok(saved) => {
                     *held = Held::Saved(Kept { saved });
@@ -172,7 +172,6 @@ pub extern "C" fn of_c_set_limit(alloc: Global, saved: &mut Slot, limit: u32) ->
     ensures empty { (result ≡ EMPTY) ↔ HoldsNo IsNotSaved saved.old.raw.held }
     ensures range { result ≡ RANGE → HoldsSavedWith (RefusesLimit limit) saved.old.raw.held }
     ensures same { result ≢ DONE → KeepsSaved saved.old.raw.held saved.new.raw.held }
-    ensures other { result ≡ EMPTY → saved.new.raw.held ≡ saved.old.raw.held }
 {
     let Some(mut held) = saved.take(alloc) else {
         return EMPTY;
@@ -191,7 +190,7 @@ fn seq_held(held: &Held, seq: &mut u32) -> u32
 {
     match held {
         Held::Saved(kept) => {
-            recall_invariant::<Saved, OfSaved>(&kept.saved);
+            surely::<Saved, OfSaved>(&kept.saved);
             *seq = kept.saved.seq();
             DONE
         }

@@ -18,11 +18,8 @@ returns-in-Ok-clause-enrolled c done = record {
   of_number = c.in-Ok.ensures.number;
   made = c.in-Ok.ensures.made;
   open_call = c.in-Ok.ensures.open_call;
-  taken = c.in-Ok.ensures.taken;
   others = c.enrol.ensures.others;
   others_open = c.enrol.ensures.others_open;
-  order = c.in-Ok.ensures.order;
-  others_order = c.enrol.ensures.others_order;
 }
 
 pub returns-in-Err-OutOfMemory-clause-kept : goal.returns-in-Err-OutOfMemory-clause-kept
@@ -42,7 +39,7 @@ pub returns-in-Memory-clause-taken : goal.returns-in-Memory-clause-taken
 returns-in-Memory-clause-taken c out = record {
   memory = c.in-Memory.home.memory;
   is = subst (λ (h : Held). HasMemory h c.in-Memory.home.memory) (sym c.in-Memory.is) refl;
-  so = (refl, (rw c.in-Err-Enrolled.field-0-is at c.in-Err-Enrolled.ensures.cause).1);
+  so = (rw c.in-Err-Enrolled.field-0-is at c.in-Err-Enrolled.ensures.cause).1;
 }
 
 pub returns-in-Memory-clause-kept : goal.returns-in-Memory-clause-kept

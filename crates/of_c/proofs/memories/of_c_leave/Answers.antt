@@ -7,7 +7,7 @@ use Rattle.of_c.proofs.memories.of_c_leave.Goals as goal
 
 pub leave_held-code-requires-clause-of_one : goal.leave_held-code-requires-clause-of_one
 leave_held-code-requires-clause-of_one c m k is_m is_k =
-    c.recall_invariant.ensures m k
+    c.surely.ensures m k
     (subst (λ (h : Option Held). HoldsMemory h m) (ap Some c.deref_mut.ensures.value ∙ sym c.in-Some.ensures.some) is_m)
     (subst (λ (h : Option Held). HoldsHandle h k) (sym c.in-Some-take.ensures.some) is_k)
 

@@ -10,12 +10,12 @@ use denote.Param.{bounded, param}
 use denote.Ref.{ShrRef, shr_vals, shr_Tells}
 use denote.Triple.Walked.{stay_none_ref, Goes-none_ref}
 use Rattle.std.proofs.raw_atomic.Walks.{proved}
-use Rattle.of_c.specs.contracts.truth.recall_invariant as f
-use Rattle.of_c.proofs.truth.recall_invariant.Statement.{statement}
-use Rattle.of_c.proofs.truth.recall_invariant.Code as code
+use Rattle.of_c.specs.contracts.truth.surely as f
+use Rattle.of_c.proofs.truth.surely.Statement.{statement}
+use Rattle.of_c.proofs.truth.surely.Code as code
 
-pub recall_invariant_spec : {M : Type 1} → statement M
-recall_invariant_spec 𝓤 𝓛 𝓜 𝓡 wired X Y LX LY gs d met =
+pub surely_spec : {M : Type 1} → statement M
+surely_spec 𝓤 𝓛 𝓜 𝓡 wired X Y LX LY gs d met =
     let K = f.ended X Y gs d in
     let stayed : Stays K.signature.params K.kept = (stay_none_ref (0 ∷ []) tt (plain (λ _. param 0 X)) yes, tt) in
     let c = f.clauses X Y gs d 𝓛 𝓜.mem 𝓡.returns in let 𝓣 = tables 𝓤 𝓛.H 𝓜 𝓡 𝓡.env in
