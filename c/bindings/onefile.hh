@@ -8,6 +8,7 @@
 
 #include <stdexcept>
 #include <string>
+#include <thread>
 #include <vector>
 
 namespace onefile {
@@ -33,9 +34,10 @@ class memory {
     expect(onefile_open(&held, callers, blocks, limit));
   }
   explicit memory(saved &from);
-  // One in a file: it goes on from there, or the file is made.
+  // One in a file: it goes on from there, or the file is made. A path has no zero byte.
   memory(const std::string &path, uint32_t callers, uint32_t blocks,
          uint32_t limit = ONEFILE_GREATEST_LIMIT) {
+    if (path.find('\0') != std::string::npos) throw std::invalid_argument("a zero byte in a path");
     int answer = onefile_reopen_file(&held, path.c_str(), limit, nullptr);
     if (answer == ONEFILE_NO_FILE) {
       answer = onefile_open_file(&held, path.c_str(), callers, blocks, limit);
@@ -49,7 +51,8 @@ class memory {
   onefile_memory held = ONEFILE_NONE;
 };
 
-// A caller that is enrolled; it leaves when its scope ends.
+// A caller that is enrolled; it leaves when its scope ends. If another one enrols or leaves at that
+// moment, it tries again.
 class caller {
  public:
   caller(memory &of, uint32_t number) : of(of), number(number) {
@@ -57,7 +60,9 @@ class caller {
   }
   caller(const caller &) = delete;
   caller &operator=(const caller &) = delete;
-  ~caller() { onefile_leave(&of.held, number); }
+  ~caller() {
+    while (onefile_leave(&of.held, number) == ONEFILE_BUSY) std::this_thread::yield();
+  }
 
   onefile_reply call(const script &words) {
     onefile_reply reply{};

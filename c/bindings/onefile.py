@@ -4,7 +4,7 @@ import ctypes
 import os
 from ctypes import POINTER, c_char_p, c_int, c_size_t, c_uint32, c_uint64, c_void_p
 
-DONE, STOPPED, ABSENT, NO_ROOM, NO_FILE = 0, 10, 15, 16, 19
+DONE, BUSY, STOPPED, ABSENT, NO_ROOM, NO_FILE = 0, 2, 10, 15, 16, 19
 CAUSE_SHORT = 2
 GREATEST_LIMIT = 4294967294
 NO_END = 2**64 - 1
@@ -87,6 +87,8 @@ class Memory:
             make("reopen", self.held, saved.held)
         elif path:
             name, wanted = os.fsencode(path), (DONE, NO_FILE)
+            if b"\0" in name:
+                raise ValueError("a zero byte in a path")
             if make("reopen_file", self.held, name, limit, None, wanted=wanted) == NO_FILE:
                 make("open_file", self.held, name, callers, blocks, limit)
         else:
@@ -103,7 +105,8 @@ class Memory:
 
 
 class Caller:
-    """A caller that is enrolled: `with Caller(memory, 0) as own`. It leaves at the end."""
+    """A caller that is enrolled: `with Caller(memory, 0) as own`. It leaves at the end. If another one
+    enrols or leaves at that moment, it tries again."""
 
     def __init__(self, memory, number):
         self.memory, self.number = memory, number
@@ -113,7 +116,8 @@ class Caller:
         return self
 
     def __exit__(self, *_):
-        make("leave", self.memory.held, self.number)
+        while make("leave", self.memory.held, self.number, wanted=(DONE, BUSY)) == BUSY:
+            os.sched_yield()
 
     def call(self, script, steps=NO_END, wanted=DONE):
         """Runs a script, for at most so many steps."""

@@ -7,6 +7,7 @@ use std::ffi::{c_char, c_int, c_void, CStr, CString};
 use std::fmt;
 
 pub const DONE: c_int = 0;
+pub const BUSY: c_int = 2;
 pub const STOPPED: c_int = 10;
 pub const ABSENT: c_int = 15;
 pub const NO_ROOM: c_int = 16;
@@ -183,7 +184,8 @@ impl Drop for Memory {
     }
 }
 
-/// A caller that is enrolled. It leaves when it is dropped.
+/// A caller that is enrolled. It leaves when it is dropped. If another one enrols or leaves at that
+/// moment, it tries again.
 pub struct Caller<'a> {
     memory: &'a Memory,
     pub number: u32,
@@ -220,7 +222,9 @@ impl Caller<'_> {
 
 impl Drop for Caller<'_> {
     fn drop(&mut self) {
-        unsafe { onefile_leave(self.memory.0.get(), self.number) };
+        while unsafe { onefile_leave(self.memory.0.get(), self.number) } == BUSY {
+            std::thread::yield_now();
+        }
     }
 }
 

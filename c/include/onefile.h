@@ -25,6 +25,8 @@
  * run at once. Two calls of one caller do not: the second one is answered ONEFILE_BUSY, and
  * nobody waits. onefile_enrol and onefile_leave take the memory and the one caller.
  * The others on memories, as onefile_open and onefile_close, take the memory with all its callers.
+ * So two callers that enrol or leave at the same moment may be answered BUSY: who must leave tries
+ * again. A thread that is cancelled by pthread_cancel ends no function in its middle.
  *
  * What you must ensure, since it can't be tested:
  *   - A pointer that is not null points to as much as its type, or the length beside it, says. While
@@ -32,7 +34,8 @@
  *   - You neither write the fields of these structs, but for ONEFILE_NONE before the first use, nor
  *     copy or move a struct that is not empty, nor let its storage end.
  *   - malloc, realloc and free belong together, and malloc aligns to 16.
- *   - No function is called in a signal handler, nor in the forked child of a process with threads.
+ *   - No function is called in a signal handler, nor in the forked child of a process with threads,
+ *     nor by a thread that may be cancelled at any moment (PTHREAD_CANCEL_ASYNCHRONOUS).
  *
  * What is kept is in the process. To keep it longer, write the text that onefile_image gives, or
  * open the memory in a file.
@@ -151,7 +154,8 @@ int onefile_leave(onefile_memory *memory, uint32_t number);
 
 /* Closes the memory. What is durable is recovered and kept in `saved`: it has each call that was
  * answered. `memory` is empty then.
- * EMPTY, FULL; IN_USE while a caller has not left. */
+ * EMPTY, FULL; IN_USE while a caller has not left; FILE_IN_USE in a forked child, of a memory that
+ * its parent has opened in a file. */
 int onefile_close(onefile_memory *memory, onefile_saved *saved);
 
 /* Lets go the memory and all its callers. Nothing is saved.
@@ -175,7 +179,8 @@ int onefile_free(onefile_memory *memory);
  * /proc must be there, or the answer is ONEFILE_SYSTEM. You must ensure besides:
  *   - The path ends in a zero byte, and the file is on a disk of this machine or in its memory.
  *   - While the memory is open nobody else writes, cuts off, renames or removes the file.
- *   - A forked child uses no memory that was opened in a file before. It may let it go. */
+ *   - A forked child uses no memory that was opened in a file before. It may let it go by
+ *     onefile_free. onefile_close answers ONEFILE_FILE_IN_USE there: its parent has the memory. */
 
 /* Makes a file with this name and fills `memory` with an empty memory in it, as onefile_open does.
  * FULL, RANGE, FILE_EXISTS, NO_FILE, NO_SPACE, SYSTEM; FILE_IN_USE if another process makes it. */
@@ -332,7 +337,8 @@ int onefile_last_reply(onefile_saved *saved, uint32_t number, onefile_reply *rep
 int onefile_image(onefile_saved *saved, char *buffer, size_t room, size_t *length);
 
 /* Fills `saved` with what a text of `length` bytes holds, which onefile_image or the program
- * `onefile` has written. Its limit is ONEFILE_GREATEST_LIMIT.
+ * `onefile` has written. Its limit is ONEFILE_GREATEST_LIMIT. No memory has the sequence 4294967295,
+ * so an image with that one is none here: `onefile renumber` makes one of it that is.
  * FULL, NO_IMAGE. */
 int onefile_from_image(onefile_saved *saved, const char *text, size_t length);
 

@@ -51,12 +51,29 @@ typedef struct table {
   size_t size;             /* of the file */
   int file;                /* its descriptor; -1 in a forked child */
   int is_opening;          /* no memory has it yet */
+  onefile_memory *memory;  /* which is opened on it */
+  _Atomic(onefile_memory *) inherited; /* the same in a forked child; null in who has opened it */
 } table;
 
 static table tables[MOST_FILES];
 
 /* Who has it opens or closes a file, or forks. */
 static pthread_mutex_t files = PTHREAD_MUTEX_INITIALIZER;
+
+/* Takes the files. Most requests to the system end a thread that was cancelled, and would leave the
+ * lock and the memory taken: so it cannot be cancelled until it has let go the files. It gives
+ * whether it could be before. */
+static int take_files(void) {
+  int could_be;
+  pthread_setcancelstate(PTHREAD_CANCEL_DISABLE, &could_be);
+  pthread_mutex_lock(&files);
+  return could_be;
+}
+
+static void let_go_files(int could_be) {
+  pthread_mutex_unlock(&files);
+  pthread_setcancelstate(could_be, NULL);
+}
 
 /* What the thread that opens a memory in a file waits for. The memory asks once for so many bytes:
  * for its table. */
@@ -76,7 +93,7 @@ static table *table_at(const void *words) {
 
 /* Lets a file go. The mark that it is closed is written once the disk has all else. */
 static void let_go(table *one) {
-  pthread_mutex_lock(&files);
+  int could_be = take_files();
   atomic_store(&one->words, 0);
   if (msync(one->map, one->size, MS_SYNC) == 0) {
     one->map->closed = IS_CLOSED;
@@ -85,7 +102,7 @@ static void let_go(table *one) {
   munmap(one->map, one->size);
   flock(one->file, LOCK_UN); /* a forked child may have the descriptor still */
   close(one->file);
-  pthread_mutex_unlock(&files);
+  let_go_files(could_be);
 }
 
 /* An answer to a request for memory: the pointer is never null. */
@@ -117,8 +134,12 @@ void rattle_dealloc(void *block) {
   if (!one) {
     free(block);
   } else if (!one->is_opening) {
-    if (one->file >= 0) let_go(one);
-    else atomic_store(&one->words, 0);
+    if (one->file >= 0) {
+      let_go(one);
+    } else {
+      atomic_store(&one->inherited, NULL);
+      atomic_store(&one->words, 0);
+    }
   }
 }
 
@@ -133,8 +154,16 @@ static void in_child(void) {
     if (atomic_load(&tables[i].words) == 0 || tables[i].file < 0) continue;
     close(tables[i].file);
     tables[i].file = -1;
+    atomic_store(&tables[i].inherited, tables[i].memory);
   }
   pthread_mutex_unlock(&files);
+}
+
+int mapped_is_inherited(onefile_memory *memory) {
+  for (size_t i = 0; i < MOST_FILES; i++) {
+    if (atomic_load(&tables[i].inherited) == memory) return 1;
+  }
+  return 0;
 }
 
 static int watches_forks(void) {
@@ -378,6 +407,7 @@ static uint32_t begin(birth *born, onefile_memory *memory) {
   }
   one->map = NULL;
   one->is_opening = 1;
+  one->memory = memory;
   uint32_t answer = open_locked(born->beside, O_CREAT, &one->file);
   if (answer != ONEFILE_DONE) return answer;
   answer = make_file(born, one);
@@ -409,9 +439,9 @@ int onefile_open_file(onefile_memory *memory, const char *path, uint32_t callers
   if (!claim_all(memory)) return ONEFILE_BUSY;
   uint32_t answer = ONEFILE_FULL;
   if (memory->memory.slot.state == 0 && !has_caller(memory)) {
-    pthread_mutex_lock(&files);
+    int could_be = take_files();
     answer = open_first(memory, path, callers, blocks, limit);
-    pthread_mutex_unlock(&files);
+    let_go_files(could_be);
   }
   release_all(memory);
   return (int)answer;
@@ -465,8 +495,7 @@ static uint32_t go_on_from(int file, const char *path, uint32_t limit, onefile_m
 static uint32_t reopen(onefile_memory *memory, const char *path, uint32_t limit,
                        onefile_slot *saved) {
   onefile_slot found = {0};
-  int file = -1;
-  pthread_mutex_lock(&files);
+  int file = -1, could_be = take_files();
   uint32_t answer = open_locked(path, 0, &file);
   if (answer == ONEFILE_DONE) {
     answer = go_on_from(file, path, limit, memory, &found);
@@ -474,7 +503,7 @@ static uint32_t reopen(onefile_memory *memory, const char *path, uint32_t limit,
     close(file); /* the new file has been locked since before it had the name */
     errno = why;
   }
-  pthread_mutex_unlock(&files);
+  let_go_files(could_be);
   if (answer == ONEFILE_DONE && saved) *saved = found;
   else of_c_free(&found);
   return answer;

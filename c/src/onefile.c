@@ -81,7 +81,8 @@ int onefile_close(onefile_memory *memory, onefile_saved *saved) {
   uint32_t answer = ONEFILE_BUSY;
   if (claim_all(memory)) {
     answer = ONEFILE_IN_USE;
-    if (!has_caller(memory)) answer = of_c_close(&memory->memory.slot, &saved->saved.slot);
+    if (mapped_is_inherited(memory)) answer = ONEFILE_FILE_IN_USE;
+    else if (!has_caller(memory)) answer = of_c_close(&memory->memory.slot, &saved->saved.slot);
     release_all(memory);
   }
   release(&saved->saved);

@@ -5,6 +5,10 @@
 
 #include "onefile.h"
 
+/* Whether the memory was opened in a file by the process that has forked this one: then its table
+ * is not here. */
+int mapped_is_inherited(onefile_memory *memory);
+
 static inline int claim(onefile_guarded *one) {
   return __atomic_exchange_n(&one->busy, 1, __ATOMIC_SEQ_CST) == 0;
 }

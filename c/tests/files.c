@@ -328,6 +328,19 @@ static int is_mapped(void) {
   return found;
 }
 
+/* A child is told that its parent has the memory, and can let it go. Then it has one of its own. */
+static int closes_in_child(void) {
+  onefile_saved own = ONEFILE_NONE;
+  char name[240];
+  snprintf(name, sizeof name, "%s.child", path);
+  if (onefile_close(&memory, &own) != ONEFILE_FILE_IN_USE) return 1;
+  if (onefile_close(&memory, &own) != ONEFILE_FILE_IN_USE) return 2;
+  if (onefile_free(&memory) != ONEFILE_DONE) return 3;
+  if (onefile_open_file(&memory, name, 1, 0, LIMIT) != ONEFILE_DONE) return 4;
+  if (onefile_close(&memory, &own) != ONEFILE_DONE || unlink(name) != 0) return 5;
+  return onefile_free_saved(&own);
+}
+
 /* A child that is forked has neither the table nor the lock, and leaves both to its parent. */
 static void forked(void) {
   int status = 0;
@@ -341,6 +354,9 @@ static void forked(void) {
   pid_t freer = fork();
   if (freer == 0) _exit(is_mapped() || onefile_free(&memory));
   HOLDS(waitpid(freer, &status, 0) == freer && status == 0);
+  pid_t closer = fork();
+  if (closer == 0) _exit(closes_in_child());
+  HOLDS(waitpid(closer, &status, 0) == closer && status == 0);
   EXPECT(reopen(&other), ONEFILE_FILE_IN_USE);
   run(&memory, "load 0");
   HOLDS(reply.values[0] == 7);
@@ -349,6 +365,49 @@ static void forked(void) {
   EXPECT(onefile_free(&memory), ONEFILE_DONE);
   HOLDS(kill(sleeper, SIGKILL) == 0 && waitpid(sleeper, NULL, 0) == sleeper);
 }
+
+/* ---- Cancelled threads. */
+
+static char apart[240];
+
+static int opens(void) { return onefile_open_file(&other, apart, 2, 4, LIMIT); }
+static int reopens(void) { return onefile_reopen_file(&other, apart, LIMIT, NULL); }
+static int closes(void) { return onefile_close(&other, &saved); }
+static int lets_go(void) { return onefile_free(&other); }
+
+/* What a thread does that has been cancelled, and what it was answered; -1 if it never was. */
+static int (*task)(void);
+static int answer_of_task;
+
+static void *cancelled_task(void *unused) {
+  pthread_cancel(pthread_self());
+  answer_of_task = task();
+  pthread_testcancel();
+  return unused;
+}
+
+/* A thread that is cancelled ends after the call, and leaves nothing taken. Gives whether it may go
+ * on: if not, the next call with a file would have no end. */
+static int cancelled(void) {
+  static int (*const tasks[])(void) = {opens, closes, reopens, lets_go, reopens, closes};
+  snprintf(apart, sizeof apart, "%s.apart", path);
+  for (size_t i = 0; i < sizeof tasks / sizeof *tasks; i++) {
+    pthread_t thread;
+    void *end = NULL;
+    task = tasks[i];
+    answer_of_task = -1;
+    pthread_create(&thread, NULL, cancelled_task, NULL);
+    pthread_join(thread, &end);
+    HOLDS(end == PTHREAD_CANCELED);
+    EXPECT(answer_of_task, ONEFILE_DONE);
+    if (answer_of_task < 0) return 0;
+    if (task == closes) EXPECT(onefile_free_saved(&saved), ONEFILE_DONE);
+  }
+  EXPECT(unlink(apart), 0);
+  return 1;
+}
+
+/* ---- Races. */
 
 /* Opens the file often, and adds 1 each time that it has it. Gives how often, or -1. */
 static int race(void) {
@@ -433,8 +492,10 @@ int main(int argc, char **argv) {
   boots();
   killed();
   forked();
-  races();
-  HOLDS(unlink(path) == 0 && rmdir(folder) == 0);
+  if (cancelled()) {
+    races();
+    HOLDS(unlink(path) == 0 && rmdir(folder) == 0);
+  }
   printf("%d answers, %d wrong\n", tried, wrong);
   return wrong != 0;
 }

@@ -169,6 +169,15 @@ static void what_was_saved(void) {
   EXPECT(onefile_last_reply(&saved, 0, &reply), ONEFILE_DONE);
 }
 
+/* Reads the image with this sequence in place of its own: no memory has the greatest number. */
+static int from_image_at(const char *seq) {
+  static char changed[sizeof image + 16];
+  const char *at = strstr(image, "\ncell 0 ") + strlen("\ncell 0 "), *rest = strchr(at, ' ');
+  int length = snprintf(changed, sizeof changed, "%.*s%s%.*s", (int)(at - image), image, seq,
+                        (int)(image + size - rest), rest);
+  return onefile_from_image(&saved, changed, (size_t)length);
+}
+
 /* What is saved goes through its text. A text that is cut off or empty is none. */
 static void images(void) {
   EXPECT(onefile_image(&saved, NULL, 0, &size), ONEFILE_NO_ROOM);
@@ -183,6 +192,9 @@ static void images(void) {
   EXPECT(onefile_free_saved(&saved), ONEFILE_DONE);
   EXPECT(onefile_from_image(&saved, image, size / 2), ONEFILE_NO_IMAGE);
   EXPECT(onefile_from_image(&saved, NULL, 0), ONEFILE_NO_IMAGE);
+  EXPECT(from_image_at("4294967295"), ONEFILE_NO_IMAGE);
+  EXPECT(from_image_at("4294967294"), ONEFILE_DONE);
+  EXPECT(onefile_free_saved(&saved), ONEFILE_DONE);
   EXPECT(onefile_from_image(&saved, image, size), ONEFILE_DONE);
   EXPECT(onefile_register(&saved, 0, &value), ONEFILE_DONE);
   EXPECT(value == 1, 1);

@@ -5,6 +5,7 @@ pub mod OneLife
 pub mod AllLives
 pub mod Restarting
 pub mod ImageStarts
+pub mod RenumberedStarts
 pub mod LeftImages
 pub mod Continuing
 pub mod WorkedLives

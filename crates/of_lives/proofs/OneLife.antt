@@ -18,15 +18,15 @@ use Rattle.of_lives.proofs.Indices.{Rises, OneByOne, from_first, rise, upto_last
 use Rattle.of_lives.proofs.Tickets.{done_low, done_high, done_above}
 use Rattle.of_lives.proofs.Callers.{own_entry, among_all, none_of, merged}
 
--- an announced call is done behind the life
-abbrev pub IsDoneBehind : Start → Life → Entry → Type 0
-IsDoneBehind s l e = IsTrue e.announced → e.index < finished_of (start_behind s l) e.caller
+-- an announced call is done at the start
+abbrev pub IsDoneAt : Start → Entry → Type 0
+IsDoneAt s e = IsTrue e.announced → e.index < finished_of s e.caller
 
 pub record Lived (s : Start) (l : Life) : Type 0 where
   pub wider : length s.finished ≤ length (start_behind s l).finished
   pub known : Each (IsKnownTo (start_behind s l)) l.report.entries
   pub behind : Each (IsBehind s) l.report.entries
-  pub done_then : Each (IsDoneBehind s l) l.report.entries
+  pub done_then : Each (IsDoneAt (start_behind s l)) l.report.entries
   pub sequences : Each (IsBetween s (start_behind s l)) l.report.entries
   pub order : InLine ComesBefore l.report.entries
   pub once : InLine ComesLater l.report.entries
@@ -102,7 +102,7 @@ module _ (s : Start) (l : Life) (legal : IsLegal l.plan s l.report) where
   behind_one e here =
       each_at (λ (f : Entry). before e.caller ≤ f.index) e (own e.caller) (from_first (before e.caller) (own e.caller) (indices e.caller)) (own_entry e l.report.entries here)
 
-  done_one : (e : Entry) → IsIn e l.report.entries → IsDoneBehind s l e
+  done_one : (e : Entry) → IsIn e l.report.entries → IsDoneAt (start_behind s l) e
   done_one e here is =
       let rising = rise (before e.caller) (own e.caller) (indices e.caller) in
       let above = done_above (before e.caller) (own e.caller) rising e (own_entry e l.report.entries here) is in
@@ -145,7 +145,7 @@ module _ (s : Start) (l : Life) (legal : IsLegal l.plan s l.report) where
     known = each_weaker (λ (e : Entry). e.caller < l.plan.callers) (IsKnownTo (start_behind s l))
         (λ e lt. omega (arith, lt, as_many, le-max_right (length s.finished) l.plan.callers)) l.report.entries callers;
     behind = each_from_in (IsBehind s) l.report.entries behind_one;
-    done_then = each_from_in (IsDoneBehind s l) l.report.entries done_one;
+    done_then = each_from_in (IsDoneAt (start_behind s l)) l.report.entries done_one;
     sequences = each_weaker (λ e. HasSequence l.plan s e × (e.seq ≤ l.report.seq)) (IsBetween s (start_behind s l))
         (λ e has. let at = seq_of e.announced s.seq e.seq _ has.0 in (at.0, has.1, at.1)) l.report.entries sequences;
     order = in_line_weaker (λ e. e.caller < l.plan.callers) StandsBefore ComesBefore (λ e f one other before. precedes e f before) l.report.entries callers (in_line_pairs StandsBefore l.report.entries legal.by_sequence.order);

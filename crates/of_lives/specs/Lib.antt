@@ -1,4 +1,5 @@
 pub mod Lives
+pub mod RenumberedStarts
 pub mod OneHistory
 pub mod Restarts
 pub mod Images

@@ -51,3 +51,24 @@ IsLifeFrom s l = IsLegal l.plan s l.report
 -- each life has a legal report from where the one before has left
 abbrev pub AreLives : Start → List Life → Type 0
 AreLives s ls = EachLife IsLifeFrom s ls
+
+-- the same start, with sequences that begin anew
+abbrev pub renumbered_start : Start → Start
+renumbered_start s = record s { seq = 0 }
+
+-- A span is lives whose sequences go on. Behind each span they begin anew: where all of them leave
+abbrev pub start_behind_spans : Start → List (List Life) → Start
+start_behind_spans s [] = s
+start_behind_spans s (ls ∷ spans) =
+    start_behind_spans (renumbered_start (start_behind_all s ls)) spans
+
+-- this holds of each span and of where it begins
+abbrev pub EachSpan : (Start → List Life → Type 0) → Start → List (List Life) → Type 0
+EachSpan P s [] = Unit {0}
+EachSpan P s (ls ∷ spans) =
+    P s ls × EachSpan P (renumbered_start (start_behind_all s ls)) spans
+
+-- the lives of each span have legal reports, each from where the one before has left, with other
+-- sequences if that was in the span before
+abbrev pub AreSpans : Start → List (List Life) → Type 0
+AreSpans s spans = EachSpan AreLives s spans

@@ -5,7 +5,7 @@ use Rattle.of_script.specs.Language.{reads_only}
 use Rattle.of_store.specs.Store.{replies_in_order, last_store}
 use Rattle.of_plan.specs.Report.{Entry, Start, finished_of, caller_line}
 use Rattle.of_plan.specs.Legal.{script_of_entry}
-use Rattle.of_lives.specs.Lives.{Life, done_behind, start_behind_all, EachLife, AreLives}
+use Rattle.of_lives.specs.Lives.{Life, done_behind, start_behind_all, EachLife, AreLives, start_behind_spans, EachSpan, AreSpans}
 
 -- all entries, life by life
 abbrev pub entries_in : List Life → List Entry
@@ -106,6 +106,53 @@ pub record AreOneHistory (s : Start) (ls : List Life) : Type 0 where
   -- what wasn't announced is a read, and each life has an entry for each call that it answered
   pub reads : EachLife HasReads s ls
   pub answered : EachLife HasAnswered s ls
+
+-- all entries of spans, life by life
+abbrev pub entries_of_spans : List (List Life) → List Entry
+entries_of_spans spans = flat_map entries_in spans
+
+-- their scripts
+abbrev pub scripts_of_spans : List (List Life) → List (List Instr)
+scripts_of_spans spans = flat_map life_scripts spans
+
+-- the entries of a caller in spans, life by life
+abbrev pub own_in_spans : List (List Life) → ℕ → List Entry
+own_in_spans spans c = filter (λ e. e.caller == c) (entries_of_spans spans)
+
+-- The entries of all spans together are one history from the first start, though each span has
+-- sequences of its own. So whoever renumbers between two lives loses nothing and runs nothing twice
+pub record AreOneHistoryInSpans (s : Start) (spans : List (List Life)) : Type 0 where
+  -- serial replay of all lives in order gives all replies, each at its place, and the last store
+  pub replies : map (λ e. e.reply) (entries_of_spans spans)
+      ≡ replies_in_order s.store (scripts_of_spans spans)
+  pub final_store : (start_behind_spans s spans).store
+      ≡ last_store s.store (scripts_of_spans spans)
+  -- each announced call stands once, in its caller's order
+  pub once : AllPairs ComesLater (entries_of_spans spans)
+  -- none stands there that was done at the start, and each from there to the last that is done does
+  pub behind_start : All (IsBehind s) (entries_of_spans spans)
+  pub all_done :
+      (c x : ℕ) → finished_of s c ≤ x → x < finished_of (start_behind_spans s spans) c
+      → Any (IsCall c x) (entries_of_spans spans)
+  -- all are of callers that are known in the end
+  pub known : All (IsKnownTo (start_behind_spans s spans)) (entries_of_spans spans)
+  -- a caller's ticket is that of its last announced call, or the start's where it has none
+  pub tickets :
+      (c : ℕ)
+      → finished_of (start_behind_spans s spans) c
+      ≡ done_behind (finished_of s c) (own_in_spans spans c)
+  -- what wasn't announced, and has no announced call of its caller behind it, isn't done
+  pub not_done :
+      (es fs : List Entry) (e : Entry) → entries_of_spans spans ≡ es ++ e ∷ fs
+      → NoneAnnouncedOf e.caller (e ∷ fs)
+      → finished_of (start_behind_spans s spans) e.caller ≤ e.index
+  -- and the lives of each span are one history by their sequences too
+  pub each : EachSpan AreOneHistory s spans
+
+-- so it is for every list of spans, from every start
+abbrev pub SpansAreOneHistory : Type 0
+SpansAreOneHistory =
+    (s : Start) (spans : List (List Life)) → AreSpans s spans → AreOneHistoryInSpans s spans
 
 -- so it is for every list of lives, from every start
 abbrev pub LivesAreOneHistory : Type 0

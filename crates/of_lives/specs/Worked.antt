@@ -5,7 +5,7 @@ use Rattle.of_store.specs.Store.{Reply, Answered, empty_store, with_register}
 use Rattle.of_plan.specs.Plan.{Plan}
 use Rattle.of_plan.specs.Report.{Entry, Line, done, Start, empty_start}
 use Rattle.of_plan.specs.Worked.{two_callers, worked_entry, legal_report}
-use Rattle.of_lives.specs.Lives.{Life, start_behind_all, AreLives}
+use Rattle.of_lives.specs.Lives.{Life, start_behind_all, AreLives, AreSpans}
 use Rattle.of_lives.specs.OneHistory.{own_in}
 
 -- nothing is stored and nothing is done before the first life
@@ -92,3 +92,7 @@ skips_read = adds 2 2 7 [] (done_with 0 0)
 -- it goes on from where the first life has left
 abbrev pub FollowsFirst : Life → Type 0
 FollowsFirst l = AreLives worked_start (first_life ∷ l ∷ [])
+
+-- and with sequences that were begun anew in between
+abbrev pub FollowsRenumbered : Life → Type 0
+FollowsRenumbered l = AreSpans worked_start ((first_life ∷ []) ∷ (l ∷ []) ∷ [])

@@ -1,9 +1,10 @@
 //! Laws of lives: functions that change nothing, whose contracts are the theorems.
 
 ghost use Rattle.std.specs.Prelude.{◌≡◌, Some, None, [], ◌∷◌};
-ghost use Rattle.of_lives.specs.OneHistory.{LivesAreOneHistory};
+ghost use Rattle.of_lives.specs.OneHistory.{LivesAreOneHistory, SpansAreOneHistory};
+ghost use Rattle.of_lives.specs.RenumberedStarts.{RenumberedImagesStart};
 ghost use Rattle.of_lives.specs.Restarts.{LivesRestart};
-ghost use Rattle.of_lives.specs.Worked.{FollowsFirst, second_life, runs_again, begins_anew, forgets_store, skips_read, asked_by, replies_to, one_number_reply, done_in_both};
+ghost use Rattle.of_lives.specs.Worked.{FollowsFirst, FollowsRenumbered, second_life, runs_again, begins_anew, forgets_store, skips_read, asked_by, replies_to, one_number_reply, done_in_both};
 
 use of_caller::laws::runs_restart;
 use of_plan::laws::worked_reports;
@@ -16,6 +17,19 @@ pub fn any_lives()
     ensures { LivesAreOneHistory }
 {}
 
+/// So it is if sequences begin anew between lives, as `renumber` has it: replay gives all replies and
+/// the last store, no announced call is run again, and each that is done is there. Sequences order
+/// the entries of the lives between two such places.
+pub fn renumbered_lives()
+    ensures { SpansAreOneHistory }
+{}
+
+/// A life from an image whose sequences begin anew starts at the store and the tickets of the image
+/// that was renumbered, at sequence 0.
+pub fn renumbered_images_start()
+    ensures { RenumberedImagesStart }
+{}
+
 /// A life leaves where the next one begins: from what recovery makes of the durable words of its
 /// run a table may start, and it starts behind the life, at its sequence and its store and with
 /// each caller behind its last announced call.
@@ -26,7 +40,8 @@ pub fn lives_restart()
 }
 
 /// A worked second life asks again for a read of the first, finds what was added in between, and
-/// runs no announced call again. Four that are a number or an entry away from it are refused.
+/// runs no announced call again. Four that are a number or an entry away from it are refused. The
+/// one that begins at sequence 0 is legal if the first was renumbered, and then no other one is.
 pub fn worked_lives()
     ensures follows { FollowsFirst second_life }
     ensures asked_again { asked_by 0 ≡ 0 ∷ 1 ∷ 1 ∷ [] }
@@ -38,6 +53,8 @@ pub fn worked_lives()
     ensures sequence_forgotten { FollowsFirst begins_anew → ⊥ }
     ensures store_forgotten { FollowsFirst forgets_store → ⊥ }
     ensures read_skipped { FollowsFirst skips_read → ⊥ }
+    ensures renumbered { FollowsRenumbered begins_anew }
+    ensures not_renumbered { FollowsRenumbered second_life → ⊥ }
 {
     worked_reports();
 }
