@@ -48,18 +48,23 @@ class Call:
 
 
 class History:
-    """The first `stop` events of a plan, and the report of what its whole schedule leaves."""
+    """The events of a plan from `since` to before `stop`, and the report of what its whole schedule
+    leaves. What began before these events is taken to begin with them."""
 
-    def __init__(self, plan, stop):
-        self.plan, self.stop = plan, stop
+    def __init__(self, plan, stop, since=0):
+        self.plan, self.stop, self.since = plan, stop, since
         whole = plan.cut(plan.events)
-        self.events = read_trace(whole, stop)
+        self.events = read_trace(whole, since, stop)
         self.report = Report(answer(whole, "play"))
         self.bars, self.calls = self.find_bars(), self.find_calls()
 
     @property
     def ends_with_crash(self):
         return self.stop == self.plan.events
+
+    def between(self, first, stop=None):
+        """The events from `first` on, to before `stop`."""
+        return self.events[first - self.since : None if stop is None else stop - self.since]
 
     def find_bars(self):
         bars, last = [], {}

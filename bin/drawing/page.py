@@ -41,7 +41,7 @@ def data(history, first, picture):
         "first": first, "stop": history.stop, "planned": plan.events, "callers": plan.callers,
         "scripts": [[*map(script_text, own)] for own in plan.scripts],
         "words": names, "steps": steps, "start": history.words(first),
-        "events": [event_data(it, place, steps) for it in history.events[first:]],
+        "events": [event_data(it, place, steps) for it in history.between(first)],
         "holding": logged,
         "store": [cells[it] for it, name in logged.items() if not is_own(name)],
         "own": [cells[it] for it, name in logged.items() if is_own(name)],

@@ -43,7 +43,7 @@ def offset(event):
 def band_items(history, first):
     """What the words of the two bands need, from each change to the next."""
     for _, word, _ in BANDS:
-        changed = [it for it in history.events[first:] if it.word == word and it.changes]
+        changed = [it for it in history.between(first) if it.word == word and it.changes]
         stops = [it.at for it in changed[1:]] + [history.stop]
         for event, stop in zip(changed, stops):
             width = LETTER * len(event.left) + 8 + offset(event)
@@ -58,7 +58,7 @@ def items(history, first):
     for call in history.calls:
         letters = min(len(call.text), 16) + min(len(call.outcome), 22)
         yield Item(call.start, call.stop, LETTER * letters + 24, call.stop - 1)
-    for event in history.events[first:]:
+    for event in history.between(first):
         if event.kind == "evict":
             yield Item(event.at, event.at + 1, 15, event.at)
     yield from band_items(history, first)
@@ -70,7 +70,7 @@ class Picture:
     def __init__(self, history, first, width, title=""):
         self.history, self.plan, self.first, self.full = history, history.plan, first, width
         self.title, self.head = title, 32 if title else 10
-        self.events = history.events[first:]
+        self.events = history.between(first)
         self.evictions = [it for it in self.events if it.kind == "evict"]
         inner = width - GUTTER - EDGE
         self.rows = Rows(first, history.stop, items(history, first), inner, SCALE).rows
@@ -160,7 +160,7 @@ class Picture:
         self.draw_evictions()
         for place in range(len(BANDS)):
             self.draw_band(place)
-        for event in self.history.events[row.first:row.stop]:
+        for event in self.history.between(row.first, row.stop):
             if event.is_commit:
                 self.draw_commit(event)
         if row is self.rows[-1] and self.history.ends_with_crash:
@@ -276,7 +276,7 @@ class Picture:
         self.text(-8, top + 10.5, label, "e g")
         value = self.history.words(self.row.first).get(word, "(0,0)")
         changes = [(it.left, self.effect(it)) for it in
-                   self.history.events[self.row.first:self.row.stop]
+                   self.history.between(self.row.first, self.row.stop)
                    if it.word == word and it.changes]
         for after, right in [*changes, ("", self.row.width)]:
             sequence = sequence_of(value)

@@ -24,11 +24,11 @@ def items(history, first):
     for call in history.calls:
         letters = min(len(call.text), 16) + min(len(call.outcome), 22)
         yield Item(call.start, call.stop, letters + 4, call.stop - 1)
-    for event in history.events[first:]:
+    for event in history.between(first):
         if event.kind == "evict":
             yield Item(event.at, event.at + 1, 2, event.at)
     for _, word in [band[:2] for band in BANDS]:
-        changed = [it for it in history.events[first:] if it.word == word and it.changes]
+        changed = [it for it in history.between(first) if it.word == word and it.changes]
         for event, stop in zip(changed, [it.at for it in changed[1:]] + [history.stop]):
             yield Item(event.at, stop, len(event.left) + 4, event.at)
 
@@ -60,7 +60,7 @@ class Lines:
         self.history, self.callers = history, history.plan.callers
         self.full = os.get_terminal_size().columns if sys.stdout.isatty() else WIDTH
         self.width = max(self.full - GUTTER - 2, 40)
-        self.evictions = [it for it in history.events[first:] if it.kind == "evict"]
+        self.evictions = [it for it in history.between(first) if it.kind == "evict"]
         self.rows = Rows(first, history.stop, items(history, first), self.width, SCALE).rows
 
     def draw(self, title):
@@ -90,7 +90,7 @@ class Lines:
             if bar.kind == "help" and row.has(bar.start):
                 self.write_arrow(bar)
         lanes = [line for pair in zip(self.texts, self.lanes) for line in pair]
-        for event in self.history.events[row.first:row.stop]:
+        for event in self.history.between(row.first, row.stop):
             if event.is_commit:
                 self.write_commit(event, lanes)
         if row is self.rows[-1] and self.history.ends_with_crash:
@@ -160,7 +160,7 @@ class Lines:
         label, word, _ = band
         line = Line(label, self.width)
         line.write(0, self.history.words(self.row.first).get(word, "(0,0)"))
-        for event in self.history.events[self.row.first:self.row.stop]:
+        for event in self.history.between(self.row.first, self.row.stop):
             if event.word == word and event.changes:
                 line.write(self.place(event.at), " " * self.width)
                 line.write(self.place(event.at), "|" + event.left)

@@ -10,6 +10,7 @@ from .shown import shown
 
 TOP = pathlib.Path(__file__).resolve().parent.parent.parent
 MOST_LINES = 10_000  # of one trace
+MOST_SECONDS = float(os.environ.get("DRAW_SECONDS", "600"))  # of one run of the program
 MOST_SHOWN = 100  # characters of a line that is no line of a trace
 
 
@@ -19,8 +20,11 @@ def answer(text, *words, errors=subprocess.PIPE):
     What it says on standard error is shown if it fails, or at once if `errors` is None.
     """
     path = os.environ.get("ONEFILE") or str(TOP / "bin/onefile")
-    done = subprocess.run([path, *words], input=text, stdout=subprocess.PIPE, stderr=errors,
-                          encoding="utf-8", errors="surrogateescape")
+    try:
+        done = subprocess.run([path, *words], input=text, stdout=subprocess.PIPE, stderr=errors,
+                              encoding="utf-8", errors="surrogateescape", timeout=MOST_SECONDS)
+    except subprocess.TimeoutExpired:
+        sys.exit(f"bin/draw: onefile {' '.join(words)}: no end in {MOST_SECONDS:g} seconds")
     if done.returncode:
         sys.stderr.write(done.stderr or "")
         sys.exit(f"bin/draw: onefile {' '.join(words)}: {shown(done.stdout.strip())}")
@@ -48,6 +52,8 @@ class Event:
         caller = parts["caller"] or parts["idle"]
         self.caller = int(caller) if caller else None
         self.script = int(parts["script"]) if parts["script"] else None
+        if self.step and self.step not in KIND_OF:
+            sys.exit(f"bin/draw: no step of the program: {shown(self.step)[:MOST_SHOWN]}")
         self.kind = KIND_OF[self.step] if self.step else "nothing" if caller else "evict"
         self.owner = self.find_owner()
 
@@ -95,10 +101,12 @@ def sequence_of(word):
     return int(word[1:].split(",")[0])
 
 
-def read_trace(text, count):
-    """The first `count` events of a plan."""
+def read_trace(text, first, stop):
+    """The events of a plan from `first` to before `stop`. The program runs all that come before."""
     events = []
-    for at in range(0, count, MOST_LINES):
-        printed = answer(text, "trace", str(at), str(min(MOST_LINES, count - at)))
-        events += map(Event, printed.splitlines())
+    for at in range(first, stop, MOST_LINES):
+        count = min(MOST_LINES, stop - at)
+        events += map(Event, answer(text, "trace", str(at), str(count)).splitlines())
+    if [it.at for it in events] != [*range(first, stop)]:
+        sys.exit("bin/draw: the trace has other events than were asked for")
     return events
