@@ -1,5 +1,5 @@
 -- What callers, handles and memories know of real time, and go on knowing.
-use Rattle.std.proofs.Common.{◌≡◌, ℕ, ◌≤◌, List, [], length, append-nil, get_or, Some, None, Result, refl, sym, ap, subst, ◌∙◌, arith}
+use Rattle.std.proofs.Common.{◌≡◌, ℕ, ◌≤◌, List, [], length, append-nil, get_or, Some, None, Result, sym, ap, subst, ◌∙◌, arith}
 use mathlib.Core.List.{IsPrefix}
 use Rattle.of_mem.specs.Meaning.{Meaning}
 use Rattle.of_mem.proofs.Lists.{prefix_trans, same_some}
@@ -23,17 +23,6 @@ use Rattle.of_cells.specs.Telling.{HasHeardOf, KeepsKnown, BeginsAfterHeard, Kno
 use Rattle.of_cells.proofs.Seats.{later_ended}
 
 -- ---- a caller that knows more
-
--- it knows as much as itself
-pub knows_same_more : {W : Type 0} (c : Caller W) → KnowsMore c c
-knows_same_more c = record { call = refl; kept = refl; past = ([], append-nil (events_known_to c)) }
-
-pub knows_more_still : {W : Type 0} (c d e : Caller W) → KnowsMore c d → KnowsMore d e → KnowsMore c e
-knows_more_still c d e h k = record {
-  call = k.call ∙ h.call;
-  kept = k.kept ∙ h.kept;
-  past = prefix_trans (events_known_to c) (events_known_to d) (events_known_to e) h.past k.past;
-}
 
 -- with the same view it knows as much
 pub same_sight : {W : Type 0} (c k : Caller W) → caller_call k ≡ caller_call c → sight_of k ≡ sight_of c → KnowsMore c k

@@ -132,17 +132,9 @@ only_image v text (Err Memory) ok err image h = refl
 only_image v text (Err (Bad line)) ok err image h = absurd (err.none (h.raw, h.spelled))
 only_image v text (Err (Unlawful cell)) ok err image h = absurd (unlawful_excludes v text cell image err h)
 
--- a row with a cell at fault is no image's
-pub faulty_refused : (v : Version) (text : List ℕ) (r : DurableRow) → SpellsImage v text r → (e : RowErr) → NamesRowFault (instrs_of v) (recovered_row (instrs_of v) r) e → ImageIsRefused v text (image_err e)
-faulty_refused v text r s NoMemory h = tt
-faulty_refused v text r s (UnlawfulRow cell law) h = record { raw = r; spelled = s; fault = record { law = law; breaks = h } }
-
 -- the same where the row's data cells stand as a plot says
 pub plot_faulty : (v : Version) (p : Plot) (r : DurableRow) → p.instrs ≡ instrs_of v → row_in p r.words ≡ r → (e : RowErr) → NamesRowFault p.instrs (recovered_row p.instrs (row_in p r.words)) e → NamesRowFault (instrs_of v) (recovered_row (instrs_of v) r) e
 plot_faulty v p r instrs is e h = subst (λ (n : ℕ). NamesRowFault n (recovered_row n r) e) instrs (subst (λ (q : DurableRow). NamesRowFault p.instrs (recovered_row p.instrs q) e) is h)
-
-pub plot_refused : (v : Version) (text : List ℕ) (p : Plot) (r : DurableRow) → p.instrs ≡ instrs_of v → row_in p r.words ≡ r → SpellsImage v text r → (e : RowErr) → NamesRowFault p.instrs (recovered_row p.instrs (row_in p r.words)) e → ImageIsRefused v text (image_err e)
-plot_refused v text p r instrs is s e h = faulty_refused v text r s e (plot_faulty v p r instrs is e h)
 
 -- what recovery finds in it is the text's image
 pub plot_read : (v : Version) (text : List ℕ) (p : Plot) (r : DurableRow) (i : Image) → p.instrs ≡ instrs_of v → row_in p r.words ≡ r → SpellsImage v text r → IsRestored p.instrs (row_in p r.words) i → ReadsImage v text i

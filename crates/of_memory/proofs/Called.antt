@@ -70,10 +70,6 @@ ends_as : (o : Outcome) (a : Answer) → TellsAnswer o a → EndsAs o (Replied (
 ends_as (Answered s announced raw steps) a t = (a.reply, t.2, refl)
 ends_as (Over s) a t = absurd t
 
--- the words of a script are an operation
-pub operation_of_script : (script : List Instr) → IsScript script → IsScriptOperation (map instr_word script)
-operation_of_script script is = (script, is, refl)
-
 pub words_few : (op : List ℕ) → IsScriptOperation op → (1 ≤ length op) × (length op ≤ MOST_INSTRS)
 words_few op k =
     let many : length op ≡ length k.0 = ap length k.2 ∙ length-map k.0 instr_word in
@@ -418,6 +414,3 @@ opens_only script c d is words s opened = inl (words_injective s script opened.i
 
 pub opens_none : (c d : Caller Scripts) → IsOpen (caller_call c).place → (caller_call d).op ≡ (caller_call c).op → CallerOpensNone c d
 opens_none c d is_open same s opened = record { open_call = is_open; is = opened.is; words = sym same ∙ opened.words }
-
-pub only_same : (script : List Instr) (c : Caller Scripts) → CallerOpensOnly script c c
-only_same script c s opened = inr opened

@@ -1,6 +1,5 @@
 -- What recovery makes of the durable words of a closed row of scripts.
-use Rattle.std.proofs.Common.{◌≡◌, ℕ, ◌+◌, ◌<◌, sym, ◌∙◌, ap, subst, List, ◌++◌, length, take, drop}
-use Rattle.std.proofs.lemmas.List.{take_at}
+use Rattle.std.proofs.Common.{◌≡◌, ℕ, ◌<◌, sym, ◌∙◌, subst, List}
 use Rattle.of_recover.specs.Recovered.{recovered_words}
 use Rattle.of_store.specs.Store.{Store}
 use Rattle.of_eval.specs.declared.scripts.Scripts.{Scripts}
@@ -16,13 +15,6 @@ use Rattle.of_memory.specs.History.{HistoryEntry}
 use Rattle.of_memory.specs.Laws.{setup_with, StandsAt, HoldsLastReplies, KeepScripts, HoldsHistory, HistoryLeads}
 use Rattle.of_caller.specs.PlanRows.{start_of_row}
 use Rattle.of_memory.specs.Serving.{IsScriptsRow}
-
--- what stands in a list of words when recovery, which leaves as many, has been through it
-pub is_left : (callers cells : ℕ) (new given items : List ℕ) (len : ℕ) → new ≡ recovered_words callers cells given → given ≡ items → len ≡ length items
-    → length (recovered_words callers cells items) ≡ length items → take len (new ++ drop (length new) items) ≡ recovered_words callers cells items
-is_left callers cells new given items len row same long cell_count =
-    let is : new ≡ recovered_words callers cells items = row ∙ ap (recovered_words callers cells) same in
-    take_at new (drop (length new) items) len (ap length is ∙ cell_count ∙ sym long) ∙ is
 
 module _ (r : Row Scripts) (row : IsScriptsRow r) (p : Pass) (durable : List ℕ) (m : ClosesWithDurable scripts_meaning LawfulCells r p durable) where
   abbrev W : Scripts

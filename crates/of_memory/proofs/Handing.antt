@@ -36,12 +36,6 @@ knows_same n m k is = record {
   only_open = λ script has. record { caller = has.caller; here = sym is ∙ has.here; opened = has.opened };
 }
 
-pub orders_it_all : (m : Memory) → RestKnowsOrder 0 m m
-orders_it_all m j low n x k y known = known
-
-pub knows_it_all : (m : Memory) → KnowsRest 0 m m
-knows_it_all m n low = knows_same n m m refl
-
 longer : {A : Type 0} (xs ys : List A) (x : A) → ys ≡ xs ++ x ∷ [] → length ys ≡ length xs + 1
 longer xs ys x is = ap length is ∙ length-append xs (x ∷ [])
 

@@ -13,7 +13,7 @@ use Rattle.of_eval.specs.Scripts.{scripts_meaning, LawfulCells}
 use Rattle.of_row.specs.declared.member.Member.{Member}
 use Rattle.of_row.specs.declared.member.Pass.{Pass}
 use Rattle.of_row.specs.declared.row.Row.{Row}
-use Rattle.of_row.specs.Passes.{HasEnrolled, IsFirst}
+use Rattle.of_row.specs.Passes.{HasEnrolled}
 use Rattle.of_row.specs.Rows.{key_of, setup_at, row_start}
 use Rattle.of_row.specs.Rule.{IsAsked, open_call_count}
 use Rattle.of_row.specs.Views.{KnownCaller, View, last_caller, seen_seq}
@@ -43,13 +43,6 @@ asked_or_last n r m (x ∷ xs) (inr a) = later (asked_or_last n r m xs a)
     later : IsAsked n xs ⊎ (m ≡ n) → IsAsked n (x ∷ xs) ⊎ (m ≡ n)
     later (inl t) = inl (inr t)
     later (inr t) = inr t
-
-pub enrols_first : (r : Row Scripts) (p : Pass) → IsFirst r p → Enrols r 0 p
-enrols_first r p h = record {
-  row = h.0;
-  first = ap (λ (v : View). v.first) h.1;
-  below = λ n a. absurd (subst (λ (v : View). IsAsked n v.asked) h.1 a);
-}
 
 pub enrols_next : (r : Row Scripts) (n : ℕ) (before : Pass) (member : Member) (now : Pass) → Enrols r n before → HasEnrolled scripts_meaning r n before member now → Enrols r (n + 1) now
 enrols_next r n before member now h e = record {

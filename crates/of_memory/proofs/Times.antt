@@ -1,5 +1,5 @@
 -- What handles know of real time, and go on knowing.
-use Rattle.std.proofs.Common.{◌≡◌, ℕ, ◌≤◌, ◌<◌, false, List, [], length, append-nil, get_or, Some, None, Result, sym, ap, subst, ◌∙◌, arith}
+use Rattle.std.proofs.Common.{◌≡◌, ℕ, ◌≤◌, ◌<◌, false, List, length, get_or, Some, None, Result, sym, ap, subst, ◌∙◌, arith}
 use mathlib.Core.Bool.{true≢false}
 use mathlib.Core.List.{IsPrefix}
 use Rattle.of_mem.proofs.Lists.{prefix_trans, same_some}
@@ -12,7 +12,7 @@ use Rattle.of_core.specs.MachineValue.{machine_setup}
 use Rattle.of_core.specs.Events.{Event}
 use Rattle.of_row.specs.declared.row.Row.{Row}
 use Rattle.of_row.specs.Rows.{key_of, setup_at}
-use Rattle.of_row.specs.Views.{KnownCaller, View, last_caller}
+use Rattle.of_row.specs.Views.{KnownCaller, last_caller}
 use Rattle.of_caller.specs.declared.caller.Caller.{Caller}
 use Rattle.of_core.specs.declared.place.Outcome.{Outcome}
 use Rattle.of_caller.specs.declared.caller.CallErr.{CallErr}
@@ -28,10 +28,9 @@ use Rattle.of_memory.specs.Times.{calls_ended_in, calls_begun_in, EndBefore}
 use Rattle.of_memory.specs.Laws.{setup_with}
 use Rattle.of_memory.specs.Serving.{IsScriptsRow, Serves, ended_of, events_known_to}
 use Rattle.of_memory.specs.Called.{BeginsAsNext, LearnsMore}
-use Rattle.of_memory.specs.Calls.{AreMade}
 use Rattle.of_memory.specs.Handles.{IsHandle, home_of, number_of_handle, caller_of}
 use Rattle.of_memory.specs.Memories.{HasOrderOf, row_of}
-use Rattle.of_memory.specs.Telling.{KeepsKnown, CallsStay, BeginsAfterHeard, KnowsOrder, TellsOf, TellsOwn, TellsHeard, HearsAll, ToldCallsComeFirst, events_told}
+use Rattle.of_memory.specs.Telling.{KeepsKnown, BeginsAfterHeard, KnowsOrder, TellsOf, TellsOwn, HearsAll, ToldCallsComeFirst, events_told}
 use Rattle.of_memory.proofs.Called.{made_many, next_of}
 use Rattle.of_memory.proofs.Seats.{open_same, serves_same}
 
@@ -134,31 +133,12 @@ module _ (h : Handle) (k : Caller Scripts) (is : IsHandle h) (row : Row Scripts)
     serves = serves_same (home_of h) h.number h.caller k is.serves (subst (λ (r : Row Scripts). IsCaller scripts_meaning r k) home caller) call kept more;
   }
 
-pub keeps_calls : (h : Handle) (k : Caller Scripts) → caller_call k ≡ caller_call h.caller → (sight_of k).kept ≡ (sight_of h.caller).kept → CallsStay h (record h { caller = k })
-keeps_calls h k call kept = record {
-  made = λ ms. subst (λ (xs : List KnownCaller). AreMade (last_caller xs).ended ms) (sym kept);
-  only = λ ms. subst (λ (xs : List KnownCaller). AreMade (last_caller xs).ended ms) kept;
-  open_call = λ script opened. record { open_call = subst (λ (d : CallState). IsOpen d.place) (sym call) opened.open_call; is = opened.is; words = ap (λ (d : CallState). d.op) call ∙ opened.words };
-  only_open = λ script opened. record { open_call = subst (λ (d : CallState). IsOpen d.place) call opened.open_call; is = opened.is; words = ap (λ (d : CallState). d.op) (sym call) ∙ opened.words };
-  begun = ap (λ (d : CallState). d.made) call;
-  steps = ap (λ (d : CallState). d.steps) call;
-}
-
--- with the same view it knows as much
-pub learns_same : (c k : Caller Scripts) → sight_of k ≡ sight_of c → LearnsMore c k
-learns_same c k sight = ([], append-nil (sight_of c).past ∙ ap (λ (v : View). v.past) (sym sight))
-
 pub tells_own : (h : Handle) (a : News) → IsHandle h → events_told a ≡ events_known_to h.caller → TellsOwn h a
 tells_own h a is same ms made =
     let low = is.serves.told in
     let many = made_many (ended_of h.caller) ms made in
     let all = ap (λ (es : List Event). calls_ended_in (setup_at scripts_meaning (home_of h)) (start_of_row (home_of h)) es h.number) same in
     omega (arith, low, many, all)
-
-pub tells_heard : (h : Handle) (a : News) → events_told a ≡ events_known_to h.caller → TellsHeard h a
-tells_heard h a same n count heard =
-    let all = ap (λ (es : List Event). calls_ended_in (setup_at scripts_meaning (home_of h)) (start_of_row (home_of h)) es n) same in
-    omega (arith, heard, all)
 
 pub hears_all : (a : News) (h : Handle) → IsPrefix (events_told a) (events_known_to h.caller) → HearsAll a h
 hears_all a h more n count tells =

@@ -1,5 +1,5 @@
 -- Callers keep to their allowances: from the steps of their answered calls to what a report tells.
-use Rattle.std.proofs.Common.{◌≡◌, ℕ, suc, ◌+◌, ◌*◌, ◌<◌, ◌≤◌, max, sum, Some, None, List, [], ◌∷◌, length, get_or, map, refl, sym, ap, ◌∙◌, arith}
+use Rattle.std.proofs.Common.{◌≡◌, ℕ, ◌+◌, ◌*◌, ◌<◌, ◌≤◌, max, sum, Some, List, [], ◌∷◌, length, map, refl, sym, ap, ◌∙◌, arith}
 use Rattle.std.specs.Prelude.{sum_by}
 use Rattle.std.specs.List.{AllZip, AllByRecursion as Each}
 use Rattle.std.proofs.lemmas.List.{length-map}
@@ -19,13 +19,6 @@ most_of (x ∷ xs) = max x (most_of xs)
 -- entries whose calls have made these steps, each at least its least
 abbrev pub HaveMade : Plan → List Entry → List ℕ → Type 0
 HaveMade p es steps = AllZip (λ e x. least_steps p e ≤ x) es steps
-
--- from what holds at each place
-pub made_by_place : (p : Plan) (es : List Entry) (steps : List ℕ) (e : Entry) → length es ≡ length steps → ((k : ℕ) → k < length es → least_steps p (get_or es k e) ≤ get_or steps k 0) → HaveMade p es steps
-made_by_place p [] [] d same h = tt
-made_by_place p [] (x ∷ xs) d same h = absurd (omega arith)
-made_by_place p (e ∷ es) [] d same h = absurd (omega arith)
-made_by_place p (e ∷ es) (x ∷ xs) d same h = (h 0 (omega arith), made_by_place p es xs d (omega arith) (λ k lt. h (suc k) (omega (arith, lt))))
 
 least_sum : (p : Plan) (es : List Entry) (steps : List ℕ) → HaveMade p es steps → sum_by (least_steps p) es ≤ sum steps
 least_sum p [] [] made = omega arith
@@ -63,15 +56,6 @@ keeps_steps p r c n steps open_steps made is within ended = record {
       let end = ended stop in
       let products : length steps * most_of steps ≡ (caller_line r c).answered * (caller_line r c).longest = cc in
       (n, refl, omega (arith, products, sum_upto steps, end.0, end.1));
-}
-
--- without end: none is stopped
-pub keeps_without_end : (p : Plan) (r : Report) (c : ℕ) (steps : List ℕ) → HaveMade p (answered_of r c) steps → (caller_line r c).longest ≡ most_of steps → ((caller_line r c).state ≡ stopped → ⊥) → KeepsAllowance p r c None
-keeps_without_end p r c steps made is never = record {
-  adds_up = tt;
-  upto = tt;
-  least = All-from_recursion (λ e. least_steps p e ≤ (caller_line r c).longest) (answered_of r c) (least_upto p (caller_line r c).longest (answered_of r c) steps made (omega (arith, is)));
-  used_up = λ stop. absurd (never stop);
 }
 
 -- ---- what answers tell

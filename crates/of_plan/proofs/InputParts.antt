@@ -52,9 +52,6 @@ pub record IsBehind (text rest : List ℕ) : Type 0 where
   pub clean : Each NoNewline front
   pub none : Each (λ line. IsEndLine line → ⊥) front
 
-pub behind_nothing : (text : List ℕ) → IsBehind text text
-behind_nothing text = record { front = []; bytes = refl; clean = tt; none = tt }
-
 first_clean : (rest l : List ℕ) (ls : List (List ℕ)) → text_lines rest ≡ l ∷ ls → NoNewline l
 first_clean rest l ls cut = (subst (Each NoNewline) cut (lines_clean rest)).0
 
