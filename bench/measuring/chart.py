@@ -43,7 +43,7 @@ def number(value):
 def ticks(low, high, is_log):
     """Round numbers from one below the least value to one above the greatest."""
     if is_log:
-        steps = [it * 10**power for power in range(-2, 12) for it in (1, 2, 5)]
+        steps = [it * 10**power for power in range(-6, 12) for it in (1, 2, 5)]
         first = max(it for it in steps if it <= low)
         last = min(it for it in steps if it >= high)
         return [it for it in steps if first <= it <= last]

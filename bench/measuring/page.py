@@ -1,7 +1,7 @@
 """The results as lines, as the tables of docs/BENCH.md, and as its pictures."""
 import re
 
-from . import chart, from_c, threads
+from . import chart, from_c, sizes, threads
 from .runs import CALLERS, KEYS, KINDS, by_callers, by_keys
 
 LACKING = "-"
@@ -50,6 +50,20 @@ def thread_lines(what, names, found):
                   f"{spread(spent['clock'])}"
 
 
+def size_value(row, values):
+    """The median of a row of sizes."""
+    return f"{values[0] / row.size:,.{row.decimals}f}"
+
+
+def size_lines(found):
+    """A line for each row, with the median of each size, and how the last is to the first."""
+    for name, row in sizes.ROWS.items() if found else ():
+        medians = [by[name] for by in found.values()]
+        values = "".join(f"{size_value(row, it):>11}" for it in medians)
+        growth = medians[-1][0] / (medians[0][0] or 1)
+        yield f"{row.name + ', ' + row.unit:45}{values}{growth:11,.2f}"
+
+
 def table(head, rows):
     rows = [head, ["---"] * len(head), *rows]
     return "\n".join("| " + " | ".join(row) + " |" for row in rows)
@@ -79,6 +93,16 @@ def runs_table(results, wanted):
 def threads_table(found, names, kind, cell):
     head = ["Callers", *[names[name] for name in found]]
     rows = [[str(it), *[cell(by[str(it)][kind]) for by in found.values()]] for it in CALLERS]
+    return table(head, rows)
+
+
+def sizes_table(found, wanted):
+    """The rows of these names, with a column for each number of cells."""
+    if not found:
+        return ""
+    head = ["Cells", *[f"{int(it):,}" for it in found]]
+    rows = [[f"{row.name}, {row.unit}", *[size_value(row, by[name]) for by in found.values()]]
+            for name, row in sizes.ROWS.items() if name in wanted]
     return table(head, rows)
 
 
@@ -114,19 +138,32 @@ def threads_picture(results):
         yield chart.Panel(title, "callers", CALLERS, lines, True, every)
 
 
+def sizes_picture(results):
+    """Times a call, and times of the whole memory, by its cells."""
+    found = results["sizes"]
+    titles = {"ns": "Nanoseconds", "ms": "Milliseconds"}
+    for unit, title in titles.items():
+        lines = [chart.Line(row.name, [[it / row.size for it in by[name]] for by in found.values()])
+                 for name, row in sizes.ROWS.items() if row.unit == unit and name != "visit"]
+        yield chart.Panel(title, "thousands of cells", [f"{int(it) // 1000:,}" for it in found],
+                          lines, True)
+
+
 # Each picture: its file, its width, what draws it, and its text for who doesn't see it.
 PICTURES = {
     "turns": ("bench_turns.svg", 620, turns_picture, "Instructions a turn, by callers"),
     "check": ("bench_check.svg", 620, check_picture, "Instructions an entry, by keys"),
     "threads": ("bench_threads.svg", 1100, lambda it: [*threads_picture(it)],
                 "Processor time and time by the clock a call, by callers"),
+    "sizes": ("bench_sizes.svg", 1100, lambda it: [*sizes_picture(it)],
+              "Time a call, and to open and to close a memory, by its cells"),
 }
 
 
 def has(results, name):
     """Whether there is what a picture shows."""
-    if name == "threads":
-        return bool(results["threads"])
+    if name in ("threads", "sizes"):
+        return bool(results.get(name))
     wanted = {"turns": [by_callers(kind, it) for kind in KINDS for it in CALLERS],
               "check": [by_keys(it) for it in KEYS]}[name]
     found = results["runs"]
@@ -162,6 +199,8 @@ PARTS = {
     "texts": lambda it: runs_table(it, ("reading", "printing")),
     "threads": lambda it: race_text(it["threads"], threads.NAMES, threads.CALLS),
     "calls": lambda it: race_text(it.get("calls"), from_c.NAMES, from_c.CALLS),
+    "sizes": lambda it: sizes_table(it.get("sizes"), sizes.TIMES),
+    "memory": lambda it: sizes_table(it.get("sizes"), sizes.MEMORY),
 }
 
 

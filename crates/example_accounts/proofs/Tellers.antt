@@ -1,11 +1,13 @@
 -- Tellers: their places, what they have made, and their logs.
-use Rattle.std.proofs.Common.{◌≡◌, ℕ, suc, ◌+◌, ◌<◌, inl, inr, refl, sym, ◌∙◌, ap, subst, arith, List, [], ◌∷◌, ◌++◌, length, get_or, map, reverse, length-append, Global}
+use Rattle.std.proofs.Common.{◌≡◌, ℕ, suc, ◌+◌, ◌<◌, inl, inr, refl, sym, ◌∙◌, ap, subst, arith, List, [], ◌∷◌, ◌++◌, length, get_or, map, take, reverse, length-append, Global}
 use Rattle.std.specs.declared.vec.Vec.{Vec}
 use Rattle.std.proofs.lemmas.Bool.{cases_lt}
-use Rattle.std.proofs.lemmas.List.{get_or-map, length-map, map-append, reverse-append, append_assoc, get_or_append_left}
+use Rattle.std.proofs.lemmas.List.{get_or-map, length-map, map-append, reverse-append, append_assoc, get_or_append_left, take_more}
 use Rattle.std.proofs.Math.Seq.{get_or-append_seam}
+use Rattle.of_core.specs.declared.place.Outcome.{Outcome}
 use Rattle.of_core.specs.Machine.{Call}
 use Rattle.of_row.specs.Views.{EndedCall, no_ended}
+use Rattle.of_cells.specs.declared.handle.CellHandle.{CellHandle}
 use Rattle.of_cells.specs.declared.memory.CellMemory.{CellMemory}
 use Rattle.of_cells.specs.declared.saved.SavedCells.{SavedCells}
 use Rattle.of_cells.specs.History.{ExplainsEnd}
@@ -17,7 +19,7 @@ use Rattle.example_accounts.specs.declared.teller.Teller.{Teller}
 use Rattle.example_accounts.specs.declared.day.Log.{Log}
 use Rattle.example_accounts.specs.declared.transfer.Transfer.{Transfer}
 use Rattle.example_accounts.specs.Meaning.{accounts_meaning}
-use Rattle.example_accounts.specs.Days.{ended_call, job_of_teller, FollowsJob, Serves, HasWorked, IsSeatedAt, AreSeated, IsLoggedAt, AreLogged, HasLog, no_answer}
+use Rattle.example_accounts.specs.Days.{ended_call, transfer_of, job_of_teller, FollowsJob, Serves, HasWorked, IsSeatedAt, AreSeated, IsLoggedAt, AreLogged, HasLog, no_answer}
 use Rattle.example_accounts.specs.Accounts.{transfer_words}
 
 -- ---- facts of each place of a list
@@ -99,6 +101,27 @@ works_on t u v h k = record {
   serves = k.serves;
   same = record { handle = record { home = k.same.handle.home ∙ h.same.handle.home; number = k.same.handle.number ∙ h.same.handle.number }; job = k.same.job ∙ h.same.job };
 }
+
+-- a call that has ended adds an answer, to the next transfer of the job
+pub answers_more : (h k : CellHandle Accounts) (answers more : List Answer) (job : List Transfer) (t : Transfer) (op : List ℕ) (o : Outcome) → made_by h ≡ map ended_call answers → FollowsJob answers job
+    → length answers < length job → t ≡ get_or job (length answers) t → op ≡ transfer_words t → made_by k ≡ made_by h ++ record { op = op; outcome = o } ∷ [] → more ≡ answers ++ record { transfer = t; outcome = o } ∷ []
+    → (made_by k ≡ map ended_call more) × FollowsJob more job
+answers_more h k answers more job t op o was follows left at words is pushed = (made, first)
+  where
+    made : made_by k ≡ map ended_call more
+    made =
+        is ∙ ap (λ (es : List EndedCall). es ++ record { op = op; outcome = o } ∷ []) was
+        ∙ ap (λ (w : List ℕ). map ended_call answers ++ record { op = w; outcome = o } ∷ []) words
+        ∙ sym (ap (map ended_call) pushed ∙ map-append ended_call answers (record { transfer = t; outcome = o } ∷ []))
+
+    first : map transfer_of more ≡ take (length more) job
+    first =
+        let long : length more ≡ length answers + 1 = ap length pushed ∙ length-append answers (record { transfer = t; outcome = o } ∷ []) in
+        ap (map transfer_of) pushed ∙ map-append transfer_of answers (record { transfer = t; outcome = o } ∷ [])
+        ∙ ap (λ (ts : List Transfer). ts ++ t ∷ []) follows
+        ∙ ap (λ (x : Transfer). take (length answers) job ++ x ∷ []) at
+        ∙ sym (take_more job (length answers) t left)
+        ∙ ap (λ (n : ℕ). take n job) (sym long)
 
 -- ---- a teller that is seated
 

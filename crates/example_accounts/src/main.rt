@@ -6,6 +6,7 @@
 
 mod accounts;
 mod day;
+mod meter;
 mod teller;
 mod transfer;
 
@@ -15,9 +16,11 @@ ghost use Rattle.example_accounts.specs.Days.{IsSavedBank};
 
 use crate::accounts::Accounts;
 use crate::day::{Evening, Log, two_days};
+use crate::meter::measure;
 use crate::transfer::{Reply, Transfer};
 use anyhow::Result;
 use std::alloc::{AllocError, Global};
+use std::env;
 use std::thread::Threads;
 
 fn pay(from: u32, to: u32, amount: u32) -> Transfer {
@@ -105,8 +108,13 @@ fn work<R: Threads + Print + Sync>(
     show_end(rt, accounts, &second)
 }
 
+/// Without words, the two days. With a number of accounts and one of rounds it measures a memory.
 fn main(rt: HostRuntime) -> Result<()> {
     let alloc: Global = rt.alloc();
+    let mut words = env::args(&rt)?.skip(1);
+    if let (Some(accounts), Some(rounds)) = (words.next(), words.next()) {
+        return measure(&rt, alloc, accounts.as_str(), rounds.as_str());
+    }
     let accounts = Accounts {
         callers: 3,
         accounts: LAST + 1,
