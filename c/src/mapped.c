@@ -75,8 +75,9 @@ static void let_go_files(int could_be) {
   pthread_setcancelstate(could_be, NULL);
 }
 
-/* What the thread that opens a memory in a file waits for. The memory asks once for so many bytes:
- * for its table. */
+/* What the thread that opens a memory in a file waits for. The memory asks twice for so many bytes:
+ * first for what a close will hand out, then for its table. */
+enum { TABLE_REQUEST = 1, REQUESTS };
 static _Thread_local struct {
   size_t bytes;
   unsigned count;
@@ -117,7 +118,7 @@ static given give(void *block) {
 }
 
 given rattle_alloc(size_t size, size_t align) {
-  if (awaited.bytes != 0 && size == awaited.bytes && awaited.count++ == 0) {
+  if (awaited.bytes != 0 && size == awaited.bytes && awaited.count++ == TABLE_REQUEST) {
     return give(awaited.words);
   }
   return give(malloc(size ? size : align));
@@ -366,7 +367,7 @@ static uint32_t open_there(const birth *born, table *one, onefile_slot *memory) 
   uint32_t answer = of_c_reopen(born->start, memory);
   unsigned count = awaited.count;
   awaited.bytes = 0;
-  if (answer == ONEFILE_DONE && count != 1) answer = mistaken();
+  if (answer == ONEFILE_DONE && count != REQUESTS) answer = mistaken();
   return answer == ONEFILE_DONE ? read_back(born, one) : answer;
 }
 

@@ -150,7 +150,6 @@ pub fn team<R: Threads + Sync>(
     ensures stops { IfOk result (λ r. KeepStops (λ b. left b) plan.now r.0 0 brakes.items) }
 {
     teams_are_lawful(plan);
-    let room = Vec::with_capacity(alloc, row.shape().words() as usize)?;
     let callers = plan.callers() as usize;
     let mut lanes = Vec::with_capacity(alloc, callers)?;
     let mut answers = Vec::with_capacity(alloc, callers)?;
@@ -158,7 +157,7 @@ pub fn team<R: Threads + Sync>(
     let mut pass = enrol_all(alloc, &row, plan, pass, brakes, &mut lanes)?;
     run_with_evictions(rt, &row, plan, &mut pass, lanes.as_mut_slice());
     let pass = gather(&row, pass, lanes, &mut answers, &mut endings);
-    let (words, pass) = row.close(pass, room);
+    let (words, pass) = row.close(pass);
     let ended = Ended {
         answers,
         endings,
