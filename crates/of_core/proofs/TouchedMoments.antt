@@ -19,7 +19,7 @@ use Rattle.of_core.specs.WordsMatch.{MayStart}
 use Rattle.of_core.specs.Invariant.{MeetsInvariant}
 use Rattle.of_core.specs.Events.{Event, Begins, Turns, Loads, Evicts, Raises, after_event, after_raise, MayHappen, machine_in, after_events, IsSchedule, opening_moment, start_ticket}
 use Rattle.of_core.specs.Footprint.{Touches, HasFootprint, footprint, try_steps, round_steps, apply_steps}
-use Rattle.of_core.specs.Touched.{longest_log, most_loads, most_tries, touched_bound, IsWithinTouched}
+use Rattle.of_core.specs.Touched.{longest_log, most_loads, most_tries, IsWithinTouched, TouchedBoundOfWrites, TouchedBoundOfTransfers}
 use Rattle.of_core.proofs.Stability.{log_in}
 use Rattle.of_core.proofs.Found.{found_now, stepped_is}
 use Rattle.of_core.proofs.Happenings.{event_good}
@@ -172,12 +172,10 @@ by_touch S Lawful sound B may some low own_in total room narrow little es s i h 
     sum : (s t u k r q a : ℕ) → s < t + k + (r + a) → t ≤ u → r ≤ q → s + 1 ≤ u + k + (q + a)
     sum s t u k r q a l x y = omega arith
 
--- three callers, a call of three words that may write, and no operation reads or writes more than
--- two cells
-worked : (S : Setup) (op : List ℕ) → S.callers ≡ 3 → S.instrs ≡ 16 → length op ≡ 3 → S.meaning.reads_only op ≡ false → touched_bound S op 2 2 ≡ 2269
-worked S op e d l r = rw (e, d, l, r) refl
+-- what the bound comes to, of a call that may write
+pub bound_of_writes : TouchedBoundOfWrites
+bound_of_writes S op r w q = rw q (grind arith)
 
--- and in general, of a call that may write
-worked_in_general : (S : Setup) (op : List ℕ) (r w : ℕ) → S.meaning.reads_only op ≡ false
-    → touched_bound S op r w ≡ 34 * (S.callers * (w + (S.instrs + 2))) + 3 * (S.callers * (r + S.instrs + 2)) + length op + 46
-worked_in_general S op r w q = rw q (grind arith)
+-- three callers, a call of three words, and no operation reads or writes more than two cells
+pub bound_of_transfers : TouchedBoundOfTransfers
+bound_of_transfers S op e d l r = rw (e, d, l, r) refl

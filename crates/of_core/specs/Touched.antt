@@ -1,6 +1,6 @@
 -- How many steps a call makes at most if the operations of its work touch few cells, whatever the
 -- size of the memory.
-use Rattle.std.specs.Prelude.{ℕ, ◌+◌, ◌*◌, List, Bool, true, false, ◌≤◌, ◌<◌}
+use Rattle.std.specs.Prelude.{ℕ, ◌+◌, ◌*◌, List, length, Bool, true, false, ◌≡◌, ◌≤◌, ◌<◌}
 use Rattle.of_mem.specs.Touching.{TouchesFew}
 use Rattle.of_core.specs.declared.machine.trying.TheConstants.{MOST_TRIES}
 use Rattle.of_core.specs.Table.{Setup}
@@ -42,3 +42,18 @@ ByTouch S Lawful = EachSchedule S Lawful (λ B n es.
     (i : ℕ) → i < S.callers
     → let m : CallState = machine_in (after_events S (opening_moment S B n) es) i in
     IsOpen m.place → IsWithinTouched S Lawful m.op (m.steps + 1))
+
+-- That bound, of a call that may write: it grows with the callers and with what their operations
+-- touch, and with nothing else.
+abbrev pub TouchedBoundOfWrites : Type 0
+TouchedBoundOfWrites =
+    (S : Setup) (op : List ℕ) (reads writes : ℕ) → S.meaning.reads_only op ≡ false
+    → touched_bound S op reads writes
+    ≡ 34 * (S.callers * (writes + (S.instrs + 2))) + 3 * (S.callers * (reads + S.instrs + 2))
+    + length op + 46
+
+-- three callers, two cells read and two written, and a call of three words that may write
+abbrev pub TouchedBoundOfTransfers : Type 0
+TouchedBoundOfTransfers =
+    (S : Setup) (op : List ℕ) → S.callers ≡ 3 → S.instrs ≡ 16 → length op ≡ 3
+    → S.meaning.reads_only op ≡ false → touched_bound S op 2 2 ≡ 2269

@@ -11,7 +11,7 @@ ghost use Rattle.of_core.specs.Laws.{EveryCallStands, TurnsCountSteps, EventsLea
 ghost use Rattle.of_core.specs.Laws.{EveryOrder, Detectable, RealTime, LateCalls, OwnTime, EveryLife};
 ghost use Rattle.of_core.specs.Commits.{DoneAfterTwoCommits, GivenUp, LostToCommits, OutcomesAreNew};
 ghost use Rattle.of_core.specs.Footprint.{ByFootprint};
-ghost use Rattle.of_core.specs.Touched.{ByTouch};
+ghost use Rattle.of_core.specs.Touched.{ByTouch, TouchedBoundOfWrites, TouchedBoundOfTransfers};
 ghost use Rattle.of_core.specs.Written.{LogsAreWrites, OwnersTakePart, CellsRise};
 ghost use Rattle.of_core.specs.Needed.{LoadsNeeded, CopiesOpenLogs};
 ghost use Rattle.of_core.specs.SpentRound.{SpentInRounds};
@@ -133,6 +133,13 @@ pub fn ends_in_time<W: Work>(limit: u32, work: W)
     ensures given_up { GivenUp (setup_for W.many W.size W.meaning limit work) (W.lawful work) }
     ensures lost { LostToCommits (setup_for W.many W.size W.meaning limit work) (W.lawful work) }
     ensures spent { SpentInRounds (setup_for W.many W.size W.meaning limit work) (W.lawful work) }
+{}
+
+/// How many steps the bound by what operations touch allows a call that may write. The second is a
+/// worked case: three callers whose operations read and write at most two cells.
+pub fn touched_bounds()
+    ensures writes { TouchedBoundOfWrites }
+    ensures transfers { TouchedBoundOfTransfers }
 {}
 
 /// What batches write, in every schedule. A batch's log is the writes of its calls, in order, with
