@@ -1,13 +1,12 @@
 -- A work whose operations are programs that make few reads and writes touches few cells.
-use Rattle.std.proofs.Common.{◌≡◌, ℕ, zero, suc, ◌+◌, ◌<◌, ◌≤◌, List, [], ◌∷◌, length, get_or, refl, sym, ◌∙◌, ap, subst, arith, Option, Some, None, Bool, true, false, cond}
+use Rattle.std.proofs.Common.{◌≡◌, ℕ, zero, suc, ◌≤◌, List, [], ◌∷◌, length, refl, sym, ◌∙◌, ap, subst, arith, Option, Some, None, Bool, true, false, cond}
 use Rattle.std.specs.List.{Contains}
 use Rattle.of_mem.specs.declared.work.RawReply.{RawReply}
-use Rattle.of_mem.specs.CellMap.{put_all}
-use Rattle.of_mem.specs.Meaning.{WalkEnd, Needs, Gives, Agrees}
+use Rattle.of_mem.specs.Meaning.{Needs, Gives, Agrees}
 use Rattle.of_mem.specs.Part.{Part, newest_at, write}
 use Rattle.of_mem.specs.Programs.{Program, Done, Read, Write, RunEnd, Lacks, Ends, run_program, with_number, with_value, program_writes, IsPartOf}
 use Rattle.of_mem.specs.ProgramWork.{memory_of, fresh_part, walk_of_run, meaning_of, AreSound}
-use Rattle.of_mem.specs.Touching.{StaysWithin, TouchesFew, program_reads, ReadsAtMost, WritesAtMost}
+use Rattle.of_mem.specs.Touching.{TouchesFew, program_reads, ReadsAtMost, WritesAtMost}
 use Rattle.of_mem.proofs.Runs.{part_wrote, run_ended}
 use Rattle.of_mem.proofs.Sounds.{part_fresh}
 use Rattle.of_mem.proofs.Writes.{put_all_few}

@@ -1,5 +1,5 @@
 -- What each cell holds, where a number is learnt, written, kept or undone.
-use Rattle.std.proofs.Common.{◌≡◌, ℕ, suc, ◌+◌, ◌<◌, ◌==◌, Bool, true, false, if◌then◌else◌, List, [], ◌∷◌, length, Option, Some, None, get_or, set, drop, refl, sym, ◌∙◌, ap, arith, length-set, ◌⊎◌, inl, inr}
+use Rattle.std.proofs.Common.{◌≡◌, ℕ, suc, ◌+◌, ◌<◌, ◌==◌, Bool, true, false, if◌then◌else◌, List, [], ◌∷◌, length, Option, Some, None, get_or, set, drop, refl, sym, subst, ◌∙◌, ap, arith, length-set, ◌⊎◌, inl, inr}
 use Rattle.std.proofs.lemmas.Bool.{cases_eq, eq-eqb}
 use Rattle.std.proofs.lemmas.Bool.Decides.{nat_tests}
 use Rattle.std.proofs.lemmas.List.{drop_more, get_or-drop, length-drop, get_or-set_same, get_or-set_other}
@@ -8,7 +8,8 @@ use Rattle.std.proofs.lemmas.Bool.{ne_eqb as differs}
 use Rattle.of_mem.specs.CellMap.{value_for, put_pair, put_all, entry_address, IsAbsent}
 use Rattle.of_mem.specs.WriteSet.{WriteSet, IsWriteSet}
 use Rattle.of_mem.specs.Part.{Part, newest_at, newer_of, learn, write, keep}
-use Rattle.of_mem.specs.Newest.{HasNewest}
+use Rattle.of_mem.specs.Newest.{HasNewest, part_of, HoldsNewest}
+use Rattle.of_mem.specs.TouchedCells.{TouchedCells, Meets}
 use Rattle.of_mem.proofs.WriteSets.{value_at_put, value_at-absent}
 
 -- the older of two lists of pairs has no address twice
@@ -36,7 +37,7 @@ value_at_put_all ds (e ∷ es) a once = value_at_put_all (put_pair ds e.0 e.1) e
     go false q = refl
 
 -- what is learnt shows where neither batch nor script has a number
-pub newest_learnt : (p : Part) (cells : List (Option ℕ)) (a v : ℕ) → a < length p.known → HasNewest p cells
+newest_learnt : (p : Part) (cells : List (Option ℕ)) (a v : ℕ) → a < length p.known → HasNewest p cells
     → HasNewest (learn p a v) (set cells a (option_or (option_or (value_for p.script a) (value_for p.batch a)) (Some v)))
 unfolding newest_at
 newest_learnt p cells a v l h = record {
@@ -55,6 +56,29 @@ newest_learnt p cells a v l h = record {
     at : (b : ℕ) → b < length p.known → (b ≡ a) ⊎ (b ≡ a → ⊥) → get_or (set cells a held) b None ≡ newer_of (value_for p.script b) (newer_of (value_for p.batch b) (get_or (set p.known a (Some v)) b None))
     at b m (inl q) = rw (q, get_or-set_same p.known a (Some v) None l) (get_or-set_same cells a held None (omega (arith, h.size, l)) ∙ same (value_for p.script a) (value_for p.batch a))
     at b m (inr n) = rw (get_or-set_other p.known a b (Some v) None n) (get_or-set_other cells a b held None n ∙ h.at b m)
+
+pub holds_learnt : (c : TouchedCells) (b s : WriteSet) (a v : ℕ) → a < length c.known → HoldsNewest c b s
+    → HoldsNewest (record { known = set c.known a (Some v); newest = set c.newest a (option_or (option_or (value_for s.entries a) (value_for b.entries a)) (Some v)) }) b s
+holds_learnt c b s a v l h =
+    let size = sym (length-set c.known a (Some v)) in
+    record {
+      batch = h.batch ∙ size;
+      script = h.script ∙ size;
+      newest = newest_learnt (part_of c b s) c.newest a v l h.newest;
+    }
+
+-- a cell that had no number holds the one that it gets
+pub holds_met : (c d : TouchedCells) (b s : WriteSet) (a v : ℕ) → a < length c.known → Meets c d a v true → HoldsNewest c b s → HoldsNewest d b s
+unfolding newest_at
+holds_met c d b s a v l m h = rw m.2 (subst (λ (o : Option ℕ). HoldsNewest (record { known = set c.known a (Some v); newest = set c.newest a o }) b s) here (holds_learnt c b s a v l h))
+  where
+    first : (o q r : Option ℕ) → newer_of o (newer_of q r) ≡ None → option_or (option_or o q) (Some v) ≡ Some v
+    first None None r e = refl
+    first None (Some w) r e = cc
+    first (Some w) q r e = cc
+
+    here : option_or (option_or (value_for s.entries a) (value_for b.entries a)) (Some v) ≡ Some v
+    here = first (value_for s.entries a) (value_for b.entries a) (get_or c.known a None) (sym (h.newest.at a l) ∙ m.1)
 
 pub newest_wrote : (p : Part) (cells : List (Option ℕ)) (a v : ℕ) → a < length p.known → HasNewest p cells → HasNewest (write p a v) (set cells a (Some v))
 unfolding newest_at write

@@ -3,7 +3,6 @@
 
 mod index;
 pub mod laws;
-mod layers;
 mod part;
 mod plot;
 mod suspended_run;

@@ -3,16 +3,18 @@
 ghost use Rattle.std.specs.Prelude.{◌≡◌, ◌<◌, ◌≤◌, ◌%◌, [], length, slice_index_or, IfOk, None};
 ghost use Rattle.std.proofs.Common.{get_or, is_some};
 ghost use Rattle.of_mem.specs.Part.{empty_part, learn, write, keep, ReadsAt};
+ghost use Rattle.of_mem.specs.Newest.{HoldsNewest};
 ghost use Rattle.of_mem.specs.declared.plot.TheConstants.{BUCKETS};
 ghost use Rattle.of_mem.specs.Places.{bucket_at};
 ghost use Rattle.of_mem.specs.Plots.{base};
 ghost use Rattle.of_mem.specs.Walks.{Passes};
 
-use crate::layers::Layers;
 use crate::plot::{BUCKETS, Plot};
+use crate::touched_cells::TouchedCells;
 use crate::write_set::WriteSet;
 use std::alloc::{AllocError, Global};
 use std::marker::Model;
+use std::mem;
 
 /// The cell that a run needs next, and that isn't known.
 #[derive(Clone, Copy, Debug, PartialEq, Eq)]
@@ -41,9 +43,13 @@ struct KeyWalk {
 /// script, each in order of first writing. Only `new` takes memory.
 #[derive(Drop)]
 pub struct Part {
-    layers: Layers,
-    // Whether the script's writes are undone, though they still stand in the layers: a script that
-    // goes on where it stopped has written the same.
+    // What is known of each cell, and beside it what it holds under batch and script, so that a
+    // read is one look-up.
+    cells: TouchedCells,
+    batch: WriteSet,
+    script: WriteSet,
+    // Whether the script's writes are undone, though they are still there: a script that goes on
+    // where it stopped has written the same.
     undone: bool,
     // The last walk of a key that was kept, so that a run that lacked a cell goes on in the middle
     // of a bucket. None is kept where it passed no block.
@@ -57,26 +63,33 @@ impl Model for Part {
 
     ghost use Rattle.std.specs.Prelude.{◌≤◌, ◌%◌};
     ghost use Rattle.of_mem.specs.declared.plot.TheConstants.{BUCKETS};
+    ghost use Rattle.of_mem.specs.Newest.{part_of, HoldsNewest};
     ghost use Rattle.of_mem.specs.Part.{visible};
     ghost use Rattle.of_mem.specs.Places.{bucket_at};
     ghost use Rattle.of_mem.specs.Walks.{Passes};
 
-    ghost view = { λ p. visible p.undone p.layers };
+    ghost view = { λ p. visible p.undone (part_of p.cells p.batch p.script) };
 
-    ghost invariant = { λ p. 1 ≤ p.last.walk.passed
-        → Passes p.last.base p.last.key p.layers p.last.walk.passed
-        (bucket_at p.last.base (p.last.key % BUCKETS)) p.last.walk.cell };
+    ghost invariant = { λ p. HoldsNewest p.cells p.batch p.script
+        × (1 ≤ p.last.walk.passed
+        → Passes p.last.base p.last.key (part_of p.cells p.batch p.script) p.last.walk.passed
+        (bucket_at p.last.base (p.last.key % BUCKETS)) p.last.walk.cell) };
 }
 
+#[tactic(auto, unfolding(crate::specs::Part::newest_at, crate::specs::Part::write))]
 impl Part {
     /// A memory of the cells below `cells` of which nothing is known. The error is that there is no
     /// memory.
     pub fn new(alloc: Global, cells: u32) -> Result<Self, AllocError>
         ensures { IfOk result (λ p. p ≡ empty_part cells) }
     {
-        let layers = Layers::new(alloc, cells)?;
+        let batch = WriteSet::new(alloc, cells)?;
+        let script = WriteSet::new(alloc, cells)?;
+        let cells = TouchedCells::new(alloc, cells)?;
         Ok(Part {
-            layers,
+            cells,
+            batch,
+            script,
             undone: false,
             last: KeyWalk {
                 base: 0,
@@ -100,7 +113,23 @@ impl Part {
         ensures learnt { self.new ≡ learn self.old addr value }
         ensures before { result ≡ is_some (get_or self.old.known addr None) }
     {
-        let before = self.layers.learn(addr, value);
+        if self.cells.meet(addr, value) {
+            return false;
+        }
+        self.learn_under(addr, value)
+    }
+
+    // The same, of a cell that may have been known or written before.
+    #[cold]
+    #[inline(never)]
+    fn learn_under(&mut self, addr: u32, value: u32) -> bool
+        requires { addr < length self.old.known }
+        ensures learnt { self.new ≡ learn self.old addr value }
+        ensures before { result ≡ is_some (get_or self.old.known addr None) }
+    {
+        let before = self.cells.known(addr).is_some();
+        let over = self.script.get(addr).or(self.batch.get(addr));
+        self.cells.set(addr, Some(value), over.or(Some(value)));
         if before {
             self.last.walk.passed = 0;
         }
@@ -115,9 +144,25 @@ impl Part {
         ensures { ReadsAt self.now addr result }
     {
         if self.undone {
-            self.layers.read_under(addr)
-        } else {
-            self.layers.read(addr)
+            return self.read_under(addr);
+        }
+        match self.cells.newest(addr) {
+            Some(value) => Ok(value),
+            None => Err(Need { addr }),
+        }
+    }
+
+    // What a cell holds under what the script wrote.
+    // out of line: mostly the script's writes count
+    #[cold]
+    #[inline(never)]
+    fn read_under(&self, addr: u32) -> Result<u32, Need>
+        requires { addr < length self.now.known }
+        ensures { ReadsAt (record self.now { script = [] }) addr result }
+    {
+        match self.batch.get(addr).or(self.cells.known(addr)) {
+            Some(value) => Ok(value),
+            None => Err(Need { addr }),
         }
     }
 
@@ -129,11 +174,12 @@ impl Part {
         ensures batch { self.new.batch ≡ self.old.batch }
     {
         if self.undone {
-            self.layers.undo();
+            take_back(&mut self.cells, &self.batch, &mut self.script);
             self.undone = false;
         }
         self.last.walk.passed = 0;
-        self.layers.write(addr, value);
+        self.script.put(addr, value);
+        self.cells.hold(addr, Some(value));
     }
 
     /// How many cells the script wrote.
@@ -141,11 +187,7 @@ impl Part {
         ensures value { result ≡ length self.now.script }
         ensures few { length self.now.script ≤ length self.now.known }
     {
-        if self.undone {
-            0
-        } else {
-            self.layers.pending_len()
-        }
+        if self.undone { 0 } else { self.script.len() }
     }
 
     /// A cell that the script wrote and its number, in order of first writing.
@@ -154,7 +196,7 @@ impl Part {
         ensures value { result ≡ slice_index_or self.now.script i (0, 0) }
         ensures below { result.0 < length self.now.known }
     {
-        self.layers.pending(i)
+        self.script.entry(i)
     }
 
     /// Hands what the script wrote to the batch.
@@ -162,11 +204,20 @@ impl Part {
         ensures { self.new ≡ keep self.old }
     {
         if self.undone {
-            self.layers.undo();
-            self.undone = false;
+            return;
         }
         self.last.walk.passed = 0;
-        self.layers.keep();
+        let count = self.script.len();
+        // over an empty batch the script's writes are the batch's
+        if self.batch.is_empty() {
+            mem::swap(&mut self.batch, &mut self.script);
+            return;
+        }
+        for i in 0..count {
+            let (addr, value) = self.script.entry(i);
+            self.batch.put(addr, value);
+        }
+        self.script.clear();
     }
 
     /// Forgets what the script wrote.
@@ -180,7 +231,9 @@ impl Part {
     pub fn clear(&mut self)
         ensures { self.new ≡ empty_part (length self.old.known) }
     {
-        self.layers.clear();
+        self.cells.clear();
+        self.batch.clear();
+        self.script.clear();
         self.undone = false;
         self.last.walk.passed = 0;
     }
@@ -228,7 +281,7 @@ impl Part {
         if self.undone {
             to.clear();
         } else {
-            self.layers.copy_script(to);
+            to.copy_from(&self.script);
         }
     }
 
@@ -238,10 +291,42 @@ impl Part {
         requires { writes.now.room ≡ length self.old.known }
         ensures { self.new ≡ record self.old { script = writes.now.entries } }
     {
-        if !self.layers.has_written(writes) {
-            self.last.walk.passed = 0;
-            self.layers.set_script(writes);
+        if self.script.has_entries_of(writes) {
+            self.undone = false;
+        } else {
+            self.write_anew(writes);
         }
-        self.undone = false;
     }
+
+    // Takes back what the script wrote, and writes these.
+    // out of line: mostly the script has written them
+    #[cold]
+    #[inline(never)]
+    fn write_anew(&mut self, writes: &WriteSet)
+        requires { writes.now.room ≡ length self.old.known }
+        ensures { self.new ≡ record self.old { script = writes.now.entries } }
+    {
+        take_back(&mut self.cells, &self.batch, &mut self.script);
+        self.undone = false;
+        self.last.walk.passed = 0;
+        for i in 0..writes.len() {
+            let (addr, value) = writes.entry(i);
+            self.write(addr, value);
+        }
+    }
+}
+
+// Takes back what a script wrote: its cells hold again what they hold under it.
+fn take_back(cells: &mut TouchedCells, batch: &WriteSet, script: &mut WriteSet)
+    requires { HoldsNewest cells.old batch.now script.old }
+    ensures newest { HoldsNewest cells.new batch.now script.new }
+    ensures known { cells.new.known ≡ cells.old.known }
+    ensures none { script.new ≡ record script.old { entries = [] } }
+{
+    for i in 0..script.len() {
+        let (addr, _) = script.entry(i);
+        let under = batch.get(addr).or(cells.known(addr));
+        cells.hold(addr, under);
+    }
+    script.clear();
 }

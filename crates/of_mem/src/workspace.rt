@@ -1,15 +1,16 @@
 //! Partial memory, and what a work keeps over it.
 
-ghost use Rattle.std.specs.Prelude.{◌≡◌, ◌<◌, ◌≤◌, [], length, slice_index_or, IfOk};
-ghost use Rattle.of_mem.specs.Part.{empty_part, learn, write, keep, ReadsAt};
+ghost use Rattle.std.specs.Prelude.{◌≡◌, ◌<◌, [], length, IfOk};
+ghost use Rattle.of_mem.specs.Part.{empty_part, learn, write, keep};
 
-use crate::part::{Need, Part};
+use crate::part::Part;
 use crate::suspended_run::{MaySuspend, SuspendedRun};
 use std::alloc::{AllocError, Global};
 use std::marker::{Model, PhantomData};
 
 /// Partial memory, and what a work keeps between two runs over it. A contract sees the memory
-/// alone, as that of `Part`. Only `new` takes memory.
+/// alone, as that of `Part`; `part` lends it to be read, and what changes it goes through the calls
+/// here, since they forget what no longer holds. Only `new` takes memory.
 #[derive(Drop)]
 pub struct Workspace<W: MaySuspend> {
     pub(crate) part: Part,
@@ -45,6 +46,13 @@ impl<W: MaySuspend> Workspace<W> {
         })
     }
 
+    /// The memory, to be read.
+    pub fn part(&self) -> &Part
+        ensures { result.now ≡ self.now }
+    {
+        &self.part
+    }
+
     /// Makes a cell's number known. What was kept is forgotten where it was known already.
     pub fn learn(&mut self, addr: u32, value: u32)
         requires { addr < length self.old.known }
@@ -55,15 +63,6 @@ impl<W: MaySuspend> Workspace<W> {
         }
     }
 
-    /// What a cell holds: the script's number, else the batch's, else the known one. The error
-    /// names the cell where there is none.
-    pub fn read(&self, addr: u32) -> Result<u32, Need>
-        requires { addr < length self.now.known }
-        ensures { ReadsAt self.now addr result }
-    {
-        self.part.read(addr)
-    }
-
     /// Writes a number for the script.
     pub fn write(&mut self, addr: u32, value: u32)
         requires { addr < length self.old.known }
@@ -72,23 +71,6 @@ impl<W: MaySuspend> Workspace<W> {
         ensures batch { self.new.batch ≡ self.old.batch }
     {
         self.part.write(addr, value);
-    }
-
-    /// How many cells the script wrote.
-    pub fn pending_len(&self) -> u32
-        ensures value { result ≡ length self.now.script }
-        ensures few { length self.now.script ≤ length self.now.known }
-    {
-        self.part.pending_len()
-    }
-
-    /// A cell that the script wrote and its number, in order of first writing.
-    pub fn pending(&self, i: u32) -> (u32, u32)
-        requires { i < length self.now.script }
-        ensures value { result ≡ slice_index_or self.now.script i (0, 0) }
-        ensures below { result.0 < length self.now.known }
-    {
-        self.part.pending(i)
     }
 
     /// Hands what the script wrote to the batch.

@@ -18,8 +18,9 @@ pub fn hand_to_log<W: MaySuspend>(part: &mut Workspace<W>, log: &mut WriteSet)
     ensures log { log.new ≡ record log.old { entries = put_all log.old.entries part.old.script } }
     ensures part { part.new ≡ keep part.old }
 {
-    for i in 0..part.pending_len() {
-        let (addr, value) = part.pending(i);
+    let written = part.part();
+    for i in 0..written.pending_len() {
+        let (addr, value) = written.pending(i);
         log.put(addr, value);
     }
     part.keep();

@@ -73,7 +73,7 @@ impl<W: Work> Machine<W> {
         ensures { self.new ≡ step_from W.meaning Place.LoadAnnouncement found self.old }
     {
         self.heard = found;
-        match self.part.read(self.scan * OWN_CELLS) {
+        match self.part.part().read(self.scan * OWN_CELLS) {
             Ok(ticket) => self.weigh(ticket < seq_of(found)),
             Err(_) => {
                 self.place = Place::LoadTicket;

@@ -61,7 +61,7 @@ impl Cells {
     {
         let mut cells = Vec::new(alloc);
         for cell in 0..self.scripts.cells() {
-            cells.push(self.part.read(cell).unwrap())?;
+            cells.push(self.part.part().read(cell).unwrap())?;
         }
         match lawful(alloc, &self.scripts.plot(), &cells) {
             Ok(store) => Ok(store),

@@ -11,7 +11,7 @@ returns-in-Ok g c =
     let batch : c.self.inside.part.batch ≡ c.self.inside.log.entries = c.self.invariant.room.scanning (rw at refl) in
     let unnamed : value_for c.self.inside.log.entries (c.self.inside.scan * (MOST_INSTRS + 2)) ≡ None = rw (← c.self.view_is) at c.requires.unnamed in
     let none : value_for c.self.inside.part.batch (c.self.inside.scan * (MOST_INSTRS + 2)) ≡ None = rw batch unnamed in
-    let known : get_or c.self.inside.part.known (c.self.inside.scan * (MOST_INSTRS + 2)) None ≡ Some c.in-Ok.ticket = sym (newest_known c.self.inside.part (c.self.inside.scan * (MOST_INSTRS + 2)) c.self.invariant.room.empty none) ∙ c.in-Ok.ensures in
+    let known : get_or c.self.inside.part.known (c.self.inside.scan * (MOST_INSTRS + 2)) None ≡ Some c.in-Ok.ticket = sym (newest_known c.self.inside.part (c.self.inside.scan * (MOST_INSTRS + 2)) c.self.invariant.room.empty none) ∙ rw (← c.part.ensures) c.in-Ok.ensures in
     rw (← c.self.view_is, known, ← c.seq_of.ensures) c.weigh.ensures
 
 pub returns-in-Err : goal.returns-in-Err
@@ -20,5 +20,5 @@ returns-in-Err g c =
     let batch : c.self.inside.part.batch ≡ c.self.inside.log.entries = c.self.invariant.room.scanning (rw at refl) in
     let unnamed : value_for c.self.inside.log.entries (c.self.inside.scan * (MOST_INSTRS + 2)) ≡ None = rw (← c.self.view_is) at c.requires.unnamed in
     let none : value_for c.self.inside.part.batch (c.self.inside.scan * (MOST_INSTRS + 2)) ≡ None = rw batch unnamed in
-    let known : get_or c.self.inside.part.known (c.self.inside.scan * (MOST_INSTRS + 2)) None ≡ None = sym (newest_known c.self.inside.part (c.self.inside.scan * (MOST_INSTRS + 2)) c.self.invariant.room.empty none) ∙ c.in-Err.ensures.0 in
+    let known : get_or c.self.inside.part.known (c.self.inside.scan * (MOST_INSTRS + 2)) None ≡ None = sym (newest_known c.self.inside.part (c.self.inside.scan * (MOST_INSTRS + 2)) c.self.invariant.room.empty none) ∙ rw (← c.part.ensures) c.in-Err.ensures.0 in
     rw (← c.self.view_is, known) refl

@@ -1,7 +1,8 @@
 use Rattle.std.proofs.Common.{ℕ, ◌<◌, List, length, get_or, ◌∙◌, ap, refl, arith}
+use Rattle.of_mem.specs.Newest.{part_of}
 use Rattle.of_mem.specs.Part.{Part, write}
 use Rattle.of_mem.proofs.Writes.{put_next}
-use Rattle.of_mem.proofs.layers.Layers.set_script.Goals as goal
+use Rattle.of_mem.proofs.part.Part.write_anew.Goals as goal
 
 pub loop-i-preserved : goal.loop-i-preserved
 unfolding write
@@ -9,7 +10,7 @@ loop-i-preserved c =
     let es : List (ℕ × ℕ) = c.args.writes.now.entries in
     let i : ℕ = c.loop-i.i in
     let here : i < length es = omega (arith, c.len-i-end.ensures.value) in
-    let p : Part = c.undo.new.self in
+    let p : Part = part_of c.take_back.new.cells c.self.inside.batch c.take_back.new.script in
     record {
       written = c.write.ensures.writes
           ∙ ap (λ (e : ℕ × ℕ). write c.loop-i.self e.0 e.1) c.entry-addr.ensures.value

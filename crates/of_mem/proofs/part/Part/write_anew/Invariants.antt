@@ -1,5 +1,5 @@
 use Rattle.std.proofs.Common.{◌≡◌, take}
-use Rattle.of_mem.proofs.layers.Layers.set_script.Given as goal
+use Rattle.of_mem.proofs.part.Part.write_anew.Given as goal
 
 abbrev pub invariant-loop-i : goal.invariant-loop-i
 invariant-loop-i l = record {
