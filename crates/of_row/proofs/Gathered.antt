@@ -1,4 +1,4 @@
--- A pass that keeps a caller of each number that is taken: it may hear of all events, and each word
+-- A pass that keeps a caller of each number that is taken: it may learn of all events, and each word
 -- that it loads from then on is that of the moment which they leave.
 use Rattle.std.proofs.Common.{◌≡◌, ◌==◌, ℕ, zero, suc, ◌+◌, ◌<◌, ◌≤◌, ◌⊎◌, inl, inr, false, Option, Some, List, [], ◌∷◌, ◌++◌, length, get_or, set, refl, sym, ◌∙◌, ap, subst, arith}
 use Rattle.std.specs.Int.{bit_at}
@@ -20,7 +20,7 @@ use Rattle.of_mem.proofs.Lists.{prefix_trans}
 use Rattle.of_row.specs.Trail.{first_of, moment, TurnIsNext, AreSteps, IsRunBy}
 use Rattle.of_row.specs.Rule.{members_of, IsFirstPassView, IsRaised, IsCallerKept, ViewFits, MeetsRule}
 use Rattle.of_row.specs.Keys.{key_setup, key_start}
-use Rattle.of_row.specs.Gathered.{IsGathered, HasHeard, HasWholePast, HearsAll, IsWordOfPast, HearsAllOf, IsWordOfPastOf}
+use Rattle.of_row.specs.Gathered.{IsGathered, HasLongerPast, HasWholePast, LearnsAll, IsWordOfPast, LearnsAllOf, IsWordOfPastOf}
 use Rattle.of_row.proofs.AtOnce.{raised_already}
 use Rattle.of_row.proofs.Events.{turns_append}
 use Rattle.of_row.proofs.Fixed.{allows_with}
@@ -100,14 +100,14 @@ module _ (S : Setup) (L : List ℕ → Type 0) (B : TableStart) (s : State (Unit
   evicts = sym (append-nil v.evicted) ∙ (ap (λ (l : List (ℕ × ℕ)). v.evicted ++ l) (sym here.none) ∙ chief.evicts)
 
   -- the view with all events for its past
-  abbrev heard : View
-  heard = record v { past = r.events }
+  abbrev learnt : View
+  learnt = record v { past = r.events }
 
-  heard_fits : ViewFits S B s.words r.events r.home r.chief id heard
-  heard_fits = record {
+  learnt_fits : ViewFits S B s.words r.events r.home r.chief id learnt
+  learnt_fits = record {
     seen = fits.seen;
     past = prefix_self r.events;
-    met = each_map (KnowsStill v) (KnowsStill heard) v.met (λ k p. (p.0, prefix_trans k.past v.past r.events p.1 fits.past)) fits.met;
+    met = each_map (KnowsStill v) (KnowsStill learnt) v.met (λ k p. (p.0, prefix_trans k.past v.past r.events p.1 fits.past)) fits.met;
     kept = fits.kept;
     apart = fits.apart;
     runs = fits.runs;
@@ -116,16 +116,16 @@ module _ (S : Setup) (L : List ℕ → Type 0) (B : TableStart) (s : State (Unit
     first = λ q. record { here = chief.here; asked = chief.asked; set = chief.set; evicts = chief.evicts };
   }
 
-  whole : HasWholePast S B heard
+  whole : HasWholePast S B learnt
   whole = record {
     runs = fits.runs;
     evicts = evicts;
     raised = each_map (IsRaised S s.words) (IsRaised S (moment S B r.events).words) v.evicted (λ e q. (q.0, let same = word_at S L B s r (durable_at S e.0) (omega (arith, q.0)) in omega (arith, q.1, same))) fits.raised;
   }
 
-  pub hears : HearsAll S L B v heard
-  hears = record {
-    heard = (fits.past, refl);
+  pub learns : LearnsAll S L B v learnt
+  learns = record {
+    learnt = (fits.past, refl);
     whole = whole;
     words = s.words;
     meets = record { state = s; rule = r; words = refl; seat = id; view = at };
@@ -133,13 +133,13 @@ module _ (S : Setup) (L : List ℕ → Type 0) (B : TableStart) (s : State (Unit
   }
 
   -- the rule with that view
-  pub hears_rule : MeetsRule S L B record { words = s.words; homes = s.homes; views = set s.views id heard }
-  hears_rule = other_views S L B s r r.home (set s.views id heard) (seats_set (ViewFits S B s.words r.events r.home r.chief) (ViewFits S B s.words r.events r.home r.chief) s.views id heard r.each (λ j u away p alive g. g) (λ _. heard_fits))
+  pub learns_rule : MeetsRule S L B record { words = s.words; homes = s.homes; views = set s.views id learnt }
+  learns_rule = other_views S L B s r r.home (set s.views id learnt) (seats_set (ViewFits S B s.words r.events r.home r.chief) (ViewFits S B s.words r.events r.home r.chief) s.views id learnt r.each (λ j u away p alive g. g) (λ _. learnt_fits))
 
   pub same_rule : MeetsRule S L B record { words = s.words; homes = s.homes; views = set s.views id v }
   same_rule = other_views S L B s r r.home (set s.views id v) (seats_set (ViewFits S B s.words r.events r.home r.chief) (ViewFits S B s.words r.events r.home r.chief) s.views id v r.each (λ j u away p alive g. g) (λ _. fits))
 
-  -- If it has heard of all events, what has come since has changed no word.
+  -- If it has learnt of all events, what has come since has changed no word.
   module _ (known : HasWholePast S B v) where
     rest : List Event
     rest = fits.past.0
@@ -175,22 +175,22 @@ module _ (S : Setup) (L : List ℕ → Type 0) (B : TableStart) (s : State (Unit
     pub finds : (c : ℕ) → c < words_before_members S → IsWordOfPast S B v c (get_or s.words c 0)
     finds c low = word_at S L B s r c low ∙ ap (λ (ws : List ℕ). get_or ws c 0) stay
 
--- ---- a pass that has heard
+-- ---- a pass that has learnt
 
 -- it stays gathered
-pub gathered_still : (n : ℕ) (v w : View) → HasHeard v w → IsGathered n v → IsGathered n w
+pub gathered_still : (n : ℕ) (v w : View) → HasLongerPast v w → IsGathered n v → IsGathered n w
 gathered_still n v w h g = subst (IsGathered n) (sym h.1) record { first = g.first; none = g.none; keeps = g.keeps }
 
 -- ---- the loads
 
--- the pass hears of all events
-pub hears_so : (S : Setup) (L : List ℕ → Type 0) (B : TableStart) (slots id c : ℕ) (me : Me (Unit {0}) View) → me.0.spent ≡ false → IsGathered S.callers me.0 → Allows (MeetsRule S L B) slots id me c (λ n. n) (λ n after. (after.1 ≡ me.1) × HearsAll S L B me.0 after.0)
-hears_so S L B slots id c me live here s r _ at small = (
-  heard S L B s r id me.0 at live here,
+-- the pass learns of all events
+pub learns_so : (S : Setup) (L : List ℕ → Type 0) (B : TableStart) (slots id c : ℕ) (me : Me (Unit {0}) View) → me.0.spent ≡ false → IsGathered S.callers me.0 → Allows (MeetsRule S L B) slots id me c (λ n. n) (λ n after. (after.1 ≡ me.1) × LearnsAll S L B me.0 after.0)
+learns_so S L B slots id c me live here s r _ at small = (
+  learnt S L B s r id me.0 at live here,
   keeps,
   tt,
-  loads_so S L B s c (set s.views id (heard S L B s r id me.0 at live here)) (hears_rule S L B s r id me.0 at live here),
-  (refl, hears S L B s r id me.0 at live here),
+  loads_so S L B s c (set s.views id (learnt S L B s r id me.0 at live here)) (learns_rule S L B s r id me.0 at live here),
+  (refl, learns S L B s r id me.0 at live here),
 )
 
 -- it loads a word
@@ -205,14 +205,14 @@ finds_so S L B slots id c me low live here known s r _ at small = (
 )
 
 -- the same, where the load is told the row's key
-pub hears_for : {X : Type 0} (meaning : X → Meaning) (lawful : X → List ℕ → Type 0) (Z : Type 0) (key : RowKey X) (told : Option (RowKey X)) → told ≡ Some key → (slots id c : ℕ) (me : Me (Unit {0}) View) → me.0.spent ≡ false → IsGathered key.callers me.0
-    → Allows (λ s. Z × MeetsRule (key_setup meaning key) (lawful key.work) (key_start meaning key) s) slots id me c (λ n. n) (λ n after. (after.1 ≡ me.1) × HearsAllOf meaning lawful told me.0 after.0)
-hears_for {X} meaning lawful Z key told is slots id c me live here =
+pub learns_for : {X : Type 0} (meaning : X → Meaning) (lawful : X → List ℕ → Type 0) (Z : Type 0) (key : RowKey X) (told : Option (RowKey X)) → told ≡ Some key → (slots id c : ℕ) (me : Me (Unit {0}) View) → me.0.spent ≡ false → IsGathered key.callers me.0
+    → Allows (λ s. Z × MeetsRule (key_setup meaning key) (lawful key.work) (key_start meaning key) s) slots id me c (λ n. n) (λ n after. (after.1 ≡ me.1) × LearnsAllOf meaning lawful told me.0 after.0)
+learns_for {X} meaning lawful Z key told is slots id c me live here =
     let S : Setup = key_setup meaning key in
     let L : List ℕ → Type 0 = lawful key.work in
     let B : TableStart = key_start meaning key in
-    subst (λ (o : Option (RowKey X)). Allows (λ s. Z × MeetsRule S L B s) slots id me c (λ n. n) (λ n after. (after.1 ≡ me.1) × HearsAllOf meaning lawful o me.0 after.0)) (sym is)
-    (allows_with Z (MeetsRule S L B) slots id me c (λ n. n) (λ n after. (after.1 ≡ me.1) × HearsAll S L B me.0 after.0) (λ _. hears_so S L B slots id c me live here))
+    subst (λ (o : Option (RowKey X)). Allows (λ s. Z × MeetsRule S L B s) slots id me c (λ n. n) (λ n after. (after.1 ≡ me.1) × LearnsAllOf meaning lawful o me.0 after.0)) (sym is)
+    (allows_with Z (MeetsRule S L B) slots id me c (λ n. n) (λ n after. (after.1 ≡ me.1) × LearnsAll S L B me.0 after.0) (λ _. learns_so S L B slots id c me live here))
 
 pub finds_for : {X : Type 0} (meaning : X → Meaning) (lawful : X → List ℕ → Type 0) (Z : Type 0) (key : RowKey X) (told : Option (RowKey X)) → told ≡ Some key → (slots id c : ℕ) (me : Me (Unit {0}) View) → c < words_before_members (key_setup meaning key) → me.0.spent ≡ false → IsGathered key.callers me.0
     → HasWholePast (key_setup meaning key) (key_start meaning key) me.0

@@ -1,5 +1,5 @@
 -- The row's first pass, while it keeps a caller of each number that is taken: nobody else makes a
--- step, so it may hear of all events, and each word that it loads is then that of one moment.
+-- step, so it may learn of all events, and each word that it loads is then that of one moment.
 use Rattle.std.specs.Prelude.{◌≡◌, ℕ, ◌<◌, List, [], true, Option, Some, None}
 use Rattle.std.specs.List.{AllByRecursion as Each}
 use Rattle.std.proofs.Common.{get_or}
@@ -24,8 +24,8 @@ pub record IsGathered (callers : ℕ) (v : View) : Type 0 where
   pub keeps : KeepsAsked callers v
 
 -- the second view is the first one, of which the past has gone on
-abbrev pub HasHeard : (before now : View) → Type 0
-HasHeard v w = IsPrefix v.past w.past × (w ≡ record v { past = w.past })
+abbrev pub HasLongerPast : (before now : View) → Type 0
+HasLongerPast v w = IsPrefix v.past w.past × (w ≡ record v { past = w.past })
 
 -- the view's past has all that those did whom it keeps, and all its evictions, each of which has
 -- raised the durable word
@@ -34,11 +34,11 @@ pub record HasWholePast (S : Setup) (B : TableStart) (v : View) : Type 0 where
   pub evicts : v.evicted ≡ (moment S B v.past).loaded
   pub raised : Each (IsRaised S (moment S B v.past).words) v.evicted
 
--- The view v has heard of all events and is w now. The words at this moment meet the rule with v;
+-- The view v has learnt of all events and is w now. The words at this moment meet the rule with v;
 -- those of the table itself are what the events leave.
-pub record HearsAll (S : Setup) (Lawful : List ℕ → Type 0) (B : TableStart) (v w : View)
+pub record LearnsAll (S : Setup) (Lawful : List ℕ → Type 0) (B : TableStart) (v w : View)
     : Type 0 where
-  pub heard : HasHeard v w
+  pub learnt : HasLongerPast v w
   pub whole : HasWholePast S B w
   pub words : List ℕ
   pub meets : ViewMeetsRule S Lawful B words v
@@ -50,11 +50,11 @@ abbrev pub IsWordOfPast : Setup → TableStart → View → (c word : ℕ) → T
 IsWordOfPast S B v c word = word ≡ get_or (moment S B v.past).words c 0
 
 -- the same on the row with this key, where a load was told it
-abbrev pub HearsAllOf : {W : Type 0} → (W → Meaning) → (W → List ℕ → Type 0) → Option (RowKey W)
+abbrev pub LearnsAllOf : {W : Type 0} → (W → Meaning) → (W → List ℕ → Type 0) → Option (RowKey W)
     → View → View → Type 0
-HearsAllOf meaning lawful None v w = Unit {0}
-HearsAllOf meaning lawful (Some k) v w =
-    HearsAll (key_setup meaning k) (lawful k.work) (key_start meaning k) v w
+LearnsAllOf meaning lawful None v w = Unit {0}
+LearnsAllOf meaning lawful (Some k) v w =
+    LearnsAll (key_setup meaning k) (lawful k.work) (key_start meaning k) v w
 
 abbrev pub IsWordOfPastOf : {W : Type 0} → (W → Meaning) → Option (RowKey W) → View → (c word : ℕ)
     → Type 0

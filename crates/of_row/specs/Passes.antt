@@ -10,7 +10,7 @@ use Rattle.of_row.specs.declared.member.Taken.{Taken}
 use Rattle.of_row.specs.declared.row.Row.{Row}
 use Rattle.of_row.specs.Views.{KnownCaller, View, first_view, seen_seq}
 use Rattle.of_row.specs.Trail.{moment}
-use Rattle.of_row.specs.Gathered.{HasWholePast, HearsAll}
+use Rattle.of_row.specs.Gathered.{HasWholePast, LearnsAll}
 use Rattle.of_row.specs.Rule.{HasOwn, IsAsked, ViewMeetsRule, done_before}
 use Rattle.of_row.specs.Turned.{after_ask, after_number_given, new_known_caller, last_alone, after_fetch, after_evict}
 use Rattle.of_row.specs.Rows.{key_of, setup_at, row_start, view_of_pass, view_of_member}
@@ -79,10 +79,10 @@ abbrev pub KnowsAllDone : {W : Type 0} → (W → Meaning) → Row W → View �
 KnowsAllDone meaning r v = HasWholePast (setup_at meaning r) (row_start meaning r) v
 
 -- the view v has heard of all events of the row and is w now
-abbrev pub HearsAllAt : {W : Type 0} → (W → Meaning) → (W → List ℕ → Type 0) → Row W → View → View
+abbrev pub LearnsAllAt : {W : Type 0} → (W → Meaning) → (W → List ℕ → Type 0) → Row W → View → View
     → Type 0
-HearsAllAt meaning lawful r v w =
-    HearsAll (setup_at meaning r) (lawful (key_of r).work) (row_start meaning r) v w
+LearnsAllAt meaning lawful r v w =
+    LearnsAll (setup_at meaning r) (lawful (key_of r).work) (row_start meaning r) v w
 
 -- the row is the durable words, cell by cell, of the words that the view's past leaves
 abbrev pub AreDurableOfPast : {W : Type 0} → (W → Meaning) → Row W → View → List ℕ → Type 0
