@@ -90,7 +90,7 @@ lifted_append S [] ys ws = refl
 lifted_append S (e ∷ xs) ys ws = ap (λ (z : List ℕ). set z (durable_at S e.0) (max (get_or z (durable_at S e.0) 0) e.1)) (lifted_append S xs ys ws)
 
 -- a word that is high enough stays
-raised_already : (ws : List ℕ) (c x : ℕ) → x ≤ get_or ws c 0 → set ws c (max (get_or ws c 0) x) ≡ ws
+pub raised_already : (ws : List ℕ) (c x : ℕ) → x ≤ get_or ws c 0 → set ws c (max (get_or ws c 0) x) ≡ ws
 raised_already ws c x low = let same : max (get_or ws c 0) x ≡ get_or ws c 0 = omega (arith, low) in ap (set ws c) same ∙ set-get_or ws c 0
 
 -- nothing is left to be raised where each durable word has what was loaded

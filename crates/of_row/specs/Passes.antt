@@ -8,7 +8,9 @@ use Rattle.of_row.specs.declared.member.Member.{Member}
 use Rattle.of_row.specs.declared.member.Pass.{Pass}
 use Rattle.of_row.specs.declared.member.Taken.{Taken}
 use Rattle.of_row.specs.declared.row.Row.{Row}
-use Rattle.of_row.specs.Views.{KnownCaller, first_view, seen_seq}
+use Rattle.of_row.specs.Views.{KnownCaller, View, first_view, seen_seq}
+use Rattle.of_row.specs.Trail.{moment}
+use Rattle.of_row.specs.Gathered.{HasWholePast, LearnsAll}
 use Rattle.of_row.specs.Rule.{HasOwn, IsAsked, ViewMeetsRule, done_before}
 use Rattle.of_row.specs.Turned.{after_ask, after_number_given, new_known_caller, last_alone, after_fetch, after_evict}
 use Rattle.of_row.specs.Rows.{key_of, setup_at, row_start, view_of_pass, view_of_member}
@@ -67,3 +69,22 @@ pub record ClosesWithDurable {W : Type 0} (meaning : W → Meaning) (lawful : W 
   pub words : List ℕ
   pub meets : ClosesWith meaning lawful r p words
   pub durable : IsDurable (setup_at meaning r) words row
+
+-- the words that the events of the view's past leave on the row
+abbrev pub words_of_past : {W : Type 0} → (W → Meaning) → Row W → View → List ℕ
+words_of_past meaning r v = (moment (setup_at meaning r) (row_start meaning r) v.past).words
+
+-- the view's past has all that those did whom it keeps, and all its evictions
+abbrev pub KnowsAllDone : {W : Type 0} → (W → Meaning) → Row W → View → Type 0
+KnowsAllDone meaning r v = HasWholePast (setup_at meaning r) (row_start meaning r) v
+
+-- the view v has heard of all events of the row and is w now
+abbrev pub LearnsAllAt : {W : Type 0} → (W → Meaning) → (W → List ℕ → Type 0) → Row W → View → View
+    → Type 0
+LearnsAllAt meaning lawful r v w =
+    LearnsAll (setup_at meaning r) (lawful (key_of r).work) (row_start meaning r) v w
+
+-- the row is the durable words, cell by cell, of the words that the view's past leaves
+abbrev pub AreDurableOfPast : {W : Type 0} → (W → Meaning) → Row W → View → List ℕ → Type 0
+AreDurableOfPast meaning r v row =
+    IsDurable (setup_at meaning r) (words_of_past meaning r v) row
