@@ -1,6 +1,6 @@
 -- Every schedule is durably linearizable: the batches up to the durable sequence in order, and
 -- after each the reads of its state, are a serial run that explains it.
-use Rattle.std.proofs.Common.{◌≡◌, ℕ, ◌+◌, ◌-◌, ◌<◌, ◌≤◌, ◌⊎◌, inl, inr, List, [], ◌∷◌, ◌++◌, length, take, drop, get_or, refl, sym, ◌∙◌, ap, subst, arith, Option, Some, None, true, false, map}
+use Rattle.std.proofs.Common.{◌≡◌, ℕ, ◌+◌, ◌-◌, ◌<◌, ◌≤◌, ◌⊎◌, inl, inr, List, [], ◌∷◌, ◌++◌, length, take, drop, get_or, refl, sym, ◌∙◌, ap, subst, arith, Option, Some, None, Bool, true, false, map}
 use Rattle.std.specs.List.{All}
 use Rattle.std.proofs.lemmas.Bool.{cases_lt}
 use Rattle.std.proofs.lemmas.List.{length-map, length-take-le, get_or-take, get_or-map, get_or-drop, get_or_past, take-take, take-append-drop}
@@ -20,7 +20,7 @@ use Rattle.of_core.specs.Invariant.{MeetsInvariant}
 use Rattle.of_core.specs.Events.{Event, after_events, IsSchedule, start_ticket}
 use Rattle.of_core.specs.Calls.{operations_begun, outcomes, no_outcome, OutcomeStands, HasCalls}
 use Rattle.of_core.specs.Claim.{IsNewerCall, IsSound}
-use Rattle.of_core.specs.Linear.{Precedes, ExplainsOutcome, Linearizes, recovered_number, FindsCall, Detects, IsDurablyLinearizable}
+use Rattle.of_core.specs.Linear.{Precedes, ExplainsOutcome, Linearizes, Sequences, HasOwnSequence, IsBySequence, recovered_number, FindsCall, Detects, IsDurablyLinearizable}
 use Rattle.of_core.proofs.States.{state_length, state_start, batch_is, later, legal_front}
 use Rattle.of_core.proofs.Assembling.{logs_of}
 use Rattle.of_core.proofs.Overlays.{calls_lawful, calls_length}
@@ -29,6 +29,7 @@ use Rattle.of_core.proofs.Tickets.{ticket_upto, tickets_rise}
 use Rattle.of_core.proofs.Claims.{is_sound}
 use Rattle.of_core.proofs.Calls.{fewer_outs}
 use Rattle.of_core.proofs.InOrder.{call_of, serial_order, all_in_order, StandsIn, order_has_read, order_has_call, Pairs, pairs_in_order, Reads, order_leads}
+use Rattle.of_core.proofs.Ranks.{HasRank, StandsBefore, StandBefore, one_rank, by_rank}
 use Rattle.of_core.proofs.RealTime.{last_world, good_last, last_calls, durable_between, late_call, ended_call, late_read, ended_read, stands_begun}
 
 -- An operation that only reads leaves the numbers.
@@ -162,6 +163,70 @@ module _ (S : Setup) (Lawful : List ℕ → Type 0) (sound : IsSoundMeaning S.me
           go : (b < a) ⊎ (a ≤ b) → (get_or w.reads a no_read).ticket < (get_or w.reads b no_read).ticket
           go (inl t) = absurd (omega (arith, (good.order.ordered.successive b a t l e).1))
           go (inr t) = let same : a ≡ b = omega (arith, s, t) in absurd (omega (arith, x, ap (λ (y : ℕ). (get_or w.reads y no_read).seq) same))
+
+  -- They stand by sequence, the announced ones of a batch first and by caller.
+  by_sequence : Pairs (StandBefore S B w) order
+  by_sequence = each_pair (StandBefore S B w) (record {
+    calls = λ j k l u v y c z x d q. by_rank S B w claim _ _ j k true true (l, omega (arith, u, v), y, c, z, refl) (omega (arith, l, u), v, x, d, q, refl) (omega (arith, u), λ e t. absurd (omega (arith, e, u)));
+    same = λ k l u p q a b. by_rank S B w claim _ _ k k true true (l, u, p, no_call, omega (arith, a, b), refl) (l, u, q, no_call, b, refl) (omega arith, λ e t. (refl, claim.rising k l (omega (arith, u, claim.reaches)) p q a b));
+    read_behind = λ k a l u v x y d z. by_rank S B w claim _ _ k (get_or w.reads a no_read).seq true false (l, u, y, d, z, refl) (a, v, refl, refl) (x, λ e t. let n : true ≡ false = sym t in cc);
+    read_before = λ a k v l u x y d z. by_rank S B w claim _ _ (get_or w.reads a no_read).seq k false true (a, v, refl, refl) (l, u, y, d, z, refl) (omega (arith, x), λ e t. absurd (omega (arith, e, x)));
+    reads = λ a b l u x. by_rank S B w claim _ _ (get_or w.reads a no_read).seq (get_or w.reads b no_read).seq false false (a, l, refl, refl) (b, u, refl, refl) (omega (arith, x), λ e t. let n : true ≡ false = sym t in cc);
+    same_reads = λ a b l u x. by_rank S B w claim _ _ (get_or w.reads a no_read).seq (get_or w.reads b no_read).seq false false (a, omega (arith, l, u), refl, refl) (b, u, refl, refl) (omega (arith, x), λ e t. let n : true ≡ false = sym t in cc);
+  })
+
+  abbrev IsRanked : Call → Type 0
+  IsRanked c = (s : ℕ) × (a : Bool) × HasRank S B w c s a
+
+  ranked : All IsRanked order
+  ranked = each_call IsRanked (λ k l u y d z. (k, true, (l, u, y, d, z, refl))) (λ a l. ((get_or w.reads a no_read).seq, false, (a, l, refl, refl)))
+
+  abbrev IsPlace : ℕ → Type 0
+  IsPlace p = (p < length order) ⊎ (length order ≤ p)
+
+  seq_if : (p : ℕ) → IsPlace p → ℕ
+  seq_if p (inl l) = (ranked p no_call l).0
+  seq_if p (inr l) = 0
+
+  announced_if : (p : ℕ) → IsPlace p → Bool
+  announced_if p (inl l) = (ranked p no_call l).1
+  announced_if p (inr l) = false
+
+  sequences : Sequences
+  sequences = record { seq = λ p. seq_if p (cases_lt p (length order)); announced = λ p. announced_if p (cases_lt p (length order)) }
+
+  has_rank : (p : ℕ) → p < length order → HasRank S B w (get_or order p no_call) (sequences.seq p) (sequences.announced p)
+  unfolding sequences seq_if announced_if
+  has_rank p l = go (cases_lt p (length order))
+    where
+      go : (d : IsPlace p) → HasRank S B w (get_or order p no_call) (seq_if p d) (announced_if p d)
+      go (inl u) = (ranked p no_call u).2
+      go (inr u) = absurd (omega (arith, l, u))
+
+  by_seq : IsBySequence S B first es order
+  by_seq = record {
+    sequences = sequences;
+    stands = record {
+      rising = λ p q l u. (stand p q l u).0;
+      announced_first = λ p q l u e t. ((stand p q l u).1 e t).0;
+      by_caller = λ p q l u e t. ((stand p q l u).1 e t).1;
+    };
+    own = λ i x member l. own i x member (get_or (outcomes S first es i) x no_outcome) ((calls_of i member).each x l);
+  }
+    where
+      stand : (p q : ℕ) → p < q → q < length order → StandsBefore S B w (get_or order p no_call) (get_or order q no_call) (sequences.seq p) (sequences.seq q) (sequences.announced p) (sequences.announced q)
+      stand p q l u = by_sequence p q l u (sequences.seq p) (sequences.seq q) (sequences.announced p) (sequences.announced q) (has_rank p (omega (arith, l, u))) (has_rank q u)
+
+      -- a call of the order with the name of one that has this rank
+      told : (i t : ℕ) (c : Call) (s : ℕ) (a : Bool) → HasRank S B w c s a → c.caller ≡ i → c.ticket ≡ t → (p : ℕ) → p < length order → (get_or order p no_call).caller ≡ i → (get_or order p no_call).ticket ≡ t → (sequences.seq p ≡ s) × (sequences.announced p ≡ a)
+      told i t c s a h e f p l m n = one_rank S B w claim (get_or order p no_call) c (sequences.seq p) s (sequences.announced p) a (e ∙ sym m, f ∙ sym n) (has_rank p l) h
+
+      own : (i x : ℕ) → i < S.callers → (o : Outcome) → OutcomeStands S B w i (start_ticket S B i + x + 1) (get_or (operations_begun es i) x []) o → HasOwnSequence order sequences i (start_ticket S B i + x + 1) o
+      own i x member (Answered s true raw steps) h = let c = h.2 in told i (start_ticket S B i + x + 1) (get_or (batch_at B w.batches s).calls c.place no_call) s true (h.0, h.1, c.place, no_call, c.among, refl) c.caller c.ticket
+      own i x member (Answered s false raw steps) h =
+          let r = h.1.2 in
+          told i (start_ticket S B i + x + 1) (call_of (get_or w.reads h.1.0 no_read)) s false (h.1.0, h.1.1, refl, ap (λ (q : Read). q.seq) r) (ap (λ (q : Read). q.caller) r) (ap (λ (q : Read). q.ticket) r)
+      own i x member (Spent s) h = tt
 
   -- None stands before one that ended before it began.
   abbrev InTime : Call → Call → Type 0
@@ -359,6 +424,7 @@ module _ (S : Setup) (Lawful : List ℕ → Type 0) (sound : IsSoundMeaning S.me
     record {
       order = order;
       linearizes = linearizes;
+      by_seq = by_seq;
       recovered = record { numbers = numbers_found; own = detects };
     },
     leads_there,

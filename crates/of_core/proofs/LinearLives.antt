@@ -108,7 +108,7 @@ module _ (S : Setup) (Lawful : List ℕ → Type 0) (sound : IsSoundMeaning S.me
   one_more B may es schedule lives more = (
     record {
       orders = first.order ∷ rest.orders;
-      each = (first.linearizes, first.recovered, rest.each);
+      each = (first.linearizes, first.by_seq, first.recovered, rest.each);
       legal = replies_append S.meaning start first.order (whole_order rest.orders) first.linearizes.legal (replies_from S Lawful sound B next there (whole_order rest.orders) next_is there_is meets rest.legal);
       leads = rest.leads ∙ calls_from S Lawful sound B next there (whole_order rest.orders) next_is there_is meets ∙ ap (λ (xs : List ℕ). drop (first_operation_cell S) xs) (sym (after_append S.meaning start first.order (whole_order rest.orders)));
       once = pairs_append Once first.order (whole_order rest.orders) (λ p q l u writes. first.linearizes.rising p q l u) rest.once across;

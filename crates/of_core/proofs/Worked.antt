@@ -1,11 +1,12 @@
 -- Worked schedules, computed by the definitions.
-use Rattle.std.proofs.Common.{◌≡◌, ℕ, [], ◌∷◌, length, get_or, Some, true, false, refl, arith}
+use Rattle.std.proofs.Common.{◌≡◌, ℕ, zero, suc, ◌<◌, List, [], ◌∷◌, length, get_or, Some, Bool, true, false, refl, arith}
 use Rattle.of_cell.specs.Cells.{log_room}
 use Rattle.of_cell.specs.Words.{pack, seq_of, payload_of}
 use Rattle.of_mem.specs.Meaning.{is_marked}
 use Rattle.of_core.specs.declared.place.Place.TheVariants.{LoadCurrent, RaiseClosed, StoreAnnouncement}
 use Rattle.of_core.specs.declared.place.Outcome.TheVariants.{Answered, Spent}
 use Rattle.of_core.specs.Table.{current_word, data_word}
+use Rattle.of_core.specs.Machine.{Call, no_call}
 use Rattle.of_core.specs.Steps.{want, take_word}
 use Rattle.of_core.specs.TableMoment.{TableStart, step_batches, step_reads}
 use Rattle.of_core.specs.History.{state_after, no_batch}
@@ -13,6 +14,7 @@ use Rattle.of_core.specs.Events.{machine_in, turn_count, zero_start}
 use Rattle.of_core.specs.Starts.{first_cells, first_words, recovered_start}
 use Rattle.of_core.specs.Calls.{operations_begun, total_steps, IsNotBefore}
 use Rattle.of_core.specs.Least.{least_read, least_call}
+use Rattle.of_core.specs.Linear.{Sequences, StandsBySequence}
 use Rattle.of_core.specs.Worked.{register_meaning, first_key_meaning, table_with, moment_alone, moment_overtaken, read_and_store, two_calls, behind_one, reply_with}
 
 -- one caller that stores to one register exchanges the current-transaction word at step 29, and is answered at step 48
@@ -99,3 +101,30 @@ read_again = omega arith
 
 never_run_again : IsNotBefore 1 (Answered 1 true (reply_with []) 48) → ⊥
 never_run_again newer = omega (arith, newer)
+
+-- two calls of one sequence, of these callers and announced so
+abbrev two_of : (first second : ℕ) → List Call
+two_of i j = record no_call { caller = i } ∷ record no_call { caller = j } ∷ []
+
+abbrev of_one_seq : (first second : Bool) → Sequences
+of_one_seq a b = record { seq = λ p. 1; announced = λ p. get_or (a ∷ b ∷ []) p false }
+
+-- a batch comes before the reads of its state, and not after them
+batch_first : StandsBySequence (two_of 1 0) (of_one_seq true false)
+batch_first = record {
+  rising = λ p q l u. omega arith;
+  announced_first = λ p q l u e t. absurd (none q (omega (arith, l)) t);
+  by_caller = λ p q l u e t. absurd (none q (omega (arith, l)) t);
+}
+  where
+    none : (q : ℕ) → 0 < q → get_or (true ∷ false ∷ []) q false ≡ true → ⊥
+    none zero l e = absurd (omega (arith, l))
+    none (suc zero) l e = cc
+    none (suc (suc q)) l e = cc
+
+reads_behind : StandsBySequence (two_of 0 1) (of_one_seq false true) → ⊥
+reads_behind h = let e : false ≡ true = h.announced_first 0 1 (omega arith) (omega arith) refl refl in cc
+
+-- and its calls stand by caller
+callers_in_turn : StandsBySequence (two_of 1 0) (of_one_seq true true) → ⊥
+callers_in_turn h = absurd (omega (arith, h.by_caller 0 1 (omega arith) (omega arith) refl refl))

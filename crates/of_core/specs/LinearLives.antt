@@ -13,7 +13,7 @@ use Rattle.of_core.specs.History.{numbers_after_calls, CallsHaveReplies}
 use Rattle.of_core.specs.Starts.{recovered_start}
 use Rattle.of_core.specs.Events.{Event, after_events, IsSchedule, opening_moment, start_ticket}
 use Rattle.of_core.specs.Claim.{IsNewerCall}
-use Rattle.of_core.specs.Linear.{Linearizes, IsRecovered}
+use Rattle.of_core.specs.Linear.{Linearizes, IsBySequence, IsRecovered}
 
 -- the start that recovery finds after the life of these events
 abbrev pub start_after : Setup → (n : ℕ) → TableStart → List Event → TableStart
@@ -30,7 +30,7 @@ AreScheduleLives S n B [] = Unit {0}
 AreScheduleLives S n B (es ∷ lives) =
     IsSchedule S (opening_moment S B n) es × AreScheduleLives S n (start_after S n B es) lives
 
--- each order linearizes its life, and leads to what recovery finds after it
+-- each order linearizes its life, stands by sequence, and leads to what recovery finds after it
 abbrev pub AreLinearized : Setup → (n : ℕ) → TableStart → List (List Event)
     → (orders : List (List Call)) → Type 0
 AreLinearized S n B [] [] = Unit {0}
@@ -38,6 +38,7 @@ AreLinearized S n B [] (order ∷ orders) = ⊥
 AreLinearized S n B (es ∷ lives) [] = ⊥
 AreLinearized S n B (es ∷ lives) (order ∷ orders) =
     Linearizes S B (opening_moment S B n) es order
+    × IsBySequence S B (opening_moment S B n) es order
     × IsRecovered S B (after_events S (opening_moment S B n) es) order
     × AreLinearized S n (start_after S n B es) lives orders
 

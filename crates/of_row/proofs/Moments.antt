@@ -13,15 +13,15 @@ use Rattle.of_core.specs.TableMoment.{Moment, TableStart}
 use Rattle.of_core.specs.Starts.{IsDurable}
 use Rattle.of_core.specs.Invariant.{MeetsInvariant}
 use Rattle.of_core.specs.Grounds.{HasGrounds}
-use Rattle.of_core.specs.Events.{Event}
+use Rattle.of_core.specs.Events.{Event, start_ticket}
 use Rattle.of_core.specs.Calls.{operations_begun, outcomes, no_outcome}
 use Rattle.of_core.specs.Laws.{EveryOrder, RecoveredRowsMayStart}
-use Rattle.of_core.specs.Linear.{ExplainsOutcome, Linearizes, recovered_number, FindsCall, Detects, IsRecovered, IsDurablyLinearizable}
+use Rattle.of_core.specs.Linear.{ExplainsOutcome, Linearizes, HasOwnSequence, IsBySequence, recovered_number, FindsCall, Detects, IsRecovered, IsDurablyLinearizable}
 use Rattle.of_row.specs.Views.{EndedCall, KnownCaller, View, no_ended}
 use Rattle.of_row.specs.Rule.{members_of, ticket_at, ended_operation_at, outcome_at, IsAtHome, ViewFits, MeetsRule, ViewMeetsRule, EachFree}
 use Rattle.of_row.specs.Trail.{first_of, moment, IsToldBy, IsRunBy, EachView}
 use Rattle.of_row.specs.RowLaws.{RowLaws}
-use Rattle.of_row.specs.Moments.{IsReachedBy, ExplainsEndedCalls, HasNoneOf, words_alone, LosesNothing, HoldsCalls}
+use Rattle.of_row.specs.Moments.{IsReachedBy, ExplainsEndedCalls, HaveOwnSequence, HasNoneOf, words_alone, LosesNothing, HoldsCalls}
 use Rattle.of_row.proofs.RowLaws.{good_of, word_at}
 use Rattle.of_row.proofs.Fronts.{each_both}
 
@@ -89,23 +89,34 @@ module _ (S : Setup) (L : List ℕ → Type 0) (B : TableStart) (s : State (Unit
 
       -- ---- the calls of those whom a seat keeps
 
-      explained_by : Linearizes S B (first_of S B) es order → (x : KnownCaller) → x.machine.caller < S.callers → IsToldBy S B es x.machine.caller x → ExplainsEndedCalls S B order x
-      explained_by h x below t y low =
-          let i : ℕ = x.machine.caller in
-          let ops : List (List ℕ) = map (λ (e : EndedCall). e.op) x.ended in
-          let outs : outcomes S (first_of S B) es i ≡ map (λ (e : EndedCall). e.outcome) x.ended = sym t.ended in
-          let many : y < length (outcomes S (first_of S B) es i) = omega (arith, low, ap length outs, length-map x.ended (λ (e : EndedCall). e.outcome)) in
-          let op : get_or (operations_begun es i) y [] ≡ ended_operation_at x.ended y =
-          ap (λ (z : List (List ℕ)). get_or z y []) (sym t.begun)
-          ∙ (get_or_append_left ops _ [] y (omega (arith, low, length-map x.ended (λ (e : EndedCall). e.op))) ∙ get_or-map (λ (e : EndedCall). e.op) x.ended y no_ended [] low) in
-          let out : get_or (outcomes S (first_of S B) es i) y no_outcome ≡ outcome_at x.ended y =
-          ap (λ (z : List Outcome). get_or z y no_outcome) outs ∙ get_or-map (λ (e : EndedCall). e.outcome) x.ended y no_ended no_outcome low in
-          subst (λ (z : List ℕ × Outcome). ExplainsOutcome S order i (ticket_at S B x y) z.0 z.1) (λ k. (op k, out k)) (h.ended i y below many)
+      -- what is so of each call that has ended is so of those that a seat keeps
+      module _ (P : (i ticket : ℕ) → List ℕ → Outcome → Type 0) (ends : (i x : ℕ) → i < S.callers → x < length (outcomes S (first_of S B) es i) → P i (start_ticket S B i + x + 1) (get_or (operations_begun es i) x []) (get_or (outcomes S (first_of S B) es i) x no_outcome)) where
+        abbrev EndSo : KnownCaller → Type 0
+        EndSo x = (y : ℕ) → y < length x.ended → P x.machine.caller (ticket_at S B x y) (ended_operation_at x.ended y) (outcome_at x.ended y)
+
+        ends_by : (x : KnownCaller) → x.machine.caller < S.callers → IsToldBy S B es x.machine.caller x → EndSo x
+        ends_by x below t y low =
+            let i : ℕ = x.machine.caller in
+            let ops : List (List ℕ) = map (λ (e : EndedCall). e.op) x.ended in
+            let outs : outcomes S (first_of S B) es i ≡ map (λ (e : EndedCall). e.outcome) x.ended = sym t.ended in
+            let many : y < length (outcomes S (first_of S B) es i) = omega (arith, low, ap length outs, length-map x.ended (λ (e : EndedCall). e.outcome)) in
+            let op : get_or (operations_begun es i) y [] ≡ ended_operation_at x.ended y =
+            ap (λ (z : List (List ℕ)). get_or z y []) (sym t.begun)
+            ∙ (get_or_append_left ops _ [] y (omega (arith, low, length-map x.ended (λ (e : EndedCall). e.op))) ∙ get_or-map (λ (e : EndedCall). e.op) x.ended y no_ended [] low) in
+            let out : get_or (outcomes S (first_of S B) es i) y no_outcome ≡ outcome_at x.ended y =
+            ap (λ (z : List Outcome). get_or z y no_outcome) outs ∙ get_or-map (λ (e : EndedCall). e.outcome) x.ended y no_ended no_outcome low in
+            subst (λ (z : List ℕ × Outcome). P i (ticket_at S B x y) z.0 z.1) (λ k. (op k, out k)) (ends i y below many)
+
+        kept_so : EachView (λ v. Each EndSo v.kept) s.views
+        kept_so j v at live =
+            let f : ViewFits S B s.words es r.home r.chief j v = r.each j v at live in
+            each_both (IsAtHome S r.home (members_of S s.words) j) (IsRunBy S B es) EndSo v.kept (λ x q t. ends_by x q.in_range t.told) f.kept f.runs
 
       explained : Linearizes S B (first_of S B) es order → EachView (λ v. Each (ExplainsEndedCalls S B order) v.kept) s.views
-      explained h j v at live =
-          let f : ViewFits S B s.words es r.home r.chief j v = r.each j v at live in
-          each_both (IsAtHome S r.home (members_of S s.words) j) (IsRunBy S B es) (ExplainsEndedCalls S B order) v.kept (λ x q t. explained_by h x q.in_range t.told) f.kept f.runs
+      explained h = kept_so (λ i t op o. ExplainsOutcome S order i t op o) h.ended
+
+      sequenced : (h : IsBySequence S B (first_of S B) es order) → EachView (λ v. Each (HaveOwnSequence S B order h.sequences) v.kept) s.views
+      sequenced h = kept_so (λ i t op o. HasOwnSequence order h.sequences i t o) h.own
 
     pub loses_nothing : EveryOrder S L → RecoveredRowsMayStart S L → LosesNothing S L B s
     loses_nothing orders restarts =
@@ -115,7 +126,9 @@ module _ (S : Setup) (L : List ℕ → Type 0) (B : TableStart) (s : State (Unit
           reached = reached;
           order = h.order;
           linearizes = h.linearizes;
+          by_seq = h.by_seq;
           explained = explained h.order h.linearizes;
+          sequenced = sequenced h.order h.by_seq;
           recovered_so = recovered_same h.order h.recovered;
           restarts = λ row is. (restarts B W good row record { long = is.long; each = λ c low. is.each c low ∙ durable_same c low }).0;
         }
@@ -135,6 +148,9 @@ closed_holds S L laws orders restarts B ws v m live =
     record {
       order = h.order;
       explained = h.explained m.seat v m.view live;
+      sequences = h.by_seq.sequences;
+      by_seq = h.by_seq.stands;
+      sequenced = h.sequenced m.seat v m.view live;
       free = subst (λ (z : List ℕ). EachFree S z (HasNoneOf h.order)) m.words (none_of_free S L B m.state h);
       recovered_so = subst (λ (z : List ℕ). IsRecovered S B (words_alone z) h.order) m.words h.recovered_so;
       restarts = λ row is. h.restarts row (subst (λ (z : List ℕ). IsDurable S z row) (sym m.words) is);

@@ -10,7 +10,7 @@ use Rattle.of_core.specs.Machine.{Call}
 use Rattle.of_core.specs.TableMoment.{Moment, TableStart}
 use Rattle.of_core.specs.Starts.{IsDurable, IsStartRow}
 use Rattle.of_core.specs.Events.{Event, IsSchedule}
-use Rattle.of_core.specs.Linear.{ExplainsOutcome, Linearizes, IsRecovered}
+use Rattle.of_core.specs.Linear.{ExplainsOutcome, Linearizes, Sequences, StandsBySequence, HasOwnSequence, IsBySequence, IsRecovered}
 use Rattle.of_row.specs.Views.{KnownCaller, View, IsSeenPrefix}
 use Rattle.of_row.specs.Rule.{IsRaised, MeetsRule, ViewMeetsRule, EachFree}
 use Rattle.of_row.specs.Rule.{ticket_at, ended_operation_at, outcome_at}
@@ -43,6 +43,13 @@ ExplainsEndedCalls S B order x =
     → ExplainsOutcome S order x.machine.caller (ticket_at S B x y)
     (ended_operation_at x.ended y) (outcome_at x.ended y)
 
+-- each call of the caller that was answered has its own sequence in the order
+abbrev pub HaveOwnSequence : Setup → TableStart → (order : List Call) → Sequences → KnownCaller
+    → Type 0
+HaveOwnSequence S B order s x =
+    (y : ℕ) → y < length x.ended
+    → HasOwnSequence order s x.machine.caller (ticket_at S B x y) (outcome_at x.ended y)
+
 -- no call of the order is this caller's
 abbrev pub HasNoneOf : List Call → (caller : ℕ) → Type 0
 HasNoneOf order i = All (λ (c : Call). c.caller ≢ i) order
@@ -52,15 +59,18 @@ abbrev pub words_alone : List ℕ → Moment
 words_alone ws = record { words = ws; machines = []; batches = []; reads = []; loaded = [] }
 
 -- What a row leaves that stops at this moment: one serial order of calls explains how all calls
--- have ended, and recovery of the row's words as they are finds what that order leads to.
+-- have ended, it stands by sequence, and recovery of the row's words as they are finds what that
+-- order leads to.
 pub record LosesNothing (S : Setup) (Lawful : List ℕ → Type 0) (B : TableStart)
     (s : State (Unit {0}) View) : Type 0 where
   pub events : List Event
   pub reached : IsReachedBy S B s events
   pub order : List Call
   pub linearizes : Linearizes S B (first_of S B) events order
+  pub by_seq : IsBySequence S B (first_of S B) events order
   -- also those of each caller that a pass or a member keeps
   pub explained : EachView (λ v. Each (ExplainsEndedCalls S B order) v.kept) s.views
+  pub sequenced : EachView (λ v. Each (HaveOwnSequence S B order by_seq.sequences) v.kept) s.views
   -- recovery finds that order's numbers, and each caller's last call in it
   pub recovered_so : IsRecovered S B (words_alone s.words) order
   -- and from the row that recovery makes a table may start
@@ -74,12 +84,15 @@ StopsLoseNothing Lawful S =
     → LosesNothing S Lawful B s
 
 -- What the words of a closed row hold of the calls of a pass with this view: one serial order has
--- them as they ended, recovery of the words finds what that order leads to, and from the row that
--- it makes a table may start.
+-- them as they ended, and stands by sequence, recovery of the words finds what that order leads to,
+-- and from the row that it makes a table may start.
 pub record HoldsCalls (S : Setup) (Lawful : List ℕ → Type 0) (B : TableStart) (ws : List ℕ)
     (v : View) : Type 0 where
   pub order : List Call
   pub explained : Each (ExplainsEndedCalls S B order) v.kept
+  pub sequences : Sequences
+  pub by_seq : StandsBySequence order sequences
+  pub sequenced : Each (HaveOwnSequence S B order sequences) v.kept
   -- none of its calls is of a number that isn't taken
   pub free : EachFree S ws (HasNoneOf order)
   pub recovered_so : IsRecovered S B (words_alone ws) order
