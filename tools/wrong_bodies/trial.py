@@ -142,7 +142,8 @@ class Trial:
             with room(self.crate, self.every) as folder:
                 now, bodies = chosen(folder, bodies)
                 self.rounds += 1
-                text = self.checked(f"round {self.rounds} of {len(now)}", folder)
+                what = f"round {self.rounds}, {len(now)} wrong bodies"
+                text = self.checked(what, folder)
             fault = checks.unread(text)
             if fault and len(now) == 1:
                 self.note(now[0].edit, fault=f"BAD EDIT: {fault}")
