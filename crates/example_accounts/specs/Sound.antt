@@ -10,9 +10,9 @@ use Rattle.of_mem.specs.declared.work.TheConstants.{MOST_INSTRS}
 use Rattle.of_mem.specs.Numbers.{FitsCell}
 use Rattle.of_mem.specs.Meaning.{IsSoundMeaning, HasRoom, is_marked}
 use Rattle.of_mem.specs.Programs.{Program, program_answer, memory_after, StaysBetween, StaysFrom}
-use Rattle.of_mem.specs.ProgramWork.{IsReplyTo, AreSound}
-use Rattle.of_mem.specs.Touching.{TouchesFew, ReadsAtMost, WritesAtMost}
-use Rattle.of_mem.proofs.FewTouches.{few_reads, few_writes, programs_touch_few}
+use Rattle.of_mem.specs.ProgramWork.{memory_of, IsReplyTo, AreSound}
+use Rattle.of_mem.specs.Touching.{ReadsAtMost, WritesAtMost}
+use Rattle.of_mem.specs.ProgramTouches.{HasSmallPrograms, few_reads, few_writes}
 use Rattle.of_mem.proofs.Sounds.{sound}
 use Rattle.example_accounts.specs.declared.accounts.Accounts.{Accounts}
 use Rattle.example_accounts.specs.declared.transfer.Reply.TheVariants.{Done as Moved, NoAccount}
@@ -262,12 +262,15 @@ module _ (w : Accounts) where
       sound (λ r. true) (λ op. false) (transferring w) (HasAllMoney w) (first_cell w)
       (cell_count w) are_sound
 
-  -- no operation touches more than the cells of two accounts, however many there are
-  pub accounts_touch_few : TouchesFew (accounts_meaning w) (LawfulCells w) (cell_count w) 2 2
-  accounts_touch_few =
-      programs_touch_few (λ r. true) (λ op. false) (transferring w) (HasAllMoney w) (first_cell w)
-      (cell_count w) 2 2 are_sound
-      (λ m op h. (
-        few_reads 2 (transferring w op) m (reads_two op),
-        few_writes 2 (transferring w op) m (writes_two op),
-      ))
+  -- each reads two cells at most, and writes two, however many accounts there are
+  pub small_programs :
+      HasSmallPrograms (accounts_meaning w) (LawfulCells w) (first_cell w) (cell_count w) 2 2
+  small_programs = record {
+    keeps = λ r. true;
+    reads_only = λ op. false;
+    program = transferring w;
+    meaning = refl;
+    inside = λ xs op sized h. (good (memory_of xs) op h).inside;
+    few_reads = λ xs op sized h. few_reads 2 (transferring w op) (memory_of xs) (reads_two op);
+    few_writes = λ xs op sized h. few_writes 2 (transferring w op) (memory_of xs) (writes_two op);
+  }

@@ -6,6 +6,7 @@
 
 mod accounts;
 mod day;
+mod laws;
 mod meter;
 mod teller;
 mod transfer;

@@ -1,27 +1,16 @@
 -- A work whose operations are programs that make few reads and writes touches few cells.
-use Rattle.std.proofs.Common.{◌≡◌, ℕ, zero, suc, ◌≤◌, List, [], ◌∷◌, length, refl, sym, ◌∙◌, ap, subst, arith, Option, Some, None, Bool, true, false, cond}
+use Rattle.std.proofs.Common.{◌≡◌, ℕ, suc, ◌≤◌, List, [], ◌∷◌, length, refl, sym, ◌∙◌, ap, subst, arith, Option, Some, None, Bool, true, false, cond}
 use Rattle.std.specs.List.{Contains}
 use Rattle.of_mem.specs.declared.work.RawReply.{RawReply}
-use Rattle.of_mem.specs.Meaning.{Needs, Gives, Agrees}
+use Rattle.of_mem.specs.Meaning.{Meaning, Needs, Gives, Agrees}
 use Rattle.of_mem.specs.Part.{Part, newest_at, write}
 use Rattle.of_mem.specs.Programs.{Program, Done, Read, Write, RunEnd, Lacks, Ends, run_program, with_number, with_value, program_writes, IsPartOf}
-use Rattle.of_mem.specs.ProgramWork.{memory_of, fresh_part, walk_of_run, meaning_of, AreSound}
-use Rattle.of_mem.specs.Touching.{TouchesFew, program_reads, ReadsAtMost, WritesAtMost}
+use Rattle.of_mem.specs.ProgramWork.{memory_of, fresh_part, walk_of_run}
+use Rattle.of_mem.specs.ProgramTouches.{HasSmallPrograms}
+use Rattle.of_mem.specs.Touching.{TouchesFew, program_reads}
 use Rattle.of_mem.proofs.Runs.{part_wrote, run_ended}
 use Rattle.of_mem.proofs.Sounds.{part_fresh}
 use Rattle.of_mem.proofs.Writes.{put_all_few}
-
-pub few_reads : {A : Type 0} (n : ℕ) (f : Program A) (m : ℕ → ℕ) → ReadsAtMost n f → length (program_reads f m) ≤ n
-few_reads n (Done r) m h = omega arith
-few_reads zero (Read a k) m h = absurd h
-few_reads (suc n) (Read a k) m h = let rest = few_reads n (k (m a)) m (h (m a)) in omega (arith, rest)
-few_reads n (Write a v f) m h = few_reads n f (with_value m a v) h
-
-pub few_writes : {A : Type 0} (n : ℕ) (f : Program A) (m : ℕ → ℕ) → WritesAtMost n f → length (program_writes f m) ≤ n
-few_writes n (Done r) m h = omega arith
-few_writes n (Read a k) m h = few_writes n (k (m a)) m (h (m a))
-few_writes zero (Write a v f) m h = absurd h
-few_writes (suc n) (Write a v f) m h = let rest = few_writes n f (with_value m a v) h in omega (arith, rest)
 
 -- a run lacks only a cell that its program reads
 lacks_read : {A : Type 0} (f : Program A) (p : Part) (m : ℕ → ℕ) (a : ℕ) → IsPartOf p m → run_program f p ≡ Lacks a → Contains (program_reads f m) a
@@ -36,17 +25,18 @@ lacks_read (Read b k) p m a part e = go (λ v. lacks_read (k v) p m a part) (new
         (suc here.0, omega (arith, here.1), here.2)
 lacks_read (Write b v f) p m a part e = lacks_read f (write p b v) (with_value m b v) a (part_wrote p m b v part) e
 
--- a work whose programs make so many reads and writes on each lawful memory
-pub programs_touch_few : (keeps : RawReply → Bool) (reads : List ℕ → Bool) (program : List ℕ → Program RawReply) (lawful : (ℕ → ℕ) → Type 0) (low size r w : ℕ) → AreSound keeps reads program lawful low size
-    → ((m : ℕ → ℕ) (op : List ℕ) → lawful m → (length (program_reads (program op) m) ≤ r) × (length (program_writes (program op) m) ≤ w))
-    → TouchesFew (meaning_of keeps reads program) (λ xs. lawful (memory_of xs)) size r w
-programs_touch_few keeps reads program lawful low size r w sound few xs op sized law short = (program_reads f m, (few m op law).0, record { needs = needs; gives = gives })
+-- a work whose programs make so many reads and writes on each lawful list
+pub programs_touch_few : (M : Meaning) (lawful : List ℕ → Type 0) (low size r w : ℕ) → HasSmallPrograms M lawful low size r w → TouchesFew M lawful size r w
+programs_touch_few M lawful low size r w small xs op sized law short = rw small.meaning (program_reads f m, small.few_reads xs op sized law, record { needs = needs; gives = gives })
   where
+    keeps : RawReply → Bool
+    keeps = small.keeps
+
     m : ℕ → ℕ
     m = memory_of xs
 
     f : Program RawReply
-    f = program op
+    f = small.program op
 
     needs : (known : List (Option ℕ)) (a : ℕ) → Agrees known xs → walk_of_run keeps (run_program f (fresh_part known)) ≡ Needs a → Contains (program_reads f m) a
     needs known a h e = go (run_program f (fresh_part known)) refl e
@@ -60,8 +50,8 @@ programs_touch_few keeps reads program lawful low size r w sound few xs op sized
       where
         script_few : (x : RawReply) (p : Part) → run_program f (fresh_part known) ≡ Ends x p → length p.script ≤ w
         script_few x p q =
-            let ended = run_ended low size f (fresh_part known) p m x (part_fresh known xs h) (sound.inside m op law) q in
-            omega (arith, ap length ended.script, put_all_few [] (program_writes f m), (few m op law).1)
+            let ended = run_ended low size f (fresh_part known) p m x (part_fresh known xs h) (small.inside xs op sized law) q in
+            omega (arith, ap length ended.script, put_all_few [] (program_writes f m), small.few_writes xs op sized law)
 
         kept : (x : RawReply) (p : Part) → length p.script ≤ w → (b : Bool) → Gives (cond b p.script []) x ≡ Gives es reply → length es ≤ w
         kept x p l true e = let z : p.script ≡ es = cc in omega (arith, l, ap length z)

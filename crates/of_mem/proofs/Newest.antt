@@ -57,9 +57,9 @@ newest_learnt p cells a v l h = record {
     at b m (inl q) = rw (q, get_or-set_same p.known a (Some v) None l) (get_or-set_same cells a held None (omega (arith, h.size, l)) ∙ same (value_for p.script a) (value_for p.batch a))
     at b m (inr n) = rw (get_or-set_other p.known a b (Some v) None n) (get_or-set_other cells a b held None n ∙ h.at b m)
 
-pub holds_learnt : (c : TouchedCells) (b s : WriteSet) (a v : ℕ) → a < length c.known → HoldsNewest c b s
+pub cells_learnt : (c : TouchedCells) (b s : WriteSet) (a v : ℕ) → a < length c.known → HoldsNewest c b s
     → HoldsNewest (record { known = set c.known a (Some v); newest = set c.newest a (option_or (option_or (value_for s.entries a) (value_for b.entries a)) (Some v)) }) b s
-holds_learnt c b s a v l h =
+cells_learnt c b s a v l h =
     let size = sym (length-set c.known a (Some v)) in
     record {
       batch = h.batch ∙ size;
@@ -68,9 +68,9 @@ holds_learnt c b s a v l h =
     }
 
 -- a cell that had no number holds the one that it gets
-pub holds_met : (c d : TouchedCells) (b s : WriteSet) (a v : ℕ) → a < length c.known → Meets c d a v true → HoldsNewest c b s → HoldsNewest d b s
+pub cells_met : (c d : TouchedCells) (b s : WriteSet) (a v : ℕ) → a < length c.known → Meets c d a v true → HoldsNewest c b s → HoldsNewest d b s
 unfolding newest_at
-holds_met c d b s a v l m h = rw m.2 (subst (λ (o : Option ℕ). HoldsNewest (record { known = set c.known a (Some v); newest = set c.newest a o }) b s) here (holds_learnt c b s a v l h))
+cells_met c d b s a v l m h = rw m.2 (subst (λ (o : Option ℕ). HoldsNewest (record { known = set c.known a (Some v); newest = set c.newest a o }) b s) here (cells_learnt c b s a v l h))
   where
     first : (o q r : Option ℕ) → newer_of o (newer_of q r) ≡ None → option_or (option_or o q) (Some v) ≡ Some v
     first None None r e = refl

@@ -15,3 +15,4 @@ pub mod ProgramWork
 pub mod Calls
 pub mod Walks
 pub mod Touching
+pub mod ProgramTouches
