@@ -11,10 +11,10 @@ use Rattle.of_core.specs.Events.{Event}
 use Rattle.of_row.specs.Rows.{key_of, setup_at, row_start, IsRowPass}
 use Rattle.of_row.specs.Views.{EndedCall}
 use Rattle.of_caller.specs.declared.caller.Caller.{Caller}
-use Rattle.of_cells.specs.declared.error.EnrolErr.{EnrolErr}
-use Rattle.of_cells.specs.declared.error.EnrolErr.TheVariants.{OutOfMemory, NoCaller, Enrolled}
-use Rattle.of_cells.specs.declared.error.OpenErr.{OpenErr}
-use Rattle.of_cells.specs.declared.error.OpenErr.TheVariants.{OutOfMemory as NoRoom, Limit}
+use Rattle.of_cells.specs.declared.error.EnrolError.{EnrolError}
+use Rattle.of_cells.specs.declared.error.EnrolError.TheVariants.{OutOfMemory, NoCaller, Enrolled}
+use Rattle.of_cells.specs.declared.error.OpenError.{OpenError}
+use Rattle.of_cells.specs.declared.error.OpenError.TheVariants.{OutOfMemory as NoRoom, Limit}
 use Rattle.of_cells.specs.declared.memory.CellMemory.{CellMemory}
 use Rattle.of_cells.specs.declared.handle.CellHandle.{CellHandle}
 use Rattle.of_cells.specs.declared.saved.SavedCells.{SavedCells}
@@ -179,12 +179,12 @@ abbrev pub HasHistory : {W : Type 0} → (W → Meaning) → CellMemory W → Sa
 HasHistory meaning m d = (h : List Call) × LeadsTo meaning m d h
 
 -- why there is no handle
-abbrev pub IsEnrolCause : {W : Type 0} → CellMemory W → ℕ → EnrolErr → Type 0
+abbrev pub IsEnrolCause : {W : Type 0} → CellMemory W → ℕ → EnrolError → Type 0
 IsEnrolCause m n (OutOfMemory e) = Unit {0}
 IsEnrolCause m n (NoCaller k) = (k ≡ n) × (callers_of m ≤ n)
 IsEnrolCause m n (Enrolled k) = (k ≡ n) × (get_or m.callers.items n None ≡ None)
 
 -- and why no memory is opened
-abbrev pub IsOpenCause : (limit : ℕ) → OpenErr → Type 0
+abbrev pub IsOpenCause : (limit : ℕ) → OpenError → Type 0
 IsOpenCause limit (NoRoom e) = Unit {0}
 IsOpenCause limit (Limit k) = (k ≡ limit) × ((limit ≡ 0) ⊎ (GREATEST_LIMIT < limit))
