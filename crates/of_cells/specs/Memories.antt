@@ -158,8 +158,8 @@ PutsBack m k h = PutsCaller (number_of_handle h) (caller_of h) m k
 -- serial, and the calls of each caller are there in the order in which it made them, each once at
 -- most. It has each call that was answered, with its reply, and no call that was spent; beside
 -- these it has open calls alone. What is saved tells the last call of each caller, and no call that
--- may write is later. It respects the time between calls, where one of the numbers knows of it.
-pub record LeadsTo {W : Type 0} (meaning : W → Meaning) (m : CellMemory W) (d : SavedCells W)
+-- may write is later.
+pub record IsOneHistory {W : Type 0} (meaning : W → Meaning) (m : CellMemory W) (d : SavedCells W)
     (h : List Call) : Type 0 where
   pub serial : IsSerial (meaning (work_of m)) (cells_before meaning m) h
   pub ends : SavedHolds d (cells_after (meaning (work_of m)) (cells_before meaning m) h)
@@ -171,8 +171,19 @@ pub record LeadsTo {W : Type 0} (meaning : W → Meaning) (m : CellMemory W) (d 
   pub callers : All (λ (e : Call). e.caller < callers_of m) h
   pub last : (n : ℕ) → n < callers_of m → TellsLast d h n (tickets_before meaning m n)
   pub upto : (n : ℕ) → n < callers_of m → IsUpTo (meaning (work_of m)) h n (saved_ticket d n)
-  pub time : (j n x k y : ℕ) → HasOrderOf meaning m j n x k y
-      → ComeInOrder h n (tickets_before meaning m n + x) k (tickets_before meaning m k + y)
+
+-- The history respects the time between calls, where one of the numbers knows of it: calls that had
+-- ended come before those that had not begun.
+abbrev pub KeepsTime : {W : Type 0} → (W → Meaning) → CellMemory W → List Call → Type 0
+KeepsTime meaning m h =
+    (j n x k y : ℕ) → HasOrderOf meaning m j n x k y
+    → ComeInOrder h n (tickets_before meaning m n + x) k (tickets_before meaning m k + y)
+
+-- it does both
+pub record LeadsTo {W : Type 0} (meaning : W → Meaning) (m : CellMemory W) (d : SavedCells W)
+    (h : List Call) : Type 0 where
+  pub one : IsOneHistory meaning m d h
+  pub time : KeepsTime meaning m h
 
 -- there is one that does
 abbrev pub HasHistory : {W : Type 0} → (W → Meaning) → CellMemory W → SavedCells W → Type 0
