@@ -15,7 +15,7 @@ ghost use Rattle.of_cells.specs.Called.{CallerOpensOnly, CallerOpensNone};
 ghost use Rattle.of_cells.specs.Within.{EndsWithin, KeepsToStop, IsSpentAtLimit, RisesWithin};
 
 use crate::answer::RawAnswer;
-use crate::error::RunErr;
+use crate::error::RunError;
 use of_brake::{Brake, Fuel, Steps};
 use of_caller::{CallErr, Caller};
 use of_core::Outcome;
@@ -63,7 +63,7 @@ fn call_counted<W: Work, L: Ledger>(
     op: &[u64],
     stop: Option<u64>,
     blank: Blank,
-) -> Result<RawAnswer, RunErr>
+) -> Result<RawAnswer, RunError>
     requires name { blank.name ≡ L.name }
     requires parts { (blank.parts ≡ L.parts) × (blank.parts ≡ 1) }
     requires caller { IsCaller W.meaning row.now caller.old }
@@ -91,8 +91,8 @@ fn call_counted<W: Work, L: Ledger>(
     let mut steps: Steps<L> = Steps::new(blank);
     match caller.call(row, op, &mut brake, &mut steps) {
         Ok(outcome) => Ok(answer_of(outcome)),
-        Err(CallErr::Stopped { asked }) => Err(RunErr::Stopped { asked }),
-        Err(CallErr::Spent { seq }) => Err(RunErr::Spent { seq }),
+        Err(CallErr::Stopped { asked }) => Err(RunError::Stopped { asked }),
+        Err(CallErr::Spent { seq }) => Err(RunError::Spent { seq }),
     }
 }
 
@@ -102,7 +102,7 @@ fn go_on_counted<W: Work, L: Ledger>(
     caller: &mut Caller<W>,
     stop: Option<u64>,
     blank: Blank,
-) -> Result<RawAnswer, RunErr>
+) -> Result<RawAnswer, RunError>
     requires name { blank.name ≡ L.name }
     requires parts { (blank.parts ≡ L.parts) × (blank.parts ≡ 1) }
     requires caller { IsCaller W.meaning row.now caller.old }
@@ -129,8 +129,8 @@ fn go_on_counted<W: Work, L: Ledger>(
     let mut steps: Steps<L> = Steps::new(blank);
     match caller.go_on(row, &mut brake, &mut steps) {
         Ok(outcome) => Ok(answer_of(outcome)),
-        Err(CallErr::Stopped { asked }) => Err(RunErr::Stopped { asked }),
-        Err(CallErr::Spent { seq }) => Err(RunErr::Spent { seq }),
+        Err(CallErr::Stopped { asked }) => Err(RunError::Stopped { asked }),
+        Err(CallErr::Spent { seq }) => Err(RunError::Spent { seq }),
     }
 }
 
@@ -140,7 +140,7 @@ pub(crate) fn call_with<W: Work>(
     caller: &mut Caller<W>,
     op: &[u64],
     stop: Option<u64>,
-) -> Result<RawAnswer, RunErr>
+) -> Result<RawAnswer, RunError>
     requires caller { IsCaller W.meaning row.now caller.old }
     requires idle { IsIdle (caller_call caller.old) }
     requires some { 1 ≤ length op.now }
@@ -170,7 +170,7 @@ pub(crate) fn go_on_with<W: Work>(
     row: &Row<W>,
     caller: &mut Caller<W>,
     stop: Option<u64>,
-) -> Result<RawAnswer, RunErr>
+) -> Result<RawAnswer, RunError>
     requires caller { IsCaller W.meaning row.now caller.old }
     requires open_call { IsOpen (caller_call caller.old).place }
     ensures serves { KeepsServing W.meaning row.now caller.old caller.new }
