@@ -77,7 +77,7 @@ module _ (S : Setup) (L : List ℕ → Type 0) (B : TableStart) (m : CallState) 
   made_none asked is = let h : Told (Err (Stopped asked)) = subst Told is told.result in none_more h.0
 
   -- a call that has ended has made a step
-  ended_some : (o : Outcome) → HasEndedWith S L B m v told.before told.steps d w told.kept o → 0 < told.steps
+  pub ended_some : (o : Outcome) → HasEndedWith S L B m v told.before told.steps d w told.kept o → 0 < told.steps
   ended_some o closes = elim (none_or_some told.steps) [
     | inl none ↦
         let same : now ≡ before = ap (λ (x : View). last_caller x.kept) (told.none none) in

@@ -1,21 +1,33 @@
 -- What a call of an operation comes to.
 use Rattle.std.specs.Prelude.{◌≡◌, ℕ, ◌<◌, ◌≤◌, ◌⊎◌, List, [], ◌∷◌, ◌++◌, length, Result, Ok, Err}
 use mathlib.Core.List.{IsPrefix}
+use Rattle.of_mem.specs.Meaning.{Meaning}
 use Rattle.of_core.specs.declared.place.Outcome.{Outcome}
 use Rattle.of_core.specs.declared.place.Outcome.TheVariants.{Answered, Spent}
 use Rattle.of_core.specs.Machine.{IsOpen}
+use Rattle.of_row.specs.declared.row.Row.{Row}
+use Rattle.of_row.specs.Rows.{key_of}
 use Rattle.of_row.specs.Views.{EndedCall, last_caller}
 use Rattle.of_caller.specs.declared.caller.Caller.{Caller}
 use Rattle.of_caller.specs.Callers.{caller_call, sight_of}
 use Rattle.of_cells.specs.declared.answer.RawAnswer.{RawAnswer}
 use Rattle.of_cells.specs.declared.error.RunError.{RunError}
 use Rattle.of_cells.specs.declared.error.RunError.TheVariants.{Stopped, Spent as NoneLeft, InCall, NoCall, NoTicket}
+use Rattle.of_cells.specs.History.{IsMeant}
 use Rattle.of_cells.specs.Times.{calls_begun_in}
-use Rattle.of_cells.specs.Serving.{HasStartedIfOpen, ended_of, events_known_to}
+use Rattle.of_cells.specs.Serving.{HasStartedIfOpen, cells_at_start, ended_of, events_known_to}
 
 -- the outcome that an answer tells
 abbrev pub outcome_of : RawAnswer → Outcome
 outcome_of a = Answered a.seq a.announced a.raw a.steps
+
+-- an answer's reply is what the operation means on cells that operations lead to, one after the
+-- other, from those with which the row started
+abbrev pub AnswersAsMeant : {W : Type 0} → (W → Meaning) → Row W → (op : List ℕ)
+    → Result RawAnswer RunError → Type 0
+AnswersAsMeant meaning r op (Ok a) =
+    IsMeant (meaning (key_of r).work) (cells_at_start meaning r) op a.raw
+AnswersAsMeant meaning r op (Err e) = Unit {0}
 
 -- the calls that have ended after these, where a call of an operation has come to this
 abbrev pub made_with : (op : List ℕ) → Result RawAnswer RunError → List EndedCall → List EndedCall

@@ -11,7 +11,7 @@ use Rattle.of_cells.specs.declared.answer.RawAnswer.{RawAnswer}
 use Rattle.of_cells.specs.declared.error.RunError.{RunError}
 use Rattle.of_cells.specs.declared.error.RunError.TheVariants.{Stopped, Spent, InCall, NoCall, NoTicket}
 use Rattle.of_cells.specs.declared.handle.CellHandle.{CellHandle}
-use Rattle.of_cells.specs.Called.{IsInCall, IsOpenAt, LeavesOpen, CallerOpensOnly, CallerOpensNone}
+use Rattle.of_cells.specs.Called.{AnswersAsMeant, IsInCall, IsOpenAt, LeavesOpen, CallerOpensOnly, CallerOpensNone}
 use Rattle.of_cells.specs.Serving.{Serves, RisesByTouch, ended_of, made_before, row_step_bound, steps_made_by}
 
 -- the memory that it is a handle of
@@ -50,6 +50,12 @@ HasOpen h op = IsOpenAt op (caller_of h)
 abbrev pub StaysOpenOnlyIfStopped : {W : Type 0} → (op : List ℕ) → Result RawAnswer RunError
     → CellHandle W → Type 0
 StaysOpenOnlyIfStopped op result h = LeavesOpen op result (caller_of h)
+
+-- an answer's reply is what the operation means on cells that operations lead to, one after the
+-- other, from those with which the handle's memory was opened
+abbrev pub RepliesAsMeant : {W : Type 0} → (W → Meaning) → (op : List ℕ) → CellHandle W
+    → Result RawAnswer RunError → Type 0
+RepliesAsMeant meaning op h result = AnswersAsMeant meaning (home_of h) op result
 
 -- how many steps its open call has made
 abbrev pub steps_so_far : {W : Type 0} → CellHandle W → ℕ

@@ -9,7 +9,7 @@ ghost use Rattle.of_caller.specs.Callers.{IsCaller, caller_call, calls_begun_by}
 ghost use Rattle.of_row.specs.Rows.{key_of};
 ghost use Rattle.of_cells.specs.Serving.{KeepsServing, ended_of, row_step_bound, steps_made_by};
 ghost use Rattle.of_cells.specs.Serving.{RisesByTouch};
-ghost use Rattle.of_cells.specs.Called.{outcome_of, made_with, LeavesOpen, WasTried};
+ghost use Rattle.of_cells.specs.Called.{outcome_of, made_with, AnswersAsMeant, LeavesOpen, WasTried};
 ghost use Rattle.of_cells.specs.Called.{BeginsItsNext, ResumesItsNext, LearnsMore};
 ghost use Rattle.of_cells.specs.Called.{CallerOpensOnly, CallerOpensNone};
 ghost use Rattle.of_cells.specs.Within.{EndsWithin, KeepsToStop, IsSpentAtLimit, RisesWithin};
@@ -73,6 +73,7 @@ fn call_counted<W: Work, L: Ledger>(
     requires ticket { calls_begun_by caller.old + 1 < 4294967296 }
     ensures serves { KeepsServing W.meaning row.now caller.old caller.new }
     ensures made { ended_of caller.new ≡ made_with op.now result (ended_of caller.old) }
+    ensures means { AnswersAsMeant W.meaning row.now op.now result }
     ensures open_call { LeavesOpen op.now result caller.new }
     ensures tried { WasTried result }
     ensures bound { EndsWithin (row_step_bound W.meaning row.now) result }
@@ -110,6 +111,7 @@ fn go_on_counted<W: Work, L: Ledger>(
     ensures serves { KeepsServing W.meaning row.now caller.old caller.new }
     ensures made { ended_of caller.new
         ≡ made_with (caller_call caller.old).op result (ended_of caller.old) }
+    ensures means { AnswersAsMeant W.meaning row.now (caller_call caller.old).op result }
     ensures open_call { LeavesOpen (caller_call caller.old).op result caller.new }
     ensures tried { WasTried result }
     ensures bound { EndsWithin (row_step_bound W.meaning row.now) result }
@@ -148,6 +150,7 @@ pub(crate) fn call_with<W: Work>(
     requires ticket { calls_begun_by caller.old + 1 < 4294967296 }
     ensures serves { KeepsServing W.meaning row.now caller.old caller.new }
     ensures made { ended_of caller.new ≡ made_with op.now result (ended_of caller.old) }
+    ensures means { AnswersAsMeant W.meaning row.now op.now result }
     ensures open_call { LeavesOpen op.now result caller.new }
     ensures tried { WasTried result }
     ensures bound { EndsWithin (row_step_bound W.meaning row.now) result }
@@ -176,6 +179,7 @@ pub(crate) fn go_on_with<W: Work>(
     ensures serves { KeepsServing W.meaning row.now caller.old caller.new }
     ensures made { ended_of caller.new
         ≡ made_with (caller_call caller.old).op result (ended_of caller.old) }
+    ensures means { AnswersAsMeant W.meaning row.now (caller_call caller.old).op result }
     ensures open_call { LeavesOpen (caller_call caller.old).op result caller.new }
     ensures tried { WasTried result }
     ensures bound { EndsWithin (row_step_bound W.meaning row.now) result }

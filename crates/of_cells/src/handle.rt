@@ -29,7 +29,7 @@ impl<W: Work> CellHandle<W> {
     ghost use Rattle.of_cells.specs.Memories.{IsCellMemory, IsFrom, IsStill, HasMadeOf, HasOpenOf};
     ghost use Rattle.of_cells.specs.Handles.{OpensOnly, OpensNone, MakesAtMost, GoesOnWithin};
     ghost use Rattle.of_cells.specs.Handles.{MakesByTouch, GoesOnByTouch};
-    ghost use Rattle.of_cells.specs.Handles.{steps_of_calls};
+    ghost use Rattle.of_cells.specs.Handles.{steps_of_calls, RepliesAsMeant};
     ghost use Rattle.of_cells.specs.Within.{RisesWithin};
     ghost use Rattle.of_cells.specs.Telling.{BeginsAfterHeard, ResumesAfterHeard, KeepsKnown};
     ghost use Rattle.of_cells.specs.Telling.{LeavesOrder, TellsMemory};
@@ -51,6 +51,7 @@ impl<W: Work> CellHandle<W> {
         ensures handle { IsCellHandle W.meaning self.new }
         ensures same { IsSame self.old self.new }
         ensures made { made_by self.new ≡ made_with op.now result (made_by self.old) }
+        ensures means { RepliesAsMeant W.meaning op.now self.old result }
         ensures open_call { StaysOpenOnlyIfStopped op.now result self.new }
         ensures cause { RefusesCall self.old result }
         ensures unmade { LeavesAsItWas result self.old self.new }
@@ -73,6 +74,7 @@ impl<W: Work> CellHandle<W> {
         ensures handle { IsCellHandle W.meaning self.new }
         ensures same { IsSame self.old self.new }
         ensures made { made_by self.new ≡ made_with op.now result (made_by self.old) }
+        ensures means { RepliesAsMeant W.meaning op.now self.old result }
         ensures open_call { StaysOpenOnlyIfStopped op.now result self.new }
         ensures cause { RefusesCall self.old result }
         ensures unmade { LeavesAsItWas result self.old self.new }
@@ -95,6 +97,7 @@ impl<W: Work> CellHandle<W> {
         ensures handle { IsCellHandle W.meaning self.new }
         ensures same { IsSame self.old self.new }
         ensures made { made_by self.new ≡ made_with op.now result (made_by self.old) }
+        ensures means { RepliesAsMeant W.meaning op.now self.old result }
         ensures open_call { StaysOpenOnlyIfStopped op.now result self.new }
         ensures cause { RefusesCall self.old result }
         ensures unmade { LeavesAsItWas result self.old self.new }
@@ -123,6 +126,7 @@ impl<W: Work> CellHandle<W> {
         ensures same { IsSame self.old self.new }
         ensures made { made_by self.new
             ≡ made_with (last_operation_of self.old) result (made_by self.old) }
+        ensures means { RepliesAsMeant W.meaning (last_operation_of self.old) self.old result }
         ensures open_call { StaysOpenOnlyIfStopped (last_operation_of self.old) result self.new }
         ensures cause { RefusesToGoOn self.old result }
         ensures unmade { LeavesAsItWas result self.old self.new }
@@ -144,6 +148,7 @@ impl<W: Work> CellHandle<W> {
         ensures same { IsSame self.old self.new }
         ensures made { made_by self.new
             ≡ made_with (last_operation_of self.old) result (made_by self.old) }
+        ensures means { RepliesAsMeant W.meaning (last_operation_of self.old) self.old result }
         ensures open_call { StaysOpenOnlyIfStopped (last_operation_of self.old) result self.new }
         ensures cause { RefusesToGoOn self.old result }
         ensures unmade { LeavesAsItWas result self.old self.new }
@@ -166,6 +171,7 @@ impl<W: Work> CellHandle<W> {
         ensures same { IsSame self.old self.new }
         ensures made { made_by self.new
             ≡ made_with (last_operation_of self.old) result (made_by self.old) }
+        ensures means { RepliesAsMeant W.meaning (last_operation_of self.old) self.old result }
         ensures open_call { StaysOpenOnlyIfStopped (last_operation_of self.old) result self.new }
         ensures cause { RefusesToGoOn self.old result }
         ensures unmade { LeavesAsItWas result self.old self.new }
