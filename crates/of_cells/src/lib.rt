@@ -14,7 +14,7 @@ mod seating;
 mod telling;
 
 pub use answer::RawAnswer;
-pub use error::{EnrolErr, InUse, LimitErr, OpenErr, RunErr};
+pub use error::{EnrolError, InUse, LimitError, OpenError, RunError};
 pub use handle::CellHandle;
 pub use memory::CellMemory;
 pub use of_cell::GREATEST_LIMIT;
