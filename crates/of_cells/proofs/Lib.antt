@@ -5,3 +5,4 @@ pub mod Closing
 pub mod Holding
 pub mod Still
 pub mod Renumbering
+mod Meant

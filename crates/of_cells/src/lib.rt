@@ -3,6 +3,7 @@
 #![tactic(auto)]
 
 mod answer;
+mod at_once;
 mod calling;
 mod error;
 mod handle;
@@ -14,7 +15,8 @@ mod seating;
 mod telling;
 
 pub use answer::RawAnswer;
-pub use error::{EnrolErr, InUse, LimitErr, OpenErr, RunErr};
+pub use at_once::CellTask;
+pub use error::{EnrolError, InUse, LimitError, OpenError, RunError};
 pub use handle::CellHandle;
 pub use memory::CellMemory;
 pub use of_cell::GREATEST_LIMIT;
