@@ -37,11 +37,11 @@ use Rattle.of_row.specs.Trail.{IsRunBy}
 use Rattle.of_row.specs.Rows.{key_of, setup_at, row_start, view_of_pass, IsRowPass, MayStartFrom}
 use Rattle.of_row.specs.Keys.{FitsWork}
 use Rattle.of_row.specs.Passes.{ClosesWith, ClosesWithDurable}
-use Rattle.of_row.specs.Moments.{ExplainsEndedCalls, StopsLoseNothing, LosesNothing, words_alone}
+use Rattle.of_row.specs.Moments.{ExplainsEndedCalls, HaveOwnSequence, StopsLoseNothing, LosesNothing, words_alone}
 use Rattle.of_cells.specs.declared.saved.SavedCells.{SavedCells}
 use Rattle.of_cells.specs.History.{ExplainsEnd, IsOneOf}
 use Rattle.of_cells.specs.Serving.{made_before}
-use Rattle.of_cells.specs.Saving.{ExplainsKept, HasOpenOperation, HasOnlyKept, RespectsEvents, HistoryLeads, HoldsReply, TellsLast, IsSavedCells, SavesHistory, saved_cells}
+use Rattle.of_cells.specs.Saving.{ExplainsKept, HaveKeptSequences, HasOpenOperation, HasOnlyKept, RespectsEvents, HistoryLeads, HoldsReply, TellsLast, IsSavedCells, SavesHistory, saved_cells}
 
 -- ---- lists
 
@@ -104,6 +104,10 @@ module _ {W : Type 0} (meaning : W → Meaning) (lawful : W → List ℕ → Typ
   explained : (x : KnownCaller) → ExplainsEndedCalls S B h x → ExplainsKept meaning r h x
   explained x all y l = ends_as x.machine.caller (made_before meaning r x.machine.caller + y + 1) (get_or x.ended y no_ended).op (get_or x.ended y no_ended).outcome (all y l)
 
+  -- each with its own sequence
+  sequenced : (x : KnownCaller) → HaveOwnSequence S B h lost.by_seq.sequences x → HaveKeptSequences meaning r h lost.by_seq.sequences x
+  sequenced x all = all
+
   -- and no others
   owned : (x : KnownCaller) → IsRunBy S B lost.events x → HasOnlyKept meaning r h x
   owned x told = All-from_get_or (λ (e : Call). e.caller ≡ x.machine.caller → IsOneOf (made_before meaning r x.machine.caller) x.ended (HasOpenOperation x) e) h no_call (λ y l mine.
@@ -163,7 +167,10 @@ module _ {W : Type 0} (meaning : W → Meaning) (lawful : W → List ℕ → Typ
       serial = lost.linearizes.legal;
       ends = λ a high lt. found_at a (omega (arith, lt, cells_are)) ∙ lost.recovered_so.numbers a (omega (arith, high, callers_are)) (omega (arith, lt, cells_are));
       order = lost.linearizes.rising;
+      sequences = lost.by_seq.sequences;
+      by_seq = lost.by_seq.stands;
       calls = each_of explained v.kept (lost.explained meets.seat v meets.view seat.2);
+      own_seq = each_of sequenced v.kept (lost.sequenced meets.seat v meets.view seat.2);
       only = each_of owned v.kept (lost.reached.callers meets.seat v meets.view seat.2);
       callers = λ y x l. (lost.linearizes.begun y x l).0;
       last = tells_last;

@@ -22,10 +22,10 @@ use Rattle.of_caller.specs.Callers.{caller_call}
 use Rattle.of_cells.specs.declared.memory.CellMemory.{CellMemory}
 use Rattle.of_cells.specs.declared.handle.CellHandle.{CellHandle}
 use Rattle.of_cells.specs.declared.saved.SavedCells.{SavedCells}
-use Rattle.of_cells.specs.History.{ExplainsAll, HasOnly, IsOneOf}
+use Rattle.of_cells.specs.History.{ExplainsAll, HaveOwnSequences, HasOnly, IsOneOf}
 use Rattle.of_cells.specs.Called.{IsOpenAt}
 use Rattle.of_cells.specs.Serving.{KeepsSo, IsNew, Serves, ServeAll, AllStand, IsKeptOf, KeepsThose, KnowsPasts, KnowsMore, IsKnowledge, ended_of, events_known_to, cells_at_start, made_before}
-use Rattle.of_cells.specs.Saving.{ExplainsKept, HasOpenOperation, HasOnlyKept, HistoryLeads}
+use Rattle.of_cells.specs.Saving.{HasOpenOperation, HasOnlyKept, HistoryLeads}
 use Rattle.of_cells.specs.Handles.{IsCellHandle}
 use Rattle.of_cells.specs.Memories.{IsCellMemory, IsFrom, HasMadeOf, HasOpenOf, HasMadeNothing, HasNoneOpen, KnowsOthers, OthersStayOpen, OthersKnowOrder, HasHistory, row_of}
 use Rattle.of_cells.proofs.Seats.{number_below, is_within}
@@ -157,10 +157,11 @@ module _ {W : Type 0} where
 
     -- ---- what a close leaves
 
-    from_kept : (r : Row W) (h : List Call) (n : ℕ) (c : Caller W) (xs : List KnownCaller) → KeepsSo n (IsKeptOf c) xs → Each (ExplainsKept meaning r h) xs → ExplainsAll h n (made_before meaning r n) (ended_of c)
-    from_kept r h n c [] k all = absurd k
-    from_kept r h n c (x ∷ xs) (inl k) all = subst (λ (z : ℕ × List EndedCall). ExplainsAll h z.0 (made_before meaning r z.0) z.1) (λ i. (k.0 i, k.1.ended i)) all.0
-    from_kept r h n c (x ∷ xs) (inr k) all = from_kept r h n c xs k all.1
+    -- what is so of the ended calls of each kept caller is so of those of a caller that is here
+    from_kept : (P : (caller n : ℕ) → List EndedCall → Type 0) (r : Row W) (n : ℕ) (c : Caller W) (xs : List KnownCaller) → KeepsSo n (IsKeptOf c) xs → Each (λ (x : KnownCaller). P x.machine.caller (made_before meaning r x.machine.caller) x.ended) xs → P n (made_before meaning r n) (ended_of c)
+    from_kept P r n c [] k all = absurd k
+    from_kept P r n c (x ∷ xs) (inl k) all = subst (λ (z : ℕ × List EndedCall). P z.0 (made_before meaning r z.0) z.1) (λ i. (k.0 i, k.1.ended i)) all.0
+    from_kept P r n c (x ∷ xs) (inr k) all = from_kept P r n c xs k all.1
 
     -- the history has none but these calls of the caller
     only_kept : (m : CellMemory W) (r : Row W) (h : List Call) (n : ℕ) (c : Caller W) → get_or m.callers.items n None ≡ Some c → (xs : List KnownCaller) → KeepsSo n (IsKeptOf c) xs → Each (HasOnlyKept meaning r h) xs
@@ -186,22 +187,26 @@ module _ {W : Type 0} where
     pub history : (m : CellMemory W) (d : SavedCells W) (r : Row W) (v : View) → r ≡ row_of m → KeepsThose m.callers.items (length m.callers.items) v.kept → KnowsPasts m.callers.items (length m.callers.items) v.past → (h : List Call) × HistoryLeads meaning r v d h → HasHistory meaning m d
     history m d r v same keeps pasts found =
         let h = found.0 in
-        let leads = found.1 in
-        let Leads : Row W → Type 0 = λ x. (n : ℕ) (es : List EndedCall) → HasMadeOf m n es → ExplainsAll h n (made_before meaning x n) es × HasOnly h n (made_before meaning x n) es (HasOpenOf m n) in
-        let kept : Leads r = (λ n es made.
+        let there : HistoryLeads meaning (row_of m) v d h = subst (λ (x : Row W). HistoryLeads meaning x v d h) same found.1 in
+        let Held : ℕ → List EndedCall → Type 0 = λ n es. ExplainsAll h n (made_before meaning (row_of m) n) es × HaveOwnSequences h there.sequences n (made_before meaning (row_of m) n) es × HasOnly h n (made_before meaning (row_of m) n) es (HasOpenOf m n) in
+        let held : (n : ℕ) (es : List EndedCall) → HasMadeOf m n es → Held n es = (λ n es made.
         let k = keeps n made.caller (is_within m.callers.items n made.caller made.here) made.here in
-        subst (λ (zs : List EndedCall). ExplainsAll h n (made_before meaning r n) zs × HasOnly h n (made_before meaning r n) zs (HasOpenOf m n)) made.made
-        (from_kept r h n made.caller v.kept k leads.calls, only_kept m r h n made.caller made.here v.kept k leads.only)) in
-        let there : HistoryLeads meaning (row_of m) v d h = subst (λ (x : Row W). HistoryLeads meaning x v d h) same leads in
-        let now : Leads (row_of m) = subst Leads same kept in (
+        subst (Held n) made.made (
+          from_kept (ExplainsAll h) (row_of m) n made.caller v.kept k there.calls,
+          from_kept (HaveOwnSequences h there.sequences) (row_of m) n made.caller v.kept k there.own_seq,
+          only_kept m (row_of m) h n made.caller made.here v.kept k there.only,
+        )) in (
           h,
           record {
             one = record {
               serial = there.serial;
               ends = there.ends;
               order = there.order;
-              made = λ n es made. (now n es made).0;
-              only = λ n es made. (now n es made).1;
+              sequences = there.sequences;
+              by_seq = there.by_seq;
+              made = λ n es made. (held n es made).0;
+              own_seq = λ n es made. (held n es made).1;
+              only = λ n es made. (held n es made).2;
               callers = there.callers;
               last = there.last;
               upto = there.upto;

@@ -10,6 +10,7 @@ use Rattle.of_core.specs.declared.place.Outcome.{Outcome}
 use Rattle.of_core.specs.declared.place.Outcome.TheVariants.{Answered, Spent}
 use Rattle.of_core.specs.Machine.{Call, no_call}
 use Rattle.of_core.specs.Claim.{IsNewerCall}
+use Rattle.of_core.specs.Linear.{Sequences, HasOwnSequence}
 use Rattle.of_core.specs.History.{CallsHaveReplies, numbers_after_calls}
 use Rattle.of_row.specs.Views.{EndedCall, no_ended}
 
@@ -57,6 +58,11 @@ abbrev pub ExplainsAll : List Call → (caller n : ℕ) → List EndedCall → T
 ExplainsAll h c n es =
     (y : ℕ) → y < length es
     → ExplainsEnd h c (n + y + 1) (get_or es y no_ended).op (get_or es y no_ended).outcome
+
+-- and each that was answered has its own sequence in the history
+abbrev pub HaveOwnSequences : List Call → Sequences → (caller n : ℕ) → List EndedCall → Type 0
+HaveOwnSequences h s c n es =
+    (y : ℕ) → y < length es → HasOwnSequence h s c (n + y + 1) (get_or es y no_ended).outcome
 
 -- the entry is one of these calls, the first of which has the number after n, or the one after
 -- them, which is open

@@ -6,6 +6,7 @@ use Rattle.std.proofs.Common.{get_or}
 use Rattle.of_cell.specs.declared.word.TheConstants.{GREATEST_LIMIT}
 use Rattle.of_mem.specs.Meaning.{Meaning}
 use Rattle.of_core.specs.Machine.{Call}
+use Rattle.of_core.specs.Linear.{Sequences, StandsBySequence}
 use Rattle.of_row.specs.declared.row.Row.{Row}
 use Rattle.of_core.specs.Events.{Event}
 use Rattle.of_row.specs.Rows.{key_of, setup_at, row_start, IsRowPass}
@@ -18,7 +19,7 @@ use Rattle.of_cells.specs.declared.error.OpenError.TheVariants.{OutOfMemory as N
 use Rattle.of_cells.specs.declared.memory.CellMemory.{CellMemory}
 use Rattle.of_cells.specs.declared.handle.CellHandle.{CellHandle}
 use Rattle.of_cells.specs.declared.saved.SavedCells.{SavedCells}
-use Rattle.of_cells.specs.History.{IsSerial, cells_after, StandsInOrder, ExplainsAll, HasOnly, IsUpTo, ComeInOrder}
+use Rattle.of_cells.specs.History.{IsSerial, cells_after, StandsInOrder, ExplainsAll, HaveOwnSequences, HasOnly, IsUpTo, ComeInOrder}
 use Rattle.of_cells.specs.Times.{calls_ended_in, EndBefore}
 use Rattle.of_cells.specs.Called.{IsOpenAt}
 use Rattle.of_cells.specs.Serving.{ServeAll, AllHere, KnowsMore, IsKnowledge, ended_of, events_known_to, events_in, cells_at_start, made_before}
@@ -156,16 +157,21 @@ PutsBack m k h = PutsCaller (number_of_handle h) (caller_of h) m k
 
 -- The history leads from the cells with which the memory was opened to the saved ones. It is
 -- serial, and the calls of each caller are there in the order in which it made them, each once at
--- most. It has each call that was answered, with its reply, and no call that was spent; beside
--- these it has open calls alone. What is saved tells the last call of each caller, and no call that
--- may write is later.
+-- most. It stands by sequence: sequences do not fall, and of one sequence the announced calls come
+-- first, by caller. It has each call that was answered, with its reply and its own sequence, and no
+-- call that was spent; beside these it has open calls alone. What is saved tells the last call of
+-- each caller, and no call that may write is later.
 pub record IsOneHistory {W : Type 0} (meaning : W → Meaning) (m : CellMemory W) (d : SavedCells W)
     (h : List Call) : Type 0 where
   pub serial : IsSerial (meaning (work_of m)) (cells_before meaning m) h
   pub ends : SavedHolds d (cells_after (meaning (work_of m)) (cells_before meaning m) h)
   pub order : StandsInOrder h
+  pub sequences : Sequences
+  pub by_seq : StandsBySequence h sequences
   pub made : (n : ℕ) (es : List EndedCall) → HasMadeOf m n es
       → ExplainsAll h n (tickets_before meaning m n) es
+  pub own_seq : (n : ℕ) (es : List EndedCall) → HasMadeOf m n es
+      → HaveOwnSequences h sequences n (tickets_before meaning m n) es
   pub only : (n : ℕ) (es : List EndedCall) → HasMadeOf m n es
       → HasOnly h n (tickets_before meaning m n) es (HasOpenOf m n)
   pub callers : All (λ (e : Call). e.caller < callers_of m) h

@@ -12,10 +12,11 @@ use Rattle.of_core.specs.Machine.{Call, no_call, IsOpen}
 use Rattle.of_core.specs.Starts.{start_on}
 use Rattle.of_row.specs.declared.row.Row.{Row}
 use Rattle.of_core.specs.Events.{Event}
+use Rattle.of_core.specs.Linear.{Sequences, StandsBySequence}
 use Rattle.of_row.specs.Rows.{key_of, setup_at, row_start, MayStartFrom}
 use Rattle.of_row.specs.Views.{KnownCaller, View}
 use Rattle.of_cells.specs.declared.saved.SavedCells.{SavedCells}
-use Rattle.of_cells.specs.History.{IsSerial, cells_after, StandsInOrder, ExplainsAll, HasOnly, IsUpTo, ComeInOrder}
+use Rattle.of_cells.specs.History.{IsSerial, cells_after, StandsInOrder, ExplainsAll, HaveOwnSequences, HasOnly, IsUpTo, ComeInOrder}
 use Rattle.of_cells.specs.Times.{EndBefore}
 use Rattle.of_cells.specs.Serving.{cells_at_start, made_before}
 
@@ -98,6 +99,12 @@ abbrev pub ExplainsKept : {W : Type 0} → (W → Meaning) → Row W → List Ca
 ExplainsKept meaning r h x =
     ExplainsAll h x.machine.caller (made_before meaning r x.machine.caller) x.ended
 
+-- and each that was answered has its own sequence
+abbrev pub HaveKeptSequences : {W : Type 0} → (W → Meaning) → Row W → List Call → Sequences
+    → KnownCaller → Type 0
+HaveKeptSequences meaning r h s x =
+    HaveOwnSequences h s x.machine.caller (made_before meaning r x.machine.caller) x.ended
+
 -- the kept caller's call of this operation is open
 abbrev pub HasOpenOperation : KnownCaller → (op : List ℕ) → Type 0
 HasOpenOperation x op = IsOpen x.machine.place × (x.machine.op ≡ op)
@@ -121,7 +128,10 @@ pub record HistoryLeads {W : Type 0} (meaning : W → Meaning) (r : Row W) (v : 
   pub serial : IsSerial (meaning (key_of r).work) (cells_at_start meaning r) h
   pub ends : SavedHolds d (cells_after (meaning (key_of r).work) (cells_at_start meaning r) h)
   pub order : StandsInOrder h
+  pub sequences : Sequences
+  pub by_seq : StandsBySequence h sequences
   pub calls : Each (ExplainsKept meaning r h) v.kept
+  pub own_seq : Each (HaveKeptSequences meaning r h sequences) v.kept
   pub only : Each (HasOnlyKept meaning r h) v.kept
   pub callers : All (λ (e : Call). e.caller < (key_of r).callers) h
   pub last : (n : ℕ) → n < (key_of r).callers → TellsLast d h n (made_before meaning r n)

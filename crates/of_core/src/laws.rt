@@ -100,9 +100,11 @@ pub fn every_call<W: Work>(limit: u32, work: W)
 
 /// Every schedule is durably linearizable: one serial order of all calls that were answered, and of
 /// some open ones, has all replies, and each call comes after those that had ended when it began.
-/// Recovery at any moment finds what that order leads to. It tells each caller whether its last
-/// call took effect, and its reply. Lives that go on one from the other have such orders, which
-/// together are one from the first start. No outcome is older than its call.
+/// The order stands by sequence, of one sequence the announced calls first and by caller, and each
+/// answered call has the sequence of its answer. Recovery at any moment finds what that order leads
+/// to. It tells each caller whether its last call took effect, and its reply. Lives that go on one
+/// from the other have such orders, which together are one from the first start. No outcome is
+/// older than its call.
 pub fn every_order<W: Work>(limit: u32, work: W)
     ensures order { EveryOrder (setup_for W.many W.size W.meaning limit work) (W.lawful work) }
     ensures detectable { Detectable (setup_for W.many W.size W.meaning limit work) (W.lawful work) }

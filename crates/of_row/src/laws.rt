@@ -76,9 +76,9 @@ pub fn runs_are_linearizable<W: Work>(limit: u32, work: W)
 }
 
 /// A row that stops between any two steps loses no call that was answered: a schedule leaves its
-/// words as they are then, one serial order of calls explains how all calls have ended, and
-/// recovery of the words finds what that order leads to. So it is of the words of a closed row, for
-/// all calls that its pass keeps.
+/// words as they are then, one serial order of calls explains how all calls have ended, it stands
+/// by sequence, and recovery of the words finds what that order leads to. So it is of the words of
+/// a closed row, for all calls that its pass keeps.
 pub fn stops_lose_nothing<W: Work>(limit: u32, work: W)
     ensures stops { StopsLoseNothing (W.lawful work)
         (setup_for W.many W.size W.meaning limit work) }
