@@ -25,7 +25,8 @@ use Rattle.of_core.specs.Machine.{Call, no_call, is_idle, IsOpen}
 use Rattle.of_core.specs.Events.{Event, start_ticket}
 use Rattle.of_cells.specs.Times.{calls_ended_in, calls_begun_in}
 use Rattle.of_core.specs.Calls.{operations_begun}
-use Rattle.of_core.specs.Laws.{setup_for}
+use Rattle.of_core.specs.Grounds.{GoodGrounds}
+use Rattle.of_core.specs.Laws.{setup_for, StartsMeetInvariant, SchedulesKeepInvariant, InvariantIsSound, FirstStateIsStart}
 use Rattle.of_core.specs.Linear.{ExplainsOutcome, FindsCall, recovered_number}
 use Rattle.of_core.specs.Starts.{IsDurable, IsStartRow, start_from_durable}
 use Rattle.of_row.specs.declared.member.Pass.{Pass}
@@ -41,7 +42,9 @@ use Rattle.of_row.specs.Moments.{ExplainsEndedCalls, HaveOwnSequence, StopsLoseN
 use Rattle.of_cells.specs.declared.saved.SavedCells.{SavedCells}
 use Rattle.of_cells.specs.History.{ExplainsEnd, IsOneOf}
 use Rattle.of_cells.specs.Serving.{made_before}
-use Rattle.of_cells.specs.Saving.{ExplainsKept, HaveKeptSequences, HasOpenOperation, HasOnlyKept, RespectsEvents, HistoryLeads, HoldsReply, TellsLast, IsSavedCells, SavesHistory, saved_cells}
+use Rattle.of_cells.specs.Saving.{ExplainsKept, HaveKeptSequences, HasOpenOperation, HasOnlyKept, RespectsEvents, HistoryLeads, HoldsReply, TellsLast, IsSavedCells, SavesHistory, KeepsOwnCells, saved_cells}
+use Rattle.of_cells.proofs.OwnCells.{own_stay}
+use Rattle.of_cells.proofs.Holding.{number_at}
 
 -- ---- lists
 
@@ -210,9 +213,19 @@ module _ {W : Type 0} (many size : W → ℕ) (meaning : W → Meaning) (lawful 
     (d : SavedCells W) (work_is : d.work ≡ (key_of r).work) (limit_is : d.limit ≡ (key_of r).limit) (few_limit : d.limit ≤ GREATEST_LIMIT) (callers_are : d.shape.callers ≡ (key_of r).callers) (instrs : d.shape.instrs ≡ MOST_INSTRS) (cells_are : d.shape.cells ≡ (key_of r).cells) (fit : FitsWork many size (key_of r))
     (law : StopsLoseNothing (lawful d.work) (setup_for many size meaning d.limit d.work))
     (row_is : d.row.items ≡ recovered_words d.shape.callers d.shape.cells durable) (recovers : RecoversData d.shape.callers d.shape.cells durable (recovered_words d.shape.callers d.shape.cells durable)) where
-  law_at : StopsLoseNothing (lawful (key_of r).work) (setup_at meaning r)
-  law_at = subst (λ (k : (W × ℕ) × (ℕ × ℕ)). StopsLoseNothing (lawful k.0.0) (setup_of k.0.1 k.1.0 k.1.1 (meaning k.0.0)))
-      (λ i. ((work_is i, (ap many work_is ∙ sym fit.0) i), ((ap size work_is ∙ sym fit.1) i, limit_is i))) law
+  abbrev T : Setup
+  T = setup_at meaning r
+
+  abbrev K : List ℕ → Type 0
+  K = lawful (key_of r).work
+
+  -- the laws of the setup that the sizes make are those of the row's
+  at_row : (P : (List ℕ → Type 0) → Setup → Type 0) → P (lawful d.work) (setup_for many size meaning d.limit d.work) → P K T
+  at_row P h = subst (λ (k : (W × ℕ) × (ℕ × ℕ)). P (lawful k.0.0) (setup_of k.0.1 k.1.0 k.1.1 (meaning k.0.0)))
+      (λ i. ((work_is i, (ap many work_is ∙ sym fit.0) i), ((ap size work_is ∙ sym fit.1) i, limit_is i))) h
+
+  law_at : StopsLoseNothing K T
+  law_at = at_row StopsLoseNothing law
 
   room_at : HasRoom (key_of r).callers (key_of r).cells
   room_at = subst (λ (k : ℕ × ℕ). HasRoom k.0 k.1) (λ i. (sym fit.0 i, sym fit.1 i)) (fits (key_of r).work)
@@ -247,3 +260,17 @@ module _ {W : Type 0} (many size : W → ℕ) (meaning : W → Meaning) (lawful 
         (ap (λ (C : TableStart). length (map payload_of C.cells)) start_here ∙ cells_found meaning lawful r room_at law_at p seat closes.words closes.meets durable closes.durable recovers_here)
         (λ a l. ap (λ (C : TableStart). get_or (map payload_of C.cells) a 0) start_here ∙ number_found meaning lawful r room_at law_at p seat closes.words closes.meets durable closes.durable recovers_here a l),
   )
+
+  module _ (start : StartsMeetInvariant (setup_for many size meaning d.limit d.work) (lawful d.work)) (runs : SchedulesKeepInvariant (setup_for many size meaning d.limit d.work) (lawful d.work)) (grounds : GoodGrounds (setup_for many size meaning d.limit d.work) (lawful d.work))
+      (sound : InvariantIsSound (setup_for many size meaning d.limit d.work) (lawful d.work)) (first : FirstStateIsStart) where
+    found_here : (a : ℕ) → a < T.cells → get_or (saved_cells d) a 0 ≡ recovered_number T (words_alone closes.meets.state.words) a
+    found_here a l = ap (λ (C : TableStart). get_or (map payload_of C.cells) a 0) start_here ∙ number_found meaning lawful r room_at law_at p seat closes.words closes.meets durable closes.durable recovers_here a l
+
+    pub own_so : KeepsOwnCells meaning r d
+    own_so n low same a from upto =
+        let lt : a < T.cells = omega (arith, low, upto, room_at.own) in
+        let own_in : ticket_cell T n < T.cells = omega (arith, low, room_at.own) in
+        found_here a lt
+        ∙ own_stay T K (at_row (λ L S. StartsMeetInvariant S L) start) (at_row (λ L S. SchedulesKeepInvariant S L) runs) (at_row (λ L S. GoodGrounds S L) grounds) (at_row (λ L S. InvariantIsSound S L) sound) first law_at (row_start meaning r) closes.words (view_of_pass p) closes.meets n low own_in
+        (sym (found_here (ticket_cell T n) own_in) ∙ same) a (from, upto) lt
+        ∙ sym (number_at (row_start meaning r).cells a)

@@ -23,7 +23,7 @@ use Rattle.of_cells.specs.History.{IsSerial, cells_after, StandsInOrder, Explain
 use Rattle.of_cells.specs.Times.{calls_ended_in, EndBefore}
 use Rattle.of_cells.specs.Called.{IsOpenAt}
 use Rattle.of_cells.specs.Serving.{ServeAll, AllHere, KnowsMore, IsKnowledge, ended_of, events_known_to, events_in, cells_at_start, made_before}
-use Rattle.of_cells.specs.Saving.{SavedHolds, TellsLast, saved_ticket}
+use Rattle.of_cells.specs.Saving.{SavedHolds, TellsLast, KeepsOwnCells, saved_ticket}
 use Rattle.of_cells.specs.Handles.{home_of, number_of_handle, caller_of}
 
 abbrev pub row_of : {W : Type 0} → CellMemory W → Row W
@@ -194,6 +194,11 @@ pub record LeadsTo {W : Type 0} (meaning : W → Meaning) (m : CellMemory W) (d 
 -- there is one that does
 abbrev pub HasHistory : {W : Type 0} → (W → Meaning) → CellMemory W → SavedCells W → Type 0
 HasHistory meaning m d = (h : List Call) × LeadsTo meaning m d h
+
+-- of a caller that is saved with no call since the memory was opened, the own cells are as they
+-- were then, and so is its last reply
+abbrev pub KeepsOwn : {W : Type 0} → (W → Meaning) → CellMemory W → SavedCells W → Type 0
+KeepsOwn meaning m d = KeepsOwnCells meaning (row_of m) d
 
 -- why there is no handle
 abbrev pub IsEnrolCause : {W : Type 0} → CellMemory W → ℕ → EnrolError → Type 0
