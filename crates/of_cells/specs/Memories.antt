@@ -5,11 +5,12 @@ use Rattle.std.specs.List.{All}
 use Rattle.std.proofs.Common.{get_or}
 use Rattle.of_cell.specs.declared.word.TheConstants.{GREATEST_LIMIT}
 use Rattle.of_mem.specs.Meaning.{Meaning}
+use Rattle.of_core.specs.Fit.{IsEmptyWithRoom}
 use Rattle.of_core.specs.Machine.{Call}
 use Rattle.of_core.specs.Linear.{Sequences, StandsBySequence}
 use Rattle.of_row.specs.declared.row.Row.{Row}
 use Rattle.of_core.specs.Events.{Event}
-use Rattle.of_row.specs.Rows.{key_of, setup_at, row_start, IsRowPass}
+use Rattle.of_row.specs.Rows.{key_of, setup_at, row_start, IsRowPass, IsFirstPass}
 use Rattle.of_row.specs.Views.{EndedCall}
 use Rattle.of_caller.specs.declared.caller.Caller.{Caller}
 use Rattle.of_cells.specs.declared.error.EnrolError.{EnrolError}
@@ -22,7 +23,7 @@ use Rattle.of_cells.specs.declared.saved.SavedCells.{SavedCells}
 use Rattle.of_cells.specs.History.{IsSerial, cells_after, StandsInOrder, ExplainsAll, HaveOwnSequences, HasOnly, IsUpTo, ComeInOrder}
 use Rattle.of_cells.specs.Times.{calls_ended_in, EndBefore}
 use Rattle.of_cells.specs.Called.{IsOpenAt}
-use Rattle.of_cells.specs.Serving.{ServeAll, AllHere, KnowsMore, IsKnowledge, ended_of, events_known_to, events_in, cells_at_start, made_before}
+use Rattle.of_cells.specs.Serving.{ServeAll, AllHere, KnowsMore, IsKnowledge, ended_of, events_known_to, events_in, cells_at_start, durable_cells_of, made_before}
 use Rattle.of_cells.specs.Saving.{SavedHolds, TellsLast, KeepsOwnCells, saved_ticket}
 use Rattle.of_cells.specs.Handles.{home_of, number_of_handle, caller_of}
 
@@ -32,9 +33,11 @@ row_of m = arc_value m.row
 -- it is open
 pub record IsCellMemory {W : Type 0} (meaning : W → Meaning) (m : CellMemory W) : Type 0 where
   pub pass : IsRowPass (row_of m) m.pass
+  pub first : IsFirstPass m.pass
   pub each : length m.callers.items ≡ (key_of (row_of m)).callers
   pub serve : ServeAll meaning (row_of m) m.callers.items
   pub known : IsKnowledge (row_of m) m.known
+  pub room : IsEmptyWithRoom (durable_cells_of (row_of m)) m.room
 
 -- the work whose operations it runs
 abbrev pub work_of : {W : Type 0} → CellMemory W → W

@@ -21,11 +21,15 @@ use std::sync::Arc;
 pub struct CellMemory<W: Work> {
     alloc: Global,
     row: Arc<Row<W>, Global>,
+    /// The row's first pass: it has asked for each number.
     pass: Pass,
     /// What the handles knew that have left.
     known: Option<Pass>,
     /// The callers that have no handle, by their numbers.
     callers: Vec<Option<Caller<W>>>,
+    /// The memory into which a close loads the durable words, so that it takes none. It is empty
+    /// before, so that none of it is touched while the memory is in use.
+    room: Vec<u64>,
 }
 
 // The shape of a table for a work.
@@ -133,6 +137,7 @@ impl<W: Work> CellMemory<W> {
         ensures idle { IfOk result HasNoneOpen }
     {
         let (callers, pass) = seat_all(alloc, &row, pass)?;
+        let room = Vec::with_capacity(alloc, row.shape().durable_cells() as usize)?;
         let row = Arc::new(alloc, row)?;
         Ok(CellMemory {
             alloc,
@@ -140,6 +145,7 @@ impl<W: Work> CellMemory<W> {
             pass,
             known: None,
             callers,
+            room,
         })
     }
 
@@ -226,7 +232,7 @@ impl<W: Work> CellMemory<W> {
     }
 
     /// Closes the memory: what is durable is recovered and saved, and all else is given up. While a
-    /// handle is out, the memory is handed back.
+    /// handle is out, the memory is handed back. It takes no memory.
     pub fn close(self) -> Result<SavedCells<W>, InUse<W>>
         requires { IsCellMemory W.meaning self }
         ensures saved { IfOk result (IsSavedCells W.many W.size W.meaning W.lawful) }
@@ -238,48 +244,38 @@ impl<W: Work> CellMemory<W> {
         ensures limit { IfOk result (λ d. saved_limit d ≡ limit_of self) }
         // So no call that was answered is missing.
         ensures here { IfOk result (λ d. HasNoHandleOut self) }
+        ensures cause { OnErr result (HasNoHandleOut self → ⊥) }
         ensures in_use { IfErr result (λ e. e.0 ≡ self) }
     {
         if all_here(&self.callers) {
-            self.close_at_home()
+            Ok(self.close_at_home())
         } else {
             Err(InUse(self))
         }
     }
 
-    // The same, where no handle is out.
-    fn close_at_home(self) -> Result<SavedCells<W>, InUse<W>>
+    // The same, where no handle is out. So nobody makes a step, and the words may be loaded though
+    // the row is shared.
+    fn close_at_home(self) -> SavedCells<W>
         requires memory { IsCellMemory W.meaning self }
         requires here { HasNoHandleOut self }
-        ensures saved { IfOk result (IsSavedCells W.many W.size W.meaning W.lawful) }
-        ensures lawful { IfOk result (HoldsLawful W.lawful) }
-        ensures history { IfOk result (HasHistory W.meaning self) }
-        ensures own { IfOk result (KeepsOwn W.meaning self) }
-        ensures work { IfOk result (λ d. saved_work d ≡ work_of self) }
-        ensures callers { IfOk result (λ d. saved_callers d ≡ callers_of self) }
-        ensures limit { IfOk result (λ d. saved_limit d ≡ limit_of self) }
-        ensures in_use { IfErr result (λ e. e.0 ≡ self) }
+        ensures saved { IsSavedCells W.many W.size W.meaning W.lawful result }
+        ensures lawful { HoldsLawful W.lawful result }
+        ensures history { HasHistory W.meaning self result }
+        ensures own { KeepsOwn W.meaning self result }
+        ensures work { saved_work result ≡ work_of self }
+        ensures callers { saved_callers result ≡ callers_of self }
+        ensures limit { saved_limit result ≡ limit_of self }
     {
         let CellMemory {
-            alloc,
             row,
             pass,
-            known,
             mut callers,
+            room,
+            ..
         } = self;
-        match Arc::try_unwrap(row) {
-            Ok(row) => {
-                let pass = gather(&row, pass, &mut callers);
-                Ok(SavedCells::close(row, pass))
-            }
-            Err(row) => Err(InUse(CellMemory {
-                alloc,
-                row,
-                pass,
-                known,
-                callers,
-            })),
-        }
+        let pass = gather(&row, pass, &mut callers);
+        SavedCells::close(&row, pass, room)
     }
 
     // Where it takes its memory from.

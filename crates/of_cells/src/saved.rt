@@ -55,21 +55,28 @@ pub struct SavedCells<W: Work> {
 }
 
 impl<W: Work> SavedCells<W> {
-    ghost use Rattle.of_row.specs.Rows.{key_of, view_of_pass, IsRowPass};
+    ghost use Rattle.of_core.specs.Fit.{IsEmptyWithRoom};
+    ghost use Rattle.of_row.specs.Rows.{key_of, view_of_pass, IsRowPass, IsFirstPass};
+    ghost use Rattle.of_row.specs.Gathered.{KeepsAsked};
+    ghost use Rattle.of_cells.specs.Serving.{durable_cells_of};
     ghost use Rattle.of_cells.specs.Saving.{IsSavedCells, HoldsLawful, SavesHistory, saved_work};
     ghost use Rattle.of_cells.specs.Saving.{saved_callers, saved_limit, saved_cells, saved_ticket};
     ghost use Rattle.of_cells.specs.Saving.{IsReplyIn, KeepsOwnCells};
 
-    // Closes a row, takes its durable words alone, as a crash does, and recovers them.
-    pub(crate) fn close(row: Row<W>, pass: Pass) -> SavedCells<W>
-        requires { IsRowPass row pass }
-        ensures work { saved_work result ≡ (key_of row).work }
-        ensures callers { saved_callers result ≡ (key_of row).callers }
-        ensures limit { saved_limit result ≡ (key_of row).limit }
+    // Loads the durable words of a row on which nobody makes a step any more: they alone are left,
+    // as after a crash. Then it recovers them. `words` is empty and has room for them.
+    pub(crate) fn close(row: &Row<W>, mut pass: Pass, mut words: Vec<u64>) -> SavedCells<W>
+        requires row { IsRowPass row.now pass }
+        requires first { IsFirstPass pass }
+        requires keeps { KeepsAsked (key_of row.now).callers (view_of_pass pass) }
+        requires room { IsEmptyWithRoom (durable_cells_of row.now) words }
+        ensures work { saved_work result ≡ (key_of row.now).work }
+        ensures callers { saved_callers result ≡ (key_of row.now).callers }
+        ensures limit { saved_limit result ≡ (key_of row.now).limit }
         ensures saved { IsSavedCells W.many W.size W.meaning W.lawful result }
         ensures lawful { HoldsLawful W.lawful result }
-        ensures leads { SavesHistory W.meaning row (view_of_pass pass) result }
-        ensures own { KeepsOwnCells W.meaning row result }
+        ensures leads { SavesHistory W.meaning row.now (view_of_pass pass) result }
+        ensures own { KeepsOwnCells W.meaning row.now result }
     {
         let work = row.work();
         let limit = row.limit();
@@ -78,7 +85,7 @@ impl<W: Work> SavedCells<W> {
         histories();
         stops_lose_nothing(limit, work);
         let shape = row.shape();
-        let (mut words, _pass) = row.close_durable(pass);
+        row.load_durable(&mut pass, &mut words);
         recover_words(&shape, &mut words);
         SavedCells {
             work,
