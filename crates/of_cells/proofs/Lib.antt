@@ -6,3 +6,4 @@ pub mod Holding
 pub mod Still
 pub mod Renumbering
 mod Meant
+mod Handing
