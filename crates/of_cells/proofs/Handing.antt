@@ -3,19 +3,17 @@ use Rattle.std.proofs.Common.{◌≡◌, ◌≢◌, ℕ, ◌+◌, ◌-◌, ◌<�
 use Rattle.std.proofs.lemmas.Bool.{cases_lt}
 use Rattle.std.proofs.lemmas.List.{get_or-set_same, get_or-set_other, get_or_append_left, get_or_default, length-append, same_lists}
 use Rattle.std.proofs.Math.Seq.{get_or-append_seam, take-append_seam}
-use mathlib.Core.List.{IsPrefix}
 use Rattle.of_mem.specs.Meaning.{Meaning}
 use Rattle.of_mem.proofs.Lists.{same_some, prefix_trans}
-use Rattle.of_row.specs.Views.{EndedCall}
 use Rattle.of_caller.specs.declared.caller.Caller.{Caller}
 use Rattle.of_cells.specs.declared.error.EnrolError.{EnrolError}
 use Rattle.of_cells.specs.declared.error.EnrolError.TheVariants.{OutOfMemory, NoCaller, Enrolled}
 use Rattle.of_cells.specs.declared.memory.CellMemory.{CellMemory}
 use Rattle.of_cells.specs.declared.handle.CellHandle.{CellHandle}
 use Rattle.of_cells.specs.Called.{LearnsMore}
-use Rattle.of_cells.specs.Serving.{KnowsMore, events_known_to}
-use Rattle.of_cells.specs.Handles.{IsCellHandle, made_by}
-use Rattle.of_cells.specs.Memories.{IsFrom, IsStill, HasMadeOf, HasOpenOf, TakesOut, TakesNone, PutsBack, IsEnrolCause, RemembersAll, callers_of}
+use Rattle.of_cells.specs.Serving.{events_known_to}
+use Rattle.of_cells.specs.Handles.{IsCellHandle}
+use Rattle.of_cells.specs.Memories.{IsFrom, IsStill, HasMadeOf, TakesOut, TakesNone, PutsBack, IsEnrolCause, RemembersAll, callers_of}
 use Rattle.of_cells.specs.Telling.{HearsMemory, TellsMemory}
 use Rattle.of_cells.specs.Tasks.{KnowsHandle, KnowsSame, KnowsRest, RestKnowsOrder, TaskWork, Slot, HasWorked, HasWorkedAs, HaveWorked, AllWorkOn, MayAllWork, IsTaskCause, WasIn, IsIn, IsHandedOut, HasHandedOut, MayLeave, MayAllLeave, HasLeft, HasTakenBack}
 use Rattle.of_cells.proofs.Holding.{same_ended, made_same, same_open, open_still, open_before}

@@ -1,4 +1,4 @@
-use Rattle.std.proofs.Common.{◌≡◌, ◌∙◌, sym}
+use Rattle.std.proofs.Common.{◌∙◌, sym}
 use denote.Param.Send.{sendable}
 use Rattle.of_cells.proofs.at_once.work_all.Goals as goal
 

@@ -1,7 +1,7 @@
 use Rattle.std.proofs.Common.{◌≡◌, ◌<◌, length, vec_len, sym, subst, ◌∙◌, arith, rules}
 use Rattle.of_cells.specs.Tasks.{HasHandedOut}
 use Rattle.of_cells.proofs.Still.{still_callers}
-use Rattle.of_cells.proofs.Handing.{out_none, out_more, out_same, cause_of}
+use Rattle.of_cells.proofs.Handing.{out_more, cause_of}
 use Rattle.of_cells.proofs.memory.CellMemory.hand_out.Goals as goal
 
 pub loop-task-preserved : goal.loop-task-preserved
