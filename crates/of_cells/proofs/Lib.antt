@@ -7,3 +7,4 @@ pub mod Still
 pub mod Renumbering
 mod Meant
 mod Handing
+mod Found
