@@ -9,3 +9,4 @@ pub mod Memories
 pub mod Telling
 pub mod Joining
 pub mod Tasks
+pub mod Words

@@ -59,6 +59,12 @@ limit_of m = (key_of (row_of m)).limit
 abbrev pub cells_before : {W : Type 0} → (W → Meaning) → CellMemory W → List ℕ
 cells_before meaning m = cells_at_start meaning (row_of m)
 
+-- it was opened with lawful cells of its work, as many as that has
+pub record BeganLawful {W : Type 0} (size : W → ℕ) (meaning : W → Meaning)
+    (lawful : W → List ℕ → Type 0) (m : CellMemory W) : Type 0 where
+  pub long : length (cells_before meaning m) ≡ size (work_of m)
+  pub is_lawful : lawful (work_of m) (cells_before meaning m)
+
 -- how many calls of a caller it was opened with
 abbrev pub tickets_before : {W : Type 0} → (W → Meaning) → CellMemory W → ℕ → ℕ
 tickets_before meaning m n = made_before meaning (row_of m) n

@@ -92,7 +92,8 @@ MayWork {W} {J} meaning s = (p : CellHandle W × J) → s ≡ Some p → IsCellH
 
 -- so is each
 abbrev pub MayAllWork : {W J : Type 0} → (W → Meaning) → List (Slot W J) → Type 0
-MayAllWork meaning ss = (i : ℕ) → i < length ss → MayWork meaning (get_or ss i None)
+MayAllWork {W} {J} meaning ss =
+    (i : ℕ) (s : Slot W J) → i < length ss → s ≡ get_or ss i s → MayWork meaning s
 
 -- the task has worked with its handle, and both are there still
 abbrev pub WorksOn : {W J : Type 0} → (W → Meaning) → TaskWork W J → (before now : Slot W J)
@@ -104,8 +105,9 @@ WorksOn {W} {J} meaning Does s t =
 -- so has each
 abbrev pub AllWorkOn : {W J : Type 0} → (W → Meaning) → TaskWork W J
     → (before now : List (Slot W J)) → Type 0
-AllWorkOn meaning Does ss ts =
-    (i : ℕ) → i < length ss → WorksOn meaning Does (get_or ss i None) (get_or ts i None)
+AllWorkOn {W} {J} meaning Does ss ts =
+    (i : ℕ) (d : Slot W J) → i < length ss
+    → WorksOn meaning Does (get_or ss i d) (get_or ts i d)
 
 -- ---- how handles are handed out and taken back
 

@@ -63,7 +63,10 @@ fn work_all<W: Work, J: CellTask<W> + Send + Drop, R: Threads + Sync>(
         rt,
         slots,
         threads,
-        &|_, slot: &mut Option<(CellHandle<W>, J)>| { work_with(slot) },
+        &|_, slot: &mut Option<(CellHandle<W>, J)>|
+            requires { MayWork W.meaning slot.now }
+            ensures { WorksOn W.meaning J.does slot.entry.now slot.exit.now }
+        { work_with(slot) },
     );
 }
 

@@ -2,7 +2,7 @@
 //! the theorems.
 
 ghost use Rattle.of_cells.specs.Handles.{CallsAreCounted};
-ghost use Rattle.of_cells.specs.Joining.{HistoriesJoin, MemoriesStay, NoneStaysOpen};
+ghost use Rattle.of_cells.specs.Joining.{HistoriesJoin, CellsStayLawful, MemoriesStay, NoneStaysOpen};
 ghost use Rattle.of_cells.specs.Telling.{ToldCallsComeFirst, CallsComeInTurn};
 
 use of_mem::Work;
@@ -16,6 +16,12 @@ pub fn calls_are_counted<W: Work>()
 /// The history of a memory and that of the one that goes on from what it has left are one history.
 pub fn histories_join<W: Work>(work: W)
     ensures { HistoriesJoin (W.meaning work) }
+{}
+
+/// Operations lead from lawful cells of a work to lawful cells. So the cells on which an answer was
+/// meant are lawful (`CellHandle::run`: `means`), as those are with which a memory is opened.
+pub fn cells_stay_lawful<W: Work>(work: W)
+    ensures { CellsStayLawful (W.meaning work) (W.lawful work) (W.size work) }
 {}
 
 /// A memory has the same work and callers, and was opened with the same cells and tickets, while

@@ -1,17 +1,16 @@
 //! The memory itself.
 
 ghost use Rattle.std.specs.Prelude.{◌≡◌};
-ghost use Rattle.of_mem.specs.declared.work.TheConstants.{MOST_INSTRS};
 ghost use Rattle.of_cell.specs.declared.word.TheConstants.{GREATEST_LIMIT};
 
 use crate::error::{EnrolError, InUse, OpenError};
 use crate::handle::CellHandle;
-use crate::saved::SavedCells;
+use crate::saved::{SavedCells, shape_for};
 use crate::seating::{all_here, gather, put_at, seat_all, take_at};
 use crate::telling::exchange;
 use of_caller::Caller;
-use of_cell::{GREATEST_LIMIT, Shape};
-use of_mem::{MOST_INSTRS, Work};
+use of_cell::GREATEST_LIMIT;
+use of_mem::Work;
 use of_row::{Pass, Row};
 use std::alloc::{AllocError, Global};
 use std::sync::Arc;
@@ -32,19 +31,6 @@ pub struct CellMemory<W: Work> {
     room: Vec<u64>,
 }
 
-// The shape of a table for a work.
-fn shape_for<W: Work>(work: W) -> Shape
-    ensures callers { result.callers ≡ W.many work }
-    ensures instrs { result.instrs ≡ MOST_INSTRS }
-    ensures cells { result.cells ≡ W.size work }
-{
-    Shape {
-        callers: work.callers(),
-        instrs: MOST_INSTRS as u32,
-        cells: work.cells(),
-    }
-}
-
 impl<W: Work> CellMemory<W> {
     ghost use Rattle.std.specs.Prelude.{◌≡◌, ◌<◌, ◌≤◌, ℕ, List, [], IfOk, IfErr};
     ghost use Rattle.std.proofs.Common.{replicate};
@@ -57,7 +43,7 @@ impl<W: Work> CellMemory<W> {
     ghost use Rattle.of_cells.specs.Saving.{saved_callers, saved_limit, saved_ticket};
     ghost use Rattle.of_cells.specs.Handles.{IsCellHandle, HasOpen, number_of_handle, made_by};
     ghost use Rattle.of_cells.specs.Memories.{IsCellMemory, row_of, work_of, callers_of, limit_of};
-    ghost use Rattle.of_cells.specs.Memories.{cell_count_of};
+    ghost use Rattle.of_cells.specs.Memories.{cell_count_of, BeganLawful};
     ghost use Rattle.of_cells.specs.Memories.{cells_before, tickets_before, HasMadeOf, HasOpenOf};
     ghost use Rattle.of_cells.specs.Memories.{HasNoneOpen, HasNoHandleOut, IsFrom, IsStill};
     ghost use Rattle.of_cells.specs.Memories.{KnowsOthers, OthersStayOpen, HasHistory};
@@ -77,6 +63,7 @@ impl<W: Work> CellMemory<W> {
         ensures limit { IfOk result (λ m. limit_of m ≡ limit) }
         ensures size { IfOk result (λ m. cell_count_of m ≡ W.size work) }
         ensures zeros { IfOk result (λ m. cells_before W.meaning m ≡ replicate (W.size work) 0) }
+        ensures lawful { IfOk result (BeganLawful W.size W.meaning W.lawful) }
         ensures tickets { IfOk result (λ m. (n : ℕ) → tickets_before W.meaning m n ≡ 0) }
         ensures none { IfOk result HasMadeNothing }
         ensures idle { IfOk result HasNoneOpen }
@@ -100,6 +87,7 @@ impl<W: Work> CellMemory<W> {
         ensures limit { IfOk result (λ m. limit_of m ≡ limit) }
         ensures size { IfOk result (λ m. cell_count_of m ≡ W.size work) }
         ensures zeros { IfOk result (λ m. cells_before W.meaning m ≡ replicate (W.size work) 0) }
+        ensures lawful { IfOk result (BeganLawful W.size W.meaning W.lawful) }
         ensures tickets { IfOk result (λ m. (n : ℕ) → tickets_before W.meaning m n ≡ 0) }
         ensures none { IfOk result HasMadeNothing }
         ensures idle { IfOk result HasNoneOpen }
@@ -118,6 +106,7 @@ impl<W: Work> CellMemory<W> {
         ensures limit { IfOk result (λ m. limit_of m ≡ saved_limit saved.now) }
         ensures size { IfOk result (λ m. cell_count_of m ≡ W.size (saved_work saved.now)) }
         ensures goes_on { IfOk result (λ m. cells_before W.meaning m ≡ saved_cells saved.now) }
+        ensures lawful { IfOk result (BeganLawful W.size W.meaning W.lawful) }
         ensures tickets { IfOk result (λ m.
             (n : ℕ) → tickets_before W.meaning m n ≡ saved_ticket saved.now n) }
         ensures none { IfOk result HasMadeNothing }

@@ -2,6 +2,7 @@
 
 ghost use Rattle.std.specs.Prelude.{◌≡◌, ◌<◌, ◌≤◌, ◌+◌, ◌↔◌, IfOk, IfSome, IsNone, length, map, slice_index_or};
 ghost use Rattle.of_cell.specs.Words.{payload_of};
+ghost use Rattle.of_mem.specs.declared.work.TheConstants.{MOST_INSTRS};
 ghost use Rattle.of_core.specs.Starts.{start_on};
 ghost use Rattle.of_recover.specs.OfShape.{IsShapeRow, row_after_recovery};
 ghost use Rattle.of_recover.specs.Recovered.{RecoversData};
@@ -17,6 +18,19 @@ use std::alloc::{AllocError, Global};
 
 /// How many data cells belong to each caller: its ticket, its reply's shape and the numbers in it.
 const OWN_CELLS: u32 = MOST_INSTRS as u32 + 2;
+
+/// The shape of a table for a work.
+pub(crate) fn shape_for<W: Work>(work: W) -> Shape
+    ensures callers { result.callers ≡ W.many work }
+    ensures instrs { result.instrs ≡ MOST_INSTRS }
+    ensures cells { result.cells ≡ W.size work }
+{
+    Shape {
+        callers: work.callers(),
+        instrs: MOST_INSTRS as u32,
+        cells: work.cells(),
+    }
+}
 
 // The words of the data cells in a durable row.
 fn data_words(alloc: Global, shape: &Shape, row: &[u64]) -> Result<Vec<u64>, AllocError>
@@ -34,10 +48,11 @@ fn numbers(alloc: Global, words: &[u64]) -> Result<Vec<u32>, AllocError>
     words.iter().map(|word| payload_of(*word)).collect(alloc)
 }
 
-// Recovers durable words, in place.
-fn recover_words(shape: &Shape, words: &mut Vec<u64>)
+/// Recovers durable words, in place.
+pub(crate) fn recover_words(shape: &Shape, words: &mut Vec<u64>)
     requires { IsShapeRow shape.now words.old.items }
     ensures row { words.new.items ≡ row_after_recovery shape.now words.old.items }
+    ensures size { IsShapeRow shape.now words.new.items }
     ensures on_data { RecoversData shape.now.callers shape.now.cells words.old.items
         (row_after_recovery shape.now words.old.items) }
 {
