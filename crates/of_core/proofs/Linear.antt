@@ -29,7 +29,7 @@ use Rattle.of_core.proofs.Tickets.{ticket_upto, tickets_rise}
 use Rattle.of_core.proofs.Claims.{is_sound}
 use Rattle.of_core.proofs.Calls.{fewer_outs}
 use Rattle.of_core.proofs.InOrder.{call_of, serial_order, all_in_order, StandsIn, order_has_read, order_has_call, Pairs, pairs_in_order, Reads, order_leads}
-use Rattle.of_core.proofs.Ranks.{HasRank, StandsBefore, StandBefore, one_rank, by_rank}
+use Rattle.of_core.proofs.Ranks.{HasRank, RanksBefore, AreInRank, one_rank, by_rank}
 use Rattle.of_core.proofs.RealTime.{last_world, good_last, last_calls, durable_between, late_call, ended_call, late_read, ended_read, stands_begun}
 
 -- An operation that only reads leaves the numbers.
@@ -165,8 +165,8 @@ module _ (S : Setup) (Lawful : List ℕ → Type 0) (sound : IsSoundMeaning S.me
           go (inr t) = let same : a ≡ b = omega (arith, s, t) in absurd (omega (arith, x, ap (λ (y : ℕ). (get_or w.reads y no_read).seq) same))
 
   -- They stand by sequence, the announced ones of a batch first and by caller.
-  by_sequence : Pairs (StandBefore S B w) order
-  by_sequence = each_pair (StandBefore S B w) (record {
+  by_sequence : Pairs (AreInRank S B w) order
+  by_sequence = each_pair (AreInRank S B w) (record {
     calls = λ j k l u v y c z x d q. by_rank S B w claim _ _ j k true true (l, omega (arith, u, v), y, c, z, refl) (omega (arith, l, u), v, x, d, q, refl) (omega (arith, u), λ e t. absurd (omega (arith, e, u)));
     same = λ k l u p q a b. by_rank S B w claim _ _ k k true true (l, u, p, no_call, omega (arith, a, b), refl) (l, u, q, no_call, b, refl) (omega arith, λ e t. (refl, claim.rising k l (omega (arith, u, claim.reaches)) p q a b));
     read_behind = λ k a l u v x y d z. by_rank S B w claim _ _ k (get_or w.reads a no_read).seq true false (l, u, y, d, z, refl) (a, v, refl, refl) (x, λ e t. let n : true ≡ false = sym t in cc);
@@ -175,6 +175,7 @@ module _ (S : Setup) (Lawful : List ℕ → Type 0) (sound : IsSoundMeaning S.me
     same_reads = λ a b l u x. by_rank S B w claim _ _ (get_or w.reads a no_read).seq (get_or w.reads b no_read).seq false false (a, omega (arith, l, u), refl, refl) (b, u, refl, refl) (omega (arith, x), λ e t. let n : true ≡ false = sym t in cc);
   })
 
+  -- Each has a rank, so the places of the order have sequences.
   abbrev IsRanked : Call → Type 0
   IsRanked c = (s : ℕ) × (a : Bool) × HasRank S B w c s a
 
@@ -214,7 +215,7 @@ module _ (S : Setup) (Lawful : List ℕ → Type 0) (sound : IsSoundMeaning S.me
     own = λ i x member l. own i x member (get_or (outcomes S first es i) x no_outcome) ((calls_of i member).each x l);
   }
     where
-      stand : (p q : ℕ) → p < q → q < length order → StandsBefore S B w (get_or order p no_call) (get_or order q no_call) (sequences.seq p) (sequences.seq q) (sequences.announced p) (sequences.announced q)
+      stand : (p q : ℕ) → p < q → q < length order → RanksBefore S B w (get_or order p no_call) (get_or order q no_call) (sequences.seq p) (sequences.seq q) (sequences.announced p) (sequences.announced q)
       stand p q l u = by_sequence p q l u (sequences.seq p) (sequences.seq q) (sequences.announced p) (sequences.announced q) (has_rank p (omega (arith, l, u))) (has_rank q u)
 
       -- a call of the order with the name of one that has this rank

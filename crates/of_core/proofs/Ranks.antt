@@ -10,7 +10,7 @@ use Rattle.of_core.specs.Claim.{IsSound}
 use Rattle.of_core.proofs.InOrder.{call_of}
 
 module _ (S : Setup) (B : TableStart) (w : Moment) where
-  -- the call is in the batch of this sequence, or is a read of its state
+  -- the call is in the batch of this sequence, or is a read of the state that the batch leaves
   abbrev pub HasRank : Call → (seq : ℕ) → (announced : Bool) → Type 0
   HasRank c s true = (B.seq < s) × (s ≤ durable_seq S w.words) × (y : ℕ) × (d : Call) × (y < length (batch_at B w.batches s).calls) × (get_or (batch_at B w.batches s).calls y d ≡ c)
   HasRank c s false = (a : ℕ) × (a < length w.reads) × (call_of (get_or w.reads a no_read) ≡ c) × ((get_or w.reads a no_read).seq ≡ s)
@@ -19,12 +19,13 @@ module _ (S : Setup) (B : TableStart) (w : Moment) where
   abbrev pub IsSameCall : Call → Call → Type 0
   IsSameCall c d = (d.caller ≡ c.caller) × (d.ticket ≡ c.ticket)
 
-  -- by these the one stands before the other
-  abbrev pub StandsBefore : (c d : Call) → (s t : ℕ) → (a b : Bool) → Type 0
-  StandsBefore c d s t a b = (s ≤ t) × (s ≡ t → b ≡ true → (a ≡ true) × (c.caller < d.caller))
+  -- a call of the first rank may stand before one of the second
+  abbrev pub RanksBefore : (c d : Call) → (s t : ℕ) → (a b : Bool) → Type 0
+  RanksBefore c d s t a b = (s ≤ t) × (s ≡ t → b ≡ true → (a ≡ true) × (c.caller < d.caller))
 
-  abbrev pub StandBefore : Call → Call → Type 0
-  StandBefore c d = (s t : ℕ) (a b : Bool) → HasRank c s a → HasRank d t b → StandsBefore c d s t a b
+  -- so it is by all ranks that the two have
+  abbrev pub AreInRank : Call → Call → Type 0
+  AreInRank c d = (s t : ℕ) (a b : Bool) → HasRank c s a → HasRank d t b → RanksBefore c d s t a b
 
   module _ (claim : IsSound S B w) where
     -- no call is in two batches
@@ -69,8 +70,8 @@ module _ (S : Setup) (B : TableStart) (w : Moment) where
             let place : h.0 ≡ k.0 = omega (arith, l, u) in
             sym h.3 ∙ ap (λ (x : ℕ). (get_or w.reads x no_read).seq) place ∙ k.3
 
-    -- by the sequences that they have
-    pub by_rank : (c d : Call) (s t : ℕ) (a b : Bool) → HasRank c s a → HasRank d t b → StandsBefore c d s t a b → StandBefore c d
+    -- it is if it is by one of each
+    pub by_rank : (c d : Call) (s t : ℕ) (a b : Bool) → HasRank c s a → HasRank d t b → RanksBefore c d s t a b → AreInRank c d
     by_rank c d s t a b h k so p q x y f g =
         let e = one_rank c c s p a x (refl, refl) h f in
         let o = one_rank d d t q b y (refl, refl) k g in
