@@ -25,7 +25,7 @@ use Rattle.of_cells.specs.declared.handle.CellHandle.{CellHandle}
 use Rattle.of_cells.specs.declared.saved.SavedCells.{SavedCells}
 use Rattle.of_cells.specs.History.{ExplainsAll, HaveOwnSequences, HasOnly, IsOneOf}
 use Rattle.of_cells.specs.Called.{IsOpenAt}
-use Rattle.of_cells.specs.Serving.{KeepsSo, IsNew, Serves, ServeAll, AllStand, IsKeptOf, KeepsThose, KnowsPasts, KnowsMore, IsKnowledge, ended_of, events_known_to, cells_at_start, durable_cells_of, made_before}
+use Rattle.of_cells.specs.Serving.{KeepsSo, IsNew, Serves, ServeAll, AllStand, IsKeptOf, KeepsThose, KnowsPasts, KnowsMore, IsKnowledge, ended_of, events_known_to, cells_at_start, durable_count, made_before}
 use Rattle.of_cells.specs.Saving.{HasOpenOperation, HasOnlyKept, HistoryLeads}
 use Rattle.of_cells.specs.Handles.{IsCellHandle}
 use Rattle.of_cells.specs.Memories.{IsCellMemory, IsFrom, HasMadeOf, HasOpenOf, HasMadeNothing, HasNoneOpen, KnowsOthers, OthersStayOpen, OthersKnowOrder, HasHistory, BeganLawful, row_of, work_of, cells_before}
@@ -143,14 +143,14 @@ module _ {W : Type 0} where
     -- ---- a memory over a row
 
     pub is_memory : (m : CellMemory W) (r : Row W) → row_of m ≡ r → IsSeatOf r m.pass.seat → IsFirstPass m.pass → length m.callers.items ≡ (key_of r).callers → ServeAll meaning r m.callers.items → m.known ≡ None
-        → IsEmptyWithRoom (durable_cells_of r) m.room → IsCellMemory meaning m
+        → IsEmptyWithRoom (durable_count r) m.room → IsCellMemory meaning m
     is_memory m r is pass first each serve none room = record {
       pass = subst (λ (x : Row W). IsSeatOf x m.pass.seat) (sym is) pass;
       first = first;
       each = each ∙ ap (λ (x : Row W). (key_of x).callers) (sym is);
       serve = λ n c here. subst (λ (x : Row W). Serves meaning x n c) (sym is) (serve n c here);
       known = subst (IsKnowledge (row_of m)) (sym none) tt;
-      room = subst (λ (x : Row W). IsEmptyWithRoom (durable_cells_of x) m.room) (sym is) room;
+      room = subst (λ (x : Row W). IsEmptyWithRoom (durable_count x) m.room) (sym is) room;
     }
 
     pub none_made : (m : CellMemory W) (r : Row W) → row_of m ≡ r → AllStand (IsNew meaning r) (key_of r).callers m.callers.items → HasMadeNothing m

@@ -23,7 +23,7 @@ use Rattle.of_cells.specs.declared.saved.SavedCells.{SavedCells}
 use Rattle.of_cells.specs.History.{IsSerial, cells_after, StandsInOrder, ExplainsAll, HaveOwnSequences, HasOnly, IsUpTo, ComeInOrder}
 use Rattle.of_cells.specs.Times.{calls_ended_in, EndBefore}
 use Rattle.of_cells.specs.Called.{IsOpenAt}
-use Rattle.of_cells.specs.Serving.{ServeAll, AllHere, KnowsMore, IsKnowledge, ended_of, events_known_to, events_in, cells_at_start, durable_cells_of, made_before}
+use Rattle.of_cells.specs.Serving.{ServeAll, AllHere, KnowsMore, IsKnowledge, ended_of, events_known_to, events_in, cells_at_start, durable_count, made_before}
 use Rattle.of_cells.specs.Saving.{SavedHolds, TellsLast, KeepsOwnCells, saved_ticket}
 use Rattle.of_cells.specs.Handles.{home_of, number_of_handle, caller_of}
 
@@ -37,7 +37,7 @@ pub record IsCellMemory {W : Type 0} (meaning : W → Meaning) (m : CellMemory W
   pub each : length m.callers.items ≡ (key_of (row_of m)).callers
   pub serve : ServeAll meaning (row_of m) m.callers.items
   pub known : IsKnowledge (row_of m) m.known
-  pub room : IsEmptyWithRoom (durable_cells_of (row_of m)) m.room
+  pub room : IsEmptyWithRoom (durable_count (row_of m)) m.room
 
 -- the work whose operations it runs
 abbrev pub work_of : {W : Type 0} → CellMemory W → W
@@ -117,6 +117,10 @@ HasNoneOpen m = (n : ℕ) (op : List ℕ) → HasOpenOf m n op → ⊥
 -- no handle is out
 abbrev pub HasNoHandleOut : {W : Type 0} → CellMemory W → Type 0
 HasNoHandleOut m = AllHere m.callers.items (length m.callers.items)
+
+-- one is out
+abbrev pub HasHandleOut : {W : Type 0} → CellMemory W → Type 0
+HasHandleOut m = HasNoHandleOut m → ⊥
 
 -- the handle is the memory's
 abbrev pub IsFrom : {W : Type 0} → CellMemory W → CellHandle W → Type 0
@@ -206,8 +210,8 @@ HasHistory meaning m d = (h : List Call) × LeadsTo meaning m d h
 
 -- of a caller that is saved with no call since the memory was opened, the own cells are as they
 -- were then, and so is its last reply
-abbrev pub KeepsOwn : {W : Type 0} → (W → Meaning) → CellMemory W → SavedCells W → Type 0
-KeepsOwn meaning m d = KeepsOwnCells meaning (row_of m) d
+abbrev pub SavesOwnCells : {W : Type 0} → (W → Meaning) → CellMemory W → SavedCells W → Type 0
+SavesOwnCells meaning m d = KeepsOwnCells meaning (row_of m) d
 
 -- why there is no handle
 abbrev pub IsEnrolCause : {W : Type 0} → CellMemory W → ℕ → EnrolError → Type 0

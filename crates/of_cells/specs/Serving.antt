@@ -31,8 +31,8 @@ made_before meaning r n =
     payload_of (get_or (row_start meaning r).cells (ticket_cell_at MOST_INSTRS n) 0)
 
 -- how many durable words it has: one for each of its cells
-abbrev pub durable_cells_of : {W : Type 0} → Row W → ℕ
-durable_cells_of r = durable_cells (key_of r).callers (key_of r).cells
+abbrev pub durable_count : {W : Type 0} → Row W → ℕ
+durable_count r = durable_cells (key_of r).callers (key_of r).cells
 
 -- no call on the row makes more steps than this
 abbrev pub row_step_bound : {W : Type 0} → (W → Meaning) → Row W → ℕ

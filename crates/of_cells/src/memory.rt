@@ -45,11 +45,11 @@ impl<W: Work> CellMemory<W> {
     ghost use Rattle.of_cells.specs.Memories.{IsCellMemory, row_of, work_of, callers_of, limit_of};
     ghost use Rattle.of_cells.specs.Memories.{cell_count_of, BeganLawful};
     ghost use Rattle.of_cells.specs.Memories.{cells_before, tickets_before, HasMadeOf, HasOpenOf};
-    ghost use Rattle.of_cells.specs.Memories.{HasNoneOpen, HasNoHandleOut, IsFrom, IsStill};
+    ghost use Rattle.of_cells.specs.Memories.{HasNoneOpen, HasNoHandleOut, HasHandleOut, IsFrom, IsStill};
     ghost use Rattle.of_cells.specs.Memories.{KnowsOthers, OthersStayOpen, HasHistory};
     ghost use Rattle.of_cells.specs.Memories.{IsOpenCause, IsEnrolCause, HasMadeNothing};
     ghost use Rattle.of_cells.specs.Memories.{TakesOut, TakesNone, PutsCaller, OthersKnowOrder};
-    ghost use Rattle.of_cells.specs.Memories.{RemembersAll, KeepsOwn, events_heard};
+    ghost use Rattle.of_cells.specs.Memories.{RemembersAll, SavesOwnCells, events_heard};
     ghost use Rattle.of_cells.specs.Telling.{KnowsOrdersOf, HearsMemory};
     ghost use Rattle.of_cells.specs.Serving.{events_known_to};
     ghost use mathlib.Core.List.{IsPrefix};
@@ -227,13 +227,13 @@ impl<W: Work> CellMemory<W> {
         ensures saved { IfOk result (IsSavedCells W.many W.size W.meaning W.lawful) }
         ensures lawful { IfOk result (HoldsLawful W.lawful) }
         ensures history { IfOk result (HasHistory W.meaning self) }
-        ensures own { IfOk result (KeepsOwn W.meaning self) }
+        ensures own { IfOk result (SavesOwnCells W.meaning self) }
         ensures work { IfOk result (λ d. saved_work d ≡ work_of self) }
         ensures callers { IfOk result (λ d. saved_callers d ≡ callers_of self) }
         ensures limit { IfOk result (λ d. saved_limit d ≡ limit_of self) }
         // So no call that was answered is missing.
         ensures here { IfOk result (λ d. HasNoHandleOut self) }
-        ensures cause { OnErr result (HasNoHandleOut self → ⊥) }
+        ensures cause { OnErr result (HasHandleOut self) }
         ensures in_use { IfErr result (λ e. e.0 ≡ self) }
     {
         if all_here(&self.callers) {
@@ -251,7 +251,7 @@ impl<W: Work> CellMemory<W> {
         ensures saved { IsSavedCells W.many W.size W.meaning W.lawful result }
         ensures lawful { HoldsLawful W.lawful result }
         ensures history { HasHistory W.meaning self result }
-        ensures own { KeepsOwn W.meaning self result }
+        ensures own { SavesOwnCells W.meaning self result }
         ensures work { saved_work result ≡ work_of self }
         ensures callers { saved_callers result ≡ callers_of self }
         ensures limit { saved_limit result ≡ limit_of self }

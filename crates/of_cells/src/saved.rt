@@ -73,7 +73,7 @@ impl<W: Work> SavedCells<W> {
     ghost use Rattle.of_core.specs.Fit.{IsEmptyWithRoom};
     ghost use Rattle.of_row.specs.Rows.{key_of, view_of_pass, IsRowPass, IsFirstPass};
     ghost use Rattle.of_row.specs.Gathered.{KeepsAsked};
-    ghost use Rattle.of_cells.specs.Serving.{durable_cells_of};
+    ghost use Rattle.of_cells.specs.Serving.{durable_count};
     ghost use Rattle.of_cells.specs.Saving.{IsSavedCells, HoldsLawful, SavesHistory, saved_work};
     ghost use Rattle.of_cells.specs.Saving.{saved_callers, saved_limit, saved_cells, saved_ticket};
     ghost use Rattle.of_cells.specs.Saving.{IsReplyIn, KeepsOwnCells};
@@ -84,7 +84,7 @@ impl<W: Work> SavedCells<W> {
         requires row { IsRowPass row.now pass }
         requires first { IsFirstPass pass }
         requires keeps { KeepsAsked (key_of row.now).callers (view_of_pass pass) }
-        requires room { IsEmptyWithRoom (durable_cells_of row.now) words }
+        requires room { IsEmptyWithRoom (durable_count row.now) words }
         ensures work { saved_work result ≡ (key_of row.now).work }
         ensures callers { saved_callers result ≡ (key_of row.now).callers }
         ensures limit { saved_limit result ≡ (key_of row.now).limit }
