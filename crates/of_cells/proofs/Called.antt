@@ -29,7 +29,7 @@ use Rattle.of_cells.specs.declared.error.RunError.{RunError}
 use Rattle.of_cells.specs.declared.error.RunError.TheVariants.{Stopped as Halted, Spent as RanOut, InCall, NoCall, NoTicket}
 use Rattle.of_cells.specs.declared.handle.CellHandle.{CellHandle}
 use Rattle.of_cells.specs.Called.{outcome_of, WasTried, LeavesAsItWas, CallerOpensOnly, CallerOpensNone}
-use Rattle.of_cells.specs.Within.{KeepsToStop, IsSpentAtLimit, RisesWithin}
+use Rattle.of_cells.specs.Within.{KeepsToStop, RisesWithin}
 use Rattle.of_cells.specs.Times.{calls_ended_in, calls_begun_in}
 use Rattle.of_cells.specs.Serving.{Serves, HasStartedIfOpen, ended_of, events_known_to, made_before}
 use Rattle.of_cells.specs.Handles.{CallsAreCounted, home_of, number_of_handle}

@@ -1,6 +1,6 @@
 -- The own cells of a caller that has made no call since a table's start are as they were then.
-use Rattle.std.proofs.Common.{◌≡◌, ℕ, ◌+◌, ◌≤◌, ◌<◌, inl, inr, List, length, get_or, map, sym, ap, subst, ◌∙◌, arith}
-use Rattle.of_cell.specs.Words.{payload_of, pack}
+use Rattle.std.proofs.Common.{◌≡◌, ℕ, ◌+◌, ◌<◌, inl, inr, List, get_or, sym, ap, ◌∙◌, arith}
+use Rattle.of_cell.specs.Words.{payload_of}
 use Rattle.of_cell.proofs.Order.{pay_word, pay_small}
 use Rattle.of_recover.proofs.Agreeing.{recovered_data-same}
 use Rattle.of_core.specs.Table.{Setup, cell_count, words_before_members, durable_at, durable_word, durable_seq, ticket_cell}
