@@ -32,7 +32,7 @@ use Rattle.of_cells.proofs.Seats.{number_below, is_within}
 
 -- ---- zeros
 
-pub zeros_read : (n a : ℕ) → get_or (replicate n 0) a 0 ≡ 0
+pub zeros_read : (n a : ℕ) → ◌≡◌ {A = ℕ} (get_or (replicate n 0) a 0) 0
 zeros_read zero a = refl
 zeros_read (suc n) zero = refl
 zeros_read (suc n) (suc a) = zeros_read n a

@@ -7,4 +7,4 @@ pub mod Still
 pub mod Renumbering
 mod Meant
 mod Handing
-mod Found
+mod AnyMoment
