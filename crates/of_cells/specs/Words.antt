@@ -32,9 +32,9 @@ pub record AreSizesOf (callers cells : ℕ) (s : TableSizes) : Type 0 where
 -- ---- what is found
 
 -- a table for the work, with this limit, may start from the row, of which recovery changes nothing
-abbrev pub MayGoOn : {W : Type 0} → (many size : W → ℕ) → (W → Meaning)
+abbrev pub IsStartFor : {W : Type 0} → (many size : W → ℕ) → (W → Meaning)
     → (W → List ℕ → Type 0) → W → (limit : ℕ) → (row : List ℕ) → Type 0
-MayGoOn many size meaning lawful work limit row =
+IsStartFor many size meaning lawful work limit row =
     IsStartRow (setup_of (many work) (size work) limit (meaning work)) (lawful work) row
 
 -- what recovery makes of durable words of a table for the work
@@ -47,7 +47,8 @@ abbrev pub AreDurableWords : {W : Type 0} → (many size : W → ℕ) → (W →
     → (W → List ℕ → Type 0) → W → (words : List ℕ) → Type 0
 AreDurableWords many size meaning lawful work words =
     length words ≡ durable_cells (many work) (size work)
-    → (limit : ℕ) × MayGoOn many size meaning lawful work limit (words_found many size work words)
+    → (limit : ℕ)
+    × IsStartFor many size meaning lawful work limit (words_found many size work words)
 
 -- the start that the row is of a table for the work
 abbrev pub start_in : {W : Type 0} → (many size : W → ℕ) → W → (row : List ℕ) → TableStart
