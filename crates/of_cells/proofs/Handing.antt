@@ -15,7 +15,7 @@ use Rattle.of_cells.specs.Serving.{events_known_to}
 use Rattle.of_cells.specs.Handles.{IsCellHandle}
 use Rattle.of_cells.specs.Memories.{IsFrom, IsStill, HasMadeOf, TakesOut, TakesNone, PutsBack, IsEnrolCause, RemembersAll, callers_of}
 use Rattle.of_cells.specs.Telling.{HearsMemory, TellsMemory}
-use Rattle.of_cells.specs.Tasks.{KnowsHandle, KnowsSame, KnowsRest, RestKnowsOrder, TaskWork, Slot, HasWorked, HasWorkedAs, HaveWorked, AllWorkOn, MayAllWork, IsTaskCause, WasIn, IsIn, IsHandedOut, HasHandedOut, MayLeave, MayAllLeave, HasLeft, HasTakenBack}
+use Rattle.of_cells.specs.Tasks.{KnowsHandle, KnowsSame, KnowsRest, RestKnowsOrder, TaskWork, Slot, HasWorked, HasWorkedAs, HaveWorked, AllWorkOn, MayAllWork, IsTaskCause, WasIn, IsBackIn, IsHandedOut, HasHandedOut, MayLeave, MayAllLeave, HasLeft, HasTakenBack}
 use Rattle.of_cells.proofs.Holding.{same_ended, made_same, same_open, open_still, open_before}
 use Rattle.of_cells.proofs.Times.{order_in, order_out, order_same, tells_later}
 
@@ -30,7 +30,7 @@ module _ {W : Type 0} where
     only_open = λ op has. open_still was.caller h.caller op was.same (same_open m h.number was.caller op was.here has);
   }
 
-  pub knows_handle : (k : CellMemory W) (h : CellHandle W) → IsIn k h → KnowsHandle k h
+  pub knows_handle : (k : CellMemory W) (h : CellHandle W) → IsBackIn k h → KnowsHandle k h
   knows_handle k h is = record {
     made = record { caller = is.caller; here = is.here; made = same_ended h.caller is.caller is.same };
     only = λ es has. sym (same_ended h.caller is.caller is.same) ∙ made_same k h.number is.caller es is.here has;
@@ -39,7 +39,7 @@ module _ {W : Type 0} where
   }
 
   -- a handle that made no call came and left
-  came_and_left : (m k : CellMemory W) (h : CellHandle W) → WasIn m h → IsIn k h → KnowsSame h.number m k
+  came_and_left : (m k : CellMemory W) (h : CellHandle W) → WasIn m h → IsBackIn k h → KnowsSame h.number m k
   came_and_left m k h was is =
       let a = knew_handle m h was in
       let b = knows_handle k h is in
@@ -278,7 +278,7 @@ module _ {W J : Type 0} (meaning : W → Meaning) where
     tasks_back = same_lists zs xs as_many task_at
 
     -- a number is one of those that were left out, or a handle came and left
-    same_or_left : (i : ℕ) → (get_or n.callers.items i None ≡ get_or m.callers.items i None) ⊎ ((h : CellHandle W) × (h.number ≡ i) × WasIn m h × IsIn n h)
+    same_or_left : (i : ℕ) → (get_or n.callers.items i None ≡ get_or m.callers.items i None) ⊎ ((h : CellHandle W) × (h.number ≡ i) × WasIn m h × IsBackIn n h)
     same_or_left i = elim (cases_lt i (length left)) [
       | inl low ↦ inl (back.rest i (inl low) ∙ out.rest i (inl low))
       | inr high ↦ elim (cases_lt i (length xs)) [

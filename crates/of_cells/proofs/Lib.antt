@@ -8,4 +8,4 @@ pub mod Still
 pub mod Renumbering
 mod Meant
 mod Handing
-mod Found
+mod AnyMoment

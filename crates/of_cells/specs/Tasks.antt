@@ -118,7 +118,7 @@ pub record WasIn {W : Type 0} (m : CellMemory W) (h : CellHandle W) : Type 0 whe
   pub same : KnowsMore caller (caller_of h)
 
 -- the handle is the memory's caller of its number now, which has its calls
-pub record IsIn {W : Type 0} (m : CellMemory W) (h : CellHandle W) : Type 0 where
+pub record IsBackIn {W : Type 0} (m : CellMemory W) (h : CellHandle W) : Type 0 where
   pub caller : Caller W
   pub here : get_or m.callers.items (number_of_handle h) None ≡ Some caller
   pub same : KnowsMore (caller_of h) caller
@@ -164,7 +164,7 @@ MayAllLeave {W} {J} meaning m first ss =
 pub record HasLeft {W J : Type 0} (meaning : W → Meaning) (k : CellMemory W) (zs : List J)
     (p : CellHandle W × J) : Type 0 where
   pub task : (d : J) → get_or zs (number_of_handle p.0) d ≡ p.1
-  pub known : IsIn k p.0
+  pub known : IsBackIn k p.0
   pub told : TellsMemory meaning p.0 k
 
 -- each handle from this place on has left, and its task is back behind these

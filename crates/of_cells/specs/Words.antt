@@ -1,19 +1,27 @@
 -- The durable words of a table, and what recovery finds in them.
 use Rattle.std.specs.Prelude.{◌≡◌, ◌≢◌, ◌⊎◌, ℕ, ◌<◌, ◌≤◌, List, length, map}
+use Rattle.atomic_table.specs.Table.{State}
 use Rattle.of_cell.specs.Words.{payload_of}
 use Rattle.of_cell.specs.Cells.{durable_cells, durable_place, table_words}
 use Rattle.of_cell.specs.declared.word.TheConstants.{GREATEST_LIMIT}
 use Rattle.of_mem.specs.declared.work.TheConstants.{MOST_INSTRS}
 use Rattle.of_mem.specs.Meaning.{Meaning}
 use Rattle.of_recover.specs.Recovered.{recovered_words}
-use Rattle.of_core.specs.Table.{setup_of}
+use Rattle.of_core.specs.Table.{Setup, setup_of}
+use Rattle.of_core.specs.Machine.{Call}
 use Rattle.of_core.specs.TableMoment.{TableStart}
-use Rattle.of_core.specs.Starts.{IsStartRow, start_from_durable}
+use Rattle.of_core.specs.Starts.{IsDurable, IsStartRow, start_from_durable}
+use Rattle.of_row.specs.Views.{View}
+use Rattle.of_row.specs.Rule.{MeetsRule}
+use Rattle.of_row.specs.Rows.{setup_at, row_start}
+use Rattle.of_row.specs.Trail.{EachView}
 use Rattle.of_cells.specs.declared.words.TableSizes.{TableSizes}
+use Rattle.of_cells.specs.declared.memory.CellMemory.{CellMemory}
 use Rattle.of_cells.specs.declared.saved.SavedCells.{SavedCells}
 use Rattle.of_cells.specs.declared.error.WordsError.{WordsError}
 use Rattle.of_cells.specs.declared.error.WordsError.TheVariants.{OutOfMemory, Limit, Count, PastLimit}
-use Rattle.of_cells.specs.Saving.{saved_callers, saved_cells, saved_seq, saved_work}
+use Rattle.of_cells.specs.Memories.{row_of, work_of}
+use Rattle.of_cells.specs.Saving.{HistoryLeads, saved_callers, saved_cells, saved_seq, saved_work}
 
 -- these are the sizes of a table for so many callers and data cells
 pub record AreSizesOf (callers cells : ℕ) (s : TableSizes) : Type 0 where
@@ -24,9 +32,9 @@ pub record AreSizesOf (callers cells : ℕ) (s : TableSizes) : Type 0 where
 -- ---- what is found
 
 -- a table for the work, with this limit, may start from the row, of which recovery changes nothing
-abbrev pub MayGoOn : {W : Type 0} → (many size : W → ℕ) → (W → Meaning)
+abbrev pub IsStartFor : {W : Type 0} → (many size : W → ℕ) → (W → Meaning)
     → (W → List ℕ → Type 0) → W → (limit : ℕ) → (row : List ℕ) → Type 0
-MayGoOn many size meaning lawful work limit row =
+IsStartFor many size meaning lawful work limit row =
     IsStartRow (setup_of (many work) (size work) limit (meaning work)) (lawful work) row
 
 -- what recovery makes of durable words of a table for the work
@@ -39,7 +47,8 @@ abbrev pub AreDurableWords : {W : Type 0} → (many size : W → ℕ) → (W →
     → (W → List ℕ → Type 0) → W → (words : List ℕ) → Type 0
 AreDurableWords many size meaning lawful work words =
     length words ≡ durable_cells (many work) (size work)
-    → (limit : ℕ) × MayGoOn many size meaning lawful work limit (words_found many size work words)
+    → (limit : ℕ)
+    × IsStartFor many size meaning lawful work limit (words_found many size work words)
 
 -- the start that the row is of a table for the work
 abbrev pub start_in : {W : Type 0} → (many size : W → ℕ) → W → (row : List ℕ) → TableStart
@@ -70,3 +79,20 @@ IsWordsCause many size work limit words (Count k) =
     (k ≡ length words) × (length words ≢ durable_cells (many work) (size work))
 IsWordsCause many size work limit words (PastLimit seq) =
     (seq ≡ (start_in many size work (words_found many size work words)).seq) × (limit < seq)
+
+-- ---- moments
+
+-- At each moment of the memory's row, as between any two steps on it, recovery finds a start in the
+-- durable words as they are then. One serial history leads to what is found from the cells with
+-- which the memory was opened. It has each call that was answered to whomever a pass or a member
+-- keeps, with its reply, and beside these it has open calls alone.
+abbrev pub HoldsWordsAlways : {W : Type 0} → (many size : W → ℕ) → (W → Meaning)
+    → (W → List ℕ → Type 0) → CellMemory W → Type 0
+HoldsWordsAlways {W} many size meaning lawful m =
+    let S : Setup = setup_at meaning (row_of m) in
+    (s : State (Unit {0}) View)
+    → MeetsRule S (lawful (work_of m)) (row_start meaning (row_of m)) s
+    → (words : List ℕ) → IsDurable S s.words words →
+    AreDurableWords many size meaning lawful (work_of m) words
+    × (h : List Call) × ((d : SavedCells W) → WordsHold many size (work_of m) words d
+    → EachView (λ v. HistoryLeads meaning (row_of m) v d h) s.views)

@@ -4,8 +4,12 @@
 ghost use Rattle.of_cells.specs.Handles.{CallsAreCounted};
 ghost use Rattle.of_cells.specs.Joining.{HistoriesJoin, CellsStayLawful, MemoriesStay, NoneStaysOpen};
 ghost use Rattle.of_cells.specs.Telling.{ToldCallsComeFirst, CallsComeInTurn};
+ghost use Rattle.of_cells.specs.Memories.{IsCellMemory};
+ghost use Rattle.of_cells.specs.Words.{HoldsWordsAlways};
 
+use crate::memory::CellMemory;
 use of_mem::Work;
+use of_row::laws::stops_lose_nothing;
 
 /// A handle that has no open call has begun as many calls as its memory was opened with, and those
 /// that it has made since.
@@ -46,3 +50,14 @@ pub fn told_calls_come_first<W: Work>()
 pub fn calls_come_in_turn<W: Work>()
     ensures { CallsComeInTurn W.meaning }
 {}
+
+/// A process that is killed at any moment loses no call that was answered: `SavedCells::from_words`
+/// takes the durable words of a memory as they are then, and one serial history leads to what it
+/// finds.
+pub fn words_hold_history<W: Work>(memory: &CellMemory<W>)
+    requires { IsCellMemory W.meaning memory.now }
+    ensures { HoldsWordsAlways W.many W.size W.meaning W.lawful memory.now }
+{
+    let _shape = memory.shape();
+    stops_lose_nothing(memory.limit(), memory.work());
+}

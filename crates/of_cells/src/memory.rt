@@ -9,7 +9,7 @@ use crate::saved::{SavedCells, shape_for};
 use crate::seating::{all_here, gather, put_at, seat_all, take_at};
 use crate::telling::exchange;
 use of_caller::Caller;
-use of_cell::GREATEST_LIMIT;
+use of_cell::{GREATEST_LIMIT, Shape};
 use of_mem::Work;
 use of_row::{Pass, Row};
 use std::alloc::{AllocError, Global};
@@ -35,6 +35,7 @@ impl<W: Work> CellMemory<W> {
     ghost use Rattle.std.specs.Prelude.{◌≡◌, ◌<◌, ◌≤◌, ℕ, List, [], IfOk, IfErr};
     ghost use Rattle.std.proofs.Common.{replicate};
     ghost use Rattle.of_row.specs.Rows.{key_of};
+    ghost use Rattle.of_row.specs.Keys.{FitsWork};
     ghost use Rattle.of_row.specs.Passes.{IsFirst};
     ghost use Rattle.of_row.specs.Views.{EndedCall};
     ghost use Rattle.of_cells.specs.Serving.{Serves, ended_of};
@@ -265,6 +266,13 @@ impl<W: Work> CellMemory<W> {
         } = self;
         let pass = gather(&row, pass, &mut callers);
         SavedCells::close(&row, pass, room)
+    }
+
+    // The sizes of its table, which are its work's.
+    pub(crate) fn shape(&self) -> Shape
+        ensures { FitsWork W.many W.size (key_of (row_of self.now)) }
+    {
+        self.row.shape()
     }
 
     // Where it takes its memory from.

@@ -33,7 +33,7 @@ pub fn sizes<W: Work>(work: W) -> TableSizes
 
 impl<W: Work> SavedCells<W> {
     ghost use Rattle.of_cells.specs.Saving.{IsSavedCells, saved_limit};
-    ghost use Rattle.of_cells.specs.Words.{MayGoOn, AreDurableWords, IsSavedRow, WordsHold};
+    ghost use Rattle.of_cells.specs.Words.{IsStartFor, AreDurableWords, IsSavedRow, WordsHold};
     ghost use Rattle.of_cells.specs.Words.{IsWordsCause};
 
     /// What recovery finds in the durable words of a table of this work, which were copied out of
@@ -75,7 +75,7 @@ impl<W: Work> SavedCells<W> {
     /// may start from the row, and recovery changes nothing of it.
     pub fn of_recovered(work: W, limit: u32, row: Vec<u64>) -> SavedCells<W>
         requires few { limit ≤ GREATEST_LIMIT }
-        requires row { MayGoOn W.many W.size W.meaning W.lawful work limit row.items }
+        requires row { IsStartFor W.many W.size W.meaning W.lawful work limit row.items }
         ensures saved { IsSavedCells W.many W.size W.meaning W.lawful result }
         ensures row { IsSavedRow W.many W.size work row.items result }
         ensures limit { saved_limit result ≡ limit }
