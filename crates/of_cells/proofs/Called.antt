@@ -29,10 +29,10 @@ use Rattle.of_cells.specs.declared.error.RunError.{RunError}
 use Rattle.of_cells.specs.declared.error.RunError.TheVariants.{Stopped as Halted, Spent as RanOut, InCall, NoCall, NoTicket}
 use Rattle.of_cells.specs.declared.handle.CellHandle.{CellHandle}
 use Rattle.of_cells.specs.Called.{outcome_of, WasTried, LeavesAsItWas, CallerOpensOnly, CallerOpensNone}
-use Rattle.of_cells.specs.Within.{KeepsToStop, IsSpentAtLimit, RisesWithin}
+use Rattle.of_cells.specs.Within.{KeepsToStop, RisesWithin}
 use Rattle.of_cells.specs.Times.{calls_ended_in, calls_begun_in}
 use Rattle.of_cells.specs.Serving.{Serves, HasStartedIfOpen, ended_of, events_known_to, made_before}
-use Rattle.of_cells.specs.Handles.{CallsAreCounted, RefusesCall, RefusesToGoOn, home_of, limit_at, number_of_handle}
+use Rattle.of_cells.specs.Handles.{CallsAreCounted, home_of, number_of_handle}
 use Rattle.of_cells.proofs.Seats.{open_same}
 
 pub none_open : (m : CallState) → IsIdle m → IsOpen m.place → ⊥
@@ -324,22 +324,6 @@ calls_counted meaning h is none = idle_counts meaning (home_of h) (number_of_han
 -- ---- a handle
 
 module _ {W : Type 0} (h : CellHandle W) where
-  pub tried_is : (r : Result RawAnswer RunError) → WasTried r → IsSpentAtLimit (limit_at h) r → RefusesCall h r
-  tried_is (Ok a) t s = tt
-  tried_is (Err (Halted asked)) t s = tt
-  tried_is (Err (RanOut seq)) t s = s
-  tried_is (Err InCall) t s = absurd t
-  tried_is (Err NoCall) t s = absurd t
-  tried_is (Err NoTicket) t s = absurd t
-
-  pub went_on : (r : Result RawAnswer RunError) → WasTried r → IsSpentAtLimit (limit_at h) r → RefusesToGoOn h r
-  went_on (Ok a) t s = tt
-  went_on (Err (Halted asked)) t s = tt
-  went_on (Err (RanOut seq)) t s = s
-  went_on (Err InCall) t s = absurd t
-  went_on (Err NoCall) t s = absurd t
-  went_on (Err NoTicket) t s = absurd t
-
   -- of a call that is made nothing is said to stay
   pub was_made : (k : CellHandle W) (r : Result RawAnswer RunError) → WasTried r → LeavesAsItWas r h k
   was_made k (Ok a) t = tt

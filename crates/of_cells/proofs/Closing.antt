@@ -8,6 +8,7 @@ use Rattle.std.proofs.lemmas.List.Elements.{All-from_get_or}
 use Rattle.std.proofs.Math.Seq.{get_or-append_seam, take-append_seam}
 use mathlib.Core.List.{IsPrefix}
 use Rattle.std.proofs.Math.ListN.{get_or-map as get_or_map_at}
+use Rattle.atomic_table.specs.Table.{State}
 use Rattle.of_cell.specs.Words.{payload_of}
 use Rattle.of_cell.specs.declared.word.TheConstants.{GREATEST_LIMIT}
 use Rattle.of_cell.specs.Cells.{data_cell}
@@ -25,23 +26,27 @@ use Rattle.of_core.specs.Machine.{Call, no_call, is_idle, IsOpen}
 use Rattle.of_core.specs.Events.{Event, start_ticket}
 use Rattle.of_cells.specs.Times.{calls_ended_in, calls_begun_in}
 use Rattle.of_core.specs.Calls.{operations_begun}
-use Rattle.of_core.specs.Laws.{setup_for}
+use Rattle.of_core.specs.Grounds.{GoodGrounds}
+use Rattle.of_core.specs.Laws.{setup_for, StartsMeetInvariant, SchedulesKeepInvariant, InvariantIsSound, FirstStateIsStart}
 use Rattle.of_core.specs.Linear.{ExplainsOutcome, FindsCall, recovered_number}
 use Rattle.of_core.specs.Starts.{IsDurable, IsStartRow, start_from_durable}
 use Rattle.of_row.specs.declared.member.Pass.{Pass}
 use Rattle.of_row.specs.declared.row.Row.{Row}
 use Rattle.of_row.specs.Views.{EndedCall, KnownCaller, View, no_ended}
-use Rattle.of_row.specs.Rule.{ViewMeetsRule}
+use Rattle.of_row.specs.Rule.{MeetsRule, ViewMeetsRule}
 use Rattle.of_row.specs.Told.{open_operation, operations_known}
-use Rattle.of_row.specs.Trail.{IsRunBy}
+use Rattle.of_row.specs.Trail.{EachView, IsRunBy}
 use Rattle.of_row.specs.Rows.{key_of, setup_at, row_start, view_of_pass, IsRowPass, MayStartFrom}
 use Rattle.of_row.specs.Keys.{FitsWork}
-use Rattle.of_row.specs.Passes.{ClosesWith, ClosesWithDurable}
+use Rattle.of_row.specs.Passes.{ClosesWithDurable}
 use Rattle.of_row.specs.Moments.{ExplainsEndedCalls, HaveOwnSequence, StopsLoseNothing, LosesNothing, words_alone}
 use Rattle.of_cells.specs.declared.saved.SavedCells.{SavedCells}
 use Rattle.of_cells.specs.History.{ExplainsEnd, IsOneOf}
 use Rattle.of_cells.specs.Serving.{made_before}
-use Rattle.of_cells.specs.Saving.{ExplainsKept, HaveKeptSequences, HasOpenOperation, HasOnlyKept, RespectsEvents, HistoryLeads, HoldsReply, TellsLast, IsSavedCells, SavesHistory, saved_cells}
+use Rattle.of_cells.specs.Words.{WordsHold}
+use Rattle.of_cells.specs.Saving.{ExplainsKept, HaveKeptSequences, HasOpenOperation, HasOnlyKept, RespectsEvents, HistoryLeads, HoldsReply, TellsLast, IsSavedCells, SavesHistory, KeepsOwnCells, saved_cells}
+use Rattle.of_cells.proofs.OwnCells.{own_stay}
+use Rattle.of_cells.proofs.Holding.{number_at}
 
 -- ---- lists
 
@@ -69,7 +74,7 @@ begun_at x b place k lt = elim (cases_lt k (length x.ended)) [
         (at ∙ long, is, ap (λ (n : ℕ). get_or (map (λ (e : EndedCall). e.op) x.ended ++ x.machine.op ∷ []) n []) at ∙ get_or-append_seam (map (λ (e : EndedCall). e.op) x.ended) x.machine.op [] [])
 
 module _ {W : Type 0} (meaning : W → Meaning) (lawful : W → List ℕ → Type 0) (r : Row W) (room : HasRoom (key_of r).callers (key_of r).cells) (law : StopsLoseNothing (lawful (key_of r).work) (setup_at meaning r))
-    (p : Pass) (seat : IsRowPass r p) (ws : List ℕ) (closes : ClosesWith meaning lawful r p ws) where
+    (v : View) (live : v.spent ≡ false) (ws : List ℕ) (meets : ViewMeetsRule (setup_at meaning r) (lawful (key_of r).work) (row_start meaning r) ws v) where
   abbrev S : Setup
   S = setup_at meaning r
 
@@ -78,12 +83,6 @@ module _ {W : Type 0} (meaning : W → Meaning) (lawful : W → List ℕ → Typ
 
   abbrev B : TableStart
   B = row_start meaning r
-
-  abbrev v : View
-  v = view_of_pass p
-
-  abbrev meets : ViewMeetsRule S L B ws v
-  meets = closes
 
   abbrev lost : LosesNothing S L B meets.state
   lost = law B meets.state meets.rule
@@ -152,7 +151,7 @@ module _ {W : Type 0} (meaning : W → Meaning) (lawful : W → List ℕ → Typ
     on_time : RespectsEvents meaning r v.past h
     on_time n x k y before p q lt high first later =
         let es = lost.events in
-        let known : IsPrefix before.moment es = prefix_trans before.moment v.past es before.early (lost.reached.pasts meets.seat v meets.view seat.2) in
+        let known : IsPrefix before.moment es = prefix_trans before.moment v.past es before.early (lost.reached.pasts meets.seat v meets.view live) in
         let cut : take (length before.moment) es ≡ before.moment = ap (take (length before.moment)) (sym known.1) ∙ take-append_seam before.moment known.0 in
         let c : Call = get_or h q no_call in
         let e : Call = get_or h p no_call in
@@ -169,9 +168,9 @@ module _ {W : Type 0} (meaning : W → Meaning) (lawful : W → List ℕ → Typ
       order = lost.linearizes.rising;
       sequences = lost.by_seq.sequences;
       by_seq = lost.by_seq.stands;
-      calls = each_of explained v.kept (lost.explained meets.seat v meets.view seat.2);
-      own_seq = each_of sequenced v.kept (lost.sequenced meets.seat v meets.view seat.2);
-      only = each_of owned v.kept (lost.reached.callers meets.seat v meets.view seat.2);
+      calls = each_of explained v.kept (lost.explained meets.seat v meets.view live);
+      own_seq = each_of sequenced v.kept (lost.sequenced meets.seat v meets.view live);
+      only = each_of owned v.kept (lost.reached.callers meets.seat v meets.view live);
       callers = λ y x l. (lost.linearizes.begun y x l).0;
       last = tells_last;
       time = on_time;
@@ -204,15 +203,46 @@ module _ {W : Type 0} (meaning : W → Meaning) (lawful : W → List ℕ → Typ
         ∙ recovered_data-same S.callers S.cells (slice_index durable) (durable_word S ws) is_durable.each a l (omega (arith, l, room.few, room.small))
         ∙ ap (λ xs. recovered_data S.callers S.cells (durable_word S xs) a) (sym meets.words))
 
+-- ---- any moment of a row
+
+module _ {W : Type 0} (many size : W → ℕ) (meaning : W → Meaning) (lawful : W → List ℕ → Type 0) (fits : (w : W) → HasRoom (many w) (size w)) (r : Row W) (fit : FitsWork many size (key_of r))
+    (law : StopsLoseNothing (lawful (key_of r).work) (setup_at meaning r)) (s : State (Unit {0}) View) (rule : MeetsRule (setup_at meaning r) (lawful (key_of r).work) (row_start meaning r) s) (words : List ℕ) (durable : IsDurable (setup_at meaning r) s.words words)
+    (recovers : RecoversData (key_of r).callers (key_of r).cells words (recovered_words (key_of r).callers (key_of r).cells words)) where
+  room_of : HasRoom (key_of r).callers (key_of r).cells
+  room_of = subst (λ (k : ℕ × ℕ). HasRoom k.0 k.1) (λ i. (sym fit.0 i, sym fit.1 i)) (fits (key_of r).work)
+
+  pub order_of : List Call
+  order_of = (law (row_start meaning r) s rule).order
+
+  pub leads_at_any : (d : SavedCells W) → WordsHold many size (key_of r).work words d → EachView (λ v. HistoryLeads meaning r v d order_of) s.views
+  unfolding order_of
+  leads_at_any d holds j v at live =
+      let meets : ViewMeetsRule (setup_at meaning r) (lawful (key_of r).work) (row_start meaning r) s.words v = record { state = s; rule = rule; words = refl; seat = j; view = at } in
+      let cells : saved_cells d ≡ map payload_of (start_from_durable (key_of r).callers (key_of r).cells (recovered_words (key_of r).callers (key_of r).cells words)).cells
+      = holds.cells ∙ (λ i. map payload_of (start_from_durable (sym fit.0 i) (sym fit.1 i) (recovered_words (sym fit.0 i) (sym fit.1 i) words)).cells) in
+      leads meaning lawful r room_of law v live s.words meets d (holds.callers ∙ sym fit.0)
+      (ap (λ (xs : List ℕ). length xs) cells ∙ cells_found meaning lawful r room_of law v live s.words meets words durable recovers)
+      (λ a l. ap (λ (xs : List ℕ). get_or xs a 0) cells ∙ number_found meaning lawful r room_of law v live s.words meets words durable recovers a l)
+
 -- ---- the same of what is saved, with the sizes and the limit that the row tells
 
 module _ {W : Type 0} (many size : W → ℕ) (meaning : W → Meaning) (lawful : W → List ℕ → Type 0) (fits : (w : W) → HasRoom (many w) (size w)) (r : Row W) (p : Pass) (seat : IsRowPass r p) (durable : List ℕ) (closes : ClosesWithDurable meaning lawful r p durable)
     (d : SavedCells W) (work_is : d.work ≡ (key_of r).work) (limit_is : d.limit ≡ (key_of r).limit) (few_limit : d.limit ≤ GREATEST_LIMIT) (callers_are : d.shape.callers ≡ (key_of r).callers) (instrs : d.shape.instrs ≡ MOST_INSTRS) (cells_are : d.shape.cells ≡ (key_of r).cells) (fit : FitsWork many size (key_of r))
     (law : StopsLoseNothing (lawful d.work) (setup_for many size meaning d.limit d.work))
     (row_is : d.row.items ≡ recovered_words d.shape.callers d.shape.cells durable) (recovers : RecoversData d.shape.callers d.shape.cells durable (recovered_words d.shape.callers d.shape.cells durable)) where
-  law_at : StopsLoseNothing (lawful (key_of r).work) (setup_at meaning r)
-  law_at = subst (λ (k : (W × ℕ) × (ℕ × ℕ)). StopsLoseNothing (lawful k.0.0) (setup_of k.0.1 k.1.0 k.1.1 (meaning k.0.0)))
-      (λ i. ((work_is i, (ap many work_is ∙ sym fit.0) i), ((ap size work_is ∙ sym fit.1) i, limit_is i))) law
+  abbrev T : Setup
+  T = setup_at meaning r
+
+  abbrev K : List ℕ → Type 0
+  K = lawful (key_of r).work
+
+  -- the laws of the setup that the sizes make are those of the row's
+  at_row : (P : (List ℕ → Type 0) → Setup → Type 0) → P (lawful d.work) (setup_for many size meaning d.limit d.work) → P K T
+  at_row P h = subst (λ (k : (W × ℕ) × (ℕ × ℕ)). P (lawful k.0.0) (setup_of k.0.1 k.1.0 k.1.1 (meaning k.0.0)))
+      (λ i. ((work_is i, (ap many work_is ∙ sym fit.0) i), ((ap size work_is ∙ sym fit.1) i, limit_is i))) h
+
+  law_at : StopsLoseNothing K T
+  law_at = at_row StopsLoseNothing law
 
   room_at : HasRoom (key_of r).callers (key_of r).cells
   room_at = subst (λ (k : ℕ × ℕ). HasRoom k.0 k.1) (λ i. (sym fit.0 i, sym fit.1 i)) (fits (key_of r).work)
@@ -229,7 +259,7 @@ module _ {W : Type 0} (many size : W → ℕ) (meaning : W → Meaning) (lawful 
   may_start : MayStartFrom meaning lawful d.shape d.limit d.work d.row.items
   may_start = subst (λ (k : ((W × ℕ) × (ℕ × ℕ)) × List ℕ). IsStartRow (setup_of k.0.0.1 k.0.1.0 k.0.1.1 (meaning k.0.0.0)) (lawful k.0.0.0) k.1)
       (λ i. (((sym work_is i, sym callers_are i), (sym cells_are i, sym limit_is i)), sym row_here i))
-      (starts meaning lawful r room_at law_at p seat closes.words closes.meets durable closes.durable recovers_here)
+      (starts meaning lawful r room_at law_at (view_of_pass p) seat.2 closes.words closes.meets durable closes.durable recovers_here)
 
   pub saved_so : IsSavedCells many size meaning lawful d
   saved_so = record {
@@ -242,8 +272,22 @@ module _ {W : Type 0} (many size : W → ℕ) (meaning : W → Meaning) (lawful 
 
   pub history_so : SavesHistory meaning r (view_of_pass p) d
   history_so = (
-    h meaning lawful r room_at law_at p seat closes.words closes.meets,
-    leads meaning lawful r room_at law_at p seat closes.words closes.meets d callers_are
-        (ap (λ (C : TableStart). length (map payload_of C.cells)) start_here ∙ cells_found meaning lawful r room_at law_at p seat closes.words closes.meets durable closes.durable recovers_here)
-        (λ a l. ap (λ (C : TableStart). get_or (map payload_of C.cells) a 0) start_here ∙ number_found meaning lawful r room_at law_at p seat closes.words closes.meets durable closes.durable recovers_here a l),
+    h meaning lawful r room_at law_at (view_of_pass p) seat.2 closes.words closes.meets,
+    leads meaning lawful r room_at law_at (view_of_pass p) seat.2 closes.words closes.meets d callers_are
+        (ap (λ (C : TableStart). length (map payload_of C.cells)) start_here ∙ cells_found meaning lawful r room_at law_at (view_of_pass p) seat.2 closes.words closes.meets durable closes.durable recovers_here)
+        (λ a l. ap (λ (C : TableStart). get_or (map payload_of C.cells) a 0) start_here ∙ number_found meaning lawful r room_at law_at (view_of_pass p) seat.2 closes.words closes.meets durable closes.durable recovers_here a l),
   )
+
+  module _ (start : StartsMeetInvariant (setup_for many size meaning d.limit d.work) (lawful d.work)) (runs : SchedulesKeepInvariant (setup_for many size meaning d.limit d.work) (lawful d.work)) (grounds : GoodGrounds (setup_for many size meaning d.limit d.work) (lawful d.work))
+      (sound : InvariantIsSound (setup_for many size meaning d.limit d.work) (lawful d.work)) (first : FirstStateIsStart) where
+    found_here : (a : ℕ) → a < T.cells → get_or (saved_cells d) a 0 ≡ recovered_number T (words_alone closes.meets.state.words) a
+    found_here a l = ap (λ (C : TableStart). get_or (map payload_of C.cells) a 0) start_here ∙ number_found meaning lawful r room_at law_at (view_of_pass p) seat.2 closes.words closes.meets durable closes.durable recovers_here a l
+
+    pub own_so : KeepsOwnCells meaning r d
+    own_so n low same a from upto =
+        let lt : a < T.cells = omega (arith, low, upto, room_at.own) in
+        let own_in : ticket_cell T n < T.cells = omega (arith, low, room_at.own) in
+        found_here a lt
+        ∙ own_stay T K (at_row (λ L S. StartsMeetInvariant S L) start) (at_row (λ L S. SchedulesKeepInvariant S L) runs) (at_row (λ L S. GoodGrounds S L) grounds) (at_row (λ L S. InvariantIsSound S L) sound) first law_at (row_start meaning r) closes.words (view_of_pass p) closes.meets n low own_in
+        (sym (found_here (ticket_cell T n) own_in) ∙ same) a (from, upto) lt
+        ∙ sym (number_at (row_start meaning r).cells a)

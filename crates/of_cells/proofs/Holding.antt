@@ -7,11 +7,12 @@ use Rattle.of_cell.specs.Words.{payload_of}
 use Rattle.of_cell.proofs.Order.{pay_zero}
 use Rattle.of_mem.specs.Meaning.{Meaning}
 use Rattle.of_mem.specs.declared.work.TheConstants.{MOST_INSTRS}
+use Rattle.of_core.specs.Fit.{IsEmptyWithRoom}
 use Rattle.of_core.specs.TableMoment.{TableStart}
 use Rattle.of_core.specs.Machine.{Call, CallState, IsOpen, is_idle}
 use Rattle.of_core.specs.Turn.{IsIdle}
 use Rattle.of_row.specs.declared.row.Row.{Row}
-use Rattle.of_row.specs.Rows.{key_of, setup_at, row_start, IsSeatOf, StartsAtZeros}
+use Rattle.of_row.specs.Rows.{key_of, setup_at, row_start, IsSeatOf, IsFirstPass, StartsAtZeros}
 use Rattle.of_row.specs.Rule.{done_before}
 use Rattle.of_mem.specs.Places.{ticket_cell_at}
 use Rattle.of_mem.proofs.Lists.{same_some, prefix_trans}
@@ -24,21 +25,21 @@ use Rattle.of_cells.specs.declared.handle.CellHandle.{CellHandle}
 use Rattle.of_cells.specs.declared.saved.SavedCells.{SavedCells}
 use Rattle.of_cells.specs.History.{ExplainsAll, HaveOwnSequences, HasOnly, IsOneOf}
 use Rattle.of_cells.specs.Called.{IsOpenAt}
-use Rattle.of_cells.specs.Serving.{KeepsSo, IsNew, Serves, ServeAll, AllStand, IsKeptOf, KeepsThose, KnowsPasts, KnowsMore, IsKnowledge, ended_of, events_known_to, cells_at_start, made_before}
+use Rattle.of_cells.specs.Serving.{KeepsSo, IsNew, Serves, ServeAll, AllStand, IsKeptOf, KeepsThose, KnowsPasts, KnowsMore, IsKnowledge, ended_of, events_known_to, cells_at_start, durable_count, made_before}
 use Rattle.of_cells.specs.Saving.{HasOpenOperation, HasOnlyKept, HistoryLeads}
 use Rattle.of_cells.specs.Handles.{IsCellHandle}
-use Rattle.of_cells.specs.Memories.{IsCellMemory, IsFrom, HasMadeOf, HasOpenOf, HasMadeNothing, HasNoneOpen, KnowsOthers, OthersStayOpen, OthersKnowOrder, HasHistory, row_of}
+use Rattle.of_cells.specs.Memories.{IsCellMemory, IsFrom, HasMadeOf, HasOpenOf, HasMadeNothing, HasNoneOpen, KnowsOthers, OthersStayOpen, OthersKnowOrder, HasHistory, BeganLawful, row_of, work_of, cells_before}
 use Rattle.of_cells.proofs.Seats.{number_below, is_within}
 
 -- ---- zeros
 
+pub zeros_read : (n a : ℕ) → ◌≡◌ {A = ℕ} (get_or (replicate n 0) a 0) 0
+zeros_read zero a = refl
+zeros_read (suc n) zero = refl
+zeros_read (suc n) (suc a) = zeros_read n a
+
 pub zero_at : (n a : ℕ) → payload_of (get_or (replicate n 0) a 0) ≡ 0
-zero_at n a = ap payload_of (zero_in n a) ∙ pay_zero
-  where
-    zero_in : (n a : ℕ) → ◌≡◌ {A = ℕ} (get_or (replicate n 0) a 0) 0
-    zero_in zero a = refl
-    zero_in (suc n) zero = refl
-    zero_in (suc n) (suc a) = zero_in n a
+zero_at n a = ap payload_of (zeros_read n a) ∙ pay_zero
 
 pub zeros_paid : (n : ℕ) → map payload_of (replicate n 0) ≡ replicate n 0
 zeros_paid n = ext_get_or 0 (map payload_of (replicate n 0)) (replicate n 0) (length-map (replicate n 0) payload_of) (λ i l.
@@ -131,14 +132,25 @@ module _ {W : Type 0} where
     pub low_handle : (m : CellMemory W) (h : CellHandle W) → IsCellMemory meaning m → IsCellHandle meaning h → IsFrom m h → h.number < length m.callers.items
     low_handle m h is handle from = low_number m h.number h.caller is (serves_there m h from handle)
 
+    -- ---- a memory that is opened with lawful cells
+
+    pub began_lawful : (size : W → ℕ) (lawful : W → List ℕ → Type 0) (m : CellMemory W) (w : W) (xs : List ℕ) → work_of m ≡ w → cells_before meaning m ≡ xs → length xs ≡ size w → lawful w xs → BeganLawful size meaning lawful m
+    began_lawful size lawful m w xs work cells long is = record {
+      long = ap (λ (l : List ℕ). length l) cells ∙ long ∙ ap size (sym work);
+      is_lawful = subst (λ (z : W × List ℕ). lawful z.0 z.1) (λ i. (sym work i, sym cells i)) is;
+    }
+
     -- ---- a memory over a row
 
-    pub is_memory : (m : CellMemory W) (r : Row W) → row_of m ≡ r → IsSeatOf r m.pass.seat → length m.callers.items ≡ (key_of r).callers → ServeAll meaning r m.callers.items → m.known ≡ None → IsCellMemory meaning m
-    is_memory m r is pass each serve none = record {
+    pub is_memory : (m : CellMemory W) (r : Row W) → row_of m ≡ r → IsSeatOf r m.pass.seat → IsFirstPass m.pass → length m.callers.items ≡ (key_of r).callers → ServeAll meaning r m.callers.items → m.known ≡ None
+        → IsEmptyWithRoom (durable_count r) m.room → IsCellMemory meaning m
+    is_memory m r is pass first each serve none room = record {
       pass = subst (λ (x : Row W). IsSeatOf x m.pass.seat) (sym is) pass;
+      first = first;
       each = each ∙ ap (λ (x : Row W). (key_of x).callers) (sym is);
       serve = λ n c here. subst (λ (x : Row W). Serves meaning x n c) (sym is) (serve n c here);
       known = subst (IsKnowledge (row_of m)) (sym none) tt;
+      room = subst (λ (x : Row W). IsEmptyWithRoom (durable_count x) m.room) (sym is) room;
     }
 
     pub none_made : (m : CellMemory W) (r : Row W) → row_of m ≡ r → AllStand (IsNew meaning r) (key_of r).callers m.callers.items → HasMadeNothing m

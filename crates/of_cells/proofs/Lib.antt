@@ -1,8 +1,11 @@
 pub mod Called
 pub mod Seats
 pub mod Times
+pub mod OwnCells
 pub mod Closing
 pub mod Holding
 pub mod Still
 pub mod Renumbering
 mod Meant
+mod Handing
+mod AnyMoment

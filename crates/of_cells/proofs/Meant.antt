@@ -3,12 +3,11 @@ use Rattle.std.proofs.Common.{◌≡◌, ℕ, zero, suc, ◌-◌, ◌<◌, Bool,
 use Rattle.of_cell.specs.Words.{payload_of}
 use Rattle.of_mem.specs.Meaning.{Meaning}
 use Rattle.of_mem.specs.declared.work.RawReply.{RawReply}
-use Rattle.of_mem.specs.declared.work.TheConstants.{MOST_INSTRS}
 use Rattle.of_core.specs.declared.place.Outcome.{Outcome}
 use Rattle.of_core.specs.declared.place.Outcome.TheVariants.{Answered}
 use Rattle.of_core.specs.Machine.{Call, CallState, no_call}
 use Rattle.of_core.specs.TableMoment.{Batch, TableStart}
-use Rattle.of_core.specs.History.{CallsHaveReplies, IsLegalHistory, HasCall, batch_at, no_batch, numbers_after_calls, numbers_after_batches}
+use Rattle.of_core.specs.History.{CallsHaveReplies, IsLegalHistory, batch_at, no_batch, numbers_after_calls, numbers_after_batches}
 use Rattle.of_row.specs.declared.row.Row.{Row}
 use Rattle.of_row.specs.Rows.{setup_at, row_start}
 use Rattle.of_row.specs.Rule.{CallHasEnded}

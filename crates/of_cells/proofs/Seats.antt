@@ -1,6 +1,6 @@
 -- The callers of a memory at their places, and what a pass keeps that gathers them.
 use Rattle.std.specs.Prelude.{is_some, not}
-use Rattle.std.proofs.Common.{◌≡◌, ◌≢◌, ℕ, ◌+◌, ◌≤◌, ◌<◌, ◌⊎◌, inl, inr, Bool, false, List, [], ◌∷◌, ◌++◌, length, get_or, set, Option, Some, None, refl, sym, ap, subst, ◌∙◌, arith}
+use Rattle.std.proofs.Common.{◌≡◌, ◌≢◌, ℕ, ◌+◌, ◌≤◌, ◌<◌, ◌⊎◌, inl, inr, Bool, true, false, List, [], ◌∷◌, ◌++◌, length, get_or, set, Option, Some, None, refl, sym, ap, subst, ◌∙◌, arith}
 use Rattle.std.specs.List.{AllByRecursion as Each}
 use Rattle.std.proofs.lemmas.Bool.{cases_lt}
 use mathlib.Core.Bool.{true≢false}
@@ -14,7 +14,8 @@ use Rattle.of_row.specs.declared.member.Pass.{Pass}
 use Rattle.of_row.specs.declared.row.Row.{Row}
 use Rattle.of_row.specs.Passes.{HasEnrolled, IsFirst}
 use Rattle.of_row.specs.Rows.{key_of, setup_at, row_start}
-use Rattle.of_row.specs.Rule.{IsAsked, open_call_count}
+use Rattle.of_row.specs.Gathered.{KeepsAsked}
+use Rattle.of_row.specs.Rule.{IsAsked, IsCallerKept, open_call_count}
 use Rattle.of_row.specs.Views.{KnownCaller, View, last_caller, seen_seq}
 use Rattle.of_row.specs.Turned.{new_known_caller, StandsForMachine}
 use Rattle.of_core.specs.Table.{Setup}
@@ -79,6 +80,10 @@ module _ {C : Type 0} where
   one_there None b e f = absurd (true≢false (sym (ap not f) ∙ sym e))
   one_there (Some c) b e f = (c, refl)
 
+  pub none_there : (o : Option C) (b : Bool) → is_some o ≡ not b → b ≡ true → (c : C) × (o ≡ Some c) → ⊥
+  none_there None b e f h = absurd (cc h.1)
+  none_there (Some c) b e f h = absurd (true≢false (e ∙ ap not f))
+
   pub is_within : (cs : List (Option C)) (n : ℕ) (c : C) → get_or cs n None ≡ Some c → n < length cs
   is_within cs n c here = elim (cases_lt n (length cs)) [
     | inl low ↦ low
@@ -95,6 +100,18 @@ keeps_left n P (x ∷ xs) ys (inr h) = inr (keeps_left n P xs ys h)
 pub keeps_right : (n : ℕ) (P : KnownCaller → Type 0) (xs ys : List KnownCaller) → KeepsSo n P ys → KeepsSo n P (xs ++ ys)
 keeps_right n P [] ys k = k
 keeps_right n P (x ∷ xs) ys k = inr (keeps_right n P xs ys k)
+
+kept_is : (n : ℕ) (P : KnownCaller → Type 0) (xs : List KnownCaller) → KeepsSo n P xs → IsCallerKept n xs
+kept_is n P [] k = absurd k
+kept_is n P (x ∷ xs) (inl h) = inl h.0
+kept_is n P (x ∷ xs) (inr h) = inr (kept_is n P xs h)
+
+-- if all callers are here, one of each number is kept
+pub keeps_asked : {W : Type 0} (cs : List (Option (Caller W))) (callers : ℕ) (v : View) → length cs ≡ callers → AllHere cs (length cs) → KeepsThose cs (length cs) v.kept → KeepsAsked callers v
+keeps_asked cs callers v each here keeps n lt asked =
+    let low : n < length cs = omega (arith, lt, each) in
+    let one = here n low in
+    kept_is n (IsKeptOf one.0) v.kept (keeps n one.0 low one.1)
 
 -- the open machine that a member keeps is its caller's
 pub open_same : (S : Setup) (x : KnownCaller) (d : CallState) → StandsForMachine S x d → IsOpen x.machine.place → x.machine ≡ d

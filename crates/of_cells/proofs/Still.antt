@@ -2,7 +2,7 @@
 use Rattle.std.proofs.Common.{◌≡◌, ◌≢◌, ℕ, ◌<◌, inl, inr, List, [], ◌∷◌, refl, length, get_or, set, Option, Some, None, sym, ap, subst, ◌∙◌, arith}
 use Rattle.std.proofs.lemmas.Bool.{cases_lt}
 use Rattle.std.proofs.lemmas.List.{get_or-set_same, get_or-set_other, length-set}
-use Rattle.of_mem.specs.Meaning.{Meaning}
+use Rattle.of_mem.specs.Meaning.{Meaning, IsSoundMeaning}
 use Rattle.of_mem.proofs.Lists.{same_some}
 use Rattle.of_row.specs.declared.row.Row.{Row}
 use Rattle.of_row.specs.Rows.{key_of}
@@ -14,7 +14,7 @@ use Rattle.of_cells.specs.declared.handle.CellHandle.{CellHandle}
 use Rattle.of_cells.specs.Serving.{made_before, cells_at_start}
 use Rattle.of_cells.specs.Handles.{HasCallOpen, IsSame}
 use Rattle.of_cells.specs.Memories.{IsStill, HasOpenOf, HasNoneOpen, TakesOut, PutsBack, callers_of}
-use Rattle.of_cells.specs.Joining.{HistoriesJoin, MemoriesStay, NoneStaysOpen}
+use Rattle.of_cells.specs.Joining.{CellsStayLawful, HistoriesJoin, MemoriesStay, NoneStaysOpen}
 use Rattle.of_cells.proofs.Seats.{is_within}
 
 pub still_callers : {W : Type 0} (m k : CellMemory W) → IsStill m k → callers_of k ≡ callers_of m
@@ -75,3 +75,9 @@ none_stays_open W m k l h g none out same closed back i op opened = stays_closed
 pub histories_join : (M : Meaning) → HistoriesJoin M
 histories_join M cells [] k one other = (other, refl)
 histories_join M cells (e ∷ h) k one other = let r = histories_join M (M.cells cells e.op) h k one.1 other in ((one.0, r.0), r.1)
+
+-- ---- lawful cells
+
+pub stay_lawful : (M : Meaning) (lawful : List ℕ → Type 0) (base size : ℕ) → IsSoundMeaning M lawful base size → CellsStayLawful M lawful size
+stay_lawful M lawful base size sound cells [] long is = (long, is)
+stay_lawful M lawful base size sound cells (e ∷ h) long is = stay_lawful M lawful base size sound (M.cells cells e.op) h (sound.keeps_length cells e.op long) (sound.leads cells e.op long is)

@@ -47,7 +47,8 @@ abbrev pub IsOpenAt : {W : Type 0} → (op : List ℕ) → Caller W → Type 0
 IsOpenAt op c = IsInCall c × ((caller_call c).op ≡ op)
 
 -- a stopped call stays open, and none is open after one that has ended
-abbrev pub LeavesOpen : {W : Type 0} → (op : List ℕ) → Result RawAnswer RunError → Caller W → Type 0
+abbrev pub LeavesOpen : {W : Type 0} → (op : List ℕ) → Result RawAnswer RunError → Caller W
+    → Type 0
 LeavesOpen op (Ok a) c = IsInCall c → ⊥
 LeavesOpen op (Err (Stopped asked)) c = IsOpenAt op c
 LeavesOpen op (Err (NoneLeft seq)) c = IsInCall c → ⊥
@@ -83,7 +84,8 @@ HasStarted (Err NoTicket) = ⊥
 
 -- Before a call that has made a step, the caller of this number knew of no call of its number but
 -- those that have ended.
-abbrev pub BeginsAsNext : {W : Type 0} → (number : ℕ) → Result RawAnswer RunError → Caller W → Type 0
+abbrev pub BeginsAsNext : {W : Type 0} → (number : ℕ) → Result RawAnswer RunError → Caller W
+    → Type 0
 BeginsAsNext n result c =
     HasStarted result → calls_begun_in (events_known_to c) n ≤ length (ended_of c)
 

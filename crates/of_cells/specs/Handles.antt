@@ -124,21 +124,26 @@ OpensOnly op h k = CallerOpensOnly op (caller_of h) (caller_of k)
 abbrev pub OpensNone : {W : Type 0} → (before now : CellHandle W) → Type 0
 OpensNone h k = CallerOpensNone (caller_of h) (caller_of k)
 
--- It refuses a call only if one is open, or its number has made all calls that it may make. A call
--- is spent only where the sequence has come to the limit.
+-- no call of it is open, and its number may make one more
+pub record MayCall {W : Type 0} (h : CellHandle W) : Type 0 where
+  pub none : HasCallOpen h → ⊥
+  pub left : HasNoTicketLeft h → ⊥
+
+-- A call is made exactly if none is open and the number may make one more. It is spent only where
+-- the sequence has come to the limit.
 abbrev pub RefusesCall : {W : Type 0} → CellHandle W → Result RawAnswer RunError → Type 0
-RefusesCall h (Ok a) = Unit {0}
-RefusesCall h (Err (Stopped asked)) = Unit {0}
-RefusesCall h (Err (Spent seq)) = seq ≡ limit_at h
+RefusesCall h (Ok a) = MayCall h
+RefusesCall h (Err (Stopped asked)) = MayCall h
+RefusesCall h (Err (Spent seq)) = MayCall h × (seq ≡ limit_at h)
 RefusesCall h (Err InCall) = HasCallOpen h
 RefusesCall h (Err NoCall) = ⊥
-RefusesCall h (Err NoTicket) = HasNoTicketLeft h
+RefusesCall h (Err NoTicket) = (HasCallOpen h → ⊥) × HasNoTicketLeft h
 
--- it refuses to go on only if no call is open, and a call is spent only at the limit
+-- a call goes on exactly if one is open, and is spent only at the limit
 abbrev pub RefusesToGoOn : {W : Type 0} → CellHandle W → Result RawAnswer RunError → Type 0
-RefusesToGoOn h (Ok a) = Unit {0}
-RefusesToGoOn h (Err (Stopped asked)) = Unit {0}
-RefusesToGoOn h (Err (Spent seq)) = seq ≡ limit_at h
+RefusesToGoOn h (Ok a) = HasCallOpen h
+RefusesToGoOn h (Err (Stopped asked)) = HasCallOpen h
+RefusesToGoOn h (Err (Spent seq)) = HasCallOpen h × (seq ≡ limit_at h)
 RefusesToGoOn h (Err InCall) = ⊥
 RefusesToGoOn h (Err NoCall) = HasCallOpen h → ⊥
 RefusesToGoOn h (Err NoTicket) = ⊥

@@ -1,5 +1,5 @@
 -- Laws of memories, for programs that reason about what is saved.
-use Rattle.std.specs.Prelude.{◌≡◌, ◌++◌, ℕ, List}
+use Rattle.std.specs.Prelude.{◌≡◌, ◌++◌, ℕ, List, length}
 use Rattle.of_mem.specs.Meaning.{Meaning}
 use Rattle.of_core.specs.Machine.{Call}
 use Rattle.of_cells.specs.declared.memory.CellMemory.{CellMemory}
@@ -15,6 +15,12 @@ HistoriesJoin M =
     (cells : List ℕ) (h k : List Call) → IsSerial M cells h
     → IsSerial M (cells_after M cells h) k → IsSerial M cells (h ++ k)
     × (cells_after M cells (h ++ k) ≡ cells_after M (cells_after M cells h) k)
+
+-- operations lead from lawful cells to lawful cells, and to as many
+abbrev pub CellsStayLawful : Meaning → (List ℕ → Type 0) → (size : ℕ) → Type 0
+CellsStayLawful M lawful size =
+    (cells : List ℕ) (h : List Call) → length cells ≡ size → lawful cells
+    → (length (cells_after M cells h) ≡ size) × lawful (cells_after M cells h)
 
 -- it has the same work and as many callers, and was opened with the same cells and the same calls
 pub record StaysAsOpened {W : Type 0} (meaning : W → Meaning) (before now : CellMemory W)

@@ -5,11 +5,12 @@ use Rattle.std.specs.List.{All}
 use Rattle.std.proofs.Common.{get_or}
 use Rattle.of_cell.specs.declared.word.TheConstants.{GREATEST_LIMIT}
 use Rattle.of_mem.specs.Meaning.{Meaning}
+use Rattle.of_core.specs.Fit.{IsEmptyWithRoom}
 use Rattle.of_core.specs.Machine.{Call}
 use Rattle.of_core.specs.Linear.{Sequences, StandsBySequence}
 use Rattle.of_row.specs.declared.row.Row.{Row}
 use Rattle.of_core.specs.Events.{Event}
-use Rattle.of_row.specs.Rows.{key_of, setup_at, row_start, IsRowPass}
+use Rattle.of_row.specs.Rows.{key_of, setup_at, row_start, IsRowPass, IsFirstPass}
 use Rattle.of_row.specs.Views.{EndedCall}
 use Rattle.of_caller.specs.declared.caller.Caller.{Caller}
 use Rattle.of_cells.specs.declared.error.EnrolError.{EnrolError}
@@ -22,8 +23,8 @@ use Rattle.of_cells.specs.declared.saved.SavedCells.{SavedCells}
 use Rattle.of_cells.specs.History.{IsSerial, cells_after, StandsInOrder, ExplainsAll, HaveOwnSequences, HasOnly, IsUpTo, ComeInOrder}
 use Rattle.of_cells.specs.Times.{calls_ended_in, EndBefore}
 use Rattle.of_cells.specs.Called.{IsOpenAt}
-use Rattle.of_cells.specs.Serving.{ServeAll, AllHere, KnowsMore, IsKnowledge, ended_of, events_known_to, events_in, cells_at_start, made_before}
-use Rattle.of_cells.specs.Saving.{SavedHolds, TellsLast, saved_ticket}
+use Rattle.of_cells.specs.Serving.{ServeAll, AllHere, KnowsMore, IsKnowledge, ended_of, events_known_to, events_in, cells_at_start, durable_count, made_before}
+use Rattle.of_cells.specs.Saving.{SavedHolds, TellsLast, KeepsOwnCells, saved_ticket}
 use Rattle.of_cells.specs.Handles.{home_of, number_of_handle, caller_of}
 
 abbrev pub row_of : {W : Type 0} → CellMemory W → Row W
@@ -32,9 +33,11 @@ row_of m = arc_value m.row
 -- it is open
 pub record IsCellMemory {W : Type 0} (meaning : W → Meaning) (m : CellMemory W) : Type 0 where
   pub pass : IsRowPass (row_of m) m.pass
+  pub first : IsFirstPass m.pass
   pub each : length m.callers.items ≡ (key_of (row_of m)).callers
   pub serve : ServeAll meaning (row_of m) m.callers.items
   pub known : IsKnowledge (row_of m) m.known
+  pub room : IsEmptyWithRoom (durable_count (row_of m)) m.room
 
 -- the work whose operations it runs
 abbrev pub work_of : {W : Type 0} → CellMemory W → W
@@ -55,6 +58,12 @@ limit_of m = (key_of (row_of m)).limit
 -- the numbers of the data cells with which it was opened
 abbrev pub cells_before : {W : Type 0} → (W → Meaning) → CellMemory W → List ℕ
 cells_before meaning m = cells_at_start meaning (row_of m)
+
+-- it was opened with lawful cells of its work, as many as that has
+pub record BeganLawful {W : Type 0} (size : W → ℕ) (meaning : W → Meaning)
+    (lawful : W → List ℕ → Type 0) (m : CellMemory W) : Type 0 where
+  pub long : length (cells_before meaning m) ≡ size (work_of m)
+  pub is_lawful : lawful (work_of m) (cells_before meaning m)
 
 -- how many calls of a caller it was opened with
 abbrev pub tickets_before : {W : Type 0} → (W → Meaning) → CellMemory W → ℕ → ℕ
@@ -108,6 +117,10 @@ HasNoneOpen m = (n : ℕ) (op : List ℕ) → HasOpenOf m n op → ⊥
 -- no handle is out
 abbrev pub HasNoHandleOut : {W : Type 0} → CellMemory W → Type 0
 HasNoHandleOut m = AllHere m.callers.items (length m.callers.items)
+
+-- one is out
+abbrev pub HasHandleOut : {W : Type 0} → CellMemory W → Type 0
+HasHandleOut m = HasNoHandleOut m → ⊥
 
 -- the handle is the memory's
 abbrev pub IsFrom : {W : Type 0} → CellMemory W → CellHandle W → Type 0
@@ -194,6 +207,11 @@ pub record LeadsTo {W : Type 0} (meaning : W → Meaning) (m : CellMemory W) (d 
 -- there is one that does
 abbrev pub HasHistory : {W : Type 0} → (W → Meaning) → CellMemory W → SavedCells W → Type 0
 HasHistory meaning m d = (h : List Call) × LeadsTo meaning m d h
+
+-- of a caller that is saved with no call since the memory was opened, the own cells are as they
+-- were then, and so is its last reply
+abbrev pub SavesOwnCells : {W : Type 0} → (W → Meaning) → CellMemory W → SavedCells W → Type 0
+SavesOwnCells meaning m d = KeepsOwnCells meaning (row_of m) d
 
 -- why there is no handle
 abbrev pub IsEnrolCause : {W : Type 0} → CellMemory W → ℕ → EnrolError → Type 0

@@ -3,6 +3,7 @@ use Rattle.std.specs.Prelude.{◌≡◌, ℕ, ◌+◌, ◌<◌, ◌≤◌, ◌�
 use Rattle.std.proofs.Common.{get_or}
 use mathlib.Core.List.{IsPrefix}
 use Rattle.of_cell.specs.Words.{payload_of}
+use Rattle.of_cell.specs.Cells.{durable_cells}
 use Rattle.of_mem.specs.Meaning.{Meaning}
 use Rattle.of_mem.specs.Places.{ticket_cell_at}
 use Rattle.of_mem.specs.declared.work.TheConstants.{MOST_INSTRS}
@@ -28,6 +29,10 @@ cells_at_start meaning r = map payload_of (row_start meaning r).cells
 abbrev pub made_before : {W : Type 0} → (W → Meaning) → Row W → ℕ → ℕ
 made_before meaning r n =
     payload_of (get_or (row_start meaning r).cells (ticket_cell_at MOST_INSTRS n) 0)
+
+-- how many durable words it has: one for each of its cells
+abbrev pub durable_count : {W : Type 0} → Row W → ℕ
+durable_count r = durable_cells (key_of r).callers (key_of r).cells
 
 -- no call on the row makes more steps than this
 abbrev pub row_step_bound : {W : Type 0} → (W → Meaning) → Row W → ℕ

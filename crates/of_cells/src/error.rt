@@ -50,6 +50,21 @@ pub enum RunError {
     NoTicket,
 }
 
+/// Why nothing is found in durable words.
+#[derive(Clone, Copy, Debug, PartialEq, Eq, Error)]
+pub enum WordsError {
+    #[error("out of memory")]
+    OutOfMemory,
+    #[error("{limit} is no limit of sequences")]
+    Limit { limit: u32 },
+    /// A table of the work has another number of durable words.
+    #[error("{count} words are not the durable words of such a table")]
+    Count { count: usize },
+    /// Recovery finds this sequence in the words, and the limit is below it.
+    #[error("the limit is below sequence {seq}")]
+    PastLimit { seq: u32 },
+}
+
 /// What is saved can't have this limit. It is handed back.
 #[derive(Drop)]
 pub struct LimitError<W: Work>(pub SavedCells<W>);

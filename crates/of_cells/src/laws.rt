@@ -2,10 +2,14 @@
 //! the theorems.
 
 ghost use Rattle.of_cells.specs.Handles.{CallsAreCounted};
-ghost use Rattle.of_cells.specs.Joining.{HistoriesJoin, MemoriesStay, NoneStaysOpen};
+ghost use Rattle.of_cells.specs.Joining.{HistoriesJoin, CellsStayLawful, MemoriesStay, NoneStaysOpen};
 ghost use Rattle.of_cells.specs.Telling.{ToldCallsComeFirst, CallsComeInTurn};
+ghost use Rattle.of_cells.specs.Memories.{IsCellMemory};
+ghost use Rattle.of_cells.specs.Words.{HoldsWordsAlways};
 
+use crate::memory::CellMemory;
 use of_mem::Work;
+use of_row::laws::stops_lose_nothing;
 
 /// A handle that has no open call has begun as many calls as its memory was opened with, and those
 /// that it has made since.
@@ -16,6 +20,12 @@ pub fn calls_are_counted<W: Work>()
 /// The history of a memory and that of the one that goes on from what it has left are one history.
 pub fn histories_join<W: Work>(work: W)
     ensures { HistoriesJoin (W.meaning work) }
+{}
+
+/// Operations lead from lawful cells of a work to lawful cells. So the cells on which an answer was
+/// meant are lawful (`CellHandle::run`: `means`), as those are with which a memory is opened.
+pub fn cells_stay_lawful<W: Work>(work: W)
+    ensures { CellsStayLawful (W.meaning work) (W.lawful work) (W.size work) }
 {}
 
 /// A memory has the same work and callers, and was opened with the same cells and tickets, while
@@ -40,3 +50,14 @@ pub fn told_calls_come_first<W: Work>()
 pub fn calls_come_in_turn<W: Work>()
     ensures { CallsComeInTurn W.meaning }
 {}
+
+/// A process that is killed at any moment loses no call that was answered: `SavedCells::from_words`
+/// takes the durable words of a memory as they are then, and one serial history leads to what it
+/// finds.
+pub fn words_hold_history<W: Work>(memory: &CellMemory<W>)
+    requires { IsCellMemory W.meaning memory.now }
+    ensures { HoldsWordsAlways W.many W.size W.meaning W.lawful memory.now }
+{
+    let _shape = memory.shape();
+    stops_lose_nothing(memory.limit(), memory.work());
+}

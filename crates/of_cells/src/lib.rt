@@ -3,6 +3,7 @@
 #![tactic(auto)]
 
 mod answer;
+mod at_once;
 mod calling;
 mod error;
 mod handle;
@@ -12,9 +13,11 @@ mod memory;
 mod saved;
 mod seating;
 mod telling;
+mod words;
 
 pub use answer::RawAnswer;
-pub use error::{EnrolError, InUse, LimitError, OpenError, RunError};
+pub use at_once::CellTask;
+pub use error::{EnrolError, InUse, LimitError, OpenError, RunError, WordsError};
 pub use handle::CellHandle;
 pub use memory::CellMemory;
 pub use of_cell::GREATEST_LIMIT;
@@ -22,3 +25,4 @@ pub use of_core::Outcome;
 pub use of_mem::{MOST_INSTRS, RawReply, Work};
 pub use saved::SavedCells;
 pub use telling::CellNews;
+pub use words::{TableSizes, sizes};

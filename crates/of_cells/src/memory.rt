@@ -1,17 +1,16 @@
 //! The memory itself.
 
 ghost use Rattle.std.specs.Prelude.{◌≡◌};
-ghost use Rattle.of_mem.specs.declared.work.TheConstants.{MOST_INSTRS};
 ghost use Rattle.of_cell.specs.declared.word.TheConstants.{GREATEST_LIMIT};
 
 use crate::error::{EnrolError, InUse, OpenError};
 use crate::handle::CellHandle;
-use crate::saved::SavedCells;
+use crate::saved::{SavedCells, shape_for};
 use crate::seating::{all_here, gather, put_at, seat_all, take_at};
 use crate::telling::exchange;
 use of_caller::Caller;
 use of_cell::{GREATEST_LIMIT, Shape};
-use of_mem::{MOST_INSTRS, Work};
+use of_mem::Work;
 use of_row::{Pass, Row};
 use std::alloc::{AllocError, Global};
 use std::sync::Arc;
@@ -19,31 +18,24 @@ use std::sync::Arc;
 /// A table of cells on which threads run the operations of a work, each by a handle of its own.
 #[derive(Drop)]
 pub struct CellMemory<W: Work> {
+    alloc: Global,
     row: Arc<Row<W>, Global>,
+    /// The row's first pass: it has asked for each number.
     pass: Pass,
     /// What the handles knew that have left.
     known: Option<Pass>,
     /// The callers that have no handle, by their numbers.
     callers: Vec<Option<Caller<W>>>,
-}
-
-// The shape of a table for a work.
-fn shape_for<W: Work>(work: W) -> Shape
-    ensures callers { result.callers ≡ W.many work }
-    ensures instrs { result.instrs ≡ MOST_INSTRS }
-    ensures cells { result.cells ≡ W.size work }
-{
-    Shape {
-        callers: work.callers(),
-        instrs: MOST_INSTRS as u32,
-        cells: work.cells(),
-    }
+    /// The memory into which a close loads the durable words, so that it takes none. It is empty
+    /// before, so that none of it is touched while the memory is in use.
+    room: Vec<u64>,
 }
 
 impl<W: Work> CellMemory<W> {
     ghost use Rattle.std.specs.Prelude.{◌≡◌, ◌<◌, ◌≤◌, ℕ, List, [], IfOk, IfErr};
     ghost use Rattle.std.proofs.Common.{replicate};
     ghost use Rattle.of_row.specs.Rows.{key_of};
+    ghost use Rattle.of_row.specs.Keys.{FitsWork};
     ghost use Rattle.of_row.specs.Passes.{IsFirst};
     ghost use Rattle.of_row.specs.Views.{EndedCall};
     ghost use Rattle.of_cells.specs.Serving.{Serves, ended_of};
@@ -52,13 +44,13 @@ impl<W: Work> CellMemory<W> {
     ghost use Rattle.of_cells.specs.Saving.{saved_callers, saved_limit, saved_ticket};
     ghost use Rattle.of_cells.specs.Handles.{IsCellHandle, HasOpen, number_of_handle, made_by};
     ghost use Rattle.of_cells.specs.Memories.{IsCellMemory, row_of, work_of, callers_of, limit_of};
-    ghost use Rattle.of_cells.specs.Memories.{cell_count_of};
+    ghost use Rattle.of_cells.specs.Memories.{cell_count_of, BeganLawful};
     ghost use Rattle.of_cells.specs.Memories.{cells_before, tickets_before, HasMadeOf, HasOpenOf};
-    ghost use Rattle.of_cells.specs.Memories.{HasNoneOpen, HasNoHandleOut, IsFrom, IsStill};
+    ghost use Rattle.of_cells.specs.Memories.{HasNoneOpen, HasNoHandleOut, HasHandleOut, IsFrom, IsStill};
     ghost use Rattle.of_cells.specs.Memories.{KnowsOthers, OthersStayOpen, HasHistory};
     ghost use Rattle.of_cells.specs.Memories.{IsOpenCause, IsEnrolCause, HasMadeNothing};
     ghost use Rattle.of_cells.specs.Memories.{TakesOut, TakesNone, PutsCaller, OthersKnowOrder};
-    ghost use Rattle.of_cells.specs.Memories.{RemembersAll, events_heard};
+    ghost use Rattle.of_cells.specs.Memories.{RemembersAll, SavesOwnCells, events_heard};
     ghost use Rattle.of_cells.specs.Telling.{KnowsOrdersOf, HearsMemory};
     ghost use Rattle.of_cells.specs.Serving.{events_known_to};
     ghost use mathlib.Core.List.{IsPrefix};
@@ -72,6 +64,7 @@ impl<W: Work> CellMemory<W> {
         ensures limit { IfOk result (λ m. limit_of m ≡ limit) }
         ensures size { IfOk result (λ m. cell_count_of m ≡ W.size work) }
         ensures zeros { IfOk result (λ m. cells_before W.meaning m ≡ replicate (W.size work) 0) }
+        ensures lawful { IfOk result (BeganLawful W.size W.meaning W.lawful) }
         ensures tickets { IfOk result (λ m. (n : ℕ) → tickets_before W.meaning m n ≡ 0) }
         ensures none { IfOk result HasMadeNothing }
         ensures idle { IfOk result HasNoneOpen }
@@ -95,6 +88,7 @@ impl<W: Work> CellMemory<W> {
         ensures limit { IfOk result (λ m. limit_of m ≡ limit) }
         ensures size { IfOk result (λ m. cell_count_of m ≡ W.size work) }
         ensures zeros { IfOk result (λ m. cells_before W.meaning m ≡ replicate (W.size work) 0) }
+        ensures lawful { IfOk result (BeganLawful W.size W.meaning W.lawful) }
         ensures tickets { IfOk result (λ m. (n : ℕ) → tickets_before W.meaning m n ≡ 0) }
         ensures none { IfOk result HasMadeNothing }
         ensures idle { IfOk result HasNoneOpen }
@@ -113,6 +107,7 @@ impl<W: Work> CellMemory<W> {
         ensures limit { IfOk result (λ m. limit_of m ≡ saved_limit saved.now) }
         ensures size { IfOk result (λ m. cell_count_of m ≡ W.size (saved_work saved.now)) }
         ensures goes_on { IfOk result (λ m. cells_before W.meaning m ≡ saved_cells saved.now) }
+        ensures lawful { IfOk result (BeganLawful W.size W.meaning W.lawful) }
         ensures tickets { IfOk result (λ m.
             (n : ℕ) → tickets_before W.meaning m n ≡ saved_ticket saved.now n) }
         ensures none { IfOk result HasMadeNothing }
@@ -132,12 +127,15 @@ impl<W: Work> CellMemory<W> {
         ensures idle { IfOk result HasNoneOpen }
     {
         let (callers, pass) = seat_all(alloc, &row, pass)?;
+        let room = Vec::with_capacity(alloc, row.shape().durable_cells() as usize)?;
         let row = Arc::new(alloc, row)?;
         Ok(CellMemory {
+            alloc,
             row,
             pass,
             known: None,
             callers,
+            room,
         })
     }
 
@@ -224,55 +222,61 @@ impl<W: Work> CellMemory<W> {
     }
 
     /// Closes the memory: what is durable is recovered and saved, and all else is given up. While a
-    /// handle is out, the memory is handed back.
+    /// handle is out, the memory is handed back. It takes no memory.
     pub fn close(self) -> Result<SavedCells<W>, InUse<W>>
         requires { IsCellMemory W.meaning self }
         ensures saved { IfOk result (IsSavedCells W.many W.size W.meaning W.lawful) }
         ensures lawful { IfOk result (HoldsLawful W.lawful) }
         ensures history { IfOk result (HasHistory W.meaning self) }
+        ensures own { IfOk result (SavesOwnCells W.meaning self) }
         ensures work { IfOk result (λ d. saved_work d ≡ work_of self) }
         ensures callers { IfOk result (λ d. saved_callers d ≡ callers_of self) }
         ensures limit { IfOk result (λ d. saved_limit d ≡ limit_of self) }
         // So no call that was answered is missing.
         ensures here { IfOk result (λ d. HasNoHandleOut self) }
+        ensures cause { OnErr result (HasHandleOut self) }
         ensures in_use { IfErr result (λ e. e.0 ≡ self) }
     {
         if all_here(&self.callers) {
-            self.close_at_home()
+            Ok(self.close_at_home())
         } else {
             Err(InUse(self))
         }
     }
 
-    // The same, where no handle is out.
-    fn close_at_home(self) -> Result<SavedCells<W>, InUse<W>>
+    // The same, where no handle is out. So nobody makes a step, and the words may be loaded though
+    // the row is shared.
+    fn close_at_home(self) -> SavedCells<W>
         requires memory { IsCellMemory W.meaning self }
         requires here { HasNoHandleOut self }
-        ensures saved { IfOk result (IsSavedCells W.many W.size W.meaning W.lawful) }
-        ensures lawful { IfOk result (HoldsLawful W.lawful) }
-        ensures history { IfOk result (HasHistory W.meaning self) }
-        ensures work { IfOk result (λ d. saved_work d ≡ work_of self) }
-        ensures callers { IfOk result (λ d. saved_callers d ≡ callers_of self) }
-        ensures limit { IfOk result (λ d. saved_limit d ≡ limit_of self) }
-        ensures in_use { IfErr result (λ e. e.0 ≡ self) }
+        ensures saved { IsSavedCells W.many W.size W.meaning W.lawful result }
+        ensures lawful { HoldsLawful W.lawful result }
+        ensures history { HasHistory W.meaning self result }
+        ensures own { SavesOwnCells W.meaning self result }
+        ensures work { saved_work result ≡ work_of self }
+        ensures callers { saved_callers result ≡ callers_of self }
+        ensures limit { saved_limit result ≡ limit_of self }
     {
         let CellMemory {
             row,
             pass,
-            known,
             mut callers,
+            room,
+            ..
         } = self;
-        match Arc::try_unwrap(row) {
-            Ok(row) => {
-                let pass = gather(&row, pass, &mut callers);
-                Ok(SavedCells::close(row, pass))
-            }
-            Err(row) => Err(InUse(CellMemory {
-                row,
-                pass,
-                known,
-                callers,
-            })),
-        }
+        let pass = gather(&row, pass, &mut callers);
+        SavedCells::close(&row, pass, room)
+    }
+
+    // The sizes of its table, which are its work's.
+    pub(crate) fn shape(&self) -> Shape
+        ensures { FitsWork W.many W.size (key_of (row_of self.now)) }
+    {
+        self.row.shape()
+    }
+
+    // Where it takes its memory from.
+    pub(crate) fn alloc(&self) -> Global {
+        self.alloc
     }
 }

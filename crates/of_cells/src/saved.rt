@@ -2,11 +2,13 @@
 
 ghost use Rattle.std.specs.Prelude.{◌≡◌, ◌<◌, ◌≤◌, ◌+◌, ◌↔◌, IfOk, IfSome, IsNone, length, map, slice_index_or};
 ghost use Rattle.of_cell.specs.Words.{payload_of};
+ghost use Rattle.of_mem.specs.declared.work.TheConstants.{MOST_INSTRS};
 ghost use Rattle.of_core.specs.Starts.{start_on};
 ghost use Rattle.of_recover.specs.OfShape.{IsShapeRow, row_after_recovery};
 ghost use Rattle.of_recover.specs.Recovered.{RecoversData};
 
 use of_cell::{Shape, payload_of};
+use of_core::laws::{every_moment, histories, step_kept};
 use of_mem::{MOST_INSTRS, RawReply, Work};
 use of_recover::laws::recovered_cells;
 use of_recover::recover;
@@ -16,6 +18,19 @@ use std::alloc::{AllocError, Global};
 
 /// How many data cells belong to each caller: its ticket, its reply's shape and the numbers in it.
 const OWN_CELLS: u32 = MOST_INSTRS as u32 + 2;
+
+/// The shape of a table for a work.
+pub(crate) fn shape_for<W: Work>(work: W) -> Shape
+    ensures callers { result.callers ≡ W.many work }
+    ensures instrs { result.instrs ≡ MOST_INSTRS }
+    ensures cells { result.cells ≡ W.size work }
+{
+    Shape {
+        callers: work.callers(),
+        instrs: MOST_INSTRS as u32,
+        cells: work.cells(),
+    }
+}
 
 // The words of the data cells in a durable row.
 fn data_words(alloc: Global, shape: &Shape, row: &[u64]) -> Result<Vec<u64>, AllocError>
@@ -33,10 +48,11 @@ fn numbers(alloc: Global, words: &[u64]) -> Result<Vec<u32>, AllocError>
     words.iter().map(|word| payload_of(*word)).collect(alloc)
 }
 
-// Recovers durable words, in place.
-fn recover_words(shape: &Shape, words: &mut Vec<u64>)
+/// Recovers durable words, in place.
+pub(crate) fn recover_words(shape: &Shape, words: &mut Vec<u64>)
     requires { IsShapeRow shape.now words.old.items }
     ensures row { words.new.items ≡ row_after_recovery shape.now words.old.items }
+    ensures size { IsShapeRow shape.now words.new.items }
     ensures on_data { RecoversData shape.now.callers shape.now.cells words.old.items
         (row_after_recovery shape.now words.old.items) }
 {
@@ -54,26 +70,37 @@ pub struct SavedCells<W: Work> {
 }
 
 impl<W: Work> SavedCells<W> {
-    ghost use Rattle.of_row.specs.Rows.{key_of, view_of_pass, IsRowPass};
+    ghost use Rattle.of_core.specs.Fit.{IsEmptyWithRoom};
+    ghost use Rattle.of_row.specs.Rows.{key_of, view_of_pass, IsRowPass, IsFirstPass};
+    ghost use Rattle.of_row.specs.Gathered.{KeepsAsked};
+    ghost use Rattle.of_cells.specs.Serving.{durable_count};
     ghost use Rattle.of_cells.specs.Saving.{IsSavedCells, HoldsLawful, SavesHistory, saved_work};
     ghost use Rattle.of_cells.specs.Saving.{saved_callers, saved_limit, saved_cells, saved_ticket};
-    ghost use Rattle.of_cells.specs.Saving.{IsReplyIn};
+    ghost use Rattle.of_cells.specs.Saving.{IsReplyIn, KeepsOwnCells};
 
-    // Closes a row, takes its durable words alone, as a crash does, and recovers them.
-    pub(crate) fn close(row: Row<W>, pass: Pass) -> SavedCells<W>
-        requires { IsRowPass row pass }
-        ensures work { saved_work result ≡ (key_of row).work }
-        ensures callers { saved_callers result ≡ (key_of row).callers }
-        ensures limit { saved_limit result ≡ (key_of row).limit }
+    // Loads the durable words of a row on which nobody makes a step any more: they alone are left,
+    // as after a crash. Then it recovers them. `words` is empty and has room for them.
+    pub(crate) fn close(row: &Row<W>, mut pass: Pass, mut words: Vec<u64>) -> SavedCells<W>
+        requires row { IsRowPass row.now pass }
+        requires first { IsFirstPass pass }
+        requires keeps { KeepsAsked (key_of row.now).callers (view_of_pass pass) }
+        requires room { IsEmptyWithRoom (durable_count row.now) words }
+        ensures work { saved_work result ≡ (key_of row.now).work }
+        ensures callers { saved_callers result ≡ (key_of row.now).callers }
+        ensures limit { saved_limit result ≡ (key_of row.now).limit }
         ensures saved { IsSavedCells W.many W.size W.meaning W.lawful result }
         ensures lawful { HoldsLawful W.lawful result }
-        ensures leads { SavesHistory W.meaning row (view_of_pass pass) result }
+        ensures leads { SavesHistory W.meaning row.now (view_of_pass pass) result }
+        ensures own { KeepsOwnCells W.meaning row.now result }
     {
         let work = row.work();
         let limit = row.limit();
+        step_kept(limit, work);
+        every_moment(limit, work);
+        histories();
         stops_lose_nothing(limit, work);
         let shape = row.shape();
-        let (mut words, _pass) = row.close_durable(pass);
+        row.load_durable(&mut pass, &mut words);
         recover_words(&shape, &mut words);
         SavedCells {
             work,

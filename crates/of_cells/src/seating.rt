@@ -1,8 +1,8 @@
 //! The callers of a memory: seated when it is opened, and gathered when it is closed.
 
-ghost use Rattle.std.specs.Prelude.{◌≡◌, ◌+◌, ◌<◌, ℕ, IfOk, IsTrue, Some, None, length};
+ghost use Rattle.std.specs.Prelude.{◌≡◌, ◌+◌, ◌<◌, ◌↔◌, ℕ, IfOk, IsTrue, Some, None, length};
 ghost use Rattle.std.specs.Prelude.{slice_index_or, slice_set};
-ghost use Rattle.of_row.specs.Rows.{key_of, view_of_pass, IsRowPass};
+ghost use Rattle.of_row.specs.Rows.{key_of, view_of_pass, IsRowPass, IsFirstPass};
 ghost use Rattle.of_row.specs.Passes.{IsFirst};
 ghost use Rattle.of_caller.specs.declared.caller.Caller.{Caller as TheCaller};
 ghost use Rattle.of_cells.specs.Serving.{KeepsSo, IsNew, Serves, ServeAll, Enrols, AllStand};
@@ -46,6 +46,7 @@ pub(crate) fn seat_all<W: Work>(
 ) -> Result<(Vec<Option<Caller<W>>>, Pass), AllocError>
     requires { IsFirst row.now pass }
     ensures pass { IfOk result (λ r. IsRowPass row.now r.1) }
+    ensures first { IfOk result (λ r. IsFirstPass r.1) }
     ensures each { IfOk result (λ r. length r.0.items ≡ (key_of row.now).callers) }
     ensures new { IfOk result (λ r.
         AllStand (IsNew W.meaning row.now) (key_of row.now).callers r.0.items) }
@@ -79,7 +80,7 @@ pub(crate) fn put_at<W: Work>(callers: &mut Vec<Option<Caller<W>>>, at: usize, c
 
 /// Whether each caller stands in its place.
 pub(crate) fn all_here<W: Work>(callers: &[Option<Caller<W>>]) -> bool
-    ensures { IsTrue result → AllHere callers.now (length callers.now) }
+    ensures { IsTrue result ↔ AllHere callers.now (length callers.now) }
 {
     for i in 0..callers.len() {
         if callers[i].is_none() {
@@ -92,8 +93,10 @@ pub(crate) fn all_here<W: Work>(callers: &[Option<Caller<W>>]) -> bool
 // Hands all that a caller has made to the pass, which keeps it.
 fn gather_one<W: Work>(row: &Row<W>, pass: Pass, number: usize, caller: Caller<W>) -> Pass
     requires pass { IsRowPass row.now pass }
+    requires first { IsFirstPass pass }
     requires serves { Serves W.meaning row.now number caller }
     ensures pass { IsRowPass row.now result }
+    ensures first { IsFirstPass result }
     ensures own { KeepsSo number (IsKeptOf caller) (view_of_pass result).kept }
     ensures others { (n : ℕ) (c : TheCaller W)
         → KeepsSo n (IsKeptOf c) (view_of_pass pass).kept
@@ -111,8 +114,10 @@ pub(crate) fn gather<W: Work>(
     callers: &mut Vec<Option<Caller<W>>>,
 ) -> Pass
     requires pass { IsRowPass row.now pass }
+    requires first { IsFirstPass pass }
     requires serve { ServeAll W.meaning row.now callers.old.items }
     ensures pass { IsRowPass row.now result }
+    ensures first { IsFirstPass result }
     ensures keeps { KeepsThose callers.old.items (length callers.old.items)
         (view_of_pass result).kept }
     ensures pasts { KnowsPasts callers.old.items (length callers.old.items)

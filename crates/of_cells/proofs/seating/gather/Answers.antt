@@ -29,6 +29,10 @@ loop-number-preserved g c =
         | in-Some w ↦ subst (λ (p : Pass). IsSeatOf r p.seat) (sym w.pass-is) w.gather_one-pass.ensures.pass
         | in_default w ↦ subst (λ (p : Pass). IsSeatOf r p.seat) (sym w.pass-is) inv.pass
       ];
+      first = elim c.match-take_at.branch [
+        | in-Some w ↦ ap (λ (p : Pass). p.seat.me.0.first) w.pass-is ∙ w.gather_one-pass.ensures.first
+        | in_default w ↦ ap (λ (p : Pass). p.seat.me.0.first) w.pass-is ∙ inv.first
+      ];
       long = ap length c.take_at.ensures.items ∙ length-set now i None ∙ inv.long;
       rest = λ n le. let ne : n ≢ i = omega arith in ap (λ xs. get_or xs n None) c.take_at.ensures.items ∙ get_or-set_other now i n None None ne ∙ inv.rest n (omega (arith, le));
       kept = elim c.match-take_at.branch [

@@ -1,18 +1,12 @@
 use Rattle.std.proofs.Common.{refl, subst}
-use Rattle.of_row.specs.Rows.{key_of}
 use Rattle.of_cells.specs.Serving.{KeepsServing, RisesByTouch, steps_made_by}
-use Rattle.of_cells.specs.Within.{IsSpentAtLimit}
-use Rattle.of_cells.proofs.Called.{tried_is, was_made}
+use Rattle.of_cells.proofs.Called.{was_made}
 use Rattle.of_cells.proofs.Times.{keeps_known, begins_after}
 use Rattle.of_cells.proofs.handle.CellHandle.begin.Goals as goal
 
 pub returns-clause-handle : goal.returns-clause-handle
 returns-clause-handle g c =
     subst (λ r. KeepsServing g.W.Work.meaning r c.args.self.now.caller c.call_with.new.caller) c.deref.ensures c.call_with.ensures.serves c.args.self.now.number c.requires.handle
-
-pub returns-clause-cause : goal.returns-clause-cause
-returns-clause-cause g c = tried_is c.args.self.now c.call_with.result c.call_with.ensures.tried
-    (subst (λ r. IsSpentAtLimit (key_of r).limit c.call_with.result) c.deref.ensures c.call_with.ensures.spent)
 
 pub returns-clause-unmade : goal.returns-clause-unmade
 returns-clause-unmade g c = was_made c.args.self.now _ c.call_with.result c.call_with.ensures.tried

@@ -1,19 +1,13 @@
 use Rattle.std.proofs.Common.{refl, subst}
-use Rattle.of_row.specs.Rows.{key_of}
 use Rattle.of_cells.specs.Serving.{KeepsServing, RisesByTouch, steps_made_by}
 use Rattle.of_caller.specs.Callers.{caller_call}
-use Rattle.of_cells.specs.Within.{IsSpentAtLimit}
-use Rattle.of_cells.proofs.Called.{went_on, was_made}
+use Rattle.of_cells.proofs.Called.{was_made}
 use Rattle.of_cells.proofs.Times.{keeps_known, begins_after}
 use Rattle.of_cells.proofs.handle.CellHandle.resume.Goals as goal
 
 pub returns-clause-handle : goal.returns-clause-handle
 returns-clause-handle g c =
     subst (λ r. KeepsServing g.W.Work.meaning r c.args.self.now.caller c.go_on_with.new.caller) c.deref.ensures c.go_on_with.ensures.serves c.args.self.now.number c.requires
-
-pub returns-clause-cause : goal.returns-clause-cause
-returns-clause-cause g c = went_on c.args.self.now c.go_on_with.result c.go_on_with.ensures.tried
-    (subst (λ r. IsSpentAtLimit (key_of r).limit c.go_on_with.result) c.deref.ensures c.go_on_with.ensures.spent)
 
 pub returns-clause-unmade : goal.returns-clause-unmade
 returns-clause-unmade g c = was_made c.args.self.now _ c.go_on_with.result c.go_on_with.ensures.tried

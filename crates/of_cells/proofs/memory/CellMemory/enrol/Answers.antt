@@ -20,6 +20,8 @@ returns-in-Some-clause-memory g c =
     let lt : c.args.number < length cs = omega (arith, c.if-number-callers.false, c.callers.ensures, h.each) in
     record {
       pass = h.pass;
+      first = h.first;
+      room = h.room;
       each = ap length c.take_at.ensures.items ∙ length-set cs c.args.number None ∙ h.each;
       serve = subst (ServeAll g.W.Work.meaning (row_of m)) (sym c.take_at.ensures.items) (serve_none g.W.Work.meaning (row_of m) cs c.args.number lt h.serve);
       known = subst (λ r. IsKnowledge r c.exchange.new.known) c.deref.ensures c.exchange.ensures.known;
@@ -53,6 +55,8 @@ returns-in-None-clause-memory g c =
     let lt : c.args.number < length cs = omega (arith, c.if-number-callers.false, c.callers.ensures, h.each) in
     record {
       pass = h.pass;
+      first = h.first;
+      room = h.room;
       each = ap length c.take_at.ensures.items ∙ length-set cs c.args.number None ∙ h.each;
       serve = subst (ServeAll g.W.Work.meaning (row_of m)) (sym c.take_at.ensures.items) (serve_none g.W.Work.meaning (row_of m) cs c.args.number lt h.serve);
       known = h.known;

@@ -25,6 +25,8 @@ returns-clause-memory g c =
     serves_same g.W.Work.meaning (row_of m) c.args.number c.args.caller k c.requires.caller (subst (λ r. IsCaller g.W.Work.meaning r k) c.deref.ensures e.caller) e.same in
     record {
       pass = h.pass;
+      first = h.first;
+      room = h.room;
       each = ap length c.put_at.ensures ∙ length-set cs c.args.number (Some k) ∙ h.each;
       serve = subst (ServeAll g.W.Work.meaning (row_of m)) (sym c.put_at.ensures) (serve_some g.W.Work.meaning (row_of m) cs c.args.number k lt h.serve serves);
       known = subst (λ r. IsKnowledge r c.exchange.new.known) c.deref.ensures e.known;

@@ -1,7 +1,8 @@
-use Rattle.std.proofs.Common.{ap, ◌∙◌}
+use Rattle.std.proofs.Common.{ap, ◌∙◌, replicate}
+use Rattle.std.proofs.lemmas.List.{length-replicate}
 use Rattle.of_row.specs.Rows.{key_of}
 use Rattle.of_cells.specs.Serving.{cells_at_start, made_before}
-use Rattle.of_cells.proofs.Holding.{zero_cells, zero_tickets}
+use Rattle.of_cells.proofs.Holding.{zero_cells, zero_tickets, zeros_read, began_lawful}
 use Rattle.of_cells.proofs.memory.CellMemory.zeros.Goals as goal
 
 pub returns-clause-zeros : goal.returns-clause-zeros
@@ -15,3 +16,12 @@ returns-clause-tickets g c n =
 
 pub returns-clause-size : goal.returns-clause-size
 returns-clause-size g c = ap (λ r. (key_of r).cells) c.in_ok-memory.ensures.row ∙ c.in_ok-row.ensures.row.1 ∙ c.shape_for.ensures.cells
+
+pub returns-clause-lawful : goal.returns-clause-lawful
+returns-clause-lawful g c =
+    let laws = g.met.W.Work g.world.𝓛 g.world.𝓜 g.world.𝓡 ((λ s x. x), (λ x. x), (λ x. x), λ x. x) in
+    let w = c.args.work in
+    let n = g.W.Work.size w in
+    let long = length-replicate n 0 in
+    began_lawful g.W.Work.meaning g.W.Work.size g.W.Work.lawful _ w (replicate n 0) (ap (λ r. (key_of r).work) c.in_ok-memory.ensures.row ∙ c.in_ok-row.ensures.row.3) (returns-clause-zeros g c) long
+    ((laws.sound w).zeros (replicate n 0) long (λ a. zeros_read n a))

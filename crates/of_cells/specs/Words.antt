@@ -1,0 +1,98 @@
+-- The durable words of a table, and what recovery finds in them.
+use Rattle.std.specs.Prelude.{◌≡◌, ◌≢◌, ◌⊎◌, ℕ, ◌<◌, ◌≤◌, List, length, map}
+use Rattle.atomic_table.specs.Table.{State}
+use Rattle.of_cell.specs.Words.{payload_of}
+use Rattle.of_cell.specs.Cells.{durable_cells, durable_place, table_words}
+use Rattle.of_cell.specs.declared.word.TheConstants.{GREATEST_LIMIT}
+use Rattle.of_mem.specs.declared.work.TheConstants.{MOST_INSTRS}
+use Rattle.of_mem.specs.Meaning.{Meaning}
+use Rattle.of_recover.specs.Recovered.{recovered_words}
+use Rattle.of_core.specs.Table.{Setup, setup_of}
+use Rattle.of_core.specs.Machine.{Call}
+use Rattle.of_core.specs.TableMoment.{TableStart}
+use Rattle.of_core.specs.Starts.{IsDurable, IsStartRow, start_from_durable}
+use Rattle.of_row.specs.Views.{View}
+use Rattle.of_row.specs.Rule.{MeetsRule}
+use Rattle.of_row.specs.Rows.{setup_at, row_start}
+use Rattle.of_row.specs.Trail.{EachView}
+use Rattle.of_cells.specs.declared.words.TableSizes.{TableSizes}
+use Rattle.of_cells.specs.declared.memory.CellMemory.{CellMemory}
+use Rattle.of_cells.specs.declared.saved.SavedCells.{SavedCells}
+use Rattle.of_cells.specs.declared.error.WordsError.{WordsError}
+use Rattle.of_cells.specs.declared.error.WordsError.TheVariants.{OutOfMemory, Limit, Count, PastLimit}
+use Rattle.of_cells.specs.Memories.{row_of, work_of}
+use Rattle.of_cells.specs.Saving.{HistoryLeads, saved_callers, saved_cells, saved_seq, saved_work}
+
+-- these are the sizes of a table for so many callers and data cells
+pub record AreSizesOf (callers cells : ℕ) (s : TableSizes) : Type 0 where
+  pub words : s.words ≡ table_words callers MOST_INSTRS cells
+  pub first : s.first ≡ durable_place callers cells 0
+  pub durable : s.durable ≡ durable_cells callers cells
+
+-- ---- what is found
+
+-- a table for the work, with this limit, may start from the row, of which recovery changes nothing
+abbrev pub IsStartFor : {W : Type 0} → (many size : W → ℕ) → (W → Meaning)
+    → (W → List ℕ → Type 0) → W → (limit : ℕ) → (row : List ℕ) → Type 0
+IsStartFor many size meaning lawful work limit row =
+    IsStartRow (setup_of (many work) (size work) limit (meaning work)) (lawful work) row
+
+-- what recovery makes of durable words of a table for the work
+abbrev pub words_found : {W : Type 0} → (many size : W → ℕ) → W → (words : List ℕ) → List ℕ
+words_found many size work words = recovered_words (many work) (size work) words
+
+-- if the words are as many as a table for the work has, such a table may start, with some limit,
+-- from what recovery finds in them
+abbrev pub AreDurableWords : {W : Type 0} → (many size : W → ℕ) → (W → Meaning)
+    → (W → List ℕ → Type 0) → W → (words : List ℕ) → Type 0
+AreDurableWords many size meaning lawful work words =
+    length words ≡ durable_cells (many work) (size work)
+    → (limit : ℕ)
+    × IsStartFor many size meaning lawful work limit (words_found many size work words)
+
+-- the start that the row is of a table for the work
+abbrev pub start_in : {W : Type 0} → (many size : W → ℕ) → W → (row : List ℕ) → TableStart
+start_in many size work row = start_from_durable (many work) (size work) row
+
+-- what is saved is of the work, and has the row's numbers and sequence
+pub record IsSavedRow {W : Type 0} (many size : W → ℕ) (work : W) (row : List ℕ)
+    (d : SavedCells W) : Type 0 where
+  pub work_is : saved_work d ≡ work
+  pub callers : saved_callers d ≡ many work
+  pub cells : saved_cells d ≡ map payload_of (start_in many size work row).cells
+  pub seq : saved_seq d ≡ (start_in many size work row).seq
+
+-- it has those that recovery finds in the words
+abbrev pub WordsHold : {W : Type 0} → (many size : W → ℕ) → W → (words : List ℕ) → SavedCells W
+    → Type 0
+WordsHold many size work words d =
+    IsSavedRow many size work (words_found many size work words) d
+
+-- why nothing is found: there is no memory, the limit is out of its range or below the sequence
+-- that is found, or the words are not as many as a table for the work has
+abbrev pub IsWordsCause : {W : Type 0} → (many size : W → ℕ) → W → (limit : ℕ) → (words : List ℕ)
+    → WordsError → Type 0
+IsWordsCause many size work limit words OutOfMemory = Unit {0}
+IsWordsCause many size work limit words (Limit k) =
+    (k ≡ limit) × ((limit ≡ 0) ⊎ (GREATEST_LIMIT < limit))
+IsWordsCause many size work limit words (Count k) =
+    (k ≡ length words) × (length words ≢ durable_cells (many work) (size work))
+IsWordsCause many size work limit words (PastLimit seq) =
+    (seq ≡ (start_in many size work (words_found many size work words)).seq) × (limit < seq)
+
+-- ---- moments
+
+-- At each moment of the memory's row, as between any two steps on it, recovery finds a start in the
+-- durable words as they are then. One serial history leads to what is found from the cells with
+-- which the memory was opened. It has each call that was answered to whomever a pass or a member
+-- keeps, with its reply, and beside these it has open calls alone.
+abbrev pub HoldsWordsAlways : {W : Type 0} → (many size : W → ℕ) → (W → Meaning)
+    → (W → List ℕ → Type 0) → CellMemory W → Type 0
+HoldsWordsAlways {W} many size meaning lawful m =
+    let S : Setup = setup_at meaning (row_of m) in
+    (s : State (Unit {0}) View)
+    → MeetsRule S (lawful (work_of m)) (row_start meaning (row_of m)) s
+    → (words : List ℕ) → IsDurable S s.words words →
+    AreDurableWords many size meaning lawful (work_of m) words
+    × (h : List Call) × ((d : SavedCells W) → WordsHold many size (work_of m) words d
+    → EachView (λ v. HistoryLeads meaning (row_of m) v d h) s.views)
