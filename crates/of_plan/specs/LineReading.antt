@@ -51,15 +51,3 @@ title_line [] = None
 title_line (w ∷ []) = None
 title_line (w ∷ v ∷ ws) =
     if bytes_eq w (codes "plan") && bytes_eq v (codes "1") then at_end_of_words Title ws else None
-
--- the words after `script` are a caller's number and a script
-abbrev pub ScriptLine : List (List ℕ) → PlanLine → Type 0
-ScriptLine ws (Body (Script c script)) =
-    (ws ≡ decimal c ∷ script_words script) × (c ≤ MOST_CALLERS - 1) × IsScript script
-ScriptLine ws _ = ⊥
-
--- the words after `script` are no caller's number and script
-abbrev pub NoScriptLine : List (List ℕ) → Type 0
-NoScriptLine ws =
-    (c : ℕ) (script : List Instr) → c ≤ MOST_CALLERS - 1 → IsScript script
-    → ws ≡ decimal c ∷ script_words script → ⊥
