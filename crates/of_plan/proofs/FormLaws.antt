@@ -126,7 +126,7 @@ reads_most FTurns = lit≤ tt
 reads_most FEvict = lit≤ tt
 reads_most FEnd = lit≤ tt
 
-read_words : (f : LineForm) (x : ℕ) → slot_words (line_first_most f) x ≡ slot_words (first_read f) x
+pub read_words : (f : LineForm) (x : ℕ) → slot_words (line_first_most f) x ≡ slot_words (first_read f) x
 read_words FCallers x = refl
 read_words FBlocks x = refl
 read_words FLimit x = refl
@@ -214,4 +214,4 @@ late Ended p FEvict x y late_is = refl
 late Ended p FEnd x y late_is = refl
 
 pub not_yet : (p : Reading) (f : LineForm) (x y : ℕ) → may_come p.stage f ≡ false → after_line p (line_with_numbers f x y) ≡ None
-not_yet p f x y late_is = late p.stage p f x y no
+not_yet p f x y late_is = late p.stage p f x y late_is

@@ -295,9 +295,7 @@ impl Reading {
         if !parse_into(after, &mut script) {
             return Ok(Some(script_fault(after)));
         }
-        if !self.begin_entry() {
-            unreachable!();
-        }
+        self.stage = Stage::Body;
         if !self.take_script(caller, &script)? {
             unreachable!();
         }
