@@ -9,6 +9,7 @@ use Rattle.of_plan.specs.declared.reason.Reason.{Reason}
 use Rattle.of_plan.specs.declared.reason.Reason.TheVariants.{Flawed, EndMissing}
 use Rattle.of_plan.specs.declared.pieces.HiddenByte.{HiddenByte}
 use Rattle.of_plan.specs.Flaws.{IsHiddenByte}
+use Rattle.of_plan.specs.declared.parser.state.Stage.TheVariants.{Ended}
 use Rattle.of_plan.specs.Lines.{text_lines, unskipped_words, is_skipped}
 use Rattle.of_plan.specs.Above.{line_at}
 use Rattle.of_plan.specs.BadLine.{HasBadLine}
@@ -58,15 +59,23 @@ end_fault text line number is bad none =
 
 -- ---- where the reading stands
 
-pub line_here : (text : List ℕ) (rest others : List (List ℕ)) (number : ℕ) (p : Reading) (l : List ℕ) → IsReading text rest number p → rest ≡ l ∷ others → l ≡ line_at (text_lines text) number
-line_here text rest others number p l r e =
-    sym (get_or-append_seam r.done l others []) ∙ ap (λ (ls : List (List ℕ)). get_or ls (length r.done) []) (sym (r.parts ∙ ap (λ (v : List (List ℕ)). r.done ++ v) e)) ∙ ap (λ (n : ℕ). get_or (text_lines text) n []) r.count
+pub line_here : (text : List ℕ) (rest others : List (List ℕ)) (number above : ℕ) (p : Reading) (l : List ℕ) → IsReading text rest number p → rest ≡ l ∷ others → above ≡ number → l ≡ line_at (text_lines text) above
+line_here text rest others number above p l r e is =
+    sym (get_or-append_seam r.done l others []) ∙ ap (λ (ls : List (List ℕ)). get_or ls (length r.done) []) (sym (r.parts ∙ ap (λ (v : List (List ℕ)). r.done ++ v) e)) ∙ ap (λ (n : ℕ). get_or (text_lines text) n []) (r.count ∙ sym is)
 
-pub lead_here : (text : List ℕ) (rest : List (List ℕ)) (number : ℕ) (p : Reading) → IsReading text rest number p → LeadTo text number p
-lead_here text rest number p r = record {
+pub lead_here : (text : List ℕ) (rest : List (List ℕ)) (number above : ℕ) (p : Reading) → IsReading text rest number p → above ≡ number → LeadTo text above p
+lead_here text rest number above p r is = record {
   said = r.said;
-  says = ap unskipped_words (ap (take number) r.parts ∙ take_at r.done rest number r.count) ∙ r.says;
+  says = ap unskipped_words (ap (take above) r.parts ∙ take_at r.done rest above (r.count ∙ sym is)) ∙ r.says;
   leads = r.leads;
+}
+
+pub no_end_here : (text : List ℕ) (number above : ℕ) (p : Reading) → IsReading text [] number p → above + 1 ≡ number → (p.stage ≡ Ended → ⊥) → HasNoEnd text above
+no_end_here text number above p r is unended = record {
+  last = ap length (r.parts ∙ append-nil r.done) ∙ r.count ∙ sym is;
+  reading = p;
+  leads = lead_here text [] number (above + 1) p r is;
+  unended = unended;
 }
 
 pub hidden_fault : (text line : List ℕ) (number : ℕ) (byte : HiddenByte) → line ≡ line_at (text_lines text) (number - 1) → HasBadLine IsPlanText text number → is_skipped (text_words line) ≡ false → IsHiddenByte (number - 1) line byte → IsFaultOf text (record { line = number; start = byte.start; end = byte.end; reason = Flawed byte.flaw })
