@@ -5,7 +5,7 @@ ghost use Rattle.std.specs.Bool.{MatchBool};
 ghost use Rattle.of_script.specs.Text.{text_words};
 ghost use Rattle.of_plan.specs.Lines.{text_lines};
 ghost use Rattle.of_plan.specs.Above.{NoneSays, line_at as the_line};
-ghost use Rattle.of_plan.specs.Flaws.{IsFlawed};
+ghost use Rattle.of_image.specs.Flawed.{IsFlawed};
 ghost use Rattle.of_plan.specs.declared.above.Wanted.TheVariants.{Kept};
 ghost use Rattle.of_image.specs.declared.version.Version.{Version as TheVersion};
 ghost use Rattle.of_image.specs.Reasons.{IsImageFinding, IsHeadingName};
@@ -13,13 +13,12 @@ ghost use Rattle.of_image.specs.Heading.{IsHeadingAbove};
 
 use crate::line::{ImageLine, ReadLine, read_line};
 use crate::parse_row::cells;
+use crate::pieces::{FlawedPiece, no_count, no_numbers, past_numbers, word_from, word_too_many};
 use crate::reason::Reason;
 use crate::version::Version;
 use of_cell::MOST_CALLERS;
 use of_plan::above::{Wanted, find, line_at};
-use of_plan::pieces::{
-    FlawedPiece, hidden, no_count, no_numbers, past_numbers, word_from, word_too_many,
-};
+use of_plan::pieces::hidden;
 use of_script::text::{number, word};
 use of_store::MOST_BLOCKS;
 
@@ -285,10 +284,11 @@ fn in_heading(text: &[u8], above: u64, line: &[u8], version: Version) -> Option<
 fn in_line(text: &[u8], above: u64, line: &[u8], version: Version) -> Option<Finding>
     ensures { IfSome result (IsImageFinding version (text_lines text.now) above line.now) }
 {
-    if let Some(piece) = hidden(line, above) {
-        return Some(flawed(piece));
-    }
     let (start, end) = word_from(line, 0);
+    let name = &line[start..end];
+    if name.is_empty() || name[0] == b'#' {
+        return None;
+    }
     if find(text, above, Wanted::End).is_some() {
         return Some(Finding {
             start,
@@ -296,9 +296,12 @@ fn in_line(text: &[u8], above: u64, line: &[u8], version: Version) -> Option<Fin
             reason: Reason::AfterEnd,
         });
     }
-    let name = &line[start..end];
-    if name.is_empty() || name[0] == b'#' {
-        return None;
+    if let Some(byte) = hidden(line, above) {
+        return Some(Finding {
+            start: byte.start,
+            end: byte.end,
+            reason: Reason::Flawed { flaw: byte.flaw },
+        });
     }
     in_heading(text, above, line, version)
 }

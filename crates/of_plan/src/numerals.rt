@@ -3,8 +3,8 @@
 ghost use Rattle.std.specs.Prelude.{◌↔◌, IsTrue};
 ghost use Rattle.of_plan.specs.Numerals as numerals;
 
-// Whether a word is digits alone, with no 0 in front of others.
-pub(crate) fn is_numeral(word: &[u8]) -> bool
+/// Whether a word is digits alone, with no 0 in front of others.
+pub fn is_numeral(word: &[u8]) -> bool
     ensures { IsTrue result ↔ numerals.IsNumeral word.now }
 {
     if word.is_empty() || (word[0] == b'0' && word.len() > 1) {
