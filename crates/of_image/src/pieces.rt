@@ -134,7 +134,12 @@ fn past_number(line: &[u8], from: usize, most: u32) -> Result<usize, FlawedPiece
 }
 
 /// Where two numbers end that come next, or why they are not there. A most of 0 wants no number.
-pub(crate) fn past_numbers(line: &[u8], from: usize, first: u32, second: u32) -> Result<usize, FlawedPiece>
+pub(crate) fn past_numbers(
+    line: &[u8],
+    from: usize,
+    first: u32,
+    second: u32,
+) -> Result<usize, FlawedPiece>
     requires { from ≤ length line.now }
     ensures { MatchResult result (λ end. end ≤ length line.now) (IsFlawedAnywhere line.now) }
 {

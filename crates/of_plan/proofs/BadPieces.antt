@@ -53,6 +53,3 @@ lift_next bytes line b Q opening h e words is =
 -- the first word of a line
 pub lift_first : (line : List ℕ) (b : Piece) (Q : List (List ℕ) → List ℕ → Type 0) (w : List ℕ) (ws : List (List ℕ)) → IsNextWord line b → text_words line ≡ w ∷ ws → Q [] w → IsBad line b Q
 lift_first line b Q w ws h words is = lift_next line line b Q [] h (ends_all line) refl (subst (Q []) (sym (ap first_word words)) is)
-
-pub weaken : (line : List ℕ) (b : Piece) (P Q : List (List ℕ) → List ℕ → Type 0) → IsBad line b P → ((before : List (List ℕ)) (piece : List ℕ) → P before piece → Q before piece) → IsBad line b Q
-weaken line b P Q h f = lift line line b P Q [] h (ends_all line) refl f

@@ -1,7 +1,7 @@
 -- From the piece of a line at fault to the fault of its text.
 use Rattle.std.proofs.Common.{◌≡◌, false, inl, inr, ℕ, ◌+◌, ◌-◌, ◌≤◌, List, [], ◌∷◌, ◌++◌, length, take, drop, get_or, refl, sym, ap, subst, ◌∙◌, append_assoc, arith}
 use Rattle.std.specs.Prelude.{slice_range}
-use Rattle.std.proofs.lemmas.List.{length-append, append-nil, take-append-le, take_at}
+use Rattle.std.proofs.lemmas.List.{length-append, append-nil, take_at}
 use Rattle.std.proofs.Math.Seq.{drop-append_seam, take-append_seam, get_or-append_seam}
 use Rattle.of_script.specs.Text.{text_words}
 use Rattle.of_plan.specs.declared.pieces.Piece.{Piece}
@@ -14,9 +14,9 @@ use Rattle.of_plan.specs.Lines.{text_lines, unskipped_words, is_skipped}
 use Rattle.of_plan.specs.Above.{line_at}
 use Rattle.of_plan.specs.BadLine.{HasBadLine}
 use Rattle.of_plan.specs.Grammar.{IsPlanText}
-use Rattle.of_plan.specs.Pieces.{IsWhole, IsBad}
+use Rattle.of_plan.specs.Pieces.{IsWholePiece, IsBad}
 use Rattle.of_plan.specs.Reading.{Reading}
-use Rattle.of_plan.specs.Reasons.{LeadTo, HasNoEnd, IsTrueIn, IsFaultOf}
+use Rattle.of_plan.specs.Reasons.{LinesLeadTo, IsUnended, IsTrueIn, IsFaultOf}
 use Rattle.of_plan.proofs.BadLine.{IsReading}
 
 -- a piece between two others, by its place
@@ -25,8 +25,7 @@ between line front piece after start end e at to =
     let back : drop start line ≡ piece ++ after = ap (λ (n : ℕ). drop n line) at ∙ ap (drop (length front)) e ∙ drop-append_seam front (piece ++ after) in
     let size : end - start ≡ length piece = omega (arith, at, to) in
     let whole : line ≡ (front ++ piece) ++ after = e ∙ sym (append_assoc front piece after) in
-    let past : end ≡ length (front ++ piece) = to ∙ sym (length-append front piece) in
-    (
+    let past : end ≡ length (front ++ piece) = to ∙ sym (length-append front piece) in (
       ap (λ (n : ℕ). take n (drop start line)) size ∙ ap (take (length piece)) back ∙ take-append_seam piece after,
       ap (λ (n : ℕ). drop n line) past ∙ ap (drop (length (front ++ piece))) whole ∙ drop-append_seam (front ++ piece) after,
     )
@@ -44,12 +43,12 @@ word_fault text number b r start end Is bad h true_in to at =
       within = omega (arith, ends, long);
       is = inl (record {
         before = h.before;
-        whole = subst (λ (v : List ℕ). IsWhole (text_words line) h.before v (drop end line)) (sym place.0) (subst (IsWhole (text_words line) h.before h.piece) (sym place.1) h.whole);
+        whole = subst (λ (v : List ℕ). IsWholePiece (text_words line) h.before v (drop end line)) (sym place.0) (subst (IsWholePiece (text_words line) h.before h.piece) (sym place.1) h.whole);
         is = subst (IsTrueIn r text (number - 1) h.before) (sym place.0) (true_in h.before h.piece h.is);
       });
     }
 
-pub end_fault : (text line : List ℕ) (number : ℕ) → line ≡ line_at (text_lines text) (number - 1) → HasBadLine IsPlanText text number → HasNoEnd text (number - 1) → IsFaultOf text (record { line = number; start = length line; end = length line; reason = EndMissing })
+pub end_fault : (text line : List ℕ) (number : ℕ) → line ≡ line_at (text_lines text) (number - 1) → HasBadLine IsPlanText text number → IsUnended text (number - 1) → IsFaultOf text (record { line = number; start = length line; end = length line; reason = EndMissing })
 end_fault text line number is bad none =
     let last = line_at (text_lines text) (number - 1) in
     let same : length line ≡ length last = ap length is in
@@ -63,14 +62,14 @@ pub line_here : (text : List ℕ) (rest others : List (List ℕ)) (number above 
 line_here text rest others number above p l r e is =
     sym (get_or-append_seam r.done l others []) ∙ ap (λ (ls : List (List ℕ)). get_or ls (length r.done) []) (sym (r.parts ∙ ap (λ (v : List (List ℕ)). r.done ++ v) e)) ∙ ap (λ (n : ℕ). get_or (text_lines text) n []) (r.count ∙ sym is)
 
-pub lead_here : (text : List ℕ) (rest : List (List ℕ)) (number above : ℕ) (p : Reading) → IsReading text rest number p → above ≡ number → LeadTo text above p
+pub lead_here : (text : List ℕ) (rest : List (List ℕ)) (number above : ℕ) (p : Reading) → IsReading text rest number p → above ≡ number → LinesLeadTo text above p
 lead_here text rest number above p r is = record {
   said = r.said;
   says = ap unskipped_words (ap (take above) r.parts ∙ take_at r.done rest above (r.count ∙ sym is)) ∙ r.says;
   leads = r.leads;
 }
 
-pub no_end_here : (text : List ℕ) (number above : ℕ) (p : Reading) → IsReading text [] number p → above + 1 ≡ number → (p.stage ≡ Ended → ⊥) → HasNoEnd text above
+pub no_end_here : (text : List ℕ) (number above : ℕ) (p : Reading) → IsReading text [] number p → above + 1 ≡ number → (p.stage ≡ Ended → ⊥) → IsUnended text above
 no_end_here text number above p r is unended = record {
   last = ap length (r.parts ∙ append-nil r.done) ∙ r.count ∙ sym is;
   reading = p;

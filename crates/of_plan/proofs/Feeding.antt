@@ -1,9 +1,9 @@
 -- Lines with numbers alone: each is taken, or refused with a reason that is true.
-use Rattle.std.proofs.Common.{◌≡◌, ◌⊎◌, inl, inr, ℕ, ◌+◌, ◌<◌, ◌≤◌, Bool, true, false, cond, eqb, leb, List, [], ◌∷◌, ◌++◌, Option, Some, None, is_some, get_or, refl, sym, ap, subst, ◌∙◌, append_assoc, arith, lit≤, lit<}
-use Rattle.std.specs.Prelude.{codes, decimal, MatchOption, IfSome}
+use Rattle.std.proofs.Common.{◌≡◌, ◌⊎◌, inl, inr, ℕ, ◌+◌, ◌≤◌, Bool, true, false, cond, eqb, leb, List, [], ◌∷◌, ◌++◌, Option, Some, None, is_some, get_or, refl, sym, ap, subst, ◌∙◌, append_assoc, arith, lit≤, lit<}
+use Rattle.std.specs.Prelude.{codes, decimal}
 use Rattle.std.proofs.lemmas.List.{append-nil}
 use Rattle.std.proofs.lemmas.Bool.{leb-true, leb-false, eqb-true}
-use Rattle.std.proofs.lemmas.Bool.Decides.{eqb_tells, leb_tells}
+use Rattle.std.proofs.lemmas.Bool.Decides.{eqb_tells}
 use Rattle.of_cell.specs.Cells.{durable_cells}
 use Rattle.of_script.specs.declared.instr.Instr.{Instr}
 use Rattle.of_script.specs.Text.{text_words, EndsWith}
@@ -11,9 +11,7 @@ use Rattle.of_script.specs.Reading.{slot_and_rest, parsed_number}
 use Rattle.of_script.proofs.Forms.{slot_words}
 use Rattle.of_script.proofs.Numbers.{number_again}
 use Rattle.of_script.proofs.Instrs.{some_is, slot_takes}
-use Rattle.of_plan.specs.declared.parser.feed.Bad.{Bad}
 use Rattle.of_plan.specs.declared.parser.line.BodyLine.TheVariants.{Script}
-use Rattle.of_plan.specs.declared.parser.line.PlanLine.{PlanLine}
 use Rattle.of_plan.specs.declared.parser.line.PlanLine.TheVariants.{Body}
 use Rattle.of_plan.specs.declared.parser.line.LineForm.{LineForm}
 use Rattle.of_plan.specs.declared.parser.line.LineForm.TheVariants.{Callers as FCallers, Blocks as FBlocks, Limit as FLimit, Stop as FStop, Turns as FTurns, Evict as FEvict, End as FEnd}
@@ -22,22 +20,22 @@ use Rattle.of_plan.specs.declared.parser.state.Stage.TheVariants.{Start, Named, 
 use Rattle.of_plan.specs.declared.pieces.Piece.{Piece}
 use Rattle.of_plan.specs.declared.reason.Reason.{Reason}
 use Rattle.of_plan.specs.declared.reason.Reason.TheVariants.{Flawed, HeadingOver, NoCaller, NoCell, StopTwice, TooManyTurns}
-use Rattle.of_plan.specs.declared.flaw.Flaw.TheVariants.{Zero, WordTooMany}
+use Rattle.of_plan.specs.declared.flaw.Flaw.TheVariants.{Zero}
 use Rattle.of_plan.specs.Plan.{data_cells}
 use Rattle.of_plan.specs.Lines.{line_words, is_skipped}
-use Rattle.of_plan.specs.LineReading.{IsLineInRange, plan_language}
-use Rattle.of_plan.specs.LineTable.{form_name, line_first_most, line_second_most, line_with_numbers, line_form_named}
+use Rattle.of_plan.specs.LineReading.{plan_language}
+use Rattle.of_plan.specs.LineTable.{form_name, line_first_most, line_second_most, line_with_numbers}
 use Rattle.of_plan.specs.Reader.{RefusesLine, ReadsLine}
 use Rattle.of_plan.specs.Reading.{Reading, at_stage, after_line, plan_reader}
 use Rattle.of_plan.specs.Checks.{may_come, misplaced, first_read, first_fault, second_fault}
 use Rattle.of_plan.specs.Flaws.{PieceIsNumber}
-use Rattle.of_plan.specs.Reasons.{WantsNumber, IsPlaceOf, IsTrueOf, IsBehindLine}
+use Rattle.of_plan.specs.Reasons.{IsTrueOf}
 use Rattle.of_plan.specs.Pieces.{first_word, IsBad, IsNextWord}
-use Rattle.of_plan.specs.Fed.{TooMany, IsFirstFault, IsSecondFault, IsNumberFault}
-use Rattle.of_plan.proofs.LineLaws.{Fits, fits, mosts, named_again}
-use Rattle.of_plan.proofs.BadPieces.{lift_next, lift_first, ends_on}
+use Rattle.of_plan.specs.Fed.{TooMany, IsFirstNumberFault, IsSecondNumberFault}
+use Rattle.of_plan.proofs.LineLaws.{fits, mosts}
+use Rattle.of_plan.proofs.BadPieces.{lift_next, lift_first}
 use Rattle.of_plan.proofs.NumberFaults.{of_line, slot_read}
-use Rattle.of_plan.proofs.FormLaws.{Numbers, form_of, form_refused, first_known, second_known, same_read, unread, not_yet, same_form, no_title, reads_most, kept_form, read_words}
+use Rattle.of_plan.proofs.FormLaws.{form_of, form_refused, first_known, second_known, same_read, unread, not_yet, same_form, no_title, reads_most, kept_form, read_words}
 
 abbrev Refuses : List (List ℕ) → Reading → Type 0
 Refuses ws p = RefusesLine plan_language plan_reader ws p
@@ -219,19 +217,19 @@ some_first p FTurns x r e = lit≤ tt
 some_first p FEvict x r e = lit≤ tt
 some_first p FEnd x r e = absurd (none_some r e)
 
-pub first_fed : (p : Reading) (f : LineForm) (line rest : List ℕ) (b : Piece) (r : Reason) → text_words line ≡ form_name f ∷ text_words rest → EndsWith line rest → IsNextWord rest b → IsFirstFault p f r (text_words rest) → Refuses (text_words line) p × IsBad line b (IsTrueOf r p)
+pub first_fed : (p : Reading) (f : LineForm) (line rest : List ℕ) (b : Piece) (r : Reason) → text_words line ≡ form_name f ∷ text_words rest → EndsWith line rest → IsNextWord rest b → IsFirstNumberFault p f r (text_words rest) → Refuses (text_words line) p × IsBad line b (IsTrueOf r p)
 first_fed p f line rest b r words ends next fault = elim fault [
   | inl h ↦ (
-      subst (λ (ws : List (List ℕ)). Refuses ws p) (sym words) (form_refused f (text_words rest) p (λ l n. absurd (unread _ _ h.0 (first_known f (text_words rest) l n)))),
-      lift_next rest line b (IsTrueOf r p) (form_name f ∷ []) next ends words (of_line r p (form_name f ∷ []) (first_word (text_words rest)) (first_read f) (inl (f, inl (refl, refl))) h.1),
-    )
+    subst (λ (ws : List (List ℕ)). Refuses ws p) (sym words) (form_refused f (text_words rest) p (λ l n. absurd (unread _ _ h.0 (first_known f (text_words rest) l n)))),
+    lift_next rest line b (IsTrueOf r p) (form_name f ∷ []) next ends words (of_line r p (form_name f ∷ []) (first_word (text_words rest)) (first_read f) (inl (f, inl (refl, refl))) h.1),
+  )
   | inr h ↦ (
-      subst (λ (ws : List (List ℕ)). Refuses ws p) (sym words) (form_refused f (text_words rest) p (λ l n.
-      let same = same_read _ _ _ _ _ h.2 (first_known f (text_words rest) l n) in
-      first_refuses p f n.first n.second r (subst (λ (x : ℕ). first_fault p f x ≡ Some r) same.0 h.3))),
-      lift_next rest line b (IsTrueOf r p) (form_name f ∷ []) next ends words
-      (first_true p f h.0 r (first_word (text_words rest)) h.3 (number_first (first_read f) h.0 (text_words rest) h.1 (reads_most f) (some_first p f h.0 r h.3) h.2)),
-    )
+    subst (λ (ws : List (List ℕ)). Refuses ws p) (sym words) (form_refused f (text_words rest) p (λ l n.
+        let same = same_read _ _ _ _ _ h.2 (first_known f (text_words rest) l n) in
+        first_refuses p f n.first n.second r (subst (λ (x : ℕ). first_fault p f x ≡ Some r) same.0 h.3))),
+    lift_next rest line b (IsTrueOf r p) (form_name f ∷ []) next ends words
+        (first_true p f h.0 r (first_word (text_words rest)) h.3 (number_first (first_read f) h.0 (text_words rest) h.1 (reads_most f) (some_first p f h.0 r h.3) h.2)),
+  )
 ]
 
 -- ---- the second number
@@ -276,26 +274,26 @@ some_second p FEnd x r e = absurd (none_some r e)
 past_first : (f : LineForm) (line rest after : List ℕ) (x : ℕ) → text_words line ≡ form_name f ∷ text_words rest → slot_and_rest (first_read f) (text_words rest) ≡ Some (x, text_words after) → text_words line ≡ (form_name f ∷ slot_words (first_read f) x) ++ text_words after
 past_first f line rest after x words read = words ∙ ap (λ (v : List (List ℕ)). form_name f ∷ v) (slot_read (first_read f) (text_words rest) x (text_words after) (reads_most f) read)
 
-pub second_fed : (p : Reading) (f : LineForm) (line rest after : List ℕ) (x : ℕ) (b : Piece) (r : Reason) → text_words line ≡ form_name f ∷ text_words rest → EndsWith line after → slot_and_rest (first_read f) (text_words rest) ≡ Some (x, text_words after) → IsNextWord after b → IsSecondFault p f r (text_words after) → Refuses (text_words line) p × IsBad line b (IsTrueOf r p)
+pub second_fed : (p : Reading) (f : LineForm) (line rest after : List ℕ) (x : ℕ) (b : Piece) (r : Reason) → text_words line ≡ form_name f ∷ text_words rest → EndsWith line after → slot_and_rest (first_read f) (text_words rest) ≡ Some (x, text_words after) → IsNextWord after b → IsSecondNumberFault p f r (text_words after) → Refuses (text_words line) p × IsBad line b (IsTrueOf r p)
 second_fed p f line rest after x b r words ends read next fault =
     let m = mosts f in
     let opening = form_name f ∷ slot_words (first_read f) x in
     let all = past_first f line rest after x words read in
     elim fault [
       | inl h ↦ (
-          subst (λ (ws : List (List ℕ)). Refuses ws p) (sym words) (form_refused f (text_words rest) p (λ l n.
-          let same = same_read _ _ _ _ _ read (first_known f (text_words rest) l n) in
-          absurd (unread _ _ h.0 (ap (slot_and_rest (line_second_most f)) same.1 ∙ second_known f n.second n.high)))),
-          lift_next after line b (IsTrueOf r p) opening next ends all (of_line r p opening (first_word (text_words after)) (line_second_most f) (inl (f, inr (x, refl, refl))) h.1),
-        )
+        subst (λ (ws : List (List ℕ)). Refuses ws p) (sym words) (form_refused f (text_words rest) p (λ l n.
+            let same = same_read _ _ _ _ _ read (first_known f (text_words rest) l n) in
+            absurd (unread _ _ h.0 (ap (slot_and_rest (line_second_most f)) same.1 ∙ second_known f n.second n.high)))),
+        lift_next after line b (IsTrueOf r p) opening next ends all (of_line r p opening (first_word (text_words after)) (line_second_most f) (inl (f, inr (x, refl, refl))) h.1),
+      )
       | inr h ↦ (
-          subst (λ (ws : List (List ℕ)). Refuses ws p) (sym words) (form_refused f (text_words rest) p (λ l n.
-          let same = same_read _ _ _ _ _ read (first_known f (text_words rest) l n) in
-          let then_same = same_read _ _ _ _ _ h.2 (ap (slot_and_rest (line_second_most f)) same.1 ∙ second_known f n.second n.high) in
-          second_refuses p f n.first n.second r (subst (λ (y : ℕ). second_fault p f y ≡ Some r) then_same.0 h.3))),
-          lift_next after line b (IsTrueOf r p) opening next ends all
-          (second_true p f x h.0 r (first_word (text_words after)) h.3 (number_first (line_second_most f) h.0 (text_words after) h.1 m.1 (some_second p f h.0 r h.3) h.2)),
-        )
+        subst (λ (ws : List (List ℕ)). Refuses ws p) (sym words) (form_refused f (text_words rest) p (λ l n.
+            let same = same_read _ _ _ _ _ read (first_known f (text_words rest) l n) in
+            let then_same = same_read _ _ _ _ _ h.2 (ap (slot_and_rest (line_second_most f)) same.1 ∙ second_known f n.second n.high) in
+            second_refuses p f n.first n.second r (subst (λ (y : ℕ). second_fault p f y ≡ Some r) then_same.0 h.3))),
+        lift_next after line b (IsTrueOf r p) opening next ends all
+            (second_true p f x h.0 r (first_word (text_words after)) h.3 (number_first (line_second_most f) h.0 (text_words after) h.1 m.1 (some_second p f h.0 r h.3) h.2)),
+      )
     ]
 
 -- ---- a word too many
@@ -341,15 +339,14 @@ whole_line p f line rest after end x y words one two low high =
 
 pub extra_fed : (p : Reading) (f : LineForm) (line rest after end : List ℕ) (x y : ℕ) (b : Piece) (r : Reason) → text_words line ≡ form_name f ∷ text_words rest → EndsWith line end → slot_and_rest (first_read f) (text_words rest) ≡ Some (x, text_words after) → slot_and_rest (line_second_most f) (text_words after) ≡ Some (y, text_words end) → p.callers ≤ 16 → x ≤ first_read f → y ≤ line_second_most f → first_fault p f x ≡ None → IsNextWord end b → (first_word (text_words end) ≡ [] → ⊥) → r ≡ TooMany → Refuses (text_words line) p × IsBad line b (IsTrueOf r p)
 extra_fed p f line rest after end x y b r words ends one two few below high fault next some reason =
-    let low = first_low p f x few below fault in
-    (
+    let low = first_low p f x few below fault in (
       subst (λ (ws : List (List ℕ)). Refuses ws p) (sym words) (form_refused f (text_words rest) p (λ l n.
-      let same = same_read _ _ _ _ _ one (first_known f (text_words rest) l n) in
-      let then_same = same_read _ _ _ _ _ two (ap (slot_and_rest (line_second_most f)) same.1 ∙ second_known f n.second n.high) in
-      absurd (some (ap first_word then_same.1)))),
+          let same = same_read _ _ _ _ _ one (first_known f (text_words rest) l n) in
+          let then_same = same_read _ _ _ _ _ two (ap (slot_and_rest (line_second_most f)) same.1 ∙ second_known f n.second n.high) in
+          absurd (some (ap first_word then_same.1)))),
       lift_next end line b (IsTrueOf r p) (line_words (line_with_numbers f x y)) next ends (whole_line p f line rest after end x y words one two low high)
-      (subst (λ (q : Reason). IsTrueOf q p (line_words (line_with_numbers f x y)) (first_word (text_words end))) (sym reason)
-      (some, record { line = line_with_numbers f x y; range = (fits f x y low high).range; words = refl; no_mark = λ c s e _. no_script f x y c s e })),
+          (subst (λ (q : Reason). IsTrueOf q p (line_words (line_with_numbers f x y)) (first_word (text_words end))) (sym reason)
+          (some, record { line = line_with_numbers f x y; range = (fits f x y low high).range; words = refl; no_mark = λ c s e _. no_script f x y c s e })),
     )
 
 -- ---- a line that is taken

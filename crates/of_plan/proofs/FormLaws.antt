@@ -1,6 +1,6 @@
 -- Lines with numbers alone: what their words tell, and where they may not come next.
-use Rattle.std.proofs.Common.{◌≡◌, inl, inr, ℕ, ◌≤◌, Bool, true, false, cond, eqb, leb, List, [], ◌∷◌, ◌++◌, Option, Some, None, is_some, refl, sym, ap, subst, ◌∙◌, arith, lit≤}
-use Rattle.std.specs.Prelude.{codes, decimal}
+use Rattle.std.proofs.Common.{◌≡◌, ℕ, ◌≤◌, false, List, [], ◌∷◌, ◌++◌, Option, Some, None, refl, sym, ap, subst, ◌∙◌, arith, lit≤}
+use Rattle.std.specs.Prelude.{codes}
 use Rattle.std.proofs.lemmas.List.{append-nil}
 use Rattle.of_script.specs.Reading.{slot_and_rest}
 use Rattle.of_script.proofs.Forms.{slot_words}
@@ -12,14 +12,12 @@ use Rattle.of_plan.specs.declared.parser.line.LineForm.{LineForm}
 use Rattle.of_plan.specs.declared.parser.line.LineForm.TheVariants.{Callers as FCallers, Blocks as FBlocks, Limit as FLimit, Stop as FStop, Turns as FTurns, Evict as FEvict, End as FEnd}
 use Rattle.of_plan.specs.declared.parser.state.Stage.{Stage}
 use Rattle.of_plan.specs.declared.parser.state.Stage.TheVariants.{Start, Named, Counted, Sized, Body as InBody, Ended}
-use Rattle.of_plan.specs.declared.reason.Reason.{Reason}
-use Rattle.of_plan.specs.declared.flaw.Flaw.TheVariants.{Zero}
 use Rattle.of_plan.specs.Lines.{line_words, is_skipped}
 use Rattle.of_plan.specs.LineReading.{IsLineInRange, plan_language}
 use Rattle.of_plan.specs.LineTable.{form_name, line_first_most, line_second_most, line_with_numbers, line_form_named}
 use Rattle.of_plan.specs.Reader.{RefusesLine}
 use Rattle.of_plan.specs.Reading.{Reading, at_stage, after_line, plan_reader}
-use Rattle.of_plan.specs.Checks.{may_come, first_read, first_fault, second_fault}
+use Rattle.of_plan.specs.Checks.{may_come, first_read}
 use Rattle.of_plan.specs.Pieces.{first_word}
 use Rattle.of_plan.proofs.LineLaws.{fits, mosts, named_again}
 

@@ -1,7 +1,6 @@
 -- A piece that is no number, where a number comes next.
-use Rattle.std.proofs.Common.{◌≡◌, inl, inr, ℕ, ◌≤◌, cond, List, [], ◌∷◌, ◌++◌, Some, None, refl, sym, ap, subst, ◌∙◌, arith}
-use Rattle.std.specs.Prelude.{decimal}
-use Rattle.of_script.specs.Reading.{slot_and_rest, next_number, parsed_number}
+use Rattle.std.proofs.Common.{◌≡◌, ℕ, ◌≤◌, List, ◌++◌, Some, None, sym, subst, arith}
+use Rattle.of_script.specs.Reading.{slot_and_rest, parsed_number}
 use Rattle.of_script.proofs.Forms.{slot_words}
 use Rattle.of_script.proofs.Instrs.{slot_takes}
 use Rattle.of_plan.specs.declared.reason.Reason.{Reason}

@@ -1,15 +1,14 @@
 -- Titles and script lines: each is taken, or refused with a reason that is true.
-use Rattle.std.proofs.Common.{◌≡◌, inl, inr, ℕ, ◌<◌, ◌≤◌, Bool, true, false, cond, leb, List, [], ◌∷◌, ◌++◌, length, Some, None, refl, sym, ap, subst, ◌∙◌, append_assoc, arith, lit≤, lit<}
+use Rattle.std.proofs.Common.{◌≡◌, inl, inr, ℕ, ◌<◌, ◌≤◌, true, false, leb, List, [], ◌∷◌, ◌++◌, Some, None, refl, sym, ap, subst, ◌∙◌, arith, lit≤, lit<}
 use Rattle.std.specs.Prelude.{codes, decimal}
 use Rattle.std.specs.Str.{bytes_eq}
 use Rattle.std.proofs.lemmas.List.{append-nil}
 use Rattle.std.proofs.lemmas.Bool.{le-leb, lt-leb}
-use Rattle.std.proofs.lemmas.Fmt.{decimal_injective}
 use Rattle.of_script.specs.declared.instr.Instr.{Instr}
 use Rattle.of_script.specs.Language.{IsScript}
-use Rattle.of_script.specs.Text.{text_words, EndsWith, script_words, semicolon_byte, SpellsScript}
+use Rattle.of_script.specs.Text.{text_words, EndsWith, script_words, SpellsScript}
 use Rattle.of_script.specs.Reading.{slot_and_rest, parsed_number}
-use Rattle.of_script.proofs.Instrs.{slot_again, number_at_takes}
+use Rattle.of_script.proofs.Instrs.{slot_again}
 use Rattle.of_script.proofs.Numbers.{number_again}
 use Rattle.of_plan.specs.declared.parser.line.BodyLine.{BodyLine}
 use Rattle.of_plan.specs.declared.parser.line.BodyLine.TheVariants.{Script, Stop, Turns, Evict}
@@ -29,8 +28,8 @@ use Rattle.of_plan.specs.Reading.{Reading, at_stage, with_entry, after_line, pla
 use Rattle.of_plan.specs.Checks.{is_below_heading}
 use Rattle.of_plan.specs.Flaws.{PieceIsNumber}
 use Rattle.of_plan.specs.Pieces.{first_word, IsBad, IsNextWord}
-use Rattle.of_plan.specs.Reasons.{WantsInstr, IsBehindLine, IsTrueOf}
-use Rattle.of_plan.specs.Fed.{TooMany, IsNumberFault, IsInstrFault, EndsInstr, IsAfterScript, IsScriptFault, IsTitleFault}
+use Rattle.of_plan.specs.Reasons.{WantsInstr, IsTrueOf}
+use Rattle.of_plan.specs.Fed.{IsNumberFault, IsInstrFault, EndsInstr, IsAfterScript, IsScriptFault, IsTitleFault}
 use Rattle.of_plan.proofs.BadPieces.{lift, lift_next}
 use Rattle.of_plan.proofs.NumberFaults.{of_line, slot_read}
 use Rattle.of_plan.proofs.FormLaws.{same_read, unread}
@@ -68,10 +67,13 @@ title_flaw Zero p before piece h = absurd h
 title_flaw WordTooMany p before piece h = (h.1, record { line = Title; range = tt; words = ap (λ (v : List (List ℕ)). codes "onefile" ∷ v) h.0; no_mark = λ c s e m. (let k = e in cc) })
 
 title_true : (r : Reason) (p : Reading) (before : List (List ℕ)) (piece : List ℕ) → p.stage ≡ Start → IsTitleFault r before piece → IsTrueOf r p (codes "onefile" ∷ before) piece
-title_true TitleExpected p before piece at h = (at, elim h [
-  | inl k ↦ inr (inl (ap (λ (v : List (List ℕ)). codes "onefile" ∷ v) k.0, k.1))
-  | inr k ↦ inr (inr (ap (λ (v : List (List ℕ)). codes "onefile" ∷ v) k.0, k.1))
-])
+title_true TitleExpected p before piece at h = (
+  at,
+  elim h [
+    | inl k ↦ inr (inl (ap (λ (v : List (List ℕ)). codes "onefile" ∷ v) k.0, k.1))
+    | inr k ↦ inr (inr (ap (λ (v : List (List ℕ)). codes "onefile" ∷ v) k.0, k.1))
+  ],
+)
 title_true (Flawed flaw) p before piece at h = title_flaw flaw p before piece h
 title_true CallersExpected p before piece at h = absurd h
 title_true BlocksExpected p before piece at h = absurd h
@@ -131,13 +133,12 @@ script_past Ended p c s h = refl
 pub caller_fed : (p : Reading) (line rest after : List ℕ) (c : ℕ) (b : Piece) (r : Reason) → text_words line ≡ codes "script" ∷ text_words rest → EndsWith line rest → slot_and_rest 4294967295 (text_words rest) ≡ Some (c, text_words after) → p.callers ≤ c → c ≤ 4294967295 → IsNextWord rest b → r ≡ NoCaller c p.callers → Refuses (text_words line) p × IsBad line b (IsTrueOf r p)
 caller_fed p line rest after c b r words ends read past small next reason =
     let is : text_words rest ≡ decimal c ∷ text_words after = slot_read 4294967295 (text_words rest) c (text_words after) (lit≤ tt) read in
-    let number : PieceIsNumber (first_word (text_words rest)) c = ap (λ (v : List (List ℕ)). parsed_number 4294967295 (first_word v)) is ∙ number_again 4294967295 c (lit< tt) small in
-    (
+    let number : PieceIsNumber (first_word (text_words rest)) c = ap (λ (v : List (List ℕ)). parsed_number 4294967295 (first_word v)) is ∙ number_again 4294967295 c (lit< tt) small in (
       subst (λ (ws : List (List ℕ)). Refuses ws p) (sym words) (script_refused (text_words rest) p (λ d s low fits e.
-      let same = same_read _ _ _ _ _ read (ap (slot_and_rest 4294967295) e ∙ number_known d (script_words s) low) in
-      script_past p.stage p d s (le-leb p.callers d (subst (λ (k : ℕ). p.callers ≤ k) same.0 past)))),
+          let same = same_read _ _ _ _ _ read (ap (slot_and_rest 4294967295) e ∙ number_known d (script_words s) low) in
+          script_past p.stage p d s (le-leb p.callers d (subst (λ (k : ℕ). p.callers ≤ k) same.0 past)))),
       lift_next rest line b (IsTrueOf r p) (codes "script" ∷ []) next ends words
-      (subst (λ (q : Reason). IsTrueOf q p (codes "script" ∷ []) (first_word (text_words rest))) (sym reason) (inl refl, number, refl, past)),
+          (subst (λ (q : Reason). IsTrueOf q p (codes "script" ∷ []) (first_word (text_words rest))) (sym reason) (inl refl, number, refl, past)),
     )
 
 -- what is wrong behind the caller
@@ -205,10 +206,9 @@ script_true r p c before piece low fault = elim fault [
 
 pub script_fed : (p : Reading) (line rest after : List ℕ) (c : ℕ) (b : Piece) (r : Reason) → text_words line ≡ codes "script" ∷ text_words rest → EndsWith line after → slot_and_rest 4294967295 (text_words rest) ≡ Some (c, text_words after) → c ≤ 15 → ((script : List Instr) → SpellsScript after script → ⊥) → IsBad after b (IsScriptFault r) → Refuses (text_words line) p × IsBad line b (IsTrueOf r p)
 script_fed p line rest after c b r words ends read low none bad =
-    let is : text_words rest ≡ decimal c ∷ text_words after = slot_read 4294967295 (text_words rest) c (text_words after) (lit≤ tt) read in
-    (
+    let is : text_words rest ≡ decimal c ∷ text_words after = slot_read 4294967295 (text_words rest) c (text_words after) (lit≤ tt) read in (
       subst (λ (ws : List (List ℕ)). Refuses ws p) (sym words) (script_refused (text_words rest) p (λ d s _ fits e.
-      absurd (none s (record { fits = fits; each = (heads (decimal c) (decimal d) (text_words after) (script_words s) (sym is ∙ e)).1 })))),
+          absurd (none s (record { fits = fits; each = (heads (decimal c) (decimal d) (text_words after) (script_words s) (sym is ∙ e)).1 })))),
       lift after line b (IsScriptFault r) (IsTrueOf r p) (codes "script" ∷ decimal c ∷ []) bad ends (words ∙ ap (λ (v : List (List ℕ)). codes "script" ∷ v) is) (λ before piece h. script_true r p c before piece low h),
     )
 

@@ -1,5 +1,5 @@
 -- Titles, and the pieces at which there is none.
-use Rattle.std.proofs.Common.{◌≡◌, inl, inr, ℕ, List, [], ◌∷◌, ◌++◌, Option, Some, None, refl, sym, ap, subst, ◌∙◌}
+use Rattle.std.proofs.Common.{◌≡◌, inr, ℕ, List, [], ◌∷◌, Option, Some, None, refl, sym, ap, subst, ◌∙◌}
 use Rattle.std.specs.Prelude.{codes, MatchOption, IfSome}
 use Rattle.of_script.specs.Text.{text_words, EndsWith}
 use Rattle.of_plan.specs.declared.parser.feed.Bad.{Bad}
@@ -26,7 +26,7 @@ title_more None line after ends words none next reason = words ∙ ap (λ (v : L
 title_more (Some bad) line after ends words none next reason = (
   λ e. none (ap first_word (left (text_words after) (sym words ∙ e))),
   lift_next after line bad.piece (IsTitleFault bad.reason) (plan ∷ one ∷ []) next ends words
-  (subst (λ (r : Reason). IsTitleFault r (plan ∷ one ∷ []) (first_word (text_words after))) (sym reason) (refl, none)),
+      (subst (λ (r : Reason). IsTitleFault r (plan ∷ one ∷ []) (first_word (text_words after))) (sym reason) (refl, none)),
 )
 
 not_first : (ws : List (List ℕ)) (w : List ℕ) → ((others : List (List ℕ)) → ws ≡ w ∷ others → ⊥) → (w ≡ [] → ⊥) → first_word ws ≡ w → ⊥

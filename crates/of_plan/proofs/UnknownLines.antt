@@ -1,5 +1,5 @@
 -- Lines that begin with no line's name.
-use Rattle.std.proofs.Common.{◌≡◌, ◌≢◌, inl, inr, ℕ, Bool, true, false, get_or, List, [], ◌∷◌, Some, None, refl, sym, ap, subst, ◌∙◌}
+use Rattle.std.proofs.Common.{◌≡◌, ◌≢◌, inl, ℕ, Bool, true, false, get_or, List, [], ◌∷◌, None, refl, sym, ap, subst, ◌∙◌}
 use Rattle.std.specs.Prelude.{codes}
 use Rattle.std.specs.Str.{bytes_eq}
 use Rattle.std.proofs.lemmas.Slice.Eq.{bytes_eq-Decides}
@@ -15,9 +15,9 @@ use Rattle.of_plan.specs.declared.reason.Reason.{Reason}
 use Rattle.of_plan.specs.declared.reason.Reason.TheVariants.{UnknownLine}
 use Rattle.of_plan.specs.Lines.{line_words}
 use Rattle.of_plan.specs.LineReading.{plan_language}
-use Rattle.of_plan.specs.LineTable.{form_name, line_form_named}
+use Rattle.of_plan.specs.LineTable.{line_form_named}
 use Rattle.of_plan.specs.Reader.{RefusesLine}
-use Rattle.of_plan.specs.Reading.{Reading, after_line, plan_reader}
+use Rattle.of_plan.specs.Reading.{Reading, plan_reader}
 use Rattle.of_plan.specs.Checks.{misplaced}
 use Rattle.of_plan.specs.Pieces.{first_word, IsBad, IsNextWord}
 use Rattle.of_plan.specs.Reasons.{IsTrueOf}

@@ -68,8 +68,8 @@ IsTitleFault (Flawed WordTooMany) before piece =
 IsTitleFault _ before piece = ⊥
 
 -- the first of the words may not be the first number of a line of this form
-abbrev pub IsFirstFault : Reading → LineForm → Reason → (words : List (List ℕ)) → Type 0
-IsFirstFault p form reason words =
+abbrev pub IsFirstNumberFault : Reading → LineForm → Reason → (words : List (List ℕ)) → Type 0
+IsFirstNumberFault p form reason words =
     ((slot_and_rest (first_read form) words ≡ None)
     × IsNumberFault reason (first_read form) (first_word words))
     ⊎ ((first : ℕ) × (others : List (List ℕ))
@@ -77,8 +77,8 @@ IsFirstFault p form reason words =
     × (first_fault p form first ≡ Some reason))
 
 -- nor its second one
-abbrev pub IsSecondFault : Reading → LineForm → Reason → (words : List (List ℕ)) → Type 0
-IsSecondFault p form reason words =
+abbrev pub IsSecondNumberFault : Reading → LineForm → Reason → (words : List (List ℕ)) → Type 0
+IsSecondNumberFault p form reason words =
     ((slot_and_rest (line_second_most form) words ≡ None)
     × IsNumberFault reason (line_second_most form) (first_word words))
     ⊎ ((second : ℕ) × (others : List (List ℕ))

@@ -4,11 +4,9 @@ use Rattle.of_store.specs.declared.store.TheConstants.{MOST_BLOCKS}
 use Rattle.of_plan.specs.declared.plan.TheConstants.{LATEST_STOP, MOST_TURNS}
 use Rattle.of_cell.specs.declared.word.TheConstants.{GREATEST_LIMIT}
 use Rattle.of_plan.specs.declared.parser.line.TheConstants.{GREATEST_CELL}
-use Rattle.std.specs.Prelude.{◌≡◌, ℕ, ◌-◌, ◌≤◌, ◌&&◌, List, [], ◌∷◌, if◌then◌else◌, codes, decimal, Option, None}
+use Rattle.std.specs.Prelude.{ℕ, ◌-◌, ◌≤◌, ◌&&◌, List, [], ◌∷◌, if◌then◌else◌, codes, Option, None}
 use Rattle.std.specs.Str.{bytes_eq}
-use Rattle.of_script.specs.declared.instr.Instr.{Instr}
 use Rattle.of_script.specs.Language.{IsScript}
-use Rattle.of_script.specs.Text.{script_words}
 use Rattle.of_script.specs.Reading.{at_end_of_words}
 use Rattle.of_plan.specs.declared.parser.line.BodyLine.TheVariants.{Script, Stop, Turns, Evict}
 use Rattle.of_plan.specs.declared.parser.line.ScriptlessLine.{ScriptlessLine}

@@ -5,8 +5,8 @@ use Rattle.of_plan.specs.declared.pieces.Piece.{Piece}
 
 -- of these words the piece is the one behind those before it; or they end there, and the piece is
 -- nothing, at the end of the line
-abbrev pub IsWhole : (words before : List (List ℕ)) (piece after : List ℕ) → Type 0
-IsWhole words before piece after =
+abbrev pub IsWholePiece : (words before : List (List ℕ)) (piece after : List ℕ) → Type 0
+IsWholePiece words before piece after =
     (words ≡ before ++ piece ∷ text_words after)
     ⊎ ((words ≡ before) × (piece ≡ []) × (after ≡ []))
 
@@ -18,7 +18,7 @@ pub record IsBad (bytes : List ℕ) (b : Piece) (Is : List (List ℕ) → List �
   pub parts : EndsWith bytes (piece ++ after)
   pub size : b.size ≡ length piece
   pub left : b.left ≡ length after
-  pub whole : IsWhole (text_words bytes) before piece after
+  pub whole : IsWholePiece (text_words bytes) before piece after
   pub is : Is before piece
 
 -- the first of the words, and nothing where there is none

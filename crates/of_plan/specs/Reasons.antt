@@ -3,13 +3,13 @@ use Rattle.std.specs.Prelude.{◌≡◌, ◌⊎◌, ℕ, ◌+◌, ◌-◌, ◌�
 use Rattle.of_cell.specs.Cells.{durable_cells}
 use Rattle.of_script.specs.declared.instr.Instr.{Instr}
 use Rattle.of_script.specs.declared.instr.TheConstants.{MOST_INSTRS}
-use Rattle.of_script.specs.Text.{text_words, semicolon_byte, script_words}
+use Rattle.of_script.specs.Text.{text_words, semicolon_byte}
 use Rattle.of_script.specs.Table.{form_named, first_most, second_most}
 use Rattle.of_plan.specs.declared.plan.TheConstants.{MOST_SCRIPTS, MOST_TURNS}
 use Rattle.of_plan.specs.declared.parser.line.LineForm.{LineForm}
 use Rattle.of_plan.specs.declared.parser.line.BodyLine.TheVariants.{Script}
 use Rattle.of_plan.specs.declared.parser.line.PlanLine.{PlanLine}
-use Rattle.of_plan.specs.declared.parser.line.PlanLine.TheVariants.{Title, Body}
+use Rattle.of_plan.specs.declared.parser.line.PlanLine.TheVariants.{Body}
 use Rattle.of_plan.specs.declared.parser.state.Stage.{Stage}
 use Rattle.of_plan.specs.declared.parser.state.Stage.TheVariants.{Start, Named, Counted, Sized, Body as InBody, Ended}
 use Rattle.of_plan.specs.declared.refusal.BadPiece.{BadPiece}
@@ -30,7 +30,7 @@ use Rattle.of_plan.specs.Grammar.{IsPlanText}
 use Rattle.of_plan.specs.declared.above.Wanted.TheVariants.{Stop}
 use Rattle.of_plan.specs.Above.{line_at, Says}
 use Rattle.of_plan.specs.Flaws.{PieceIsNumber, IsNoWord, HasFlaw, IsHiddenByte}
-use Rattle.of_plan.specs.Pieces.{IsWhole}
+use Rattle.of_plan.specs.Pieces.{IsWholePiece}
 
 -- ---- what comes next after the words of a line
 
@@ -96,15 +96,15 @@ abbrev pub IsBelowHeading : Stage → Type 0
 IsBelowHeading stage = (stage ≡ Sized) ⊎ (stage ≡ InBody)
 
 -- the line has one of the heading's names; a limit may come right below the heading
-abbrev pub IsHeadingName : Stage → List ℕ → Type 0
-IsHeadingName stage piece =
+abbrev pub IsHeadingWord : Stage → List ℕ → Type 0
+IsHeadingWord stage piece =
     (piece ≡ codes "onefile")
     ⊎ ((piece ≡ codes "callers")
     ⊎ ((piece ≡ codes "blocks") ⊎ ((piece ≡ codes "limit") × (stage ≡ InBody))))
 
 -- the words before the piece begin the title, and it does not go on with the piece
-abbrev pub IsNoTitle : (before : List (List ℕ)) (piece : List ℕ) → Type 0
-IsNoTitle before piece =
+abbrev pub IsNoTitleWord : (before : List (List ℕ)) (piece : List ℕ) → Type 0
+IsNoTitleWord before piece =
     ((before ≡ []) × (piece ≡ codes "onefile" → ⊥))
     ⊎ (((before ≡ codes "onefile" ∷ []) × (piece ≡ codes "plan" → ⊥))
     ⊎ ((before ≡ codes "onefile" ∷ codes "plan" ∷ []) × (piece ≡ codes "1" → ⊥)))
@@ -119,14 +119,14 @@ WantsCaller before =
 -- to
 abbrev pub IsTrueOf : Reason → Reading → (before : List (List ℕ)) (piece : List ℕ) → Type 0
 IsTrueOf (Flawed flaw) p before piece = HasFlaw flaw piece × IsPlaceOf flaw before piece
-IsTrueOf TitleExpected p before piece = (p.stage ≡ Start) × IsNoTitle before piece
+IsTrueOf TitleExpected p before piece = (p.stage ≡ Start) × IsNoTitleWord before piece
 IsTrueOf CallersExpected p before piece =
     (p.stage ≡ Named) × (before ≡ []) × (piece ≡ codes "callers" → ⊥)
 IsTrueOf BlocksExpected p before piece =
     (p.stage ≡ Counted) × (before ≡ []) × (piece ≡ codes "blocks" → ⊥)
 IsTrueOf AfterEnd p before piece = (p.stage ≡ Ended) × (before ≡ [])
 IsTrueOf HeadingOver p before piece =
-    IsBelowHeading p.stage × (before ≡ []) × IsHeadingName p.stage piece
+    IsBelowHeading p.stage × (before ≡ []) × IsHeadingWord p.stage piece
 IsTrueOf UnknownLine p before piece =
     (before ≡ []) × (line_form_named piece ≡ None) × (piece ≡ codes "script" → ⊥)
     × (piece ≡ codes "onefile" → ⊥)
@@ -154,16 +154,16 @@ IsTrueOf EndMissing p before piece = ⊥
 -- ---- the fault of a text
 
 -- what the first lines of a text say leads to this reading
-pub record LeadTo (text : List ℕ) (count : ℕ) (p : Reading) : Type 0 where
+pub record LinesLeadTo (text : List ℕ) (count : ℕ) (p : Reading) : Type 0 where
   pub said : List PlanLine
   pub says : unskipped_words (take count (text_lines text)) ≡ map line_words said
   pub leads : after_lines plan_language plan_reader nothing_read said ≡ Some p
 
 -- the text is at its end, and has no end line yet
-pub record HasNoEnd (text : List ℕ) (above : ℕ) : Type 0 where
+pub record IsUnended (text : List ℕ) (above : ℕ) : Type 0 where
   pub last : length (text_lines text) ≡ above + 1
   pub reading : Reading
-  pub leads : LeadTo text (above + 1) reading
+  pub leads : LinesLeadTo text (above + 1) reading
   pub unended : reading.stage ≡ Ended → ⊥
 
 -- the caller has a stop already, in the line of this number
@@ -179,17 +179,17 @@ pub record HasStop (text : List ℕ) (above : ℕ) (before : List (List ℕ)) (p
 -- what a reason says of a piece of a text with so many lines above it
 abbrev pub IsTrueIn : Reason → (text : List ℕ) (above : ℕ) (before : List (List ℕ))
     (piece : List ℕ) → Type 0
-IsTrueIn EndMissing text above before piece = HasNoEnd text above × (piece ≡ [])
+IsTrueIn EndMissing text above before piece = IsUnended text above × (piece ≡ [])
 IsTrueIn (SecondStop number) text above before piece = HasStop text above before piece number
 IsTrueIn reason text above before piece =
-    (p : Reading) × LeadTo text above p × IsTrueOf reason p before piece
+    (p : Reading) × LinesLeadTo text above p × IsTrueOf reason p before piece
 
 -- the piece is a whole word, or the end of the line
 pub record IsWordFault (text : List ℕ) (f : BadPiece) : Type 0 where
   pub before : List (List ℕ)
   pub whole :
       let line = line_at (text_lines text) (f.line - 1) in
-      IsWhole (text_words line) before (slice_range line f.start f.end) (drop f.end line)
+      IsWholePiece (text_words line) before (slice_range line f.start f.end) (drop f.end line)
   pub is :
       let line = line_at (text_lines text) (f.line - 1) in
       IsTrueIn f.reason text (f.line - 1) before (slice_range line f.start f.end)

@@ -6,9 +6,9 @@ ghost use Rattle.of_plan.specs.Lines.{text_lines, is_skipped};
 ghost use Rattle.of_plan.specs.Above.{line_at as the_line};
 ghost use Rattle.of_plan.specs.BadLine.{HasBadLine};
 ghost use Rattle.of_plan.specs.Grammar.{IsPlanText};
-ghost use Rattle.of_plan.specs.Pieces.{IsBad, IsWhole};
+ghost use Rattle.of_plan.specs.Pieces.{IsBad, IsWholePiece};
 ghost use Rattle.of_plan.specs.Reading.{Reading};
-ghost use Rattle.of_plan.specs.Reasons.{LeadTo, HasNoEnd, IsTrueOf, IsTrueIn, IsFaultOf};
+ghost use Rattle.of_plan.specs.Reasons.{LinesLeadTo, IsUnended, IsTrueOf, IsTrueIn, IsFaultOf};
 
 use crate::above::{Wanted, find};
 use crate::parser::feed::Bad;
@@ -42,7 +42,7 @@ pub fn fault(alloc: Global, text: &[u8]) -> Result<Option<BadPiece>, AllocError>
 
 // The reason, with the line of the stop that the caller has already.
 fn with_stop(text: &[u8], above: u64, reason: Reason) -> Reason
-    ensures { (p : Reading) (before : List (List ℕ)) (piece : List ℕ) → LeadTo text.now above p
+    ensures { (p : Reading) (before : List (List ℕ)) (piece : List ℕ) → LinesLeadTo text.now above p
         → IsTrueOf reason p before piece → IsTrueIn result text.now above before piece }
 {
     let Reason::StopTwice { caller } = reason else {
@@ -60,7 +60,7 @@ pub(crate) fn in_text(text: &[u8], number: u64, line: &[u8], bad: Bad) -> BadPie
     requires line { line.now ≡ the_line (text_lines text.now) (number - 1) }
     requires bad { HasBadLine IsPlanText text.now number }
     requires kept { is_skipped (text_words line.now) ≡ false }
-    requires is { (p : Reading) × LeadTo text.now (number - 1) p
+    requires is { (p : Reading) × LinesLeadTo text.now (number - 1) p
         × IsBad line.now bad.piece (IsTrueOf bad.reason p) }
     ensures { IsFaultOf text.now result }
 {
@@ -88,7 +88,7 @@ pub(crate) fn at_end(text: &[u8], number: u64, line: &[u8]) -> BadPiece
     requires first { 1 ≤ number }
     requires line { line.now ≡ the_line (text_lines text.now) (number - 1) }
     requires bad { HasBadLine IsPlanText text.now number }
-    requires none { HasNoEnd text.now (number - 1) }
+    requires none { IsUnended text.now (number - 1) }
     ensures { IsFaultOf text.now result }
 {
     BadPiece {

@@ -8,7 +8,7 @@ ghost use Rattle.of_plan.specs.LineTable.{form_name, line_second_most};
 ghost use Rattle.of_plan.specs.Reading.{reading_value};
 ghost use Rattle.of_plan.specs.Checks as checks;
 ghost use Rattle.of_plan.specs.Pieces.{first_word, IsBad, IsNextWord};
-ghost use Rattle.of_plan.specs.Fed.{TooMany, IsNumberFault, IsInstrFault, IsScriptFault, IsTitleFault, IsFirstFault, IsSecondFault, HasFed};
+ghost use Rattle.of_plan.specs.Fed.{TooMany, IsNumberFault, IsInstrFault, IsScriptFault, IsTitleFault, IsFirstNumberFault, IsSecondNumberFault, HasFed};
 
 use crate::flaw::Flaw;
 use crate::parser::check::{is_below_heading, may_come, misplaced};
@@ -189,7 +189,7 @@ impl Reading {
         ensures small { IfOk result (λ x. x.0 ≤ checks.first_read form) }
         ensures rest { IfOk result (λ x. EndsWith bytes.now x.1.now) }
         ensures err { IfErr result (λ bad. IsNextWord bytes.now bad.piece
-            × IsFirstFault (reading_value self.now) form bad.reason (text_words bytes.now)) }
+            × IsFirstNumberFault (reading_value self.now) form bad.reason (text_words bytes.now)) }
     {
         let (first, rest) = match read_number(bytes, first_read(form)) {
             Ok(read) => read,
@@ -210,7 +210,7 @@ impl Reading {
         ensures small { IfOk result (λ x. x.0 ≤ line_second_most form) }
         ensures rest { IfOk result (λ x. EndsWith bytes.now x.1.now) }
         ensures err { IfErr result (λ bad. IsNextWord bytes.now bad.piece
-            × IsSecondFault (reading_value self.now) form bad.reason (text_words bytes.now)) }
+            × IsSecondNumberFault (reading_value self.now) form bad.reason (text_words bytes.now)) }
     {
         let (second, rest) = match read_number(bytes, second_most(form)) {
             Ok(read) => read,

@@ -1,7 +1,4 @@
-use Rattle.std.proofs.Common.{◌≡◌, ◌-◌, inr, ℕ, List, length, refl, sym, ap, subst, arith}
-use Rattle.of_script.specs.Text.{text_words}
-use Rattle.of_plan.specs.Lines.{is_skipped}
-use Rattle.of_plan.specs.Flaws.{IsHiddenByte}
+use Rattle.std.proofs.Common.{◌≡◌, ℕ, List, length, refl, ap, subst, arith}
 use Rattle.of_plan.specs.Pieces.{IsBad}
 use Rattle.of_plan.specs.Reasons.{IsTrueOf}
 use Rattle.of_plan.proofs.Faults.{word_fault, hidden_fault}

@@ -1,4 +1,4 @@
-use Rattle.std.proofs.Common.{◌≡◌, sym, ap, ◌∙◌}
+use Rattle.std.proofs.Common.{sym, ap, ◌∙◌}
 use Rattle.of_script.specs.Reading.{front_and_rest}
 use Rattle.of_script.proofs.Words.{ends_behind}
 use Rattle.of_plan.proofs.BadPieces.{ends_on}

@@ -1,6 +1,5 @@
-use Rattle.std.proofs.Common.{◌≡◌, inr, refl, sym, ap, ◌∙◌, List, ℕ, ◌∷◌, []}
-use Rattle.of_script.specs.Text.{text_words}
-use Rattle.of_plan.proofs.BadPieces.{lift_next, ends_on}
+use Rattle.std.proofs.Common.{ap, ◌∙◌, List, ℕ, ◌∷◌, []}
+use Rattle.of_plan.proofs.BadPieces.{ends_on}
 use Rattle.of_plan.proofs.TitleFaults.{title_more, title_other}
 use Rattle.of_plan.proofs.parser.feed.title_fault.Goals as goal
 

@@ -1,4 +1,4 @@
-use Rattle.std.proofs.Common.{◌≡◌, ℕ, List, ◌∷◌, sym, ap, ◌∙◌}
+use Rattle.std.proofs.Common.{ℕ, List, ◌∷◌, sym, ap, ◌∙◌}
 use Rattle.of_script.specs.Text.{text_words}
 use Rattle.of_script.proofs.Words.{ends_behind}
 use Rattle.of_plan.specs.Reading.{reading_value}

@@ -1,4 +1,4 @@
-use Rattle.std.proofs.Common.{sym, refl, ◌∙◌, ◌≤◌, arith}
+use Rattle.std.proofs.Common.{sym, refl, ◌∙◌, arith}
 use Rattle.of_plan.specs.Reading.{reading_value}
 use Rattle.of_plan.specs.declared.parser.state.Stage.TheVariants.{Body as InBody}
 use Rattle.of_plan.proofs.BadPieces.{ends_on}
