@@ -27,7 +27,7 @@ use Rattle.of_plan.specs.LineReading.{plan_language}
 use Rattle.of_plan.specs.LineTable.{form_name, line_first_most, line_second_most, line_with_numbers}
 use Rattle.of_plan.specs.Reader.{RefusesLine, ReadsLine}
 use Rattle.of_plan.specs.Reading.{Reading, at_stage, after_line, plan_reader}
-use Rattle.of_plan.specs.Checks.{may_come, misplaced, first_read, first_fault, second_fault}
+use Rattle.of_plan.specs.Checks.{may_come, place_reason, first_read, first_fault, second_fault}
 use Rattle.of_plan.specs.Flaws.{PieceIsNumber}
 use Rattle.of_plan.specs.Reasons.{IsTrueOf}
 use Rattle.of_plan.specs.Pieces.{first_word, IsBad, IsNextWord}
@@ -48,30 +48,30 @@ under_named f late e = let same : f ≡ FCallers = same_form f FCallers e in let
 under_counted : (f : LineForm) → may_come Counted f ≡ false → form_name f ≡ codes "blocks" → ⊥
 under_counted f late e = let same : f ≡ FBlocks = same_form f FBlocks e in let k : true ≡ false = sym (ap (may_come Counted) same) ∙ late in cc
 
-misplaced_true : (stage : Stage) (p : Reading) (f : LineForm) → p.stage ≡ stage → may_come stage f ≡ false → IsTrueOf (misplaced stage HeadingOver) p [] (form_name f)
-misplaced_true Start p f at late = (at, inl (refl, no_title f))
-misplaced_true Named p f at late = (at, refl, under_named f late)
-misplaced_true Counted p f at late = (at, refl, under_counted f late)
-misplaced_true Ended p f at late = (at, refl)
-misplaced_true Sized p FCallers at late = (inl at, refl, inr (inl refl))
-misplaced_true Sized p FBlocks at late = (inl at, refl, inr (inr (inl refl)))
-misplaced_true Sized p FLimit at late = absurd cc
-misplaced_true Sized p FStop at late = absurd cc
-misplaced_true Sized p FTurns at late = absurd cc
-misplaced_true Sized p FEvict at late = absurd cc
-misplaced_true Sized p FEnd at late = absurd cc
-misplaced_true InBody p FCallers at late = (inr at, refl, inr (inl refl))
-misplaced_true InBody p FBlocks at late = (inr at, refl, inr (inr (inl refl)))
-misplaced_true InBody p FLimit at late = (inr at, refl, inr (inr (inr (refl, at))))
-misplaced_true InBody p FStop at late = absurd cc
-misplaced_true InBody p FTurns at late = absurd cc
-misplaced_true InBody p FEvict at late = absurd cc
-misplaced_true InBody p FEnd at late = absurd cc
+place_reason_true : (stage : Stage) (p : Reading) (f : LineForm) → p.stage ≡ stage → may_come stage f ≡ false → IsTrueOf (place_reason stage HeadingOver) p [] (form_name f)
+place_reason_true Start p f at late = (at, inl (refl, no_title f))
+place_reason_true Named p f at late = (at, refl, under_named f late)
+place_reason_true Counted p f at late = (at, refl, under_counted f late)
+place_reason_true Ended p f at late = (at, refl)
+place_reason_true Sized p FCallers at late = (inl at, refl, inr (inl refl))
+place_reason_true Sized p FBlocks at late = (inl at, refl, inr (inr (inl refl)))
+place_reason_true Sized p FLimit at late = absurd cc
+place_reason_true Sized p FStop at late = absurd cc
+place_reason_true Sized p FTurns at late = absurd cc
+place_reason_true Sized p FEvict at late = absurd cc
+place_reason_true Sized p FEnd at late = absurd cc
+place_reason_true InBody p FCallers at late = (inr at, refl, inr (inl refl))
+place_reason_true InBody p FBlocks at late = (inr at, refl, inr (inr (inl refl)))
+place_reason_true InBody p FLimit at late = (inr at, refl, inr (inr (inr (refl, at))))
+place_reason_true InBody p FStop at late = absurd cc
+place_reason_true InBody p FTurns at late = absurd cc
+place_reason_true InBody p FEvict at late = absurd cc
+place_reason_true InBody p FEnd at late = absurd cc
 
-pub misplaced_fed : (p : Reading) (f : LineForm) (line rest : List ℕ) (b : Piece) (r : Reason) → text_words line ≡ form_name f ∷ text_words rest → may_come p.stage f ≡ false → IsNextWord line b → r ≡ misplaced p.stage HeadingOver → Refuses (text_words line) p × IsBad line b (IsTrueOf r p)
-misplaced_fed p f line rest b r words late next reason = (
+pub place_reason_fed : (p : Reading) (f : LineForm) (line rest : List ℕ) (b : Piece) (r : Reason) → text_words line ≡ form_name f ∷ text_words rest → may_come p.stage f ≡ false → IsNextWord line b → r ≡ place_reason p.stage HeadingOver → Refuses (text_words line) p × IsBad line b (IsTrueOf r p)
+place_reason_fed p f line rest b r words late next reason = (
   subst (λ (ws : List (List ℕ)). Refuses ws p) (sym words) (form_refused f (text_words rest) p (λ l n. not_yet p f n.first n.second late)),
-  lift_first line b (IsTrueOf r p) (form_name f) (text_words rest) next words (subst (λ (q : Reason). IsTrueOf q p [] (form_name f)) (sym reason) (misplaced_true p.stage p f refl late)),
+  lift_first line b (IsTrueOf r p) (form_name f) (text_words rest) next words (subst (λ (q : Reason). IsTrueOf q p [] (form_name f)) (sym reason) (place_reason_true p.stage p f refl late)),
 )
 
 -- ---- the first number

@@ -18,7 +18,7 @@ use Rattle.of_plan.specs.LineReading.{plan_language}
 use Rattle.of_plan.specs.LineTable.{line_form_named}
 use Rattle.of_plan.specs.Reader.{RefusesLine}
 use Rattle.of_plan.specs.Reading.{Reading, plan_reader}
-use Rattle.of_plan.specs.Checks.{misplaced}
+use Rattle.of_plan.specs.Checks.{place_reason}
 use Rattle.of_plan.specs.Pieces.{first_word, IsBad, IsNextWord}
 use Rattle.of_plan.specs.Reasons.{IsTrueOf}
 use Rattle.of_plan.proofs.LineLaws.{name_is, not_skipped}
@@ -47,7 +47,7 @@ unknown_refused name ws p first none no_script no_title = record {
     go (Body (Evict a)) e k = cc
     go End e k = cc
 
-unknown_true : (stage : Stage) (p : Reading) (name : List ℕ) → p.stage ≡ stage → line_form_named name ≡ None → (name ≡ codes "script" → ⊥) → (name ≡ codes "onefile" → ⊥) → IsTrueOf (misplaced stage UnknownLine) p [] name
+unknown_true : (stage : Stage) (p : Reading) (name : List ℕ) → p.stage ≡ stage → line_form_named name ≡ None → (name ≡ codes "script" → ⊥) → (name ≡ codes "onefile" → ⊥) → IsTrueOf (place_reason stage UnknownLine) p [] name
 unknown_true Start p name at none no_script no_title = (at, inl (refl, no_title))
 unknown_true Named p name at none no_script no_title = (at, refl, λ e. (let k = sym none ∙ name_is name FCallers e in cc))
 unknown_true Counted p name at none no_script no_title = (at, refl, λ e. (let k = sym none ∙ name_is name FBlocks e in cc))
@@ -55,7 +55,7 @@ unknown_true Sized p name at none no_script no_title = (refl, none, no_script, n
 unknown_true InBody p name at none no_script no_title = (refl, none, no_script, no_title)
 unknown_true Ended p name at none no_script no_title = (at, refl)
 
-pub unknown_fed : (p : Reading) (line name : List ℕ) (ws : List (List ℕ)) (b : Piece) (r : Reason) → text_words line ≡ name ∷ ws → get_or name 0 0 ≢ 35 → line_form_named name ≡ None → (name ≡ codes "script" → ⊥) → (name ≡ codes "onefile" → ⊥) → IsNextWord line b → r ≡ misplaced p.stage UnknownLine → RefusesLine plan_language plan_reader (text_words line) p × IsBad line b (IsTrueOf r p)
+pub unknown_fed : (p : Reading) (line name : List ℕ) (ws : List (List ℕ)) (b : Piece) (r : Reason) → text_words line ≡ name ∷ ws → get_or name 0 0 ≢ 35 → line_form_named name ≡ None → (name ≡ codes "script" → ⊥) → (name ≡ codes "onefile" → ⊥) → IsNextWord line b → r ≡ place_reason p.stage UnknownLine → RefusesLine plan_language plan_reader (text_words line) p × IsBad line b (IsTrueOf r p)
 unknown_fed p line name ws b r words first none no_script no_title next reason = (
   subst (λ (v : List (List ℕ)). RefusesLine plan_language plan_reader v p) (sym words) (unknown_refused name ws p first none no_script no_title),
   lift_first line b (IsTrueOf r p) name ws next words (subst (λ (q : Reason). IsTrueOf q p [] name) (sym reason) (unknown_true p.stage p name refl none no_script no_title)),

@@ -32,13 +32,13 @@ may_come stage FEnd = is_below_heading stage
 may_come _ _ = false
 
 -- why a line may not come next; below the heading for that reason
-abbrev pub misplaced : Stage → (below : Reason) → Reason
-misplaced Start below = TitleExpected
-misplaced Named below = CallersExpected
-misplaced Counted below = BlocksExpected
-misplaced Sized below = below
-misplaced InBody below = below
-misplaced Ended below = AfterEnd
+abbrev pub place_reason : Stage → (below : Reason) → Reason
+place_reason Start below = TitleExpected
+place_reason Named below = CallersExpected
+place_reason Counted below = BlocksExpected
+place_reason Sized below = below
+place_reason InBody below = below
+place_reason Ended below = AfterEnd
 
 -- the most up to which the first number of a line is read
 abbrev pub first_read : LineForm → ℕ

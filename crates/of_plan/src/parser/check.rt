@@ -33,8 +33,8 @@ pub(crate) fn may_come(stage: Stage, form: LineForm) -> bool
 }
 
 // Why a line may not come next; below the heading for that reason.
-pub(crate) fn misplaced(stage: Stage, below: Reason) -> Reason
-    ensures { result ≡ checks.misplaced stage below }
+pub(crate) fn place_reason(stage: Stage, below: Reason) -> Reason
+    ensures { result ≡ checks.place_reason stage below }
 {
     match stage {
         Stage::Start => Reason::TitleExpected,

@@ -11,7 +11,7 @@ ghost use Rattle.of_plan.specs.Pieces.{first_word, IsBad, IsNextWord};
 ghost use Rattle.of_plan.specs.Fed.{TooMany, IsNumberFault, IsInstrFault, IsScriptFault, IsTitleFault, IsFirstNumberFault, IsSecondNumberFault, HasFed};
 
 use crate::flaw::Flaw;
-use crate::parser::check::{is_below_heading, may_come, misplaced};
+use crate::parser::check::{is_below_heading, may_come, place_reason};
 use crate::parser::line::{
     GREATEST_CELL, LineForm, first_read, form_named, second_most, with_numbers,
 };
@@ -235,7 +235,7 @@ impl Reading {
         ensures { IfOk result (HasFed line.now self.old self.new) }
     {
         if !may_come(self.stage, form) {
-            let reason = misplaced(self.stage, Reason::HeadingOver);
+            let reason = place_reason(self.stage, Reason::HeadingOver);
             return Ok(Some(bad_word(line, reason)));
         }
         let (first, after) = match self.read_first(form, rest) {
@@ -262,7 +262,7 @@ impl Reading {
         ensures { HasFed line.now self.old self.new result }
     {
         if self.stage != Stage::Start {
-            return Some(bad_word(line, misplaced(self.stage, Reason::HeadingOver)));
+            return Some(bad_word(line, place_reason(self.stage, Reason::HeadingOver)));
         }
         if let Some(bad) = title_fault(rest) {
             return Some(bad);
@@ -278,7 +278,7 @@ impl Reading {
         ensures { IfOk result (HasFed line.now self.old self.new) }
     {
         if !is_below_heading(self.stage) {
-            return Ok(Some(bad_word(line, misplaced(self.stage, Reason::AfterEnd))));
+            return Ok(Some(bad_word(line, place_reason(self.stage, Reason::AfterEnd))));
         }
         if self.count >= MOST_SCRIPTS {
             return Ok(Some(bad_word(line, Reason::TooManyScripts)));
@@ -324,7 +324,7 @@ impl Reading {
         match form_named(first) {
             Some(form) => self.feed_numbers(alloc, line, form, rest),
             None => {
-                let reason = misplaced(self.stage, Reason::UnknownLine);
+                let reason = place_reason(self.stage, Reason::UnknownLine);
                 Ok(Some(bad_word(line, reason)))
             }
         }

@@ -24,4 +24,4 @@ returns-in-None c =
     unknown_fed (reading_value c.args.self.now) c.args.line.now c.in-Some-word.first.now (text_words c.in-Some-word.rest.now) _ _ c.in-Some-word.ensures.words c.if-first-eq35.false (sym c.in-None.ensures)
     (differs c.eq.result c.in-Some-word.first.now c.as_slice.result.now _ c.as_slice.ensures c.eq.ensures c.if-eq.false)
     (differs c.eq-2.result c.in-Some-word.first.now c.as_slice-2.result.now _ c.as_slice-2.ensures c.eq-2.ensures c.if-eq-2.false)
-    c.bad_word.ensures.piece (c.bad_word.ensures.reason ∙ c.misplaced-reason.ensures)
+    c.bad_word.ensures.piece (c.bad_word.ensures.reason ∙ c.place_reason-reason.ensures)

@@ -1,12 +1,12 @@
 use Rattle.std.proofs.Common.{sym, ap, ◌∙◌}
 use Rattle.of_plan.specs.Reading.{reading_value, after_line}
 use Rattle.of_plan.proofs.BadPieces.{ends_on}
-use Rattle.of_plan.proofs.Feeding.{misplaced_fed, first_fed, second_fed, extra_fed, numbers_taken}
+use Rattle.of_plan.proofs.Feeding.{place_reason_fed, first_fed, second_fed, extra_fed, numbers_taken}
 use Rattle.of_plan.proofs.parser.state.Reading.feed_numbers.Goals as goal
 
 pub returns-then-not-may_come : goal.returns-then-not-may_come
 returns-then-not-may_come c =
-    misplaced_fed (reading_value c.args.self.now) c.args.form c.args.line.now c.args.rest.now _ _ c.requires.words (sym c.may_come.ensures ∙ c.if-not-may_come.true) c.bad_word.ensures.piece (c.bad_word.ensures.reason ∙ c.misplaced-reason.ensures)
+    place_reason_fed (reading_value c.args.self.now) c.args.form c.args.line.now c.args.rest.now _ _ c.requires.words (sym c.may_come.ensures ∙ c.if-not-may_come.true) c.bad_word.ensures.piece (c.bad_word.ensures.reason ∙ c.place_reason-reason.ensures)
 
 pub returns-in-Err : goal.returns-in-Err
 returns-in-Err c = first_fed (reading_value c.args.self.now) c.args.form c.args.line.now c.args.rest.now _ _ c.requires.words c.requires.rest c.in-Err.ensures.err.0 c.in-Err.ensures.err.1
