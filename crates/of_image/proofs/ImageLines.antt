@@ -1,6 +1,6 @@
 -- What is read of the words of an image's line, and that nothing else is read.
-use Rattle.std.proofs.Common.{◌≡◌, inl, inr, ℕ, ◌^◌, ◌<◌, ◌≤◌, true, false, List, [], ◌∷◌, Option, Some, None, refl, sym, ap, subst, ◌∙◌, lit<}
-use Rattle.std.specs.Prelude.{codes, decimal, MatchOption}
+use Rattle.std.proofs.Common.{◌≡◌, inl, inr, ℕ, ◌^◌, ◌<◌, ◌≤◌, Bool, true, false, List, [], ◌∷◌, Option, Some, None, Result, Ok, Err, refl, sym, ap, subst, ◌∙◌, lit<}
+use Rattle.std.specs.Prelude.{codes, decimal, IfOk, MatchOption}
 use Rattle.std.specs.Str.{bytes_eq}
 use Rattle.std.proofs.lemmas.Slice.Eq.{bytes_eq-Decides}
 use Rattle.of_script.specs.Reading.{◌>>=◌, next_number, at_end_of_words}
@@ -9,9 +9,10 @@ use Rattle.of_script.proofs.Instrs.{bind_some, chosen, some_is, number_at_takes,
 use Rattle.of_plan.specs.Lines.{is_skipped}
 use Rattle.of_image.specs.declared.line.ImageLine.{ImageLine}
 use Rattle.of_image.specs.declared.line.ImageLine.TheVariants.{Title, Callers, Blocks, Cell, End}
-use Rattle.of_plan.specs.Reader.{SpellsLine, SpellsNoLine}
+use Rattle.of_plan.specs.Reader.{Reader, SpellsLine, SpellsNoLine, RefusesLine}
 use Rattle.of_image.specs.ImageText.{image_line_words}
-use Rattle.of_image.specs.ImageReading.{IsImageLineInRange, line_with_count, image_title_line, cell_line_of, line_named, image_language}
+use Rattle.of_image.specs.ImageReading.{IsImageLineInRange, line_with_count, image_title_line, cell_line_of, line_named, image_language, image_reader, RowReading, AnswersNext, TakesImageLine, after_line_at}
+use Rattle.of_image.specs.declared.version.Version.{Version}
 
 -- ---- what is read is a line's words
 
@@ -137,3 +138,16 @@ named_spells (Some l) name ws e kept = let t = line_takes name ws l (sym e) in r
 pub cell_spells : (o : Option ImageLine) (ws : List (List ℕ)) → o ≡ cell_line_of ws → MatchOption o (SpellsNoLine image_language (codes "cell" ∷ ws)) (SpellsLine image_language (codes "cell" ∷ ws))
 unfolding line_named
 cell_spells o ws e = named_spells o (codes "cell") ws e refl
+
+-- words of a line that may not come next are refused
+stopped_refused : (R : Reader image_language) (ws : List (List ℕ)) (p : R.Progress) (l : ImageLine) → SpellsLine image_language ws l → R.next p l ≡ None → RefusesLine image_language R ws p
+stopped_refused R ws p l s stopped = record {
+  kept = s.kept;
+  none = λ m range e. ap (R.next p) (line_same m l range s.range (sym e ∙ s.words)) ∙ stopped;
+}
+
+-- a line that was read, by whether it was taken
+pub line_fed : {E : Type 0} (r : Result Bool E) (v : Version) (ws : List (List ℕ)) (l : ImageLine) (p q : RowReading) → SpellsLine image_language ws l → IfOk r (λ taken. AnswersNext (after_line_at v p.stage p l) taken q) → IfOk r (λ taken. TakesImageLine v ws taken p q)
+line_fed (Ok true) v ws l p q s h = inr (l, s, h)
+line_fed (Ok false) v ws l p q s h = stopped_refused (image_reader v) ws p l s h
+line_fed (Err x) v ws l p q s h = tt

@@ -9,3 +9,4 @@ pub mod RenumberedImages
 pub mod Shifted
 pub mod MovedRows
 pub mod RunImages
+pub mod FirstWords

@@ -3,7 +3,7 @@ use Rattle.std.specs.Prelude.{ℕ, ◌≤◌, List}
 use Rattle.of_cell.specs.declared.shape.TheConstants.{MOST_CALLERS}
 use Rattle.of_store.specs.declared.store.TheConstants.{MOST_BLOCKS}
 use Rattle.of_plan.specs.declared.above.Wanted.TheVariants.{Callers, Blocks}
-use Rattle.of_plan.specs.Reasons.{SaidAbove}
+use Rattle.of_image.specs.Reasons.{SaidAbove}
 use Rattle.of_image.specs.declared.explaining.Heading.{Heading}
 
 -- lines above say these numbers of callers and blocks, and both are in their ranges

@@ -13,3 +13,4 @@ pub mod RenumberedImage
 pub mod MovedRow
 pub mod RunImage
 pub mod PrintedAgain
+pub mod Flawed

@@ -1,11 +1,12 @@
 //! Why a line is the bad line of an image's text.
 
-ghost use Rattle.std.specs.Prelude.{◌≡◌, ◌≤◌, ◌-◌, ℕ, length, List, ◌∷◌, IfSome, false, codes};
+ghost use Rattle.std.specs.Prelude.{◌≡◌, ◌≤◌, ◌-◌, ℕ, length, List, ◌∷◌, IfSome, false, codes, slice_range};
 ghost use Rattle.std.specs.Bool.{MatchBool};
 ghost use Rattle.of_script.specs.Text.{text_words};
-ghost use Rattle.of_plan.specs.Lines.{text_lines};
+ghost use Rattle.of_plan.specs.Lines.{text_lines, is_skipped};
+ghost use Rattle.of_plan.specs.Pieces.{first_word as the_first};
 ghost use Rattle.of_plan.specs.Above.{NoneSays, line_at as the_line};
-ghost use Rattle.of_plan.specs.Flaws.{IsFlawed};
+ghost use Rattle.of_image.specs.Flawed.{IsFlawed};
 ghost use Rattle.of_plan.specs.declared.above.Wanted.TheVariants.{Kept};
 ghost use Rattle.of_image.specs.declared.version.Version.{Version as TheVersion};
 ghost use Rattle.of_image.specs.Reasons.{IsImageFinding, IsHeadingName};
@@ -13,13 +14,12 @@ ghost use Rattle.of_image.specs.Heading.{IsHeadingAbove};
 
 use crate::line::{ImageLine, ReadLine, read_line};
 use crate::parse_row::cells;
+use crate::pieces::{FlawedPiece, no_count, no_numbers, past_numbers, word_from, word_too_many};
 use crate::reason::Reason;
 use crate::version::Version;
 use of_cell::MOST_CALLERS;
 use of_plan::above::{Wanted, find, line_at};
-use of_plan::pieces::{
-    FlawedPiece, hidden, no_count, no_numbers, past_numbers, word_from, word_too_many,
-};
+use of_plan::pieces::{hidden, next_word};
 use of_script::text::{number, word};
 use of_store::MOST_BLOCKS;
 
@@ -49,6 +49,17 @@ fn flawed(piece: FlawedPiece) -> Finding
         end: piece.end,
         reason: Reason::Flawed { flaw: piece.flaw },
     }
+}
+
+// Where the first word of a line starts and ends.
+fn first_word(line: &[u8]) -> (usize, usize)
+    ensures order { result.0 ≤ result.1 }
+    ensures within { result.1 ≤ length line.now }
+    ensures word { slice_range line.now result.0 result.1 ≡ the_first (text_words line.now) }
+{
+    let piece = next_word(line);
+    let end = line.len() - piece.left;
+    (end - piece.size, end)
 }
 
 // Whether a line begins with the two words of a title.
@@ -216,10 +227,11 @@ fn is_heading_name(name: &[u8]) -> bool
 
 // Why a line below the heading is none.
 fn below_heading(text: &[u8], above: u64, line: &[u8], heading: Heading) -> Option<Finding>
-    requires { IsHeadingAbove (text_lines text.now) above heading }
+    requires heading { IsHeadingAbove (text_lines text.now) above heading }
+    requires kept { is_skipped (text_words line.now) ≡ false }
     ensures { IfSome result (IsImageFinding heading.version (text_lines text.now) above line.now) }
 {
-    let (start, end) = word_from(line, 0);
+    let (start, end) = first_word(line);
     let name = &line[start..end];
     if name == b"cell".as_slice() {
         return in_cell(text, above, line, end, heading);
@@ -243,12 +255,13 @@ fn below_heading(text: &[u8], above: u64, line: &[u8], heading: Heading) -> Opti
 
 // Why a line of the heading is none, or one below it.
 fn in_heading(text: &[u8], above: u64, line: &[u8], version: Version) -> Option<Finding>
+    requires { is_skipped (text_words line.now) ≡ false }
     ensures { IfSome result (IsImageFinding version (text_lines text.now) above line.now) }
 {
     if find(text, above, Wanted::Kept).is_none() {
         return in_title(text, above, line, version);
     }
-    let (start, end) = word_from(line, 0);
+    let (start, end) = first_word(line);
     let name = &line[start..end];
     let Some((_, callers)) = find(text, above, Wanted::Callers) else {
         if name == b"callers".as_slice() {
@@ -285,20 +298,24 @@ fn in_heading(text: &[u8], above: u64, line: &[u8], version: Version) -> Option<
 fn in_line(text: &[u8], above: u64, line: &[u8], version: Version) -> Option<Finding>
     ensures { IfSome result (IsImageFinding version (text_lines text.now) above line.now) }
 {
-    if let Some(piece) = hidden(line, above) {
-        return Some(flawed(piece));
+    let (name, _) = word(line)?;
+    if name[0] == b'#' {
+        return None;
     }
-    let (start, end) = word_from(line, 0);
     if find(text, above, Wanted::End).is_some() {
+        let (start, end) = first_word(line);
         return Some(Finding {
             start,
             end,
             reason: Reason::AfterEnd,
         });
     }
-    let name = &line[start..end];
-    if name.is_empty() || name[0] == b'#' {
-        return None;
+    if let Some(byte) = hidden(line, above) {
+        return Some(Finding {
+            start: byte.start,
+            end: byte.end,
+            reason: Reason::Flawed { flaw: byte.flaw },
+        });
     }
     in_heading(text, above, line, version)
 }

@@ -10,6 +10,7 @@ mod line;
 mod migration;
 mod parse;
 mod parse_row;
+mod pieces;
 mod printing;
 mod reading;
 mod reason;

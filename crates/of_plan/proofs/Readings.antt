@@ -9,7 +9,7 @@ use Rattle.of_plan.specs.Lines.{text_lines, unskipped_words, is_skipped}
 use Rattle.of_plan.proofs.Lists.{all-front, all-both}
 use Rattle.of_plan.proofs.TextLines.{NoNewline, lines_clean, lines_join_all, kept-append, kept-cons, kept-skipped}
 use Rattle.of_plan.specs.BadLine.{BeginsSomeText, HasBadLine}
-use Rattle.of_plan.specs.Reader.{Language, Reader, after_lines, SpellsLine, SpellsNoLine, ReadsLine, RefusesLine}
+use Rattle.of_plan.specs.Reader.{Language, Reader, after_lines, SpellsLine, ReadsLine, RefusesLine}
 
 -- ---- readers
 
@@ -124,13 +124,10 @@ module _ (L : Language) (R : Reader L) (start : R.Progress) (IsEnd : R.Progress 
       let first : x ≡ y = fit.same x y p.0 q.0 parts.0 in
       record { rest = h.rest; lines = ap (λ (l : L.Line). l ∷ xs) first ∙ ap (λ (ls : List L.Line). y ∷ ls) h.lines; words = h.words; range = h.range }
 
-  unread_cannot : (p : R.Progress) (ws : List (List ℕ)) → SpellsNoLine L ws → CannotFollow L R p ws
-  unread_cannot p ws h l others last range e f = h.none l range (sym e)
-
-  stopped_cannot : (p : R.Progress) (l : L.Line) (ws : List (List ℕ)) → SpellsLine L ws l → R.next p l ≡ None → CannotFollow L R p ws
-  stopped_cannot p l ws s none m others last range e f =
-      let same : m ≡ l = fit.same m l range s.range (e ∙ s.words) in
-      let stuck : after_lines L R p (m ∷ others) ≡ None = ap (λ (k : L.Line). after_lines L R p (k ∷ others)) same ∙ ap (λ (o : Option R.Progress). o >>= λ q. after_lines L R q others) none in
+  refused_cannot : (p : R.Progress) (ws : List (List ℕ)) → RefusesLine L R ws p → CannotFollow L R p ws
+  refused_cannot p ws h l others last range e f =
+      let none = h.none l range (sym e) in
+      let stuck : after_lines L R p (l ∷ others) ≡ None = ap (λ (o : Option R.Progress). o >>= λ q. after_lines L R q others) none in
       (let k = sym f ∙ stuck in cc)
 
   refuted : (p : R.Progress) (ws : List (List ℕ)) (said all : List L.Line) (more : List (List (List ℕ))) (last : R.Progress) → CannotFollow L R p ws → after_lines L R start said ≡ Some p → AllByRecursion L.InRange said → AllByRecursion L.InRange all → after_lines L R start all ≡ Some last → map L.words_of all ≡ map L.words_of said ++ ws ∷ more → ⊥
@@ -200,10 +197,7 @@ module _ (L : Language) (R : Reader L) (start : R.Progress) (IsEnd : R.Progress 
   ]
 
   pub stuck_at : (text : List ℕ) (rest : List (List ℕ)) (number : ℕ) (p : R.Progress) (l : List ℕ) (after : List (List ℕ)) → IsReading L R start text rest number p → rest ≡ l ∷ after → RefusesLine L R (text_words l) p → HasBadLine (Reads L R start IsEnd) text (number + 1)
-  stuck_at text rest number p l after r e h = elim h [
-    | inl k ↦ bad_line text rest number p l after r e k.kept (unread_cannot p (text_words l) k)
-    | inr k ↦ bad_line text rest number p l after r e k.1.kept (stopped_cannot p k.0 (text_words l) k.1 k.2)
-  ]
+  stuck_at text rest number p l after r e h = bad_line text rest number p l after r e h.kept (refused_cannot p (text_words l) h)
 
   -- ---- the end of the text
 

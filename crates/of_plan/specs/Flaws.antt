@@ -3,7 +3,7 @@ use Rattle.std.specs.Prelude.{◌≡◌, ◌⊎◌, ℕ, ◌≤◌, List, [], �
 use Rattle.of_script.specs.Text.{semicolon_byte}
 use Rattle.of_script.specs.Reading.{parsed_number}
 use Rattle.of_plan.specs.declared.parser.line.TheConstants.{GREATEST_CELL}
-use Rattle.of_plan.specs.declared.pieces.FlawedPiece.{FlawedPiece}
+use Rattle.of_plan.specs.declared.pieces.HiddenByte.{HiddenByte}
 use Rattle.of_plan.specs.declared.flaw.Flaw.{Flaw}
 use Rattle.of_plan.specs.declared.flaw.Flaw.TheVariants.{ByteOrderMark, CarriageReturn, Tab, NumberMissing, NoNumber, TooGreat, Zero, WordTooMany}
 use Rattle.of_plan.specs.Numerals.{IsNumeral}
@@ -16,23 +16,36 @@ PieceIsNumber piece n = parsed_number GREATEST_CELL piece ≡ Some n
 abbrev pub IsNoWord : List ℕ → Type 0
 IsNoWord piece = (piece ≡ []) ⊎ (piece ≡ semicolon_byte)
 
--- what a flaw says of a piece of a line with so many lines above it
-abbrev pub HasFlaw : Flaw → (above : ℕ) (piece : List ℕ) → Type 0
-HasFlaw ByteOrderMark above piece = (above ≡ 0) × (piece ≡ 239 ∷ 187 ∷ 191 ∷ [])
-HasFlaw CarriageReturn above piece = piece ≡ 13 ∷ []
-HasFlaw Tab above piece = piece ≡ 9 ∷ []
-HasFlaw NumberMissing above piece = IsNoWord piece
-HasFlaw NoNumber above piece = IsNumeral piece → ⊥
-HasFlaw (TooGreat most) above piece = IsNumeral piece × (parsed_number most piece ≡ None)
-HasFlaw Zero above piece = PieceIsNumber piece 0
-HasFlaw WordTooMany above piece = piece ≡ [] → ⊥
+-- what a flaw says of a piece
+abbrev pub HasFlaw : Flaw → (piece : List ℕ) → Type 0
+HasFlaw ByteOrderMark piece = piece ≡ 239 ∷ 187 ∷ 191 ∷ []
+HasFlaw CarriageReturn piece = piece ≡ 13 ∷ []
+HasFlaw Tab piece = piece ≡ 9 ∷ []
+HasFlaw NumberMissing piece = IsNoWord piece
+HasFlaw NoNumber piece = IsNumeral piece → ⊥
+HasFlaw (TooGreat most) piece = IsNumeral piece × (parsed_number most piece ≡ None)
+HasFlaw Zero piece = PieceIsNumber piece 0
+HasFlaw WordTooMany piece = piece ≡ [] → ⊥
 
--- a piece of a line, and a flaw that it has
-pub record IsFlawed (above : ℕ) (line : List ℕ) (p : FlawedPiece) : Type 0 where
-  pub order : p.start ≤ p.end
-  pub within : p.end ≤ length line
-  pub has : HasFlaw p.flaw above (slice_range line p.start p.end)
+-- a word that looks right has a byte that looks like nothing
+abbrev pub IsHidden : Flaw → Type 0
+IsHidden ByteOrderMark = Unit {0}
+IsHidden CarriageReturn = Unit {0}
+IsHidden Tab = Unit {0}
+IsHidden _ = ⊥
 
--- a flaw of the line, wherever the line stands
-abbrev pub IsFlawedAnywhere : (line : List ℕ) → FlawedPiece → Type 0
-IsFlawedAnywhere line p = (above : ℕ) → IsFlawed above line p
+-- the piece is no number up to the most
+abbrev pub IsNumberFlaw : Flaw → (most : ℕ) (piece : List ℕ) → Type 0
+IsNumberFlaw NumberMissing most piece = IsNoWord piece
+IsNumberFlaw NoNumber most piece = IsNumeral piece → ⊥
+IsNumberFlaw (TooGreat n) most piece =
+    (n ≡ most) × IsNumeral piece × (parsed_number most piece ≡ None)
+IsNumberFlaw _ most piece = ⊥
+
+-- a byte of a line with so many lines above it that looks like nothing
+pub record IsHiddenByte (above : ℕ) (line : List ℕ) (b : HiddenByte) : Type 0 where
+  pub order : b.start ≤ b.end
+  pub within : b.end ≤ length line
+  pub has : HasFlaw b.flaw (slice_range line b.start b.end)
+  pub hidden : IsHidden b.flaw
+  pub mark : b.flaw ≡ ByteOrderMark → above ≡ 0

@@ -4,11 +4,9 @@ use Rattle.of_store.specs.declared.store.TheConstants.{MOST_BLOCKS}
 use Rattle.of_plan.specs.declared.plan.TheConstants.{LATEST_STOP, MOST_TURNS}
 use Rattle.of_cell.specs.declared.word.TheConstants.{GREATEST_LIMIT}
 use Rattle.of_plan.specs.declared.parser.line.TheConstants.{GREATEST_CELL}
-use Rattle.std.specs.Prelude.{◌≡◌, ℕ, ◌-◌, ◌≤◌, ◌&&◌, List, [], ◌∷◌, if◌then◌else◌, codes, decimal, Option, None}
+use Rattle.std.specs.Prelude.{ℕ, ◌-◌, ◌≤◌, ◌&&◌, List, [], ◌∷◌, if◌then◌else◌, codes, Option, None}
 use Rattle.std.specs.Str.{bytes_eq}
-use Rattle.of_script.specs.declared.instr.Instr.{Instr}
 use Rattle.of_script.specs.Language.{IsScript}
-use Rattle.of_script.specs.Text.{script_words}
 use Rattle.of_script.specs.Reading.{at_end_of_words}
 use Rattle.of_plan.specs.declared.parser.line.BodyLine.TheVariants.{Script, Stop, Turns, Evict}
 use Rattle.of_plan.specs.declared.parser.line.ScriptlessLine.{ScriptlessLine}
@@ -51,15 +49,3 @@ title_line [] = None
 title_line (w ∷ []) = None
 title_line (w ∷ v ∷ ws) =
     if bytes_eq w (codes "plan") && bytes_eq v (codes "1") then at_end_of_words Title ws else None
-
--- the words after `script` are a caller's number and a script
-abbrev pub ScriptLine : List (List ℕ) → PlanLine → Type 0
-ScriptLine ws (Body (Script c script)) =
-    (ws ≡ decimal c ∷ script_words script) × (c ≤ MOST_CALLERS - 1) × IsScript script
-ScriptLine ws _ = ⊥
-
--- the words after `script` are no caller's number and script
-abbrev pub NoScriptLine : List (List ℕ) → Type 0
-NoScriptLine ws =
-    (c : ℕ) (script : List Instr) → c ≤ MOST_CALLERS - 1 → IsScript script
-    → ws ≡ decimal c ∷ script_words script → ⊥

@@ -1,5 +1,5 @@
 -- What is printed of a piece of a line.
-use Rattle.std.specs.Prelude.{ℕ, ◌+◌, ◌-◌, min, max, nat_lt, List, ◌++◌, length, map, replicate, slice_range, if◌then◌else◌, codes, decimal}
+use Rattle.std.specs.Prelude.{ℕ, ◌+◌, ◌-◌, min, max, nat_lt, nat_le, List, ◌++◌, length, map, replicate, slice_range, if◌then◌else◌, codes, decimal}
 use Rattle.of_plan.specs.declared.refusal.BadPiece.{BadPiece}
 use Rattle.of_plan.specs.Lines.{text_lines}
 use Rattle.of_plan.specs.Above.{line_at}
@@ -9,13 +9,14 @@ use Rattle.of_plan.specs.ReasonText.{reason_text}
 abbrev pub sign : ℕ → ℕ
 sign b = if nat_lt b 32 then 63 else if nat_lt 126 b then 63 else b
 
--- the first byte of a line that is shown, at most 60 before the piece
-abbrev pub first_shown_byte : ℕ → ℕ
-first_shown_byte start = start - 60
+-- the first byte that is shown: of a line of at most 100 bytes the first, and else at most 60 before
+-- the piece
+abbrev pub first_shown_byte : (size start : ℕ) → ℕ
+first_shown_byte size start = if nat_le size 100 then 0 else start - 60
 
 -- and the end of what is shown, at most 100 bytes on
 abbrev pub last : (start size : ℕ) → ℕ
-last start size = min size (first_shown_byte start + 100)
+last start size = min size (first_shown_byte size start + 100)
 
 -- how many carets there are, at least one
 abbrev pub width : (start end size : ℕ) → ℕ
@@ -26,8 +27,9 @@ abbrev pub message : (number : ℕ) (line : List ℕ) (start end : ℕ) (reason 
 message number line start end reason =
     ((((((codes "line " ++ (decimal number ++ (codes ", column " ++ (decimal (start + 1)
     ++ (codes ": " ++ (reason ++ codes "\n    "))))))
-    ++ map sign (slice_range line (first_shown_byte start) (last start (length line))))
-    ++ codes "\n    ") ++ replicate (start - first_shown_byte start) 32)
+    ++ map sign
+    (slice_range line (first_shown_byte (length line) start) (last start (length line))))
+    ++ codes "\n    ") ++ replicate (start - first_shown_byte (length line) start) 32)
     ++ replicate (width start end (length line)) 94) ++ codes "\n")
 
 -- what is printed of the bad piece of a text

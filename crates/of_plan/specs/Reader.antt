@@ -39,6 +39,8 @@ ReadsLine L R ws p q =
     ((is_skipped ws ≡ true) × (p ≡ q))
     ⊎ ((l : L.Line) × SpellsLine L ws l × (R.next p l ≡ Some q))
 
--- the words are no line, or one that may not come next
-abbrev pub RefusesLine : (L : Language) (R : Reader L) → List (List ℕ) → R.Progress → Type 0
-RefusesLine L R ws p = SpellsNoLine L ws ⊎ ((l : L.Line) × SpellsLine L ws l × (R.next p l ≡ None))
+-- the words are no line that may come next
+pub record RefusesLine (L : Language) (R : Reader L) (ws : List (List ℕ)) (p : R.Progress)
+    : Type 0 where
+  pub kept : is_skipped ws ≡ false
+  pub none : (l : L.Line) → L.InRange l → ws ≡ L.words_of l → R.next p l ≡ None

@@ -1,7 +1,7 @@
 -- The reasons in words.
 use Rattle.std.specs.Prelude.{ℕ, List, ◌++◌, codes, decimal}
 use Rattle.of_plan.specs.declared.reason.Reason.{Reason}
-use Rattle.of_plan.specs.declared.reason.Reason.TheVariants.{Flawed, TitleExpected, CallersExpected, BlocksExpected, AfterEnd, UnknownLine, UnknownInstruction, NoCaller, NoCell, InstructionMissing, TooManyInstructions, SecondStop, HeadingOver, EndMissing, NotHere}
+use Rattle.of_plan.specs.declared.reason.Reason.TheVariants.{Flawed, TitleExpected, CallersExpected, BlocksExpected, AfterEnd, UnknownLine, UnknownInstruction, NoCaller, NoCell, InstructionMissing, TooManyInstructions, TooManyScripts, TooManyTurns, StopTwice, SecondStop, HeadingOver, EndMissing}
 use Rattle.of_plan.specs.FlawText.{flaw_text}
 
 -- what is printed of a reason
@@ -21,7 +21,9 @@ reason_text (NoCell cell cells) =
     ++ codes "; the first is 0")))
 reason_text InstructionMissing = codes "an instruction is missing here"
 reason_text TooManyInstructions = codes "a script has at most 16 instructions"
+reason_text TooManyScripts = codes "a plan has at most 20000 scripts"
+reason_text TooManyTurns = codes "a plan has at most 10000000 turns in all"
+reason_text (StopTwice caller) = codes "this caller has a stop already"
 reason_text (SecondStop line) = codes "this caller has a stop already, in line " ++ decimal line
 reason_text HeadingOver = codes "this line comes once, in the heading of a plan"
 reason_text EndMissing = codes "the text ends before `end`"
-reason_text NotHere = codes "no plan goes on with this line"

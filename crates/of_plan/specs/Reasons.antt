@@ -1,90 +1,210 @@
--- When a reason is true of a line, and what a fault of a text is.
-use Rattle.std.specs.Prelude.{◌≡◌, ℕ, ◌+◌, ◌-◌, ◌≤◌, List, length, slice_range, codes, None}
+-- When a reason is true of a piece of a line, and what a fault of a text is.
+use Rattle.std.specs.Prelude.{◌≡◌, ◌⊎◌, ℕ, ◌+◌, ◌-◌, ◌≤◌, ◌<◌, true, false, is_some, List, [], ◌∷◌, ◌++◌, length, take, drop, map, slice_range, slice_index_or, if◌then◌else◌, ◌==◌, codes, decimal, Some, None}
 use Rattle.of_cell.specs.Cells.{durable_cells}
+use Rattle.of_script.specs.declared.instr.Instr.{Instr}
 use Rattle.of_script.specs.declared.instr.TheConstants.{MOST_INSTRS}
-use Rattle.of_script.specs.Text.{IsFault as IsScriptFault}
-use Rattle.of_plan.specs.declared.above.Wanted.{Wanted}
-use Rattle.of_plan.specs.declared.above.Wanted.TheVariants.{Kept, Callers, Blocks, End, Stop}
-use Rattle.of_plan.specs.declared.explaining.Finding.{Finding}
+use Rattle.of_script.specs.Text.{text_words, semicolon_byte}
+use Rattle.of_script.specs.Table.{form_named, first_most, second_most}
+use Rattle.of_plan.specs.declared.plan.TheConstants.{MOST_SCRIPTS, MOST_TURNS}
+use Rattle.of_plan.specs.declared.parser.line.LineForm.{LineForm}
+use Rattle.of_plan.specs.declared.parser.line.BodyLine.TheVariants.{Script}
+use Rattle.of_plan.specs.declared.parser.line.PlanLine.{PlanLine}
+use Rattle.of_plan.specs.declared.parser.line.PlanLine.TheVariants.{Body}
+use Rattle.of_plan.specs.declared.parser.state.Stage.{Stage}
+use Rattle.of_plan.specs.declared.parser.state.Stage.TheVariants.{Start, Named, Counted, Sized, Body as InBody, Ended}
 use Rattle.of_plan.specs.declared.refusal.BadPiece.{BadPiece}
 use Rattle.of_plan.specs.declared.reason.Reason.{Reason}
-use Rattle.of_plan.specs.declared.reason.Reason.TheVariants.{Flawed, TitleExpected, CallersExpected, BlocksExpected, AfterEnd, UnknownLine, UnknownInstruction, NoCaller, NoCell, InstructionMissing, TooManyInstructions, SecondStop, HeadingOver, EndMissing, NotHere}
+use Rattle.of_plan.specs.declared.reason.Reason.TheVariants.{Flawed, TitleExpected, CallersExpected, BlocksExpected, AfterEnd, UnknownLine, UnknownInstruction, NoCaller, NoCell, InstructionMissing, TooManyInstructions, TooManyScripts, TooManyTurns, StopTwice, SecondStop, HeadingOver, EndMissing}
+use Rattle.of_plan.specs.declared.flaw.Flaw.{Flaw}
+use Rattle.of_plan.specs.declared.flaw.Flaw.TheVariants.{NumberMissing, NoNumber, TooGreat, Zero, WordTooMany}
 use Rattle.of_plan.specs.Plan.{data_cells}
-use Rattle.of_plan.specs.Lines.{text_lines}
-use Rattle.of_plan.specs.LineTable.{line_form_named}
+use Rattle.of_plan.specs.Lines.{text_lines, unskipped_words, is_skipped, line_words}
+use Rattle.of_plan.specs.LineTable.{form_name, line_second_most, line_form_named}
+use Rattle.of_plan.specs.declared.parser.line.TheConstants.{GREATEST_CELL}
+use Rattle.of_plan.specs.Checks.{first_read}
+use Rattle.of_plan.specs.LineReading.{IsLineInRange, plan_language}
+use Rattle.of_plan.specs.Reader.{after_lines}
+use Rattle.of_plan.specs.Reading.{Reading, nothing_read, plan_reader}
 use Rattle.of_plan.specs.BadLine.{HasBadLine}
 use Rattle.of_plan.specs.Grammar.{IsPlanText}
-use Rattle.of_plan.specs.Above.{line_at, Says, NoneSays}
-use Rattle.of_plan.specs.Numerals.{mosts}
-use Rattle.of_plan.specs.Flaws.{PieceIsNumber, IsNoWord, HasFlaw}
+use Rattle.of_plan.specs.declared.above.Wanted.TheVariants.{Stop}
+use Rattle.of_plan.specs.Above.{line_at, Says}
+use Rattle.of_plan.specs.Flaws.{PieceIsNumber, IsNoWord, HasFlaw, IsHiddenByte}
+use Rattle.of_plan.specs.Pieces.{IsWholePiece}
 
--- a line above says it
-abbrev pub SaidAbove : List (List ℕ) → ℕ → Wanted → ℕ → Type 0
-SaidAbove ls above wanted number = (at : ℕ) × Says ls above wanted at number
+-- ---- what comes next after the words of a line
 
--- the caller that the piece names is none of the plan's
-pub record IsNoCaller (ls : List (List ℕ)) (above : ℕ) (piece : List ℕ) (caller callers : ℕ)
-    : Type 0 where
-  pub named : PieceIsNumber piece caller
-  pub said : SaidAbove ls above Callers callers
-  pub past : callers ≤ caller
+-- an instruction: after the caller's number of a script, and after a semicolon
+pub record WantsInstr (before : List (List ℕ)) : Type 0 where
+  pub caller : List ℕ
+  pub others : List (List ℕ)
+  pub are : before ≡ codes "script" ∷ caller ∷ others
+  pub mark : (others ≡ []) ⊎ ((front : List (List ℕ)) × (others ≡ front ++ semicolon_byte ∷ []))
 
--- the cell that the piece names is none of the plan's
-pub record IsNoCell (ls : List (List ℕ)) (above : ℕ) (piece : List ℕ) (cell cells : ℕ)
-    : Type 0 where
-  pub named : PieceIsNumber piece cell
-  pub callers : ℕ
-  pub blocks : ℕ
-  pub said_callers : SaidAbove ls above Callers callers
-  pub said_blocks : SaidAbove ls above Blocks blocks
-  pub count : cells ≡ durable_cells callers (data_cells callers blocks)
-  pub past : cells ≤ cell
+-- a number up to the most: after this name, whose two numbers have these mosts, or after its first
+-- number
+abbrev pub IsAfterName : (name : List ℕ) (first second : ℕ) (words : List (List ℕ)) (most : ℕ)
+    → Type 0
+IsAfterName name first second words most =
+    ((words ≡ name ∷ []) × (most ≡ first))
+    ⊎ ((x : ℕ) × (words ≡ name ∷ (if first == 0 then [] else decimal x ∷ [])) × (most ≡ second))
 
--- the caller that the piece names has a stop in a line above, whose number is this
-pub record HasStop (ls : List (List ℕ)) (above : ℕ) (piece : List ℕ) (line : ℕ) : Type 0 where
+-- the same after the name of an instruction
+abbrev pub IsAfterInstr : (words : List (List ℕ)) (most : ℕ) → Type 0
+IsAfterInstr words most =
+    (name : List ℕ) × (i : Instr) × (form_named name ≡ Some i)
+    × IsAfterName name (first_most i) (second_most i) words most
+
+-- a number up to the most: of a line with numbers alone, the caller of a script, or a number of an
+-- instruction
+abbrev pub WantsNumber : (before : List (List ℕ)) (most : ℕ) → Type 0
+WantsNumber before most =
+    ((form : LineForm)
+    × IsAfterName (form_name form) (first_read form) (line_second_most form) before most)
+    ⊎ (((before ≡ codes "script" ∷ []) × (most ≡ GREATEST_CELL))
+    ⊎ ((opening words : List (List ℕ)) × WantsInstr opening × (before ≡ opening ++ words)
+    × IsAfterInstr words most))
+
+-- a number from 1 on
+abbrev pub WantsCount : (before : List (List ℕ)) → Type 0
+WantsCount before =
+    (before ≡ codes "callers" ∷ [])
+    ⊎ ((before ≡ codes "limit" ∷ [])
+    ⊎ ((caller : ℕ) × (before ≡ codes "turns" ∷ decimal caller ∷ [])))
+
+-- nothing, and after a script not even a semicolon
+pub record IsBehindLine (before : List (List ℕ)) (piece : List ℕ) : Type 0 where
+  pub line : PlanLine
+  pub range : IsLineInRange line
+  pub words : before ≡ line_words line
+  pub no_mark : (caller : ℕ) (script : List Instr) → line ≡ Body (Script caller script)
+      → piece ≡ semicolon_byte → ⊥
+
+-- what comes next there is what the flaw of the piece speaks of
+abbrev pub IsPlaceOf : Flaw → (before : List (List ℕ)) (piece : List ℕ) → Type 0
+IsPlaceOf NumberMissing before piece = (most : ℕ) × WantsNumber before most
+IsPlaceOf NoNumber before piece = (most : ℕ) × WantsNumber before most
+IsPlaceOf (TooGreat most) before piece = WantsNumber before most
+IsPlaceOf Zero before piece = WantsCount before
+IsPlaceOf WordTooMany before piece = IsBehindLine before piece
+IsPlaceOf _ before piece = ⊥
+
+-- ---- reasons
+
+-- the heading is over
+abbrev pub IsBelowHeading : Stage → Type 0
+IsBelowHeading stage = (stage ≡ Sized) ⊎ (stage ≡ InBody)
+
+-- the line has one of the heading's names; a limit may come right below the heading
+abbrev pub IsHeadingWord : Stage → List ℕ → Type 0
+IsHeadingWord stage piece =
+    (piece ≡ codes "onefile")
+    ⊎ ((piece ≡ codes "callers")
+    ⊎ ((piece ≡ codes "blocks") ⊎ ((piece ≡ codes "limit") × (stage ≡ InBody))))
+
+-- the words before the piece begin the title, and it does not go on with the piece
+abbrev pub IsNoTitleWord : (before : List (List ℕ)) (piece : List ℕ) → Type 0
+IsNoTitleWord before piece =
+    ((before ≡ []) × (piece ≡ codes "onefile" → ⊥))
+    ⊎ (((before ≡ codes "onefile" ∷ []) × (piece ≡ codes "plan" → ⊥))
+    ⊎ ((before ≡ codes "onefile" ∷ codes "plan" ∷ []) × (piece ≡ codes "1" → ⊥)))
+
+-- a caller comes next
+abbrev pub WantsCaller : (before : List (List ℕ)) → Type 0
+WantsCaller before =
+    (before ≡ codes "script" ∷ [])
+    ⊎ ((before ≡ codes "stop" ∷ []) ⊎ (before ≡ codes "turns" ∷ []))
+
+-- what a reason says of a piece of a line, of the words before it, and of what the lines above lead
+-- to
+abbrev pub IsTrueOf : Reason → Reading → (before : List (List ℕ)) (piece : List ℕ) → Type 0
+IsTrueOf (Flawed flaw) p before piece = HasFlaw flaw piece × IsPlaceOf flaw before piece
+IsTrueOf TitleExpected p before piece = (p.stage ≡ Start) × IsNoTitleWord before piece
+IsTrueOf CallersExpected p before piece =
+    (p.stage ≡ Named) × (before ≡ []) × (piece ≡ codes "callers" → ⊥)
+IsTrueOf BlocksExpected p before piece =
+    (p.stage ≡ Counted) × (before ≡ []) × (piece ≡ codes "blocks" → ⊥)
+IsTrueOf AfterEnd p before piece = (p.stage ≡ Ended) × (before ≡ [])
+IsTrueOf HeadingOver p before piece =
+    IsBelowHeading p.stage × (before ≡ []) × IsHeadingWord p.stage piece
+IsTrueOf UnknownLine p before piece =
+    (before ≡ []) × (line_form_named piece ≡ None) × (piece ≡ codes "script" → ⊥)
+    × (piece ≡ codes "onefile" → ⊥)
+IsTrueOf UnknownInstruction p before piece = WantsInstr before × (form_named piece ≡ None)
+IsTrueOf InstructionMissing p before piece = WantsInstr before × IsNoWord piece
+IsTrueOf TooManyInstructions p before piece =
+    (piece ≡ semicolon_byte) × (caller : ℕ) × (script : List Instr)
+    × (length script ≡ MOST_INSTRS) × (before ≡ line_words (Body (Script caller script)))
+IsTrueOf (NoCaller caller callers) p before piece =
+    WantsCaller before × PieceIsNumber piece caller × (callers ≡ p.callers) × (callers ≤ caller)
+IsTrueOf (NoCell cell cells) p before piece =
+    (before ≡ codes "evict" ∷ []) × PieceIsNumber piece cell
+    × (cells ≡ durable_cells p.callers (data_cells p.callers p.blocks)) × (cells ≤ cell)
+IsTrueOf (StopTwice caller) p before piece =
+    (before ≡ codes "stop" ∷ []) × PieceIsNumber piece caller
+    × (is_some (slice_index_or p.stops caller None) ≡ true)
+IsTrueOf TooManyScripts p before piece =
+    (before ≡ []) × (piece ≡ codes "script") × (MOST_SCRIPTS ≤ p.count)
+IsTrueOf TooManyTurns p before piece =
+    (caller turns : ℕ) × (before ≡ codes "turns" ∷ decimal caller ∷ []) × PieceIsNumber piece turns
+    × (MOST_TURNS < p.turns + turns)
+IsTrueOf (SecondStop line) p before piece = ⊥
+IsTrueOf EndMissing p before piece = ⊥
+
+-- ---- the fault of a text
+
+-- what the first lines of a text say leads to this reading
+pub record LinesLeadTo (text : List ℕ) (count : ℕ) (p : Reading) : Type 0 where
+  pub said : List PlanLine
+  pub says : unskipped_words (take count (text_lines text)) ≡ map line_words said
+  pub leads : after_lines plan_language plan_reader nothing_read said ≡ Some p
+
+-- the text is at its end, and has no end line yet
+pub record IsUnended (text : List ℕ) (above : ℕ) : Type 0 where
+  pub last : length (text_lines text) ≡ above + 1
+  pub reading : Reading
+  pub leads : LinesLeadTo text (above + 1) reading
+  pub unended : reading.stage ≡ Ended → ⊥
+
+-- the caller has a stop already, in the line of this number
+pub record HasStop (text : List ℕ) (above : ℕ) (before : List (List ℕ)) (piece : List ℕ)
+    (number : ℕ) : Type 0 where
+  pub place : before ≡ codes "stop" ∷ []
   pub caller : ℕ
   pub named : PieceIsNumber piece caller
   pub at : ℕ
-  pub says : Says ls above (Stop caller) at caller
-  pub number : line ≡ at + 1
+  pub says : Says (text_lines text) above (Stop caller) at caller
+  pub is : number ≡ at + 1
 
--- the text is at its end, and none of its lines is an end line
-pub record HasNoEnd (ls : List (List ℕ)) (above : ℕ) : Type 0 where
-  pub last : length ls ≡ above + 1
-  pub none : NoneSays ls (above + 1) End
+-- what a reason says of a piece of a text with so many lines above it
+abbrev pub IsTrueIn : Reason → (text : List ℕ) (above : ℕ) (before : List (List ℕ))
+    (piece : List ℕ) → Type 0
+IsTrueIn EndMissing text above before piece = IsUnended text above × (piece ≡ [])
+IsTrueIn (SecondStop number) text above before piece = HasStop text above before piece number
+IsTrueIn reason text above before piece =
+    (p : Reading) × LinesLeadTo text above p × IsTrueOf reason p before piece
 
--- what a reason says of a line of a text, of the lines above it, and of the piece at fault
-abbrev pub IsTrueOf : Reason → (ls : List (List ℕ)) (above : ℕ) (piece : List ℕ) → Type 0
-IsTrueOf (Flawed flaw) ls above piece = HasFlaw flaw above piece
-IsTrueOf TitleExpected ls above piece = NoneSays ls above Kept
-IsTrueOf CallersExpected ls above piece = NoneSays ls above Callers × (piece ≡ codes "callers" → ⊥)
-IsTrueOf BlocksExpected ls above piece = NoneSays ls above Blocks × (piece ≡ codes "blocks" → ⊥)
-IsTrueOf AfterEnd ls above piece = (number : ℕ) × SaidAbove ls above End number
-IsTrueOf UnknownLine ls above piece = line_form_named piece ≡ None
-IsTrueOf UnknownInstruction ls above piece = mosts piece ≡ None
-IsTrueOf (NoCaller caller callers) ls above piece = IsNoCaller ls above piece caller callers
-IsTrueOf (NoCell cell cells) ls above piece = IsNoCell ls above piece cell cells
-IsTrueOf InstructionMissing ls above piece = IsNoWord piece
-IsTrueOf TooManyInstructions ls above piece = IsScriptFault piece MOST_INSTRS
-IsTrueOf (SecondStop line) ls above piece = HasStop ls above piece line
-IsTrueOf HeadingOver ls above piece = (number : ℕ) × SaidAbove ls above Blocks number
-IsTrueOf EndMissing ls above piece = HasNoEnd ls above
-IsTrueOf NotHere ls above piece = Unit {0}
+-- the piece is a whole word, or the end of the line
+pub record IsWordFault (text : List ℕ) (f : BadPiece) : Type 0 where
+  pub before : List (List ℕ)
+  pub whole :
+      let line = line_at (text_lines text) (f.line - 1) in
+      IsWholePiece (text_words line) before (slice_range line f.start f.end) (drop f.end line)
+  pub is :
+      let line = line_at (text_lines text) (f.line - 1) in
+      IsTrueIn f.reason text (f.line - 1) before (slice_range line f.start f.end)
 
--- a piece of a line, and a reason that is true of it
-pub record IsFinding (ls : List (List ℕ)) (above : ℕ) (line : List ℕ) (f : Finding) : Type 0 where
-  pub order : f.start ≤ f.end
-  pub within : f.end ≤ length line
-  pub is : IsTrueOf f.reason ls above (slice_range line f.start f.end)
-
--- a finding of the line, whatever its text is and wherever the line stands in it
-abbrev pub IsFindingAnywhere : (line : List ℕ) → Finding → Type 0
-IsFindingAnywhere line f = (ls : List (List ℕ)) (above : ℕ) → IsFinding ls above line f
+-- the piece is a byte that looks like nothing, in a line that isn't skipped
+pub record IsHiddenFault (text : List ℕ) (f : BadPiece) : Type 0 where
+  pub flaw : Flaw
+  pub reason : f.reason ≡ Flawed flaw
+  pub kept : is_skipped (text_words (line_at (text_lines text) (f.line - 1))) ≡ false
+  pub is : IsHiddenByte (f.line - 1) (line_at (text_lines text) (f.line - 1))
+      (record { start = f.start; end = f.end; flaw = flaw })
 
 -- the bad line of a text, the piece of it at fault, and a reason that is true of it
 pub record IsFaultOf (text : List ℕ) (f : BadPiece) : Type 0 where
   pub bad : HasBadLine IsPlanText text f.line
   pub order : f.start ≤ f.end
   pub within : f.end ≤ length (line_at (text_lines text) (f.line - 1))
-  pub is : IsTrueOf f.reason (text_lines text) (f.line - 1)
-      (slice_range (line_at (text_lines text) (f.line - 1)) f.start f.end)
+  pub is : IsWordFault text f ⊎ IsHiddenFault text f

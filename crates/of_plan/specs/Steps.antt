@@ -1,14 +1,11 @@
 -- What a step of the reading has done, as the contracts of the code say it: a call that was handed
--- an entry, a line or the words of a line says whether it took it.
-use Rattle.std.specs.Prelude.{◌≡◌, Bool, ℕ, List, None, if◌then◌else◌}
-use Rattle.std.specs.Bool.{MatchBool}
+-- an entry or a line says whether it took it.
+use Rattle.std.specs.Prelude.{◌≡◌, Bool, None, if◌then◌else◌}
 use Rattle.of_plan.specs.declared.parser.line.BodyLine.{BodyLine}
 use Rattle.of_plan.specs.declared.parser.line.PlanLine.{PlanLine}
 use Rattle.of_plan.specs.declared.parser.line.PlanLine.TheVariants.{Body}
 use Rattle.of_plan.specs.declared.parser.state.Reading.{Reading}
-use Rattle.of_plan.specs.LineReading.{plan_language}
-use Rattle.of_plan.specs.Reader.{ReadsLine, RefusesLine}
-use Rattle.of_plan.specs.Reading.{reading_value, with_entry, after_line, TakesEntry, TakesLine, ReadsScriptLine, RefusesScriptLine, plan_reader}
+use Rattle.of_plan.specs.Reading.{reading_value, with_entry, after_line, TakesEntry, TakesLine}
 
 -- the entry was taken, or may not come next
 abbrev pub HasTakenEntry : (old : Reading) → BodyLine → (new : Reading) → (taken : Bool) → Type 0
@@ -23,15 +20,3 @@ MayTakeEntries old new may =
 -- the line was taken, or may not come next
 abbrev pub HasTakenLine : (old : Reading) → PlanLine → (new : Reading) → (taken : Bool) → Type 0
 HasTakenLine old l new taken = TakesLine (reading_value old) l taken (reading_value new)
-
--- the words after `script` were read as a script line and taken, or are refused
-abbrev pub HasFedScript : List (List ℕ) → (old new : Reading) → (taken : Bool) → Type 0
-HasFedScript ws old new taken =
-    MatchBool taken (ReadsScriptLine ws (reading_value old) (reading_value new))
-    (RefusesScriptLine ws (reading_value old))
-
--- the words were skipped, or read as a line and taken, or are refused
-abbrev pub HasFed : List (List ℕ) → (old new : Reading) → (taken : Bool) → Type 0
-HasFed ws old new taken =
-    MatchBool taken (ReadsLine plan_language plan_reader ws (reading_value old) (reading_value new))
-    (RefusesLine plan_language plan_reader ws (reading_value old))

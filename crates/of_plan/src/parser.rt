@@ -2,11 +2,13 @@
 
 ghost use Rattle.std.specs.Prelude.{◌≡◌, IfOk, IfErr, MatchResult};
 ghost use Rattle.of_plan.specs.Grammar.{SpellsPlan};
-ghost use Rattle.of_plan.specs.Parsed.{PlanIsRefused};
+ghost use Rattle.of_plan.specs.Parsed.{PlanIsRefused, HasFault};
 ghost use Rattle.of_plan.specs.Plan.{Plan};
 ghost use Rattle.of_plan.specs.declared.parser.PlanErr.TheVariants.{Memory};
+ghost use Rattle.of_plan.specs.declared.parser.Refusal.TheVariants.{Memory as Unread};
 
 use crate::plan::Plan;
+use crate::refusal::{BadPiece, at_end, in_text};
 use of_cell::GREATEST_LIMIT;
 use of_script::text::cut;
 use state::{Reading, Stage};
@@ -14,6 +16,8 @@ use std::alloc::{AllocError, Global};
 use std::error::Error;
 use std::fmt;
 
+pub(crate) mod check;
+pub(crate) mod feed;
 pub(crate) mod line;
 pub(crate) mod state;
 pub(crate) mod step;
@@ -54,6 +58,60 @@ impl From<AllocError> for PlanErr {
     }
 }
 
+/// Why a text is answered with no plan.
+#[derive(Clone, Copy, Debug, PartialEq, Eq)]
+pub enum Refusal {
+    /// Memory ran out.
+    Memory,
+    /// The text isn't in the grammar, and this is at fault.
+    Bad { piece: BadPiece },
+}
+
+impl From<AllocError> for Refusal {
+    ghost use Rattle.std.specs.Prelude.{◌≡◌};
+    ghost use Rattle.of_plan.specs.declared.parser.Refusal.TheVariants.{Memory as NoMemory};
+
+    ghost from_gives = { λ _ e. e ≡ NoMemory };
+
+    fn from(_e: AllocError) -> Refusal {
+        Refusal::Memory
+    }
+}
+
+/// The plan that a text spells, or the piece of it at fault.
+pub fn read(alloc: Global, text: &[u8]) -> Result<Plan, Refusal>
+    // What is read is spelled so.
+    ensures ok { IfOk result (SpellsPlan text.now) }
+    // The piece is of the bad line, the reason is true of it, and no plan is spelled.
+    ensures bad { IfErr result (HasFault text.now) }
+    // A text of the grammar is answered by its plan, unless memory runs out.
+    ensures only { (plan : Plan) → SpellsPlan text.now plan
+        → MatchResult result (λ p. p ≡ plan) (λ e. e ≡ Unread) }
+{
+    let mut reading = Reading::new(alloc, text.len());
+    let mut number: u64 = 0;
+    let mut rest = text;
+    loop {
+        let (line, after) = cut(rest, b'\n');
+        number += 1;
+        if let Some(bad) = reading.feed(alloc, line)? {
+            let piece = in_text(text, number, line, bad);
+            return Err(Refusal::Bad { piece });
+        }
+        match after {
+            Some(more) => rest = more,
+            None => {
+                return match reading.stage {
+                    Stage::Ended => Ok(Plan::from_reading(reading)),
+                    _ => Err(Refusal::Bad {
+                        piece: at_end(text, number, line),
+                    }),
+                };
+            }
+        }
+    }
+}
+
 /// The plan that a text spells.
 pub fn parse(alloc: Global, text: &[u8]) -> Result<Plan, PlanErr>
     // What is read is spelled so.
@@ -64,23 +122,9 @@ pub fn parse(alloc: Global, text: &[u8]) -> Result<Plan, PlanErr>
     ensures only { (plan : Plan) → SpellsPlan text.now plan
         → MatchResult result (λ p. p ≡ plan) (λ e. e ≡ Memory) }
 {
-    let mut reading = Reading::new(alloc, text.len());
-    let mut number: u64 = 0;
-    let mut rest = text;
-    loop {
-        let (first, after) = cut(rest, b'\n');
-        number += 1;
-        if !reading.feed(alloc, first)? {
-            return Err(PlanErr::Bad { line: number });
-        }
-        match after {
-            Some(more) => rest = more,
-            None => {
-                return match reading.stage {
-                    Stage::Ended => Ok(Plan::from_reading(reading)),
-                    _ => Err(PlanErr::Bad { line: number }),
-                };
-            }
-        }
+    match read(alloc, text) {
+        Ok(plan) => Ok(plan),
+        Err(Refusal::Memory) => Err(PlanErr::Memory),
+        Err(Refusal::Bad { piece }) => Err(PlanErr::Bad { line: piece.line }),
     }
 }

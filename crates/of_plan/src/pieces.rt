@@ -1,198 +1,148 @@
-//! Pieces of a line, and what is wrong with one by itself: a byte that looks like nothing, a word
-//! that should be a number, a word too many.
+//! Pieces of a line at fault: a word that should be a number, a word too many, a byte that looks
+//! like nothing.
 
-ghost use Rattle.std.specs.Prelude.{◌≡◌, ◌≤◌, ℕ, length, IsTrue, IfSome, MatchResult, slice_range};
-ghost use Rattle.of_plan.specs.Flaws.{HasFlaw, IsFlawed, IsFlawedAnywhere, IsNoWord};
+ghost use Rattle.std.specs.Prelude.{◌≡◌, ◌≤◌, ℕ, length, List, [], ◌∷◌, IfOk, IfSome, IfErr, MatchOption, None, Some};
+ghost use Rattle.of_script.specs.Text.{text_words, EndsWith};
+ghost use Rattle.of_script.specs.Reading.{next_number as number_after, slot_and_rest};
+ghost use Rattle.of_plan.specs.Flaws.{IsNumberFlaw, IsHiddenByte};
+ghost use Rattle.of_plan.specs.Pieces.{first_word, IsNextWord};
 
 use crate::flaw::Flaw;
 use crate::numerals::is_numeral;
-use crate::parser::line::GREATEST_CELL;
-use of_script::text::number;
+use of_script::text::{next_number, word};
 
-/// A piece of a line, from the byte `start` to before `end`, and what is wrong with it.
+/// A piece of a line: how many bytes it has, and how many of the line are left behind it.
+#[derive(Clone, Copy, Debug, PartialEq, Eq)]
+pub struct Piece {
+    pub size: usize,
+    pub left: usize,
+}
+
+/// A piece of a line, and what is wrong with it.
 #[derive(Clone, Copy, Debug, PartialEq, Eq)]
 pub struct FlawedPiece {
+    pub piece: Piece,
+    pub flaw: Flaw,
+}
+
+/// The word that comes next; the end of the line where none comes.
+pub fn next_word(bytes: &[u8]) -> Piece
+    ensures { IsNextWord bytes.now result }
+{
+    match word(bytes) {
+        None => Piece { size: 0, left: 0 },
+        Some((first, rest)) => Piece {
+            size: first.len(),
+            left: rest.len(),
+        },
+    }
+}
+
+/// Why the word that comes next is no number up to the most.
+pub fn number_flaw(bytes: &[u8], most: u32) -> Flaw
+    requires { number_after most (text_words bytes.now) ≡ None }
+    ensures { IsNumberFlaw result most (first_word (text_words bytes.now)) }
+{
+    let Some((first, _)) = word(bytes) else {
+        return Flaw::NumberMissing;
+    };
+    if first == b";".as_slice() {
+        return Flaw::NumberMissing;
+    }
+    if !is_numeral(first) {
+        return Flaw::NoNumber;
+    }
+    Flaw::TooGreat { most }
+}
+
+/// The number that comes next and the bytes after it, or why there is none up to the most. A most
+/// of 0 wants no number, and reads none.
+pub fn read_slot(bytes: &[u8], most: u32) -> Result<(u32, &[u8]), FlawedPiece>
+    ensures ok { IfOk result
+        (λ x. slot_and_rest most (text_words bytes.now) ≡ Some (x.0, text_words x.1.now)) }
+    ensures small { IfOk result (λ x. x.0 ≤ most) }
+    ensures rest { IfOk result (λ x. EndsWith bytes.now x.1.now) }
+    ensures err { IfErr result (λ f. slot_and_rest most (text_words bytes.now) ≡ None) }
+    ensures piece { IfErr result (λ f. IsNextWord bytes.now f.piece) }
+    ensures flaw { IfErr result
+        (λ f. IsNumberFlaw f.flaw most (first_word (text_words bytes.now))) }
+{
+    if most == 0 {
+        return Ok((0, bytes));
+    }
+    match next_number(bytes, most) {
+        Some(read) => Ok(read),
+        None => Err(FlawedPiece {
+            piece: next_word(bytes),
+            flaw: number_flaw(bytes, most),
+        }),
+    }
+}
+
+/// The bytes after the word that is wanted next, or the word that comes in its place.
+pub fn read_word<'a>(bytes: &'a [u8], wanted: &[u8]) -> Result<&'a [u8], Piece>
+    ensures ok { IfOk result
+        (λ rest. text_words bytes.now ≡ wanted.now ∷ text_words rest.now) }
+    ensures rest { IfOk result (λ rest. EndsWith bytes.now rest.now) }
+    ensures err { IfErr result (λ piece. (others : List (List ℕ)) →
+        text_words bytes.now ≡ wanted.now ∷ others → ⊥) }
+    ensures piece { IfErr result (IsNextWord bytes.now) }
+{
+    let Some((first, rest)) = word(bytes) else {
+        return Err(next_word(bytes));
+    };
+    if first == wanted {
+        return Ok(rest);
+    }
+    Err(next_word(bytes))
+}
+
+/// The word that comes where the line should end.
+pub fn word_too_many(bytes: &[u8]) -> Option<Piece>
+    ensures { MatchOption result (text_words bytes.now ≡ [])
+        (λ piece. IsNextWord bytes.now piece × (first_word (text_words bytes.now) ≡ [] → ⊥)) }
+{
+    match word(bytes) {
+        None => None,
+        Some(_) => Some(next_word(bytes)),
+    }
+}
+
+/// A byte of a line that looks like nothing.
+#[derive(Clone, Copy, Debug, PartialEq, Eq)]
+pub struct HiddenByte {
     pub start: usize,
     pub end: usize,
     pub flaw: Flaw,
 }
 
-// The first place from there on that has no space.
-fn past_spaces(line: &[u8], from: usize) -> usize
-    requires { from ≤ length line.now }
-    ensures from { from ≤ result }
-    ensures within { result ≤ length line.now }
-{
-    let mut at = from;
-    while at < line.len() && line[at] == b' ' {
-        at += 1;
-    }
-    at
-}
-
-// The first place from there on that has a space or a semicolon.
-fn past_word(line: &[u8], from: usize) -> usize
-    requires { from ≤ length line.now }
-    ensures from { from ≤ result }
-    ensures within { result ≤ length line.now }
-{
-    let mut at = from;
-    while at < line.len() && line[at] != b' ' && line[at] != b';' {
-        at += 1;
-    }
-    at
-}
-
-/// The word that comes next: where it starts and where it ends. A semicolon is a word. Without a
-/// word both are the end of the line.
-pub fn word_from(line: &[u8], from: usize) -> (usize, usize)
-    requires { from ≤ length line.now }
-    ensures from { from ≤ result.0 }
-    ensures order { result.0 ≤ result.1 }
-    ensures within { result.1 ≤ length line.now }
-{
-    let start = past_spaces(line, from);
-    if start < line.len() && line[start] == b';' {
-        return (start, start + 1);
-    }
-    (start, past_word(line, start))
-}
-
-// Whether a piece is nothing, or a semicolon.
-pub(crate) fn is_no_word(piece: &[u8]) -> bool
-    ensures { IsTrue result → IsNoWord piece.now }
-{
-    if piece.is_empty() {
-        return true;
-    }
-    piece == b";".as_slice()
-}
-
-/// A byte that looks like nothing: a byte order mark at the start of the text, a carriage return at
-/// the end of the line, a tab.
-pub fn hidden(line: &[u8], above: u64) -> Option<FlawedPiece>
-    ensures { IfSome result (IsFlawed above line.now) }
+/// The first byte that looks like nothing: a byte order mark at the start of the text, a tab, a
+/// carriage return at the end of the line.
+pub fn hidden(line: &[u8], above: u64) -> Option<HiddenByte>
+    ensures { IfSome result (IsHiddenByte above line.now) }
 {
     if above == 0 && line.len() >= 3 && &line[0..3] == [239, 187, 191].as_slice() {
-        return Some(FlawedPiece {
+        return Some(HiddenByte {
             start: 0,
             end: 3,
             flaw: Flaw::ByteOrderMark,
         });
     }
-    if !line.is_empty() && line[line.len() - 1] == b'\r' {
-        return Some(FlawedPiece {
-            start: line.len() - 1,
-            end: line.len(),
-            flaw: Flaw::CarriageReturn,
-        });
-    }
     for at in 0..line.len() {
         if line[at] == b'\t' {
-            return Some(FlawedPiece {
+            return Some(HiddenByte {
                 start: at,
                 end: at + 1,
                 flaw: Flaw::Tab,
             });
         }
     }
+    if !line.is_empty() && line[line.len() - 1] == b'\r' {
+        return Some(HiddenByte {
+            start: line.len() - 1,
+            end: line.len(),
+            flaw: Flaw::CarriageReturn,
+        });
+    }
     None
-}
-
-/// A word where the line should end.
-pub fn word_too_many(line: &[u8], from: usize) -> Option<FlawedPiece>
-    requires { from ≤ length line.now }
-    ensures { IfSome result (IsFlawedAnywhere line.now) }
-{
-    let (start, end) = word_from(line, from);
-    if line[start..end].is_empty() {
-        return None;
-    }
-    Some(FlawedPiece {
-        start,
-        end,
-        flaw: Flaw::WordTooMany,
-    })
-}
-
-/// A number that is 0.
-pub fn zero(line: &[u8], from: usize) -> Option<FlawedPiece>
-    requires { from ≤ length line.now }
-    ensures { IfSome result (IsFlawedAnywhere line.now) }
-{
-    let (start, end) = word_from(line, from);
-    let found = number(&line[start..end], GREATEST_CELL)?;
-    if found != 0 {
-        return None;
-    }
-    Some(FlawedPiece {
-        start,
-        end,
-        flaw: Flaw::Zero,
-    })
-}
-
-// Why a piece is no number up to the most.
-fn number_flaw(piece: &[u8], most: u32) -> Option<Flaw>
-    ensures { IfSome result (λ f. (above : ℕ) → HasFlaw f above piece.now) }
-{
-    if is_no_word(piece) {
-        return Some(Flaw::NumberMissing);
-    }
-    if !is_numeral(piece) {
-        return Some(Flaw::NoNumber);
-    }
-    match number(piece, most) {
-        None => Some(Flaw::TooGreat { most }),
-        Some(_) => None,
-    }
-}
-
-// Where the number that comes next ends, or why there is none up to the most. A most of 0 wants no
-// number.
-fn past_number(line: &[u8], from: usize, most: u32) -> Result<usize, FlawedPiece>
-    requires { from ≤ length line.now }
-    ensures { MatchResult result (λ end. end ≤ length line.now) (IsFlawedAnywhere line.now) }
-{
-    if most == 0 {
-        return Ok(from);
-    }
-    let (start, end) = word_from(line, from);
-    match number_flaw(&line[start..end], most) {
-        Some(flaw) => Err(FlawedPiece { start, end, flaw }),
-        None => Ok(end),
-    }
-}
-
-/// Where two numbers end that come next, or why they are not there. A most of 0 wants no number.
-pub fn past_numbers(line: &[u8], from: usize, first: u32, second: u32) -> Result<usize, FlawedPiece>
-    requires { from ≤ length line.now }
-    ensures { MatchResult result (λ end. end ≤ length line.now) (IsFlawedAnywhere line.now) }
-{
-    match past_number(line, from, first) {
-        Ok(at) => past_number(line, at, second),
-        Err(flawed) => Err(flawed),
-    }
-}
-
-/// Why a line that should end after these two numbers doesn't.
-pub fn no_numbers(line: &[u8], from: usize, first: u32, second: u32) -> Option<FlawedPiece>
-    requires { from ≤ length line.now }
-    ensures { IfSome result (IsFlawedAnywhere line.now) }
-{
-    match past_numbers(line, from, first, second) {
-        Ok(at) => word_too_many(line, at),
-        Err(flawed) => Some(flawed),
-    }
-}
-
-/// Why a line that should end after a number from 1 to the most doesn't.
-pub fn no_count(line: &[u8], from: usize, most: u32) -> Option<FlawedPiece>
-    requires { from ≤ length line.now }
-    ensures { IfSome result (IsFlawedAnywhere line.now) }
-{
-    match no_numbers(line, from, most, 0) {
-        Some(flawed) => Some(flawed),
-        None => zero(line, from),
-    }
 }

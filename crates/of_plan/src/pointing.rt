@@ -40,6 +40,17 @@ fn put_times(out: &mut Vec<u8>, byte: u8, times: usize) -> Result<(), AllocError
     Ok(())
 }
 
+// The first byte that is shown of a line with so many bytes.
+fn first_shown(bytes: usize, start: usize) -> usize
+    ensures value { result ≡ pointed.first_shown_byte bytes start }
+    ensures upto { result ≤ start }
+{
+    if bytes <= SHOWN {
+        return 0;
+    }
+    start.saturating_sub(BEFORE)
+}
+
 /// What is printed of a piece of a line, from the byte `start` to before `end`: the line's number,
 /// the column and the reason, the line, and carets below the piece. Of a long line only what is
 /// near the piece is shown. The error is want of memory.
@@ -56,7 +67,7 @@ pub fn point_out(
     ensures { IfOk result
         (λ out. out.items ≡ pointed.message number line.now start end reason.now) }
 {
-    let first = start.saturating_sub(BEFORE);
+    let first = first_shown(line.len(), start);
     let last = line.len().min(first + SHOWN);
     let width = end.min(last).saturating_sub(start).max(1);
     let column = start as u64 + 1;

@@ -29,14 +29,18 @@ pub enum Reason {
     InstructionMissing,
     /// The script has more instructions than a script may have.
     TooManyInstructions,
+    /// The plan has as many scripts already as a plan may have.
+    TooManyScripts,
+    /// With these the plan has more turns than a plan may have.
+    TooManyTurns,
+    /// The caller has a stop already.
+    StopTwice { caller: u32 },
     /// The caller has a stop already, in that line.
     SecondStop { line: u64 },
     /// A line of the heading, after the heading.
     HeadingOver,
     /// The text is at its end, and no line of it is `end`.
     EndMissing,
-    /// None of the others.
-    NotHere,
 }
 
 impl fmt::Display for Reason {
@@ -69,12 +73,14 @@ impl fmt::Display for Reason {
             }
             Reason::InstructionMissing => f.write_str("an instruction is missing here"),
             Reason::TooManyInstructions => f.write_str("a script has at most 16 instructions"),
+            Reason::TooManyScripts => f.write_str("a plan has at most 20000 scripts"),
+            Reason::TooManyTurns => f.write_str("a plan has at most 10000000 turns in all"),
+            Reason::StopTwice { .. } => f.write_str("this caller has a stop already"),
             Reason::SecondStop { line } => {
                 write!(f, "this caller has a stop already, in line {line}")
             }
             Reason::HeadingOver => f.write_str("this line comes once, in the heading of a plan"),
             Reason::EndMissing => f.write_str("the text ends before `end`"),
-            Reason::NotHere => f.write_str("no plan goes on with this line"),
         }
     }
 }

@@ -1,16 +1,13 @@
 //! One line of a plan.
 
 ghost use Rattle.std.specs.Prelude.{◌≡◌};
-ghost use Rattle.std.specs.Option.{option_map};
-ghost use Rattle.of_script.specs.Text.{text_words};
-ghost use Rattle.of_script.specs.Reading.{at_end_of_words};
-ghost use Rattle.of_plan.specs.LineReading.{line_of_scriptless, title_line};
+ghost use Rattle.of_plan.specs.LineReading.{line_of_scriptless};
 ghost use Rattle.of_plan.specs.LineTable as table;
+ghost use Rattle.of_plan.specs.Checks as checks;
 
 use crate::plan::{LATEST_STOP, MOST_TURNS};
 use of_cell::{GREATEST_LIMIT, MOST_CALLERS};
 use of_script::Script;
-use of_script::text::{slot, word};
 use of_store::MOST_BLOCKS;
 
 // The greatest number of a cell that a line may name, whatever the plan.
@@ -47,17 +44,6 @@ pub(crate) enum ScriptlessLine {
     Turns { caller: u32, count: u32 },
     Evict { cell: u32 },
     End,
-}
-
-// The line, where no word is left.
-fn end_of(line: ScriptlessLine, bytes: &[u8]) -> Option<ScriptlessLine>
-    ensures { option_map line_of_scriptless result
-        ≡ at_end_of_words (line_of_scriptless line) (text_words bytes.now) }
-{
-    match word(bytes) {
-        None => Some(line),
-        Some(_) => None,
-    }
 }
 
 // What a line with numbers alone says, without its numbers.
@@ -119,7 +105,7 @@ pub(crate) fn form_named(name: &[u8]) -> Option<LineForm>
 }
 
 // The most that its first number can be, and 0 where it has none.
-pub(crate) fn first_most(form: LineForm) -> u32
+fn first_most(form: LineForm) -> u32
     ensures { result ≡ table.line_first_most form }
 {
     match form {
@@ -129,6 +115,17 @@ pub(crate) fn first_most(form: LineForm) -> u32
         LineForm::Stop | LineForm::Turns => MOST_CALLERS - 1,
         LineForm::Evict => GREATEST_CELL,
         LineForm::End => 0,
+    }
+}
+
+// The most up to which its first number is read. That of a caller is read whatever callers the plan
+// has, so that it can be said that it has no such caller.
+pub(crate) fn first_read(form: LineForm) -> u32
+    ensures { result ≡ checks.first_read form }
+{
+    match form {
+        LineForm::Stop | LineForm::Turns => GREATEST_CELL,
+        _ => first_most(form),
     }
 }
 
@@ -142,7 +139,7 @@ pub(crate) fn second_most(form: LineForm) -> u32
     }
 }
 
-fn with_numbers(form: LineForm, first: u32, second: u32) -> ScriptlessLine
+pub(crate) fn with_numbers(form: LineForm, first: u32, second: u32) -> ScriptlessLine
     ensures { line_of_scriptless result ≡ table.line_with_numbers form first second }
 {
     match form {
@@ -160,38 +157,4 @@ fn with_numbers(form: LineForm, first: u32, second: u32) -> ScriptlessLine
         LineForm::Evict => ScriptlessLine::Evict { cell: first },
         LineForm::End => ScriptlessLine::End,
     }
-}
-
-fn title(bytes: &[u8]) -> Option<ScriptlessLine>
-    ensures { option_map line_of_scriptless result ≡ title_line (text_words bytes.now) }
-{
-    let (first, rest) = word(bytes)?;
-    let (second, rest) = word(rest)?;
-    if first == b"plan".as_slice() && second == b"1".as_slice() {
-        return end_of(ScriptlessLine::Title, rest);
-    }
-    None
-}
-
-// A line by the table.
-fn line_of_form(name: &[u8], rest: &[u8]) -> Option<ScriptlessLine>
-    ensures { option_map line_of_scriptless result
-        ≡ table.line_of_form name.now (text_words rest.now) }
-{
-    let form = form_named(name)?;
-    let (first, rest) = slot(rest, first_most(form))?;
-    let (second, rest) = slot(rest, second_most(form))?;
-    end_of(with_numbers(form, first, second), rest)
-}
-
-// A line without a script, by its first word and what stands behind it.
-#[tactic(auto, unfolding(crate::specs::LineTable::line_without_script))]
-pub(crate) fn read_scriptless(name: &[u8], rest: &[u8]) -> Option<ScriptlessLine>
-    ensures { option_map line_of_scriptless result
-        ≡ table.line_without_script name.now (text_words rest.now) }
-{
-    if name == b"onefile".as_slice() {
-        return title(rest);
-    }
-    line_of_form(name, rest)
 }

@@ -1,23 +1,27 @@
-use Rattle.std.proofs.Common.{inl, Some, None, List, ℕ, sym, subst}
-use Rattle.of_plan.specs.Reader.{SpellsLine, SpellsNoLine}
-use Rattle.of_plan.specs.LineReading.{plan_language, line_of_scriptless}
-use Rattle.of_plan.proofs.LineLaws.{plain_is}
-use Rattle.of_plan.proofs.LinesLead.{fed_plain}
+use Rattle.std.proofs.Common.{ℕ, List, ◌∷◌, sym, ap, ◌∙◌}
+use Rattle.of_script.specs.Text.{text_words}
+use Rattle.of_script.proofs.Words.{ends_behind}
+use Rattle.of_plan.specs.Reading.{reading_value}
+use Rattle.of_plan.proofs.LineLaws.{named_is}
+use Rattle.of_plan.proofs.UnknownLines.{differs, unknown_fed}
 use Rattle.of_plan.proofs.parser.state.Reading.feed.Goals as goal
 
--- the line that was read is the one that the words spell
-pub take-requires : goal.take-requires
-take-requires c =
-    (plain_is (Some (line_of_scriptless c.in-Some-read_scriptless.line)) _ _ _ _ c.in-Some-read_scriptless.ensures c.if-first-eq35.false c.as_slice.ensures c.eq.ensures c.if-eq.false).range
+pub feed_script-requires-then-eq-clause-rest : goal.feed_script-requires-then-eq-clause-rest
+feed_script-requires-then-eq-clause-rest c = ends_behind _ _ _ c.in-Some-word.ensures.parts
 
-pub returns-in-Some-read_scriptless : goal.returns-in-Some-read_scriptless
-returns-in-Some-read_scriptless c =
-    fed_plain c.take.result _ (line_of_scriptless c.in-Some-read_scriptless.line) _ _
-    (subst (λ (ws : List (List ℕ)). SpellsLine plan_language ws (line_of_scriptless c.in-Some-read_scriptless.line)) (sym c.in-Some-word.ensures.words)
-    (plain_is (Some (line_of_scriptless c.in-Some-read_scriptless.line)) _ _ _ _ c.in-Some-read_scriptless.ensures c.if-first-eq35.false c.as_slice.ensures c.eq.ensures c.if-eq.false))
-    c.take.ensures
+pub feed_title-requires-clause-rest : goal.feed_title-requires-clause-rest
+feed_title-requires-clause-rest c = ends_behind _ _ _ c.in-Some-word.ensures.parts
+
+pub feed_numbers-requires-clause-rest : goal.feed_numbers-requires-clause-rest
+feed_numbers-requires-clause-rest c = ends_behind _ _ _ c.in-Some-word.ensures.parts
+
+pub feed_numbers-requires-clause-words : goal.feed_numbers-requires-clause-words
+feed_numbers-requires-clause-words c =
+    c.in-Some-word.ensures.words ∙ ap (λ (w : List ℕ). w ∷ text_words c.in-Some-word.rest.now) (named_is c.in-Some-word.first.now c.in-Some-form_named.form (sym c.in-Some-form_named.ensures))
 
 pub returns-in-None : goal.returns-in-None
-returns-in-None c = inl
-    (subst (SpellsNoLine plan_language) (sym c.in-Some-word.ensures.words)
-    (plain_is None _ _ _ _ c.in-None.ensures c.if-first-eq35.false c.as_slice.ensures c.eq.ensures c.if-eq.false))
+returns-in-None c =
+    unknown_fed (reading_value c.args.self.now) c.args.line.now c.in-Some-word.first.now (text_words c.in-Some-word.rest.now) _ _ c.in-Some-word.ensures.words c.if-first-eq35.false (sym c.in-None.ensures)
+    (differs c.eq.result c.in-Some-word.first.now c.as_slice.result.now _ c.as_slice.ensures c.eq.ensures c.if-eq.false)
+    (differs c.eq-2.result c.in-Some-word.first.now c.as_slice-2.result.now _ c.as_slice-2.ensures c.eq-2.ensures c.if-eq-2.false)
+    c.bad_word.ensures.piece (c.bad_word.ensures.reason ∙ c.place_reason-reason.ensures)
