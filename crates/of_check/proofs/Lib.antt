@@ -1,4 +1,4 @@
-pub mod Steps
+pub mod Lines
 pub mod Own
 pub mod Following
 pub mod Unique

@@ -1,34 +1,33 @@
-//! The first thing that is wrong with a text that is no legal report.
+//! Judging a text: it is that of a legal report, or its first line that is wrong.
 
-ghost use Rattle.std.specs.Prelude.{◌≡◌, ◌↔◌, ◌<◌, ℕ, IsTrue, length, IfOk, MatchOption};
-ghost use Rattle.of_plan.specs.Plan.{scripts_of};
-ghost use Rattle.of_plan.specs.Lines.{text_lines as lines_of};
+ghost use Rattle.std.specs.Prelude.{◌≡◌, ◌↔◌, ◌≤◌, IsTrue, length, IfOk, MatchOption};
 ghost use Rattle.of_plan.specs.Legal.{HasOpenCall, HasEndState};
 ghost use Rattle.of_report.specs.Lines.{end_state_value};
 ghost use Rattle.of_check.specs.Starts.{start_of};
 ghost use Rattle.of_check.specs.Replay.{MayFollow, replay_value};
 ghost use Rattle.of_check.specs.Endings.{IsEnding, AreEndings, claimed_line};
-ghost use Rattle.of_check.specs.Verdict.{IsLegalText};
-ghost use Rattle.of_check.specs.Causes.{BreaksEntry, BreaksEnd, BreaksFirst, IsCause, DifferFirst, IsJudgement, IsReplayEnd};
+ghost use Rattle.of_check.specs.Verdict.{greatest_seq};
+ghost use Rattle.of_check.specs.Causes.{BreaksEntry, BreaksEnd, BreaksFirst, DifferFirst, ComesFirst, IsJudgement, IsReportJudgement, IsReplayEnd};
 
 use crate::cause::{Cause, EndRule, EntryRule, Judgement};
 use crate::claims::{CallClaim, Claims, EndClaim};
-use crate::endings::{is_within, lines, step_bound};
-use crate::replay::{Replay, follows};
+use crate::endings::{is_within, step_bound};
+use crate::replay::{Replay, follows, in_range};
 use crate::start::Start;
-use crate::verdict::has_32_bits;
 use of_plan::Plan;
-use of_report::{EndState, Report};
+use of_report::EndState;
 use of_script::text::cut;
 use std::alloc::{AllocError, Global};
 
 // What comes of claimed calls that are run one after another.
 #[derive(Drop)]
-enum ReplayEnd {
-    // All have run, and this is what they left.
-    AllRan(Replay),
-    // Those before this index have run, and this one breaks the rule.
-    Broken { index: usize, rule: EntryRule },
+struct ReplayEnd {
+    // What those that have run have left.
+    replay: Replay,
+    // How many these are.
+    count: usize,
+    // The rule that the next one breaks; None where all have run.
+    broken: Option<EntryRule>,
 }
 
 // The rule that a claimed call breaks; None where it may come next.
@@ -44,6 +43,9 @@ fn broken_entry(plan: &Plan, replay: &Replay, call: CallClaim) -> Option<EntryRu
     let scripts = plan.scripts(call.caller);
     if index as usize >= scripts.len() {
         return Some(EntryRule::NoScript);
+    }
+    if call.index != index {
+        return Some(EntryRule::Turn);
     }
     if !follows(replay.last, call) {
         return Some(EntryRule::Place);
@@ -65,15 +67,21 @@ fn replayed(
     ensures { IfOk result (IsReplayEnd plan.now (start_of start) calls.now) }
 {
     let mut replay = Replay::new(alloc, start);
-    for index in 0..calls.len() {
-        if let Some(rule) = broken_entry(plan, &replay, calls[index]) {
-            return Ok(ReplayEnd::Broken { index, rule });
+    for count in 0..calls.len() {
+        if let Some(rule) = broken_entry(plan, &replay, calls[count]) {
+            return Ok(ReplayEnd {
+                replay,
+                count,
+                broken: Some(rule),
+            });
         }
-        if !replay.run_call(plan, calls[index])? {
-            unreachable!();
-        }
+        replay.run_call(plan, calls[count])?;
     }
-    Ok(ReplayEnd::AllRan(replay))
+    Ok(ReplayEnd {
+        replay,
+        count: calls.len(),
+        broken: None,
+    })
 }
 
 // Whether the entries are those of answered calls and an open one.
@@ -115,7 +123,7 @@ fn broken_end(plan: &Plan, scripts: u32, entries: u32, seq: u32, end: EndClaim) 
     None
 }
 
-// The first caller whose line breaks a rule; None where all may end so.
+// The first caller that has no line, or whose line breaks a rule; None where all may end so.
 fn first_end(
     plan: &Plan,
     done: &[u32],
@@ -125,12 +133,14 @@ fn first_end(
 ) -> Option<(u32, EndRule)>
     requires done { length done.now ≡ plan.now.callers }
     requires counts { length counts.now ≡ plan.now.callers }
-    requires ends { length ends.now ≡ plan.now.callers }
     ensures { MatchOption result (AreEndings plan.now done.now seq counts.now ends.now)
         (λ x. BreaksFirst plan.now done.now seq counts.now ends.now x.0 x.1) }
 {
     for caller in 0..plan.callers() {
         let at = caller as usize;
+        if at >= ends.len() {
+            return Some((caller, EndRule::Missing));
+        }
         let entries = counts[at].saturating_sub(done[at]);
         let scripts = plan.scripts(caller).len() as u32;
         let to_do = scripts.saturating_sub(done[at]);
@@ -170,9 +180,37 @@ fn first_difference(one: &[u8], other: &[u8]) -> Option<u64>
     }
 }
 
-/// The report that is legal for the plan from a start and has this text, or why the text is none of
-/// such a report. The error is want of memory.
-pub fn report_or_cause(
+// Of a cause on the line with so many lines above it and the first line at which the text differs
+// from that of the report that it claims, the one that comes first.
+fn first_of(text: &[u8], wanted: Vec<u8>, above: u64, cause: Cause) -> Cause
+    ensures { ComesFirst text.now wanted above cause result }
+{
+    match first_difference(text, wanted.as_slice()) {
+        Some(line) => {
+            if line < above {
+                return Cause::Line {
+                    above: line,
+                    wanted,
+                };
+            }
+            cause
+        }
+        None => cause,
+    }
+}
+
+// A sequence is a number of 32 bits.
+fn has_32_bits(seq: u32)
+    ensures { seq ≤ greatest_seq }
+{}
+
+/// The report that is legal for the plan from a start and has this text; or the first line of the
+/// text that is wrong, and then there is no such report. The error is out of memory.
+///
+/// Given the plan and the start, a legal report is determined by little of its text. These claims
+/// are read, the one report that they can be is made by running its calls, and the text must be
+/// that report's.
+pub fn judge_from(
     alloc: Global,
     plan: &Plan,
     start: Start,
@@ -181,48 +219,43 @@ pub fn report_or_cause(
     requires { length start.finished.items ≡ plan.now.callers }
     ensures { IfOk result (IsJudgement plan.now (start_of start) text.now) }
 {
+    in_range(plan);
     let done = Vec::from_slice(alloc, &start.finished)?;
     let claims = Claims::read(alloc, text)?;
-    let count = claims.ends.len();
-    if count != plan.callers() as usize {
-        return Ok(Judgement::Illegal(Cause::Callers { lines: count }));
-    }
-    let replay = match replayed(alloc, plan, start, &claims.calls)? {
-        ReplayEnd::AllRan(replay) => replay,
-        ReplayEnd::Broken { index, rule } => {
-            return Ok(Judgement::Illegal(Cause::Entry { index, rule }));
-        }
-    };
-    let seq = replay.last.seq;
-    if let Some((caller, rule)) = first_end(plan, &done, &replay.counts, seq, &claims.ends) {
-        return Ok(Judgement::Illegal(Cause::Caller { caller, rule }));
-    }
-    let Some(callers) = lines(alloc, plan, &done, &replay.counts, seq, &claims.ends)? else {
-        unreachable!();
-    };
-    let report = Report {
-        entries: replay.entries,
-        callers,
-        seq,
-        store: replay.store,
-    };
-    has_32_bits(report.seq);
+    let ReplayEnd {
+        replay,
+        count,
+        broken,
+    } = replayed(alloc, plan, start, &claims.calls)?;
+    let ended = first_end(plan, &done, &replay.counts, replay.last.seq, &claims.ends);
+    let report = replay.report(alloc, plan, &done, &claims.ends)?;
     let wanted = report.print(alloc)?;
+    let above = count as u64 + 1;
+    if let Some(rule) = broken {
+        let cause = Cause::Entry { index: count, rule };
+        return Ok(Judgement::Illegal(first_of(text, wanted, above, cause)));
+    }
+    if let Some((caller, rule)) = ended {
+        let cause = Cause::Caller {
+            entries: count,
+            caller,
+            rule,
+        };
+        let above = above + u64::from(caller);
+        return Ok(Judgement::Illegal(first_of(text, wanted, above, cause)));
+    }
+    has_32_bits(report.seq);
     match first_difference(text, wanted.as_slice()) {
         None => Ok(Judgement::Legal(report)),
         Some(above) => Ok(Judgement::Illegal(Cause::Line { above, wanted })),
     }
 }
 
-/// Why a text is no legal report of the plan from the empty start; nothing exactly where it is one,
-/// so where `check` says `Legal`. The error is want of memory.
-pub fn why(alloc: Global, plan: &Plan, text: &[u8]) -> Result<Option<Cause>, AllocError>
-    ensures { IfOk result (λ found. MatchOption found
-        (IsLegalText plan.now text.now) (IsCause plan.now text.now)) }
+/// The report that is legal for the plan from the empty start and has this text; or the first line
+/// of the text that is wrong, and then there is no such report. The error is out of memory.
+pub fn judge(alloc: Global, plan: &Plan, text: &[u8]) -> Result<Judgement, AllocError>
+    ensures { IfOk result (IsReportJudgement plan.now text.now) }
 {
     let start = Start::empty(alloc, plan.callers(), plan.blocks())?;
-    match report_or_cause(alloc, plan, start, text)? {
-        Judgement::Legal(_) => Ok(None),
-        Judgement::Illegal(cause) => Ok(Some(cause)),
-    }
+    judge_from(alloc, plan, start, text)
 }

@@ -1,6 +1,6 @@
 use Rattle.std.proofs.Common.{◌≡◌, ◌+◌, ◌≤◌, length, take, drop}
 use Rattle.of_plan.specs.Lines.{text_lines}
-use Rattle.of_check.proofs.searching.first_difference.Given as goal
+use Rattle.of_check.proofs.judging.first_difference.Given as goal
 
 -- the lines so far are the same, and these are left
 abbrev pub invariant-loop-more : goal.invariant-loop-more

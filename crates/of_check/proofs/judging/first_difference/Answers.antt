@@ -4,7 +4,7 @@ use Rattle.of_plan.proofs.BadLine.{cut_first}
 use Rattle.of_plan.proofs.LinesAt.{after_next}
 use Rattle.of_check.proofs.Verdicts.{differs, same_bytes}
 use Rattle.of_check.proofs.Differences.{differ_here, one_ends, other_ends, same_more, unequal}
-use Rattle.of_check.proofs.searching.first_difference.Goals as goal
+use Rattle.of_check.proofs.judging.first_difference.Goals as goal
 
 pub returns-then-ne : goal.returns-then-ne
 returns-then-ne c =
