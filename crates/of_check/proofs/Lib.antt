@@ -10,3 +10,4 @@ pub mod Verdicts
 pub mod Causes
 pub mod Differences
 pub mod Stores
+pub mod Replies
