@@ -169,7 +169,8 @@ fn print_other(
 ) -> Result<Vec<u8>, AllocError> {
     let start = first_word(found, wanted);
     let before = found[..start].iter().filter(|byte| **byte == b' ').count();
-    let doubled = found.get(start) == Some(&b' ') && wanted.len() != start;
+    let spaced = found.get(start) == Some(&b' ');
+    let doubled = spaced && (wanted.len() != start || word_ends(found, start + 1));
     let reason = if doubled {
         SPELLED_OTHERWISE
     } else {
@@ -192,13 +193,28 @@ fn print_line(
     above: u64,
     text: &[u8],
 ) -> Result<Vec<u8>, AllocError> {
-    let (found, _) = line_at(report, above);
+    let (found, last) = line_at(report, above);
     let (wanted, _) = line_at(text, above);
+    let (before, ends) = line_at(report, above.saturating_sub(1));
     let number = above.saturating_add(1);
-    if wanted.is_empty() && !report.ends_with(b"\n".as_slice()) && found.is_empty() {
-        let (last, _) = line_at(report, above.saturating_sub(1));
-        let end = last.len();
-        return point_out(alloc, above, last, end, end, "the last line has no newline");
+    let end = before.len();
+    if above != 0 && ends && wanted.is_empty() {
+        return point_out(
+            alloc,
+            above,
+            before,
+            end,
+            end,
+            "the last line has no newline",
+        );
+    }
+    let over = last || above != 0 && ends;
+    if over && found.is_empty() && !wanted.is_empty() {
+        let mut out = point_out(alloc, number, found, 0, 0, "the report stops here")?;
+        let end = word_end(wanted, 0);
+        let expected = point_out(alloc, number, wanted, 0, end, "expected")?;
+        out.extend_from_slice(expected.as_slice())?;
+        return Ok(out);
     }
     print_other(alloc, number, found, wanted)
 }

@@ -3,7 +3,7 @@ use Rattle.std.specs.Io.KnownBytes.{Appends}
 use Rattle.of_tool.proofs.Telling.{did, judges}
 use Rattle.of_tool.proofs.Completeness.{ends_where_valid}
 use Rattle.of_tool.proofs.Carried.{run_told, life_told, load_told, table_told, no_record}
-use Rattle.of_tool.proofs.commands.tool.Goals as goal
+use Rattle.of_tool.proofs.commands.tool_with_reason.Goals as goal
 
 pub returns-in-Ok-write_all-clause-run : goal.returns-in-Ok-write_all-clause-run
 returns-in-Ok-write_all-clause-run g c = λ is done.

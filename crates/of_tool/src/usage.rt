@@ -1,16 +1,16 @@
 //! What is said of words that are no command: what the command takes, and how a file is given.
 
+use crate::command::{Command, MOST_EVENTS, MOST_FIRST, MOST_PART};
 use of_cell::MOST_CALLERS;
 use of_plan::MOST_SCRIPTS;
-use of_tool::{Command, MOST_EVENTS, MOST_FIRST, MOST_PART};
 use std::alloc::{AllocError, Global};
 use std::fmt::Write;
 
 // How many columns words take at most. The line that has them is below 200 columns.
 const MOST_COLUMNS: usize = 140;
 
-/// Whether the words are a command that reads its input.
-pub(crate) fn read_input(words: &[String]) -> bool {
+// Whether the words are a command that reads its input.
+fn read_input(words: &[String]) -> bool {
     match Command::from_words(words) {
         Some(command) => command.reads(),
         None => false,
