@@ -74,7 +74,7 @@ pub(crate) enum ReadInput<T> {
 /// The text of a command that is done.
 pub(crate) fn done(alloc: Global, text: Vec<u8>) -> Output
     ensures status { result.status ≡ DONE }
-    ensures text { result.text ≡ text }
+    ensures text { result.text.items ≡ text.items }
 {
     Output {
         status: status::DONE,
@@ -279,7 +279,7 @@ fn check_answer<S: Source>(alloc: Global, source: &mut S) -> Result<Output, Allo
             check_output(alloc, &judgement, second)
         }
         Err(PlanErr::Memory) => Err(AllocError),
-        Err(PlanErr::Bad { line }) => plan_refusal(alloc, first, line),
+        Err(PlanErr::Bad { line }) => Ok(plan_refusal(alloc, first, line)?),
     }
 }
 

@@ -47,7 +47,7 @@ pub(crate) fn life_answer<S: Source>(alloc: Global, source: &mut S) -> Result<Ou
     let plan = match parse(alloc, second) {
         Ok(plan) => plan,
         Err(PlanErr::Memory) => return Err(AllocError),
-        Err(PlanErr::Bad { line }) => return plan_refusal(alloc, second, line),
+        Err(PlanErr::Bad { line }) => return Ok(plan_refusal(alloc, second, line)?),
     };
     let image = match image_parse(alloc, first) {
         Ok(image) => image,

@@ -15,7 +15,7 @@ returns g c =
       why = BadPlan c.in-Err-Bad.line;
       cause = record { bytes = c.in-Read.bytes.items; read = rw c.in-Read.is at c.in_ok-bytes.ensures; bad = gone };
       status_is = c.in_ok-plan_refusal-in-Err-Bad.ensures.0;
-      text_is = c.in_ok-plan_refusal-in-Err-Bad.ensures.1;
+      text_is = (let number = c.in-Err-Bad.line-is in let text = c.in_ok-plan_refusal-in-Err-Bad.ensures.1 in cc);
     }
 
 pub returns-in-Refused : goal.returns-in-Refused

@@ -16,7 +16,7 @@ returns-in-Err-Bad-clause-read g c =
       why = BadPlan c.in-Err-Bad.line;
       cause = record { bytes = c.in-Read.bytes.items; first = c.parts.result.0.now; second = c.parts.result.1.now; read = rw c.in-Read.is at c.in_ok-bytes.ensures; parts = are; bad = gone };
       status_is = c.in_ok-plan_refusal-in-Err-Bad.ensures.0;
-      text_is = c.in_ok-plan_refusal-in-Err-Bad.ensures.1;
+      text_is = (let number = c.in-Err-Bad.line-is in let text = c.in_ok-plan_refusal-in-Err-Bad.ensures.1 in cc);
     }
 
 pub returns-in-Err-clause-read : goal.returns-in-Err-clause-read

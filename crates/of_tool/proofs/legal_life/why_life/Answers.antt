@@ -15,7 +15,7 @@ why_left-requires-clause-done c = ap length (c.deref.ensures.value ∙ c.in_ok-d
 -- there is no report, and this is why
 pub returns-in-Illegal : goal.returns-in-Illegal
 returns-in-Illegal c =
-    let judged = rw c.in-Illegal.is at c.in_ok-judge_from.ensures in
+    let judged = rw c.in-Illegal.is at c.in_ok-report.ensures in
     (told_cause c.args.image c.args.plan.now c.args.told.now c.args.left.now (start_at c.in_ok-start.start) c.in_ok-start.ensures c.in-Illegal.cause judged.0, no_report c.args.image c.args.plan.now c.args.told.now c.args.left.now (start_at c.in_ok-start.start) c.in_ok-start.ensures judged.1)
 
 -- the text behind it is none of an image

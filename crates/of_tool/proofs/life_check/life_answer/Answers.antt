@@ -13,9 +13,8 @@ pub returns-in-Err-Bad : goal.returns-in-Err-Bad
 returns-in-Err-Bad g c =
     let are = subst (λ (b : List ℕ). AreParts b c.parts.result.0.now c.parts.result.1.now) c.deref.ensures.value c.parts.ensures in
     let gone = rw c.in-Err-Bad.field-0-is at c.in-Err-Bad.ensures.bad in
-    IfOk-weaker c.plan_refusal.result _ _
-    (λ answer told. life_planless _ c.in-Read.bytes.items c.parts.result.0.now c.parts.result.1.now c.parts-2.result.0.now c.parts-2.result.1.now (rw c.in-Read.is at c.in_ok-bytes.ensures) are c.parts-2.ensures c.in-Err-Bad.line answer gone told)
-    c.plan_refusal.ensures
+    life_planless _ c.in-Read.bytes.items c.parts.result.0.now c.parts.result.1.now c.parts-2.result.0.now c.parts-2.result.1.now (rw c.in-Read.is at c.in_ok-bytes.ensures) are c.parts-2.ensures c.in-Err-Bad.line
+    c.in_ok-plan_refusal-in-Err-Bad.field-0 gone (c.in_ok-plan_refusal-in-Err-Bad.ensures.0, (let number = c.in-Err-Bad.line-is in let text = c.in_ok-plan_refusal-in-Err-Bad.ensures.1 in cc))
 
 pub returns-in-Err : goal.returns-in-Err
 returns-in-Err g c =
