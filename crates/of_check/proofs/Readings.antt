@@ -17,7 +17,7 @@ use Rattle.of_report.specs.ReportText.{reply_value_text, cause_text, reply_text,
 use Rattle.of_plan.proofs.HistoriesLists.{each_weaker}
 use Rattle.of_check.specs.declared.claims.CallClaim.{CallClaim}
 use Rattle.of_check.specs.declared.claims.EndClaim.{EndClaim}
-use Rattle.of_check.specs.Claims.{call_claim, code_end_state, end_claim, kind_named, state_named, call_of_line, end_of_line, read_on, read_lines, call_claims_of_text, end_claims_of_text}
+use Rattle.of_check.specs.Claims.{call_claim, code_end_state, end_claim, kind_named, state_named, call_of_line, end_of_line, onto_read, read_lines, call_claims_of_text, end_claims_of_text}
 use Rattle.of_check.proofs.Bounds.{IsSmallCall, IsSmallEnd}
 use Rattle.of_check.proofs.Texts.{number_line, number_first, number_last, one_line, first_line, first_lines, read_each, read_none}
 
@@ -182,7 +182,7 @@ caller_read c l small = ap end_of_line (caller_words c l) ∙ end_read (decimal 
 callers_read : (n : ℕ) (ls : List Line) (rest : List (List ℕ)) → Each IsSmallEnd ls → read_lines end_of_line (map rest_body (enumerate_from n ls) ++ rest) ≡ map end_claim ls ++ read_lines end_of_line rest
 callers_read n [] rest small = refl
 callers_read n (l ∷ ls) rest small =
-    ap (λ (o : Option EndClaim). read_on o (read_lines end_of_line (map rest_body (enumerate_from (n + 1) ls) ++ rest))) (caller_read n l small.0)
+    ap (λ (o : Option EndClaim). onto_read o (read_lines end_of_line (map rest_body (enumerate_from (n + 1) ls) ++ rest))) (caller_read n l small.0)
     ∙ ap (λ (es : List EndClaim). end_claim l ∷ es) (callers_read (n + 1) ls rest small.1)
 
 -- ---- the text of a report

@@ -189,9 +189,6 @@ from_empty p plan text legal = record {
   of_it = record { legal = legal.legal; in_range = omega (arith, seq_few p plan legal.report legal.legal); is = legal.is };
 }
 
-pub to_empty : (p : Plan) (text : List ℕ) → IsLegalFrom p (empty_start p) text → IsLegalText p text
-to_empty p text legal = record { report = legal.report; legal = legal.of_it.legal; is = legal.of_it.is }
-
 -- a judgement from an empty start
 pub judged_empty : (p : Plan) → IsPlan p → (text : List ℕ) (j : Judgement) → IsJudgement p (empty_start p) text j → IsReportJudgement p text j
 judged_empty p plan text (Legal report) h = record { report = report_value report; legal = h.legal; is = h.is }

@@ -65,7 +65,8 @@ pub record BreaksAt (p : Plan) (s : Start) (calls : List CallClaim) (index : ℕ
 
 -- what comes of running the claimed calls from the start: all of them have run, or those before
 -- one that breaks a rule
-pub record IsReplayEnd (p : Plan) (s : Start) (calls : List CallClaim) (e : ReplayEnd) : Type 0 where
+pub record IsReplayEnd (p : Plan) (s : Start) (calls : List CallClaim) (e : ReplayEnd)
+    : Type 0 where
   pub few : e.count ≤ length calls
   pub ran : HasRunCalls p s (take e.count calls) e.replay
   pub rest : MatchOption e.broken (take e.count calls ≡ calls)

@@ -88,13 +88,13 @@ end_of_line ws = do
   if bytes_eq name.0 (codes "caller") then end_in name.1 else None
 
 -- what is read of lines, as long as something can be
-abbrev pub read_on : {X : Type 0} → Option X → List X → List X
-read_on None xs = []
-read_on (Some x) xs = x ∷ xs
+abbrev pub onto_read : {X : Type 0} → Option X → List X → List X
+onto_read None xs = []
+onto_read (Some x) xs = x ∷ xs
 
 abbrev pub read_lines : {X : Type 0} → (List (List ℕ) → Option X) → List (List ℕ) → List X
 read_lines read [] = []
-read_lines read (l ∷ ls) = read_on (read (text_words l)) (read_lines read ls)
+read_lines read (l ∷ ls) = onto_read (read (text_words l)) (read_lines read ls)
 
 -- the lines that are left, where a text is
 abbrev pub lines_of : Option (Bor (List ℕ)) → List (List ℕ)

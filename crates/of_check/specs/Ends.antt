@@ -43,14 +43,14 @@ abbrev pub HasTicket : Start → Report → Image → (caller : ℕ) → Type 0
 HasTicket s r i c = image_ticket i c ≡ ticket_after (finished_of s c) (last_call r c)
 
 -- a caller's own cells hold this reply
-pub record HoldsReply (i : Image) (c : ℕ) (response : Reply) : Type 0 where
+pub record CellsHoldReply (i : Image) (c : ℕ) (response : Reply) : Type 0 where
   pub reply : TheReply
   pub held : IsHeldBy (reply_in MOST_INSTRS (image_number i) c) reply
   pub is : reply_value_of reply ≡ response
 
 -- they hold the reply of its last announced entry, if the report has one
 abbrev pub HasReply : Report → Image → (caller : ℕ) → Type 0
-HasReply r i c = IfSome (last_call r c) (λ e. HoldsReply i c e.reply)
+HasReply r i c = IfSome (last_call r c) (λ e. CellsHoldReply i c e.reply)
 
 -- a caller's own cells are those of its last announced entry
 pub record HoldsLastCall (s : Start) (r : Report) (i : Image) (c : ℕ) : Type 0 where

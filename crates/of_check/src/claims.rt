@@ -142,7 +142,8 @@ fn read_calls(
 
 // Reads the lines of callers in front of these lines. The error is out of memory.
 fn read_ends(alloc: Global, lines: Option<&[u8]>) -> Result<Vec<EndClaim>, AllocError>
-    ensures { IfOk result (λ ends. ends.items ≡ read_lines claimed.end_of_line (lines_of lines.entry)) }
+    ensures { IfOk result (λ ends.
+        ends.items ≡ read_lines claimed.end_of_line (lines_of lines.entry)) }
 {
     let mut ends = Vec::new(alloc);
     let mut rest = lines;

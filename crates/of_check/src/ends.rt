@@ -8,7 +8,7 @@ ghost use Rattle.of_store.specs.Replies.{reply_value_of};
 ghost use Rattle.of_plan.specs.Report.{Start as PlainStart};
 ghost use Rattle.of_report.specs.Report.{entry_value, report_value};
 ghost use Rattle.of_report.specs.Image.{IsImage};
-ghost use Rattle.of_check.specs.Ends.{last_announced, entry_in, ticket_after, HoldsReply, HoldsLastCall, EndsAt, BreaksCalls, BreaksLeft};
+ghost use Rattle.of_check.specs.Ends.{last_announced, entry_in, ticket_after, CellsHoldReply, HoldsLastCall, EndsAt, BreaksCalls, BreaksLeft};
 
 use of_eval::reply_of;
 use of_plan::Plan;
@@ -83,7 +83,7 @@ fn same_reply(one: &Reply, other: &Reply) -> bool
 fn holds_reply(image: &Image, caller: u32, reply: &Reply) -> bool
     requires image { IsImage MOST_INSTRS image.now }
     requires caller { caller < image.now.row.callers }
-    ensures { IsTrue result ↔ HoldsReply image.now caller (reply_value_of reply.now) }
+    ensures { IsTrue result ↔ CellsHoldReply image.now caller (reply_value_of reply.now) }
 {
     match reply_of(&image.reply(caller)) {
         Some(held) => same_reply(&held, reply),
@@ -96,7 +96,7 @@ fn holds_last(image: &Image, caller: u32, last: Option<Entry>) -> bool
     requires image { IsImage MOST_INSTRS image.now }
     requires caller { caller < image.now.row.callers }
     ensures { IsTrue result
-        ↔ IfSome (entry_in last) (λ e. HoldsReply image.now caller e.reply) }
+        ↔ IfSome (entry_in last) (λ e. CellsHoldReply image.now caller e.reply) }
 {
     match last {
         Some(entry) => holds_reply(image, caller, &entry.reply),

@@ -3,7 +3,7 @@ use Rattle.std.specs.Prelude.{IfSome}
 use Rattle.std.proofs.lemmas.Bool.Decides.{eqb_tells}
 use Rattle.of_plan.specs.Report.{Entry}
 use Rattle.of_report.specs.Report.{entry_value, report_value}
-use Rattle.of_check.specs.Ends.{entry_in, last_announced, last_call, ticket_after, HoldsReply, HoldsLastCall}
+use Rattle.of_check.specs.Ends.{entry_in, last_announced, last_call, ticket_after, CellsHoldReply, HoldsLastCall}
 use Rattle.of_check.proofs.Own.{own}
 use Rattle.of_check.proofs.ends.wrong_call.Goals as goal
 
@@ -28,7 +28,7 @@ returns-then-not-holds_last c s same =
       before = c.loop-caller.invariant s same;
       breaks = (
         omega (arith, c.if-from-ticket_after.false, c.from.ensures, c.ticket.ensures, there),
-        λ has. absurd (let so = c.holds_last.ensures.1 (subst (λ (o : Option Entry). IfSome o (λ e. HoldsReply c.args.image.now caller e.reply)) (sym last) has) in cc (so, c.if-not-holds_last.true)),
+        λ has. absurd (let so = c.holds_last.ensures.1 (subst (λ (o : Option Entry). IfSome o (λ e. CellsHoldReply c.args.image.now caller e.reply)) (sym last) has) in cc (so, c.if-not-holds_last.true)),
       );
     }
 
@@ -39,7 +39,7 @@ loop-caller-preserved c s same k lt =
     let there : ticket_after (get_or s.finished caller 0) (last_call (report_value c.args.report.now) caller) ≡ c.ticket_after.result = (λ i. ticket_after (get_or (same i) caller 0) (sym last i)) ∙ sym c.ticket_after.ensures in
     let here : HoldsLastCall s (report_value c.args.report.now) c.args.image.now caller = record {
       ticket = omega (arith, c.if-from-ticket_after.false, c.from.ensures, c.ticket.ensures, there);
-      reply = subst (λ (o : Option Entry). IfSome o (λ e. HoldsReply c.args.image.now caller e.reply)) last (c.holds_last.ensures.0 c.if-not-holds_last.false);
+      reply = subst (λ (o : Option Entry). IfSome o (λ e. CellsHoldReply c.args.image.now caller e.reply)) last (c.holds_last.ensures.0 c.if-not-holds_last.false);
     } in
     elim (eqb_tells k caller) [
       | inl is ↦ subst (λ (n : ℕ). HoldsLastCall s (report_value c.args.report.now) c.args.image.now n) (sym is.1) here
