@@ -3,7 +3,7 @@ use Rattle.std.proofs.Common.{◌≡◌, ℕ, zero, suc, ◌+◌, ◌<◌, ◌�
 use Rattle.std.specs.Prelude.{sum_by}
 use Rattle.std.specs.List.{AllByRecursion as Each}
 use Rattle.std.proofs.lemmas.List.{length-replicate, get_or_default}
-use Rattle.std.proofs.lemmas.List.Elements.{recursion_from_All}
+use Rattle.std.proofs.lemmas.List.Elements.{All-from_recursion, recursion_from_All}
 use Rattle.std.proofs.lemmas.List.Sums.{sum_by-cons, sum_by-set, get_or-le-sum_by}
 use Rattle.of_script.specs.declared.instr.Instr.{Instr}
 use Rattle.of_plan.specs.Plan.{Plan, IsPlan, scripts_of}
@@ -59,7 +59,13 @@ few_calls p plan qs all =
 
 -- no number of 32 bits is too small for these
 abbrev pub IsSmallCall : Entry → Type 0
-IsSmallCall e = (e.seq ≤ 4294967295) × (e.caller ≤ 4294967295)
+IsSmallCall e = (e.seq ≤ 4294967295) × (e.caller ≤ 4294967295) × (e.index ≤ 4294967295)
+
+-- an index is that of a script
+indices_few : (p : Plan) → IsPlan p → (c : Replay) (es : List Entry) → AllFollow p c (map call_claim es) → Each (λ (e : Entry). e.index ≤ 20000) es
+indices_few p plan c [] all = tt
+indices_few p plan c (e ∷ es) all =
+    (omega (arith, all.0.turn, all.0.script, few_scripts p plan e.caller all.0.caller), indices_few p plan (after_claimed_call p c (call_claim e)) es all.1)
 
 abbrev pub IsSmallEnd : Line → Type 0
 IsSmallEnd l = (l.answered ≤ 4294967295) × (l.longest ≤ 4294967295)
@@ -81,7 +87,8 @@ module _ (p : Plan) (plan : IsPlan p) (s : Start) (knows : KnowsEach p s) (r : R
   small_calls = recursion_from_All IsSmallCall r.entries (λ k d lt.
       let within = (legal.by_sequence.sequences k d lt).1 in
       let caller = legal.in_order.of_callers k d lt in
-      (omega (arith, range, within), omega (arith, caller, plan.few_callers)))
+      let index = All-from_recursion (λ (e : Entry). e.index ≤ 20000) r.entries (indices_few p plan (replay_at_start s) r.entries (follow_all p s knows r legal)) k d lt in
+      (omega (arith, range, within), omega (arith, caller, plan.few_callers), omega (arith, index)))
 
   pub small_ends : Each IsSmallEnd r.callers
   small_ends = recursion_from_All IsSmallEnd r.callers (λ k d lt. small k d lt)

@@ -1,9 +1,9 @@
 -- The first line at which two texts differ.
-use Rattle.std.proofs.Common.{◌≡◌, ℕ, Bool, true, false, ◌+◌, ◌<◌, List, [], ◌∷◌, ◌++◌, length, get_or, take, drop, sym, ap, ◌∙◌, arith}
+use Rattle.std.proofs.Common.{◌≡◌, ℕ, Bool, true, false, ◌+◌, ◌<◌, ◌≤◌, List, [], ◌∷◌, ◌++◌, length, get_or, take, drop, sym, ap, ◌∙◌, arith}
 use Rattle.std.specs.Str.{bytes_eq}
 use Rattle.std.proofs.lemmas.Slice.Eq.{bytes_eq-Decides}
 use Rattle.std.specs.List.{join_with_byte}
-use Rattle.std.proofs.lemmas.List.{take_more, take_all, get_or-take, length-take, length-drop}
+use Rattle.std.proofs.lemmas.List.{take-take, take_more, take_all, get_or-take, length-take, length-drop}
 use Rattle.std.proofs.lemmas.List.Splits.{join_with_byte-slice_split}
 use Rattle.of_plan.specs.Lines.{text_lines}
 use Rattle.of_plan.proofs.LinesAt.{next_at, count_at_last}
@@ -15,6 +15,10 @@ lines_text a b e = sym (join_with_byte-slice_split 10 a) ∙ ap (join_with_byte 
 
 below : (ls : List (List ℕ)) (at : ℕ) (line : List ℕ) (rest : List (List ℕ)) → drop at ls ≡ line ∷ rest → at < length ls
 below ls at line rest e = omega (arith, length-drop at ls, ap length e)
+
+-- the same up to a line, and so above it
+pub same_above : (a b : List ℕ) (above line : ℕ) → above ≤ line → take line (text_lines a) ≡ take line (text_lines b) → take above (text_lines a) ≡ take above (text_lines b)
+same_above a b above line le same = sym (take-take above line (text_lines a) le) ∙ ap (take above) same ∙ take-take above line (text_lines b) le
 
 -- one line more is the same
 pub same_more : (xs ys : List (List ℕ)) (at : ℕ) (line : List ℕ) (rest others : List (List ℕ)) → take at xs ≡ take at ys → drop at xs ≡ line ∷ rest → drop at ys ≡ line ∷ others → take (at + 1) xs ≡ take (at + 1) ys

@@ -88,6 +88,10 @@ before_on e f g (inl first) (inr second) = inl (omega (arith, first, second.0))
 before_on e f g (inr first) (inl second) = inl (omega (arith, first.0, second))
 before_on e f g (inr first) (inr second) = inr (omega (arith, first.0, second.0), within_on e.announced f.announced g.announced e f g first.1 second.1)
 
+-- a claim that may come next is that of its entry
+claim_again : (p : Plan) (c : Replay) (q : CallClaim) → MayFollow p c q → q ≡ call_claim (entry_for p c q)
+claim_again p c q follows = λ i. record { seq = q.seq; caller = q.caller; index = follows.turn i; announced = q.announced }
+
 pub in_line : (p : Plan) (c : Replay) (qs : List CallClaim) → p.callers ≤ length c.counts → AllFollow p c qs → InLine StandsBefore (entries_from p c qs)
 in_line p c [] wide all = tt
 in_line p c (q ∷ []) wide all = (tt, tt)
@@ -95,7 +99,10 @@ in_line p c (q ∷ r ∷ qs) wide all =
     let e = entry_for p c q in
     let f = entry_for p (after_claimed_call p c q) r in
     let below : q.caller < p.callers = all.0.caller in
-    let first : StandsBefore e f = stands q.announced r.announced e f all.1.0.place (λ same. omega (arith, count_same c.counts q.caller r.caller (index_for c q + 1) same (omega arith))) in
+    let place : MayFollowWithin q.announced r.announced (call_claim e) (call_claim f) =
+    subst (λ (l : CallClaim). MayFollowWithin q.announced r.announced l (call_claim f)) (claim_again p c q all.0)
+    (subst (MayFollowWithin q.announced r.announced q) (claim_again p (after_claimed_call p c q) r all.1.0) all.1.0.place) in
+    let first : StandsBefore e f = stands q.announced r.announced e f place (λ same. omega (arith, count_same c.counts q.caller r.caller (index_for c q + 1) same (omega arith))) in
     let rest = in_line p (after_claimed_call p c q) (r ∷ qs) (still_wide c.counts q.caller (index_for c q + 1) p.callers wide) all.1 in
     ((first, each_weaker (StandsBefore f) (StandsBefore e) (λ g second. before_on e f g first second) (entries_from p (after_claimed_call p (after_claimed_call p c q) r) qs) rest.0), rest)
 

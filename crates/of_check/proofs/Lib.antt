@@ -1,4 +1,4 @@
-pub mod Steps
+pub mod Lines
 pub mod Own
 pub mod Following
 pub mod Unique
@@ -10,3 +10,4 @@ pub mod Verdicts
 pub mod Causes
 pub mod Differences
 pub mod Stores
+pub mod Replies

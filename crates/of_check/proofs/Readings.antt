@@ -1,24 +1,25 @@
 -- What is read from the text of a report: the claims of its entries and of its callers' lines.
-use Rattle.std.proofs.Common.{◌≡◌, ℕ, ◌+◌, ◌≤◌, Bool, true, false, List, [], ◌∷◌, ◌++◌, map, Option, Some, None, refl, ap, ◌∙◌, append_assoc, arith}
-use Rattle.std.specs.Prelude.{codes, decimal, flat_map, ◌==◌, if◌then◌else◌}
-use Rattle.std.specs.List.{AllByRecursion as Each, enumerate_from, range_with_len}
-use Rattle.std.specs.FinMap as fm
-use Rattle.std.specs.Option.{option_to_list}
-use Rattle.std.proofs.lemmas.List.{append-nil}
-use Rattle.of_script.specs.declared.instr.TheConstants.{QUEUES}
+use Rattle.std.proofs.Common.{◌≡◌, ℕ, suc, ◌+◌, ◌≤◌, Bool, true, false, List, [], ◌∷◌, ◌++◌, length, drop, map, Option, Some, None, refl, ap, ◌∙◌, append_assoc, arith}
+use Rattle.std.specs.Prelude.{codes, decimal, flat_map}
+use Rattle.std.specs.List.{AllByRecursion as Each, enumerate_from}
+use Rattle.std.proofs.Math.Seq.{drop-append_seam}
+use Rattle.std.proofs.lemmas.List.{append-nil, length-map}
 use Rattle.of_script.specs.declared.instr.Cause.{Cause}
 use Rattle.of_script.specs.declared.instr.Cause.TheVariants.{Overflow, Short, NoRoom, Differs, BadOp}
 use Rattle.of_script.specs.Text.{text_words}
 use Rattle.of_script.proofs.Numbers.{number_again}
-use Rattle.of_store.specs.Store.{Store, queue, Reply, Answered, Aborted}
+use Rattle.of_store.specs.Store.{Reply, Answered, Aborted}
 use Rattle.of_plan.specs.Lines.{text_lines}
 use Rattle.of_plan.specs.Report.{Entry, EndState, done, stopped, spent, Line, Report}
 use Rattle.of_plan.proofs.TextLines.{NoNewline}
-use Rattle.of_report.specs.StoreText.{register_line, register_lines, key_line, key_lines, item_text, queue_line, queue_lines, store_text}
+use Rattle.of_report.specs.StoreText.{store_text}
 use Rattle.of_report.specs.ReportText.{reply_value_text, cause_text, reply_text, kind_text, entry_line, state_text, caller_line_text, seq_line, report_text}
-use Rattle.of_check.specs.Claims.{call_claim, code_end_state, end_claim, kind_named, state_named, call_of_line, end_of_line, call_claims_of_text, end_claims_of_text}
+use Rattle.of_plan.proofs.HistoriesLists.{each_weaker}
+use Rattle.of_check.specs.declared.claims.CallClaim.{CallClaim}
+use Rattle.of_check.specs.declared.claims.EndClaim.{EndClaim}
+use Rattle.of_check.specs.Claims.{call_claim, code_end_state, end_claim, kind_named, state_named, call_of_line, end_of_line, onto_read, read_lines, call_claims_of_text, end_claims_of_text}
 use Rattle.of_check.proofs.Bounds.{IsSmallCall, IsSmallEnd}
-use Rattle.of_check.proofs.Texts.{number_line, number_first, number_last, one_line, Tells, tells_nothing, tells_line, tells_both, tells_same, tells_all}
+use Rattle.of_check.proofs.Texts.{number_line, number_first, number_last, one_line, first_line, first_lines, read_each, read_none}
 
 -- ---- parts of one line
 
@@ -49,10 +50,6 @@ state_line : (s : EndState) → NoNewline (state_text s)
 state_line done = (refl, (refl, (refl, (refl, tt))))
 state_line stopped = (refl, (refl, (refl, (refl, (refl, (refl, (refl, tt)))))))
 state_line spent = (refl, (refl, (refl, (refl, (refl, tt)))))
-
-items_line : (items : List ℕ) → NoNewline (flat_map item_text items)
-items_line [] = tt
-items_line (n ∷ ns) = one_line (item_text n) (flat_map item_text ns) (refl, number_line n) (items_line ns)
 
 -- ---- the bodies of lines, each part behind the one before
 
@@ -96,83 +93,31 @@ caller_one_line c l =
       ),
     ))
 
--- ---- lines in which a reader finds nothing
+-- ---- the lines of a report
 
-record Passes {X : Type 0} (read : List (List ℕ) → Option X) : Type 0 where
-  pub nothing : read [] ≡ None
-  pub title : (ws : List (List ℕ)) → read (codes "onefile" ∷ ws) ≡ None
-  pub seq : (ws : List (List ℕ)) → read (codes "seq" ∷ ws) ≡ None
-  pub register : (ws : List (List ℕ)) → read (codes "register" ∷ ws) ≡ None
-  pub key : (ws : List (List ℕ)) → read (codes "key" ∷ ws) ≡ None
-  pub queue : (ws : List (List ℕ)) → read (codes "queue" ∷ ws) ≡ None
-  pub end : (ws : List (List ℕ)) → read (codes "end" ∷ ws) ≡ None
+abbrev rest_body : ℕ × Line → List ℕ
+rest_body x = caller_body x.0 x.1
 
-call_passes : Passes call_of_line
-call_passes = record { nothing = refl; title = λ ws. refl; seq = λ ws. refl; register = λ ws. refl; key = λ ws. refl; queue = λ ws. refl; end = λ ws. refl }
+parts : (t e c q s n : List ℕ) → ((((t ++ e) ++ c) ++ q) ++ s) ++ n ≡ t ++ (e ++ (c ++ (q ++ (s ++ n))))
+parts t e c q s n = simp append_assoc refl
 
-end_passes : Passes end_of_line
-end_passes = record { nothing = refl; title = λ ws. refl; seq = λ ws. refl; register = λ ws. refl; key = λ ws. refl; queue = λ ws. refl; end = λ ws. refl }
+-- the lines of the callers and those after them
+abbrev callers_on : Report → List (List ℕ)
+callers_on r = map rest_body (enumerate_from 0 r.callers) ++ (codes "seq " ++ decimal r.seq) ∷ text_lines (store_text r.store ++ codes "end\n")
 
-module _ {X : Type 0} (read : List (List ℕ) → Option X) (passes : Passes read) where
-  title_tells : Tells read (codes "onefile report 1\n") []
-  title_tells = tells_line read (codes "onefile report 1") None (refl, (refl, (refl, (refl, (refl, (refl, (refl, (refl, (refl, (refl, (refl, (refl, (refl, (refl, (refl, (refl, tt)))))))))))))))) (passes.title (codes "report" ∷ codes "1" ∷ []))
-
-  end_tells : Tells read (codes "end\n") []
-  end_tells = tells_line read (codes "end") None (refl, (refl, (refl, tt))) (passes.end [])
-
-  seq_tells : (n : ℕ) → Tells read (seq_line n) []
-  seq_tells n =
-      tells_line read (codes "seq " ++ decimal n) None (refl, (refl, (refl, (refl, number_line n)))) (passes.seq (text_words (decimal n)))
-
-  two_parts : (a x y n : List ℕ) → (a ++ (x ++ (32 ∷ y))) ++ n ≡ a ++ x ++ codes " " ++ y ++ n
-  two_parts a x y n = simp append_assoc refl
-
-  register_tells : (x : ℕ × ℕ) → Tells read (register_line x) []
-  register_tells (r, value) = by_test (value == 0)
-    where
-      by_test : (b : Bool) → Tells read (if b then [] else codes "register " ++ decimal r ++ codes " " ++ decimal value ++ codes "\n") []
-      by_test true = tells_nothing read
-      by_test false =
-          tells_same read ((codes "register " ++ (decimal r ++ (32 ∷ decimal value))) ++ codes "\n") _ [] (two_parts (codes "register ") (decimal r) (decimal value) (codes "\n"))
-          (tells_line read (codes "register " ++ (decimal r ++ (32 ∷ decimal value))) None
-          (one_line (codes "register ") _ (refl, (refl, (refl, (refl, (refl, (refl, (refl, (refl, (refl, tt))))))))) (one_line (decimal r) _ (number_line r) (refl, number_line value))) (passes.register (text_words (decimal r ++ (32 ∷ decimal value)))))
-
-  key_tells : (x : ℕ × ℕ) → Tells read (key_line x) []
-  key_tells (key, value) =
-      tells_same read ((codes "key " ++ (decimal key ++ (32 ∷ decimal value))) ++ codes "\n") _ [] (two_parts (codes "key ") (decimal key) (decimal value) (codes "\n"))
-      (tells_line read (codes "key " ++ (decimal key ++ (32 ∷ decimal value))) None
-      (one_line (codes "key ") _ (refl, (refl, (refl, (refl, tt)))) (one_line (decimal key) _ (number_line key) (refl, number_line value))) (passes.key (text_words (decimal key ++ (32 ∷ decimal value)))))
-
-  queue_tells : (x : ℕ × List ℕ) → Tells read (queue_line x) []
-  queue_tells (q, []) = tells_nothing read
-  queue_tells (q, item ∷ items) =
-      let tail = flat_map item_text (item ∷ items) in
-      tells_line read ((codes "queue " ++ decimal q) ++ tail) None
-      (one_line (codes "queue " ++ decimal q) tail (one_line (codes "queue ") (decimal q) (refl, (refl, (refl, (refl, (refl, (refl, tt)))))) (number_line q)) (items_line (item ∷ items)))
-      (passes.queue (text_words (decimal q ++ tail)))
-
-  nothing_in : {A : Type 0} (f : A → List ℕ) (h : (part : A) → Tells read (f part) []) (parts : List A) → Tells read (flat_map f parts) []
-  nothing_in f h [] = tells_nothing read
-  nothing_in f h (part ∷ parts) = tells_both read (f part) (flat_map f parts) [] [] (h part) (nothing_in f h parts)
-
-  store_tells : (s : Store) → Tells read (store_text s) []
-  store_tells s =
-      tells_both read (register_lines s ++ key_lines s) (queue_lines s) [] []
-      (tells_both read (register_lines s) (key_lines s) [] [] (nothing_in register_line register_tells (enumerate_from 0 s.registers)) (nothing_in key_line key_tells (fm.entries s.keys)))
-      (nothing_in (λ q. queue_line (q, queue s q)) (λ q. queue_tells (q, queue s q)) (range_with_len 0 QUEUES))
-
-  -- the whole text, where the reader finds these in the entries and these in the lines of callers
-  report_tells : (r : Report) (xs ys : List X) → Tells read (flat_map entry_line r.entries) xs → Tells read (flat_map caller_line_text (enumerate_from 0 r.callers)) ys
-      → flat_map (λ l. option_to_list (read (text_words l))) (text_lines (report_text r)) ≡ xs ++ ys
-  report_tells r xs ys entries callers =
-      tells_all read (report_text r) ((((xs ++ ys) ++ []) ++ []) ++ []) passes.nothing
-      (tells_both read (((((codes "onefile report 1\n" ++ flat_map entry_line r.entries) ++ flat_map caller_line_text (enumerate_from 0 r.callers)) ++ seq_line r.seq) ++ store_text r.store)) (codes "end\n") (((xs ++ ys) ++ []) ++ []) []
-      (tells_both read ((((codes "onefile report 1\n" ++ flat_map entry_line r.entries) ++ flat_map caller_line_text (enumerate_from 0 r.callers)) ++ seq_line r.seq)) (store_text r.store) ((xs ++ ys) ++ []) []
-      (tells_both read (((codes "onefile report 1\n" ++ flat_map entry_line r.entries) ++ flat_map caller_line_text (enumerate_from 0 r.callers))) (seq_line r.seq) (xs ++ ys) []
-      (tells_both read (codes "onefile report 1\n" ++ flat_map entry_line r.entries) (flat_map caller_line_text (enumerate_from 0 r.callers)) xs ys
-      (tells_both read (codes "onefile report 1\n") (flat_map entry_line r.entries) [] xs title_tells entries) callers)
-      (seq_tells r.seq)) (store_tells r.store)) end_tells)
-      ∙ append-nil _ ∙ append-nil _ ∙ append-nil _
+report_lines : (r : Report) → text_lines (report_text r) ≡ codes "onefile report 1" ∷ map entry_body r.entries ++ callers_on r
+report_lines r =
+    let left = store_text r.store ++ codes "end\n" in
+    let after = flat_map caller_line_text (enumerate_from 0 r.callers) ++ (seq_line r.seq ++ left) in
+    let callers : text_lines after ≡ callers_on r =
+    first_lines caller_line_text rest_body (λ x. caller_one_line x.0 x.1) (λ x. caller_parts (codes "caller ") (decimal x.0) (state_text x.1.state) (decimal x.1.answered) (decimal x.1.entries) (decimal x.1.longest) (codes "\n")) (enumerate_from 0 r.callers) (seq_line r.seq ++ left)
+    ∙ ap (λ (ls : List (List ℕ)). map rest_body (enumerate_from 0 r.callers) ++ ls) (first_line (codes "seq " ++ decimal r.seq) left (refl, (refl, (refl, (refl, number_line r.seq))))) in
+    let entries : text_lines (flat_map entry_line r.entries ++ after) ≡ map entry_body r.entries ++ callers_on r =
+    first_lines entry_line entry_body entry_one_line (λ e. entry_parts (codes "entry ") (decimal e.seq) (decimal e.caller) (decimal e.index) (kind_text e.announced) (reply_text e.reply) (codes "\n")) r.entries after
+    ∙ ap (λ (ls : List (List ℕ)). map entry_body r.entries ++ ls) callers in
+    ap text_lines (parts (codes "onefile report 1\n") (flat_map entry_line r.entries) (flat_map caller_line_text (enumerate_from 0 r.callers)) (seq_line r.seq) (store_text r.store) (codes "end\n"))
+    ∙ first_line (codes "onefile report 1") (flat_map entry_line r.entries ++ after) (refl, (refl, (refl, (refl, (refl, (refl, (refl, (refl, (refl, (refl, (refl, (refl, (refl, (refl, (refl, (refl, tt))))))))))))))))
+    ∙ ap (λ (ls : List (List ℕ)). codes "onefile report 1" ∷ ls) entries
 
 -- ---- entries
 
@@ -197,24 +142,16 @@ entry_words e =
     ∙ ap (λ (ws : List (List ℕ)). decimal e.caller ∷ ws) (number_first e.index _
     ∙ ap (λ (ws : List (List ℕ)). decimal e.index ∷ ws) (kind_first e.announced e.reply))))
 
-call_read : (s c : ℕ) (i : List ℕ) (b : Bool) (ws : List (List ℕ)) → s ≤ 4294967295 → c ≤ 4294967295 → call_of_line (codes "entry" ∷ decimal s ∷ decimal c ∷ i ∷ kind_text b ∷ ws) ≡ Some (record { seq = s; caller = c; announced = b })
-call_read s c i b ws low high = rw (number_again 4294967295 s (omega arith) low, number_again 4294967295 c (omega arith) high, kind_again b) refl
+call_read : (s c i : ℕ) (b : Bool) (ws : List (List ℕ)) → s ≤ 4294967295 → c ≤ 4294967295 → i ≤ 4294967295 → call_of_line (codes "entry" ∷ decimal s ∷ decimal c ∷ decimal i ∷ kind_text b ∷ ws) ≡ Some (record { seq = s; caller = c; index = i; announced = b })
+call_read s c i b ws low high few = rw (number_again 4294967295 s (omega arith) low, number_again 4294967295 c (omega arith) high, number_again 4294967295 i (omega arith) few, kind_again b) refl
 
-entries_tell_calls : (es : List Entry) → Each IsSmallCall es → Tells call_of_line (flat_map entry_line es) (map call_claim es)
-entries_tell_calls [] small = tells_nothing call_of_line
-entries_tell_calls (e ∷ es) small =
-    tells_both call_of_line (entry_line e) (flat_map entry_line es) (call_claim e ∷ []) (map call_claim es)
-    (tells_same call_of_line (entry_body e ++ codes "\n") (entry_line e) (call_claim e ∷ []) (entry_parts (codes "entry ") (decimal e.seq) (decimal e.caller) (decimal e.index) (kind_text e.announced) (reply_text e.reply) (codes "\n"))
-    (tells_line call_of_line (entry_body e) (Some (call_claim e)) (entry_one_line e) (ap call_of_line (entry_words e) ∙ call_read e.seq e.caller (decimal e.index) e.announced (text_words (reply_text e.reply)) small.0.0 small.0.1)))
-    (entries_tell_calls es small.1)
+entry_read : (e : Entry) → IsSmallCall e → call_of_line (text_words (entry_body e)) ≡ Some (call_claim e)
+entry_read e small = ap call_of_line (entry_words e) ∙ call_read e.seq e.caller e.index e.announced (text_words (reply_text e.reply)) small.0 small.1 small.2
 
-entries_tell_ends : (es : List Entry) → Tells end_of_line (flat_map entry_line es) []
-entries_tell_ends [] = tells_nothing end_of_line
-entries_tell_ends (e ∷ es) =
-    tells_both end_of_line (entry_line e) (flat_map entry_line es) [] []
-    (tells_same end_of_line (entry_body e ++ codes "\n") (entry_line e) [] (entry_parts (codes "entry ") (decimal e.seq) (decimal e.caller) (decimal e.index) (kind_text e.announced) (reply_text e.reply) (codes "\n"))
-    (tells_line end_of_line (entry_body e) None (entry_one_line e) refl))
-    (entries_tell_ends es)
+-- no entry is read after the last one
+none_after : (ls : List Line) (seq : ℕ) (rest : List (List ℕ)) → read_lines call_of_line (map rest_body (enumerate_from 0 ls) ++ (codes "seq " ++ decimal seq) ∷ rest) ≡ []
+none_after [] seq rest = read_none call_of_line (codes "seq " ++ decimal seq) rest refl
+none_after (l ∷ ls) seq rest = read_none call_of_line (caller_body 0 l) (map rest_body (enumerate_from 1 ls) ++ (codes "seq " ++ decimal seq) ∷ rest) refl
 
 -- ---- lines of callers
 
@@ -239,26 +176,34 @@ caller_words c l =
 end_read : (c e : List ℕ) (s : EndState) (a t : ℕ) → a ≤ 4294967295 → t ≤ 4294967295 → end_of_line (codes "caller" ∷ c ∷ state_text s ∷ decimal a ∷ e ∷ decimal t ∷ []) ≡ Some (record { state = code_end_state s; answered = a; longest = t })
 end_read c e s a t low high = rw (state_again s, number_again 4294967295 a (omega arith) low, number_again 4294967295 t (omega arith) high) refl
 
-callers_tell_ends : (n : ℕ) (ls : List Line) → Each IsSmallEnd ls → Tells end_of_line (flat_map caller_line_text (enumerate_from n ls)) (map end_claim ls)
-callers_tell_ends n [] small = tells_nothing end_of_line
-callers_tell_ends n (l ∷ ls) small =
-    tells_both end_of_line (caller_line_text (n, l)) (flat_map caller_line_text (enumerate_from (n + 1) ls)) (end_claim l ∷ []) (map end_claim ls)
-    (tells_same end_of_line (caller_body n l ++ codes "\n") (caller_line_text (n, l)) (end_claim l ∷ []) (caller_parts (codes "caller ") (decimal n) (state_text l.state) (decimal l.answered) (decimal l.entries) (decimal l.longest) (codes "\n"))
-    (tells_line end_of_line (caller_body n l) (Some (end_claim l)) (caller_one_line n l) (ap end_of_line (caller_words n l) ∙ end_read (decimal n) (decimal l.entries) l.state l.answered l.longest small.0.0 small.0.1)))
-    (callers_tell_ends (n + 1) ls small.1)
+caller_read : (c : ℕ) (l : Line) → IsSmallEnd l → end_of_line (text_words (caller_body c l)) ≡ Some (end_claim l)
+caller_read c l small = ap end_of_line (caller_words c l) ∙ end_read (decimal c) (decimal l.entries) l.state l.answered l.longest small.0 small.1
 
-callers_tell_calls : (n : ℕ) (ls : List Line) → Tells call_of_line (flat_map caller_line_text (enumerate_from n ls)) []
-callers_tell_calls n [] = tells_nothing call_of_line
-callers_tell_calls n (l ∷ ls) =
-    tells_both call_of_line (caller_line_text (n, l)) (flat_map caller_line_text (enumerate_from (n + 1) ls)) [] []
-    (tells_same call_of_line (caller_body n l ++ codes "\n") (caller_line_text (n, l)) [] (caller_parts (codes "caller ") (decimal n) (state_text l.state) (decimal l.answered) (decimal l.entries) (decimal l.longest) (codes "\n"))
-    (tells_line call_of_line (caller_body n l) None (caller_one_line n l) refl))
-    (callers_tell_calls (n + 1) ls)
+callers_read : (n : ℕ) (ls : List Line) (rest : List (List ℕ)) → Each IsSmallEnd ls → read_lines end_of_line (map rest_body (enumerate_from n ls) ++ rest) ≡ map end_claim ls ++ read_lines end_of_line rest
+callers_read n [] rest small = refl
+callers_read n (l ∷ ls) rest small =
+    ap (λ (o : Option EndClaim). onto_read o (read_lines end_of_line (map rest_body (enumerate_from (n + 1) ls) ++ rest))) (caller_read n l small.0)
+    ∙ ap (λ (es : List EndClaim). end_claim l ∷ es) (callers_read (n + 1) ls rest small.1)
 
 -- ---- the text of a report
 
 pub report_calls : (r : Report) → Each IsSmallCall r.entries → call_claims_of_text (report_text r) ≡ map call_claim r.entries
-report_calls r small = report_tells call_of_line call_passes r (map call_claim r.entries) [] (entries_tell_calls r.entries small) (callers_tell_calls 0 r.callers) ∙ append-nil (map call_claim r.entries)
+report_calls r small =
+    ap (λ (ls : List (List ℕ)). read_lines call_of_line (drop 1 ls)) (report_lines r)
+    ∙ read_each call_of_line entry_body call_claim r.entries (callers_on r) (each_weaker IsSmallCall (λ (e : Entry). call_of_line (text_words (entry_body e)) ≡ Some (call_claim e)) entry_read r.entries small)
+    ∙ ap (λ (qs : List CallClaim). map call_claim r.entries ++ qs) (none_after r.callers r.seq _)
+    ∙ append-nil (map call_claim r.entries)
 
-pub report_ends : (r : Report) → Each IsSmallEnd r.callers → end_claims_of_text (report_text r) ≡ map end_claim r.callers
-report_ends r small = report_tells end_of_line end_passes r [] (map end_claim r.callers) (entries_tell_ends r.entries) (callers_tell_ends 0 r.callers small)
+after_entries : (t : List ℕ) (es : List Entry) (ls : List (List ℕ)) (n : ℕ) → n ≡ length es → drop (n + 1) (t ∷ map entry_body es ++ ls) ≡ ls
+after_entries t es ls n is =
+    ap (λ (k : ℕ). drop k (t ∷ map entry_body es ++ ls)) (let e : n + 1 ≡ suc (length (map entry_body es)) = omega (arith, is, length-map es entry_body) in e)
+    ∙ drop-append_seam (map entry_body es) ls
+
+pub report_ends : (r : Report) → Each IsSmallCall r.entries → Each IsSmallEnd r.callers → end_claims_of_text (report_text r) ≡ map end_claim r.callers
+report_ends r calls small =
+    let count : length (call_claims_of_text (report_text r)) ≡ length r.entries = ap length (report_calls r calls) ∙ length-map r.entries call_claim in
+    ap (λ (ls : List (List ℕ)). read_lines end_of_line (drop (length (call_claims_of_text (report_text r)) + 1) ls)) (report_lines r)
+    ∙ ap (read_lines end_of_line) (after_entries (codes "onefile report 1") r.entries (callers_on r) _ count)
+    ∙ callers_read 0 r.callers ((codes "seq " ++ decimal r.seq) ∷ text_lines (store_text r.store ++ codes "end\n")) small
+    ∙ ap (λ (es : List EndClaim). map end_claim r.callers ++ es) (read_none end_of_line (codes "seq " ++ decimal r.seq) (text_lines (store_text r.store ++ codes "end\n")) refl)
+    ∙ append-nil (map end_claim r.callers)

@@ -20,19 +20,10 @@ use Rattle.of_check.specs.declared.claims.EndClaim.{EndClaim}
 use Rattle.of_check.specs.Claims.{call_claim, code_end_state, end_claim}
 use Rattle.of_check.specs.Replay.{Replay, replay_at_start, entries_from, course_end, AllFollow}
 use Rattle.of_check.specs.Endings.{left_of, claimed_line, IsEnding, end_at, claimed_line_at, AreEndings, claimed_lines}
-use Rattle.of_check.specs.Verdict.{MakesClaims}
+use Rattle.of_check.specs.Causes.{made_report}
 use Rattle.of_check.proofs.Own.{own}
 use Rattle.of_check.proofs.Following.{own_facts, callers_below, in_line, since_start, last_up_to, sequences_are, each_there, replies_are, store_is}
 use Rattle.of_check.proofs.Unique.{GoOn, Behind, BehindWithin, Remade, remade}
-
--- the report that claims make
-abbrev pub made_report : Plan → Start → List CallClaim → List EndClaim → Report
-made_report p s calls ends = record {
-  entries = entries_from p (replay_at_start s) calls;
-  callers = claimed_lines p s.finished (course_end p (replay_at_start s) calls).counts ends;
-  seq = (course_end p (replay_at_start s) calls).last.seq;
-  store = (course_end p (replay_at_start s) calls).store;
-}
 
 -- the start knows each caller
 abbrev pub KnowsEach : Plan → Start → Type 0
@@ -86,7 +77,7 @@ module _ (p : Plan) (s : Start) (knows : KnowsEach p s) (calls : List CallClaim)
 
 -- ---- a legal report is the one that its claims make
 
-first_behind : (from : ℕ) (b : Bool) (e : Entry) (Q : Type 0) → MatchBool b (from < e.seq) ((from ≤ e.seq) × Q) → (from < e.seq) ⊎ ((from ≡ e.seq) × BehindWithin false b (record { seq = from; caller = 0; announced = false }) e)
+first_behind : (from : ℕ) (b : Bool) (e : Entry) (Q : Type 0) → MatchBool b (from < e.seq) ((from ≤ e.seq) × Q) → (from < e.seq) ⊎ ((from ≡ e.seq) × BehindWithin false b (record { seq = from; caller = 0; index = 0; announced = false }) e)
 first_behind from true e Q has = inl has
 first_behind from false e Q has = elim (eq-or-lt_of_le has.0) [ inl same ↦ inr (same, omega arith) | inr more ↦ inl more ]
 
@@ -150,7 +141,7 @@ module _ (p : Plan) (s : Start) (knows : KnowsEach p s) (r : Report) (legal : Is
 
   endings_are : AreEndings p s.finished c.last.seq c.counts (map end_claim r.callers)
   endings_are = record {
-    each_caller = length-map r.callers end_claim ∙ legal.open_calls.each_caller;
+    each_caller = omega (arith, length-map r.callers end_claim, legal.open_calls.each_caller);
     each = λ d lt. subst (λ (n : ℕ). IsEnding p (left_of p s.finished d) n (claimed_line_at s.finished c.counts (map end_claim r.callers) d)) (sym again.last)
         (subst (IsEnding p (left_of p s.finished d) r.seq) (sym (same_line d lt)) (is_ending d lt));
   }
@@ -169,8 +160,5 @@ module _ (p : Plan) (s : Start) (knows : KnowsEach p s) (r : Report) (legal : Is
   pub last_is : (course_end p (replay_at_start s) (map call_claim r.entries)).last.seq ≡ r.seq
   last_is = again.last
 
-  remade_own : IsRemade p s (map call_claim r.entries) (map end_claim r.callers) r
+  pub remade_own : IsRemade p s (map call_claim r.entries) (map end_claim r.callers) r
   remade_own = record { follow = again.follow; endings = endings_are; same = same_report }
-
-  pub remade_report : (calls : List CallClaim) (ends : List EndClaim) → MakesClaims r calls ends → IsRemade p s calls ends r
-  remade_report calls ends claims = subst (λ (qs : List CallClaim). IsRemade p s qs ends r) claims.of_entries (subst (λ (xs : List EndClaim). IsRemade p s (map call_claim r.entries) xs r) claims.of_callers remade_own)

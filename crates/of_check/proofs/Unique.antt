@@ -114,6 +114,7 @@ module _ (p : Plan) (s : Start) (c : Replay) (seq : ℕ) (e : Entry) (es : List 
   may_follow = record {
     caller = below;
     script = room;
+    turn = index_is;
     place = placed c.last.announced e.announced c.last e refl rises go.behind_last.0;
     reads = λ read. subst (λ (script : List Instr). All (λ i. IsTrue (reads_only i)) script) (sym script_is) (reads_when e.announced (s.seq < e.seq) ((s.seq ≤ e.seq) × All (λ i. IsTrue (reads_only i)) (script_of_entry p e)) read go.sequences.0.0).1;
   }

@@ -1,8 +1,8 @@
--- What entries and the lines of callers say beyond the plan, and how it is read from a text: line
--- by line, and nothing of a line that can't be read.
-use Rattle.std.specs.Prelude.{ℕ, Bool, true, false, List, [], ◌∷◌, if◌then◌else◌, flat_map, codes, Option, Some, None}
+-- What entries and the lines of callers say beyond the plan, and how it is read from a text: the
+-- entries from its second line on, as long as lines can be read as entries, and then the callers.
+use Rattle.std.specs.Prelude.{◌≡◌, ℕ, ◌+◌, Bool, true, false, List, [], ◌∷◌, length, drop, if◌then◌else◌, codes, Option, Some, None}
+use denote.Ref.{Bor}
 use Rattle.std.specs.Str.{bytes_eq}
-use Rattle.std.specs.Option.{option_to_list}
 use Rattle.of_script.specs.Text.{text_words}
 use Rattle.of_script.specs.Reading.{◌>>=◌, next_number}
 use Rattle.of_plan.specs.Lines.{text_lines}
@@ -14,7 +14,12 @@ use Rattle.of_check.specs.declared.claims.EndClaim.{EndClaim}
 
 -- what an entry says beyond the plan
 abbrev pub call_claim : Entry → CallClaim
-call_claim e = record { seq = e.seq; caller = e.caller; announced = e.announced }
+call_claim e = record {
+  seq = e.seq;
+  caller = e.caller;
+  index = e.index;
+  announced = e.announced;
+}
 
 -- how a caller ended, as the code has it
 abbrev pub code_end_state : EndState → TheState
@@ -53,10 +58,10 @@ abbrev pub call_in : List (List ℕ) → Option CallClaim
 call_in ws = do
   seq ← next_number 4294967295 ws
   caller ← next_number 4294967295 seq.1
-  index ← first_and_other_words caller.1
+  index ← next_number 4294967295 caller.1
   kind ← first_and_other_words index.1
   announced ← kind_named kind.0
-  Some (record { seq = seq.0; caller = caller.0; announced = announced })
+  Some (record { seq = seq.0; caller = caller.0; index = index.0; announced = announced })
 
 -- the words behind `caller`: its number, its state, its answered calls, its entries, and the steps
 -- of its longest call
@@ -82,16 +87,31 @@ end_of_line ws = do
   name ← first_and_other_words ws
   if bytes_eq name.0 (codes "caller") then end_in name.1 else None
 
--- the claims of a line, one or none
-abbrev pub call_claims_of_line : List ℕ → List CallClaim
-call_claims_of_line line = option_to_list (call_of_line (text_words line))
+-- what is read of lines, as long as something can be
+abbrev pub onto_read : {X : Type 0} → Option X → List X → List X
+onto_read None xs = []
+onto_read (Some x) xs = x ∷ xs
 
-abbrev pub end_claims_of_line : List ℕ → List EndClaim
-end_claims_of_line line = option_to_list (end_of_line (text_words line))
+abbrev pub read_lines : {X : Type 0} → (List (List ℕ) → Option X) → List (List ℕ) → List X
+read_lines read [] = []
+read_lines read (l ∷ ls) = onto_read (read (text_words l)) (read_lines read ls)
 
--- the claims of a text, line by line
+-- the lines that are left, where a text is
+abbrev pub lines_of : Option (Bor (List ℕ)) → List (List ℕ)
+lines_of None = []
+lines_of (Some rest) = text_lines rest.now
+
+-- these were read in front of lines, and those are left
+pub record HasReadLines {X : Type 0} (read : List (List ℕ) → Option X) (ls : List (List ℕ))
+    (xs : List X) (rest : List (List ℕ)) : Type 0 where
+  pub found : xs ≡ read_lines read ls
+  pub left : rest ≡ drop (length xs) ls
+
+-- the claims of the entries, after the first line
 abbrev pub call_claims_of_text : List ℕ → List CallClaim
-call_claims_of_text text = flat_map call_claims_of_line (text_lines text)
+call_claims_of_text text = read_lines call_of_line (drop 1 (text_lines text))
 
+-- the claims of the callers, after the entries
 abbrev pub end_claims_of_text : List ℕ → List EndClaim
-end_claims_of_text text = flat_map end_claims_of_line (text_lines text)
+end_claims_of_text text =
+    read_lines end_of_line (drop (length (call_claims_of_text text) + 1) (text_lines text))

@@ -1,5 +1,5 @@
 -- The lines of callers, from what they claim and from how many calls have run since the start.
-use Rattle.std.specs.Prelude.{◌≡◌, ℕ, ◌-◌, ◌<◌, List, length, map, slice_index, slice_index_or}
+use Rattle.std.specs.Prelude.{ℕ, ◌-◌, ◌≤◌, ◌<◌, List, length, map, slice_index, slice_index_or}
 use Rattle.std.specs.List.{range_with_len}
 use Rattle.of_plan.specs.Plan.{Plan, scripts_of}
 use Rattle.of_plan.specs.Report.{Line}
@@ -36,20 +36,14 @@ abbrev pub claimed_line_at : (done counts : List ℕ) → List EndClaim → ℕ 
 claimed_line_at done counts ends c =
     claimed_line (slice_index counts c - slice_index done c) (end_at ends c)
 
--- there is a claim for each caller, and each may end so
+-- there is a claim for each caller, and each may end so; the lines after them are no caller's
 pub record AreEndings (p : Plan) (done : List ℕ) (seq : ℕ) (counts : List ℕ) (ends : List EndClaim)
     : Type 0 where
-  pub each_caller : length ends ≡ p.callers
+  pub each_caller : p.callers ≤ length ends
   pub each : (c : ℕ) → c < p.callers
       → IsEnding p (left_of p done c) seq (claimed_line_at done counts ends c)
 
--- the lines of all callers
+-- the lines of all callers; one that claims nothing is done with nothing answered
 abbrev pub claimed_lines : Plan → (done counts : List ℕ) → List EndClaim → List Line
 claimed_lines p done counts ends =
     map (claimed_line_at done counts ends) (range_with_len 0 p.callers)
-
--- these are the lines, and each caller may end so
-pub record AreLines (p : Plan) (done : List ℕ) (seq : ℕ) (counts : List ℕ) (ends : List EndClaim)
-    (lines : List Line) : Type 0 where
-  pub endings : AreEndings p done seq counts ends
-  pub are : lines ≡ claimed_lines p done counts ends

@@ -1,52 +1,100 @@
 -- Whether an image is where a report ends.
-use Rattle.std.specs.Prelude.{◌≡◌, ◌≢◌, ℕ, ◌+◌, ◌<◌, List, [], ◌∷◌, if◌then◌else◌}
+use Rattle.std.specs.Prelude.{◌≡◌, ◌≢◌, ℕ, ◌+◌, ◌<◌, List, [], ◌∷◌, if◌then◌else◌, Option, Some, None, IfSome}
+use Rattle.of_script.specs.declared.instr.Reply.{Reply as TheReply}
+use Rattle.of_script.specs.declared.instr.TheConstants.{MOST_INSTRS}
+use Rattle.of_store.specs.Store.{Reply}
+use Rattle.of_store.specs.Replies.{reply_value_of}
+use Rattle.of_eval.specs.Shapes.{IsHeldBy}
+use Rattle.of_eval.specs.Lawful.{reply_in}
 use Rattle.of_plan.specs.Plan.{Plan}
 use Rattle.of_plan.specs.Report.{Entry, Report, Start, entries_of, finished_of}
-use Rattle.of_report.specs.Image.{Image, image_ticket}
+use Rattle.of_report.specs.declared.report.Entry.{Entry as TheEntry}
+use Rattle.of_report.specs.Report.{entry_value}
+use Rattle.of_report.specs.Image.{Image, image_number, image_ticket}
 use Rattle.of_check.specs.declared.ends.LeftRule.{LeftRule}
-use Rattle.of_check.specs.declared.ends.LeftRule.TheVariants.{Callers, Blocks, Sequence, Ticket, Store}
+use Rattle.of_check.specs.declared.ends.LeftRule.TheVariants.{Callers, Blocks, Sequence, Ticket, Reply as ReplyRule, Store}
 
--- the ticket that a caller has behind these entries of it, where it had this one before: it counts
--- up to its last announced entry. A read that wasn't announced leaves no ticket
-abbrev pub ticket_behind : (before : ℕ) → List Entry → ℕ
-ticket_behind before [] = before
-ticket_behind before (e ∷ es) = ticket_behind (if e.announced then e.index + 1 else before) es
+-- ---- the last call that a caller announced
 
--- the ticket of a caller behind a report from a start
-abbrev pub ticket_after : Start → Report → (caller : ℕ) → ℕ
-ticket_after s r c = ticket_behind (finished_of s c) (entries_of r c)
+-- the last announced of these entries, or else the one before them
+abbrev pub last_announced : (before : Option Entry) → List Entry → Option Entry
+last_announced before [] = before
+last_announced before (e ∷ es) = last_announced (if e.announced then Some e else before) es
 
--- the ticket of a caller in the image is that behind the report
+-- the last one of a caller in a report
+abbrev pub last_call : Report → (caller : ℕ) → Option Entry
+last_call r c = last_announced None (entries_of r c)
+
+-- the entry that the code has, if it has one
+abbrev pub entry_in : Option TheEntry → Option Entry
+entry_in None = None
+entry_in (Some e) = Some (entry_value e)
+
+-- the ticket after this last call, where so many were done before. A read that wasn't announced
+-- leaves no ticket
+abbrev pub ticket_after : (before : ℕ) → Option Entry → ℕ
+ticket_after before None = before
+ticket_after before (Some e) = e.index + 1
+
+-- ---- what an image has of it
+
+-- the ticket of a caller in the image is that of its last announced entry
 abbrev pub HasTicket : Start → Report → Image → (caller : ℕ) → Type 0
-HasTicket s r i c = image_ticket i c ≡ ticket_after s r c
+HasTicket s r i c = image_ticket i c ≡ ticket_after (finished_of s c) (last_call r c)
 
--- the image has the plan's callers and blocks, and it is where the report ends: its sequence, its
--- tickets and its store
+-- a caller's own cells hold this reply
+pub record CellsHoldReply (i : Image) (c : ℕ) (response : Reply) : Type 0 where
+  pub reply : TheReply
+  pub held : IsHeldBy (reply_in MOST_INSTRS (image_number i) c) reply
+  pub is : reply_value_of reply ≡ response
+
+-- they hold the reply of its last announced entry, if the report has one
+abbrev pub HasReply : Report → Image → (caller : ℕ) → Type 0
+HasReply r i c = IfSome (last_call r c) (λ e. CellsHoldReply i c e.reply)
+
+-- a caller's own cells are those of its last announced entry
+pub record HoldsLastCall (s : Start) (r : Report) (i : Image) (c : ℕ) : Type 0 where
+  pub ticket : HasTicket s r i c
+  pub reply : HasReply r i c
+
+-- the image has the plan's callers and blocks, and it is where the report ends: its sequence, what
+-- the callers' own cells hold, and its store
 pub record EndsAt (p : Plan) (s : Start) (r : Report) (i : Image) : Type 0 where
   pub callers : i.row.callers ≡ p.callers
   pub blocks : i.row.blocks ≡ p.blocks
   pub seq : i.seq ≡ r.seq
-  pub tickets : (c : ℕ) → c < p.callers → HasTicket s r i c
+  pub last_calls : (c : ℕ) → c < p.callers → HoldsLastCall s r i c
   pub store : i.store ≡ r.store
 
--- the image has the plan's callers and blocks
-pub record ImageHasSizes (p : Plan) (i : Image) : Type 0 where
+-- ---- what is wrong with one
+
+-- the image has the plan's callers and blocks, and the report's sequence
+pub record HasSizes (p : Plan) (r : Report) (i : Image) : Type 0 where
   pub callers : i.row.callers ≡ p.callers
   pub blocks : i.row.blocks ≡ p.blocks
+  pub seq : i.seq ≡ r.seq
 
--- this caller's ticket is another, and no one's before it
-pub record BreaksTicket (p : Plan) (s : Start) (r : Report) (i : Image) (caller : ℕ) : Type 0 where
+-- of this caller the cells are wrong so, and of none before it
+pub record BreaksCall (p : Plan) (s : Start) (r : Report) (i : Image) (caller : ℕ)
+    (Wrong : Type 0) : Type 0 where
   pub there : caller < p.callers
-  pub before : (c : ℕ) → c < caller → HasTicket s r i c
-  pub breaks : HasTicket s r i caller → ⊥
+  pub before : (c : ℕ) → c < caller → HoldsLastCall s r i c
+  pub breaks : Wrong
+
+-- the cells of a caller break this rule, and those of none before it
+abbrev pub BreaksCalls : Plan → Start → Report → Image → LeftRule → Type 0
+BreaksCalls p s r i (Ticket c) = BreaksCall p s r i c (HasTicket s r i c → ⊥)
+BreaksCalls p s r i (ReplyRule c) =
+    BreaksCall p s r i c (HasTicket s r i c × (HasReply r i c → ⊥))
+BreaksCalls p s r i rule = ⊥
 
 -- the image breaks this rule, and none of those that are asked before it
 abbrev pub BreaksLeft : Plan → Start → Report → Image → LeftRule → Type 0
 BreaksLeft p s r i Callers = i.row.callers ≢ p.callers
 BreaksLeft p s r i Blocks = (i.row.callers ≡ p.callers) × (i.row.blocks ≢ p.blocks)
-BreaksLeft p s r i Sequence = ImageHasSizes p i × (i.seq ≢ r.seq)
-BreaksLeft p s r i (Ticket c) =
-    ImageHasSizes p i × (i.seq ≡ r.seq) × BreaksTicket p s r i c
+BreaksLeft p s r i Sequence =
+    (i.row.callers ≡ p.callers) × (i.row.blocks ≡ p.blocks) × (i.seq ≢ r.seq)
+BreaksLeft p s r i (Ticket c) = HasSizes p r i × BreaksCalls p s r i (Ticket c)
+BreaksLeft p s r i (ReplyRule c) = HasSizes p r i × BreaksCalls p s r i (ReplyRule c)
 BreaksLeft p s r i Store =
-    ImageHasSizes p i × (i.seq ≡ r.seq) × ((c : ℕ) → c < p.callers → HasTicket s r i c)
-    × (i.store ≢ r.store)
+    HasSizes p r i × ((c : ℕ) → c < p.callers → HoldsLastCall s r i c) × (i.store ≢ r.store)

@@ -1,7 +1,7 @@
 pub mod Starts
 pub mod Claims
-pub mod Replay
 pub mod Endings
+pub mod Replay
 pub mod Verdict
 pub mod Causes
 pub mod Ends

@@ -4,9 +4,11 @@ use Rattle.of_script.specs.declared.instr.Instr.{Instr}
 use Rattle.of_script.specs.Language.{reads_only}
 use Rattle.of_store.specs.Store.{Store, run}
 use Rattle.of_plan.specs.Plan.{Plan, scripts_of}
-use Rattle.of_plan.specs.Report.{Entry, Start}
+use Rattle.of_plan.specs.Report.{Entry, Start, Report}
 use Rattle.of_report.specs.Report.{entry_value}
 use Rattle.of_check.specs.declared.claims.CallClaim.{CallClaim}
+use Rattle.of_check.specs.declared.claims.EndClaim.{EndClaim}
+use Rattle.of_check.specs.Endings.{claimed_lines}
 use Rattle.of_check.specs.declared.replay.Replay.{Replay as RustReplay}
 
 -- how many calls of each caller have run, the claim of the last call, and the store that it left
@@ -19,7 +21,7 @@ pub record Replay : Type 0 where
 abbrev pub replay_at_start : Start → Replay
 replay_at_start s = record {
   counts = s.finished;
-  last = record { seq = s.seq; caller = 0; announced = false };
+  last = record { seq = s.seq; caller = 0; index = 0; announced = false };
   store = s.store;
 }
 
@@ -69,11 +71,12 @@ MayFollowWithin true false last q = q.seq ≡ last.seq
 MayFollowWithin false true last q = q.seq ≡ last.seq + 1
 MayFollowWithin false false last q = (q.seq ≡ last.seq) × (last.caller ≤ q.caller)
 
--- the claimed call may come next: its caller has a script more, it stands where it may, and the
--- script of a read only reads
+-- the claimed call may come next: its caller has a script more, it is of that script, it stands
+-- where it may, and the script of a read only reads
 pub record MayFollow (p : Plan) (c : Replay) (q : CallClaim) : Type 0 where
   pub caller : q.caller < p.callers
   pub script : index_for c q < length (scripts_of p q.caller)
+  pub turn : q.index ≡ index_for c q
   pub place : MayFollowWithin c.last.announced q.announced c.last q
   pub reads : q.announced ≡ false → All (λ i. IsTrue (reads_only i)) (script_for p c q)
 
@@ -104,3 +107,12 @@ pub record HasRunCalls (p : Plan) (s : Start) (qs : List CallClaim) (r : RustRep
   pub follow : AllFollow p (replay_at_start s) qs
   pub course : replay_value r ≡ course_end p (replay_at_start s) qs
   pub entries : entries_so_far r ≡ entries_from p (replay_at_start s) qs
+
+-- the report of these, with the lines of callers that are claimed
+abbrev pub report_so_far : Plan → (done : List ℕ) → RustReplay → List EndClaim → Report
+report_so_far p done r ends = record {
+  entries = entries_so_far r;
+  callers = claimed_lines p done r.counts.items ends;
+  seq = r.last.seq;
+  store = r.store;
+}

@@ -1,12 +1,9 @@
 -- When a text is a legal report of a plan, and what the check answers.
-use Rattle.std.specs.Prelude.{◌≡◌, ℕ, ◌≤◌, List, map}
+use Rattle.std.specs.Prelude.{◌≡◌, ℕ, ◌≤◌, List}
 use Rattle.of_plan.specs.Plan.{Plan}
 use Rattle.of_plan.specs.Report.{Report, Start, empty_start}
 use Rattle.of_plan.specs.Legal.{IsLegal}
 use Rattle.of_report.specs.ReportText.{report_text}
-use Rattle.of_check.specs.declared.claims.CallClaim.{CallClaim}
-use Rattle.of_check.specs.declared.claims.EndClaim.{EndClaim}
-use Rattle.of_check.specs.Claims.{call_claim, end_claim}
 use Rattle.of_check.specs.declared.verdict.Verdict.{Verdict}
 use Rattle.of_check.specs.declared.verdict.Verdict.TheVariants.{Legal, Illegal}
 
@@ -36,23 +33,3 @@ pub record IsTextOf (p : Plan) (s : Start) (text : List ℕ) (report : Report) :
 pub record IsLegalFrom (p : Plan) (s : Start) (text : List ℕ) : Type 0 where
   pub report : Report
   pub of_it : IsTextOf p s text report
-
--- legal exactly where the text is that of such a report
-abbrev pub IsVerdictFrom : Plan → Start → List ℕ → Verdict → Type 0
-IsVerdictFrom p s text Legal = IsLegalFrom p s text
-IsVerdictFrom p s text Illegal = IsLegalFrom p s text → ⊥
-
--- the report makes these claims
-pub record MakesClaims (r : Report) (calls : List CallClaim) (ends : List EndClaim) : Type 0 where
-  pub of_entries : map call_claim r.entries ≡ calls
-  pub of_callers : map end_claim r.callers ≡ ends
-
--- no legal report makes these claims
-abbrev pub NoLegalReportMakes : Plan → Start → List CallClaim → List EndClaim → Type 0
-NoLegalReportMakes p s calls ends = (r : Report) → IsLegal p s r → MakesClaims r calls ends → ⊥
-
--- a legal report, and the only one that can make these claims
-pub record IsClaimed (p : Plan) (s : Start) (calls : List CallClaim) (ends : List EndClaim)
-    (made : Report) : Type 0 where
-  pub legal : IsLegal p s made
-  pub only : (r : Report) → IsLegal p s r → MakesClaims r calls ends → made ≡ r

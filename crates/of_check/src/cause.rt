@@ -9,6 +9,8 @@ pub enum EntryRule {
     NoCaller,
     /// The caller has no script left.
     NoScript,
+    /// Its index is not that of its caller's next script.
+    Turn,
     /// Its sequence or its caller may not come after the entry before.
     Place,
     /// It is a `read`, and its script writes.
@@ -19,6 +21,8 @@ pub enum EntryRule {
 /// right.
 #[derive(Clone, Copy, Debug, PartialEq, Eq)]
 pub enum EndRule {
+    /// The line that comes here can't be read as one of a caller.
+    Missing,
     /// It has more entries than answered calls, or fewer, and no open call explains it.
     Answered,
     /// It may not end so: done with scripts left, or stopped or spent with none, or spent below the
@@ -28,19 +32,26 @@ pub enum EndRule {
     Steps,
 }
 
-/// Why a text is no legal report of a plan: the first thing that is wrong with it. First come the
-/// entries in their order, then the lines of the callers, and then what they determine.
+/// Why a text is no legal report of a plan: its first line that is wrong.
 #[derive(Debug, Drop)]
 pub enum Cause {
-    /// There are so many lines of callers, and not one for each caller.
-    Callers { lines: usize },
-    /// This entry, by its index from 0.
-    Entry { index: usize, rule: EntryRule },
-    /// The line of this caller.
-    Caller { caller: u32, rule: EndRule },
-    /// A line, by the number of lines above it: it is another than that of the one report that has
-    /// these entries and these lines of callers, whose whole text is wanted.
-    Line { above: u64, wanted: Vec<u8> },
+    /// The entry with this index, from 0. It is on the line with one line more above it.
+    Entry {
+        index: usize,
+        rule: EntryRule,
+    },
+    /// The line of this caller, after so many entries.
+    Caller {
+        entries: usize,
+        caller: u32,
+        rule: EndRule,
+    },
+    /// The line with so many lines above it is another than in this text, which is that of the
+    /// report that the entries and the lines of callers claim.
+    Line {
+        above: u64,
+        wanted: Vec<u8>,
+    },
 }
 
 /// What a text is judged to be.

@@ -1,8 +1,9 @@
-//! What the lines of a text claim of a report; a line that can't be read claims nothing.
+//! What the lines of a text claim of a report: first the entries, and then the callers.
 
 ghost use Rattle.std.specs.Prelude.{◌≡◌, IfOk};
 ghost use Rattle.of_script.specs.Text.{text_words};
 ghost use Rattle.of_check.specs.Claims as claimed;
+ghost use Rattle.of_check.specs.Claims.{lines_of, read_lines, HasReadLines};
 
 use of_report::EndState;
 use of_script::text::{cut, next_number, word};
@@ -13,6 +14,7 @@ use std::alloc::{AllocError, Global};
 pub(crate) struct CallClaim {
     pub seq: u32,
     pub caller: u32,
+    pub index: u32,
     pub announced: bool,
 }
 
@@ -66,12 +68,13 @@ fn call_in(bytes: &[u8]) -> Option<CallClaim>
 {
     let (seq, rest) = next_number(bytes, u32::MAX)?;
     let (caller, rest) = next_number(rest, u32::MAX)?;
-    let (_, rest) = word(rest)?;
+    let (index, rest) = next_number(rest, u32::MAX)?;
     let (kind, _) = word(rest)?;
     let announced = kind_named(kind)?;
     Some(CallClaim {
         seq,
         caller,
+        index,
         announced,
     })
 }
@@ -115,43 +118,57 @@ fn end_of_line(line: &[u8]) -> Option<EndClaim>
     end_in(rest)
 }
 
-impl Claims {
-    ghost use Rattle.std.specs.Prelude.{◌≡◌, ◌++◌, OnOk};
-    ghost use Rattle.of_check.specs.Claims.{call_claims_of_line, end_claims_of_line, call_claims_of_text, end_claims_of_text};
-
-    // Adds what a line claims. The error is want of memory.
-    fn add(&mut self, line: &[u8]) -> Result<(), AllocError>
-        ensures calls { OnOk result
-            (self.new.calls.items ≡ self.old.calls.items ++ call_claims_of_line line.now) }
-        ensures ends { OnOk result
-            (self.new.ends.items ≡ self.old.ends.items ++ end_claims_of_line line.now) }
-    {
-        if let Some(call) = call_of_line(line) {
-            self.calls.push(call)?;
+// Reads the entries in front of these lines, and leaves the lines after them. The error is out of
+// memory.
+fn read_calls(
+    alloc: Global,
+    lines: Option<&[u8]>,
+) -> Result<(Vec<CallClaim>, Option<&[u8]>), AllocError>
+    ensures { IfOk result (λ r.
+        HasReadLines claimed.call_of_line (lines_of lines.entry) r.0.items (lines_of r.1)) }
+{
+    let mut calls = Vec::new(alloc);
+    let mut rest = lines;
+    while let Some(text) = rest {
+        let (line, after) = cut(text, b'\n');
+        match call_of_line(line) {
+            Some(call) => calls.push(call)?,
+            None => return Ok((calls, rest)),
         }
-        if let Some(end) = end_of_line(line) {
-            self.ends.push(end)?;
-        }
-        Ok(())
+        rest = after;
     }
+    Ok((calls, rest))
+}
 
-    /// What a text claims. The error is want of memory.
+// Reads the lines of callers in front of these lines. The error is out of memory.
+fn read_ends(alloc: Global, lines: Option<&[u8]>) -> Result<Vec<EndClaim>, AllocError>
+    ensures { IfOk result (λ ends.
+        ends.items ≡ read_lines claimed.end_of_line (lines_of lines.entry)) }
+{
+    let mut ends = Vec::new(alloc);
+    let mut rest = lines;
+    while let Some(text) = rest {
+        let (line, after) = cut(text, b'\n');
+        match end_of_line(line) {
+            Some(end) => ends.push(end)?,
+            None => return Ok(ends),
+        }
+        rest = after;
+    }
+    Ok(ends)
+}
+
+impl Claims {
+    ghost use Rattle.of_check.specs.Claims.{call_claims_of_text, end_claims_of_text};
+
+    /// What a text claims. The error is out of memory.
     pub(crate) fn read(alloc: Global, text: &[u8]) -> Result<Claims, AllocError>
         ensures calls { IfOk result (λ claims. claims.calls.items ≡ call_claims_of_text text.now) }
         ensures ends { IfOk result (λ claims. claims.ends.items ≡ end_claims_of_text text.now) }
     {
-        let mut claims = Claims {
-            calls: Vec::new(alloc),
-            ends: Vec::new(alloc),
-        };
-        let mut rest = text;
-        loop {
-            let (first, after) = cut(rest, b'\n');
-            claims.add(first)?;
-            match after {
-                Some(more) => rest = more,
-                None => return Ok(claims),
-            }
-        }
+        let (_, lines) = cut(text, b'\n');
+        let (calls, rest) = read_calls(alloc, lines)?;
+        let ends = read_ends(alloc, rest)?;
+        Ok(Claims { calls, ends })
     }
 }

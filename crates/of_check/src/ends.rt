@@ -1,21 +1,24 @@
 //! Whether an image is where a report ends.
 
-ghost use Rattle.std.specs.Prelude.{◌≡◌, ◌↔◌, ◌<◌, ℕ, IsTrue, length, filter, map, ◌==◌, IfSome, MatchOption};
+ghost use Rattle.std.specs.Prelude.{◌≡◌, ◌↔◌, ◌<◌, ℕ, IsTrue, length, take, filter, map, ◌==◌, IfSome, MatchOption, None};
 ghost use Rattle.std.specs.BTreeMap.{IsOrdered};
 ghost use Rattle.std.specs.Ordering.{nat_cmp};
 ghost use Rattle.of_script.specs.declared.instr.TheConstants.{MOST_INSTRS};
+ghost use Rattle.of_store.specs.Replies.{reply_value_of};
 ghost use Rattle.of_plan.specs.Report.{Start as PlainStart};
 ghost use Rattle.of_report.specs.Report.{entry_value, report_value};
 ghost use Rattle.of_report.specs.Image.{IsImage};
-ghost use Rattle.of_check.specs.Ends.{ticket_behind, HasTicket, BreaksTicket, EndsAt, BreaksLeft};
+ghost use Rattle.of_check.specs.Ends.{last_announced, entry_in, ticket_after, CellsHoldReply, HoldsLastCall, EndsAt, BreaksCalls, BreaksLeft};
 
+use of_eval::reply_of;
 use of_plan::Plan;
 use of_report::{Entry, Image, Report};
-use of_script::QUEUES;
+use of_script::{QUEUES, Reply};
 use of_store::Store;
 use std::collections::BTreeMap;
 
 /// What is wrong with an image that is not where a report ends; what is asked before it is right.
+/// The callers' own cells are asked caller by caller.
 #[derive(Clone, Copy, Debug, PartialEq, Eq)]
 pub enum LeftRule {
     /// It has another number of callers than the plan.
@@ -27,22 +30,78 @@ pub enum LeftRule {
     /// The ticket of this caller is not that of its last announced entry, or of the start if it has
     /// none.
     Ticket { caller: u32 },
+    /// The reply in this caller's own cells is not that of its last announced entry.
+    Reply { caller: u32 },
     /// Its store is not the report's.
     Store,
 }
 
-// The ticket of a caller behind these entries, where it had this one before.
-fn ticket_behind(before: u32, entries: &[Entry], caller: u32) -> u64
-    ensures { result ≡ ticket_behind before
+// The last announced entry of a caller.
+fn last_announced(entries: &[Entry], caller: u32) -> Option<Entry>
+    ensures { entry_in result ≡ last_announced None
         (filter (λ e. e.caller == caller) (map entry_value entries.now)) }
 {
-    let mut ticket = u64::from(before);
+    let mut last = None;
     for entry in entries {
         if entry.caller == caller && entry.announced {
-            ticket = u64::from(entry.index) + 1;
+            last = Some(*entry);
         }
     }
-    ticket
+    last
+}
+
+// The ticket after this last call, where so many were done before.
+fn ticket_after(before: u32, last: Option<Entry>) -> u64
+    ensures { result ≡ ticket_after before (entry_in last) }
+{
+    match last {
+        Some(entry) => u64::from(entry.index) + 1,
+        None => u64::from(before),
+    }
+}
+
+// The values of a reply that no abort has taken back.
+fn values(reply: &Reply) -> &[Option<u32>]
+    ensures { result.now ≡ take reply.now.len reply.now.values }
+{
+    let values = reply.values.as_slice();
+    &values[..values.len().min(reply.len as usize)]
+}
+
+// Whether two replies say the same.
+fn same_reply(one: &Reply, other: &Reply) -> bool
+    ensures { IsTrue result ↔ (reply_value_of one.now ≡ reply_value_of other.now) }
+{
+    match (one.abort, other.abort) {
+        (None, None) => values(one) == values(other),
+        (Some(first), Some(second)) => first.place == second.place && first.cause == second.cause,
+        _ => false,
+    }
+}
+
+// Whether a caller's own cells hold a reply.
+fn holds_reply(image: &Image, caller: u32, reply: &Reply) -> bool
+    requires image { IsImage MOST_INSTRS image.now }
+    requires caller { caller < image.now.row.callers }
+    ensures { IsTrue result ↔ CellsHoldReply image.now caller (reply_value_of reply.now) }
+{
+    match reply_of(&image.reply(caller)) {
+        Some(held) => same_reply(&held, reply),
+        None => false,
+    }
+}
+
+// Whether a caller's own cells hold the reply of its last announced entry, if it has one.
+fn holds_last(image: &Image, caller: u32, last: Option<Entry>) -> bool
+    requires image { IsImage MOST_INSTRS image.now }
+    requires caller { caller < image.now.row.callers }
+    ensures { IsTrue result
+        ↔ IfSome (entry_in last) (λ e. CellsHoldReply image.now caller e.reply) }
+{
+    match last {
+        Some(entry) => holds_reply(image, caller, &entry.reply),
+        None => true,
+    }
 }
 
 // The keys of a map stand in their order.
@@ -76,20 +135,24 @@ fn same_store(one: &Store, other: &Store) -> bool
     true
 }
 
-// The first caller whose ticket is not the one behind the report; None where all are.
-fn wrong_ticket(plan: &Plan, done: &[u32], report: &Report, image: &Image) -> Option<u32>
+// What is wrong with the own cells of the first caller of which they aren't those of its last
+// announced entry; None where all are.
+fn wrong_call(plan: &Plan, done: &[u32], report: &Report, image: &Image) -> Option<LeftRule>
     requires done { length done.now ≡ plan.now.callers }
     requires image { IsImage MOST_INSTRS image.now }
     requires callers { image.now.row.callers ≡ plan.now.callers }
     ensures { (s : PlainStart) → s.finished ≡ done.now → MatchOption result
         ((c : ℕ) → c < plan.now.callers
-        → HasTicket s (report_value report.now) image.now c)
-        (λ c. BreaksTicket plan.now s (report_value report.now) image.now c) }
+        → HoldsLastCall s (report_value report.now) image.now c)
+        (BreaksCalls plan.now s (report_value report.now) image.now) }
 {
     for caller in 0..plan.callers() {
-        let ticket = ticket_behind(done[caller as usize], &report.entries, caller);
-        if u64::from(image.ticket(caller)) != ticket {
-            return Some(caller);
+        let last = last_announced(&report.entries, caller);
+        if u64::from(image.ticket(caller)) != ticket_after(done[caller as usize], last) {
+            return Some(LeftRule::Ticket { caller });
+        }
+        if !holds_last(image, caller, last) {
+            return Some(LeftRule::Reply { caller });
         }
     }
     None
@@ -113,11 +176,13 @@ pub fn why_left(plan: &Plan, done: &[u32], report: &Report, image: &Image) -> Op
     if image.recovered.seq != report.seq {
         return Some(LeftRule::Sequence);
     }
-    if let Some(caller) = wrong_ticket(plan, done, report, image) {
-        return Some(LeftRule::Ticket { caller });
+    match wrong_call(plan, done, report, image) {
+        Some(rule) => Some(rule),
+        None => {
+            if same_store(&image.store, &report.store) {
+                return None;
+            }
+            Some(LeftRule::Store)
+        }
     }
-    if !same_store(&image.store, &report.store) {
-        return Some(LeftRule::Store);
-    }
-    None
 }

@@ -5,13 +5,14 @@ mod cause;
 mod claims;
 mod endings;
 mod ends;
+mod judging;
+mod reason;
 mod replay;
-mod searching;
 mod start;
 mod verdict;
 
 pub use cause::{Cause, EndRule, EntryRule, Judgement};
 pub use ends::{LeftRule, why_left};
-pub use searching::{report_or_cause, why};
+pub use judging::{judge, judge_from};
 pub use start::{Start, tickets};
-pub use verdict::{Verdict, check, check_from, read_report};
+pub use verdict::{Verdict, check};

@@ -1,14 +1,16 @@
 //! Claimed calls, run one after another on the store.
 
-ghost use Rattle.std.specs.Prelude.{◌≡◌, ◌↔◌, [], IsTrue, length, IfOk, MatchOption};
-ghost use Rattle.std.specs.Bool.{MatchBool};
+ghost use Rattle.std.specs.Prelude.{◌≡◌, ◌↔◌, [], IsTrue, length, IfOk, OnOk};
+ghost use Rattle.of_plan.specs.Plan.{IsPlan};
+ghost use Rattle.of_report.specs.Report.{report_value};
 ghost use Rattle.of_check.specs.Starts.{start_of};
-ghost use Rattle.of_check.specs.Replay.{MayFollowWithin, MayFollow, AllFollow, HasRunCall, HasRunCalls, replay_at_start, replay_value, entries_so_far};
+ghost use Rattle.of_check.specs.Replay.{MayFollowWithin, MayFollow, HasRunCall, replay_at_start, replay_value, entries_so_far, report_so_far};
 
-use crate::claims::CallClaim;
+use crate::claims::{CallClaim, EndClaim};
+use crate::endings::lines;
 use crate::start::Start;
 use of_plan::Plan;
-use of_report::Entry;
+use of_report::{Entry, Report};
 use of_store::Store;
 use std::alloc::{AllocError, Global};
 
@@ -36,6 +38,13 @@ pub(crate) fn follows(last: CallClaim, next: CallClaim) -> bool
     }
 }
 
+// A plan is within its ranges.
+pub(crate) fn in_range(plan: &Plan)
+    ensures { IsPlan plan.now }
+{
+    let _ = plan.callers();
+}
+
 impl Replay {
     // No call has run since the start.
     pub(crate) fn new(alloc: Global, start: Start) -> Replay
@@ -53,67 +62,54 @@ impl Replay {
             last: CallClaim {
                 seq,
                 caller: 0,
+                index: 0,
                 announced: false,
             },
             store,
         }
     }
 
-    // Runs a claimed call and answers true, where it may come next; else false. The error is want
-    // of memory.
-    pub(crate) fn run_call(&mut self, plan: &Plan, call: CallClaim) -> Result<bool, AllocError>
-        requires { length self.old.counts.items ≡ plan.now.callers }
-        ensures { IfOk result (λ taken. MatchBool taken
-            (HasRunCall plan.now self.old self.new call)
-            (MayFollow plan.now (replay_value self.old) call → ⊥)) }
+    // Runs a claimed call that may come next. The error is out of memory.
+    pub(crate) fn run_call(&mut self, plan: &Plan, call: CallClaim) -> Result<(), AllocError>
+        requires counts { length self.old.counts.items ≡ plan.now.callers }
+        requires follows { MayFollow plan.now (replay_value self.old) call }
+        ensures { OnOk result (HasRunCall plan.now self.old self.new call) }
     {
-        if call.caller >= plan.callers() {
-            return Ok(false);
-        }
-        let index = self.counts[call.caller as usize];
+        in_range(plan);
         let scripts = plan.scripts(call.caller);
-        if index as usize >= scripts.len() {
-            return Ok(false);
-        }
-        if !follows(self.last, call) {
-            return Ok(false);
-        }
-        let script = &scripts[index as usize];
-        if !call.announced && !script.reads_only() {
-            return Ok(false);
-        }
-        let reply = self.store.run(script)?;
+        let reply = self.store.run(&scripts[call.index as usize])?;
         self.entries.push(Entry {
             seq: call.seq,
             caller: call.caller,
-            index,
+            index: call.index,
             announced: call.announced,
             reply,
         })?;
-        self.counts[call.caller as usize] = index + 1;
+        self.counts[call.caller as usize] = call.index + 1;
         self.last = call;
-        Ok(true)
+        Ok(())
     }
 
-    // Runs claimed calls from a start; None where one of them may not come next. The error is want
-    // of memory.
-    pub(crate) fn run_all(
+    // The report of what has run, with the lines of callers that are claimed, where so many scripts
+    // of each were done at the start. The error is out of memory.
+    pub(crate) fn report(
+        self,
         alloc: Global,
         plan: &Plan,
-        start: Start,
-        calls: &[CallClaim],
-    ) -> Result<Option<Replay>, AllocError>
-        requires { length start.finished.items ≡ plan.now.callers }
-        ensures { IfOk result (λ found. MatchOption found
-            (AllFollow plan.now (replay_at_start (start_of start)) calls.now → ⊥)
-            (HasRunCalls plan.now (start_of start) calls.now)) }
+        done: &[u32],
+        ends: &[EndClaim],
+    ) -> Result<Report, AllocError>
+        requires done { length done.now ≡ plan.now.callers }
+        requires counts { length self.counts.items ≡ plan.now.callers }
+        ensures { IfOk result (λ report.
+            report_value report ≡ report_so_far plan.now done.now self ends.now) }
     {
-        let mut replay = Replay::new(alloc, start);
-        for call in calls {
-            if !replay.run_call(plan, *call)? {
-                return Ok(None);
-            }
-        }
-        Ok(Some(replay))
+        let callers = lines(alloc, plan, done, &self.counts, ends)?;
+        Ok(Report {
+            entries: self.entries,
+            callers,
+            seq: self.last.seq,
+            store: self.store,
+        })
     }
 }

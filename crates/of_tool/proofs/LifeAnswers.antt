@@ -1,6 +1,5 @@
 -- The answers to an input of an image, a plan, a report and an image.
-use Rattle.std.proofs.Common.{◌≡◌, ℕ, List, refl, ◌++◌}
-use Rattle.std.specs.Prelude.{codes, decimal}
+use Rattle.std.proofs.Common.{◌≡◌, ℕ, List, Option, Some, None, refl}
 use Rattle.of_plan.specs.BadLine.{HasBadLine}
 use Rattle.of_plan.specs.Plan.{Plan}
 use Rattle.of_plan.specs.Grammar.{SpellsPlan, IsPlanText}
@@ -11,15 +10,13 @@ use Rattle.of_image.specs.declared.error.ImageErr.TheVariants.{Memory, Bad, Unla
 use Rattle.of_image.specs.declared.version.Version.TheVariants.{Two}
 use Rattle.of_image.specs.ImageText.{IsImageText}
 use Rattle.of_image.specs.Parsed.{ImageIsRefused, IsUnlawful, ReadsImage}
-use Rattle.of_check.specs.declared.verdict.Verdict.{Verdict as CheckVerdict}
-use Rattle.of_check.specs.declared.verdict.Verdict.TheVariants.{Legal, Illegal}
 use Rattle.of_lives.specs.Images.{PlanFitsImage}
 use Rattle.of_tool.specs.declared.command.Command.TheVariants.{CheckLife}
+use Rattle.of_tool.specs.declared.legal_life.LifeCause.{LifeCause}
 use Rattle.of_tool.specs.declared.commands.Output.{Output}
 use Rattle.of_tool.specs.declared.commands.TheConstants.{MOST_WITH_REPORT}
-use Rattle.of_tool.specs.Answer.{TellsRefusal, JudgesLife}
-use Rattle.of_tool.specs.Lives.{IsLifeVerdict}
-use Rattle.of_tool.specs.declared.status.TheConstants.{BAD_PLAN, DOES_NOT_FIT}
+use Rattle.of_tool.specs.Answer.{TellsRefusal, TellsBadPlan, TellsMisfit, JudgesLife}
+use Rattle.of_tool.specs.Lives.{IsLifeJudgement}
 use Rattle.of_tool.specs.Seen.{Change, ReadsAll}
 use Rattle.of_tool.specs.Inputs.{WholeLife, ReadsFour}
 use Rattle.of_tool.specs.Refusals.{Refusal, BadPlan, BadImage, UnlawfulImage, DoesNotFit, Illegal as IsIllegalOne, status_of, text_of, IsRefused as IsRefusedFor}
@@ -31,9 +28,9 @@ refused source status text why cause status_is text_is = Refused WholeLife refl 
 
 module _ (source : Change) (bytes first behind second others : List ℕ) (read : ReadsAll MOST_WITH_REPORT source bytes) (parts : AreParts bytes first behind) (second_parts : AreParts behind second others) where
   -- the second part is no plan's text
-  pub life_planless : (line : ℕ) (text : List ℕ) → HasBadLine IsPlanText second line → text ≡ codes "error: bad plan, line " ++ decimal line ++ codes "\n" → IsAnswerTo CheckLife source BAD_PLAN text
-  life_planless line text bad text_is =
-      refused source BAD_PLAN text (BadPlan line) (record { bytes = bytes; first = first; behind = behind; second = second; others = others; read = read; parts = parts; second_parts = second_parts; bad = bad }) refl text_is
+  pub life_planless : (line : ℕ) (answer : Output) → HasBadLine IsPlanText second line → TellsBadPlan line answer → IsAnswerTo CheckLife source answer.status answer.text.items
+  life_planless line answer bad t =
+      refused source answer.status answer.text.items (BadPlan line) (record { bytes = bytes; first = first; behind = behind; second = second; others = others; read = read; parts = parts; second_parts = second_parts; bad = bad }) t.0 t.1
 
   module _ (told left : List ℕ) (last_parts : AreParts others told left) (plan : Plan) (spelled : SpellsPlan second plan) where
     four : (Is : List ℕ → Type 0) → Is first → ReadsFour Is source plan told left
@@ -49,16 +46,16 @@ module _ (source : Change) (bytes first behind second others : List ℕ) (read :
 
     module _ (image : Image) (reads : ReadsImage Two first image) where
       -- the plan doesn't fit the image
-      pub life_misfit : (text : List ℕ) → (PlanFitsImage image plan → ⊥) → text ≡ codes "error: plan does not fit image\n" → IsAnswerTo CheckLife source DOES_NOT_FIT text
-      life_misfit text misfit text_is =
-          refused source DOES_NOT_FIT text DoesNotFit (record { image = image; plan = plan; told = told; left = left; read = four (λ text. ReadsImage Two text image) reads; misfit = misfit }) refl text_is
+      pub life_misfit : (answer : Output) → (PlanFitsImage image plan → ⊥) → TellsMisfit answer → IsAnswerTo CheckLife source answer.status answer.text.items
+      life_misfit answer misfit t =
+          refused source answer.status answer.text.items DoesNotFit (record { image = image; plan = plan; told = told; left = left; read = four (λ text. ReadsImage Two text image) reads; misfit = misfit }) t.0 t.1
 
       -- the life was judged
-      pub life_found : PlanFitsImage image plan → (v : CheckVerdict) (answer : Output) → IsLifeVerdict image plan told left v → JudgesLife v answer → IsAnswerTo CheckLife source answer.status answer.text.items
-      life_found fits Legal answer says judges =
+      pub life_found : PlanFitsImage image plan → (found : Option LifeCause) (answer : Output) → IsLifeJudgement image plan told left found → JudgesLife found answer → IsAnswerTo CheckLife source answer.status answer.text.items
+      life_found fits None answer says judges =
           Done judges.0 (record {
             legal = record { image = image; plan = plan; told = told; left = left; read = four (λ text. ReadsImage Two text image) reads; fits = fits; legal = says };
             text_is = judges.1;
           })
-      life_found fits Illegal answer says judges =
-          refused source answer.status answer.text.items IsIllegalOne (record { image = image; plan = plan; told = told; left = left; read = four (λ text. ReadsImage Two text image) reads; fits = fits; illegal = says }) judges.0 judges.1
+      life_found fits (Some cause) answer says judges =
+          refused source answer.status answer.text.items IsIllegalOne (record { image = image; plan = plan; told = told; left = left; read = four (λ text. ReadsImage Two text image) reads; fits = fits; illegal = says.1 }) judges.0 judges.1

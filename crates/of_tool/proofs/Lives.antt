@@ -17,7 +17,7 @@ use Rattle.of_check.specs.Verdict.{IsTextOf, IsLegalFrom}
 use Rattle.of_check.specs.declared.cause.Cause.{Cause}
 use Rattle.of_check.specs.Causes.{IsCauseFrom}
 use Rattle.of_check.specs.declared.ends.LeftRule.{LeftRule}
-use Rattle.of_check.specs.declared.ends.LeftRule.TheVariants.{Callers, Blocks, Sequence, Ticket, Store}
+use Rattle.of_check.specs.declared.ends.LeftRule.TheVariants.{Callers, Blocks, Sequence, Ticket, Reply, Store}
 use Rattle.of_check.specs.Ends.{EndsAt, BreaksLeft}
 use Rattle.of_tool.specs.declared.legal_life.LeftFault.{LeftFault}
 use Rattle.of_tool.specs.declared.legal_life.LeftFault.TheVariants.{Bad, Unlawful, NotPrinted}
@@ -32,9 +32,10 @@ seq_few w small = omega (arith, small)
 pub broken : (p : Plan) (s : Start) (r : Report) (i : Image) (rule : LeftRule) → BreaksLeft p s r i rule → EndsAt p s r i → ⊥
 broken p s r i Callers b e = b e.callers
 broken p s r i Blocks b e = b.1 e.blocks
-broken p s r i Sequence b e = b.1 e.seq
-broken p s r i (Ticket c) b e = b.2.breaks (e.tickets c b.2.there)
-broken p s r i Store b e = b.3 e.store
+broken p s r i Sequence b e = b.2 e.seq
+broken p s r i (Ticket c) b e = b.1.breaks (e.last_calls c b.1.there).ticket
+broken p s r i (Reply c) b e = b.1.breaks.1 (e.last_calls c b.1.there).reply
+broken p s r i Store b e = b.2 e.store
 
 -- a text that is printed again otherwise is not the printed one
 pub otherwise : (text again : List ℕ) → PrintsAgain text again → again ≢ text → IsPrinted text → ⊥

@@ -1,6 +1,6 @@
 -- How an answer that is made before it is written stands for what a command does, and what the
 -- record of a run is beside it.
-use Rattle.std.specs.Prelude.{◌≡◌, ℕ, List, Option, None, MatchOption, ◌++◌, codes, decimal}
+use Rattle.std.specs.Prelude.{◌≡◌, ℕ, List, Option, Some, None, MatchOption, ◌++◌, codes, decimal}
 use Rattle.of_plan.specs.Plan.{Plan}
 use Rattle.of_plan.specs.Report.{Report}
 use Rattle.of_plan.specs.Ended.{Ended}
@@ -12,9 +12,10 @@ use Rattle.of_row.specs.Views.{View}
 use Rattle.of_row.specs.declared.member.Pass.{Pass}
 use Rattle.of_image.specs.declared.error.ImageErr.{ImageErr}
 use Rattle.of_image.specs.declared.error.ImageErr.TheVariants.{Memory, Bad, Unlawful}
-use Rattle.of_check.specs.declared.verdict.Verdict.{Verdict}
-use Rattle.of_check.specs.declared.verdict.Verdict.TheVariants.{Legal, Illegal}
-use Rattle.of_tool.specs.declared.status.TheConstants.{DONE, BAD_IMAGE, ILLEGAL}
+use Rattle.of_check.specs.declared.cause.Judgement.{Judgement}
+use Rattle.of_check.specs.declared.cause.Judgement.TheVariants.{Legal, Illegal}
+use Rattle.of_tool.specs.declared.status.TheConstants.{DONE, BAD_PLAN, BAD_IMAGE, ILLEGAL, DOES_NOT_FIT}
+use Rattle.of_tool.specs.declared.legal_life.LifeCause.{LifeCause}
 use Rattle.of_tool.specs.declared.commands.Output.{Output}
 use Rattle.of_tool.specs.declared.commands.ReadInput.{ReadInput}
 use Rattle.of_tool.specs.declared.commands.ReadInput.TheVariants.{Read, Refused}
@@ -62,16 +63,29 @@ TellsRefusal (Unlawful cell) answer =
     (answer.status ≡ BAD_IMAGE)
     × (answer.text.items ≡ codes "error: unlawful image, cell " ++ decimal cell ++ codes "\n")
 
+-- it tells the bad line of a plan
+abbrev pub TellsBadPlan : (line : ℕ) → Output → Type 0
+TellsBadPlan line answer =
+    (answer.status ≡ BAD_PLAN)
+    × (answer.text.items ≡ codes "error: bad plan, line " ++ decimal line ++ codes "\n")
+
+-- it tells that a plan does not fit an image
+abbrev pub TellsMisfit : Output → Type 0
+TellsMisfit answer =
+    (answer.status ≡ DOES_NOT_FIT)
+    × (answer.text.items ≡ codes "error: plan does not fit image\n")
+
 -- the answer of `check`
-abbrev pub TellsVerdict : Verdict → Output → Type 0
-TellsVerdict Legal answer = (answer.status ≡ DONE) × (answer.text.items ≡ codes "legal report\n")
-TellsVerdict Illegal answer =
+abbrev pub TellsVerdict : Judgement → Output → Type 0
+TellsVerdict (Legal report) answer =
+    (answer.status ≡ DONE) × (answer.text.items ≡ codes "legal report\n")
+TellsVerdict (Illegal cause) answer =
     (answer.status ≡ ILLEGAL) × (answer.text.items ≡ codes "error: not a legal report\n")
 
--- the answer of `check-life`
-abbrev pub JudgesLife : Verdict → Output → Type 0
-JudgesLife Legal answer = (answer.status ≡ DONE) × (answer.text.items ≡ codes "legal life\n")
-JudgesLife Illegal answer =
+-- the answer of `check-life`, where this is wrong
+abbrev pub JudgesLife : Option LifeCause → Output → Type 0
+JudgesLife None answer = (answer.status ≡ DONE) × (answer.text.items ≡ codes "legal life\n")
+JudgesLife (Some cause) answer =
     (answer.status ≡ ILLEGAL) × (answer.text.items ≡ codes "error: not a legal life\n")
 
 -- ---- the record of a run beside an answer

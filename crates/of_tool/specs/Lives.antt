@@ -1,6 +1,6 @@
 -- When a report and an image are those of a life that goes on from another image, and what is wrong
 -- where they aren't.
-use Rattle.std.specs.Prelude.{◌≡◌, ℕ, List}
+use Rattle.std.specs.Prelude.{◌≡◌, ℕ, List, Option, Some, None}
 use Rattle.of_plan.specs.Plan.{Plan}
 use Rattle.of_plan.specs.BadLine.{HasBadLine}
 use Rattle.of_plan.specs.Report.{Report}
@@ -83,3 +83,9 @@ IsLifeCause i p told left (Left fault) =
     IsLegalFrom p (start_of_image i) told × IsLeftFault left fault
 IsLifeCause i p told left (Ends rule) =
     EndsElsewhere i p told left (λ report next. BreaksLeft p (start_of_image i) report next rule)
+
+-- nothing is wrong with a legal life, and else this is, and it is none
+abbrev pub IsLifeJudgement : Image → Plan → (told left : List ℕ) → Option LifeCause → Type 0
+IsLifeJudgement i p told left None = IsLegalLife i p told left
+IsLifeJudgement i p told left (Some cause) =
+    IsLifeCause i p told left cause × (IsLegalLife i p told left → ⊥)

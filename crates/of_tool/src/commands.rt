@@ -1,7 +1,9 @@
 //! The top call.
 
-ghost use Rattle.std.specs.Prelude.{◌≡◌, ◌≤◌, ⊤, ℕ, IfOk, None, vec_len, codes, decimal, ◌++◌};
+ghost use Rattle.std.specs.Prelude.{◌≡◌, ◌≤◌, ⊤, ℕ, IfOk, None, vec_len};
 ghost use Rattle.of_io.specs.Faults.{HasRisen};
+ghost use Rattle.of_mem.specs.declared.work.TheConstants.{MOST_INSTRS};
+ghost use Rattle.of_report.specs.Image.{IsImage};
 ghost use Rattle.of_tool.specs.declared.command.Command.{Command};
 ghost use Rattle.of_tool.specs.declared.command.Command.TheVariants.{Serial, Play, Trace, Commits, Run, Load, Check, Continue};
 ghost use Rattle.of_tool.specs.declared.status.TheConstants.{DONE};
@@ -12,22 +14,25 @@ ghost use Rattle.of_tool.specs.Refusals.{FindsWrong};
 ghost use Rattle.of_tool.specs.Makes.{Did};
 ghost use Rattle.of_tool.specs.Statuses.{IsAnswer, AnswersWords, Ends};
 ghost use Rattle.of_tool.specs.Headline.{RunsPlan, LoadsPlan, ContinuesImage, LeavesTable};
-ghost use Rattle.of_tool.specs.Answer.{MatchInput, IsOutputFor, Refuses, RefusesUpTo, TellsVerdict, CarriesRun, CarriesLoad, Carries};
+ghost use Rattle.of_tool.specs.Answer.{MatchInput, IsOutputFor, Refuses, RefusesUpTo, TellsBadPlan, TellsMisfit, TellsVerdict, CarriesRun, CarriesLoad, Carries};
 
 use crate::command::{Command, HELP, VERSION};
 use crate::continue_life::continue_answer;
 use crate::cutting::part_answer;
 use crate::images::{image_answer, migrate_answer, recover_answer, renumber_answer};
 use crate::life_check::life_answer;
+use crate::reasons::{misfit_reason, plan_reason};
 use crate::run::run_report;
 use crate::status;
+use crate::usage::usage;
 use of_brake::Brake;
-use of_check::{Verdict, check};
+use of_check::{Judgement, judge};
 use of_image::laws::unlawful_have_none;
 use of_io::{ReadErr, Sink, Source, read_all, write_all};
 use of_plan::texts::one_cut;
 use of_plan::{Ended, Plan, PlanErr, generate, parse, parts};
 use of_play::{ALL_EVENTS, commits, play_report, trace};
+use of_report::Image;
 use of_row::Pass;
 use of_serial::serial;
 use std::alloc::{AllocError, Global};
@@ -49,11 +54,12 @@ pub const MOST_IMAGE: usize = 1 << 22;
 /// that has seen it.
 pub type TeamRecord = Option<(Ended, Pass)>;
 
-/// A status, and the text that is to be written with it.
+/// A status, the text that is to be written with it, and why, for standard error.
 #[derive(Drop)]
 pub(crate) struct Output {
     pub(crate) status: u8,
     pub(crate) text: Vec<u8>,
+    pub(crate) reason: Vec<u8>,
 }
 
 /// What the reading of an input gives.
@@ -65,13 +71,44 @@ pub(crate) enum ReadInput<T> {
     Refused(Output),
 }
 
-/// The text that names a bad line of a plan.
-pub(crate) fn bad_plan(alloc: Global, line: u64) -> Result<Vec<u8>, AllocError>
-    ensures { IfOk result (λ text.
-        text.items ≡ codes "error: bad plan, line " ++ decimal line ++ codes "\n") }
+/// The text of a command that is done.
+pub(crate) fn done(alloc: Global, text: Vec<u8>) -> Output
+    ensures status { result.status ≡ DONE }
+    ensures text { result.text.items ≡ text.items }
+{
+    Output {
+        status: status::DONE,
+        text,
+        reason: Vec::new(alloc),
+    }
+}
+
+/// The answer to a text that is no plan's, whose bad line this is.
+pub(crate) fn plan_refusal(alloc: Global, input: &[u8], line: u64) -> Result<Output, AllocError>
+    ensures { IfOk result (TellsBadPlan line) }
 {
     let text = format!(in alloc; "error: bad plan, line {line}\n")?;
-    Ok(text.into_bytes())
+    Ok(Output {
+        status: status::BAD_PLAN,
+        text: text.into_bytes(),
+        reason: plan_reason(alloc, input)?,
+    })
+}
+
+/// The answer to a plan that does not fit an image.
+pub(crate) fn misfit_refusal(
+    alloc: Global,
+    image: &Image,
+    plan: &Plan,
+) -> Result<Output, AllocError>
+    requires { IsImage MOST_INSTRS image.now }
+    ensures { IfOk result TellsMisfit }
+{
+    Ok(Output {
+        status: status::DOES_NOT_FIT,
+        text: Vec::from_slice(alloc, b"error: plan does not fit image\n")?,
+        reason: misfit_reason(alloc, image, plan)?,
+    })
 }
 
 /// The whole input of at most so many bytes, or the answer that says why there is none.
@@ -92,10 +129,12 @@ pub(crate) fn read_input<S: Source>(
         Err(ReadErr::Fault) => Ok(ReadInput::Refused(Output {
             status: status::READ_FAULT,
             text: Vec::from_slice(alloc, b"error: read fault\n")?,
+            reason: Vec::new(alloc),
         })),
         Err(ReadErr::TooLong) => Ok(ReadInput::Refused(Output {
             status: status::TOO_LONG,
             text: Vec::from_slice(alloc, b"error: input too long\n")?,
+            reason: Vec::new(alloc),
         })),
     }
 }
@@ -116,10 +155,7 @@ pub(crate) fn read_plan<S: Source>(
     match parse(alloc, &bytes) {
         Ok(plan) => Ok(ReadInput::Read(plan)),
         Err(PlanErr::Memory) => Err(AllocError),
-        Err(PlanErr::Bad { line }) => Ok(ReadInput::Refused(Output {
-            status: status::BAD_PLAN,
-            text: bad_plan(alloc, line)?,
-        })),
+        Err(PlanErr::Bad { line }) => { Ok(ReadInput::Refused(plan_refusal(alloc, &bytes, line)?)) }
     }
 }
 
@@ -129,10 +165,7 @@ fn serial_answer<S: Source>(alloc: Global, source: &mut S) -> Result<Output, All
         (bytes_change S.remaining S.faults source.old source.new)) }
 {
     match read_plan(alloc, source)? {
-        ReadInput::Read(plan) => Ok(Output {
-            status: status::DONE,
-            text: serial(alloc, &plan)?.print(alloc)?,
-        }),
+        ReadInput::Read(plan) => Ok(done(alloc, serial(alloc, &plan)?.print(alloc)?)),
         ReadInput::Refused(answer) => Ok(answer),
     }
 }
@@ -143,10 +176,7 @@ fn play_answer<S: Source>(alloc: Global, source: &mut S) -> Result<Output, Alloc
         (bytes_change S.remaining S.faults source.old source.new)) }
 {
     match read_plan(alloc, source)? {
-        ReadInput::Read(plan) => Ok(Output {
-            status: status::DONE,
-            text: play_report(alloc, &plan)?.print(alloc)?,
-        }),
+        ReadInput::Read(plan) => Ok(done(alloc, play_report(alloc, &plan)?.print(alloc)?)),
         ReadInput::Refused(answer) => Ok(answer),
     }
 }
@@ -169,11 +199,8 @@ fn run_answer<R: Threads + Sync, S: Source>(
         ReadInput::Refused(answer) => return Ok((answer, None)),
     };
     let (report, ran) = run_report(rt, alloc, &plan, brakes)?;
-    let answer = Output {
-        status: status::DONE,
-        text: report.print(alloc)?,
-    };
-    Ok((answer, Some(ran)))
+    let text = report.print(alloc)?;
+    Ok((done(alloc, text), Some(ran)))
 }
 
 // What `load` answers, and beside it what the run has left.
@@ -190,11 +217,8 @@ fn load_answer<R: Threads + Sync>(
 {
     let plan = generate(alloc, callers, scripts)?;
     let (report, ran) = run_report(rt, alloc, &plan, brakes)?;
-    let answer = Output {
-        status: status::DONE,
-        text: report.load_print(alloc)?,
-    };
-    Ok((answer, Some(ran)))
+    let text = report.load_print(alloc)?;
+    Ok((done(alloc, text), Some(ran)))
 }
 
 // What `trace` answers.
@@ -209,10 +233,7 @@ fn trace_answer<S: Source>(
         (bytes_change S.remaining S.faults source.old source.new)) }
 {
     match read_plan(alloc, source)? {
-        ReadInput::Read(plan) => Ok(Output {
-            status: status::DONE,
-            text: trace(alloc, &plan, first, count)?,
-        }),
+        ReadInput::Read(plan) => Ok(done(alloc, trace(alloc, &plan, first, count)?)),
         ReadInput::Refused(answer) => Ok(answer),
     }
 }
@@ -223,26 +244,21 @@ fn commits_answer<S: Source>(alloc: Global, source: &mut S) -> Result<Output, Al
         (bytes_change S.remaining S.faults source.old source.new)) }
 {
     match read_plan(alloc, source)? {
-        ReadInput::Read(plan) => Ok(Output {
-            status: status::DONE,
-            text: commits(alloc, &plan, ALL_EVENTS)?,
-        }),
+        ReadInput::Read(plan) => Ok(done(alloc, commits(alloc, &plan, ALL_EVENTS)?)),
         ReadInput::Refused(answer) => Ok(answer),
     }
 }
 
 // What `check` says of a report.
-fn check_output(alloc: Global, verdict: Verdict) -> Result<Output, AllocError>
-    ensures { IfOk result (TellsVerdict verdict) }
+fn check_output(alloc: Global, judgement: &Judgement, report: &[u8]) -> Result<Output, AllocError>
+    ensures { IfOk result (TellsVerdict judgement.now) }
 {
-    match verdict {
-        Verdict::Legal => Ok(Output {
-            status: status::DONE,
-            text: Vec::from_slice(alloc, b"legal report\n")?,
-        }),
-        Verdict::Illegal => Ok(Output {
+    match judgement {
+        Judgement::Legal(_) => Ok(done(alloc, Vec::from_slice(alloc, b"legal report\n")?)),
+        Judgement::Illegal(cause) => Ok(Output {
             status: status::ILLEGAL,
             text: Vec::from_slice(alloc, b"error: not a legal report\n")?,
+            reason: cause.print(alloc, report)?,
         }),
     }
 }
@@ -258,12 +274,12 @@ fn check_answer<S: Source>(alloc: Global, source: &mut S) -> Result<Output, Allo
     };
     let (first, second) = parts(&bytes);
     match parse(alloc, first) {
-        Ok(plan) => check_output(alloc, check(alloc, &plan, second)?),
+        Ok(plan) => {
+            let judgement = judge(alloc, &plan, second)?;
+            check_output(alloc, &judgement, second)
+        }
         Err(PlanErr::Memory) => Err(AllocError),
-        Err(PlanErr::Bad { line }) => Ok(Output {
-            status: status::BAD_PLAN,
-            text: bad_plan(alloc, line)?,
-        }),
+        Err(PlanErr::Bad { line }) => Ok(plan_refusal(alloc, first, line)?),
     }
 }
 
@@ -292,14 +308,8 @@ fn plain_answer<S: Source>(
         Command::Recover => recover_answer(alloc, source),
         Command::Renumber => renumber_answer(alloc, source),
         Command::Migrate => migrate_answer(alloc, source),
-        Command::Help { .. } => Ok(Output {
-            status: status::DONE,
-            text: Vec::from_slice(alloc, HELP.as_bytes())?,
-        }),
-        Command::Version => Ok(Output {
-            status: status::DONE,
-            text: Vec::from_slice(alloc, VERSION.as_bytes())?,
-        }),
+        Command::Help { .. } => Ok(done(alloc, Vec::from_slice(alloc, HELP.as_bytes())?)),
+        Command::Version => Ok(done(alloc, Vec::from_slice(alloc, VERSION.as_bytes())?)),
         Command::Run | Command::Continue | Command::Load { .. } => unreachable!(),
     }
 }
@@ -331,9 +341,81 @@ fn output_for<R: Threads + Sync, S: Source>(
             Output {
                 status: status::USAGE,
                 text: Vec::from_slice(alloc, b"error: usage\n")?,
+                reason: usage(alloc, words)?,
             },
             None,
         )),
+    }
+}
+
+/// Does what the words say with the source's bytes, and answers the exit status. `run`, `load` and
+/// `continue` run callers at once, that of number i with the brake at place i; what such a run has
+/// left is put into `ran`, and why the words or the input are refused into `reason`.
+pub fn tool_with_reason<R: Threads + Sync, S: Source, K: Sink>(
+    rt: &R,
+    alloc: Global,
+    words: &[String],
+    source: &mut S,
+    sink: &mut K,
+    brakes: Vec<Box<dyn Brake + Send>>,
+    ran: &mut TeamRecord,
+    reason: &mut Vec<u8>,
+) -> u8
+    requires brakes { vec_len brakes ≡ 16 }
+    requires none { ran.old ≡ None }
+    ensures run { word_bytes words.now ≡ command_words Run → result ≡ DONE
+        → RecordHolds ran.new (λ left_by view. RunsPlan (λ b. left b) brakes.items
+        (seen_by S.remaining S.faults source.old source.new
+        K.written K.finished K.faults sink.old sink.new)
+        left_by) }
+    ensures load { (callers scripts : ℕ) → AreWordsOf (word_bytes words.now) (Load callers scripts)
+        → result ≡ DONE
+        → RecordHolds ran.new (λ left_by view. LoadsPlan (λ b. left b) brakes.items callers scripts
+        (seen_by S.remaining S.faults source.old source.new
+        K.written K.finished K.faults sink.old sink.new)
+        left_by) }
+    ensures continued { word_bytes words.now ≡ command_words Continue → result ≡ DONE
+        → RecordHolds ran.new (λ left_by view. ContinuesImage (λ b. left b) brakes.items
+        (seen_by S.remaining S.faults source.old source.new
+        K.written K.finished K.faults sink.old sink.new)
+        left_by) }
+    ensures table { (command : Command) → AreWordsOf (word_bytes words.now) command → result ≡ DONE
+        → LeavesTable (λ b. left b) brakes.items command
+        (seen_by S.remaining S.faults source.old source.new
+        K.written K.finished K.faults sink.old sink.new)
+        ran.new }
+    ensures no_record { ¬ (AreWordsOfTeam (word_bytes words.now) × (result ≡ DONE))
+        → ran.new ≡ None }
+    ensures answered { AnswersWords (word_bytes words.now)
+        (seen_by S.remaining S.faults source.old source.new
+        K.written K.finished K.faults sink.old sink.new)
+        result }
+    ensures done { (command : Command) → AreWordsOf (word_bytes words.now) command → result ≡ DONE
+        → Did command
+        (seen_by S.remaining S.faults source.old source.new
+        K.written K.finished K.faults sink.old sink.new) }
+    ensures judged { (command : Command) → AreWordsOf (word_bytes words.now) command
+        → FindsWrong (input_of command)
+        (bytes_change S.remaining S.faults source.old source.new) result }
+    ensures unread { ¬ (AskForInput (word_bytes words.now)) → source.new ≡ source.old }
+    ensures complete { (command : Command) → AreWordsOf (word_bytes words.now) command
+        → IsValidInput command (S.remaining source.old)
+        → ¬ (HasRisen (S.faults source.old) (S.faults source.new))
+        → ¬ (HasRisen (K.faults sink.old) (K.faults sink.new))
+        → Ends command result }
+{
+    one_cut();
+    unlawful_have_none();
+    match output_for(rt, alloc, words, source, brakes) {
+        Err(_) => status::OUT_OF_MEMORY,
+        Ok((answer, found)) => match write_all(sink, &answer.text) {
+            Ok(()) => {
+                *ran = found;
+                *reason = answer.reason;
+                answer.status
+            }
+            Err(_) => status::WRITE_FAULT,
+        },
     }
 }
 
@@ -423,16 +505,6 @@ pub fn tool<R: Threads + Sync, S: Source, K: Sink>(
         → ¬ (HasRisen (K.faults sink.old) (K.faults sink.new))
         → Ends command result }
 {
-    one_cut();
-    unlawful_have_none();
-    match output_for(rt, alloc, words, source, brakes) {
-        Err(_) => status::OUT_OF_MEMORY,
-        Ok((answer, found)) => match write_all(sink, &answer.text) {
-            Ok(()) => {
-                *ran = found;
-                answer.status
-            }
-            Err(_) => status::WRITE_FAULT,
-        },
-    }
+    let mut reason = Vec::new(alloc);
+    tool_with_reason(rt, alloc, words, source, sink, brakes, ran, &mut reason)
 }

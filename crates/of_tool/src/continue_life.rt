@@ -10,12 +10,13 @@ ghost use Rattle.of_tool.specs.Seen.{bytes_change, view_of};
 ghost use Rattle.of_tool.specs.Inputs.{ImageAndPlan, ReadsLife};
 ghost use Rattle.of_tool.specs.Answer.{MatchInput, IfRead, IsOutputFor, Refuses, CarriesLife};
 
-use crate::commands::{MOST_WITH_REPORT, Output, ReadInput, TeamRecord, bad_plan, read_input};
+use crate::commands::{
+    MOST_WITH_REPORT, Output, ReadInput, TeamRecord, done, misfit_refusal, plan_refusal, read_input,
+};
 use crate::images::image_refusal;
-use crate::status;
 use of_brake::Brake;
 use of_caller::laws::reports_respect_time;
-use of_image::{image_parse, image_print};
+use of_image::{Version, image_parse, image_print};
 use of_io::Source;
 use of_lives::{Life, continue_from, fits};
 use of_plan::{Ended, Plan, PlanErr, parse, parts};
@@ -72,21 +73,17 @@ fn read_life<S: Source>(
         Ok(plan) => plan,
         Err(PlanErr::Memory) => return Err(AllocError),
         Err(PlanErr::Bad { line }) => {
-            return Ok(ReadInput::Refused(Output {
-                status: status::BAD_PLAN,
-                text: bad_plan(alloc, line)?,
-            }));
+            return Ok(ReadInput::Refused(plan_refusal(alloc, second, line)?));
         }
     };
     let image = match image_parse(alloc, first) {
         Ok(image) => image,
-        Err(err) => return Ok(ReadInput::Refused(image_refusal(alloc, err)?)),
+        Err(err) => {
+            return Ok(ReadInput::Refused(image_refusal(alloc, err, Version::Two, first)?));
+        }
     };
     if !fits(&image, &plan) {
-        return Ok(ReadInput::Refused(Output {
-            status: status::DOES_NOT_FIT,
-            text: Vec::from_slice(alloc, b"error: plan does not fit image\n")?,
-        }));
+        return Ok(ReadInput::Refused(misfit_refusal(alloc, &image, &plan)?));
     }
     Ok(ReadInput::Read((image, plan)))
 }
@@ -109,9 +106,5 @@ pub(crate) fn continue_answer<R: Threads + Sync, S: Source>(
         ReadInput::Refused(answer) => return Ok((answer, None)),
     };
     let (text, ran) = run_life(rt, alloc, &image, &plan, brakes)?;
-    let answer = Output {
-        status: status::DONE,
-        text,
-    };
-    Ok((answer, Some(ran)))
+    Ok((done(alloc, text), Some(ran)))
 }

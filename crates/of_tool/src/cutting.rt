@@ -7,7 +7,8 @@ ghost use Rattle.of_tool.specs.Cutting.{IsPart};
 ghost use Rattle.of_tool.specs.Seen.{bytes_change};
 ghost use Rattle.of_tool.specs.Answer.{IsOutputFor};
 
-use crate::commands::{MOST_WITH_REPORT, Output, ReadInput, read_input};
+use crate::commands::{MOST_WITH_REPORT, Output, ReadInput, done, read_input};
+use crate::reasons::part_reason;
 use crate::status;
 use of_io::Source;
 use of_plan::parts;
@@ -45,10 +46,8 @@ pub(crate) fn part_answer<S: Source>(
         return Ok(Output {
             status: status::DOES_NOT_FIT,
             text: Vec::from_slice(alloc, b"error: no such part\n")?,
+            reason: part_reason(alloc, &bytes, number)?,
         });
     }
-    Ok(Output {
-        status: status::DONE,
-        text: Vec::from_slice(alloc, found)?,
-    })
+    Ok(done(alloc, Vec::from_slice(alloc, found)?))
 }

@@ -10,13 +10,16 @@ ghost use Rattle.of_tool.specs.Seen.{bytes_change};
 ghost use Rattle.of_tool.specs.Inputs.{ImageAlone, ReadsImageOf};
 ghost use Rattle.of_tool.specs.Answer.{MatchInput, IfRead, IsOutputFor, Refuses, TellsRefusal};
 
-use crate::commands::{MOST_IMAGE, Output, ReadInput, read_input, read_plan};
+use crate::commands::{MOST_IMAGE, Output, ReadInput, done, read_input, read_plan};
+use crate::reasons::image_reason;
 use crate::status;
 use of_caller::laws::{plan_keeps_laws, reports_respect_time, runs_are_lawful};
 use of_core::laws::starts;
 use of_eval::Scripts;
 use of_image::laws::{one_image, records_have_images};
-use of_image::{ImageErr, image_parse, image_print, migrate, recovered_print, renumbered_print};
+use of_image::{
+    ImageErr, Version, image_parse, image_print, migrate, recovered_print, renumbered_print,
+};
 use of_io::Source;
 use of_lives::laws::lives_restart;
 use of_plan::Plan;
@@ -40,8 +43,13 @@ fn play_image(alloc: Global, plan: &Plan) -> Result<Vec<u8>, AllocError>
     image_print(alloc, &plan.plot(), &ended.words)
 }
 
-/// The answer to a text that has no image.
-pub(crate) fn image_refusal(alloc: Global, err: ImageErr) -> Result<Output, AllocError>
+/// The answer to a text that has no image of a version.
+pub(crate) fn image_refusal(
+    alloc: Global,
+    err: ImageErr,
+    version: Version,
+    input: &[u8],
+) -> Result<Output, AllocError>
     ensures { IfOk result (TellsRefusal err) }
 {
     if err == ImageErr::Memory {
@@ -51,6 +59,7 @@ pub(crate) fn image_refusal(alloc: Global, err: ImageErr) -> Result<Output, Allo
     Ok(Output {
         status: status::BAD_IMAGE,
         text: text.into_bytes(),
+        reason: image_reason(alloc, version, input)?,
     })
 }
 
@@ -67,7 +76,7 @@ fn read_image<S: Source>(alloc: Global, source: &mut S) -> Result<ReadInput<Imag
     };
     match image_parse(alloc, &bytes) {
         Ok(image) => Ok(ReadInput::Read(image)),
-        Err(err) => Ok(ReadInput::Refused(image_refusal(alloc, err)?)),
+        Err(err) => Ok(ReadInput::Refused(image_refusal(alloc, err, Version::Two, &bytes)?)),
     }
 }
 
@@ -77,10 +86,7 @@ pub(crate) fn image_answer<S: Source>(alloc: Global, source: &mut S) -> Result<O
         (bytes_change S.remaining S.faults source.old source.new)) }
 {
     match read_plan(alloc, source)? {
-        ReadInput::Read(plan) => Ok(Output {
-            status: status::DONE,
-            text: play_image(alloc, &plan)?,
-        }),
+        ReadInput::Read(plan) => Ok(done(alloc, play_image(alloc, &plan)?)),
         ReadInput::Refused(answer) => Ok(answer),
     }
 }
@@ -91,10 +97,7 @@ pub(crate) fn recover_answer<S: Source>(alloc: Global, source: &mut S) -> Result
         (bytes_change S.remaining S.faults source.old source.new)) }
 {
     match read_image(alloc, source)? {
-        ReadInput::Read(image) => Ok(Output {
-            status: status::DONE,
-            text: recovered_print(alloc, &image)?,
-        }),
+        ReadInput::Read(image) => Ok(done(alloc, recovered_print(alloc, &image)?)),
         ReadInput::Refused(answer) => Ok(answer),
     }
 }
@@ -108,10 +111,7 @@ pub(crate) fn renumber_answer<S: Source>(
         (bytes_change S.remaining S.faults source.old source.new)) }
 {
     match read_image(alloc, source)? {
-        ReadInput::Read(image) => Ok(Output {
-            status: status::DONE,
-            text: renumbered_print(alloc, &image)?,
-        }),
+        ReadInput::Read(image) => Ok(done(alloc, renumbered_print(alloc, &image)?)),
         ReadInput::Refused(answer) => Ok(answer),
     }
 }
@@ -126,10 +126,7 @@ pub(crate) fn migrate_answer<S: Source>(alloc: Global, source: &mut S) -> Result
         ReadInput::Refused(answer) => return Ok(answer),
     };
     match migrate(alloc, &bytes) {
-        Ok(text) => Ok(Output {
-            status: status::DONE,
-            text,
-        }),
-        Err(err) => image_refusal(alloc, err),
+        Ok(text) => Ok(done(alloc, text)),
+        Err(err) => image_refusal(alloc, err, Version::One, &bytes),
     }
 }

@@ -1,15 +1,13 @@
 //! Whether a report and an image are those of a life that goes on from another image.
 
-ghost use Rattle.std.specs.Prelude.{IfOk, MatchOption};
+ghost use Rattle.std.specs.Prelude.{IfOk};
 ghost use Rattle.of_mem.specs.declared.work.TheConstants.{MOST_INSTRS};
 ghost use Rattle.of_plan.specs.Plan.{IsPlan};
 ghost use Rattle.of_report.specs.Image.{IsImage};
 ghost use Rattle.of_lives.specs.Images.{PlanFitsImage};
-ghost use Rattle.of_tool.specs.Lives.{IsReadLeft, HasLeftImage, IsLegalLife, IsLifeVerdict, IsLifeCause};
+ghost use Rattle.of_tool.specs.Lives.{IsReadLeft, HasLeftImage, IsLegalLife, IsLifeVerdict, IsLifeJudgement};
 
-use of_check::{
-    Cause, Judgement, LeftRule, Start, Verdict, read_report, report_or_cause, tickets, why_left,
-};
+use of_check::{Cause, Judgement, LeftRule, Start, Verdict, judge_from, tickets, why_left};
 use of_image::laws::unlawful_have_none;
 use of_image::{ImageErr, image_again, image_parse};
 use of_plan::Plan;
@@ -78,8 +76,40 @@ fn in_range(plan: &Plan)
     let _ = plan.callers();
 }
 
+/// Why a report and an image are not those of a life that goes on from an image by a plan; nothing
+/// exactly if they are. The error is out of memory.
+pub fn why_life(
+    alloc: Global,
+    image: Image,
+    plan: &Plan,
+    told: &[u8],
+    left: &[u8],
+) -> Result<Option<LifeCause>, AllocError>
+    requires image { IsImage MOST_INSTRS image }
+    requires fits { PlanFitsImage image plan.now }
+    ensures { IfOk result (IsLifeJudgement image plan.now told.now left.now) }
+{
+    in_range(plan);
+    one_report();
+    unlawful_have_none();
+    let done = tickets(alloc, &image)?;
+    let start = Start::behind(alloc, image)?;
+    let report = match judge_from(alloc, plan, start, told)? {
+        Judgement::Legal(report) => report,
+        Judgement::Illegal(cause) => return Ok(Some(LifeCause::Told(cause))),
+    };
+    let next = match read_left(alloc, left)? {
+        ReadLeft::Image(next) => next,
+        ReadLeft::Fault(fault) => return Ok(Some(LifeCause::Left(fault))),
+    };
+    match why_left(plan, &done, &report, &next) {
+        None => Ok(None),
+        Some(rule) => Ok(Some(LifeCause::Ends(rule))),
+    }
+}
+
 /// Whether a report and an image are those of a life that goes on from an image by a plan: `Legal`
-/// exactly if they are, and `Illegal` exactly if they aren't. The error is that there is no memory.
+/// exactly if they are, and `Illegal` exactly if they aren't. The error is out of memory.
 pub fn check_life(
     alloc: Global,
     image: Image,
@@ -91,50 +121,8 @@ pub fn check_life(
     requires fits { PlanFitsImage image plan.now }
     ensures { IfOk result (IsLifeVerdict image plan.now told.now left.now) }
 {
-    in_range(plan);
-    one_report();
-    unlawful_have_none();
-    let done = tickets(alloc, &image)?;
-    let start = Start::behind(alloc, image)?;
-    let Some(report) = read_report(alloc, plan, start, told)? else {
-        return Ok(Verdict::Illegal);
-    };
-    let ReadLeft::Image(next) = read_left(alloc, left)? else {
-        return Ok(Verdict::Illegal);
-    };
-    match why_left(plan, &done, &report, &next) {
+    match why_life(alloc, image, plan, told, left)? {
         None => Ok(Verdict::Legal),
         Some(_) => Ok(Verdict::Illegal),
-    }
-}
-
-/// Why a report and an image are not those of a life that goes on from an image by a plan; nothing
-/// exactly if they are, so if `check_life` says `Legal`. The error is that there is no memory.
-pub fn why_life(
-    alloc: Global,
-    image: Image,
-    plan: &Plan,
-    told: &[u8],
-    left: &[u8],
-) -> Result<Option<LifeCause>, AllocError>
-    requires image { IsImage MOST_INSTRS image }
-    requires fits { PlanFitsImage image plan.now }
-    ensures { IfOk result (λ found. MatchOption found
-        (IsLegalLife image plan.now told.now left.now)
-        (IsLifeCause image plan.now told.now left.now)) }
-{
-    let done = tickets(alloc, &image)?;
-    let start = Start::behind(alloc, image)?;
-    let report = match report_or_cause(alloc, plan, start, told)? {
-        Judgement::Legal(report) => report,
-        Judgement::Illegal(cause) => return Ok(Some(LifeCause::Told(cause))),
-    };
-    let next = match read_left(alloc, left)? {
-        ReadLeft::Image(next) => next,
-        ReadLeft::Fault(fault) => return Ok(Some(LifeCause::Left(fault))),
-    };
-    match why_left(plan, &done, &report, &next) {
-        None => Ok(None),
-        Some(rule) => Ok(Some(LifeCause::Ends(rule))),
     }
 }

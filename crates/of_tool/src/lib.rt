@@ -9,11 +9,13 @@ mod images;
 pub mod laws;
 mod legal_life;
 mod life_check;
+mod reasons;
 mod run;
 pub mod status;
+mod usage;
 
 pub use command::{Command, HELP, HelpWord, MOST_EVENTS, MOST_FIRST, MOST_PART, VERSION};
-pub use commands::{MOST_IMAGE, MOST_INPUT, MOST_WITH_REPORT, TeamRecord, tool};
+pub use commands::{MOST_IMAGE, MOST_INPUT, MOST_WITH_REPORT, TeamRecord, tool, tool_with_reason};
 pub use cutting::part;
 pub use legal_life::{LeftFault, LifeCause, check_life, why_life};
 pub use of_play::{commits, play_report, trace};

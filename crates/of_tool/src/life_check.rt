@@ -5,29 +5,29 @@ ghost use Rattle.of_tool.specs.declared.command.Command.TheVariants.{CheckLife};
 ghost use Rattle.of_tool.specs.Seen.{bytes_change};
 ghost use Rattle.of_tool.specs.Answer.{IsOutputFor, JudgesLife};
 
-use crate::commands::{MOST_WITH_REPORT, Output, ReadInput, bad_plan, read_input};
+use crate::commands::{
+    MOST_WITH_REPORT, Output, ReadInput, done, misfit_refusal, plan_refusal, read_input,
+};
 use crate::images::image_refusal;
-use crate::legal_life::check_life;
+use crate::legal_life::{LifeCause, why_life};
+use crate::reasons::life_reason;
 use crate::status;
-use of_check::Verdict;
-use of_image::image_parse;
+use of_image::{Version, image_parse};
 use of_io::Source;
 use of_lives::fits;
 use of_plan::{PlanErr, parse, parts};
 use std::alloc::{AllocError, Global};
 
-// What is said of a life.
-fn life_output(alloc: Global, verdict: Verdict) -> Result<Output, AllocError>
-    ensures { IfOk result (JudgesLife verdict) }
+// What is said of a life, where this is wrong with it.
+fn life_output(alloc: Global, found: &Option<LifeCause>, told: &[u8]) -> Result<Output, AllocError>
+    ensures { IfOk result (JudgesLife found.now) }
 {
-    match verdict {
-        Verdict::Legal => Ok(Output {
-            status: status::DONE,
-            text: Vec::from_slice(alloc, b"legal life\n")?,
-        }),
-        Verdict::Illegal => Ok(Output {
+    match found {
+        None => Ok(done(alloc, Vec::from_slice(alloc, b"legal life\n")?)),
+        Some(cause) => Ok(Output {
             status: status::ILLEGAL,
             text: Vec::from_slice(alloc, b"error: not a legal life\n")?,
+            reason: life_reason(alloc, told, cause)?,
         }),
     }
 }
@@ -47,22 +47,15 @@ pub(crate) fn life_answer<S: Source>(alloc: Global, source: &mut S) -> Result<Ou
     let plan = match parse(alloc, second) {
         Ok(plan) => plan,
         Err(PlanErr::Memory) => return Err(AllocError),
-        Err(PlanErr::Bad { line }) => {
-            return Ok(Output {
-                status: status::BAD_PLAN,
-                text: bad_plan(alloc, line)?,
-            });
-        }
+        Err(PlanErr::Bad { line }) => return Ok(plan_refusal(alloc, second, line)?),
     };
     let image = match image_parse(alloc, first) {
         Ok(image) => image,
-        Err(err) => return image_refusal(alloc, err),
+        Err(err) => return image_refusal(alloc, err, Version::Two, first),
     };
     if !fits(&image, &plan) {
-        return Ok(Output {
-            status: status::DOES_NOT_FIT,
-            text: Vec::from_slice(alloc, b"error: plan does not fit image\n")?,
-        });
+        return misfit_refusal(alloc, &image, &plan);
     }
-    life_output(alloc, check_life(alloc, image, &plan, told, left)?)
+    let found = why_life(alloc, image, &plan, told, left)?;
+    life_output(alloc, &found, told)
 }

@@ -14,8 +14,8 @@ returns g c =
     record {
       why = BadPlan c.in-Err-Bad.line;
       cause = record { bytes = c.in-Read.bytes.items; read = rw c.in-Read.is at c.in_ok-bytes.ensures; bad = gone };
-      status_is = refl;
-      text_is = c.in_ok-bad_plan-in-Err-Bad.ensures;
+      status_is = c.in_ok-plan_refusal-in-Err-Bad.ensures.0;
+      text_is = (let number = c.in-Err-Bad.line-is in let text = c.in_ok-plan_refusal-in-Err-Bad.ensures.1 in cc);
     }
 
 pub returns-in-Refused : goal.returns-in-Refused

@@ -1,4 +1,4 @@
-use Rattle.std.proofs.Common.{refl}
+use Rattle.std.proofs.Common.{refl, ◌∙◌}
 use Rattle.of_report.specs.Report.{report_value}
 use Rattle.of_tool.specs.Seen.{view_of}
 use Rattle.of_tool.specs.Inputs.{PlanAlone}
@@ -8,23 +8,23 @@ use Rattle.of_tool.proofs.Telling.{refusal_undone}
 use Rattle.of_tool.proofs.commands.run_answer.Goals as goal
 
 pub returns-clause-answered : goal.returns-clause-answered
-returns-clause-answered g c = Done refl (record {
+returns-clause-answered g c = Done c.done.ensures.status (record {
   plan = c.in-Read.plan;
   read = rw c.in-Read.is at c.in_ok-plan.ensures;
   report = report_value c.in_ok-report.report;
   run = some_run c.in-Read.plan (report_value c.in_ok-report.report) c.in_ok-report.ran.0 (view_of c.in_ok-report.ran.1) c.in_ok-report.ensures;
-  text_is = c.in_ok-print.ensures;
+  text_is = c.done.ensures.text ∙ c.in_ok-text.ensures;
 })
 
 pub returns-clause-carries : goal.returns-clause-carries
 returns-clause-carries g c = (
-  refl,
+  c.done.ensures.status,
   record {
     plan = c.in-Read.plan;
     read = rw c.in-Read.is at c.in_ok-plan.ensures;
     report = report_value c.in_ok-report.report;
     run = c.in_ok-report.ensures;
-    text_is = c.in_ok-print.ensures;
+    text_is = c.done.ensures.text ∙ c.in_ok-text.ensures;
   },
 )
 

@@ -1,4 +1,4 @@
-use Rattle.std.proofs.Common.{refl}
+use Rattle.std.proofs.Common.{refl, ◌∙◌}
 use Rattle.of_tool.specs.Seen.{view_of}
 use Rattle.of_tool.specs.Inputs.{ImageAndPlan}
 use Rattle.of_tool.specs.Statuses.{Done, Refused}
@@ -8,7 +8,7 @@ use Rattle.of_tool.proofs.continue_life.continue_answer.Goals as goal
 pub returns-clause-answered : goal.returns-clause-answered
 returns-clause-answered g c =
     let writes = c.in_ok-text.ensures in
-    Done refl (record {
+    Done c.done.ensures.status (record {
       image = c.in-Read.read.0;
       plan = c.in-Read.read.1;
       read = rw c.in-Read.is at c.in_ok-read.ensures.read;
@@ -21,18 +21,18 @@ returns-clause-answered g c =
         goes_on = writes.life.goes_on;
         real = writes.life.real;
         table = writes.life.table;
-        text_is = writes.text_is;
+        text_is = c.done.ensures.text ∙ writes.text_is;
       };
     })
 
 pub returns-clause-carries : goal.returns-clause-carries
 returns-clause-carries g c = (
-  refl,
+  c.done.ensures.status,
   record {
     image = c.in-Read.read.0;
     plan = c.in-Read.read.1;
     read = rw c.in-Read.is at c.in_ok-read.ensures.read;
-    writes = c.in_ok-text.ensures;
+    writes = record { report = c.in_ok-text.ensures.report; life = c.in_ok-text.ensures.life; text_is = c.done.ensures.text ∙ c.in_ok-text.ensures.text_is };
   },
 )
 

@@ -15,8 +15,8 @@ returns-in-Err-Bad-clause-read g c =
     record {
       why = BadPlan c.in-Err-Bad.line;
       cause = record { bytes = c.in-Read.bytes.items; first = c.parts.result.0.now; second = c.parts.result.1.now; read = rw c.in-Read.is at c.in_ok-bytes.ensures; parts = are; bad = gone };
-      status_is = refl;
-      text_is = (let number = c.in-Err-Bad.line-is in let text = c.in_ok-bad_plan-in-Err-Bad.ensures in cc);
+      status_is = c.in_ok-plan_refusal-in-Err-Bad.ensures.0;
+      text_is = (let number = c.in-Err-Bad.line-is in let text = c.in_ok-plan_refusal-in-Err-Bad.ensures.1 in cc);
     }
 
 pub returns-in-Err-clause-read : goal.returns-in-Err-clause-read
@@ -43,6 +43,6 @@ returns-then-not-fits-clause-read g c =
         };
         misfit = λ fits. (let yes = c.fits.ensures.1 fits in let no = c.if-not-fits.true in absurd cc);
       };
-      status_is = refl;
-      text_is = c.in_ok-from_slice.ensures.items;
+      status_is = c.in_ok-misfit_refusal.ensures.0;
+      text_is = c.in_ok-misfit_refusal.ensures.1;
     }

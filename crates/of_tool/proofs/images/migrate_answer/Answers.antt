@@ -1,4 +1,4 @@
-use Rattle.std.proofs.Common.{List, ℕ, subst, refl}
+use Rattle.std.proofs.Common.{List, ℕ, subst, refl, sym}
 use Rattle.std.proofs.lemmas.Result.{IfOk-weaker}
 use Rattle.of_image.specs.declared.version.Version.TheVariants.{One}
 use Rattle.of_image.specs.Parsed.{ImageIsRefused}
@@ -9,10 +9,10 @@ use Rattle.of_tool.proofs.ImageAnswers.{refusal_told}
 use Rattle.of_tool.proofs.images.migrate_answer.Goals as goal
 
 pub returns-in-Ok : goal.returns-in-Ok
-returns-in-Ok g c = Done refl (record {
+returns-in-Ok g c = Done c.done.ensures.status (record {
   bytes = c.in-Read.bytes.items;
   read = rw c.in-Read.is at c.in_ok-bytes.ensures;
-  is = subst (λ (b : List ℕ). Migrates b c.in-Ok.text.items) c.deref.ensures.value c.in-Ok.ensures.ok;
+  is = subst (Migrates c.in-Read.bytes.items) (sym c.done.ensures.text) (subst (λ (b : List ℕ). Migrates b c.in-Ok.text.items) c.deref.ensures.value c.in-Ok.ensures.ok);
 })
 
 pub returns : goal.returns

@@ -14,8 +14,7 @@ returns-in-Err-Bad g c =
     let are = subst (λ (b : List ℕ). AreParts b c.parts.result.0.now c.parts.result.1.now) c.deref.ensures.value c.parts.ensures in
     let gone = rw c.in-Err-Bad.field-0-is at c.in-Err-Bad.ensures.bad in
     life_planless _ c.in-Read.bytes.items c.parts.result.0.now c.parts.result.1.now c.parts-2.result.0.now c.parts-2.result.1.now (rw c.in-Read.is at c.in_ok-bytes.ensures) are c.parts-2.ensures c.in-Err-Bad.line
-    c.in_ok-bad_plan-in-Err-Bad.field-0.items gone
-    (let number = c.in-Err-Bad.line-is in let text = c.in_ok-bad_plan-in-Err-Bad.ensures in cc)
+    c.in_ok-plan_refusal-in-Err-Bad.field-0 gone (c.in_ok-plan_refusal-in-Err-Bad.ensures.0, (let number = c.in-Err-Bad.line-is in let text = c.in_ok-plan_refusal-in-Err-Bad.ensures.1 in cc))
 
 pub returns-in-Err : goal.returns-in-Err
 returns-in-Err g c =
@@ -28,9 +27,11 @@ returns-in-Err g c =
 pub returns-then-not-fits : goal.returns-then-not-fits
 returns-then-not-fits g c =
     let are = subst (λ (b : List ℕ). AreParts b c.parts.result.0.now c.parts.result.1.now) c.deref.ensures.value c.parts.ensures in
-    life_misfit _ c.in-Read.bytes.items c.parts.result.0.now c.parts.result.1.now c.parts-2.result.0.now c.parts-2.result.1.now (rw c.in-Read.is at c.in_ok-bytes.ensures) are c.parts-2.ensures c.parts-3.result.0.now
-    c.parts-3.result.1.now c.parts-3.ensures c.in-Ok.plan c.in-Ok.ensures.ok c.in-Ok-image_parse.image c.in-Ok-image_parse.ensures.ok c.in_ok-from_slice.field-0.items
-    (λ fits. (let yes = c.fits.ensures.1 fits in let no = c.if-not-fits.true in absurd cc)) c.in_ok-from_slice.ensures.items
+    IfOk-weaker c.misfit_refusal.result _ _
+    (λ answer told. life_misfit _ c.in-Read.bytes.items c.parts.result.0.now c.parts.result.1.now c.parts-2.result.0.now c.parts-2.result.1.now (rw c.in-Read.is at c.in_ok-bytes.ensures) are c.parts-2.ensures c.parts-3.result.0.now
+    c.parts-3.result.1.now c.parts-3.ensures c.in-Ok.plan c.in-Ok.ensures.ok c.in-Ok-image_parse.image c.in-Ok-image_parse.ensures.ok answer
+    (λ fits. (let yes = c.fits.ensures.1 fits in let no = c.if-not-fits.true in absurd cc)) told)
+    c.misfit_refusal.ensures
 
 pub returns : goal.returns
 returns g c =
@@ -38,5 +39,5 @@ returns g c =
     IfOk-weaker c.life_output.result _ _
     (λ answer judges. life_found _ c.in-Read.bytes.items c.parts.result.0.now c.parts.result.1.now c.parts-2.result.0.now c.parts-2.result.1.now (rw c.in-Read.is at c.in_ok-bytes.ensures) are c.parts-2.ensures
     c.parts-3.result.0.now c.parts-3.result.1.now c.parts-3.ensures c.in-Ok.plan c.in-Ok.ensures.ok c.in-Ok-image_parse.image c.in-Ok-image_parse.ensures.ok
-    (c.fits.ensures.0 (let no = c.if-not-fits.false in cc)) c.in_ok-check_life.field-0 answer c.in_ok-check_life.ensures judges)
+    (c.fits.ensures.0 (let no = c.if-not-fits.false in cc)) c.in_ok-found.found answer c.in_ok-found.ensures judges)
     c.life_output.ensures
