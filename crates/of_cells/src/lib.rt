@@ -12,6 +12,7 @@ mod memory;
 mod saved;
 mod seating;
 mod telling;
+mod words;
 
 pub use answer::RawAnswer;
 pub use error::{EnrolErr, InUse, LimitErr, OpenErr, RunErr};

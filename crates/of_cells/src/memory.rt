@@ -27,8 +27,8 @@ pub struct CellMemory<W: Work> {
     callers: Vec<Option<Caller<W>>>,
 }
 
-// The shape of a table for a work.
-fn shape_for<W: Work>(work: W) -> Shape
+/// The shape of a table for a work.
+pub(crate) fn shape_for<W: Work>(work: W) -> Shape
     ensures callers { result.callers ≡ W.many work }
     ensures instrs { result.instrs ≡ MOST_INSTRS }
     ensures cells { result.cells ≡ W.size work }

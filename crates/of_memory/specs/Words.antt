@@ -18,8 +18,8 @@ use Rattle.of_memory.specs.declared.saved.Saved.{Saved}
 use Rattle.of_memory.specs.declared.words.TableSizes.{TableSizes}
 use Rattle.of_memory.specs.declared.error.WordsErr.{WordsErr}
 use Rattle.of_memory.specs.declared.error.WordsErr.TheVariants.{OutOfMemory, Callers, Blocks, Limit, Count, Unlawful, PastLimit}
-use Rattle.of_memory.specs.Laws.{setup_with, HoldsLastReplies}
-use Rattle.of_memory.specs.Serving.{IsScriptsRow}
+use Rattle.of_memory.specs.Laws.{setup_with}
+use Rattle.of_memory.specs.Rows.{IsScriptsRow, HoldsLastReplies}
 use Rattle.of_memory.specs.Texts.{IsImageOfSaved}
 
 -- ---- sizes

@@ -20,37 +20,6 @@ pub enum OpenErr {
     Limit { limit: u32 },
 }
 
-/// Why there is no handle.
-#[derive(Debug, Drop, Error)]
-pub enum EnrolErr {
-    #[error("out of memory")]
-    OutOfMemory(#[from(alloc)] AllocError),
-    #[error("there is no caller {number}")]
-    NoCaller { number: u32 },
-    /// Its handle has not left.
-    #[error("caller {number} has a handle already")]
-    Enrolled { number: u32 },
-}
-
-/// Why a call has no answer.
-#[derive(Clone, Copy, Debug, PartialEq, Eq, Error)]
-pub enum RunErr {
-    /// The call has asked for so many steps, and the last one was denied. It stays open, for
-    /// `go_on`.
-    #[error("stopped at step {asked}")]
-    Stopped { asked: u64 },
-    /// The sequence has come to the limit without the call, which is over.
-    #[error("no sequence is left after {seq}")]
-    Spent { seq: u32 },
-    /// A call is open, and `run` begins none beside it; or none is open, with which `go_on` could
-    /// go on.
-    #[error("a call is open, or none is")]
-    Open,
-    /// The number has made all calls that it may make.
-    #[error("no ticket is left")]
-    NoTicket,
-}
-
 /// Why nothing that is saved is read from a text.
 #[derive(Clone, Copy, Debug, PartialEq, Eq, Error)]
 pub enum ImageTextErr {

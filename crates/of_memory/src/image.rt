@@ -12,6 +12,7 @@ ghost use Rattle.of_memory.specs.Texts.{IsImageOfSaved, IsPastAll};
 use crate::error::ImageTextErr;
 use crate::saved::Saved;
 use of_cell::Shape;
+use of_cells::SavedCells;
 use of_eval::{Scripts, shape_of};
 use of_image::{ImageErr, image_parse, image_print};
 use of_plan::GREATEST_LIMIT;
@@ -46,8 +47,9 @@ impl Saved {
         ensures printed { IfOk result (λ text. IsTextOfSaved self.now text.items) }
         ensures holds { IfOk result (λ text. TextHolds text.items self.now) }
     {
-        let words = table_of(alloc, &shape_of(self.scripts), &self.row)?;
-        image_print(alloc, &self.scripts.plot(), &words)
+        let scripts = self.scripts();
+        let words = table_of(alloc, &shape_of(scripts), self.cells.words())?;
+        image_print(alloc, &scripts.plot(), &words)
     }
 
     /// What a text holds, as `image_text` or the command line writes it; an open transaction is
@@ -100,8 +102,6 @@ pub(crate) fn saved_of(image: Image, limit: u32) -> Saved
         blocks: image.blocks,
     };
     Saved {
-        scripts,
-        limit,
-        row: image.durable,
+        cells: SavedCells::from_row(scripts, limit, image.durable),
     }
 }
