@@ -8,11 +8,10 @@ use Rattle.of_script.specs.declared.instr.TheConstants.{MOST_INSTRS}
 use Rattle.of_script.specs.Language.{IsScript, instr_word}
 use Rattle.of_script.proofs.WordLaws.{words_injective}
 use Rattle.of_store.specs.Replies.{reply_value_of}
-use Rattle.of_eval.specs.declared.scripts.Scripts.{Scripts}
 use Rattle.of_eval.specs.Scripts.{scripts_meaning}
 use Rattle.of_plan.specs.declared.answer.Answer.{Answer}
-use Rattle.of_row.specs.Views.{EndedCall, no_ended}
-use Rattle.of_row.specs.declared.row.Row.{Row}
+use Rattle.of_core.specs.Machine.{CallState, IsOpen}
+use Rattle.of_row.specs.Views.{EndedCall, KnownCaller, last_caller, no_ended}
 use Rattle.of_cells.specs.declared.answer.RawAnswer.{RawAnswer}
 use Rattle.of_cells.specs.declared.error.RunErr.{RunErr}
 use Rattle.of_cells.specs.declared.error.RunErr.TheVariants.{Stopped, Spent as NoneLeft, Open, NoTicket}
@@ -26,6 +25,7 @@ use Rattle.of_memory.specs.Calls.{IsScriptOperation, IsMade, AreMade, AreOfScrip
 use Rattle.of_memory.specs.Rows.{IsScriptsRow}
 use Rattle.of_memory.specs.Called.{TellsRaw, answered_call, made_with}
 use Rattle.of_memory.specs.Handles.{IsHandle, HasMade, HasOpen, HasCallOpen, IsSame, OpensOnly, StaysOpenOnlyIfStopped}
+use Rattle.of_memory.specs.Telling.{CallsStay}
 
 -- ---- calls that are kept, as calls of scripts
 
@@ -126,6 +126,9 @@ stays_open k op script is words (NoneLeft seq) stays = stays
 stays_open k op script is words Open stays = tt
 stays_open k op script is words NoTicket stays = tt
 
--- a call that ended with an answer leaves none open
-pub none_open : (k : Handle) (op : List ℕ) (a : RawAnswer) → handles.StaysOpenOnlyIfStopped op (Ok a) k.cells → HasCallOpen k → ⊥
-none_open k op a stays = stays
+-- a handle that has told or heard
+pub same_calls : (h k : Handle) → IsHandle h → IsCellHandle scripts_meaning k.cells → IsSame h k → CallsStay h k → IsHandle k
+same_calls h k is now same stay =
+    still_handle h k is now same
+    (subst AreOfScripts (ap (λ (xs : List KnownCaller). (last_caller xs).ended) (sym stay.kept)) is.made)
+    (λ o opened. inr (subst (λ (x : CallState). IsOpen x.place × (x.op ≡ o)) stay.call opened))

@@ -1,9 +1,6 @@
 pub mod Called
+pub mod Holding
+pub mod Times
 pub mod Replaying
-pub mod Histories
-pub mod Reading
 pub mod Joining
-pub mod Texts
 pub mod Alone
-pub mod StartWords
-pub mod AnyMoment

@@ -7,9 +7,10 @@ ghost use Rattle.of_memory.specs.Joining.{MemoriesStay, NoneStaysOpen, LoneCalls
 ghost use Rattle.of_memory.specs.Laws.{HoldsHistory};
 ghost use Rattle.of_memory.specs.Memories.{IsMemory};
 ghost use Rattle.of_memory.specs.Moments.{WordsHoldHistory, HoldsWordsAlways};
-ghost use Rattle.of_memory.specs.Telling.{ToldCallsComeFirst};
+ghost use Rattle.of_memory.specs.Telling.{ToldCallsComeFirst, CallsComeInTurn};
 
 use crate::memory::Memory;
+use of_cells::laws as cells;
 use of_core::laws::{every_moment, starts, step_kept};
 use of_eval::Scripts;
 use of_row::laws::stops_lose_nothing;
@@ -50,7 +51,9 @@ pub fn memory_words_hold_history(memory: &Memory)
 /// that it has made since.
 pub fn calls_are_counted()
     ensures { CallsAreCounted }
-{}
+{
+    cells::calls_are_counted::<Scripts>();
+}
 
 /// The history of a memory and that of the one that goes on from what it has left are one history.
 pub fn histories_join()
@@ -71,7 +74,9 @@ pub fn memories_stay()
 /// A handle that comes and leaves with no call open leaves none open.
 pub fn none_stays_open()
     ensures { NoneStaysOpen }
-{}
+{
+    cells::none_stays_open::<Scripts>();
+}
 
 /// If one caller has made all calls, and each was answered, what is saved is the store after their
 /// scripts.
@@ -83,4 +88,10 @@ pub fn lone_calls_are_saved()
 /// begins when it has heard of them.
 pub fn told_calls_come_first()
     ensures { ToldCallsComeFirst }
+{}
+
+/// Calls that a program makes one after the other come in that order in the history, whatever their
+/// numbers: those of a handle that has left before those of one that comes then.
+pub fn calls_come_in_turn()
+    ensures { CallsComeInTurn }
 {}
