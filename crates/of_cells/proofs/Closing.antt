@@ -25,7 +25,8 @@ use Rattle.of_core.specs.Machine.{Call, no_call, is_idle, IsOpen}
 use Rattle.of_core.specs.Events.{Event, start_ticket}
 use Rattle.of_cells.specs.Times.{calls_ended_in, calls_begun_in}
 use Rattle.of_core.specs.Calls.{operations_begun}
-use Rattle.of_core.specs.Laws.{setup_for}
+use Rattle.of_core.specs.Grounds.{GoodGrounds}
+use Rattle.of_core.specs.Laws.{setup_for, StartsMeetInvariant, SchedulesKeepInvariant, InvariantIsSound}
 use Rattle.of_core.specs.Linear.{ExplainsOutcome, FindsCall, recovered_number}
 use Rattle.of_core.specs.Starts.{IsDurable, IsStartRow, start_from_durable}
 use Rattle.of_row.specs.declared.member.Pass.{Pass}
@@ -41,7 +42,9 @@ use Rattle.of_row.specs.Moments.{ExplainsEndedCalls, StopsLoseNothing, LosesNoth
 use Rattle.of_cells.specs.declared.saved.SavedCells.{SavedCells}
 use Rattle.of_cells.specs.History.{ExplainsEnd, IsOneOf}
 use Rattle.of_cells.specs.Serving.{made_before}
-use Rattle.of_cells.specs.Saving.{ExplainsKept, HasOpenOperation, HasOnlyKept, RespectsEvents, HistoryLeads, HoldsReply, TellsLast, IsSavedCells, SavesHistory, saved_cells}
+use Rattle.of_cells.specs.Saving.{ExplainsKept, HasOpenOperation, HasOnlyKept, RespectsEvents, HistoryLeads, HoldsReply, TellsLast, IsSavedCells, SavesHistory, KeepsOwnCells, saved_cells}
+use Rattle.of_caller.proofs.StoresReplay.{number_at as get_or_payload}
+use Rattle.of_cells.proofs.OwnCells.{own_stay}
 
 -- ---- lists
 
@@ -240,3 +243,28 @@ module _ {W : Type 0} (many size : W → ℕ) (meaning : W → Meaning) (lawful 
         (ap (λ (C : TableStart). length (map payload_of C.cells)) start_here ∙ cells_found meaning lawful r room_at law_at p seat closes.words closes.meets durable closes.durable recovers_here)
         (λ a l. ap (λ (C : TableStart). get_or (map payload_of C.cells) a 0) start_here ∙ number_found meaning lawful r room_at law_at p seat closes.words closes.meets durable closes.durable recovers_here a l),
   )
+
+  abbrev T : Setup
+  T = setup_at meaning r
+
+  abbrev K : List ℕ → Type 0
+  K = lawful (key_of r).work
+
+  -- the laws of the setup that the sizes make are those of the row's
+  at_row : (P : (List ℕ → Type 0) → Setup → Type 0) → P (lawful d.work) (setup_for many size meaning d.limit d.work) → P K T
+  at_row P h = subst (λ (k : (W × ℕ) × (ℕ × ℕ)). P (lawful k.0.0) (setup_of k.0.1 k.1.0 k.1.1 (meaning k.0.0)))
+      (λ i. ((work_is i, (ap many work_is ∙ sym fit.0) i), ((ap size work_is ∙ sym fit.1) i, limit_is i))) h
+
+  module _ (start : StartsMeetInvariant (setup_for many size meaning d.limit d.work) (lawful d.work)) (runs : SchedulesKeepInvariant (setup_for many size meaning d.limit d.work) (lawful d.work)) (grounds : GoodGrounds (setup_for many size meaning d.limit d.work) (lawful d.work))
+      (sound : InvariantIsSound (setup_for many size meaning d.limit d.work) (lawful d.work)) where
+    found_here : (a : ℕ) → a < T.cells → get_or (saved_cells d) a 0 ≡ recovered_number T (words_alone closes.meets.state.words) a
+    found_here a l = ap (λ (C : TableStart). get_or (map payload_of C.cells) a 0) start_here ∙ number_found meaning lawful r room_at law_at p seat closes.words closes.meets durable closes.durable recovers_here a l
+
+    pub own_so : KeepsOwnCells meaning r d
+    own_so n low same a from upto =
+        let lt : a < T.cells = omega (arith, low, upto, room_at.own) in
+        let own_in : ticket_cell T n < T.cells = omega (arith, low, room_at.own) in
+        found_here a lt
+        ∙ own_stay T K (at_row (λ L S. StartsMeetInvariant S L) start) (at_row (λ L S. SchedulesKeepInvariant S L) runs) (at_row (λ L S. GoodGrounds S L) grounds) (at_row (λ L S. InvariantIsSound S L) sound) law_at (row_start meaning r) closes.meets.state closes.meets.rule n low own_in
+        (sym (found_here (ticket_cell T n) own_in) ∙ same) a (from, upto) lt
+        ∙ sym (get_or_payload (row_start meaning r).cells a)

@@ -1,6 +1,7 @@
 pub mod Called
 pub mod Seats
 pub mod Times
+pub mod OwnCells
 pub mod Closing
 pub mod Holding
 pub mod Still

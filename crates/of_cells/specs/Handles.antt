@@ -135,6 +135,14 @@ RefusesToGoOn h (Err (Spent seq)) = seq ≡ limit_at h
 RefusesToGoOn h (Err Open) = HasCallOpen h → ⊥
 RefusesToGoOn h (Err NoTicket) = ⊥
 
+-- if it isn't refused, a call was open that goes on
+abbrev pub ResumesCall : {W : Type 0} → CellHandle W → Result RawAnswer RunErr → Type 0
+ResumesCall h (Ok a) = HasCallOpen h
+ResumesCall h (Err (Stopped asked)) = HasCallOpen h
+ResumesCall h (Err (Spent seq)) = HasCallOpen h
+ResumesCall h (Err Open) = Unit {0}
+ResumesCall h (Err NoTicket) = Unit {0}
+
 -- it is of the same memory, and has the same number
 pub record IsSame {W : Type 0} (h k : CellHandle W) : Type 0 where
   pub home : home_of k ≡ home_of h

@@ -22,7 +22,7 @@ use Rattle.of_cells.specs.History.{IsSerial, cells_after, StandsInOrder, Explain
 use Rattle.of_cells.specs.Times.{calls_ended_in, EndBefore}
 use Rattle.of_cells.specs.Called.{IsOpenAt}
 use Rattle.of_cells.specs.Serving.{ServeAll, AllHere, KnowsMore, IsKnowledge, ended_of, events_known_to, events_in, cells_at_start, made_before}
-use Rattle.of_cells.specs.Saving.{SavedHolds, TellsLast, saved_ticket}
+use Rattle.of_cells.specs.Saving.{SavedHolds, TellsLast, KeepsOwnCells, saved_ticket}
 use Rattle.of_cells.specs.Handles.{home_of, number_of_handle, caller_of}
 
 abbrev pub row_of : {W : Type 0} → CellMemory W → Row W
@@ -178,6 +178,11 @@ pub record LeadsTo {W : Type 0} (meaning : W → Meaning) (m : CellMemory W) (d 
 abbrev pub HasHistory : {W : Type 0} → (W → Meaning) → CellMemory W → SavedCells W → Type 0
 HasHistory meaning m d = (h : List Call) × LeadsTo meaning m d h
 
+-- of a caller that is saved with no call since the memory was opened, the own cells are as they
+-- were then, and so is its last reply
+abbrev pub KeepsOwn : {W : Type 0} → (W → Meaning) → CellMemory W → SavedCells W → Type 0
+KeepsOwn meaning m d = KeepsOwnCells meaning (row_of m) d
+
 -- why there is no handle
 abbrev pub IsEnrolCause : {W : Type 0} → CellMemory W → ℕ → EnrolErr → Type 0
 IsEnrolCause m n (OutOfMemory e) = Unit {0}
@@ -188,3 +193,8 @@ IsEnrolCause m n (Enrolled k) = (k ≡ n) × (get_or m.callers.items n None ≡ 
 abbrev pub IsOpenCause : (limit : ℕ) → OpenErr → Type 0
 IsOpenCause limit (NoRoom e) = Unit {0}
 IsOpenCause limit (Limit k) = (k ≡ limit) × ((limit ≡ 0) ⊎ (GREATEST_LIMIT < limit))
+
+-- sequences may have this limit
+pub record IsLimit (limit : ℕ) : Type 0 where
+  pub some : 1 ≤ limit
+  pub few : limit ≤ GREATEST_LIMIT

@@ -135,3 +135,15 @@ pub record HistoryLeads {W : Type 0} (meaning : W → Meaning) (r : Row W) (v : 
 
 abbrev pub SavesHistory : {W : Type 0} → (W → Meaning) → Row W → View → SavedCells W → Type 0
 SavesHistory meaning r v d = (h : List Call) × HistoryLeads meaning r v d h
+
+-- the own cells of caller n have the numbers that they had
+abbrev pub OwnCellsStay : (before now : List ℕ) → (n : ℕ) → Type 0
+OwnCellsStay before now n =
+    (a : ℕ) → ticket_cell_at MOST_INSTRS n ≤ a → a < ticket_cell_at MOST_INSTRS n + (MOST_INSTRS + 2)
+    → get_or now a 0 ≡ get_or before a 0
+
+-- so it is of each caller that is saved with no call since the row's start
+abbrev pub KeepsOwnCells : {W : Type 0} → (W → Meaning) → Row W → SavedCells W → Type 0
+KeepsOwnCells meaning r d =
+    (n : ℕ) → n < (key_of r).callers → saved_ticket d n ≡ made_before meaning r n
+    → OwnCellsStay (cells_at_start meaning r) (saved_cells d) n

@@ -26,6 +26,7 @@ impl<W: Work> CellHandle<W> {
     ghost use Rattle.of_cells.specs.Handles.{IsCellHandle, IsSame, number_of_handle, made_by};
     ghost use Rattle.of_cells.specs.Handles.{last_operation_of, steps_so_far, step_bound_of, HasOpen};
     ghost use Rattle.of_cells.specs.Handles.{StaysOpenOnlyIfStopped, RefusesCall, RefusesToGoOn};
+    ghost use Rattle.of_cells.specs.Handles.{ResumesCall};
     ghost use Rattle.of_cells.specs.Memories.{IsCellMemory, IsFrom, IsStill, HasMadeOf, HasOpenOf};
     ghost use Rattle.of_cells.specs.Handles.{OpensOnly, OpensNone, MakesAtMost, GoesOnWithin};
     ghost use Rattle.of_cells.specs.Handles.{MakesByTouch, GoesOnByTouch};
@@ -125,6 +126,7 @@ impl<W: Work> CellHandle<W> {
             ≡ made_with (last_operation_of self.old) result (made_by self.old) }
         ensures open_call { StaysOpenOnlyIfStopped (last_operation_of self.old) result self.new }
         ensures cause { RefusesToGoOn self.old result }
+        ensures resumed { ResumesCall self.old result }
         ensures unmade { LeavesAsItWas result self.old self.new }
         ensures bound { EndsWithin (step_bound_of W.meaning self.old) result }
         ensures stopped { IsNeverStopped result }
@@ -146,6 +148,7 @@ impl<W: Work> CellHandle<W> {
             ≡ made_with (last_operation_of self.old) result (made_by self.old) }
         ensures open_call { StaysOpenOnlyIfStopped (last_operation_of self.old) result self.new }
         ensures cause { RefusesToGoOn self.old result }
+        ensures resumed { ResumesCall self.old result }
         ensures unmade { LeavesAsItWas result self.old self.new }
         ensures bound { EndsWithin (step_bound_of W.meaning self.old) result }
         ensures within { KeepsWithin (steps_so_far self.old) steps
@@ -168,6 +171,7 @@ impl<W: Work> CellHandle<W> {
             ≡ made_with (last_operation_of self.old) result (made_by self.old) }
         ensures open_call { StaysOpenOnlyIfStopped (last_operation_of self.old) result self.new }
         ensures cause { RefusesToGoOn self.old result }
+        ensures resumed { ResumesCall self.old result }
         ensures unmade { LeavesAsItWas result self.old self.new }
         ensures bound { EndsWithin (step_bound_of W.meaning self.old) result }
         ensures stop { KeepsToStop (steps_so_far self.old) stop

@@ -58,7 +58,7 @@ impl<W: Work> CellMemory<W> {
     ghost use Rattle.of_cells.specs.Memories.{KnowsOthers, OthersStayOpen, HasHistory};
     ghost use Rattle.of_cells.specs.Memories.{IsOpenCause, IsEnrolCause, HasMadeNothing};
     ghost use Rattle.of_cells.specs.Memories.{TakesOut, TakesNone, PutsCaller, OthersKnowOrder};
-    ghost use Rattle.of_cells.specs.Memories.{RemembersAll, events_heard};
+    ghost use Rattle.of_cells.specs.Memories.{RemembersAll, KeepsOwn, IsLimit, events_heard};
     ghost use Rattle.of_cells.specs.Telling.{KnowsOrdersOf, HearsMemory};
     ghost use Rattle.of_cells.specs.Serving.{events_known_to};
     ghost use mathlib.Core.List.{IsPrefix};
@@ -76,6 +76,7 @@ impl<W: Work> CellMemory<W> {
         ensures none { IfOk result HasMadeNothing }
         ensures idle { IfOk result HasNoneOpen }
         ensures cause { IfErr result (IsOpenCause limit) }
+        ensures within { IfOk result (λ m. IsLimit limit) }
     {
         if limit == 0 || limit > GREATEST_LIMIT {
             return Err(OpenErr::Limit { limit });
@@ -230,6 +231,7 @@ impl<W: Work> CellMemory<W> {
         ensures saved { IfOk result (IsSavedCells W.many W.size W.meaning W.lawful) }
         ensures lawful { IfOk result (HoldsLawful W.lawful) }
         ensures history { IfOk result (HasHistory W.meaning self) }
+        ensures own { IfOk result (KeepsOwn W.meaning self) }
         ensures work { IfOk result (λ d. saved_work d ≡ work_of self) }
         ensures callers { IfOk result (λ d. saved_callers d ≡ callers_of self) }
         ensures limit { IfOk result (λ d. saved_limit d ≡ limit_of self) }
@@ -251,6 +253,7 @@ impl<W: Work> CellMemory<W> {
         ensures saved { IfOk result (IsSavedCells W.many W.size W.meaning W.lawful) }
         ensures lawful { IfOk result (HoldsLawful W.lawful) }
         ensures history { IfOk result (HasHistory W.meaning self) }
+        ensures own { IfOk result (KeepsOwn W.meaning self) }
         ensures work { IfOk result (λ d. saved_work d ≡ work_of self) }
         ensures callers { IfOk result (λ d. saved_callers d ≡ callers_of self) }
         ensures limit { IfOk result (λ d. saved_limit d ≡ limit_of self) }

@@ -7,6 +7,7 @@ ghost use Rattle.of_recover.specs.OfShape.{IsShapeRow, row_after_recovery};
 ghost use Rattle.of_recover.specs.Recovered.{RecoversData};
 
 use of_cell::{Shape, payload_of};
+use of_core::laws::{every_moment, step_kept};
 use of_mem::{MOST_INSTRS, RawReply, Work};
 use of_recover::laws::recovered_cells;
 use of_recover::recover;
@@ -57,7 +58,7 @@ impl<W: Work> SavedCells<W> {
     ghost use Rattle.of_row.specs.Rows.{key_of, view_of_pass, IsRowPass};
     ghost use Rattle.of_cells.specs.Saving.{IsSavedCells, HoldsLawful, SavesHistory, saved_work};
     ghost use Rattle.of_cells.specs.Saving.{saved_callers, saved_limit, saved_cells, saved_ticket};
-    ghost use Rattle.of_cells.specs.Saving.{IsReplyIn};
+    ghost use Rattle.of_cells.specs.Saving.{IsReplyIn, KeepsOwnCells};
 
     // Closes a row, takes its durable words alone, as a crash does, and recovers them.
     pub(crate) fn close(row: Row<W>, pass: Pass) -> SavedCells<W>
@@ -68,9 +69,12 @@ impl<W: Work> SavedCells<W> {
         ensures saved { IsSavedCells W.many W.size W.meaning W.lawful result }
         ensures lawful { HoldsLawful W.lawful result }
         ensures leads { SavesHistory W.meaning row (view_of_pass pass) result }
+        ensures own { KeepsOwnCells W.meaning row result }
     {
         let work = row.work();
         let limit = row.limit();
+        step_kept(limit, work);
+        every_moment(limit, work);
         stops_lose_nothing(limit, work);
         let shape = row.shape();
         let (mut words, _pass) = row.close_durable(pass);

@@ -106,12 +106,28 @@ module _ (h k : Handle) (is : IsHandle h) (now : IsCellHandle scripts_meaning k.
     ];
   }
 
--- a call that begins is a script's
-pub begins_script : (h k : Handle) (op : List ℕ) → IsScriptOperation op → handles.OpensOnly op h.cells k.cells → (o : List ℕ) → handles.HasOpen k.cells o → IsScriptOperation o ⊎ handles.HasOpen h.cells o
-begins_script h k op script only o opened = elim (only o opened) [
-  | inl same ↦ inl (subst IsScriptOperation (sym same) script)
-  | inr before ↦ inr before
-]
+-- a call of a script begins
+pub begun : (h k : Handle) (op : List ℕ) (q : Result RawAnswer RunErr) → IsScriptOperation op → IsHandle h → IsCellHandle scripts_meaning k.cells → IsSame h k → made_by k.cells ≡ generic.made_with op q (made_by h.cells) → handles.OpensOnly op h.cells k.cells → IsHandle k
+begun h k op q script is now same made only =
+    still_handle h k is now same (of_scripts op (made_by h.cells) (made_by k.cells) q made script is.made)
+    (λ o opened. elim (only o opened) [
+      | inl one ↦ inl (subst IsScriptOperation (sym one) script)
+      | inr before ↦ inr before
+    ])
+
+-- an open call goes on
+pub resumed : (h k : Handle) (q : Result RawAnswer RunErr) → handles.ResumesCall h.cells q → IsHandle h → IsCellHandle scripts_meaning k.cells → IsSame h k → made_by k.cells ≡ generic.made_with (last_operation_of h.cells) q (made_by h.cells) → handles.OpensNone h.cells k.cells → IsHandle k
+resumed h k q opened is now same made none = still_handle h k is now same (more q opened made) (λ o opened. inr (none o opened))
+  where
+    abbrev op : List ℕ
+    op = last_operation_of h.cells
+
+    more : (q : Result RawAnswer RunErr) → handles.ResumesCall h.cells q → made_by k.cells ≡ generic.made_with op q (made_by h.cells) → AreOfScripts (made_by k.cells)
+    more (Ok a) opened made = of_scripts op (made_by h.cells) (made_by k.cells) (Ok a) made (is.open_call opened) is.made
+    more (Err (Stopped asked)) opened made = subst AreOfScripts (sym made) is.made
+    more (Err (NoneLeft seq)) opened made = of_scripts op (made_by h.cells) (made_by k.cells) (Err (NoneLeft seq)) made (is.open_call opened) is.made
+    more (Err Open) opened made = subst AreOfScripts (sym made) is.made
+    more (Err NoTicket) opened made = subst AreOfScripts (sym made) is.made
 
 pub opens_only : (h k : Handle) (op : List ℕ) (script : List Instr) → IsScript script → op ≡ map instr_word script → handles.OpensOnly op h.cells k.cells → OpensOnly script h k
 opens_only h k op script is words only s opened = elim (only (map instr_word s) opened.opened) [

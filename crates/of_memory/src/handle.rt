@@ -72,9 +72,10 @@ impl Handle {
         ensures behind { BeginsAfterHeard result self.old self.new }
         ensures knows { KeepsKnown self.old self.new }
     {
+        let len = script.len() as usize;
         let mut words = [0; MOST_INSTRS];
         to_words(script, &mut words);
-        match self.cells.run(&words[..script.len() as usize]) {
+        match self.cells.run(&words[..len]) {
             Ok(answer) => Ok(typed(answer)),
             Err(error) => Err(error),
         }
@@ -97,9 +98,10 @@ impl Handle {
         ensures behind { BeginsAfterHeard result self.old self.new }
         ensures knows { KeepsKnown self.old self.new }
     {
+        let len = script.len() as usize;
         let mut words = [0; MOST_INSTRS];
         to_words(script, &mut words);
-        match self.cells.run_within(&words[..script.len() as usize], steps) {
+        match self.cells.run_within(&words[..len], steps) {
             Ok(answer) => Ok(typed(answer)),
             Err(error) => Err(error),
         }
