@@ -119,13 +119,13 @@ begun h k op q script is now same made only =
 pub resumed : (h k : Handle) (q : Result RawAnswer RunErr) → handles.ResumesCall h.cells q → IsHandle h → IsCellHandle scripts_meaning k.cells → IsSame h k → made_by k.cells ≡ generic.made_with (last_operation_of h.cells) q (made_by h.cells) → handles.OpensNone h.cells k.cells → IsHandle k
 resumed h k q opened is now same made none = still_handle h k is now same (more q opened made) (λ o opened. inr (none o opened))
   where
-    abbrev op : List ℕ
-    op = last_operation_of h.cells
+    with_one : (q : Result RawAnswer RunErr) → HasCallOpen h → made_by k.cells ≡ generic.made_with (last_operation_of h.cells) q (made_by h.cells) → AreOfScripts (made_by k.cells)
+    with_one q opened made = of_scripts (last_operation_of h.cells) (made_by h.cells) (made_by k.cells) q made (is.open_call opened) is.made
 
-    more : (q : Result RawAnswer RunErr) → handles.ResumesCall h.cells q → made_by k.cells ≡ generic.made_with op q (made_by h.cells) → AreOfScripts (made_by k.cells)
-    more (Ok a) opened made = of_scripts op (made_by h.cells) (made_by k.cells) (Ok a) made (is.open_call opened) is.made
-    more (Err (Stopped asked)) opened made = subst AreOfScripts (sym made) is.made
-    more (Err (NoneLeft seq)) opened made = of_scripts op (made_by h.cells) (made_by k.cells) (Err (NoneLeft seq)) made (is.open_call opened) is.made
+    more : (q : Result RawAnswer RunErr) → handles.ResumesCall h.cells q → made_by k.cells ≡ generic.made_with (last_operation_of h.cells) q (made_by h.cells) → AreOfScripts (made_by k.cells)
+    more (Ok a) opened made = with_one (Ok a) opened made
+    more (Err (Stopped asked)) opened made = with_one (Err (Stopped asked)) opened made
+    more (Err (NoneLeft seq)) opened made = with_one (Err (NoneLeft seq)) opened made
     more (Err Open) opened made = subst AreOfScripts (sym made) is.made
     more (Err NoTicket) opened made = subst AreOfScripts (sym made) is.made
 

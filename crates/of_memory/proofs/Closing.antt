@@ -117,7 +117,7 @@ module _ (m : Memory) (is : IsMemory m) (here : HasNoHandleOut m) (d : Saved) (w
     last n (inl none) = inl none
     last n (inr q) = inr (last_entry w h (cells_before m) s are_scripts started led.serial q.0 q.1 n (saved_ticket d n) q.2 q.3 (raw n) (holds_same n (get_or h q.0 no_call) q.4))
 
-    pub leads_to : LeadsTo m s d hs
+    leads_to : LeadsTo m s d hs
     leads_to = record {
       serial = serial w s h are_scripts;
       ends = ends;

@@ -2,6 +2,7 @@ pub mod Called
 pub mod Holding
 pub mod Times
 pub mod Replaying
+pub mod Saving
 pub mod Starting
 pub mod Closing
 pub mod Joining

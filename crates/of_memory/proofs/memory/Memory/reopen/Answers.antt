@@ -6,7 +6,7 @@ use Rattle.of_memory.proofs.memory.Memory.reopen.Goals as goal
 pub returns-clause-memory : goal.returns-clause-memory
 returns-clause-memory c =
     let e = c.in_ok-cells.ensures in
-    nothing_made _ e.memory (saved_row _ c.args.saved.now c.requires e.work e.callers e.size e.limit e.goes_on) e.none e.idle
+    nothing_made (record { alloc = c.args.alloc; cells = c.in_ok-cells.cells }) e.memory (saved_row (record { alloc = c.args.alloc; cells = c.in_ok-cells.cells }) c.args.saved.now c.requires e.work e.callers e.size e.limit e.goes_on) e.none e.idle
 
 pub returns-clause-none : goal.returns-clause-none
 returns-clause-none c n low =
