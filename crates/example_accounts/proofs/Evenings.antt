@@ -41,10 +41,10 @@ module _ (m k : CellMemory Accounts) (d : SavedCells Accounts) (still : IsStill 
   money = subst (λ (x : Accounts). LawfulCells x (saved_cells d)) (saved_is ∙ work_is) lawful
 
   pub history : IsHistory w before calls
-  history = subst (λ (z : Accounts × List ℕ). IsSerial (accounts_meaning z.0) z.1 calls) (λ i. (work_is i, before_is i)) leads.serial
+  history = subst (λ (z : Accounts × List ℕ). IsSerial (accounts_meaning z.0) z.1 calls) (λ i. (work_is i, before_is i)) leads.one.serial
 
   ends : SavedHolds d (cells_after (accounts_meaning w) before calls)
-  ends = subst (λ (z : Accounts × List ℕ). SavedHolds d (cells_after (accounts_meaning z.0) z.1 calls)) (λ i. (work_is i, before_is i)) leads.ends
+  ends = subst (λ (z : Accounts × List ℕ). SavedHolds d (cells_after (accounts_meaning z.0) z.1 calls)) (λ i. (work_is i, before_is i)) leads.one.ends
 
   callers : saved_callers d ≡ w.callers
   callers = saved.callers ∙ ap (λ (x : Accounts). x.callers) (saved_is ∙ work_is)

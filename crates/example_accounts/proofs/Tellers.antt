@@ -71,7 +71,7 @@ has_log m d calls before n l leads were is = record { number = is.number; follow
         let at : get_or es k no_ended ≡ ended_call (get_or l.answers.items k no_answer) = get_or-map ended_call l.answers.items k no_answer no_ended lt in
         let ticket : tickets_before accounts_meaning m n + k + 1 ≡ before n + k + 1 = omega (arith, were) in
         subst (λ (e : ℕ × EndedCall). ExplainsEnd calls n e.0 e.1.op e.1.outcome) (λ i. (ticket i, at i))
-        (leads.made n es is.made k (omega (arith, lt, length-map l.answers.items ended_call)))
+        (leads.one.made n es is.made k (omega (arith, lt, length-map l.answers.items ended_call)))
 
 pub have_logs : (m : CellMemory Accounts) (d : SavedCells Accounts) (calls : List Call) (before : ℕ → ℕ) (ls : List Log) → LeadsTo accounts_meaning m d calls → ((n : ℕ) → tickets_before accounts_meaning m n ≡ before n) → AreLogged m ls
     → (p : ℕ) (e : Log) → p < length ls → HasLog calls before p (get_or ls p e)

@@ -12,7 +12,7 @@ ghost use Rattle.example_accounts.specs.declared.meter.TheConstants.{AT_ONCE, MO
 use crate::accounts::{Accounts, MOST_ACCOUNTS};
 use crate::transfer::Transfer;
 use anyhow::{Result, ensure};
-use of_cells::{CellHandle, CellMemory, GREATEST_LIMIT, RunErr};
+use of_cells::{CellHandle, CellMemory, GREATEST_LIMIT, RunError};
 use of_mem::MOST_CALLERS;
 use std::alloc::Global;
 use std::io;
@@ -59,7 +59,7 @@ fn visit(rt: &impl Clock, memory: &mut CellMemory<Accounts>) -> Result<Duration>
 }
 
 // Moves 1 from an account to another.
-fn pay(handle: &mut CellHandle<Accounts>, from: u32, to: u32) -> Result<(), RunErr>
+fn pay(handle: &mut CellHandle<Accounts>, from: u32, to: u32) -> Result<(), RunError>
     requires { IsCellHandle accounts_meaning handle.old }
     ensures handle { IsCellHandle accounts_meaning handle.new }
     ensures home { home_of handle.new ≡ home_of handle.old }
@@ -87,7 +87,7 @@ fn first_calls(rt: &impl Clock, memory: &mut CellMemory<Accounts>, last: u32) ->
 }
 
 // Moves 1 round the first two accounts and the last two, so many times.
-fn go_round(handle: &mut CellHandle<Accounts>, last: u32, rounds: u32) -> Result<(), RunErr>
+fn go_round(handle: &mut CellHandle<Accounts>, last: u32, rounds: u32) -> Result<(), RunError>
     requires handle { IsCellHandle accounts_meaning handle.old }
     requires last { 1 ≤ last }
     ensures handle { IsCellHandle accounts_meaning handle.new }
@@ -103,7 +103,7 @@ fn go_round(handle: &mut CellHandle<Accounts>, last: u32, rounds: u32) -> Result
 }
 
 // Moves 1 from the first account to others that are far apart.
-fn go_far(handle: &mut CellHandle<Accounts>, accounts: u32, calls: u32) -> Result<(), RunErr>
+fn go_far(handle: &mut CellHandle<Accounts>, accounts: u32, calls: u32) -> Result<(), RunError>
     requires handle { IsCellHandle accounts_meaning handle.old }
     requires accounts { 1 ≤ accounts }
     ensures handle { IsCellHandle accounts_meaning handle.new }

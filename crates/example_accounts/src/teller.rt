@@ -5,7 +5,7 @@ ghost use Rattle.example_accounts.specs.Days.{Serves, HasWorked};
 
 use crate::accounts::Accounts;
 use crate::transfer::{Reply, Transfer};
-use of_cells::{CellHandle, RunErr};
+use of_cells::{CellHandle, RunError};
 use of_core::Outcome;
 
 /// A transfer with the outcome of its call.
@@ -89,7 +89,7 @@ impl Teller {
         let steps = self.steps_at(next);
         let outcome = match self.handle.run_within(words.as_slice(), steps) {
             Ok(answer) => answer.outcome(),
-            Err(RunErr::Spent { seq }) => Outcome::Spent { seq },
+            Err(RunError::Spent { seq }) => Outcome::Spent { seq },
             Err(_) => return,
         };
         put(&mut self.answers, Answer { transfer, outcome });

@@ -25,8 +25,8 @@ use Rattle.of_caller.specs.Callers.{IsCaller, caller_call, calls_begun_by, sight
 use Rattle.of_caller.specs.Brakes.{StopsAt, UsesCountedSteps}
 use Rattle.of_caller.specs.CallsTold.{HasEndedWith, IsStillOpen, TellsResult, TellsCall}
 use Rattle.of_cells.specs.declared.answer.RawAnswer.{RawAnswer}
-use Rattle.of_cells.specs.declared.error.RunErr.{RunErr}
-use Rattle.of_cells.specs.declared.error.RunErr.TheVariants.{Stopped as Halted, Spent as RanOut, Open, NoTicket}
+use Rattle.of_cells.specs.declared.error.RunError.{RunError}
+use Rattle.of_cells.specs.declared.error.RunError.TheVariants.{Stopped as Halted, Spent as RanOut, InCall, NoCall, NoTicket}
 use Rattle.of_cells.specs.declared.handle.CellHandle.{CellHandle}
 use Rattle.of_cells.specs.Called.{outcome_of, WasTried, LeavesAsItWas, CallerOpensOnly, CallerOpensNone}
 use Rattle.of_cells.specs.Within.{KeepsToStop, IsSpentAtLimit, RisesWithin}
@@ -77,7 +77,7 @@ module _ (S : Setup) (L : List ℕ → Type 0) (B : TableStart) (m : CallState) 
   made_none asked is = let h : Told (Err (Stopped asked)) = subst Told is told.result in none_more h.0
 
   -- a call that has ended has made a step
-  ended_some : (o : Outcome) → HasEndedWith S L B m v told.before told.steps d w told.kept o → 0 < told.steps
+  pub ended_some : (o : Outcome) → HasEndedWith S L B m v told.before told.steps d w told.kept o → 0 < told.steps
   ended_some o closes = elim (none_or_some told.steps) [
     | inl none ↦
         let same : now ≡ before = ap (λ (x : View). last_caller x.kept) (told.none none) in
@@ -324,24 +324,27 @@ calls_counted meaning h is none = idle_counts meaning (home_of h) (number_of_han
 -- ---- a handle
 
 module _ {W : Type 0} (h : CellHandle W) where
-  pub tried_is : (r : Result RawAnswer RunErr) → WasTried r → IsSpentAtLimit (limit_at h) r → RefusesCall h r
+  pub tried_is : (r : Result RawAnswer RunError) → WasTried r → IsSpentAtLimit (limit_at h) r → RefusesCall h r
   tried_is (Ok a) t s = tt
   tried_is (Err (Halted asked)) t s = tt
   tried_is (Err (RanOut seq)) t s = s
-  tried_is (Err Open) t s = absurd t
+  tried_is (Err InCall) t s = absurd t
+  tried_is (Err NoCall) t s = absurd t
   tried_is (Err NoTicket) t s = absurd t
 
-  pub went_on : (r : Result RawAnswer RunErr) → WasTried r → IsSpentAtLimit (limit_at h) r → RefusesToGoOn h r
+  pub went_on : (r : Result RawAnswer RunError) → WasTried r → IsSpentAtLimit (limit_at h) r → RefusesToGoOn h r
   went_on (Ok a) t s = tt
   went_on (Err (Halted asked)) t s = tt
   went_on (Err (RanOut seq)) t s = s
-  went_on (Err Open) t s = absurd t
+  went_on (Err InCall) t s = absurd t
+  went_on (Err NoCall) t s = absurd t
   went_on (Err NoTicket) t s = absurd t
 
   -- of a call that is made nothing is said to stay
-  pub was_made : (k : CellHandle W) (r : Result RawAnswer RunErr) → WasTried r → LeavesAsItWas r h k
+  pub was_made : (k : CellHandle W) (r : Result RawAnswer RunError) → WasTried r → LeavesAsItWas r h k
   was_made k (Ok a) t = tt
   was_made k (Err (Halted asked)) t = tt
   was_made k (Err (RanOut seq)) t = tt
-  was_made k (Err Open) t = absurd t
+  was_made k (Err InCall) t = absurd t
+  was_made k (Err NoCall) t = absurd t
   was_made k (Err NoTicket) t = absurd t

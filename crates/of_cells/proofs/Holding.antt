@@ -196,14 +196,16 @@ module _ {W : Type 0} where
         let now : Leads (row_of m) = subst Leads same kept in (
           h,
           record {
-            serial = there.serial;
-            ends = there.ends;
-            order = there.order;
-            made = λ n es made. (now n es made).0;
-            only = λ n es made. (now n es made).1;
-            callers = there.callers;
-            last = there.last;
-            upto = there.upto;
+            one = record {
+              serial = there.serial;
+              ends = there.ends;
+              order = there.order;
+              made = λ n es made. (now n es made).0;
+              only = λ n es made. (now n es made).1;
+              callers = there.callers;
+              last = there.last;
+              upto = there.upto;
+            };
             time = λ j n x k y has.
                 let past = pasts j has.caller (is_within m.callers.items j has.caller has.here) has.here in
                 there.time n x k y (record {

@@ -6,3 +6,4 @@ pub mod Closing
 pub mod Holding
 pub mod Still
 pub mod Renumbering
+mod Meant

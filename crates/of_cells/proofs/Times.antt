@@ -10,7 +10,7 @@ use Rattle.of_row.specs.Views.{View}
 use Rattle.of_caller.specs.declared.caller.Caller.{Caller}
 use Rattle.of_caller.specs.Callers.{caller_call, sight_of}
 use Rattle.of_cells.specs.declared.answer.RawAnswer.{RawAnswer}
-use Rattle.of_cells.specs.declared.error.RunErr.{RunErr}
+use Rattle.of_cells.specs.declared.error.RunError.{RunError}
 use Rattle.of_cells.specs.declared.memory.CellMemory.{CellMemory}
 use Rattle.of_cells.specs.declared.handle.CellHandle.{CellHandle}
 use Rattle.of_cells.specs.declared.telling.CellNews.{CellNews}
@@ -63,7 +63,7 @@ module _ {W : Type 0} (meaning : W → Meaning) where
         subst (λ (r : Row W). Ordered r (events_known_to (caller_of k)) n x j y) (sym home) (order_later meaning (home_of h) (events_known_to (caller_of h)) (events_known_to (caller_of k)) n x j y more known);
   }
 
-  pub begins_after : (result : Result RawAnswer RunErr) (h k : CellHandle W) → home_of k ≡ home_of h → LearnsMore (caller_of h) (caller_of k) → (caller_call (caller_of h)).caller ≡ number_of_handle h → BeginsItsNext result (caller_of h) → BeginsAfterHeard meaning result h k
+  pub begins_after : (result : Result RawAnswer RunError) (h k : CellHandle W) → home_of k ≡ home_of h → LearnsMore (caller_of h) (caller_of k) → (caller_call (caller_of h)).caller ≡ number_of_handle h → BeginsItsNext result (caller_of h) → BeginsAfterHeard meaning result h k
   begins_after result h k home more number next started n count heard =
       let few = subst (λ (i : ℕ). BeginsAsNext i result (caller_of h)) number next started in
       subst (λ (r : Row W). Ordered r (events_known_to (caller_of k)) n count (number_of_handle h) (length (made_by h))) (sym home) (record {

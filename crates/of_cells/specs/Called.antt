@@ -1,28 +1,41 @@
 -- What a call of an operation comes to.
 use Rattle.std.specs.Prelude.{◌≡◌, ℕ, ◌<◌, ◌≤◌, ◌⊎◌, List, [], ◌∷◌, ◌++◌, length, Result, Ok, Err}
 use mathlib.Core.List.{IsPrefix}
+use Rattle.of_mem.specs.Meaning.{Meaning}
 use Rattle.of_core.specs.declared.place.Outcome.{Outcome}
 use Rattle.of_core.specs.declared.place.Outcome.TheVariants.{Answered, Spent}
 use Rattle.of_core.specs.Machine.{IsOpen}
+use Rattle.of_row.specs.declared.row.Row.{Row}
+use Rattle.of_row.specs.Rows.{key_of}
 use Rattle.of_row.specs.Views.{EndedCall, last_caller}
 use Rattle.of_caller.specs.declared.caller.Caller.{Caller}
 use Rattle.of_caller.specs.Callers.{caller_call, sight_of}
 use Rattle.of_cells.specs.declared.answer.RawAnswer.{RawAnswer}
-use Rattle.of_cells.specs.declared.error.RunErr.{RunErr}
-use Rattle.of_cells.specs.declared.error.RunErr.TheVariants.{Stopped, Spent as NoneLeft, Open, NoTicket}
+use Rattle.of_cells.specs.declared.error.RunError.{RunError}
+use Rattle.of_cells.specs.declared.error.RunError.TheVariants.{Stopped, Spent as NoneLeft, InCall, NoCall, NoTicket}
+use Rattle.of_cells.specs.History.{IsMeant}
 use Rattle.of_cells.specs.Times.{calls_begun_in}
-use Rattle.of_cells.specs.Serving.{HasStartedIfOpen, ended_of, events_known_to}
+use Rattle.of_cells.specs.Serving.{HasStartedIfOpen, cells_at_start, ended_of, events_known_to}
 
 -- the outcome that an answer tells
 abbrev pub outcome_of : RawAnswer → Outcome
 outcome_of a = Answered a.seq a.announced a.raw a.steps
 
+-- an answer's reply is what the operation means on cells that operations lead to, one after the
+-- other, from those with which the row started
+abbrev pub AnswersAsMeant : {W : Type 0} → (W → Meaning) → Row W → (op : List ℕ)
+    → Result RawAnswer RunError → Type 0
+AnswersAsMeant meaning r op (Ok a) =
+    IsMeant (meaning (key_of r).work) (cells_at_start meaning r) op a.raw
+AnswersAsMeant meaning r op (Err e) = Unit {0}
+
 -- the calls that have ended after these, where a call of an operation has come to this
-abbrev pub made_with : (op : List ℕ) → Result RawAnswer RunErr → List EndedCall → List EndedCall
+abbrev pub made_with : (op : List ℕ) → Result RawAnswer RunError → List EndedCall → List EndedCall
 made_with op (Ok a) es = es ++ record { op = op; outcome = outcome_of a } ∷ []
 made_with op (Err (Stopped asked)) es = es
 made_with op (Err (NoneLeft seq)) es = es ++ record { op = op; outcome = Spent seq } ∷ []
-made_with op (Err Open) es = es
+made_with op (Err InCall) es = es
+made_with op (Err NoCall) es = es
 made_with op (Err NoTicket) es = es
 
 -- a call of the caller is open, of whatever operation
@@ -34,11 +47,12 @@ abbrev pub IsOpenAt : {W : Type 0} → (op : List ℕ) → Caller W → Type 0
 IsOpenAt op c = IsInCall c × ((caller_call c).op ≡ op)
 
 -- a stopped call stays open, and none is open after one that has ended
-abbrev pub LeavesOpen : {W : Type 0} → (op : List ℕ) → Result RawAnswer RunErr → Caller W → Type 0
+abbrev pub LeavesOpen : {W : Type 0} → (op : List ℕ) → Result RawAnswer RunError → Caller W → Type 0
 LeavesOpen op (Ok a) c = IsInCall c → ⊥
 LeavesOpen op (Err (Stopped asked)) c = IsOpenAt op c
 LeavesOpen op (Err (NoneLeft seq)) c = IsInCall c → ⊥
-LeavesOpen op (Err Open) c = Unit {0}
+LeavesOpen op (Err InCall) c = Unit {0}
+LeavesOpen op (Err NoCall) c = Unit {0}
 LeavesOpen op (Err NoTicket) c = Unit {0}
 
 -- a call that is open now is one of this operation, or was open before
@@ -50,33 +64,35 @@ abbrev pub CallerOpensNone : {W : Type 0} → (before now : Caller W) → Type 0
 CallerOpensNone c d = (o : List ℕ) → IsOpenAt o d → IsOpenAt o c
 
 -- the call was made: it was not refused
-abbrev pub WasTried : Result RawAnswer RunErr → Type 0
+abbrev pub WasTried : Result RawAnswer RunError → Type 0
 WasTried (Ok a) = Unit {0}
 WasTried (Err (Stopped asked)) = Unit {0}
 WasTried (Err (NoneLeft seq)) = Unit {0}
-WasTried (Err Open) = ⊥
+WasTried (Err InCall) = ⊥
+WasTried (Err NoCall) = ⊥
 WasTried (Err NoTicket) = ⊥
 
 -- the call has made a step
-abbrev pub HasStarted : Result RawAnswer RunErr → Type 0
+abbrev pub HasStarted : Result RawAnswer RunError → Type 0
 HasStarted (Ok a) = Unit {0}
 HasStarted (Err (Stopped asked)) = 1 < asked
 HasStarted (Err (NoneLeft seq)) = Unit {0}
-HasStarted (Err Open) = ⊥
+HasStarted (Err InCall) = ⊥
+HasStarted (Err NoCall) = ⊥
 HasStarted (Err NoTicket) = ⊥
 
 -- Before a call that has made a step, the caller of this number knew of no call of its number but
 -- those that have ended.
-abbrev pub BeginsAsNext : {W : Type 0} → (number : ℕ) → Result RawAnswer RunErr → Caller W → Type 0
+abbrev pub BeginsAsNext : {W : Type 0} → (number : ℕ) → Result RawAnswer RunError → Caller W → Type 0
 BeginsAsNext n result c =
     HasStarted result → calls_begun_in (events_known_to c) n ≤ length (ended_of c)
 
 -- so it is whatever its number
-abbrev pub BeginsItsNext : {W : Type 0} → Result RawAnswer RunErr → Caller W → Type 0
+abbrev pub BeginsItsNext : {W : Type 0} → Result RawAnswer RunError → Caller W → Type 0
 BeginsItsNext result c = BeginsAsNext (caller_call c).caller result c
 
 -- the same of an open call that had made no step, when it goes on
-abbrev pub ResumesItsNext : {W : Type 0} → Result RawAnswer RunErr → Caller W → Type 0
+abbrev pub ResumesItsNext : {W : Type 0} → Result RawAnswer RunError → Caller W → Type 0
 ResumesItsNext result c =
     HasStartedIfOpen (last_caller (sight_of c).kept) → (caller_call c).steps ≡ 0
     → BeginsItsNext result c
@@ -86,9 +102,10 @@ abbrev pub LearnsMore : {W : Type 0} → (before now : Caller W) → Type 0
 LearnsMore c d = IsPrefix (events_known_to c) (events_known_to d)
 
 -- a call that is not made leaves everything as it was
-abbrev pub LeavesAsItWas : {A : Type 0} → Result RawAnswer RunErr → (before now : A) → Type 0
+abbrev pub LeavesAsItWas : {A : Type 0} → Result RawAnswer RunError → (before now : A) → Type 0
 LeavesAsItWas (Ok a) before now = Unit {0}
 LeavesAsItWas (Err (Stopped asked)) before now = Unit {0}
 LeavesAsItWas (Err (NoneLeft seq)) before now = Unit {0}
-LeavesAsItWas (Err Open) before now = now ≡ before
+LeavesAsItWas (Err InCall) before now = now ≡ before
+LeavesAsItWas (Err NoCall) before now = now ≡ before
 LeavesAsItWas (Err NoTicket) before now = now ≡ before

@@ -8,10 +8,10 @@ use Rattle.of_row.specs.Views.{EndedCall}
 use Rattle.of_caller.specs.declared.caller.Caller.{Caller}
 use Rattle.of_caller.specs.Callers.{caller_call, calls_begun_by}
 use Rattle.of_cells.specs.declared.answer.RawAnswer.{RawAnswer}
-use Rattle.of_cells.specs.declared.error.RunErr.{RunErr}
-use Rattle.of_cells.specs.declared.error.RunErr.TheVariants.{Stopped, Spent, Open, NoTicket}
+use Rattle.of_cells.specs.declared.error.RunError.{RunError}
+use Rattle.of_cells.specs.declared.error.RunError.TheVariants.{Stopped, Spent, InCall, NoCall, NoTicket}
 use Rattle.of_cells.specs.declared.handle.CellHandle.{CellHandle}
-use Rattle.of_cells.specs.Called.{IsInCall, IsOpenAt, LeavesOpen, CallerOpensOnly, CallerOpensNone}
+use Rattle.of_cells.specs.Called.{AnswersAsMeant, IsInCall, IsOpenAt, LeavesOpen, CallerOpensOnly, CallerOpensNone}
 use Rattle.of_cells.specs.Serving.{Serves, RisesByTouch, ended_of, made_before, row_step_bound, steps_made_by}
 
 -- the memory that it is a handle of
@@ -47,9 +47,15 @@ abbrev pub HasOpen : {W : Type 0} → CellHandle W → (op : List ℕ) → Type 
 HasOpen h op = IsOpenAt op (caller_of h)
 
 -- a stopped call of this operation stays open, and none is open after one that has ended
-abbrev pub StaysOpenOnlyIfStopped : {W : Type 0} → (op : List ℕ) → Result RawAnswer RunErr
+abbrev pub StaysOpenOnlyIfStopped : {W : Type 0} → (op : List ℕ) → Result RawAnswer RunError
     → CellHandle W → Type 0
 StaysOpenOnlyIfStopped op result h = LeavesOpen op result (caller_of h)
+
+-- an answer's reply is what the operation means on cells that operations lead to, one after the
+-- other, from those with which the handle's memory was opened
+abbrev pub RepliesAsMeant : {W : Type 0} → (W → Meaning) → (op : List ℕ) → CellHandle W
+    → Result RawAnswer RunError → Type 0
+RepliesAsMeant meaning op h result = AnswersAsMeant meaning (home_of h) op result
 
 -- how many steps its open call has made
 abbrev pub steps_so_far : {W : Type 0} → CellHandle W → ℕ
@@ -120,19 +126,21 @@ OpensNone h k = CallerOpensNone (caller_of h) (caller_of k)
 
 -- It refuses a call only if one is open, or its number has made all calls that it may make. A call
 -- is spent only where the sequence has come to the limit.
-abbrev pub RefusesCall : {W : Type 0} → CellHandle W → Result RawAnswer RunErr → Type 0
+abbrev pub RefusesCall : {W : Type 0} → CellHandle W → Result RawAnswer RunError → Type 0
 RefusesCall h (Ok a) = Unit {0}
 RefusesCall h (Err (Stopped asked)) = Unit {0}
 RefusesCall h (Err (Spent seq)) = seq ≡ limit_at h
-RefusesCall h (Err Open) = HasCallOpen h
+RefusesCall h (Err InCall) = HasCallOpen h
+RefusesCall h (Err NoCall) = ⊥
 RefusesCall h (Err NoTicket) = HasNoTicketLeft h
 
 -- it refuses to go on only if no call is open, and a call is spent only at the limit
-abbrev pub RefusesToGoOn : {W : Type 0} → CellHandle W → Result RawAnswer RunErr → Type 0
+abbrev pub RefusesToGoOn : {W : Type 0} → CellHandle W → Result RawAnswer RunError → Type 0
 RefusesToGoOn h (Ok a) = Unit {0}
 RefusesToGoOn h (Err (Stopped asked)) = Unit {0}
 RefusesToGoOn h (Err (Spent seq)) = seq ≡ limit_at h
-RefusesToGoOn h (Err Open) = HasCallOpen h → ⊥
+RefusesToGoOn h (Err InCall) = ⊥
+RefusesToGoOn h (Err NoCall) = HasCallOpen h → ⊥
 RefusesToGoOn h (Err NoTicket) = ⊥
 
 -- if it isn't refused, a call was open that goes on

@@ -31,6 +31,12 @@ abbrev pub IsSameReply : RawReply → RawReply → Type 0
 IsSameReply r q =
     (r.shape ≡ q.shape) × ((y : ℕ) → y < MOST_INSTRS → get_or r.values y 0 ≡ get_or q.values y 0)
 
+-- the reply is what the operation means on cells that a serial history leads to from these
+pub record IsMeant (M : Meaning) (cells op : List ℕ) (raw : RawReply) : Type 0 where
+  pub history : List Call
+  pub serial : IsSerial M cells history
+  pub reply : IsSameReply raw (M.reply (cells_after M cells history) op)
+
 -- the history has this call, with this reply
 pub record HasEntry (h : List Call) (caller ticket : ℕ) (op : List ℕ) (raw : RawReply)
     : Type 0 where

@@ -11,10 +11,10 @@ use Rattle.of_core.specs.Events.{Event}
 use Rattle.of_row.specs.Rows.{key_of, setup_at, row_start, IsRowPass}
 use Rattle.of_row.specs.Views.{EndedCall}
 use Rattle.of_caller.specs.declared.caller.Caller.{Caller}
-use Rattle.of_cells.specs.declared.error.EnrolErr.{EnrolErr}
-use Rattle.of_cells.specs.declared.error.EnrolErr.TheVariants.{OutOfMemory, NoCaller, Enrolled}
-use Rattle.of_cells.specs.declared.error.OpenErr.{OpenErr}
-use Rattle.of_cells.specs.declared.error.OpenErr.TheVariants.{OutOfMemory as NoRoom, Limit}
+use Rattle.of_cells.specs.declared.error.EnrolError.{EnrolError}
+use Rattle.of_cells.specs.declared.error.EnrolError.TheVariants.{OutOfMemory, NoCaller, Enrolled}
+use Rattle.of_cells.specs.declared.error.OpenError.{OpenError}
+use Rattle.of_cells.specs.declared.error.OpenError.TheVariants.{OutOfMemory as NoRoom, Limit}
 use Rattle.of_cells.specs.declared.memory.CellMemory.{CellMemory}
 use Rattle.of_cells.specs.declared.handle.CellHandle.{CellHandle}
 use Rattle.of_cells.specs.declared.saved.SavedCells.{SavedCells}
@@ -158,8 +158,8 @@ PutsBack m k h = PutsCaller (number_of_handle h) (caller_of h) m k
 -- serial, and the calls of each caller are there in the order in which it made them, each once at
 -- most. It has each call that was answered, with its reply, and no call that was spent; beside
 -- these it has open calls alone. What is saved tells the last call of each caller, and no call that
--- may write is later. It respects the time between calls, where one of the numbers knows of it.
-pub record LeadsTo {W : Type 0} (meaning : W → Meaning) (m : CellMemory W) (d : SavedCells W)
+-- may write is later.
+pub record IsOneHistory {W : Type 0} (meaning : W → Meaning) (m : CellMemory W) (d : SavedCells W)
     (h : List Call) : Type 0 where
   pub serial : IsSerial (meaning (work_of m)) (cells_before meaning m) h
   pub ends : SavedHolds d (cells_after (meaning (work_of m)) (cells_before meaning m) h)
@@ -171,8 +171,19 @@ pub record LeadsTo {W : Type 0} (meaning : W → Meaning) (m : CellMemory W) (d 
   pub callers : All (λ (e : Call). e.caller < callers_of m) h
   pub last : (n : ℕ) → n < callers_of m → TellsLast d h n (tickets_before meaning m n)
   pub upto : (n : ℕ) → n < callers_of m → IsUpTo (meaning (work_of m)) h n (saved_ticket d n)
-  pub time : (j n x k y : ℕ) → HasOrderOf meaning m j n x k y
-      → ComeInOrder h n (tickets_before meaning m n + x) k (tickets_before meaning m k + y)
+
+-- The history respects the time between calls, where one of the numbers knows of it: calls that had
+-- ended come before those that had not begun.
+abbrev pub KeepsTime : {W : Type 0} → (W → Meaning) → CellMemory W → List Call → Type 0
+KeepsTime meaning m h =
+    (j n x k y : ℕ) → HasOrderOf meaning m j n x k y
+    → ComeInOrder h n (tickets_before meaning m n + x) k (tickets_before meaning m k + y)
+
+-- it does both
+pub record LeadsTo {W : Type 0} (meaning : W → Meaning) (m : CellMemory W) (d : SavedCells W)
+    (h : List Call) : Type 0 where
+  pub one : IsOneHistory meaning m d h
+  pub time : KeepsTime meaning m h
 
 -- there is one that does
 abbrev pub HasHistory : {W : Type 0} → (W → Meaning) → CellMemory W → SavedCells W → Type 0
@@ -184,13 +195,13 @@ abbrev pub KeepsOwn : {W : Type 0} → (W → Meaning) → CellMemory W → Save
 KeepsOwn meaning m d = KeepsOwnCells meaning (row_of m) d
 
 -- why there is no handle
-abbrev pub IsEnrolCause : {W : Type 0} → CellMemory W → ℕ → EnrolErr → Type 0
+abbrev pub IsEnrolCause : {W : Type 0} → CellMemory W → ℕ → EnrolError → Type 0
 IsEnrolCause m n (OutOfMemory e) = Unit {0}
 IsEnrolCause m n (NoCaller k) = (k ≡ n) × (callers_of m ≤ n)
 IsEnrolCause m n (Enrolled k) = (k ≡ n) × (get_or m.callers.items n None ≡ None)
 
 -- and why no memory is opened
-abbrev pub IsOpenCause : (limit : ℕ) → OpenErr → Type 0
+abbrev pub IsOpenCause : (limit : ℕ) → OpenError → Type 0
 IsOpenCause limit (NoRoom e) = Unit {0}
 IsOpenCause limit (Limit k) = (k ≡ limit) × ((limit ≡ 0) ⊎ (GREATEST_LIMIT < limit))
 

@@ -4,6 +4,8 @@ use Rattle.std.proofs.Common.{get_or}
 use mathlib.Core.List.{IsPrefix}
 use Rattle.of_cell.specs.Words.{payload_of}
 use Rattle.of_mem.specs.Meaning.{Meaning}
+use Rattle.of_mem.specs.Places.{ticket_cell_at}
+use Rattle.of_mem.specs.declared.work.TheConstants.{MOST_INSTRS}
 use Rattle.of_core.specs.Machine.{IsOpen, is_idle}
 use Rattle.of_core.specs.Bound.{bound}
 use Rattle.of_core.specs.Events.{Event}
@@ -12,7 +14,7 @@ use Rattle.of_core.specs.Turn.{IsIdle}
 use Rattle.of_row.specs.declared.row.Row.{Row}
 use Rattle.of_row.specs.declared.member.Pass.{Pass}
 use Rattle.of_row.specs.Rows.{key_of, setup_at, row_start, view_of_pass, IsRowPass, IsFirstPass, KeepsNobody}
-use Rattle.of_row.specs.Rule.{IsAsked, done_before, open_call_count}
+use Rattle.of_row.specs.Rule.{IsAsked, open_call_count}
 use Rattle.of_row.specs.Views.{KnownCaller, EndedCall, last_caller}
 use Rattle.of_caller.specs.declared.caller.Caller.{Caller}
 use Rattle.of_caller.specs.Callers.{IsCaller, caller_call, calls_begun_by, sight_of}
@@ -22,9 +24,10 @@ use Rattle.of_cells.specs.Times.{calls_ended_in}
 abbrev pub cells_at_start : {W : Type 0} → (W → Meaning) → Row W → List ℕ
 cells_at_start meaning r = map payload_of (row_start meaning r).cells
 
--- how many calls a caller had made before that
+-- how many calls a caller had made before that: the number in its ticket cell
 abbrev pub made_before : {W : Type 0} → (W → Meaning) → Row W → ℕ → ℕ
-made_before meaning r n = done_before (setup_at meaning r) (row_start meaning r) n
+made_before meaning r n =
+    payload_of (get_or (row_start meaning r).cells (ticket_cell_at MOST_INSTRS n) 0)
 
 -- no call on the row makes more steps than this
 abbrev pub row_step_bound : {W : Type 0} → (W → Meaning) → Row W → ℕ

@@ -6,7 +6,7 @@ use Rattle.of_core.specs.Events.{Event}
 use Rattle.of_row.specs.declared.row.Row.{Row}
 use Rattle.of_row.specs.Rows.{setup_at, row_start, view_of_pass, IsRowPass, KeepsNobody}
 use Rattle.of_cells.specs.declared.answer.RawAnswer.{RawAnswer}
-use Rattle.of_cells.specs.declared.error.RunErr.{RunErr}
+use Rattle.of_cells.specs.declared.error.RunError.{RunError}
 use Rattle.of_cells.specs.declared.handle.CellHandle.{CellHandle}
 use Rattle.of_cells.specs.declared.telling.CellNews.{CellNews}
 use Rattle.of_cells.specs.declared.memory.CellMemory.{CellMemory}
@@ -75,14 +75,14 @@ HearsAll meaning a h =
 -- ---- a call
 
 -- the calls that the handle had heard of had ended before its call began, if that has made a step
-abbrev pub BeginsAfterHeard : {W : Type 0} → (W → Meaning) → Result RawAnswer RunErr
+abbrev pub BeginsAfterHeard : {W : Type 0} → (W → Meaning) → Result RawAnswer RunError
     → (before now : CellHandle W) → Type 0
 BeginsAfterHeard meaning result h k =
     HasStarted result → (n count : ℕ) → HasHeardOf meaning h n count
     → KnowsOrder meaning k n count (number_of_handle h) (length (made_by h))
 
 -- the same of an open call that had made no step, when it goes on
-abbrev pub ResumesAfterHeard : {W : Type 0} → (W → Meaning) → Result RawAnswer RunErr
+abbrev pub ResumesAfterHeard : {W : Type 0} → (W → Meaning) → Result RawAnswer RunError
     → (before now : CellHandle W) → Type 0
 ResumesAfterHeard meaning result h k =
     steps_so_far h ≡ 0 → BeginsAfterHeard meaning result h k
@@ -122,7 +122,7 @@ pub record TellsMemory {W : Type 0} (meaning : W → Meaning) (h : CellHandle W)
 abbrev pub ToldCallsComeFirst : {W : Type 0} → (W → Meaning) → Type 0
 ToldCallsComeFirst {W} meaning =
     (m : CellMemory W) (d : SavedCells W) (a b c e : CellHandle W) (news : CellNews)
-    (result : Result RawAnswer RunErr) → IsFrom m a → IsFrom m b
+    (result : Result RawAnswer RunError) → IsFrom m a → IsFrom m b
     → TellsOwn meaning a news → HearsAll meaning news b
     → HasStarted result → BeginsAfterHeard meaning result b c
     → KeepsKnown meaning c e → LeavesOrder meaning e m → HasHistory meaning m d
@@ -138,7 +138,7 @@ ToldCallsComeFirst {W} meaning =
 abbrev pub CallsComeInTurn : {W : Type 0} → (W → Meaning) → Type 0
 CallsComeInTurn {W} meaning =
     (k l m : CellMemory W) (d : SavedCells W) (a b c e : CellHandle W)
-    (result : Result RawAnswer RunErr) → IsStill k m → IsStill l m → IsFrom m a → IsFrom m b
+    (result : Result RawAnswer RunError) → IsStill k m → IsStill l m → IsFrom m a → IsFrom m b
     → TellsMemory meaning a k → RemembersAll meaning k l → HearsMemory meaning l b
     → HasStarted result → BeginsAfterHeard meaning result b c
     → KeepsKnown meaning c e → LeavesOrder meaning e m → HasHistory meaning m d

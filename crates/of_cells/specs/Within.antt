@@ -1,47 +1,51 @@
 -- How many steps a call of a handle makes, and when it is stopped.
 use Rattle.std.specs.Prelude.{◌≡◌, ℕ, ◌+◌, ◌≤◌, Option, Some, None, Result, Ok, Err}
 use Rattle.of_cells.specs.declared.answer.RawAnswer.{RawAnswer}
-use Rattle.of_cells.specs.declared.error.RunErr.{RunErr}
-use Rattle.of_cells.specs.declared.error.RunErr.TheVariants.{Stopped, Spent, Open, NoTicket}
+use Rattle.of_cells.specs.declared.error.RunError.{RunError}
+use Rattle.of_cells.specs.declared.error.RunError.TheVariants.{Stopped, Spent, InCall, NoCall, NoTicket}
 
 -- the call is not stopped
-abbrev pub IsNeverStopped : Result RawAnswer RunErr → Type 0
+abbrev pub IsNeverStopped : Result RawAnswer RunError → Type 0
 IsNeverStopped (Ok a) = Unit {0}
 IsNeverStopped (Err (Stopped asked)) = ⊥
 IsNeverStopped (Err (Spent seq)) = Unit {0}
-IsNeverStopped (Err Open) = Unit {0}
+IsNeverStopped (Err InCall) = Unit {0}
+IsNeverStopped (Err NoCall) = Unit {0}
 IsNeverStopped (Err NoTicket) = Unit {0}
 
 -- A call that had made some steps before is given more, and has made so many by now. An answer
 -- tells no more than both together. A call is stopped only if it has made them all, at the next
 -- ask.
-abbrev pub KeepsWithin : (before more now : ℕ) → Result RawAnswer RunErr → Type 0
+abbrev pub KeepsWithin : (before more now : ℕ) → Result RawAnswer RunError → Type 0
 KeepsWithin before more now (Ok a) = a.steps ≤ before + more
 KeepsWithin before more now (Err (Stopped asked)) = (asked ≡ more + 1) × (now ≡ before + more)
 KeepsWithin before more now (Err (Spent seq)) = Unit {0}
-KeepsWithin before more now (Err Open) = Unit {0}
+KeepsWithin before more now (Err InCall) = Unit {0}
+KeepsWithin before more now (Err NoCall) = Unit {0}
 KeepsWithin before more now (Err NoTicket) = Unit {0}
 
 -- the same of a call that is given so many more steps, or as many as it needs
 abbrev pub KeepsToStop : (before : ℕ) → (stop : Option ℕ) → (now : ℕ)
-    → Result RawAnswer RunErr → Type 0
+    → Result RawAnswer RunError → Type 0
 KeepsToStop before None now r = IsNeverStopped r
 KeepsToStop before (Some more) now r = KeepsWithin before more now r
 
 -- An answer tells at most so many steps, and a stopped call has asked at most so many times.
-abbrev pub EndsWithin : (most : ℕ) → Result RawAnswer RunErr → Type 0
+abbrev pub EndsWithin : (most : ℕ) → Result RawAnswer RunError → Type 0
 EndsWithin most (Ok a) = a.steps ≤ most
 EndsWithin most (Err (Stopped asked)) = asked ≤ most
 EndsWithin most (Err (Spent seq)) = Unit {0}
-EndsWithin most (Err Open) = Unit {0}
+EndsWithin most (Err InCall) = Unit {0}
+EndsWithin most (Err NoCall) = Unit {0}
 EndsWithin most (Err NoTicket) = Unit {0}
 
 -- a call is spent only where the sequence has come to the limit
-abbrev pub IsSpentAtLimit : (limit : ℕ) → Result RawAnswer RunErr → Type 0
+abbrev pub IsSpentAtLimit : (limit : ℕ) → Result RawAnswer RunError → Type 0
 IsSpentAtLimit limit (Ok a) = Unit {0}
 IsSpentAtLimit limit (Err (Stopped asked)) = Unit {0}
 IsSpentAtLimit limit (Err (Spent seq)) = seq ≡ limit
-IsSpentAtLimit limit (Err Open) = Unit {0}
+IsSpentAtLimit limit (Err InCall) = Unit {0}
+IsSpentAtLimit limit (Err NoCall) = Unit {0}
 IsSpentAtLimit limit (Err NoTicket) = Unit {0}
 
 -- A count of steps has risen by no more than a call was given, if it was given so many.

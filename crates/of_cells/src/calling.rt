@@ -9,13 +9,13 @@ ghost use Rattle.of_caller.specs.Callers.{IsCaller, caller_call, calls_begun_by}
 ghost use Rattle.of_row.specs.Rows.{key_of};
 ghost use Rattle.of_cells.specs.Serving.{KeepsServing, ended_of, row_step_bound, steps_made_by};
 ghost use Rattle.of_cells.specs.Serving.{RisesByTouch};
-ghost use Rattle.of_cells.specs.Called.{outcome_of, made_with, LeavesOpen, WasTried};
+ghost use Rattle.of_cells.specs.Called.{outcome_of, made_with, AnswersAsMeant, LeavesOpen, WasTried};
 ghost use Rattle.of_cells.specs.Called.{BeginsItsNext, ResumesItsNext, LearnsMore};
 ghost use Rattle.of_cells.specs.Called.{CallerOpensOnly, CallerOpensNone};
 ghost use Rattle.of_cells.specs.Within.{EndsWithin, KeepsToStop, IsSpentAtLimit, RisesWithin};
 
 use crate::answer::RawAnswer;
-use crate::error::RunErr;
+use crate::error::RunError;
 use of_brake::{Brake, Fuel, Steps};
 use of_caller::{CallErr, Caller};
 use of_core::Outcome;
@@ -63,7 +63,7 @@ fn call_counted<W: Work, L: Ledger>(
     op: &[u64],
     stop: Option<u64>,
     blank: Blank,
-) -> Result<RawAnswer, RunErr>
+) -> Result<RawAnswer, RunError>
     requires name { blank.name ≡ L.name }
     requires parts { (blank.parts ≡ L.parts) × (blank.parts ≡ 1) }
     requires caller { IsCaller W.meaning row.now caller.old }
@@ -73,6 +73,7 @@ fn call_counted<W: Work, L: Ledger>(
     requires ticket { calls_begun_by caller.old + 1 < 4294967296 }
     ensures serves { KeepsServing W.meaning row.now caller.old caller.new }
     ensures made { ended_of caller.new ≡ made_with op.now result (ended_of caller.old) }
+    ensures means { AnswersAsMeant W.meaning row.now op.now result }
     ensures open_call { LeavesOpen op.now result caller.new }
     ensures tried { WasTried result }
     ensures bound { EndsWithin (row_step_bound W.meaning row.now) result }
@@ -91,8 +92,8 @@ fn call_counted<W: Work, L: Ledger>(
     let mut steps: Steps<L> = Steps::new(blank);
     match caller.call(row, op, &mut brake, &mut steps) {
         Ok(outcome) => Ok(answer_of(outcome)),
-        Err(CallErr::Stopped { asked }) => Err(RunErr::Stopped { asked }),
-        Err(CallErr::Spent { seq }) => Err(RunErr::Spent { seq }),
+        Err(CallErr::Stopped { asked }) => Err(RunError::Stopped { asked }),
+        Err(CallErr::Spent { seq }) => Err(RunError::Spent { seq }),
     }
 }
 
@@ -102,7 +103,7 @@ fn go_on_counted<W: Work, L: Ledger>(
     caller: &mut Caller<W>,
     stop: Option<u64>,
     blank: Blank,
-) -> Result<RawAnswer, RunErr>
+) -> Result<RawAnswer, RunError>
     requires name { blank.name ≡ L.name }
     requires parts { (blank.parts ≡ L.parts) × (blank.parts ≡ 1) }
     requires caller { IsCaller W.meaning row.now caller.old }
@@ -110,6 +111,7 @@ fn go_on_counted<W: Work, L: Ledger>(
     ensures serves { KeepsServing W.meaning row.now caller.old caller.new }
     ensures made { ended_of caller.new
         ≡ made_with (caller_call caller.old).op result (ended_of caller.old) }
+    ensures means { AnswersAsMeant W.meaning row.now (caller_call caller.old).op result }
     ensures open_call { LeavesOpen (caller_call caller.old).op result caller.new }
     ensures tried { WasTried result }
     ensures bound { EndsWithin (row_step_bound W.meaning row.now) result }
@@ -129,8 +131,8 @@ fn go_on_counted<W: Work, L: Ledger>(
     let mut steps: Steps<L> = Steps::new(blank);
     match caller.go_on(row, &mut brake, &mut steps) {
         Ok(outcome) => Ok(answer_of(outcome)),
-        Err(CallErr::Stopped { asked }) => Err(RunErr::Stopped { asked }),
-        Err(CallErr::Spent { seq }) => Err(RunErr::Spent { seq }),
+        Err(CallErr::Stopped { asked }) => Err(RunError::Stopped { asked }),
+        Err(CallErr::Spent { seq }) => Err(RunError::Spent { seq }),
     }
 }
 
@@ -140,7 +142,7 @@ pub(crate) fn call_with<W: Work>(
     caller: &mut Caller<W>,
     op: &[u64],
     stop: Option<u64>,
-) -> Result<RawAnswer, RunErr>
+) -> Result<RawAnswer, RunError>
     requires caller { IsCaller W.meaning row.now caller.old }
     requires idle { IsIdle (caller_call caller.old) }
     requires some { 1 ≤ length op.now }
@@ -148,6 +150,7 @@ pub(crate) fn call_with<W: Work>(
     requires ticket { calls_begun_by caller.old + 1 < 4294967296 }
     ensures serves { KeepsServing W.meaning row.now caller.old caller.new }
     ensures made { ended_of caller.new ≡ made_with op.now result (ended_of caller.old) }
+    ensures means { AnswersAsMeant W.meaning row.now op.now result }
     ensures open_call { LeavesOpen op.now result caller.new }
     ensures tried { WasTried result }
     ensures bound { EndsWithin (row_step_bound W.meaning row.now) result }
@@ -170,12 +173,13 @@ pub(crate) fn go_on_with<W: Work>(
     row: &Row<W>,
     caller: &mut Caller<W>,
     stop: Option<u64>,
-) -> Result<RawAnswer, RunErr>
+) -> Result<RawAnswer, RunError>
     requires caller { IsCaller W.meaning row.now caller.old }
     requires open_call { IsOpen (caller_call caller.old).place }
     ensures serves { KeepsServing W.meaning row.now caller.old caller.new }
     ensures made { ended_of caller.new
         ≡ made_with (caller_call caller.old).op result (ended_of caller.old) }
+    ensures means { AnswersAsMeant W.meaning row.now (caller_call caller.old).op result }
     ensures open_call { LeavesOpen (caller_call caller.old).op result caller.new }
     ensures tried { WasTried result }
     ensures bound { EndsWithin (row_step_bound W.meaning row.now) result }

@@ -10,7 +10,7 @@ use thiserror::Error;
 
 /// Why no memory is opened.
 #[derive(Debug, Drop, Error)]
-pub enum OpenErr {
+pub enum OpenError {
     #[error("out of memory")]
     OutOfMemory(#[from(alloc)] AllocError),
     #[error("{limit} is no limit of sequences")]
@@ -19,7 +19,7 @@ pub enum OpenErr {
 
 /// Why there is no handle.
 #[derive(Debug, Drop, Error)]
-pub enum EnrolErr {
+pub enum EnrolError {
     #[error("out of memory")]
     OutOfMemory(#[from(alloc)] AllocError),
     #[error("there is no caller {number}")]
@@ -31,7 +31,7 @@ pub enum EnrolErr {
 
 /// Why a call has no answer.
 #[derive(Clone, Copy, Debug, PartialEq, Eq, Error)]
-pub enum RunErr {
+pub enum RunError {
     /// The call has asked for so many steps, and the last one was denied. It stays open, for
     /// `go_on`.
     #[error("stopped at step {asked}")]
@@ -39,10 +39,12 @@ pub enum RunErr {
     /// The sequence has come to the limit without the call, which is over.
     #[error("no sequence is left after {seq}")]
     Spent { seq: u32 },
-    /// A call is open, and `run` begins none beside it; or none is open, with which `go_on` could
-    /// go on.
-    #[error("a call is open, or none is")]
-    Open,
+    /// A call is open, and `run` begins none beside it.
+    #[error("a call is open")]
+    InCall,
+    /// No call is open with which `go_on` could go on.
+    #[error("no call is open")]
+    NoCall,
     /// The number has made all calls that it may make.
     #[error("no ticket is left")]
     NoTicket,
@@ -50,21 +52,21 @@ pub enum RunErr {
 
 /// What is saved can't have this limit. It is handed back.
 #[derive(Drop)]
-pub struct LimitErr<W: Work>(pub SavedCells<W>);
+pub struct LimitError<W: Work>(pub SavedCells<W>);
 
-impl<W: Work> fmt::Debug for LimitErr<W> {
+impl<W: Work> fmt::Debug for LimitError<W> {
     fn fmt<F: fmt::Write>(&self, f: &mut fmt::Formatter<F>) -> fmt::Result {
-        f.write_str("LimitErr")
+        f.write_str("LimitError")
     }
 }
 
-impl<W: Work> fmt::Display for LimitErr<W> {
+impl<W: Work> fmt::Display for LimitError<W> {
     fn fmt<F: fmt::Write>(&self, f: &mut fmt::Formatter<F>) -> fmt::Result {
         f.write_str("the limit is none that this can have")
     }
 }
 
-impl<W: Work> StdError for LimitErr<W> {}
+impl<W: Work> StdError for LimitError<W> {}
 
 /// A memory isn't closed while one of its handles is out. It is handed back.
 #[derive(Drop)]

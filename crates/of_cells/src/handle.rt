@@ -2,7 +2,7 @@
 
 use crate::answer::RawAnswer;
 use crate::calling::{call_with, go_on_with};
-use crate::error::RunErr;
+use crate::error::RunError;
 use crate::memory::CellMemory;
 use of_caller::Caller;
 use of_mem::Work;
@@ -30,7 +30,7 @@ impl<W: Work> CellHandle<W> {
     ghost use Rattle.of_cells.specs.Memories.{IsCellMemory, IsFrom, IsStill, HasMadeOf, HasOpenOf};
     ghost use Rattle.of_cells.specs.Handles.{OpensOnly, OpensNone, MakesAtMost, GoesOnWithin};
     ghost use Rattle.of_cells.specs.Handles.{MakesByTouch, GoesOnByTouch};
-    ghost use Rattle.of_cells.specs.Handles.{steps_of_calls};
+    ghost use Rattle.of_cells.specs.Handles.{steps_of_calls, RepliesAsMeant};
     ghost use Rattle.of_cells.specs.Within.{RisesWithin};
     ghost use Rattle.of_cells.specs.Telling.{BeginsAfterHeard, ResumesAfterHeard, KeepsKnown};
     ghost use Rattle.of_cells.specs.Telling.{LeavesOrder, TellsMemory};
@@ -45,13 +45,14 @@ impl<W: Work> CellHandle<W> {
     }
 
     /// Runs an operation of 1 to `MOST_INSTRS` words, all of it or nothing, and answers its reply.
-    pub fn run(&mut self, op: &[u64]) -> Result<RawAnswer, RunErr>
+    pub fn run(&mut self, op: &[u64]) -> Result<RawAnswer, RunError>
         requires handle { IsCellHandle W.meaning self.old }
         requires some { 1 ≤ length op.now }
         requires few { length op.now ≤ MOST_INSTRS }
         ensures handle { IsCellHandle W.meaning self.new }
         ensures same { IsSame self.old self.new }
         ensures made { made_by self.new ≡ made_with op.now result (made_by self.old) }
+        ensures means { RepliesAsMeant W.meaning op.now self.old result }
         ensures open_call { StaysOpenOnlyIfStopped op.now result self.new }
         ensures cause { RefusesCall self.old result }
         ensures unmade { LeavesAsItWas result self.old self.new }
@@ -67,13 +68,14 @@ impl<W: Work> CellHandle<W> {
     }
 
     /// Runs an operation for at most so many steps. If they don't do, the call stays open.
-    pub fn run_within(&mut self, op: &[u64], steps: u64) -> Result<RawAnswer, RunErr>
+    pub fn run_within(&mut self, op: &[u64], steps: u64) -> Result<RawAnswer, RunError>
         requires handle { IsCellHandle W.meaning self.old }
         requires some { 1 ≤ length op.now }
         requires few { length op.now ≤ MOST_INSTRS }
         ensures handle { IsCellHandle W.meaning self.new }
         ensures same { IsSame self.old self.new }
         ensures made { made_by self.new ≡ made_with op.now result (made_by self.old) }
+        ensures means { RepliesAsMeant W.meaning op.now self.old result }
         ensures open_call { StaysOpenOnlyIfStopped op.now result self.new }
         ensures cause { RefusesCall self.old result }
         ensures unmade { LeavesAsItWas result self.old self.new }
@@ -89,13 +91,14 @@ impl<W: Work> CellHandle<W> {
         self.begin(op, Some(steps))
     }
 
-    fn begin(&mut self, op: &[u64], stop: Option<u64>) -> Result<RawAnswer, RunErr>
+    fn begin(&mut self, op: &[u64], stop: Option<u64>) -> Result<RawAnswer, RunError>
         requires handle { IsCellHandle W.meaning self.old }
         requires some { 1 ≤ length op.now }
         requires few { length op.now ≤ MOST_INSTRS }
         ensures handle { IsCellHandle W.meaning self.new }
         ensures same { IsSame self.old self.new }
         ensures made { made_by self.new ≡ made_with op.now result (made_by self.old) }
+        ensures means { RepliesAsMeant W.meaning op.now self.old result }
         ensures open_call { StaysOpenOnlyIfStopped op.now result self.new }
         ensures cause { RefusesCall self.old result }
         ensures unmade { LeavesAsItWas result self.old self.new }
@@ -109,21 +112,22 @@ impl<W: Work> CellHandle<W> {
         ensures given { RisesWithin stop (steps_of_calls self.old) (steps_of_calls self.new) }
     {
         if !self.caller.is_idle() {
-            return Err(RunErr::Open);
+            return Err(RunError::InCall);
         }
         if self.caller.made() == u32::MAX {
-            return Err(RunErr::NoTicket);
+            return Err(RunError::NoTicket);
         }
         call_with(&self.row, &mut self.caller, op, stop)
     }
 
     /// Goes on with the open call, to its answer.
-    pub fn go_on(&mut self) -> Result<RawAnswer, RunErr>
+    pub fn go_on(&mut self) -> Result<RawAnswer, RunError>
         requires { IsCellHandle W.meaning self.old }
         ensures handle { IsCellHandle W.meaning self.new }
         ensures same { IsSame self.old self.new }
         ensures made { made_by self.new
             ≡ made_with (last_operation_of self.old) result (made_by self.old) }
+        ensures means { RepliesAsMeant W.meaning (last_operation_of self.old) self.old result }
         ensures open_call { StaysOpenOnlyIfStopped (last_operation_of self.old) result self.new }
         ensures cause { RefusesToGoOn self.old result }
         ensures resumed { ResumesCall self.old result }
@@ -140,12 +144,13 @@ impl<W: Work> CellHandle<W> {
     }
 
     /// Goes on with the open call for at most so many steps.
-    pub fn go_on_within(&mut self, steps: u64) -> Result<RawAnswer, RunErr>
+    pub fn go_on_within(&mut self, steps: u64) -> Result<RawAnswer, RunError>
         requires { IsCellHandle W.meaning self.old }
         ensures handle { IsCellHandle W.meaning self.new }
         ensures same { IsSame self.old self.new }
         ensures made { made_by self.new
             ≡ made_with (last_operation_of self.old) result (made_by self.old) }
+        ensures means { RepliesAsMeant W.meaning (last_operation_of self.old) self.old result }
         ensures open_call { StaysOpenOnlyIfStopped (last_operation_of self.old) result self.new }
         ensures cause { RefusesToGoOn self.old result }
         ensures resumed { ResumesCall self.old result }
@@ -163,12 +168,13 @@ impl<W: Work> CellHandle<W> {
         self.resume(Some(steps))
     }
 
-    fn resume(&mut self, stop: Option<u64>) -> Result<RawAnswer, RunErr>
+    fn resume(&mut self, stop: Option<u64>) -> Result<RawAnswer, RunError>
         requires { IsCellHandle W.meaning self.old }
         ensures handle { IsCellHandle W.meaning self.new }
         ensures same { IsSame self.old self.new }
         ensures made { made_by self.new
             ≡ made_with (last_operation_of self.old) result (made_by self.old) }
+        ensures means { RepliesAsMeant W.meaning (last_operation_of self.old) self.old result }
         ensures open_call { StaysOpenOnlyIfStopped (last_operation_of self.old) result self.new }
         ensures cause { RefusesToGoOn self.old result }
         ensures resumed { ResumesCall self.old result }
@@ -184,7 +190,7 @@ impl<W: Work> CellHandle<W> {
         ensures given { RisesWithin stop (steps_of_calls self.old) (steps_of_calls self.new) }
     {
         if self.caller.is_idle() {
-            return Err(RunErr::Open);
+            return Err(RunError::NoCall);
         }
         go_on_with(&self.row, &mut self.caller, stop)
     }

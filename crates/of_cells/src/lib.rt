@@ -15,7 +15,7 @@ mod telling;
 mod words;
 
 pub use answer::RawAnswer;
-pub use error::{EnrolErr, InUse, LimitErr, OpenErr, RunErr};
+pub use error::{EnrolError, InUse, LimitError, OpenError, RunError};
 pub use handle::CellHandle;
 pub use memory::CellMemory;
 pub use of_cell::GREATEST_LIMIT;

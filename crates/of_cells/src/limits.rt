@@ -4,7 +4,7 @@ ghost use Rattle.std.specs.Prelude.{◌≡◌, false};
 ghost use Rattle.of_recover.specs.OfShape.{IsShapeRow, row_after_recovery};
 ghost use Rattle.of_recover.specs.Renumbered.{BeginsAnew};
 
-use crate::error::LimitErr;
+use crate::error::LimitError;
 use crate::saved::SavedCells;
 use of_cell::{GREATEST_LIMIT, Shape, seq_of};
 use of_mem::Work;
@@ -38,7 +38,7 @@ impl<W: Work> SavedCells<W> {
 
     /// The same with another limit. There is no limit below its sequence, and none that is 0 or
     /// above `GREATEST_LIMIT`: it is handed back then as it was.
-    pub fn with_limit(self, limit: u32) -> Result<SavedCells<W>, LimitErr<W>>
+    pub fn with_limit(self, limit: u32) -> Result<SavedCells<W>, LimitError<W>>
         requires { IsSavedCells W.many W.size W.meaning W.lawful self }
         ensures saved { IfOk result (IsSavedCells W.many W.size W.meaning W.lawful) }
         ensures same { IfOk result (SavesSame self) }
@@ -49,7 +49,7 @@ impl<W: Work> SavedCells<W> {
         ensures within { IfOk result (λ d. IsLimit limit) }
     {
         if limit == 0 || limit > GREATEST_LIMIT || limit < self.seq() {
-            return Err(LimitErr(self));
+            return Err(LimitError(self));
         }
         Ok(SavedCells { limit, ..self })
     }

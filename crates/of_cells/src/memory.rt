@@ -4,7 +4,7 @@ ghost use Rattle.std.specs.Prelude.{◌≡◌};
 ghost use Rattle.of_mem.specs.declared.work.TheConstants.{MOST_INSTRS};
 ghost use Rattle.of_cell.specs.declared.word.TheConstants.{GREATEST_LIMIT};
 
-use crate::error::{EnrolErr, InUse, OpenErr};
+use crate::error::{EnrolError, InUse, OpenError};
 use crate::handle::CellHandle;
 use crate::saved::SavedCells;
 use crate::seating::{all_here, gather, put_at, seat_all, take_at};
@@ -65,7 +65,7 @@ impl<W: Work> CellMemory<W> {
     ghost use Rattle.std.specs.Prelude.{OnErr};
 
     /// A memory of zeros for this work. `limit` is the last sequence that may be committed.
-    pub fn open(alloc: Global, work: W, limit: u32) -> Result<CellMemory<W>, OpenErr>
+    pub fn open(alloc: Global, work: W, limit: u32) -> Result<CellMemory<W>, OpenError>
         ensures memory { IfOk result (IsCellMemory W.meaning) }
         ensures work { IfOk result (λ m. work_of m ≡ work) }
         ensures callers { IfOk result (λ m. callers_of m ≡ W.many work) }
@@ -79,11 +79,11 @@ impl<W: Work> CellMemory<W> {
         ensures within { IfOk result (λ m. IsLimit limit) }
     {
         if limit == 0 || limit > GREATEST_LIMIT {
-            return Err(OpenErr::Limit { limit });
+            return Err(OpenError::Limit { limit });
         }
         match CellMemory::zeros(alloc, work, limit) {
             Ok(memory) => Ok(memory),
-            Err(error) => Err(OpenErr::OutOfMemory(error)),
+            Err(error) => Err(OpenError::OutOfMemory(error)),
         }
     }
 
@@ -164,7 +164,7 @@ impl<W: Work> CellMemory<W> {
     }
 
     /// A handle for a number. It goes on where the last handle of that number left.
-    pub fn enrol(&mut self, number: u32) -> Result<CellHandle<W>, EnrolErr>
+    pub fn enrol(&mut self, number: u32) -> Result<CellHandle<W>, EnrolError>
         requires { IsCellMemory W.meaning self.old }
         ensures memory { IsCellMemory W.meaning self.new }
         ensures still { IsStill self.old self.new }
@@ -187,10 +187,10 @@ impl<W: Work> CellMemory<W> {
         ensures remembers { RemembersAll W.meaning self.old self.new }
     {
         if number >= self.callers() {
-            return Err(EnrolErr::NoCaller { number });
+            return Err(EnrolError::NoCaller { number });
         }
         let Ok(row) = Arc::try_clone(&self.row) else {
-            return Err(EnrolErr::OutOfMemory(AllocError));
+            return Err(EnrolError::OutOfMemory(AllocError));
         };
         match take_at(&mut self.callers, number as usize) {
             Some(mut caller) => {
@@ -201,7 +201,7 @@ impl<W: Work> CellMemory<W> {
                     caller,
                 })
             }
-            None => Err(EnrolErr::Enrolled { number }),
+            None => Err(EnrolError::Enrolled { number }),
         }
     }
 

@@ -11,7 +11,7 @@ ghost use Rattle.of_cells.specs.Memories.{IsCellMemory, IsFrom};
 ghost use Rattle.of_cells.specs.Saving.{IsSavedCells};
 
 use of_cell::GREATEST_LIMIT;
-use of_cells::{CellHandle, CellMemory, EnrolErr, InUse, RunErr, SavedCells};
+use of_cells::{CellHandle, CellMemory, EnrolError, InUse, RunError, SavedCells};
 use of_eval::Scripts;
 use of_script::{MOST_INSTRS, parse, to_words};
 use std::alloc::{AllocError, Global};
@@ -28,7 +28,7 @@ const REGISTER_1: usize = 18 + 1;
 /// The memory, and the handle of its caller.
 fn enrolled(
     mut memory: CellMemory<Scripts>,
-) -> Result<(CellMemory<Scripts>, CellHandle<Scripts>), EnrolErr>
+) -> Result<(CellMemory<Scripts>, CellHandle<Scripts>), EnrolError>
     requires { IsCellMemory scripts_meaning memory }
     ensures memory { IfOk result (λ r. IsCellMemory scripts_meaning r.0) }
     ensures handle { IfOk result (λ r. IsCellHandle scripts_meaning r.1) }
@@ -45,7 +45,7 @@ fn ran_within(
     mut handle: CellHandle<Scripts>,
     op: &[u64],
     steps: u64,
-) -> (CellHandle<Scripts>, Option<RunErr>)
+) -> (CellHandle<Scripts>, Option<RunError>)
     requires handle { IsCellHandle scripts_meaning handle }
     requires some { 1 ≤ length op.now }
     requires few { length op.now ≤ MOST_INSTRS }
@@ -61,7 +61,7 @@ fn ran_within(
 fn gone_on_within(
     mut handle: CellHandle<Scripts>,
     steps: u64,
-) -> (CellHandle<Scripts>, Option<RunErr>)
+) -> (CellHandle<Scripts>, Option<RunError>)
     requires { IsCellHandle scripts_meaning handle }
     ensures handle { IsCellHandle scripts_meaning result.0 }
     ensures same { IsSame handle result.0 }
@@ -71,7 +71,7 @@ fn gone_on_within(
 }
 
 /// The handle that has gone on with its open call to the answer, and the first number of its reply.
-fn gone_on(mut handle: CellHandle<Scripts>) -> Result<(CellHandle<Scripts>, u32), RunErr>
+fn gone_on(mut handle: CellHandle<Scripts>) -> Result<(CellHandle<Scripts>, u32), RunError>
     requires { IsCellHandle scripts_meaning handle }
     ensures handle { IfOk result (λ r. IsCellHandle scripts_meaning r.0) }
     ensures same { IfOk result (λ r. IsSame handle r.0) }
@@ -102,7 +102,7 @@ fn closed(
 fn day_on(
     memory: CellMemory<Scripts>,
     op: &[u64],
-) -> Result<([Option<RunErr>; 2], u32, SavedCells<Scripts>), Fail>
+) -> Result<([Option<RunError>; 2], u32, SavedCells<Scripts>), Fail>
     requires memory { IsCellMemory scripts_meaning memory }
     requires some { 1 ≤ length op.now }
     requires few { length op.now ≤ MOST_INSTRS }
@@ -131,8 +131,8 @@ fn a_stopped_call_of_cells_goes_on(rt: HostRuntime) -> Result<(), Fail> {
     let count = to_words(&parse(b"add 1 5")?, &mut words) as usize;
     let op = &words[..count];
     let stops = [
-        Some(RunErr::Stopped { asked: 4 }),
-        Some(RunErr::Stopped { asked: 3 }),
+        Some(RunError::Stopped { asked: 4 }),
+        Some(RunError::Stopped { asked: 3 }),
     ];
     let (stopped, sum, noon) = day_on(CellMemory::open(alloc, ONE_CALLER, GREATEST_LIMIT)?, op)?;
     assert_eq!(rt; (stopped, sum), (stops, 5));

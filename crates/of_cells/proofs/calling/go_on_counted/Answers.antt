@@ -1,5 +1,6 @@
 use Rattle.std.proofs.Common.{◌∙◌, ap, refl, Some, Err}
 use Rattle.of_cells.proofs.Called.{serves_on, open_counts, made_answered, made_spent, made_none, none_after_answer, none_after_spent, open_after_stop, answers_within, stops_within, keeps_answered, keeps_stopped, keeps_over, answered_some, stopped_some, spent_some, rises_within, rises_as_given, rises_by_touch, spent_at_limit, opens_none, kept_fresh, next_call}
+use Rattle.of_cells.proofs.Meant.{meant_answer}
 use Rattle.of_cells.proofs.calling.go_on_counted.Goals as goal
 
 pub answer_of-requires : goal.answer_of-requires
@@ -29,6 +30,11 @@ returns-in-Err-Stopped-clause-made g c =
 pub returns-clause-made : goal.returns-clause-made
 returns-clause-made g c =
     made_spent _ _ _ _ _ _ _ _ _ _ c.go_on.ensures.told c.in-Err-Spent.seq (c.in-Err-Spent.is ∙ ap (λ e. Err e) c.in-Err-Spent.field-0-is)
+
+pub returns-in-Ok-clause-means : goal.returns-in-Ok-clause-means
+returns-in-Ok-clause-means g c =
+    let told = c.in-Ok.ensures.told in
+    meant_answer g.W.Work.meaning c.args.row.now _ _ _ _ _ _ _ _ told c.in-Ok.outcome c.answer_of.result c.answer_of.ensures told.result
 
 pub returns-in-Ok-clause-open_call : goal.returns-in-Ok-clause-open_call
 returns-in-Ok-clause-open_call g c =
