@@ -144,11 +144,12 @@ RefusesToGoOn h (Err NoCall) = HasCallOpen h → ⊥
 RefusesToGoOn h (Err NoTicket) = ⊥
 
 -- if it isn't refused, a call was open that goes on
-abbrev pub ResumesCall : {W : Type 0} → CellHandle W → Result RawAnswer RunErr → Type 0
+abbrev pub ResumesCall : {W : Type 0} → CellHandle W → Result RawAnswer RunError → Type 0
 ResumesCall h (Ok a) = HasCallOpen h
 ResumesCall h (Err (Stopped asked)) = HasCallOpen h
 ResumesCall h (Err (Spent seq)) = HasCallOpen h
-ResumesCall h (Err Open) = Unit {0}
+ResumesCall h (Err InCall) = Unit {0}
+ResumesCall h (Err NoCall) = Unit {0}
 ResumesCall h (Err NoTicket) = Unit {0}
 
 -- it is of the same memory, and has the same number

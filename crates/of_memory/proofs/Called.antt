@@ -13,8 +13,8 @@ use Rattle.of_plan.specs.declared.answer.Answer.{Answer}
 use Rattle.of_core.specs.Machine.{CallState, IsOpen}
 use Rattle.of_row.specs.Views.{EndedCall, KnownCaller, last_caller, no_ended}
 use Rattle.of_cells.specs.declared.answer.RawAnswer.{RawAnswer}
-use Rattle.of_cells.specs.declared.error.RunErr.{RunErr}
-use Rattle.of_cells.specs.declared.error.RunErr.TheVariants.{Stopped, Spent as NoneLeft, Open, NoTicket}
+use Rattle.of_cells.specs.declared.error.RunError.{RunError}
+use Rattle.of_cells.specs.declared.error.RunError.TheVariants.{Stopped, Spent as NoneLeft, InCall, NoCall, NoTicket}
 use Rattle.of_cells.specs.Called.{outcome_of}
 use Rattle.of_cells.specs.Called as generic
 use Rattle.of_cells.specs.Handles.{IsCellHandle, made_by, last_operation_of}
@@ -67,11 +67,12 @@ same_script s t is it words = words_injective s t is.in_range it.in_range words
 
 module _ (op : List ℕ) (es fs : List EndedCall) where
   -- all calls are of scripts still
-  pub of_scripts : (q : Result RawAnswer RunErr) → fs ≡ generic.made_with op q es → IsScriptOperation op → AreOfScripts es → AreOfScripts fs
+  pub of_scripts : (q : Result RawAnswer RunError) → fs ≡ generic.made_with op q es → IsScriptOperation op → AreOfScripts es → AreOfScripts fs
   of_scripts (Ok a) is script all = subst AreOfScripts (sym is) (All-push (λ (e : EndedCall). IsScriptOperation e.op) es (record { op = op; outcome = outcome_of a }) all script)
   of_scripts (Err (Stopped asked)) is script all = subst AreOfScripts (sym is) all
   of_scripts (Err (NoneLeft seq)) is script all = subst AreOfScripts (sym is) (All-push (λ (e : EndedCall). IsScriptOperation e.op) es _ all script)
-  of_scripts (Err Open) is script all = subst AreOfScripts (sym is) all
+  of_scripts (Err InCall) is script all = subst AreOfScripts (sym is) all
+  of_scripts (Err NoCall) is script all = subst AreOfScripts (sym is) all
   of_scripts (Err NoTicket) is script all = subst AreOfScripts (sym is) all
 
   module _ (script : List Instr) (is : IsScript script) (words : op ≡ map instr_word script) where
@@ -83,12 +84,13 @@ module _ (op : List ℕ) (es fs : List EndedCall) where
         (record { script = is; words = words; ended = ((a.reply, told.reply, refl), sym told.seq, sym told.steps, sym told.announced) }))
 
     -- and so is an error
-    pub failed : (e : RunErr) → fs ≡ generic.made_with op (Err e) es → (ms : List Made) → AreMade es ms → AreMade fs (made_with script (Err e) ms)
+    pub failed : (e : RunError) → fs ≡ generic.made_with op (Err e) es → (ms : List Made) → AreMade es ms → AreMade fs (made_with script (Err e) ms)
     failed (Stopped asked) made ms all = subst (λ (xs : List EndedCall). AreMade xs ms) (sym made) all
     failed (NoneLeft seq) made ms all =
         subst (λ (xs : List EndedCall). AreMade xs (made_with script (Err (NoneLeft seq)) ms)) (sym made)
         (made_more es ms _ (record { script = script; ended = Spent seq }) all (record { script = is; words = words; ended = refl }))
-    failed Open made ms all = subst (λ (xs : List EndedCall). AreMade xs ms) (sym made) all
+    failed InCall made ms all = subst (λ (xs : List EndedCall). AreMade xs ms) (sym made) all
+    failed NoCall made ms all = subst (λ (xs : List EndedCall). AreMade xs ms) (sym made) all
     failed NoTicket made ms all = subst (λ (xs : List EndedCall). AreMade xs ms) (sym made) all
 
 -- ---- a handle after a call
@@ -107,7 +109,7 @@ module _ (h k : Handle) (is : IsHandle h) (now : IsCellHandle scripts_meaning k.
   }
 
 -- a call of a script begins
-pub begun : (h k : Handle) (op : List ℕ) (q : Result RawAnswer RunErr) → IsScriptOperation op → IsHandle h → IsCellHandle scripts_meaning k.cells → IsSame h k → made_by k.cells ≡ generic.made_with op q (made_by h.cells) → handles.OpensOnly op h.cells k.cells → IsHandle k
+pub begun : (h k : Handle) (op : List ℕ) (q : Result RawAnswer RunError) → IsScriptOperation op → IsHandle h → IsCellHandle scripts_meaning k.cells → IsSame h k → made_by k.cells ≡ generic.made_with op q (made_by h.cells) → handles.OpensOnly op h.cells k.cells → IsHandle k
 begun h k op q script is now same made only =
     still_handle h k is now same (of_scripts op (made_by h.cells) (made_by k.cells) q made script is.made)
     (λ o opened. elim (only o opened) [
@@ -116,17 +118,18 @@ begun h k op q script is now same made only =
     ])
 
 -- an open call goes on
-pub resumed : (h k : Handle) (q : Result RawAnswer RunErr) → handles.ResumesCall h.cells q → IsHandle h → IsCellHandle scripts_meaning k.cells → IsSame h k → made_by k.cells ≡ generic.made_with (last_operation_of h.cells) q (made_by h.cells) → handles.OpensNone h.cells k.cells → IsHandle k
+pub resumed : (h k : Handle) (q : Result RawAnswer RunError) → handles.ResumesCall h.cells q → IsHandle h → IsCellHandle scripts_meaning k.cells → IsSame h k → made_by k.cells ≡ generic.made_with (last_operation_of h.cells) q (made_by h.cells) → handles.OpensNone h.cells k.cells → IsHandle k
 resumed h k q opened is now same made none = still_handle h k is now same (more q opened made) (λ o opened. inr (none o opened))
   where
-    with_one : (q : Result RawAnswer RunErr) → HasCallOpen h → made_by k.cells ≡ generic.made_with (last_operation_of h.cells) q (made_by h.cells) → AreOfScripts (made_by k.cells)
+    with_one : (q : Result RawAnswer RunError) → HasCallOpen h → made_by k.cells ≡ generic.made_with (last_operation_of h.cells) q (made_by h.cells) → AreOfScripts (made_by k.cells)
     with_one q opened made = of_scripts (last_operation_of h.cells) (made_by h.cells) (made_by k.cells) q made (is.open_call opened) is.made
 
-    more : (q : Result RawAnswer RunErr) → handles.ResumesCall h.cells q → made_by k.cells ≡ generic.made_with (last_operation_of h.cells) q (made_by h.cells) → AreOfScripts (made_by k.cells)
+    more : (q : Result RawAnswer RunError) → handles.ResumesCall h.cells q → made_by k.cells ≡ generic.made_with (last_operation_of h.cells) q (made_by h.cells) → AreOfScripts (made_by k.cells)
     more (Ok a) opened made = with_one (Ok a) opened made
     more (Err (Stopped asked)) opened made = with_one (Err (Stopped asked)) opened made
     more (Err (NoneLeft seq)) opened made = with_one (Err (NoneLeft seq)) opened made
-    more (Err Open) opened made = subst AreOfScripts (sym made) is.made
+    more (Err InCall) opened made = subst AreOfScripts (sym made) is.made
+    more (Err NoCall) opened made = subst AreOfScripts (sym made) is.made
     more (Err NoTicket) opened made = subst AreOfScripts (sym made) is.made
 
 pub opens_only : (h k : Handle) (op : List ℕ) (script : List Instr) → IsScript script → op ≡ map instr_word script → handles.OpensOnly op h.cells k.cells → OpensOnly script h k
@@ -136,10 +139,11 @@ opens_only h k op script is words only s opened = elim (only (map instr_word s) 
 ]
 
 -- the call stays open if it was stopped
-pub stays_open : (k : Handle) (op : List ℕ) (script : List Instr) → IsScript script → op ≡ map instr_word script → (e : RunErr) → handles.StaysOpenOnlyIfStopped op (Err e) k.cells → StaysOpenOnlyIfStopped script (Err e) k
+pub stays_open : (k : Handle) (op : List ℕ) (script : List Instr) → IsScript script → op ≡ map instr_word script → (e : RunError) → handles.StaysOpenOnlyIfStopped op (Err e) k.cells → StaysOpenOnlyIfStopped script (Err e) k
 stays_open k op script is words (Stopped asked) stays = record { is = is; opened = (stays.0, stays.1 ∙ words) }
 stays_open k op script is words (NoneLeft seq) stays = stays
-stays_open k op script is words Open stays = tt
+stays_open k op script is words InCall stays = tt
+stays_open k op script is words NoCall stays = tt
 stays_open k op script is words NoTicket stays = tt
 
 -- a handle that has told or heard

@@ -34,7 +34,7 @@ use Rattle.of_memory.specs.Calls.{IsScriptOperation, AreOfScripts, HoldsResponse
 use Rattle.of_memory.specs.Laws.{setup_with}
 use Rattle.of_memory.specs.Rows.{HoldLastReplies, StandFor}
 use Rattle.of_memory.specs.Saving.{IsSaved, SavedHolds, HoldsReply, saved_scripts, saved_cells, saved_callers, saved_limit, saved_ticket}
-use Rattle.of_memory.specs.Memories.{IsMemory, StartsWith, LeadsTo, HasHistory, HasNoHandleOut, TellsLastOf, scripts_of, callers_of, limit_of, cells_before, tickets_before}
+use Rattle.of_memory.specs.Memories.{IsMemory, HasOpenOf, StartsWith, LeadsTo, HasHistory, HasNoHandleOut, TellsLastOf, scripts_of, callers_of, limit_of, cells_before, tickets_before}
 use Rattle.of_memory.proofs.Starting.{saved_size}
 use Rattle.of_memory.proofs.Replaying.{Cells, AreScripts, entries, serial, long, leads, in_order, explains_all, has_only, below, up_to, in_time, last_entry}
 
@@ -62,8 +62,8 @@ module _ (m : Memory) (is : IsMemory m) (here : HasNoHandleOut m) (d : Saved) (w
   scripts_all : All (λ (e : Call). IsScriptOperation e.op) h
   scripts_all = All-from_get_or (λ (e : Call). IsScriptOperation e.op) h no_call (λ y l.
       let e : Call = get_or h y no_call in
-      let c = there e.caller (led.callers y no_call l) in
-      one_is e.caller c.0 (is.made e.caller c.0 c.1) e (led.only e.caller c.0 c.1 y no_call l refl))
+      let c = there e.caller (led.one.callers y no_call l) in
+      one_is e.caller c.0 (is.made e.caller c.0 c.1) e (led.one.only e.caller c.0 c.1 y no_call l refl))
 
   are_scripts : AreScripts w h
   are_scripts = recursion_from_All (λ (e : Call). IsScriptOperation e.op) h scripts_all
@@ -102,7 +102,7 @@ module _ (m : Memory) (is : IsMemory m) (here : HasNoHandleOut m) (d : Saved) (w
 
     same_cell : (a : ℕ) → store_at w ≤ a → memory_of ys a ≡ memory_of (saved_cells d) a
     same_cell a low = elim (cases_lt a (scripts_data_cells w)) [
-      | inl lt ↦ sym (led.ends a (omega (arith, low, callers, is.row.callers)) (omega (arith, lt, size)))
+      | inl lt ↦ sym (led.one.ends a (omega (arith, low, callers, is.row.callers)) (omega (arith, lt, size)))
       | inr past ↦ get_or_past ys a 0 (omega (arith, past, after.size)) ∙ sym (get_or_past (saved_cells d) a 0 (omega (arith, past, size)))
     ]
 
@@ -115,19 +115,19 @@ module _ (m : Memory) (is : IsMemory m) (here : HasNoHandleOut m) (d : Saved) (w
     last : (n : ℕ) → saving.TellsLast d.cells h n (tickets_before m n) → TellsLastOf m d hs n
     unfolding raw
     last n (inl none) = inl none
-    last n (inr q) = inr (last_entry w h (cells_before m) s are_scripts started led.serial q.0 q.1 n (saved_ticket d n) q.2 q.3 (raw n) (holds_same n (get_or h q.0 no_call) q.4))
+    last n (inr q) = inr (last_entry w h (cells_before m) s are_scripts started led.one.serial q.0 q.1 n (saved_ticket d n) q.2 q.3 (raw n) (holds_same n (get_or h q.0 no_call) q.4))
 
     leads_to : LeadsTo m s d hs
     leads_to = record {
       serial = serial w s h are_scripts;
       ends = ends;
-      order = in_order w h (cells_before m) s are_scripts started led.serial led.order;
-      made = λ n ms has. explains_all w h (cells_before m) s are_scripts started led.serial n (tickets_before m n) has.ended ms has.made (led.made n has.ended has.here);
-      only = λ n ms has. has_only w h (cells_before m) s are_scripts started led.serial n (tickets_before m n) has.ended ms has.made (generic.HasOpenOf m.cells n) _ (λ script is opened. record { is = is; opened = opened }) (led.only n has.ended has.here);
-      callers = below w h (cells_before m) s are_scripts started led.serial (callers_of m) led.callers;
-      last = λ n low. last n (led.last n low);
-      upto = λ n low. up_to w h (cells_before m) s are_scripts started led.serial n (saved_ticket d n) (led.upto n low);
-      time = λ j n x k y has. in_time w h (cells_before m) s are_scripts started led.serial n (tickets_before m n + x) k (tickets_before m k + y) (led.time j n x k y has);
+      order = in_order w h (cells_before m) s are_scripts started led.one.serial led.one.order;
+      made = λ n ms has. explains_all w h (cells_before m) s are_scripts started led.one.serial n (tickets_before m n) has.ended ms has.made (led.one.made n has.ended has.here);
+      only = λ n ms has. has_only w h (cells_before m) s are_scripts started led.one.serial n (tickets_before m n) has.ended ms has.made (generic.HasOpenOf m.cells n) (HasOpenOf m n) (λ script is opened. record { is = is; opened = opened }) (led.one.only n has.ended has.here);
+      callers = below w h (cells_before m) s are_scripts started led.one.serial (callers_of m) led.one.callers;
+      last = λ n low. last n (led.one.last n low);
+      upto = λ n low. up_to w h (cells_before m) s are_scripts started led.one.serial n (saved_ticket d n) (led.one.upto n low);
+      time = λ j n x k y has. in_time w h (cells_before m) s are_scripts started led.one.serial n (tickets_before m n + x) k (tickets_before m k + y) (led.time j n x k y has);
     }
 
   pub has_history : HasHistory m d
@@ -157,15 +157,15 @@ module _ (m : Memory) (is : IsMemory m) (here : HasNoHandleOut m) (d : Saved) (w
     found (inr q) =
         let s = is.row.store in
         let c = there n low in
-        let some = numbered (get_or h q.0 no_call) (tickets_before m n) c.0 (led.only n c.0 c.1 q.0 no_call q.1 q.2) in
-        let last = last_entry w h (cells_before m) s are_scripts (started s is.row.stands) led.serial q.0 q.1 n (saved_ticket d n) q.2 q.3 (raw n) (holds_same n (get_or h q.0 no_call) q.4) in
+        let some = numbered (get_or h q.0 no_call) (tickets_before m n) c.0 (led.one.only n c.0 c.1 q.0 no_call q.1 q.2) in
+        let last = last_entry w h (cells_before m) s are_scripts (started s is.row.stands) led.one.serial q.0 q.1 n (saved_ticket d n) q.2 q.3 (raw n) (holds_same n (get_or h q.0 no_call) q.4) in
         record {
           none = λ zero. absurd (omega (arith, some, q.3, zero));
           some = λ not. record { reply = last.4.0; held = last.4.1; few = last.4.1.0.few };
         }
 
     sound : OwnCellsAreSound MOST_INSTRS now n
-    sound = found (led.last n low)
+    sound = found (led.one.last n low)
 
   pub is_saved : IsSaved d
   is_saved = record {

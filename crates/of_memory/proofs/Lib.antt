@@ -5,5 +5,10 @@ pub mod Replaying
 pub mod Saving
 pub mod Starting
 pub mod Closing
+pub mod Histories
+pub mod AnyMoment
 pub mod Joining
 pub mod Alone
+pub mod Reading
+pub mod Texts
+pub mod StartWords

@@ -1,5 +1,5 @@
 -- A serial order of operations that are scripts' is a serial history of these scripts on the store that the cells stand for.
-use Rattle.std.proofs.Common.{◌≡◌, ℕ, zero, suc, ◌+◌, ◌≤◌, ◌<◌, inl, inr, Bool, true, false, List, [], ◌∷◌, length, get_or, map, refl, sym, ap, subst, ◌∙◌, arith}
+use Rattle.std.proofs.Common.{◌≡◌, ℕ, zero, suc, ◌+◌, ◌≤◌, ◌<◌, inl, inr, Bool, true, false, List, [], ◌∷◌, length, get_or, map, Ok, refl, sym, ap, subst, ◌∙◌, arith}
 use Rattle.std.specs.Prelude.{IsTrue}
 use Rattle.std.specs.List.{All, AllByRecursion as Each}
 use Rattle.std.proofs.lemmas.List.{length-map}
@@ -8,12 +8,14 @@ use Rattle.of_mem.specs.declared.work.RawReply.{RawReply}
 use Rattle.of_mem.specs.Meaning.{Meaning}
 use Rattle.of_mem.specs.ProgramWork.{memory_of}
 use Rattle.of_script.specs.declared.instr.Instr.{Instr}
+use Rattle.of_script.specs.declared.instr.Reply.{Reply as RustReply}
 use Rattle.of_script.specs.declared.instr.TheConstants.{MOST_INSTRS}
 use Rattle.of_script.specs.Language.{IsScript, instr_word, reads_only}
 use Rattle.of_script.proofs.WordLaws.{words_injective}
 use Rattle.of_store.specs.Store.{Store, Reply, run}
 use Rattle.of_eval.specs.declared.scripts.Scripts.{Scripts}
-use Rattle.of_eval.specs.Scripts.{store_at, scripts_data_cells, scripts_meaning, script_reads}
+use Rattle.of_eval.specs.Scripts.{store_at, scripts_data_cells, scripts_meaning, script_reads, LawfulCells}
+use Rattle.of_eval.specs.Shapes.{IsHeldBy}
 use Rattle.of_eval.specs.Stored.{IsStored}
 use Rattle.of_eval.specs.SoundScripts.{scripts_sound}
 use Rattle.of_eval.proofs.Meanings.{means_words, words_mean_script}
@@ -24,12 +26,19 @@ use Rattle.of_core.specs.declared.place.Outcome.TheVariants.{Answered, Spent as 
 use Rattle.of_core.specs.Table.{Setup}
 use Rattle.of_core.specs.Machine.{Call, no_call}
 use Rattle.of_core.specs.History.{numbers_after_calls, CallsHaveReplies, SameWhereMarked}
+use Rattle.of_row.specs.Rows.{key_of}
 use Rattle.of_row.specs.Views.{EndedCall, no_ended}
 use Rattle.of_caller.specs.Moments.{raw_reply_of}
 use Rattle.of_caller.proofs.StoresHeld.{FitsIn, script_fits, held_response, has_reply}
+use Rattle.of_cells.specs.declared.answer.RawAnswer.{RawAnswer}
 use Rattle.of_cells.specs.History as generic
+use Rattle.of_cells.specs.Serving.{cells_at_start}
+use Rattle.of_cells.specs.Handles.{RepliesAsMeant}
+use Rattle.of_memory.specs.declared.handle.Handle.{Handle}
 use Rattle.of_memory.specs.History.{HistoryEntry, no_history_entry, Made, no_made, End, Replied, Spent, IsSerial, store_after, StandsInOrder, HasEntry, ExplainsEnd, ExplainsAll, IsOneOf, HasOnly, ScriptOnlyReads, IsUpTo, ComeInOrder}
 use Rattle.of_memory.specs.Calls.{IsScriptOperation, HoldsResponse, EndsAs, AreMade}
+use Rattle.of_memory.specs.Called.{HoldsSomeReply}
+use Rattle.of_memory.specs.Handles.{IsHandle, home_of}
 use Rattle.of_memory.specs.Laws.{setup_with}
 use Rattle.of_memory.proofs.Called.{made_at, made_long, same_script}
 
@@ -83,6 +92,21 @@ module _ (w : Scripts) where
 
   pub runs : (xs op : List ℕ) (s : Store) (script : List Instr) → Cells xs s → op ≡ map instr_word script → IsScript script → Runs xs op s script
   runs xs op s script h e k = subst (λ (ws : List ℕ). Runs xs ws s script) (sym e) (words_run xs s script h k)
+
+  -- cells stay lawful, whatever operations they come from
+  lawful_after : (cs : List Call) (xs : List ℕ) → length xs ≡ scripts_data_cells w → LawfulCells w xs → (length (numbers_after_calls M xs cs) ≡ scripts_data_cells w) × LawfulCells w (numbers_after_calls M xs cs)
+  lawful_after [] xs size lawful = (size, lawful)
+  lawful_after (c ∷ cs) xs size lawful = lawful_after cs (M.cells xs c.op) ((scripts_sound w).keeps_length xs c.op size) ((scripts_sound w).leads xs c.op size lawful)
+
+  -- what a script means on such cells holds a reply
+  pub meant_reply : (xs op : List ℕ) → length xs ≡ scripts_data_cells w → LawfulCells w xs → IsScriptOperation op → (raw : RawReply) → generic.IsMeant M xs op raw → (r : RustReply) × IsHeldBy raw r
+  meant_reply xs op size lawful script raw meant =
+      let ys = numbers_after_calls M xs meant.history in
+      let after = lawful_after meant.history xs size lawful in
+      let run = runs ys op after.1.0 script.0 (record { size = after.0; stored = after.1.1 }) script.2 script.1 in
+      let same : SameWhereMarked (setup_with w 1) raw (M.reply ys op) = (meant.reply.0, λ y l m. meant.reply.1 y l) in
+      let held = has_reply (sizes w) raw (length op) _ run.some run.few run.fits (subst (SameWhereMarked (setup_with w 1) raw) run.reply same) in
+      (held.0, held.1)
 
   -- the operation of each call is a script's
   abbrev pub AreScripts : List Call → Type 0
@@ -218,3 +242,7 @@ module _ (w : Scripts) where
         let l = among_entries y among in
         let is = at y l in
         (entry y, (y, l, refl), is.caller ∙ mine, is.ticket ∙ ticket, has_reply (sizes w) raw (length (call y).op) (entry y).reply is.some is.few is.fits (subst (SameWhereMarked S raw) is.raw same))
+
+-- an answer to a script holds a reply
+pub holds_some : (h : Handle) → IsHandle h → (op : List ℕ) → IsScriptOperation op → (a : RawAnswer) → RepliesAsMeant scripts_meaning op h.cells (Ok a) → HoldsSomeReply a
+holds_some h is op script a meant = meant_reply (key_of (home_of h)).work (cells_at_start scripts_meaning (home_of h)) op is.row.size (is.row.store, is.row.stands) script a.raw meant

@@ -5,7 +5,7 @@ use Rattle.of_plan.specs.declared.answer.Answer.{Answer}
 use Rattle.of_eval.specs.declared.scripts.Scripts.{Scripts}
 use Rattle.of_eval.specs.Scripts.{scripts_meaning}
 use Rattle.of_row.specs.declared.row.Row.{Row}
-use Rattle.of_cells.specs.declared.error.RunErr.{RunErr}
+use Rattle.of_cells.specs.declared.error.RunError.{RunError}
 use Rattle.of_cells.specs.Handles.{made_by}
 use Rattle.of_cells.specs.Telling.{TellsOf}
 use Rattle.of_memory.specs.declared.handle.Handle.{Handle}
@@ -19,7 +19,7 @@ use Rattle.of_memory.specs.Telling.{HasHeardOf, KnowsOrder, KeepsKnown, BeginsAf
 use Rattle.of_memory.proofs.Called.{made_long}
 
 -- handle b has heard of the calls of handle a, and begins a call, which leaves it as c; it leaves its memory as e
-module _ (m : Memory) (d : Saved) (a b c e : Handle) (result : Result Answer RunErr) (ms ks : List Made) (made : HasMade a ms) (made_too : HasMade b ks) (heard : HasHeardOf b (number_of_handle a) (length (made_by a.cells)))
+module _ (m : Memory) (d : Saved) (a b c e : Handle) (result : Result Answer RunError) (ms ks : List Made) (made : HasMade a ms) (made_too : HasMade b ks) (heard : HasHeardOf b (number_of_handle a) (length (made_by a.cells)))
     (started : HasStarted result) (begins : BeginsAfterHeard result b c) (keeps : KeepsKnown c e) (leaves : LeavesOrder e m) (history : HasHistory m d) (s : Store) (starts : StartsWith m s) where
   abbrev n : ℕ
   n = number_of_handle a

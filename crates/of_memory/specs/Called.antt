@@ -7,8 +7,8 @@ use Rattle.of_store.specs.Replies.{reply_value_of}
 use Rattle.of_eval.specs.Shapes.{IsHeldBy}
 use Rattle.of_plan.specs.declared.answer.Answer.{Answer}
 use Rattle.of_cells.specs.declared.answer.RawAnswer.{RawAnswer}
-use Rattle.of_cells.specs.declared.error.RunErr.{RunErr}
-use Rattle.of_cells.specs.declared.error.RunErr.TheVariants.{Stopped, Spent as NoneLeft, Open, NoTicket}
+use Rattle.of_cells.specs.declared.error.RunError.{RunError}
+use Rattle.of_cells.specs.declared.error.RunError.TheVariants.{Stopped, Spent as NoneLeft, InCall, NoCall, NoTicket}
 use Rattle.of_cells.specs.Called as generic
 use Rattle.of_memory.specs.History.{Made, Replied, Spent}
 
@@ -18,7 +18,7 @@ no_reply = record { shape = 0; values = [] }
 
 -- what a call came to but for its reply, as a call of any work: an answer's sequence and steps, or
 -- the error
-abbrev pub without_reply : Result Answer RunErr → Result RawAnswer RunErr
+abbrev pub without_reply : Result Answer RunError → Result RawAnswer RunError
 without_reply (Ok a) =
     Ok (record { seq = a.seq; announced = a.announced; raw = no_reply; steps = a.steps })
 without_reply (Err e) = Err e
@@ -40,17 +40,18 @@ answered_call script a =
     record { script = script; ended = Replied (reply_value_of a.reply) a.seq a.steps a.announced }
 
 -- the calls that have ended after these, where a call of a script has come to this
-abbrev pub made_with : List Instr → Result Answer RunErr → List Made → List Made
+abbrev pub made_with : List Instr → Result Answer RunError → List Made → List Made
 made_with script (Ok a) ms = ms ++ answered_call script a ∷ []
 made_with script (Err (Stopped asked)) ms = ms
 made_with script (Err (NoneLeft seq)) ms = ms ++ record { script = script; ended = Spent seq } ∷ []
-made_with script (Err Open) ms = ms
+made_with script (Err InCall) ms = ms
+made_with script (Err NoCall) ms = ms
 made_with script (Err NoTicket) ms = ms
 
 -- the call has made a step
-abbrev pub HasStarted : Result Answer RunErr → Type 0
+abbrev pub HasStarted : Result Answer RunError → Type 0
 HasStarted result = generic.HasStarted (without_reply result)
 
 -- a call that is not made leaves everything as it was
-abbrev pub LeavesAsItWas : {A : Type 0} → Result Answer RunErr → (before now : A) → Type 0
+abbrev pub LeavesAsItWas : {A : Type 0} → Result Answer RunError → (before now : A) → Type 0
 LeavesAsItWas result before now = generic.LeavesAsItWas (without_reply result) before now

@@ -6,8 +6,8 @@ use Rattle.of_plan.specs.declared.answer.Answer.{Answer}
 use Rattle.of_eval.specs.declared.scripts.Scripts.{Scripts}
 use Rattle.of_eval.specs.Scripts.{scripts_meaning}
 use Rattle.of_row.specs.declared.row.Row.{Row}
-use Rattle.of_cells.specs.declared.error.RunErr.{RunErr}
-use Rattle.of_cells.specs.declared.error.RunErr.TheVariants.{Stopped, Spent, Open, NoTicket}
+use Rattle.of_cells.specs.declared.error.RunError.{RunError}
+use Rattle.of_cells.specs.declared.error.RunError.TheVariants.{Stopped, Spent, InCall, NoCall, NoTicket}
 use Rattle.of_cells.specs.Handles as generic
 use Rattle.of_memory.specs.declared.handle.Handle.{Handle}
 use Rattle.of_memory.specs.History.{Made}
@@ -45,26 +45,27 @@ pub record HasOpen (h : Handle) (script : List Instr) : Type 0 where
 
 -- a call of this script has come to the result: what its number has made is what it had made, with
 -- this call if it has ended
-abbrev pub MakesCall : List Instr → Result Answer RunErr → (before now : Handle) → Type 0
+abbrev pub MakesCall : List Instr → Result Answer RunError → (before now : Handle) → Type 0
 MakesCall script result h k =
     (ms : List Made) → HasMade h ms → HasMade k (made_with script result ms)
 
 -- so it is of the call that was open, whatever script it is of
-abbrev pub ResumesCall : Result Answer RunErr → (before now : Handle) → Type 0
+abbrev pub ResumesCall : Result Answer RunError → (before now : Handle) → Type 0
 ResumesCall result h k =
     (script : List Instr) (ms : List Made) → HasOpen h script → HasMade h ms
     → HasMade k (made_with script result ms)
 
 -- a stopped call of this script stays open, and none is open after one that has ended
-abbrev pub StaysOpenOnlyIfStopped : List Instr → Result Answer RunErr → Handle → Type 0
+abbrev pub StaysOpenOnlyIfStopped : List Instr → Result Answer RunError → Handle → Type 0
 StaysOpenOnlyIfStopped script (Ok a) h = HasCallOpen h → ⊥
 StaysOpenOnlyIfStopped script (Err (Stopped asked)) h = HasOpen h script
 StaysOpenOnlyIfStopped script (Err (Spent seq)) h = HasCallOpen h → ⊥
-StaysOpenOnlyIfStopped script (Err Open) h = Unit {0}
+StaysOpenOnlyIfStopped script (Err InCall) h = Unit {0}
+StaysOpenOnlyIfStopped script (Err NoCall) h = Unit {0}
 StaysOpenOnlyIfStopped script (Err NoTicket) h = Unit {0}
 
 -- so it is of the call that was open, whatever script it is of
-abbrev pub OpenCallStays : Result Answer RunErr → (before now : Handle) → Type 0
+abbrev pub OpenCallStays : Result Answer RunError → (before now : Handle) → Type 0
 OpenCallStays result h k =
     (script : List Instr) → HasOpen h script → StaysOpenOnlyIfStopped script result k
 
@@ -109,11 +110,11 @@ OpensNone h k = generic.OpensNone h.cells k.cells
 
 -- It refuses a call only if one is open, or its number has made all calls that it may make. A call
 -- is spent only where the sequence has come to the limit.
-abbrev pub RefusesCall : Handle → Result Answer RunErr → Type 0
+abbrev pub RefusesCall : Handle → Result Answer RunError → Type 0
 RefusesCall h result = generic.RefusesCall h.cells (without_reply result)
 
 -- it refuses to go on only if no call is open, and a call is spent only at the limit
-abbrev pub RefusesToGoOn : Handle → Result Answer RunErr → Type 0
+abbrev pub RefusesToGoOn : Handle → Result Answer RunError → Type 0
 RefusesToGoOn h result = generic.RefusesToGoOn h.cells (without_reply result)
 
 -- it is of the same memory, and has the same number

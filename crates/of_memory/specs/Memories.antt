@@ -11,10 +11,10 @@ use Rattle.of_eval.specs.declared.scripts.Scripts.{Scripts}
 use Rattle.of_eval.specs.Scripts.{scripts_meaning}
 use Rattle.of_row.specs.declared.row.Row.{Row}
 use Rattle.of_row.specs.Views.{EndedCall}
-use Rattle.of_cells.specs.declared.error.EnrolErr.{EnrolErr}
+use Rattle.of_cells.specs.declared.error.EnrolError.{EnrolError}
 use Rattle.of_cells.specs.Memories as generic
-use Rattle.of_memory.specs.declared.error.OpenErr.{OpenErr}
-use Rattle.of_memory.specs.declared.error.OpenErr.TheVariants.{OutOfMemory, Callers, Blocks, Limit}
+use Rattle.of_memory.specs.declared.error.OpenError.{OpenError}
+use Rattle.of_memory.specs.declared.error.OpenError.TheVariants.{OutOfMemory, Callers, Blocks, Limit}
 use Rattle.of_memory.specs.declared.memory.Memory.{Memory}
 use Rattle.of_memory.specs.declared.handle.Handle.{Handle}
 use Rattle.of_memory.specs.declared.saved.Saved.{Saved}
@@ -155,11 +155,11 @@ abbrev pub HasHistory : Memory → Saved → Type 0
 HasHistory m d = (s : Store) → StartsWith m s → (h : List HistoryEntry) × LeadsTo m s d h
 
 -- why there is no handle
-abbrev pub IsEnrolCause : Memory → ℕ → EnrolErr → Type 0
+abbrev pub IsEnrolCause : Memory → ℕ → EnrolError → Type 0
 IsEnrolCause m n e = generic.IsEnrolCause m.cells n e
 
 -- and why no memory is opened
-abbrev pub IsOpenCause : (callers blocks limit : ℕ) → OpenErr → Type 0
+abbrev pub IsOpenCause : (callers blocks limit : ℕ) → OpenError → Type 0
 IsOpenCause callers blocks limit (OutOfMemory e) = Unit {0}
 IsOpenCause callers blocks limit (Callers k) =
     (k ≡ callers) × ((callers ≡ 0) ⊎ (MOST_CALLERS < callers))

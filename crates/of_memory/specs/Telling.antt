@@ -5,7 +5,7 @@ use Rattle.of_plan.specs.declared.answer.Answer.{Answer}
 use Rattle.of_eval.specs.declared.scripts.Scripts.{Scripts}
 use Rattle.of_eval.specs.Scripts.{scripts_meaning}
 use Rattle.of_row.specs.declared.row.Row.{Row}
-use Rattle.of_cells.specs.declared.error.RunErr.{RunErr}
+use Rattle.of_cells.specs.declared.error.RunError.{RunError}
 use Rattle.of_cells.specs.declared.telling.CellNews.{CellNews as News}
 use Rattle.of_cells.specs.Telling as generic
 use Rattle.of_memory.specs.declared.handle.Handle.{Handle}
@@ -54,12 +54,12 @@ HearsAll a h = generic.HearsAll scripts_meaning a h.cells
 -- ---- a call
 
 -- the calls that the handle had heard of had ended before its call began, if that has made a step
-abbrev pub BeginsAfterHeard : Result Answer RunErr → (before now : Handle) → Type 0
+abbrev pub BeginsAfterHeard : Result Answer RunError → (before now : Handle) → Type 0
 BeginsAfterHeard result h k =
     generic.BeginsAfterHeard scripts_meaning (without_reply result) h.cells k.cells
 
 -- the same of an open call that had made no step, when it goes on
-abbrev pub ResumesAfterHeard : Result Answer RunErr → (before now : Handle) → Type 0
+abbrev pub ResumesAfterHeard : Result Answer RunError → (before now : Handle) → Type 0
 ResumesAfterHeard result h k =
     generic.ResumesAfterHeard scripts_meaning (without_reply result) h.cells k.cells
 
@@ -98,7 +98,7 @@ ComeFirst m s d a b ms ks =
 -- of its number, in the history.
 abbrev pub ToldCallsComeFirst : Type 0
 ToldCallsComeFirst =
-    (m : Memory) (d : Saved) (a b c e : Handle) (news : News) (result : Result Answer RunErr)
+    (m : Memory) (d : Saved) (a b c e : Handle) (news : News) (result : Result Answer RunError)
     (ms ks : List Made) → IsFrom m a → IsFrom m b
     → HasMade a ms → TellsOwn a news → HearsAll news b
     → HasMade b ks → HasStarted result → BeginsAfterHeard result b c
@@ -112,7 +112,7 @@ ToldCallsComeFirst =
 -- in the history, whatever the two numbers are.
 abbrev pub CallsComeInTurn : Type 0
 CallsComeInTurn =
-    (k l m : Memory) (d : Saved) (a b c e : Handle) (result : Result Answer RunErr)
+    (k l m : Memory) (d : Saved) (a b c e : Handle) (result : Result Answer RunError)
     (ms ks : List Made) → IsStill k m → IsStill l m → IsFrom m a → IsFrom m b
     → HasMade a ms → TellsMemory a k → RemembersAll k l → HearsMemory l b
     → HasMade b ks → HasStarted result → BeginsAfterHeard result b c

@@ -11,8 +11,8 @@ use Rattle.of_image.specs.Parsed.{ReadsImage, IsUnlawful}
 use Rattle.of_cells.specs.Saving as generic
 use Rattle.of_cells.specs.Saving.{saved_words}
 use Rattle.of_memory.specs.declared.saved.Saved.{Saved}
-use Rattle.of_memory.specs.declared.error.ImageTextErr.{ImageTextErr}
-use Rattle.of_memory.specs.declared.error.ImageTextErr.TheVariants.{OutOfMemory, Bad, Unlawful, PastLimits}
+use Rattle.of_memory.specs.declared.error.ImageTextError.{ImageTextError}
+use Rattle.of_memory.specs.declared.error.ImageTextError.TheVariants.{OutOfMemory, Bad, Unlawful, PastLimits}
 use Rattle.of_memory.specs.Saving.{SavedHolds, HoldsReply, saved_scripts, saved_seq, saved_callers, saved_ticket}
 
 -- the row of its durable words
@@ -55,7 +55,7 @@ pub record IsReadBack (before now : Saved) : Type 0 where
   pub same : SavesSame before now
 
 -- no limit is as high as the sequence of the image
-pub record IsPastAll (i : Image) (e : ImageTextErr) : Type 0 where
+pub record IsPastAll (i : Image) (e : ImageTextError) : Type 0 where
   pub is : e ≡ PastLimits i.seq
   pub past : GREATEST_LIMIT < i.seq
 
@@ -67,7 +67,7 @@ pub record IsPastLimits (text : List ℕ) (seq : ℕ) : Type 0 where
   pub past : GREATEST_LIMIT < seq
 
 -- why nothing is read from a text
-abbrev pub IsTextCause : List ℕ → ImageTextErr → Type 0
+abbrev pub IsTextCause : List ℕ → ImageTextError → Type 0
 IsTextCause text OutOfMemory = Unit {0}
 IsTextCause text (Bad line) = HasBadLine (IsImageText Two) text line
 IsTextCause text (Unlawful cell) = IsUnlawful Two text cell

@@ -9,7 +9,7 @@ use thiserror::Error;
 
 /// Why no memory is opened.
 #[derive(Debug, Drop, Error)]
-pub enum OpenErr {
+pub enum OpenError {
     #[error("out of memory")]
     OutOfMemory(#[from(alloc)] AllocError),
     #[error("{callers} callers: there are 1 to 16")]
@@ -22,7 +22,7 @@ pub enum OpenErr {
 
 /// Why nothing that is saved is read from a text.
 #[derive(Clone, Copy, Debug, PartialEq, Eq, Error)]
-pub enum ImageTextErr {
+pub enum ImageTextError {
     #[error("out of memory")]
     OutOfMemory,
     /// The text is no image's, and this is its first line with which none begins, or its last if it
@@ -39,7 +39,7 @@ pub enum ImageTextErr {
 
 /// Why nothing that is saved is found in words.
 #[derive(Clone, Copy, Debug, PartialEq, Eq, Error)]
-pub enum WordsErr {
+pub enum WordsError {
     #[error("out of memory")]
     OutOfMemory,
     #[error("{callers} callers: there are 1 to 16")]
@@ -61,21 +61,21 @@ pub enum WordsErr {
 
 /// What is saved can't have this limit. It is handed back.
 #[derive(Drop)]
-pub struct LimitErr(pub Saved);
+pub struct LimitError(pub Saved);
 
-impl fmt::Debug for LimitErr {
+impl fmt::Debug for LimitError {
     fn fmt<F: fmt::Write>(&self, f: &mut fmt::Formatter<F>) -> fmt::Result {
-        f.write_str("LimitErr")
+        f.write_str("LimitError")
     }
 }
 
-impl fmt::Display for LimitErr {
+impl fmt::Display for LimitError {
     fn fmt<F: fmt::Write>(&self, f: &mut fmt::Formatter<F>) -> fmt::Result {
         f.write_str("the limit is none that this can have")
     }
 }
 
-impl StdError for LimitErr {}
+impl StdError for LimitError {}
 
 /// A memory isn't closed while one of its handles is out. It is handed back.
 #[derive(Drop)]

@@ -3,7 +3,7 @@
 ghost use Rattle.of_memory.specs.Called.{HoldsSomeReply, TellsRaw};
 
 use crate::memory::Memory;
-use of_cells::{CellHandle, CellNews, RawAnswer, RunErr};
+use of_cells::{CellHandle, CellNews, RawAnswer, RunError};
 use of_eval::{Scripts, reply_of};
 use of_plan::Answer;
 use of_script::{MOST_INSTRS, Script, to_words};
@@ -57,7 +57,7 @@ impl Handle {
     }
 
     /// Runs a script, all of it or nothing, and answers its reply.
-    pub fn run(&mut self, script: &Script) -> Result<Answer, RunErr>
+    pub fn run(&mut self, script: &Script) -> Result<Answer, RunError>
         requires { IsHandle self.old }
         ensures handle { IsHandle self.new }
         ensures same { IsSame self.old self.new }
@@ -82,7 +82,7 @@ impl Handle {
     }
 
     /// Runs a script for at most so many steps. If they don't do, the call stays open.
-    pub fn run_within(&mut self, script: &Script, steps: u64) -> Result<Answer, RunErr>
+    pub fn run_within(&mut self, script: &Script, steps: u64) -> Result<Answer, RunError>
         requires { IsHandle self.old }
         ensures handle { IsHandle self.new }
         ensures same { IsSame self.old self.new }
@@ -108,7 +108,7 @@ impl Handle {
     }
 
     /// Goes on with the open call, to its answer.
-    pub fn go_on(&mut self) -> Result<Answer, RunErr>
+    pub fn go_on(&mut self) -> Result<Answer, RunError>
         requires { IsHandle self.old }
         ensures handle { IsHandle self.new }
         ensures same { IsSame self.old self.new }
@@ -130,7 +130,7 @@ impl Handle {
     }
 
     /// Goes on with the open call for at most so many steps.
-    pub fn go_on_within(&mut self, steps: u64) -> Result<Answer, RunErr>
+    pub fn go_on_within(&mut self, steps: u64) -> Result<Answer, RunError>
         requires { IsHandle self.old }
         ensures handle { IsHandle self.new }
         ensures same { IsSame self.old self.new }

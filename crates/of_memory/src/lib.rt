@@ -10,10 +10,10 @@ mod memory;
 mod saved;
 mod words;
 
-pub use error::{ImageTextErr, InUse, LimitErr, OpenErr, WordsErr};
+pub use error::{ImageTextError, InUse, LimitError, OpenError, WordsError};
 pub use handle::Handle;
 pub use memory::Memory;
-pub use of_cells::{CellNews as News, EnrolErr, RunErr};
+pub use of_cells::{CellNews as News, EnrolError, RunError};
 pub use of_plan::{Answer, GREATEST_LIMIT};
 pub use of_script::{Abort, Cause, Instr, Reply, Script, ScriptErr, parse};
 pub use of_store::Store;

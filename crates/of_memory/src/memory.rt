@@ -1,9 +1,9 @@
 //! The memory itself.
 
-use crate::error::{InUse, OpenErr};
+use crate::error::{InUse, OpenError};
 use crate::handle::Handle;
 use crate::saved::Saved;
-use of_cells::{CellMemory, EnrolErr, OpenErr as CellOpenErr};
+use of_cells::{CellMemory, EnrolError, OpenError as CellOpenError};
 use of_eval::Scripts;
 use of_mem::{MOST_BLOCKS, MOST_CALLERS};
 use std::alloc::{AllocError, Global};
@@ -33,7 +33,7 @@ impl Memory {
 
     /// An empty memory: 1 to 16 callers, and room for at most 512 keys and queued items. `limit` is
     /// the last sequence that may be committed.
-    pub fn open(alloc: Global, callers: u32, blocks: u32, limit: u32) -> Result<Memory, OpenErr>
+    pub fn open(alloc: Global, callers: u32, blocks: u32, limit: u32) -> Result<Memory, OpenError>
         ensures memory { IfOk result IsMemory }
         ensures callers { IfOk result (λ m. callers_of m ≡ callers) }
         ensures limit { IfOk result (λ m. limit_of m ≡ limit) }
@@ -45,15 +45,15 @@ impl Memory {
         ensures idle { IfOk result HasNoneOpen }
     {
         if callers == 0 || callers > MOST_CALLERS {
-            return Err(OpenErr::Callers { callers });
+            return Err(OpenError::Callers { callers });
         }
         if blocks > MOST_BLOCKS {
-            return Err(OpenErr::Blocks { blocks });
+            return Err(OpenError::Blocks { blocks });
         }
         match CellMemory::open(alloc, Scripts { callers, blocks }, limit) {
             Ok(cells) => Ok(Memory { alloc, cells }),
-            Err(CellOpenErr::OutOfMemory(error)) => Err(OpenErr::OutOfMemory(error)),
-            Err(CellOpenErr::Limit { limit }) => Err(OpenErr::Limit { limit }),
+            Err(CellOpenError::OutOfMemory(error)) => Err(OpenError::OutOfMemory(error)),
+            Err(CellOpenError::Limit { limit }) => Err(OpenError::Limit { limit }),
         }
     }
 
@@ -97,7 +97,7 @@ impl Memory {
 
     /// A handle for a number. It goes on where the last handle of that number left, and its calls
     /// come, in the memory's history, after all calls of handles that have left before.
-    pub fn enrol(&mut self, number: u32) -> Result<Handle, EnrolErr>
+    pub fn enrol(&mut self, number: u32) -> Result<Handle, EnrolError>
         requires { IsMemory self.old }
         ensures memory { IsMemory self.new }
         ensures still { IsStill self.old self.new }

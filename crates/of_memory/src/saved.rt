@@ -1,6 +1,6 @@
 //! What a closed memory leaves.
 
-use crate::error::LimitErr;
+use crate::error::LimitError;
 use of_cells::SavedCells;
 use of_eval::{LawErr, Scripts, lawful, reply_of};
 use of_script::Reply;
@@ -93,7 +93,7 @@ impl Saved {
 
     /// The same with another limit. There is no limit below its sequence, and none that is 0 or
     /// above `GREATEST_LIMIT`: it is handed back then as it was.
-    pub fn with_limit(self, limit: u32) -> Result<Saved, LimitErr>
+    pub fn with_limit(self, limit: u32) -> Result<Saved, LimitError>
         requires { IsSaved self }
         ensures saved { IfOk result IsSaved }
         ensures same { IfOk result (SavesSame self) }
@@ -104,7 +104,7 @@ impl Saved {
     {
         match self.cells.with_limit(limit) {
             Ok(cells) => Ok(Saved { cells }),
-            Err(again) => Err(LimitErr(Saved { cells: again.0 })),
+            Err(again) => Err(LimitError(Saved { cells: again.0 })),
         }
     }
 

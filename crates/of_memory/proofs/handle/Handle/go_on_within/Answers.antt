@@ -1,6 +1,10 @@
 use Rattle.std.proofs.Common.{Ok, Err}
 use Rattle.of_memory.proofs.Called.{resumed, answered, failed, stays_open}
+use Rattle.of_memory.proofs.Replaying.{holds_some}
 use Rattle.of_memory.proofs.handle.Handle.go_on_within.Goals as goal
+
+pub typed-requires : goal.typed-requires
+typed-requires c = holds_some c.args.self.now c.requires _ (c.requires.open_call c.in-Ok.ensures.resumed) c.in-Ok.answer c.in-Ok.ensures.means
 
 pub returns-in-Ok-clause-handle : goal.returns-in-Ok-clause-handle
 returns-in-Ok-clause-handle c =

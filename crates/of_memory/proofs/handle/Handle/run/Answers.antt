@@ -1,6 +1,12 @@
 use Rattle.std.proofs.Common.{Ok, Err}
 use Rattle.of_memory.proofs.Called.{begun, answered, failed, opens_only, stays_open, words_are}
+use Rattle.of_memory.proofs.Replaying.{holds_some}
 use Rattle.of_memory.proofs.handle.Handle.run.Goals as goal
+
+pub typed-requires : goal.typed-requires
+typed-requires c =
+    let words = words_are c.args.script.now c.len-len.result c.len-len.ensures.len c.to_words.new.out _ c.to_words.ensures.words in
+    holds_some c.args.self.now c.requires _ (c.args.script.now, c.len-len.ensures.fits, words) c.in-Ok.answer c.in-Ok.ensures.means
 
 pub returns-in-Ok-clause-handle : goal.returns-in-Ok-clause-handle
 returns-in-Ok-clause-handle c =

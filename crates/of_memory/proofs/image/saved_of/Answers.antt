@@ -1,0 +1,19 @@
+use Rattle.std.proofs.Common.{◌≤◌, sym, ap, subst, ◌∙◌}
+use Rattle.of_report.specs.Image.{Image}
+use Rattle.of_memory.proofs.Texts.{image_starts, image_saved, image_held}
+use Rattle.of_memory.proofs.image.saved_of.Goals as goal
+
+pub from_row-requires-clause-row : goal.from_row-requires-clause-row
+from_row-requires-clause-row c = image_starts _ _ c.args.image (sym (ap (λ (v : Image). v.row) c.image.view_is)) c.requires.image c.args.limit c.requires.within
+
+pub returns-clause-saved : goal.returns-clause-saved
+returns-clause-saved c =
+    let e = c.from_row.ensures in
+    let rows = sym (ap (λ (v : Image). v.row) c.image.view_is) ∙ (λ j. record { callers = (sym e.work j).callers; blocks = (sym e.work j).blocks; words = sym e.words j }) in
+    image_saved (record { cells = c.from_row.result }) c.args.image e.saved rows c.requires.image (subst (λ n. 1 ≤ n) (sym e.limit) c.requires.some)
+
+pub returns-clause-image : goal.returns-clause-image
+returns-clause-image c =
+    let e = c.from_row.ensures in
+    let rows = sym (ap (λ (v : Image). v.row) c.image.view_is) ∙ (λ j. record { callers = (sym e.work j).callers; blocks = (sym e.work j).blocks; words = sym e.words j }) in
+    image_held (record { cells = c.from_row.result }) c.args.image e.saved rows c.requires.image
