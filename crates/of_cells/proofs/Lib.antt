@@ -7,3 +7,4 @@ pub mod Holding
 pub mod Still
 pub mod Renumbering
 mod Meant
+mod Handing

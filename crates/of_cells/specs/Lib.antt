@@ -8,3 +8,4 @@ pub mod Handles
 pub mod Memories
 pub mod Telling
 pub mod Joining
+pub mod Tasks

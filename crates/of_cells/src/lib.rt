@@ -3,6 +3,7 @@
 #![tactic(auto)]
 
 mod answer;
+mod at_once;
 mod calling;
 mod error;
 mod handle;
@@ -15,6 +16,7 @@ mod telling;
 mod words;
 
 pub use answer::RawAnswer;
+pub use at_once::CellTask;
 pub use error::{EnrolError, InUse, LimitError, OpenError, RunError};
 pub use handle::CellHandle;
 pub use memory::CellMemory;

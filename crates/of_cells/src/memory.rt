@@ -19,6 +19,7 @@ use std::sync::Arc;
 /// A table of cells on which threads run the operations of a work, each by a handle of its own.
 #[derive(Drop)]
 pub struct CellMemory<W: Work> {
+    alloc: Global,
     row: Arc<Row<W>, Global>,
     pass: Pass,
     /// What the handles knew that have left.
@@ -135,6 +136,7 @@ impl<W: Work> CellMemory<W> {
         let (callers, pass) = seat_all(alloc, &row, pass)?;
         let row = Arc::new(alloc, row)?;
         Ok(CellMemory {
+            alloc,
             row,
             pass,
             known: None,
@@ -260,6 +262,7 @@ impl<W: Work> CellMemory<W> {
         ensures in_use { IfErr result (λ e. e.0 ≡ self) }
     {
         let CellMemory {
+            alloc,
             row,
             pass,
             known,
@@ -271,11 +274,17 @@ impl<W: Work> CellMemory<W> {
                 Ok(SavedCells::close(row, pass))
             }
             Err(row) => Err(InUse(CellMemory {
+                alloc,
                 row,
                 pass,
                 known,
                 callers,
             })),
         }
+    }
+
+    // Where it takes its memory from.
+    pub(crate) fn alloc(&self) -> Global {
+        self.alloc
     }
 }

@@ -1,0 +1,173 @@
+//! Tasks that work at once, each with a handle of its own, in a thread of its own.
+
+ghost use Rattle.std.specs.Prelude.{◌≡◌, ◌+◌, ◌<◌, ◌≤◌, ◌++◌, ◌∷◌, [], length};
+ghost use Rattle.std.specs.Prelude.{vec_len, vec_capacity};
+ghost use Rattle.of_cells.specs.Tasks.{MayWork, MayAllWork, WorksOn, AllWorkOn};
+
+use crate::error::EnrolError;
+use crate::handle::CellHandle;
+use crate::memory::CellMemory;
+use of_mem::Work;
+use std::alloc::AllocError;
+use std::thread::{Threads, for_each_mut};
+
+/// What is done with a handle of a memory. It keeps what it comes to.
+pub trait CellTask<W: Work> {
+    ghost use Rattle.of_cells.specs.declared.handle.CellHandle.{CellHandle as TheHandle};
+    ghost use Rattle.of_cells.specs.Handles.{IsCellHandle, IsSame};
+
+    /// What its work makes of the task and the handle, as far as its users have to know.
+    ghost does: { Self → TheHandle W → Self → TheHandle W → Type 0 } = { λ _ _ _ _. Unit {0} };
+
+    /// Works with a handle of a memory, and gives it back.
+    fn work(self, handle: CellHandle<W>) -> (Self, CellHandle<W>)
+        requires { IsCellHandle W.meaning handle }
+        ensures handle { IsCellHandle W.meaning result.1 }
+        ensures same { IsSame handle result.1 }
+        ensures done { does self handle result.0 result.1 };
+}
+
+// Adds an item for which there is room.
+fn put<T: Drop>(to: &mut Vec<T>, item: T)
+    requires { vec_len to.old < vec_capacity to.old }
+    ensures items { to.new.items ≡ to.old.items ++ item ∷ [] }
+    ensures len { vec_len to.new ≡ vec_len to.old + 1 }
+    ensures capacity { vec_capacity to.old ≤ vec_capacity to.new }
+{
+    let Ok(()) = to.push(item) else {
+        unreachable!()
+    };
+}
+
+// One task with its handle.
+fn work_with<W: Work, J: CellTask<W> + Drop>(slot: &mut Option<(CellHandle<W>, J)>)
+    requires { MayWork W.meaning slot.old }
+    ensures { WorksOn W.meaning J.does slot.old slot.new }
+{
+    if let Some((handle, task)) = slot.take() {
+        let (task, handle) = task.work(handle);
+        *slot = Some((handle, task));
+    }
+}
+
+// Each task with its handle, all at once: each in a thread of its own where one can be made.
+fn work_all<W: Work, J: CellTask<W> + Send + Drop, R: Threads + Sync>(
+    rt: &R,
+    slots: &mut [Option<(CellHandle<W>, J)>],
+)
+    requires { MayAllWork W.meaning slots.old }
+    ensures { AllWorkOn W.meaning J.does slots.old slots.new }
+{
+    let threads = slots.len().max(1);
+    for_each_mut(
+        rt,
+        slots,
+        threads,
+        &|_, slot: &mut Option<(CellHandle<W>, J)>|
+            requires { MayWork W.meaning slot.now }
+            ensures { WorksOn W.meaning J.does slot.entry.now slot.exit.now }
+        { work_with(slot) },
+    );
+}
+
+impl<W: Work> CellMemory<W> {
+    ghost use Rattle.std.specs.Prelude.{IfErr, OnOk, OnErr};
+    ghost use Rattle.of_cells.specs.Memories.{IsCellMemory, IsStill, RemembersAll, callers_of};
+    ghost use Rattle.of_cells.specs.Tasks.{HasHandedOut, MayAllLeave, HasTakenBack};
+    ghost use Rattle.of_cells.specs.Tasks.{HaveWorked, KnowsRest, RestKnowsOrder, IsTaskCause};
+
+    /// Works at all tasks at once: each with the handle of the number that is its place, in a
+    /// thread of its own where one can be made. Then the handles leave. If one can't be enrolled,
+    /// no task is begun, and no number stays taken.
+    pub fn at_once<J: CellTask<W> + Send + Drop, R: Threads + Sync>(
+        &mut self,
+        rt: &R,
+        tasks: &mut Vec<J>,
+    ) -> Result<(), EnrolError>
+        requires { IsCellMemory W.meaning self.old }
+        ensures memory { IsCellMemory W.meaning self.new }
+        ensures still { IsStill self.old self.new }
+        ensures worked { OnOk result
+            (HaveWorked W.meaning J.does self.old self.new tasks.old.items tasks.new.items) }
+        ensures rest { KnowsRest (length tasks.old.items) self.old self.new }
+        ensures rest_order { RestKnowsOrder W.meaning (length tasks.old.items) self.old self.new }
+        ensures unchanged { OnErr result (KnowsRest 0 self.old self.new) }
+        ensures unchanged_order { OnErr result (RestKnowsOrder W.meaning 0 self.old self.new) }
+        ensures tasks { OnErr result (tasks.new.items ≡ tasks.old.items) }
+        ensures cause { IfErr result (IsTaskCause self.old (length tasks.old.items)) }
+        ensures remembers { RemembersAll W.meaning self.old self.new }
+    {
+        let callers = self.callers();
+        if tasks.len() > callers as usize {
+            return Err(EnrolError::NoCaller { number: callers });
+        }
+        let Ok(mut slots) = Vec::with_capacity(self.alloc(), tasks.len()) else {
+            return Err(EnrolError::OutOfMemory(AllocError));
+        };
+        match self.hand_out(tasks, &mut slots) {
+            Ok(()) => {
+                work_all(rt, slots.as_mut_slice());
+                self.take_back(slots, tasks);
+                Ok(())
+            }
+            Err(error) => {
+                self.take_back(slots, tasks);
+                Err(error)
+            }
+        }
+    }
+
+    // Hands out a handle for each task, the last one first. At an error the first tasks are left.
+    fn hand_out<J: CellTask<W> + Drop>(
+        &mut self,
+        tasks: &mut Vec<J>,
+        slots: &mut Vec<Option<(CellHandle<W>, J)>>,
+    ) -> Result<(), EnrolError>
+        requires memory { IsCellMemory W.meaning self.old }
+        requires few { length tasks.old.items ≤ callers_of self.old }
+        requires small { vec_len tasks.old < 4294967296 }
+        requires none { slots.old.items ≡ [] }
+        requires room { vec_len tasks.old ≤ vec_capacity slots.old }
+        ensures memory { IsCellMemory W.meaning self.new }
+        ensures still { IsStill self.old self.new }
+        ensures out { HasHandedOut W.meaning self.old self.new
+            tasks.old.items tasks.new.items slots.new.items }
+        ensures all { OnOk result (tasks.new.items ≡ []) }
+        ensures room { vec_capacity tasks.old ≤ vec_capacity tasks.new }
+        ensures cause { IfErr result (IsTaskCause self.old (length tasks.old.items)) }
+    {
+        while let Some(task) = tasks.pop() {
+            match self.enrol(tasks.len() as u32) {
+                Ok(handle) => put(slots, Some((handle, task))),
+                Err(error) => {
+                    put(tasks, task);
+                    return Err(error);
+                }
+            }
+        }
+        Ok(())
+    }
+
+    // The handles leave, and the tasks come behind those that are there, the last one first.
+    fn take_back<J: CellTask<W> + Drop>(
+        &mut self,
+        mut slots: Vec<Option<(CellHandle<W>, J)>>,
+        tasks: &mut Vec<J>,
+    )
+        requires memory { IsCellMemory W.meaning self.old }
+        requires slots { MayAllLeave W.meaning self.old (length tasks.old.items) slots.items }
+        requires room { vec_len tasks.old + vec_len slots ≤ vec_capacity tasks.old }
+        ensures memory { IsCellMemory W.meaning self.new }
+        ensures still { IsStill self.old self.new }
+        ensures back { HasTakenBack W.meaning self.old self.new
+            tasks.old.items tasks.new.items 0 slots.items }
+    {
+        while let Some(slot) = slots.pop() {
+            let Some((handle, task)) = slot else {
+                unreachable!()
+            };
+            handle.leave(self);
+            put(tasks, task);
+        }
+    }
+}
