@@ -19,9 +19,13 @@ pub trait CellTask<W: Work> {
     /// What its work makes of the task and the handle, as far as its users have to know.
     ghost does: { Self → TheHandle W → Self → TheHandle W → Type 0 } = { λ _ _ _ _. Unit {0} };
 
+    /// What it asks of the task and the handle, beyond that the handle is one of a memory.
+    ghost needs: { Self → TheHandle W → Type 0 } = { λ _ _. Unit {0} };
+
     /// Works with a handle of a memory, and gives it back.
     fn work(self, handle: CellHandle<W>) -> (Self, CellHandle<W>)
-        requires { IsCellHandle W.meaning handle }
+        requires handle { IsCellHandle W.meaning handle }
+        requires needs { needs self handle }
         ensures handle { IsCellHandle W.meaning result.1 }
         ensures same { IsSame handle result.1 }
         ensures done { does self handle result.0 result.1 };
@@ -41,7 +45,7 @@ fn put<T: Drop>(to: &mut Vec<T>, item: T)
 
 // One task with its handle.
 fn work_with<W: Work, J: CellTask<W> + Drop>(slot: &mut Option<(CellHandle<W>, J)>)
-    requires { MayWork W.meaning slot.old }
+    requires { MayWork W.meaning J.needs slot.old }
     ensures { WorksOn W.meaning J.does slot.old slot.new }
 {
     if let Some((handle, task)) = slot.take() {
@@ -55,7 +59,7 @@ fn work_all<W: Work, J: CellTask<W> + Send + Drop, R: Threads + Sync>(
     rt: &R,
     slots: &mut [Option<(CellHandle<W>, J)>],
 )
-    requires { MayAllWork W.meaning slots.old }
+    requires { MayAllWork W.meaning J.needs slots.old }
     ensures { AllWorkOn W.meaning J.does slots.old slots.new }
 {
     let threads = slots.len().max(1);
@@ -64,7 +68,7 @@ fn work_all<W: Work, J: CellTask<W> + Send + Drop, R: Threads + Sync>(
         slots,
         threads,
         &|_, slot: &mut Option<(CellHandle<W>, J)>|
-            requires { MayWork W.meaning slot.now }
+            requires { MayWork W.meaning J.needs slot.now }
             ensures { WorksOn W.meaning J.does slot.entry.now slot.exit.now }
         { work_with(slot) },
     );
@@ -75,6 +79,7 @@ impl<W: Work> CellMemory<W> {
     ghost use Rattle.of_cells.specs.Memories.{IsCellMemory, IsStill, RemembersAll, callers_of};
     ghost use Rattle.of_cells.specs.Tasks.{HasHandedOut, MayAllLeave, HasTakenBack};
     ghost use Rattle.of_cells.specs.Tasks.{HaveWorked, KnowsRest, RestKnowsOrder, IsTaskCause};
+    ghost use Rattle.of_cells.specs.Tasks.{MayAllBegin};
 
     /// Works at all tasks at once: each with the handle of the number that is its place, in a
     /// thread of its own where one can be made. Then the handles leave. If one can't be enrolled,
@@ -84,7 +89,8 @@ impl<W: Work> CellMemory<W> {
         rt: &R,
         tasks: &mut Vec<J>,
     ) -> Result<(), EnrolError>
-        requires { IsCellMemory W.meaning self.old }
+        requires memory { IsCellMemory W.meaning self.old }
+        requires needs { MayAllBegin W.meaning J.needs self.old tasks.old.items }
         ensures memory { IsCellMemory W.meaning self.new }
         ensures still { IsStill self.old self.new }
         ensures worked { OnOk result

@@ -4,8 +4,11 @@ use Rattle.of_cells.specs.declared.handle.CellHandle.{CellHandle}
 use Rattle.of_cells.specs.Tasks.{HasWorked}
 use Rattle.of_cells.proofs.at_once.work_with.Goals as goal
 
-pub work-task-requires : goal.work-task-requires
-work-task-requires g c = c.requires (c.in-Some.handle, c.in-Some.task) (sym c.take.ensures.value ∙ c.in-Some.is)
+pub work-task-requires-clause-handle : goal.work-task-requires-clause-handle
+work-task-requires-clause-handle g c = (c.requires (c.in-Some.handle, c.in-Some.task) (sym c.take.ensures.value ∙ c.in-Some.is)).handle
+
+pub work-task-requires-clause-needs : goal.work-task-requires-clause-needs
+work-task-requires-clause-needs g c = (c.requires (c.in-Some.handle, c.in-Some.task) (sym c.take.ensures.value ∙ c.in-Some.is)).needs
 
 pub returns-in-Some : goal.returns-in-Some
 returns-in-Some g c p is =
