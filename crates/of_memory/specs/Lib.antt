@@ -8,6 +8,7 @@ pub mod Handles
 pub mod Memories
 pub mod Laws
 pub mod Telling
+pub mod Tasks
 pub mod Joining
 pub mod Texts
 pub mod Words

@@ -2,6 +2,7 @@
 //! opened again. It is a memory of cells, whose operations are scripts.
 #![tactic(auto)]
 
+mod at_once;
 mod error;
 mod handle;
 mod image;
@@ -10,6 +11,7 @@ mod memory;
 mod saved;
 mod words;
 
+pub use at_once::Task;
 pub use error::{ImageTextError, InUse, LimitError, OpenError, WordsError};
 pub use handle::Handle;
 pub use memory::Memory;

@@ -16,5 +16,5 @@ returns-in-Some g c p is =
     let old : CellHandle g.row.W.Denot × g.row.J.Denot = (c.in-Some.handle, c.in-Some.task) in
     let new : CellHandle g.row.W.Denot × g.row.J.Denot = (w.result.1, w.result.0) in
     let same = same_some old p c.args.slot.now (sym c.take.ensures.value ∙ c.in-Some.is) is in
-    let worked : HasWorked g.W.Work.meaning g.J.CellTask.does old new = record { handle = w.ensures.handle; same = w.ensures.same; done = w.ensures.done } in
-    (new, refl, subst (λ x. HasWorked g.W.Work.meaning g.J.CellTask.does x new) same worked)
+    let worked : HasWorked g.W.Work.meaning g.K.CellTask.does old new = record { handle = w.ensures.handle; same = w.ensures.same; done = w.ensures.done } in
+    (new, refl, subst (λ x. HasWorked g.W.Work.meaning g.K.CellTask.does x new) same worked)
