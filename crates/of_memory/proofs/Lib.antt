@@ -7,6 +7,7 @@ pub mod Starting
 pub mod Closing
 pub mod Histories
 pub mod AnyMoment
+pub mod Tasks
 pub mod Joining
 pub mod Alone
 pub mod Reading

@@ -22,8 +22,12 @@ pub trait Task {
         ensures done { does self.old handle.old self.new handle.new };
 }
 
-// A task works with a handle of cells that is one of scripts.
-impl<J: Task> CellTask<Scripts> for J {
+/// Works at tasks with handles of cells that are ones of scripts.
+pub struct Scripted;
+
+impl<J: Task> CellTask<Scripts, J> for Scripted {
+    ghost use Rattle.of_eval.specs.Scripts.{scripts_meaning};
+    ghost use Rattle.of_cells.specs.Handles.{IsCellHandle, IsSame as IsSameCells};
     ghost use Rattle.of_memory.specs.Handles.{IsHandle};
     ghost use Rattle.of_memory.specs.Tasks.{WorksWith};
 
@@ -31,10 +35,16 @@ impl<J: Task> CellTask<Scripts> for J {
 
     ghost needs = { λ x h. IsHandle (record { cells = h }) };
 
-    fn work(self, handle: CellHandle<Scripts>) -> (J, CellHandle<Scripts>) {
-        let mut task = self;
+    fn work(task: J, handle: CellHandle<Scripts>) -> (J, CellHandle<Scripts>)
+        requires handle { IsCellHandle scripts_meaning handle }
+        requires needs { IsHandle (record { cells = handle }) }
+        ensures handle { IsCellHandle scripts_meaning result.1 }
+        ensures same { IsSameCells handle result.1 }
+        ensures done { WorksWith J.does task handle result.0 result.1 }
+    {
+        let mut task = task;
         let mut handle = Handle { cells: handle };
-        Task::work(&mut task, &mut handle);
+        task.work(&mut handle);
         (task, handle.cells)
     }
 }
@@ -65,6 +75,6 @@ impl Memory {
         ensures cause { IfErr result (IsTaskCause self.old (length tasks.old.items)) }
         ensures remembers { RemembersAll self.old self.new }
     {
-        self.cells.at_once(rt, tasks)
+        self.cells.at_once_by::<J, Scripted, R>(rt, tasks)
     }
 }
