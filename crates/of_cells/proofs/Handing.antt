@@ -17,7 +17,7 @@ use Rattle.of_cells.specs.Serving.{KnowsMore, events_known_to}
 use Rattle.of_cells.specs.Handles.{IsCellHandle, made_by}
 use Rattle.of_cells.specs.Memories.{IsFrom, IsStill, HasMadeOf, HasOpenOf, TakesOut, TakesNone, PutsBack, IsEnrolCause, RemembersAll, callers_of}
 use Rattle.of_cells.specs.Telling.{HearsMemory, TellsMemory}
-use Rattle.of_cells.specs.Tasks.{KnowsHandle, KnowsSame, KnowsRest, RestKnowsOrder, TaskWork, Slot, HasWorked, HasWorkedAs, HaveWorked, AllWorkOn, TaskNeeds, MayAllBegin, MayAllWork, IsTaskCause, WasIn, IsIn, IsHandedOut, HasHandedOut, MayLeave, MayAllLeave, HasLeft, HasTakenBack}
+use Rattle.of_cells.specs.Tasks.{KnowsHandle, KnowsSame, KnowsRest, RestKnowsOrder, TaskWork, Slot, HasWorked, HasWorkedAs, HaveWorked, AllWorkOn, MayAllWork, IsTaskCause, WasIn, IsIn, IsHandedOut, HasHandedOut, MayLeave, MayAllLeave, HasLeft, HasTakenBack}
 use Rattle.of_cells.proofs.Holding.{same_ended, made_same, same_open, open_still, open_before}
 use Rattle.of_cells.proofs.Times.{order_in, order_out, order_same, tells_later}
 
@@ -155,16 +155,12 @@ module _ {W J : Type 0} (meaning : W → Meaning) where
     )
 
     -- handles that were handed out may work, and may leave again
-    pub may_work : (Needs : TaskNeeds W J) → MayAllBegin meaning Needs m xs → (slice : List (Slot W J)) → slice ≡ ss → MayAllWork meaning Needs slice
-    may_work Needs begin slice same i s lt is p some =
+    pub may_work : (slice : List (Slot W J)) → slice ≡ ss → MayAllWork meaning slice
+    may_work slice same i s lt is p some =
+        let q = out.pairs i (omega (arith, lt, ap length same)) in
         let low : i < length ss = omega (arith, lt, ap length same) in
-        let q = out.pairs i low in
         let at : get_or ss i None ≡ Some p = get_or_default ss i None s low ∙ sym (is ∙ ap (λ (l : List (Slot W J)). get_or l i s) same) ∙ some in
-        let o : IsHandedOut meaning m xs i p = subst (IsHandedOut meaning m xs i) (same_some q.0 p (get_or ss i None) q.1 at) q.2 in
-        record {
-          handle = o.handle;
-          needs = subst (λ (t : J). Needs t p.0) (o.task p.1) (begin p.0 p.1 o.handle o.from (knew_handle m p.0 o.was) (omega (arith, o.place)));
-        }
+        subst (λ (o : CellHandle W × J). IsCellHandle meaning o.0) (same_some q.0 p (get_or ss i None) q.1 at) q.2.handle
 
     pub may_leave_again : IsStill m k → MayAllLeave meaning k (length left) ss
     may_leave_again still i lt =

@@ -86,33 +86,14 @@ IsTaskCause m count (Enrolled n) = (n < count) × (get_or m.callers.items n None
 
 -- ---- a task works
 
--- what a task asks of the handle that it works with
-abbrev pub TaskNeeds : Type 0 → Type 0 → Type 1
-TaskNeeds W J = J → CellHandle W → Type 0
-
--- each task may work with the memory's handle whose number is its place, which knows of its calls
--- what the memory knows
-abbrev pub MayAllBegin : {W J : Type 0} → (W → Meaning) → TaskNeeds W J → CellMemory W → List J
-    → Type 0
-MayAllBegin {W} {J} meaning Needs m xs =
-    (h : CellHandle W) (d : J) → IsCellHandle meaning h → IsFrom m h → KnowsHandle m h
-    → number_of_handle h < length xs → Needs (get_or xs (number_of_handle h) d) h
-
--- the handle is one of some memory, and the task may work with it
-pub record MayWorkWith {W J : Type 0} (meaning : W → Meaning) (Needs : TaskNeeds W J)
-    (p : CellHandle W × J) : Type 0 where
-  pub handle : IsCellHandle meaning p.0
-  pub needs : Needs p.1 p.0
-
--- so it is if they are there
-abbrev pub MayWork : {W J : Type 0} → (W → Meaning) → TaskNeeds W J → Slot W J → Type 0
-MayWork {W} {J} meaning Needs s =
-    (p : CellHandle W × J) → s ≡ Some p → MayWorkWith meaning Needs p
+-- the handle is one of some memory
+abbrev pub MayWork : {W J : Type 0} → (W → Meaning) → Slot W J → Type 0
+MayWork {W} {J} meaning s = (p : CellHandle W × J) → s ≡ Some p → IsCellHandle meaning p.0
 
 -- so is each
-abbrev pub MayAllWork : {W J : Type 0} → (W → Meaning) → TaskNeeds W J → List (Slot W J) → Type 0
-MayAllWork {W} {J} meaning Needs ss =
-    (i : ℕ) (s : Slot W J) → i < length ss → s ≡ get_or ss i s → MayWork meaning Needs s
+abbrev pub MayAllWork : {W J : Type 0} → (W → Meaning) → List (Slot W J) → Type 0
+MayAllWork {W} {J} meaning ss =
+    (i : ℕ) (s : Slot W J) → i < length ss → s ≡ get_or ss i s → MayWork meaning s
 
 -- the task has worked with its handle, and both are there still
 abbrev pub WorksOn : {W J : Type 0} → (W → Meaning) → TaskWork W J → (before now : Slot W J)

@@ -11,25 +11,20 @@ use of_mem::Work;
 use std::alloc::AllocError;
 use std::thread::{Threads, for_each_mut};
 
-/// What is done with tasks of a type, each with a handle of a memory. A task keeps what it comes to.
-/// Mostly the tasks' type itself has it.
-pub trait CellTask<W: Work, J> {
+/// What is done with a handle of a memory. It keeps what it comes to.
+pub trait CellTask<W: Work> {
     ghost use Rattle.of_cells.specs.declared.handle.CellHandle.{CellHandle as TheHandle};
     ghost use Rattle.of_cells.specs.Handles.{IsCellHandle, IsSame};
 
-    /// What the work makes of a task and its handle, as far as its users have to know.
-    ghost does: { J → TheHandle W → J → TheHandle W → Type 0 } = { λ _ _ _ _. Unit {0} };
+    /// What its work makes of the task and the handle, as far as its users have to know.
+    ghost does: { Self → TheHandle W → Self → TheHandle W → Type 0 } = { λ _ _ _ _. Unit {0} };
 
-    /// What it asks of a task and its handle, beyond that the handle is one of a memory.
-    ghost needs: { J → TheHandle W → Type 0 } = { λ _ _. Unit {0} };
-
-    /// Works at a task with a handle of a memory, and gives both back.
-    fn work(task: J, handle: CellHandle<W>) -> (J, CellHandle<W>)
-        requires handle { IsCellHandle W.meaning handle }
-        requires needs { needs task handle }
+    /// Works with a handle of a memory, and gives it back.
+    fn work(self, handle: CellHandle<W>) -> (Self, CellHandle<W>)
+        requires { IsCellHandle W.meaning handle }
         ensures handle { IsCellHandle W.meaning result.1 }
         ensures same { IsSame handle result.1 }
-        ensures done { does task handle result.0 result.1 };
+        ensures done { does self handle result.0 result.1 };
 }
 
 // Adds an item for which there is room.
@@ -45,23 +40,23 @@ fn put<T: Drop>(to: &mut Vec<T>, item: T)
 }
 
 // One task with its handle.
-fn work_with<W: Work, J: Drop, K: CellTask<W, J>>(slot: &mut Option<(CellHandle<W>, J)>)
-    requires { MayWork W.meaning K.needs slot.old }
-    ensures { WorksOn W.meaning K.does slot.old slot.new }
+fn work_with<W: Work, J: CellTask<W> + Drop>(slot: &mut Option<(CellHandle<W>, J)>)
+    requires { MayWork W.meaning slot.old }
+    ensures { WorksOn W.meaning J.does slot.old slot.new }
 {
     if let Some((handle, task)) = slot.take() {
-        let (task, handle) = K::work(task, handle);
+        let (task, handle) = task.work(handle);
         *slot = Some((handle, task));
     }
 }
 
 // Each task with its handle, all at once: each in a thread of its own where one can be made.
-fn work_all<W: Work, J: Send + Drop, K: CellTask<W, J> + Send, R: Threads + Sync>(
+fn work_all<W: Work, J: CellTask<W> + Send + Drop, R: Threads + Sync>(
     rt: &R,
     slots: &mut [Option<(CellHandle<W>, J)>],
 )
-    requires { MayAllWork W.meaning K.needs slots.old }
-    ensures { AllWorkOn W.meaning K.does slots.old slots.new }
+    requires { MayAllWork W.meaning slots.old }
+    ensures { AllWorkOn W.meaning J.does slots.old slots.new }
 {
     let threads = slots.len().max(1);
     for_each_mut(
@@ -69,9 +64,9 @@ fn work_all<W: Work, J: Send + Drop, K: CellTask<W, J> + Send, R: Threads + Sync
         slots,
         threads,
         &|_, slot: &mut Option<(CellHandle<W>, J)>|
-            requires { MayWork W.meaning K.needs slot.now }
-            ensures { WorksOn W.meaning K.does slot.entry.now slot.exit.now }
-        { work_with::<W, J, K>(slot) },
+            requires { MayWork W.meaning slot.now }
+            ensures { WorksOn W.meaning J.does slot.entry.now slot.exit.now }
+        { work_with(slot) },
     );
 }
 
@@ -80,45 +75,20 @@ impl<W: Work> CellMemory<W> {
     ghost use Rattle.of_cells.specs.Memories.{IsCellMemory, IsStill, RemembersAll, callers_of};
     ghost use Rattle.of_cells.specs.Tasks.{HasHandedOut, MayAllLeave, HasTakenBack};
     ghost use Rattle.of_cells.specs.Tasks.{HaveWorked, KnowsRest, RestKnowsOrder, IsTaskCause};
-    ghost use Rattle.of_cells.specs.Tasks.{MayAllBegin};
 
     /// Works at all tasks at once: each with the handle of the number that is its place, in a
     /// thread of its own where one can be made. Then the handles leave. If one can't be enrolled,
     /// no task is begun, and no number stays taken.
-    pub fn at_once<J: CellTask<W, J> + Send + Drop, R: Threads + Sync>(
+    pub fn at_once<J: CellTask<W> + Send + Drop, R: Threads + Sync>(
         &mut self,
         rt: &R,
         tasks: &mut Vec<J>,
     ) -> Result<(), EnrolError>
-        requires memory { IsCellMemory W.meaning self.old }
-        requires needs { MayAllBegin W.meaning J.needs self.old tasks.old.items }
+        requires { IsCellMemory W.meaning self.old }
         ensures memory { IsCellMemory W.meaning self.new }
         ensures still { IsStill self.old self.new }
         ensures worked { OnOk result
             (HaveWorked W.meaning J.does self.old self.new tasks.old.items tasks.new.items) }
-        ensures rest { KnowsRest (length tasks.old.items) self.old self.new }
-        ensures rest_order { RestKnowsOrder W.meaning (length tasks.old.items) self.old self.new }
-        ensures unchanged { OnErr result (KnowsRest 0 self.old self.new) }
-        ensures unchanged_order { OnErr result (RestKnowsOrder W.meaning 0 self.old self.new) }
-        ensures tasks { OnErr result (tasks.new.items ≡ tasks.old.items) }
-        ensures cause { IfErr result (IsTaskCause self.old (length tasks.old.items)) }
-        ensures remembers { RemembersAll W.meaning self.old self.new }
-    {
-        self.at_once_by::<J, J, R>(rt, tasks)
-    }
-
-    /// The same, where the work at tasks of type `J` is that of `K`.
-    pub fn at_once_by<J: Send + Drop, K: CellTask<W, J> + Send, R: Threads + Sync>(
-        &mut self,
-        rt: &R,
-        tasks: &mut Vec<J>,
-    ) -> Result<(), EnrolError>
-        requires memory { IsCellMemory W.meaning self.old }
-        requires needs { MayAllBegin W.meaning K.needs self.old tasks.old.items }
-        ensures memory { IsCellMemory W.meaning self.new }
-        ensures still { IsStill self.old self.new }
-        ensures worked { OnOk result
-            (HaveWorked W.meaning K.does self.old self.new tasks.old.items tasks.new.items) }
         ensures rest { KnowsRest (length tasks.old.items) self.old self.new }
         ensures rest_order { RestKnowsOrder W.meaning (length tasks.old.items) self.old self.new }
         ensures unchanged { OnErr result (KnowsRest 0 self.old self.new) }
@@ -136,7 +106,7 @@ impl<W: Work> CellMemory<W> {
         };
         match self.hand_out(tasks, &mut slots) {
             Ok(()) => {
-                work_all::<W, J, K, R>(rt, slots.as_mut_slice());
+                work_all(rt, slots.as_mut_slice());
                 self.take_back(slots, tasks);
                 Ok(())
             }
@@ -147,8 +117,8 @@ impl<W: Work> CellMemory<W> {
         }
     }
 
-    // Hands out a handle for each task, the last one first. At an error the first tasks are left.
-    fn hand_out<J: Drop>(
+    /// Hands out a handle for each task, the last one first. At an error the first tasks are left.
+    pub fn hand_out<J: Drop>(
         &mut self,
         tasks: &mut Vec<J>,
         slots: &mut Vec<Option<(CellHandle<W>, J)>>,
@@ -178,8 +148,8 @@ impl<W: Work> CellMemory<W> {
         Ok(())
     }
 
-    // The handles leave, and the tasks come behind those that are there, the last one first.
-    fn take_back<J: Drop>(
+    /// The handles leave, and the tasks come after those that are there, the last one first.
+    pub fn take_back<J: Drop>(
         &mut self,
         mut slots: Vec<Option<(CellHandle<W>, J)>>,
         tasks: &mut Vec<J>,

@@ -1,7 +1,8 @@
 -- Tasks that have worked at once, as tasks of scripts.
-use Rattle.std.proofs.Common.{◌≡◌, ℕ, ◌<◌, ◌≤◌, inl, inr, List, [], ◌∷◌, length, get_or, map, refl, sym, ap, subst, ◌∙◌, arith}
+use Rattle.std.proofs.Common.{◌≡◌, ℕ, ◌<◌, ◌≤◌, inl, inr, List, [], ◌∷◌, length, get_or, map, Some, None, refl, sym, ap, subst, ◌∙◌, arith}
 use Rattle.std.specs.Prelude.{Result, Ok, Err, OnOk, OnErr}
 use Rattle.std.proofs.lemmas.Bool.{cases_lt}
+use Rattle.std.proofs.lemmas.List.{get_or_default}
 use Rattle.of_script.specs.declared.instr.Instr.{Instr}
 use Rattle.of_script.specs.Language.{IsScript, instr_word}
 use Rattle.of_row.specs.Views.{EndedCall}
@@ -18,7 +19,10 @@ use Rattle.of_memory.specs.Calls.{AreMade, AreOfScripts, IsScriptOperation}
 use Rattle.of_memory.specs.Rows.{IsScriptsRow}
 use Rattle.of_memory.specs.Handles.{IsHandle}
 use Rattle.of_memory.specs.Memories.{IsMemory, IsFrom, IsStill}
-use Rattle.of_memory.specs.Tasks.{KnowsHandle, KnowsSame, KnowsRest, TaskWork, WorksWith, HasWorkedAs, HaveWorked}
+use Rattle.of_cells.specs.declared.memory.CellMemory.{CellMemory}
+use Rattle.of_cells.proofs.Handing.{knew_handle}
+use Rattle.of_mem.proofs.Lists.{same_some}
+use Rattle.of_memory.specs.Tasks.{MayAllWork, KnowsHandle, KnowsSame, KnowsRest, TaskWork, WorksWith, HasWorkedAs, HaveWorked}
 
 pub knows_handle : (m : Memory) (h : Handle) → generic.KnowsHandle m.cells h.cells → KnowsHandle m h
 knows_handle m h knows = record {
@@ -47,6 +51,15 @@ may_begin m is h handle from knows = record {
   made = is.made h.number (made_by h) knows.made;
   open_call = λ opened. is.opened h.number (last_operation_of h) (knows.open_call (last_operation_of h) (opened, refl));
 }
+
+-- handles that were handed out may work
+pub may_all_work : {J : Type 0} (m : Memory) → IsMemory m → (k : CellMemory Scripts) (xs left : List J) (ss slice : List (generic.Slot Scripts J)) → generic.HasHandedOut scripts_meaning m.cells k xs left ss → slice ≡ ss → MayAllWork slice
+may_all_work {J} m is k xs left ss slice out same i s lt at p some =
+    let low : i < length ss = omega (arith, lt, ap length same) in
+    let q = out.pairs i low in
+    let here : get_or ss i None ≡ Some p = get_or_default ss i None s low ∙ sym (at ∙ ap (λ (l : List (generic.Slot Scripts J)). get_or l i s) same) ∙ some in
+    let o : generic.IsHandedOut scripts_meaning m.cells xs i p = subst (generic.IsHandedOut scripts_meaning m.cells xs i) (same_some q.0 p (get_or ss i None) q.1 here) q.2 in
+    may_begin m is p.0 o.handle o.from (knew_handle m.cells p.0 o.was)
 
 module _ {J : Type 0} (Does : TaskWork J) (m k : Memory) (is : IsMemory m) where
   worked_as : (n : ℕ) (x y : J) → generic.HasWorkedAs scripts_meaning (WorksWith Does) n m.cells k.cells x y → HasWorkedAs Does n m k x y
@@ -114,15 +127,3 @@ module _ {J : Type 0} (Does : TaskWork J) (m k : Memory) (is : IsMemory m) where
           | inr high ↦ is.opened n op ((rest n high).only_open op has)
         ];
       }
-
-    pub after : (r : Result (Unit {0}) EnrolError) (xs ys : List J) → OnOk r (generic.HaveWorked scripts_meaning (WorksWith Does) m.cells k.cells xs ys) → generic.KnowsRest (length xs) m.cells k.cells → OnErr r (generic.KnowsRest 0 m.cells k.cells) → IsMemory k
-    after (Ok u) xs ys w rest same = after_work xs ys w rest
-    after (Err e) xs ys w rest same = after_same same
-
-  pub all_worked : (r : Result (Unit {0}) EnrolError) (xs ys : List J) → OnOk r (generic.HaveWorked scripts_meaning (WorksWith Does) m.cells k.cells xs ys) → OnOk r (HaveWorked Does m k xs ys)
-  all_worked (Ok u) xs ys w = have_worked xs ys w
-  all_worked (Err e) xs ys w = tt
-
-  pub none_changed : (r : Result (Unit {0}) EnrolError) → OnErr r (generic.KnowsRest 0 m.cells k.cells) → OnErr r (KnowsRest 0 m k)
-  none_changed (Ok u) same = tt
-  none_changed (Err e) same = knows_rest 0 m k same

@@ -1,8 +1,9 @@
 -- Tasks that work at once, each with a handle of its own.
-use Rattle.std.specs.Prelude.{◌≡◌, ℕ, ◌<◌, ◌≤◌, List, length, get_or}
+use Rattle.std.specs.Prelude.{◌≡◌, ℕ, ◌<◌, ◌≤◌, List, Some, length, get_or}
 use Rattle.of_script.specs.declared.instr.Instr.{Instr}
 use Rattle.of_eval.specs.declared.scripts.Scripts.{Scripts}
 use Rattle.of_cells.specs.declared.error.EnrolError.{EnrolError}
+use Rattle.of_cells.specs.declared.handle.CellHandle.{CellHandle}
 use Rattle.of_cells.specs.Tasks as generic
 use Rattle.of_memory.specs.declared.memory.Memory.{Memory}
 use Rattle.of_memory.specs.declared.handle.Handle.{Handle}
@@ -79,3 +80,15 @@ pub record HaveWorked {J : Type 0} (Does : TaskWork J) (m k : Memory) (xs ys : L
 -- out
 abbrev pub IsTaskCause : Memory → (count : ℕ) → EnrolError → Type 0
 IsTaskCause m count e = generic.IsTaskCause m.cells count e
+
+-- ---- a task works with a handle of cells
+
+-- the handle, if it is there, is one of scripts
+abbrev pub MayWork : {J : Type 0} → generic.Slot Scripts J → Type 0
+MayWork {J} s =
+    (p : CellHandle Scripts × J) → s ≡ Some p → IsHandle (record { cells = p.0 })
+
+-- so is each
+abbrev pub MayAllWork : {J : Type 0} → List (generic.Slot Scripts J) → Type 0
+MayAllWork {J} ss =
+    (i : ℕ) (s : generic.Slot Scripts J) → i < length ss → s ≡ get_or ss i s → MayWork s

@@ -1,10 +1,15 @@
 //! Tasks that work at once, each with a handle of its own, in a thread of its own.
 
+ghost use Rattle.of_eval.specs.Scripts.{scripts_meaning};
+ghost use Rattle.of_cells.specs.Tasks.{WorksOn, AllWorkOn};
+ghost use Rattle.of_memory.specs.Tasks.{MayWork, MayAllWork, WorksWith};
+
 use crate::handle::Handle;
 use crate::memory::Memory;
-use of_cells::{CellHandle, CellTask, EnrolError};
+use of_cells::{CellHandle, EnrolError};
 use of_eval::Scripts;
-use std::thread::Threads;
+use std::alloc::AllocError;
+use std::thread::{Threads, for_each_mut};
 
 /// What is done with a handle. It keeps what it comes to.
 pub trait Task {
@@ -22,31 +27,36 @@ pub trait Task {
         ensures done { does self.old handle.old self.new handle.new };
 }
 
-/// Works at tasks with handles of cells that are ones of scripts.
-pub struct Scripted;
-
-impl<J: Task> CellTask<Scripts, J> for Scripted {
-    ghost use Rattle.of_eval.specs.Scripts.{scripts_meaning};
-    ghost use Rattle.of_cells.specs.Handles.{IsCellHandle, IsSame as IsSameCells};
-    ghost use Rattle.of_memory.specs.Handles.{IsHandle};
-    ghost use Rattle.of_memory.specs.Tasks.{WorksWith};
-
-    ghost does = { WorksWith J.does };
-
-    ghost needs = { λ x h. IsHandle (record { cells = h }) };
-
-    fn work(task: J, handle: CellHandle<Scripts>) -> (J, CellHandle<Scripts>)
-        requires handle { IsCellHandle scripts_meaning handle }
-        requires needs { IsHandle (record { cells = handle }) }
-        ensures handle { IsCellHandle scripts_meaning result.1 }
-        ensures same { IsSameCells handle result.1 }
-        ensures done { WorksWith J.does task handle result.0 result.1 }
-    {
-        let mut task = task;
+// One task with its handle.
+fn work_with<J: Task + Drop>(slot: &mut Option<(CellHandle<Scripts>, J)>)
+    requires { MayWork slot.old }
+    ensures { WorksOn scripts_meaning (WorksWith J.does) slot.old slot.new }
+{
+    if let Some((handle, mut task)) = slot.take() {
         let mut handle = Handle { cells: handle };
         task.work(&mut handle);
-        (task, handle.cells)
+        *slot = Some((handle.cells, task));
     }
+}
+
+// Each task with its handle, all at once: each in a thread of its own where one can be made.
+fn work_all<J: Task + Send + Drop, R: Threads + Sync>(
+    rt: &R,
+    slots: &mut [Option<(CellHandle<Scripts>, J)>],
+)
+    requires { MayAllWork slots.old }
+    ensures { AllWorkOn scripts_meaning (WorksWith J.does) slots.old slots.new }
+{
+    let threads = slots.len().max(1);
+    for_each_mut(
+        rt,
+        slots,
+        threads,
+        &|_, slot: &mut Option<(CellHandle<Scripts>, J)>|
+            requires { MayWork slot.now }
+            ensures { WorksOn scripts_meaning (WorksWith J.does) slot.entry.now slot.exit.now }
+        { work_with(slot) },
+    );
 }
 
 impl Memory {
@@ -75,6 +85,23 @@ impl Memory {
         ensures cause { IfErr result (IsTaskCause self.old (length tasks.old.items)) }
         ensures remembers { RemembersAll self.old self.new }
     {
-        self.cells.at_once_by::<J, Scripted, R>(rt, tasks)
+        let callers = self.callers();
+        if tasks.len() > callers as usize {
+            return Err(EnrolError::NoCaller { number: callers });
+        }
+        let Ok(mut slots) = Vec::with_capacity(self.alloc, tasks.len()) else {
+            return Err(EnrolError::OutOfMemory(AllocError));
+        };
+        match self.cells.hand_out(tasks, &mut slots) {
+            Ok(()) => {
+                work_all(rt, slots.as_mut_slice());
+                self.cells.take_back(slots, tasks);
+                Ok(())
+            }
+            Err(error) => {
+                self.cells.take_back(slots, tasks);
+                Err(error)
+            }
+        }
     }
 }

@@ -4,11 +4,8 @@ use Rattle.of_cells.specs.declared.handle.CellHandle.{CellHandle}
 use Rattle.of_cells.specs.Tasks.{HasWorked}
 use Rattle.of_cells.proofs.at_once.work_with.Goals as goal
 
-pub work-task-requires-clause-handle : goal.work-task-requires-clause-handle
-work-task-requires-clause-handle g c = (c.requires (c.in-Some.handle, c.in-Some.task) (sym c.take.ensures.value ∙ c.in-Some.is)).handle
-
-pub work-task-requires-clause-needs : goal.work-task-requires-clause-needs
-work-task-requires-clause-needs g c = (c.requires (c.in-Some.handle, c.in-Some.task) (sym c.take.ensures.value ∙ c.in-Some.is)).needs
+pub work-task-requires : goal.work-task-requires
+work-task-requires g c = c.requires (c.in-Some.handle, c.in-Some.task) (sym c.take.ensures.value ∙ c.in-Some.is)
 
 pub returns-in-Some : goal.returns-in-Some
 returns-in-Some g c p is =
@@ -16,5 +13,5 @@ returns-in-Some g c p is =
     let old : CellHandle g.row.W.Denot × g.row.J.Denot = (c.in-Some.handle, c.in-Some.task) in
     let new : CellHandle g.row.W.Denot × g.row.J.Denot = (w.result.1, w.result.0) in
     let same = same_some old p c.args.slot.now (sym c.take.ensures.value ∙ c.in-Some.is) is in
-    let worked : HasWorked g.W.Work.meaning g.K.CellTask.does old new = record { handle = w.ensures.handle; same = w.ensures.same; done = w.ensures.done } in
-    (new, refl, subst (λ x. HasWorked g.W.Work.meaning g.K.CellTask.does x new) same worked)
+    let worked : HasWorked g.W.Work.meaning g.J.CellTask.does old new = record { handle = w.ensures.handle; same = w.ensures.same; done = w.ensures.done } in
+    (new, refl, subst (λ x. HasWorked g.W.Work.meaning g.J.CellTask.does x new) same worked)

@@ -1,6 +1,6 @@
 use Rattle.std.proofs.Common.{◌≡◌, ◌≤◌, ◌<◌, vec_len, vec_capacity, length, arith, ap, ◌∙◌, rules}
 use Rattle.of_cells.proofs.Handing.{written, may_work, may_after, all_worked, others_known, others_in_order, others_remembered, all_in_order, all_remembered, may_leave_again, tasks_back, all_back}
-use Rattle.of_cells.proofs.memory.CellMemory.at_once_by.Goals as goal
+use Rattle.of_cells.proofs.memory.CellMemory.at_once.Goals as goal
 
 pub hand_out-requires-clause-few : goal.hand_out-requires-clause-few
 hand_out-requires-clause-few g c κs within =
@@ -14,7 +14,7 @@ hand_out-requires-clause-small g c κs within =
 
 pub work_all-requires-after_bounds : goal.work_all-requires-after_bounds
 work_all-requires-after_bounds g c κs within =
-    may_work g.W.Work.meaning c.args.self.now c.hand_out.new.self c.args.tasks.now.items c.hand_out.new.tasks.items c.hand_out.new.slots.items c.in-Ok-hand_out.ensures.out g.K.CellTask.needs c.requires.needs c.as_mut_slice.result.now c.as_mut_slice.ensures.value
+    may_work g.W.Work.meaning c.args.self.now c.hand_out.new.self c.args.tasks.now.items c.hand_out.new.tasks.items c.hand_out.new.slots.items c.in-Ok-hand_out.ensures.out c.as_mut_slice.result.now c.as_mut_slice.ensures.value
 
 pub take_back-requires-clause-room : goal.take_back-requires-clause-room
 take_back-requires-clause-room g c κs within =
@@ -38,7 +38,7 @@ take_back-requires-clause-slots g c κs within =
     let value = c.as_mut_slice.ensures.value in
     let long : c.hand_out.new.slots.len ≡ length ss = omega (arith, c.hand_out.new.slots.ok) in
     let size = c.work_all.auto.slots in
-    may_after g.W.Work.meaning g.K.CellTask.does m c.hand_out.new.self xs c.hand_out.new.tasks.items ss c.as_mut_slice.result.now rs _ c.in-Ok-hand_out.ensures.out c.in-Ok-hand_out.ensures.all
+    may_after g.W.Work.meaning g.J.CellTask.does m c.hand_out.new.self xs c.hand_out.new.tasks.items ss c.as_mut_slice.result.now rs _ c.in-Ok-hand_out.ensures.out c.in-Ok-hand_out.ensures.all
     value size (written ss rs c.hand_out.new.slots.len (size ∙ ap length value) long) c.work_all.ensures c.in-Ok-hand_out.ensures.still
 
 pub returns-in-Ok-hand_out-clause-worked : goal.returns-in-Ok-hand_out-clause-worked
@@ -50,7 +50,7 @@ returns-in-Ok-hand_out-clause-worked g c =
     let value = c.as_mut_slice.ensures.value in
     let long : c.hand_out.new.slots.len ≡ length ss = omega (arith, c.hand_out.new.slots.ok) in
     let size = c.work_all.auto.slots in
-    all_worked g.W.Work.meaning g.K.CellTask.does m c.hand_out.new.self xs c.hand_out.new.tasks.items ss c.as_mut_slice.result.now rs _ c.in-Ok-hand_out.ensures.out c.in-Ok-hand_out.ensures.all
+    all_worked g.W.Work.meaning g.J.CellTask.does m c.hand_out.new.self xs c.hand_out.new.tasks.items ss c.as_mut_slice.result.now rs _ c.in-Ok-hand_out.ensures.out c.in-Ok-hand_out.ensures.all
     value size (written ss rs c.hand_out.new.slots.len (size ∙ ap length value) long) c.work_all.ensures c.take_back.new.self c.take_back.new.tasks.items c.take_back.ensures.back (c.take_back.ensures.still ∙ c.in-Ok-hand_out.ensures.still)
 
 pub returns-in-Ok-hand_out-clause-rest : goal.returns-in-Ok-hand_out-clause-rest
@@ -62,7 +62,7 @@ returns-in-Ok-hand_out-clause-rest g c =
     let value = c.as_mut_slice.ensures.value in
     let long : c.hand_out.new.slots.len ≡ length ss = omega (arith, c.hand_out.new.slots.ok) in
     let size = c.work_all.auto.slots in
-    others_known g.W.Work.meaning g.K.CellTask.does m c.hand_out.new.self xs c.hand_out.new.tasks.items ss c.as_mut_slice.result.now rs _ c.in-Ok-hand_out.ensures.out c.in-Ok-hand_out.ensures.all
+    others_known g.W.Work.meaning g.J.CellTask.does m c.hand_out.new.self xs c.hand_out.new.tasks.items ss c.as_mut_slice.result.now rs _ c.in-Ok-hand_out.ensures.out c.in-Ok-hand_out.ensures.all
     value size (written ss rs c.hand_out.new.slots.len (size ∙ ap length value) long) c.work_all.ensures c.take_back.new.self c.take_back.new.tasks.items c.take_back.ensures.back (c.take_back.ensures.still ∙ c.in-Ok-hand_out.ensures.still)
 
 pub returns-in-Ok-hand_out-clause-rest_order : goal.returns-in-Ok-hand_out-clause-rest_order
@@ -74,7 +74,7 @@ returns-in-Ok-hand_out-clause-rest_order g c =
     let value = c.as_mut_slice.ensures.value in
     let long : c.hand_out.new.slots.len ≡ length ss = omega (arith, c.hand_out.new.slots.ok) in
     let size = c.work_all.auto.slots in
-    others_in_order g.W.Work.meaning g.K.CellTask.does m c.hand_out.new.self xs c.hand_out.new.tasks.items ss c.as_mut_slice.result.now rs _ c.in-Ok-hand_out.ensures.out c.in-Ok-hand_out.ensures.all
+    others_in_order g.W.Work.meaning g.J.CellTask.does m c.hand_out.new.self xs c.hand_out.new.tasks.items ss c.as_mut_slice.result.now rs _ c.in-Ok-hand_out.ensures.out c.in-Ok-hand_out.ensures.all
     value size (written ss rs c.hand_out.new.slots.len (size ∙ ap length value) long) c.work_all.ensures c.take_back.new.self c.take_back.new.tasks.items c.take_back.ensures.back (c.take_back.ensures.still ∙ c.in-Ok-hand_out.ensures.still)
 
 pub returns-in-Ok-hand_out-clause-remembers : goal.returns-in-Ok-hand_out-clause-remembers
@@ -86,7 +86,7 @@ returns-in-Ok-hand_out-clause-remembers g c =
     let value = c.as_mut_slice.ensures.value in
     let long : c.hand_out.new.slots.len ≡ length ss = omega (arith, c.hand_out.new.slots.ok) in
     let size = c.work_all.auto.slots in
-    others_remembered g.W.Work.meaning g.K.CellTask.does m c.hand_out.new.self xs c.hand_out.new.tasks.items ss c.as_mut_slice.result.now rs _ c.in-Ok-hand_out.ensures.out c.in-Ok-hand_out.ensures.all
+    others_remembered g.W.Work.meaning g.J.CellTask.does m c.hand_out.new.self xs c.hand_out.new.tasks.items ss c.as_mut_slice.result.now rs _ c.in-Ok-hand_out.ensures.out c.in-Ok-hand_out.ensures.all
     value size (written ss rs c.hand_out.new.slots.len (size ∙ ap length value) long) c.work_all.ensures c.take_back.new.self c.take_back.new.tasks.items c.take_back.ensures.back (c.take_back.ensures.still ∙ c.in-Ok-hand_out.ensures.still)
 
 pub returns-in-Err-clause-unchanged : goal.returns-in-Err-clause-unchanged
