@@ -7,4 +7,4 @@ pub mod Holding
 pub mod Still
 pub mod Renumbering
 mod Meant
-mod Handing
+pub mod Handing

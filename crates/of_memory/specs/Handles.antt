@@ -6,6 +6,7 @@ use Rattle.of_plan.specs.declared.answer.Answer.{Answer}
 use Rattle.of_eval.specs.declared.scripts.Scripts.{Scripts}
 use Rattle.of_eval.specs.Scripts.{scripts_meaning}
 use Rattle.of_row.specs.declared.row.Row.{Row}
+use Rattle.of_row.specs.Rows.{key_of}
 use Rattle.of_cells.specs.declared.error.RunError.{RunError}
 use Rattle.of_cells.specs.declared.error.RunError.TheVariants.{Stopped, Spent, InCall, NoCall, NoTicket}
 use Rattle.of_cells.specs.Handles as generic
@@ -120,3 +121,13 @@ RefusesToGoOn h result = generic.RefusesToGoOn h.cells (without_reply result)
 -- it is of the same memory, and has the same number
 abbrev pub IsSame : (before now : Handle) → Type 0
 IsSame h k = generic.IsSame h.cells k.cells
+
+-- its memory has so many callers and blocks
+pub record HasSizes (h : Handle) (callers blocks : ℕ) : Type 0 where
+  pub callers_are : (key_of (home_of h)).work.callers ≡ callers
+  pub blocks_are : (key_of (home_of h)).work.blocks ≡ blocks
+
+-- the step bound of the smallest memory, and of the largest
+pub record AreStepBounds : Type 0 where
+  pub smallest : (h : Handle) → IsHandle h → HasSizes h 1 0 → step_bound_of h ≡ 6054
+  pub largest : (h : Handle) → IsHandle h → HasSizes h 16 512 → step_bound_of h ≡ 138657

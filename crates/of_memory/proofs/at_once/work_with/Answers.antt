@@ -8,7 +8,7 @@ use Rattle.of_memory.specs.Tasks.{WorksWith}
 use Rattle.of_memory.proofs.at_once.work_with.Goals as goal
 
 pub work-requires : goal.work-requires
-work-requires g c κs within = c.requires (c.in-Some.handle, c.in-Some.task) (sym c.take.ensures.value ∙ c.in-Some.is)
+work-requires g c = c.requires (c.in-Some.handle, c.in-Some.task) (sym c.take.ensures.value ∙ c.in-Some.is)
 
 pub returns-in-Some : goal.returns-in-Some
 returns-in-Some g c p is =
