@@ -5,8 +5,8 @@ use Rattle.of_script.specs.declared.instr.Instr.{Instr}
 use Rattle.of_store.specs.Store.{Reply}
 use Rattle.of_store.specs.Replies.{reply_value_of}
 use Rattle.of_plan.specs.declared.answer.Answer.{Answer}
-use Rattle.of_memory.specs.declared.error.RunErr.{RunErr}
-use Rattle.of_memory.specs.declared.error.RunErr.TheVariants.{Stopped, Spent as NoneLeft, Open, NoTicket}
+use Rattle.of_cells.specs.declared.error.RunError.{RunError}
+use Rattle.of_cells.specs.declared.error.RunError.TheVariants.{Stopped, Spent as NoneLeft, InCall, NoCall, NoTicket}
 use Rattle.of_memory.specs.declared.handle.Handle.{Handle}
 use Rattle.of_memory.specs.History.{Made, Replied, Spent}
 use Rattle.of_memory.specs.Called.{LeavesAsItWas}
@@ -26,8 +26,8 @@ replied_join [] ns = refl
 replied_join (m ∷ ms) ns = go m.ended (replied_join ms ns)
   where
     go : (end : _) → replied_in (ms ++ ns) ≡ replied_in ms ++ replied_in ns → with_end m.script end (replied_in (ms ++ ns)) ≡ with_end m.script end (replied_in ms) ++ replied_in ns
-    go (Replied r) is = ap (λ (l : List Call). (m.script, r) ∷ l) is
-    go Spent is = is
+    go (Replied r seq steps announced) is = ap (λ (l : List Call). (m.script, r) ∷ l) is
+    go (Spent seq) is = is
 
 pub counts_none : (x y : Clerk) → y.job ≡ x.job → CountsNone x y → Counts x y []
 counts_none x y job none = record {
@@ -79,8 +79,8 @@ script_is y t is lt =
 -- a handle with an open call has it open of some script
 pub has_open : (h : Handle) → IsHandle h → HasCallOpen h → (script : List Instr) × HasOpen h script
 has_open h handle opened =
-    let op = handle.serves.begun opened in
-    (op.0, record { open_call = opened; is = op.1; words = op.2 })
+    let op = handle.open_call opened in
+    (op.0, record { is = op.1; opened = (opened, op.2) })
 
 -- the clerk's counts stay
 pub record StaysAt (y z : Clerk) : Type 0 where
@@ -96,7 +96,7 @@ module _ (y z : Clerk) (h k : Handle) (script : List Instr) (is : script ≡ nex
       → StaysOpenOnlyIfStopped script (Ok a) k → GoesOn y h z k
   answered_on a job count answered steps pending end same makes stays x w =
       let r : Reply = reply_value_of a.reply in
-      let m : Made = record { script = script; ended = Replied r } in
+      let m : Made = record { script = script; ended = Replied r a.seq a.steps a.announced } in
       let none : z.end ≡ None = end ∙ ended in
       let calls : replied_in (w.made ++ m ∷ []) ≡ replied_in w.made ++ (next_script y, r) ∷ [] = replied_join w.made (m ∷ []) ∙ ap (λ (s : List Instr). replied_in w.made ++ (s, r) ∷ []) is in
       let one = counts_one y z r next job count in
@@ -106,7 +106,7 @@ module _ (y z : Clerk) (h k : Handle) (script : List Instr) (is : script ≡ nex
         counts = subst (Counts x z) (sym calls) (counts_join x y z _ _ w.counts one);
         answered = omega (arith, answered, w.answered, ap length calls, length-append (replied_in w.made) ((next_script y, r) ∷ []));
         whole = λ not. omega (arith, answered, w.whole (subst IsNotSpent (sym ended) tt), length-append w.made (m ∷ []));
-        open_call = λ s opened. absurd (stays opened.open_call);
+        open_call = λ s opened. absurd (stays opened.opened.0);
         left = λ early. absurd (subst IsEarly none early);
         cause = subst (HasCause x.steps (tickets_behind k) z.answered) (sym none) tt;
         steps = steps ∙ w.steps;
@@ -114,7 +114,7 @@ module _ (y z : Clerk) (h k : Handle) (script : List Instr) (is : script ≡ nex
       }
 
   -- the call has ended early, and the list of calls stays
-  ends_with : (e : RunErr) → z.end ≡ Some e → StaysAt y z → (x : Clerk) → (w : HasWorked x y h) → HasMade k w.made → (IsNotSpent (Some e)) → ((s : List Instr) → HasOpen k s → IsStopped (Some e) × (s ≡ next_script y))
+  ends_with : (e : RunError) → z.end ≡ Some e → StaysAt y z → (x : Clerk) → (w : HasWorked x y h) → HasMade k w.made → (IsNotSpent (Some e)) → ((s : List Instr) → HasOpen k s → IsStopped (Some e) × (s ≡ next_script y))
       → HasCause x.steps (tickets_behind k) y.answered (Some e) → HasWorked x z k
   ends_with e end stay x w has whole opens cause =
       let at : counted z ≡ counted y = omega (arith, stay.none.0, stay.none.1) in
@@ -127,7 +127,7 @@ module _ (y z : Clerk) (h k : Handle) (script : List Instr) (is : script ≡ nex
         whole = λ not. stay.answered ∙ w.whole (subst IsNotSpent (sym ended) tt);
         open_call = λ s opened. let one = opens s opened in (subst IsStopped (sym end) one.0, one.1 ∙ sym (λ i. get_or (same i) (at i) []));
         left = λ early. omega (arith, at, next, ap vec_len stay.job);
-        cause = subst (λ (o : Option RunErr). HasCause x.steps (tickets_behind k) z.answered o) (sym end) (subst (λ (n : ℕ). HasCause x.steps (tickets_behind k) n (Some e)) (sym stay.answered) cause);
+        cause = subst (λ (o : Option RunError). HasCause x.steps (tickets_behind k) z.answered o) (sym end) (subst (λ (n : ℕ). HasCause x.steps (tickets_behind k) n (Some e)) (sym stay.answered) cause);
         steps = stay.steps ∙ w.steps;
         pending = stay.pending ∙ w.pending;
       }
@@ -136,14 +136,14 @@ module _ (y z : Clerk) (h k : Handle) (script : List Instr) (is : script ≡ nex
   not_open x w s opened = subst IsStopped ended (w.open_call s opened).0
 
   -- nothing was made
-  unmade_on : (e : RunErr) → z.end ≡ Some e → StaysAt y z → k ≡ h → (x : Clerk) (w : HasWorked x y h) → IsNotSpent (Some e) → HasCause x.steps (tickets_behind h) y.answered (Some e) → HasWorked x z k
+  unmade_on : (e : RunError) → z.end ≡ Some e → StaysAt y z → k ≡ h → (x : Clerk) (w : HasWorked x y h) → IsNotSpent (Some e) → HasCause x.steps (tickets_behind h) y.answered (Some e) → HasWorked x z k
   unmade_on e end stay same x w whole cause =
       ends_with e end stay x w (subst (λ (j : Handle). HasMade j w.made) (sym same) w.has) whole
       (λ s opened. absurd (not_open x w s (subst (λ (j : Handle). HasOpen j s) same opened)))
       (subst (λ (j : Handle). HasCause x.steps (tickets_behind j) y.answered (Some e)) (sym same) cause)
 
   -- it was not answered
-  pub ended_on : (e : RunErr) → z.end ≡ Some e → StaysAt y z → CallsAreCounted → IsHandle h → IsSame h k → MakesCall script (Err e) h k → StaysOpenOnlyIfStopped script (Err e) k → RefusesCall h (Err e) → LeavesAsItWas {A = Handle} (Err e) h k
+  pub ended_on : (e : RunError) → z.end ≡ Some e → StaysAt y z → CallsAreCounted → IsHandle h → IsSame h k → MakesCall script (Err e) h k → StaysOpenOnlyIfStopped script (Err e) k → RefusesCall h (Err e) → LeavesAsItWas {A = Handle} (Err e) h k
       → KeepsWithin 0 y.steps (steps_so_far k) (Err e) → OpensOnly script h k → GoesOn y h z k
   ended_on (Stopped asked) end stay counts handle same makes stays refuses unmade within only x w =
       ends_with (Stopped asked) end stay x w (makes w.made w.has) tt (λ s opened. (tt, opens s (only s opened))) (within.0 ∙ ap (λ (n : ℕ). n + 1) w.steps)
@@ -152,7 +152,7 @@ module _ (y z : Clerk) (h k : Handle) (script : List Instr) (is : script ≡ nex
       opens s (inl same) = same ∙ is
       opens s (inr before) = absurd (not_open x w s before)
   ended_on (NoneLeft seq) end stay counts handle same makes stays refuses unmade within only x w =
-      let m : Made = record { script = script; ended = Spent } in
+      let m : Made = record { script = script; ended = Spent seq } in
       let calls : replied_in (w.made ++ m ∷ []) ≡ replied_in w.made = replied_join w.made (m ∷ []) ∙ append-nil (replied_in w.made) in
       let at : counted z ≡ counted y = omega (arith, stay.none.0, stay.none.1) in
       record {
@@ -161,13 +161,14 @@ module _ (y z : Clerk) (h k : Handle) (script : List Instr) (is : script ≡ nex
         counts = subst (Counts x z) (append-nil (replied_in w.made) ∙ sym calls) (counts_join x y z _ _ w.counts (counts_none y z stay.job stay.none));
         answered = stay.answered ∙ w.answered ∙ ap length (sym calls);
         whole = λ not. absurd (subst IsNotSpent end not);
-        open_call = λ s opened. absurd (stays opened.open_call);
+        open_call = λ s opened. absurd (stays opened.opened.0);
         left = λ early. omega (arith, at, next, ap vec_len stay.job);
         cause = subst (HasCause x.steps (tickets_behind k) z.answered) (sym end) tt;
         steps = stay.steps ∙ w.steps;
         pending = stay.pending ∙ w.pending;
       }
-  ended_on Open end stay counts handle same makes stays refuses unmade within only x w = let opened = has_open h handle refuses in absurd (not_open x w opened.0 opened.1)
+  ended_on InCall end stay counts handle same makes stays refuses unmade within only x w = let opened = has_open h handle refuses in absurd (not_open x w opened.0 opened.1)
+  ended_on NoCall end stay counts handle same makes stays refuses unmade within only x w = absurd refuses
   ended_on NoTicket end stay counts handle same makes stays refuses unmade within only x w =
       unmade_on NoTicket end stay unmade x w tt
       (λ small. refuses (omega (

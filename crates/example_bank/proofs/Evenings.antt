@@ -1,5 +1,5 @@
 -- What a day leaves of the clerks' jobs.
-use Rattle.std.proofs.Common.{◌≡◌, ℕ, ◌+◌, ◌<◌, ◌≤◌, ◌⊎◌, inl, inr, List, [], ◌∷◌, ◌++◌, length, get_or, Option, Some, None, vec_len, refl, sym, ap, subst, ◌∙◌, arith}
+use Rattle.std.proofs.Common.{◌≡◌, ℕ, ◌+◌, ◌<◌, ◌≤◌, ◌⊎◌, inl, inr, List, [], ◌∷◌, ◌++◌, false, length, get_or, Option, Some, None, vec_len, refl, sym, ap, subst, ◌∙◌, arith}
 use Rattle.std.specs.List.{All}
 use Rattle.std.proofs.lemmas.Bool.{cases_lt, true≢false}
 use Rattle.std.proofs.lemmas.List.{append-nil, length-append, get_or_append_left, get_or-append-add, length-map}
@@ -7,13 +7,13 @@ use Rattle.std.proofs.lemmas.List.Elements.{All-map}
 use Rattle.of_script.specs.declared.instr.Instr.{Instr}
 use Rattle.of_script.specs.declared.instr.Instr.TheVariants.{Count}
 use Rattle.of_store.specs.Store.{Store}
-use Rattle.of_memory.specs.declared.error.RunErr.{RunErr}
-use Rattle.of_memory.specs.declared.error.RunErr.TheVariants.{Stopped, Spent as NoneLeft, Open, NoTicket}
+use Rattle.of_cells.specs.declared.error.RunError.{RunError}
+use Rattle.of_cells.specs.declared.error.RunError.TheVariants.{Stopped, Spent as NoneLeft, InCall, NoCall, NoTicket}
 use Rattle.of_memory.specs.declared.memory.Memory.{Memory}
 use Rattle.of_memory.specs.declared.saved.Saved.{Saved}
 use Rattle.of_memory.specs.History.{HistoryEntry, no_history_entry, Made, no_made, Replied, IsOneOf, HasOnly, ExplainsAll, ExplainsEnd, ScriptOnlyReads}
-use Rattle.of_memory.specs.Serving.{made_before}
-use Rattle.of_memory.specs.Handles.{tickets_behind}
+use Rattle.of_cells.specs.Serving.{made_before}
+use Rattle.of_memory.specs.Handles.{number_of_handle, tickets_behind}
 use Rattle.of_memory.specs.Memories.{HasMadeOf, HasOpenOf, HasNoneOpen, IsStill, LeadsTo, TellsLastOf, callers_of, tickets_before}
 use Rattle.of_memory.specs.Saving.{saved_ticket, HoldsReply}
 use Rattle.of_memory.specs.Tasks.{TaskWork, HasWorkedAs}
@@ -50,13 +50,13 @@ module _ (c : Saved) (m k : Memory) (n : ℕ) (x y : Clerk) (tickets : tickets_b
   has_worked =
       w.worked.done
       (w.knew.only [] (subst (λ (i : ℕ). HasMadeOf m i []) (sym w.number) none))
-      (λ opened. let one = has_open w.begun w.handle opened in idle w.begun.number one.0 (w.knew.open_call one.0 one.1))
+      (λ opened. let one = has_open w.begun w.handle opened in idle (number_of_handle w.begun) _ (w.knew.open_call one.0 one.1).opened)
 
-  abbrev at_number : w.left.number ≡ n
+  abbrev at_number : number_of_handle w.left ≡ n
   at_number = w.worked.same.number ∙ w.number
 
   left_tickets : tickets_behind w.left ≡ saved_ticket c n
-  left_tickets = (λ i. made_before ((w.worked.same.home ∙ w.from) i) (at_number i)) ∙ tickets
+  left_tickets = (λ i. made_before _ ((w.worked.same.home ∙ w.from) i) (at_number i)) ∙ tickets
 
   now_tickets : tickets_before k n ≡ saved_ticket c n
   now_tickets = ap (λ (r : _). made_before r n) still ∙ tickets
@@ -106,7 +106,7 @@ module _ (c : Saved) (m k : Memory) (n : ℕ) (x y : Clerk) (tickets : tickets_b
         -- it took effect, and stands in the history
         module _ (f : IsFinished n c d y z) (e : HistoryEntry) (mine : e.caller ≡ n) (holds : HoldsReply d n e.reply) (p : ℕ) (within : p < length h) (here : get_or h p no_history_entry ≡ e) (at : e.ticket ≡ t + length ms + 1) (is : e.script ≡ next_script y) where
           abbrev one : Made
-          one = record { script = next_script y; ended = Replied e.reply }
+          one = record { script = next_script y; ended = Replied e.reply 0 0 false }
 
           abbrev all : List Made
           all = ms ++ one ∷ []
@@ -151,7 +151,7 @@ module _ (c : Saved) (m k : Memory) (n : ℕ) (x y : Clerk) (tickets : tickets_b
       pub goes_on : Counts x z (calls_of n h)
       goes_on = by_end y.end refl settles.counts
         where
-          by_end : (end : Option RunErr) → y.end ≡ end → SettlesEnd n c d y z end → Counts x z (calls_of n h)
+          by_end : (end : Option RunError) → y.end ≡ end → SettlesEnd n c d y z end → Counts x z (calls_of n h)
           by_end None is one = plain (λ stopped. subst IsStopped is stopped) one.0
           by_end (Some (Stopped asked)) is one =
               stopped_in one (subst IsStopped (sym is) tt) (has_worked.0.whole (subst IsNotSpent (sym is) tt)) (has_worked.0.left (subst IsEarly (sym is) tt))
@@ -160,7 +160,8 @@ module _ (c : Saved) (m k : Memory) (n : ℕ) (x y : Clerk) (tickets : tickets_b
               stopped_in (inl p) stopped whole room = was_pending stopped whole room p
               stopped_in (inr f) stopped whole room = was_finished stopped whole room f
           by_end (Some (NoneLeft seq)) is one = plain (λ stopped. subst IsStopped is stopped) one.0
-          by_end (Some Open) is one = plain (λ stopped. subst IsStopped is stopped) one.0
+          by_end (Some InCall) is one = plain (λ stopped. subst IsStopped is stopped) one.0
+          by_end (Some NoCall) is one = plain (λ stopped. subst IsStopped is stopped) one.0
           by_end (Some NoTicket) is one = plain (λ stopped. subst IsStopped is stopped) one.0
 
     -- ---- why it has made no more
@@ -168,7 +169,7 @@ module _ (c : Saved) (m k : Memory) (n : ℕ) (x y : Clerk) (tickets : tickets_b
     counted_today : counted y ≡ counted x + y.answered
     counted_today = omega (arith, has_worked.0.counts.made, has_worked.0.counts.aborted, all_counted (replied_in ms), has_worked.0.answered)
 
-    abbrev Left : Option RunErr → Type 0
+    abbrev Left : Option RunError → Type 0
     Left end = (one_if z.pending ≤ open_in end) × (counted z + one_if z.pending ≡ counted x + z.answered + open_in end)
 
     left_plain : CountsNone y z → z.pending ≡ y.pending → Left None
@@ -176,7 +177,7 @@ module _ (c : Saved) (m k : Memory) (n : ℕ) (x y : Clerk) (tickets : tickets_b
         let no : one_if z.pending ≡ 0 = ap one_if (same ∙ has_worked.0.pending) in
         (omega (arith, no), omega (arith, no, none.0, none.1, counted_today, settles.answered))
 
-    left : (end : Option RunErr) → SettlesEnd n c d y z end → Left end
+    left : (end : Option RunError) → SettlesEnd n c d y z end → Left end
     left None one = left_plain one.0 one.1
     left (Some (Stopped asked)) (inl p) =
         let yes : one_if z.pending ≡ 1 = ap one_if p.pending in
@@ -185,7 +186,8 @@ module _ (c : Saved) (m k : Memory) (n : ℕ) (x y : Clerk) (tickets : tickets_b
         let no : one_if z.pending ≡ 0 = ap one_if (f.pending ∙ has_worked.0.pending) in
         (omega (arith, no), omega (arith, no, f.more, counted_today, settles.answered))
     left (Some (NoneLeft seq)) one = left_plain one.0 one.1
-    left (Some Open) one = left_plain one.0 one.1
+    left (Some InCall) one = left_plain one.0 one.1
+    left (Some NoCall) one = left_plain one.0 one.1
     left (Some NoTicket) one = left_plain one.0 one.1
 
     through : z.end ≡ None → counted z ≡ vec_len z.job
@@ -201,6 +203,6 @@ module _ (c : Saved) (m k : Memory) (n : ℕ) (x y : Clerk) (tickets : tickets_b
           through = through;
           cause = subst (HasCause x.steps (saved_ticket c n) z.answered) (sym settles.end)
               (subst (λ (k : ℕ × ℕ). HasCause x.steps k.0 k.1 y.end) (λ i. (left_tickets i, sym settles.answered i)) has_worked.0.cause);
-          pending = subst (λ (o : Option RunErr). one_if z.pending ≤ open_in o) (sym settles.end) counts.0;
-          counts = subst (λ (o : Option RunErr). counted z + one_if z.pending ≡ counted x + z.answered + open_in o) (sym settles.end) counts.1;
+          pending = subst (λ (o : Option RunError). one_if z.pending ≤ open_in o) (sym settles.end) counts.0;
+          counts = subst (λ (o : Option RunError). counted z + one_if z.pending ≡ counted x + z.answered + open_in o) (sym settles.end) counts.1;
         }

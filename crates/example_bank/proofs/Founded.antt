@@ -15,7 +15,7 @@ use Rattle.example_bank.specs.Founding.{founding_script, IsFounded}
 
 -- a call of this script was answered so
 abbrev pub answered : List Instr → Answer → Made
-answered script a = record { script = script; ended = Replied (reply_value_of a.reply) }
+answered script a = record { script = script; ended = Replied (reply_value_of a.reply) a.seq a.steps a.announced }
 
 -- one handle of a memory that was just opened has made one call and has left
 module _ (m k l : Memory) (h g : Handle) (script : List Instr) (a : Answer)

@@ -34,8 +34,8 @@ rises t (x ∷ es) e rising (inr is) = let low = rises x.ticket es e rising.1 is
 
 -- the entries have the call that has ended so
 abbrev EndIn : List HistoryEntry → (caller ticket : ℕ) → List Instr → End → Type 0
-EndIn es n k script (Replied r) = In es (record { caller = n; ticket = k; script = script; reply = r })
-EndIn es n k script Spent = Each (λ (e : HistoryEntry). e.ticket ≡ k → ⊥) es
+EndIn es n k script (Replied r seq steps announced) = In es (record { caller = n; ticket = k; script = script; reply = r })
+EndIn es n k script (Spent seq) = Each (λ (e : HistoryEntry). e.ticket ≡ k → ⊥) es
 
 -- no call is open
 abbrev pub NoneOpen : List Instr → Type 0
@@ -53,9 +53,9 @@ module _ (n t : ℕ) (m : Made) (ms : List Made) where
   later_ones u (e ∷ es) low rising only = (later_one e (omega (arith, low, rising.0)) only.0, later_ones e.ticket es (omega (arith, low, rising.0)) rising.1 only.1)
 
   later_end : (e : HistoryEntry) (es : List HistoryEntry) (y : ℕ) (script : List Instr) (end : End) → e.ticket ≡ t + 1 → EndIn (e ∷ es) n (t + suc y + 1) script end → EndIn es n (t + 1 + y + 1) script end
-  later_end e es y script (Replied r) at (inl same) = absurd (omega (arith, at, ap (λ (f : HistoryEntry). f.ticket) same))
-  later_end e es y script (Replied r) at (inr is) = subst (λ (k : ℕ). In es (record { caller = n; ticket = k; script = script; reply = r })) (omega arith) is
-  later_end e es y script Spent at none = subst (λ (k : ℕ). Each (λ (f : HistoryEntry). f.ticket ≡ k → ⊥) es) (omega arith) none.1
+  later_end e es y script (Replied r seq steps announced) at (inl same) = absurd (omega (arith, at, ap (λ (f : HistoryEntry). f.ticket) same))
+  later_end e es y script (Replied r seq steps announced) at (inr is) = subst (λ (k : ℕ). In es (record { caller = n; ticket = k; script = script; reply = r })) (omega arith) is
+  later_end e es y script (Spent seq) at none = subst (λ (k : ℕ). Each (λ (f : HistoryEntry). f.ticket ≡ k → ⊥) es) (omega arith) none.1
 
   end_at : (es : List HistoryEntry) (y : ℕ) (script : List Instr) (end : End) → EndIn es n (t + suc y + 1) script end → EndIn es n (t + 1 + y + 1) script end
   end_at es y script end is = subst (λ (k : ℕ). EndIn es n k script end) (omega arith) is
@@ -81,7 +81,7 @@ own_are n t [] (e ∷ es) rising (inr one, others) ends = absurd one.1
 own_are n t (m ∷ ms) es rising only ends = go (λ others. own_are n (t + 1) ms others) m.ended refl
   where
     go : ((others : List HistoryEntry) → Rising (t + 1) others → Each (IsOneOf (t + 1) ms NoneOpen) others → EndsIn others n (t + 1) ms → calls_in others ≡ replied_in ms) → (end : End) → m.ended ≡ end → calls_in es ≡ with_end m.script m.ended (replied_in ms)
-    go others_are (Replied r) is =
+    go others_are (Replied r seq steps announced) is =
         let e : HistoryEntry = record { caller = n; ticket = t + 0 + 1; script = m.script; reply = r } in
         let here : In es e = subst (EndIn es n (t + 0 + 1) m.script) is (ends 0 (omega arith)) in
         let first = first_is t es e rising here (omega arith) in
@@ -90,7 +90,7 @@ own_are n t (m ∷ ms) es rising only ends = go (λ others. own_are n (t + 1) ms
         let others : calls_in first.0 ≡ replied_in ms = others_are first.0 (subst (λ (k : ℕ). Rising k first.0) (omega arith) up.1) (later_ones n t m ms (t + 0 + 1) first.0 (omega arith) up.1 all.1)
         (λ y lt. later_end n t m ms e first.0 y (get_or ms y no_made).script (get_or ms y no_made).ended (omega arith) (subst (λ (l : List HistoryEntry). EndIn l n (t + suc y + 1) (get_or ms y no_made).script (get_or ms y no_made).ended) first.1 (ends (suc y) (omega (arith, lt))))) in
         ap calls_in first.1 ∙ ap (λ (l : List Call). (m.script, r) ∷ l) others ∙ sym (ap (λ (x : End). with_end m.script x (replied_in ms)) is)
-    go others_are Spent is =
+    go others_are (Spent seq) is =
         let none : Each (λ (e : HistoryEntry). e.ticket ≡ t + 0 + 1 → ⊥) es = subst (EndIn es n (t + 0 + 1) m.script) is (ends 0 (omega arith)) in
         let up : Rising (t + 1) es = past_spent t es rising (subst (λ (k : ℕ). Each (λ (e : HistoryEntry). e.ticket ≡ k → ⊥) es) (omega arith) none) in
         let others : calls_in es ≡ replied_in ms = others_are es up (later_ones n t m ms (t + 1) es (omega arith) up only)
@@ -162,8 +162,8 @@ module _ (n : ℕ) where
   above_of t ms e (inr one) = absurd one.1
 
   end_in : (h : List HistoryEntry) (k : ℕ) (script : List Instr) (end : End) → ExplainsEnd h n k script end → EndIn (entries_of n h) n k script end
-  end_in h k script (Replied r) found = in_own h _ refl found.0 found.1 found.2
-  end_in h k script Spent none = each_own (λ (e : HistoryEntry). e.ticket ≡ k → ⊥) h (each_of (λ (e : HistoryEntry). e.caller ≡ n → e.ticket ≡ k → ⊥) h (λ i lt. none i no_history_entry lt))
+  end_in h k script (Replied r seq steps announced) found = in_own h _ refl found.0 found.1 found.2
+  end_in h k script (Spent seq) none = each_own (λ (e : HistoryEntry). e.ticket ≡ k → ⊥) h (each_of (λ (e : HistoryEntry). e.caller ≡ n → e.ticket ≡ k → ⊥) h (λ i lt. none i no_history_entry lt))
 
   -- If a history has the calls of a caller as they have ended, and no other of it, then its calls
   -- there are those that were answered, in their order.

@@ -9,7 +9,7 @@ use Rattle.std.proofs.lemmas.List.Elements.{All-append, All-take, All-head, All-
 use Rattle.of_script.specs.declared.instr.Instr.{Instr}
 use Rattle.of_script.specs.declared.instr.TheConstants.{REGISTERS}
 use Rattle.of_store.specs.Store.{Store}
-use Rattle.of_memory.specs.declared.error.RunErr.{RunErr}
+use Rattle.of_cells.specs.declared.error.RunError.{RunError}
 use Rattle.of_memory.specs.declared.memory.Memory.{Memory}
 use Rattle.of_memory.specs.declared.saved.Saved.{Saved}
 use Rattle.of_memory.specs.History.{HistoryEntry, store_after, IsOneOf}
@@ -27,7 +27,7 @@ use Rattle.example_bank.proofs.Clerks.{counts_join}
 use Rattle.example_bank.proofs.Evenings.{Does, are_transfers, goes_on, has_ended, has_worked}
 use Rattle.example_bank.proofs.Money.{history_keeps}
 
-early : (end : Option RunErr) → IsStopped end → IsEarly end
+early : (end : Option RunError) → IsStopped end → IsEarly end
 early None stopped = stopped
 early (Some e) stopped = tt
 
@@ -59,7 +59,7 @@ module _ (c : Saved) (m k : Memory) (xs ys : List Clerk) (few : length xs ≤ ca
 
         not : IsOneOf (tickets_before k (get_or h i e).caller) [] (HasOpenOf k (get_or h i e).caller) (get_or h i e) → ⊥
         not (inl (y, less, at, is)) = omega (arith, less)
-        not (inr (at, opened)) = idle (get_or h i e).caller (get_or h i e).script (same.only_open (get_or h i e).script opened)
+        not (inr (at, opened)) = idle (get_or h i e).caller _ (same.only_open (get_or h i e).script opened).opened
 
     pub go_on : HasHistory k d → GoOnWithJobs c d xs zs
     go_on history s holds =

@@ -36,8 +36,8 @@ aborted_in (c ∷ cs) = was_aborted c.1 + aborted_in cs
 
 -- the calls that were answered, with their replies
 abbrev pub with_end : List Instr → End → List Call → List Call
-with_end script (Replied r) cs = (script, r) ∷ cs
-with_end script Spent cs = cs
+with_end script (Replied r seq steps announced) cs = (script, r) ∷ cs
+with_end script (Spent seq) cs = cs
 
 abbrev pub replied_in : List Made → List Call
 replied_in [] = []

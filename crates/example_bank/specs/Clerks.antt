@@ -3,8 +3,8 @@ use Rattle.std.specs.Prelude.{◌≡◌, ℕ, ◌+◌, ◌<◌, ◌≤◌, List,
 use Rattle.std.proofs.Common.{get_or}
 use Rattle.of_script.specs.declared.instr.Instr.{Instr}
 use Rattle.of_store.specs.Store.{Reply}
-use Rattle.of_memory.specs.declared.error.RunErr.{RunErr}
-use Rattle.of_memory.specs.declared.error.RunErr.TheVariants.{Stopped, Spent as NoneLeft, Open, NoTicket}
+use Rattle.of_cells.specs.declared.error.RunError.{RunError}
+use Rattle.of_cells.specs.declared.error.RunError.TheVariants.{Stopped, Spent as NoneLeft, InCall, NoCall, NoTicket}
 use Rattle.of_memory.specs.declared.handle.Handle.{Handle}
 use Rattle.of_memory.specs.declared.saved.Saved.{Saved}
 use Rattle.of_memory.specs.History.{Made}
@@ -35,33 +35,36 @@ pub record Counts (x y : Clerk) (cs : List Call) : Type 0 where
 -- ---- why it has made no more
 
 -- it was stopped in a call
-abbrev pub IsStopped : Option RunErr → Type 0
+abbrev pub IsStopped : Option RunError → Type 0
 IsStopped None = ⊥
 IsStopped (Some (Stopped asked)) = Unit {0}
 IsStopped (Some (NoneLeft seq)) = ⊥
-IsStopped (Some Open) = ⊥
+IsStopped (Some InCall) = ⊥
+IsStopped (Some NoCall) = ⊥
 IsStopped (Some NoTicket) = ⊥
 
 -- each of its calls was answered or is open
-abbrev pub IsNotSpent : Option RunErr → Type 0
+abbrev pub IsNotSpent : Option RunError → Type 0
 IsNotSpent None = Unit {0}
 IsNotSpent (Some (Stopped asked)) = Unit {0}
 IsNotSpent (Some (NoneLeft seq)) = ⊥
-IsNotSpent (Some Open) = Unit {0}
+IsNotSpent (Some InCall) = Unit {0}
+IsNotSpent (Some NoCall) = Unit {0}
 IsNotSpent (Some NoTicket) = Unit {0}
 
 -- it has ended early
-abbrev pub IsEarly : Option RunErr → Type 0
+abbrev pub IsEarly : Option RunError → Type 0
 IsEarly None = ⊥
 IsEarly (Some e) = Unit {0}
 
 -- The cause of an early end: it was stopped when its call had made all its steps, or its number had
 -- made so many calls before the day and on it that no ticket is left.
-abbrev pub HasCause : (steps before answered : ℕ) → Option RunErr → Type 0
+abbrev pub HasCause : (steps before answered : ℕ) → Option RunError → Type 0
 HasCause steps before answered None = Unit {0}
 HasCause steps before answered (Some (Stopped asked)) = asked ≡ steps + 1
 HasCause steps before answered (Some (NoneLeft seq)) = Unit {0}
-HasCause steps before answered (Some Open) = ⊥
+HasCause steps before answered (Some InCall) = ⊥
+HasCause steps before answered (Some NoCall) = ⊥
 HasCause steps before answered (Some NoTicket) = before + answered + 1 < 4294967296 → ⊥
 
 -- ---- a clerk with its handle
@@ -116,11 +119,12 @@ pub record IsFinished (n : ℕ) (c d : Saved) (y z : Clerk) : Type 0 where
   pub more : counted z ≡ counted y + 1
   pub pending : z.pending ≡ y.pending
 
-abbrev pub SettlesEnd : ℕ → (before after : Saved) → Clerk → Clerk → Option RunErr → Type 0
+abbrev pub SettlesEnd : ℕ → (before after : Saved) → Clerk → Clerk → Option RunError → Type 0
 SettlesEnd n c d y z None = CountsNone y z × (z.pending ≡ y.pending)
 SettlesEnd n c d y z (Some (Stopped asked)) = IsPending n c d y z ⊎ IsFinished n c d y z
 SettlesEnd n c d y z (Some (NoneLeft seq)) = CountsNone y z × (z.pending ≡ y.pending)
-SettlesEnd n c d y z (Some Open) = CountsNone y z × (z.pending ≡ y.pending)
+SettlesEnd n c d y z (Some InCall) = CountsNone y z × (z.pending ≡ y.pending)
+SettlesEnd n c d y z (Some NoCall) = CountsNone y z × (z.pending ≡ y.pending)
 SettlesEnd n c d y z (Some NoTicket) = CountsNone y z × (z.pending ≡ y.pending)
 
 -- the clerk of this number counts the transfer in which it was stopped, if it was finished

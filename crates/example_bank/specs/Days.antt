@@ -3,8 +3,8 @@ use Rattle.std.specs.Prelude.{◌≡◌, ℕ, ◌+◌, ◌<◌, ◌≤◌, List,
 use Rattle.std.proofs.Common.{get_or}
 use Rattle.std.specs.List.{All}
 use Rattle.of_store.specs.Store.{Store}
-use Rattle.of_memory.specs.declared.error.RunErr.{RunErr}
-use Rattle.of_memory.specs.declared.error.RunErr.TheVariants.{Stopped, Spent as NoneLeft, Open, NoTicket}
+use Rattle.of_cells.specs.declared.error.RunError.{RunError}
+use Rattle.of_cells.specs.declared.error.RunError.TheVariants.{Stopped, Spent as NoneLeft, InCall, NoCall, NoTicket}
 use Rattle.of_memory.specs.declared.saved.Saved.{Saved}
 use Rattle.of_memory.specs.History.{HistoryEntry, IsSerial, store_after}
 use Rattle.of_memory.specs.Saving.{SavedHolds, saved_ticket}
@@ -29,11 +29,12 @@ GoOnWithJobs c d xs ys =
     (s : Store) → SavedHolds c s → (h : List HistoryEntry) × LeadsBy s d xs ys h
 
 -- a call of the clerk was open in the evening
-abbrev pub open_in : Option RunErr → ℕ
+abbrev pub open_in : Option RunError → ℕ
 open_in None = 0
 open_in (Some (Stopped asked)) = 1
 open_in (Some (NoneLeft seq)) = 0
-open_in (Some Open) = 0
+open_in (Some InCall) = 0
+open_in (Some NoCall) = 0
 open_in (Some NoTicket) = 0
 
 abbrev pub one_if : Bool → ℕ

@@ -4,7 +4,7 @@ ghost use Rattle.std.specs.Prelude.{◌+◌, ◌≤◌, vec_len};
 
 use crate::transfer::Transfer;
 use of_memory::laws::calls_are_counted;
-use of_memory::{Handle, Reply, RunErr, Saved, Task};
+use of_memory::{Handle, Reply, RunError, Saved, Task};
 
 /// A clerk. It goes on with its job from day to day.
 #[derive(Drop)]
@@ -22,7 +22,7 @@ pub struct Clerk {
     /// Whether it was stopped on this day in a transfer that took no effect.
     pub pending: bool,
     /// Why it has made no more on this day. None if its job is done.
-    pub end: Option<RunErr>,
+    pub end: Option<RunError>,
     pub ghost few: { made + aborted ≤ vec_len job },
     pub ghost today: { answered ≤ made + aborted },
 }
@@ -102,7 +102,7 @@ impl Clerk {
         let Some(error) = self.end else {
             return;
         };
-        let RunErr::Stopped { asked: _ } = error else {
+        let RunError::Stopped { asked: _ } = error else {
             return;
         };
         self.steps = u64::MAX;

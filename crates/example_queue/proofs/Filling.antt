@@ -106,7 +106,7 @@ both_scripts =
 
 -- a call of this script was answered so
 abbrev pub answered : List Instr → Answer → Made
-answered script a = record { script = script; ended = Replied (reply_value_of a.reply) }
+answered script a = record { script = script; ended = Replied (reply_value_of a.reply) a.seq a.steps a.announced }
 
 -- one handle of a memory that was just opened has made two calls and has left
 module _ (m k l : Memory) (h f g : Handle) (one two : List Instr) (a b : Answer)

@@ -7,14 +7,14 @@ use Rattle.of_script.specs.declared.instr.Instr.{Instr}
 use Rattle.of_store.specs.Store.{Store}
 use Rattle.of_store.specs.Replies.{reply_value_of}
 use Rattle.of_plan.specs.declared.answer.Answer.{Answer}
-use Rattle.of_memory.specs.declared.error.RunErr.{RunErr}
-use Rattle.of_memory.specs.declared.error.RunErr.TheVariants.{Stopped, Spent as NoneLeft, Open, NoTicket}
+use Rattle.of_cells.specs.declared.error.RunError.{RunError}
+use Rattle.of_cells.specs.declared.error.RunError.TheVariants.{Stopped, Spent as NoneLeft, InCall, NoCall, NoTicket}
 use Rattle.of_memory.specs.declared.memory.Memory.{Memory}
 use Rattle.of_memory.specs.declared.handle.Handle.{Handle}
 use Rattle.of_memory.specs.declared.saved.Saved.{Saved}
 use Rattle.of_memory.specs.History.{HistoryEntry, Made, no_made, Replied, Spent, store_after, IsOneOf}
 use Rattle.of_memory.specs.Called.{made_with}
-use Rattle.of_memory.specs.Handles.{HasOpen, MakesCall, OpensOnly}
+use Rattle.of_memory.specs.Handles.{HasOpen, MakesCall, OpensOnly, number_of_handle}
 use Rattle.of_memory.specs.Memories.{HasMadeOf, HasOpenOf, HasNoneOpen, HasHistory, IsStill, callers_of}
 use Rattle.of_memory.specs.Saving.{SavedHolds}
 use Rattle.of_memory.specs.Tasks.{TaskWork, HasWorkedAs, HaveWorked, KnowsRest}
@@ -32,7 +32,7 @@ none_yet m none idle n lt = record {
   made = [];
   has = none n lt;
   all = λ i d low. absurd (omega (arith, low));
-  open_call = λ script opened. absurd (idle n script opened);
+  open_call = λ script opened. absurd (idle n _ opened.opened);
 }
 
 module _ {J : Type 0} (Does : TaskWork J) (does : (x y : J) (h k : Handle) → Does x h y k → OnlyTakes h k) (m k : Memory) (still : IsStill m k) (queue : IsForWorkers m) where
@@ -46,7 +46,7 @@ module _ {J : Type 0} (Does : TaskWork J) (does : (x y : J) (h k : Handle) → D
         open_call = λ script opened. b.open_call script (subst (λ (i : ℕ). HasOpenOf m i script) w.number (w.knew.open_call script opened));
       } in
       let after = does x y w.begun w.left w.worked.done before in
-      let at : w.left.number ≡ n = w.worked.same.number ∙ w.number in
+      let at : number_of_handle w.left ≡ n = w.worked.same.number ∙ w.number in
       record {
         made = after.made;
         has = subst (λ (i : ℕ). HasMadeOf k i after.made) at (w.knows.made after.made after.has);
@@ -69,18 +69,19 @@ module _ {J : Type 0} (Does : TaskWork J) (does : (x y : J) (h k : Handle) → D
 
 -- ---- a call of a worker
 
-all_take : (script : List Instr) (r : Result Answer RunErr) (ms : List Made) → TakesJob script → AllTake ms → AllTake (made_with script r ms)
-all_take script (Ok a) ms takes all = All-push (λ (m : Made). TakesJob m.script) ms (record { script = script; ended = Replied (reply_value_of a.reply) }) all takes
+all_take : (script : List Instr) (r : Result Answer RunError) (ms : List Made) → TakesJob script → AllTake ms → AllTake (made_with script r ms)
+all_take script (Ok a) ms takes all = All-push (λ (m : Made). TakesJob m.script) ms (record { script = script; ended = Replied (reply_value_of a.reply) a.seq a.steps a.announced }) all takes
 all_take script (Err (Stopped asked)) ms takes all = all
-all_take script (Err (NoneLeft seq)) ms takes all = All-push (λ (m : Made). TakesJob m.script) ms (record { script = script; ended = Spent }) all takes
-all_take script (Err Open) ms takes all = all
+all_take script (Err (NoneLeft seq)) ms takes all = All-push (λ (m : Made). TakesJob m.script) ms (record { script = script; ended = Spent seq }) all takes
+all_take script (Err InCall) ms takes all = all
+all_take script (Err NoCall) ms takes all = all
 all_take script (Err NoTicket) ms takes all = all
 
 open_takes : (h : Handle) (script s : List Instr) → TakesJob script → HasTaken h → (s ≡ script) ⊎ HasOpen h s → TakesJob s
 open_takes h script s takes taken (inl is) = subst TakesJob (sym is) takes
 open_takes h script s takes taken (inr before) = taken.open_call s before
 
-pub takes_on : (script : List Instr) (r : Result Answer RunErr) (h k : Handle) → TakesJob script → MakesCall script r h k → OpensOnly script h k → OnlyTakes h k
+pub takes_on : (script : List Instr) (r : Result Answer RunError) (h k : Handle) → TakesJob script → MakesCall script r h k → OpensOnly script h k → OnlyTakes h k
 takes_on script r h k takes makes only taken = record {
   made = made_with script r taken.made;
   has = makes taken.made taken.has;

@@ -5,8 +5,8 @@ use Rattle.of_script.specs.Language.{IsScript, instr_word}
 use Rattle.of_script.specs.Text.{SpellsScript}
 use Rattle.of_plan.specs.declared.answer.Answer.{Answer}
 use Rattle.of_memory.specs.declared.handle.Handle.{Handle}
-use Rattle.of_memory.specs.declared.error.RunErr.{RunErr}
-use Rattle.of_memory.specs.declared.error.RunErr.TheVariants.{Stopped, Spent, Open, NoTicket}
+use Rattle.of_cells.specs.declared.error.RunError.{RunError}
+use Rattle.of_cells.specs.declared.error.RunError.TheVariants.{Stopped, Spent, InCall, NoCall, NoTicket}
 use Rattle.of_memory.specs.Called.{LeavesAsItWas}
 use Rattle.of_memory.specs.Handles.{IsSame, MakesCall, StaysOpenOnlyIfStopped, RefusesCall, OpensOnly}
 use Rattle.of_memory.specs.Handles.{ResumesCall, OpenCallStays, RefusesToGoOn, OpensNone}
@@ -25,11 +25,12 @@ step_limit steps = if steps == 18446744073709551615 then None else Some steps
 
 -- The code and the reply tell what a call has come to. The open code tells that a call is open that
 -- must not be, or that none is.
-abbrev pub Tells : (open_code : ℕ) → Result Answer RunErr → (code : ℕ) → CReply → Type 0
+abbrev pub Tells : (open_code : ℕ) → Result Answer RunError → (code : ℕ) → CReply → Type 0
 Tells o (Ok a) code r = (code ≡ DONE) × ShowsAnswer a r
 Tells o (Err (Stopped asked)) code r = (code ≡ STOPPED) × (r.steps ≡ asked)
 Tells o (Err (Spent seq)) code r = (code ≡ SPENT) × (r.seq ≡ seq)
-Tells o (Err Open) code r = code ≡ o
+Tells o (Err InCall) code r = code ≡ o
+Tells o (Err NoCall) code r = code ≡ o
 Tells o (Err NoTicket) code r = code ≡ NO_TICKET
 
 -- Unless the call was answered, the reply is as it was: if it was stopped but for the steps, and if
@@ -45,7 +46,7 @@ ShowsPlaceAlone before now = now ≡ record before { place = now.place }
 
 -- a call of this script has come to this, and the handle to that
 pub record CallsScript (script : List Instr) (stop : Option ℕ) (h : Handle)
-    (a : Result Answer RunErr) (k : Handle) : Type 0 where
+    (a : Result Answer RunError) (k : Handle) : Type 0 where
   pub same : IsSame h k
   pub made : MakesCall script a h k
   pub open_call : StaysOpenOnlyIfStopped script a k
@@ -56,7 +57,7 @@ pub record CallsScript (script : List Instr) (stop : Option ℕ) (h : Handle)
   pub only : OpensOnly script h k
 
 -- so has the call that was open
-pub record GoesOn (stop : Option ℕ) (h : Handle) (a : Result Answer RunErr) (k : Handle)
+pub record GoesOn (stop : Option ℕ) (h : Handle) (a : Result Answer RunError) (k : Handle)
     : Type 0 where
   pub same : IsSame h k
   pub made : ResumesCall a h k
@@ -69,14 +70,14 @@ pub record GoesOn (stop : Option ℕ) (h : Handle) (a : Result Answer RunErr) (k
 
 -- what a call does with a handle
 abbrev pub CallWork : Type 1
-CallWork = Handle → Result Answer RunErr → Handle → Type 0
+CallWork = Handle → Result Answer RunError → Handle → Type 0
 
 -- the caller is held still, and the code and the reply tell what the call has come to
 pub record HasCalled (Does : CallWork) (open_code : ℕ) (h : Handle) (now : Held) (reply : CReply)
     (code : ℕ) : Type 0 where
   pub handle : Handle
   pub held : HasHandle now handle
-  pub answer : Result Answer RunErr
+  pub answer : Result Answer RunError
   pub tells : Tells open_code answer code reply
   pub does : Does h answer handle
 

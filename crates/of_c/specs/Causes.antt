@@ -6,8 +6,8 @@ use Rattle.of_mem.specs.declared.work.TheConstants.{MOST_CALLERS}
 use Rattle.of_mem.specs.declared.plot.TheConstants.{MOST_BLOCKS}
 use Rattle.of_memory.specs.declared.memory.Memory.{Memory as TheMemory}
 use Rattle.of_memory.specs.declared.saved.Saved.{Saved as TheSaved}
-use Rattle.of_memory.specs.declared.error.WordsErr.{WordsErr}
-use Rattle.of_memory.specs.declared.error.WordsErr.TheVariants.{OutOfMemory, Callers, Blocks, Limit, Count, Unlawful, PastLimit}
+use Rattle.of_memory.specs.declared.error.WordsError.{WordsError}
+use Rattle.of_memory.specs.declared.error.WordsError.TheVariants.{OutOfMemory, Callers, Blocks, Limit, Count, Unlawful, PastLimit}
 use Rattle.of_memory.specs.Memories.{IsStill, callers_of}
 use Rattle.of_memory.specs.Saving.{saved_callers}
 use Rattle.of_memory.specs.Tasks.{KnowsSame}
@@ -68,7 +68,7 @@ HasNoNumber n m = callers_of m ≤ n
 
 -- a caller of this number is enrolled
 abbrev pub IsEnrolled : ℕ → TheMemory → Type 0
-IsEnrolled n m = get_or m.callers.items n None ≡ None
+IsEnrolled n m = get_or m.cells.callers.items n None ≡ None
 
 -- it is the same memory still, and knows of every number what it knew
 pub record KnowsAll (m k : TheMemory) : Type 0 where
@@ -123,7 +123,7 @@ abbrev pub HasCellAtFault : (callers blocks : ℕ) → List ℕ → Type 0
 HasCellAtFault callers blocks words = (cell : ℕ) × IsFaultIn callers blocks words cell
 
 -- the code of why nothing is found in words
-abbrev pub words_code : WordsErr → ℕ
+abbrev pub words_code : WordsError → ℕ
 words_code OutOfMemory = NO_MEMORY
 words_code (Callers k) = RANGE
 words_code (Blocks k) = RANGE

@@ -2,8 +2,8 @@
 use Rattle.std.specs.Prelude.{◌≡◌, ◌≢◌, ℕ, List, length, slice_range, Option}
 use Rattle.of_cell.specs.declared.word.TheConstants.{GREATEST_LIMIT}
 use Rattle.of_memory.specs.declared.saved.Saved.{Saved}
-use Rattle.of_memory.specs.declared.error.ImageTextErr.{ImageTextErr}
-use Rattle.of_memory.specs.declared.error.ImageTextErr.TheVariants.{OutOfMemory, Bad, Unlawful, PastLimits}
+use Rattle.of_memory.specs.declared.error.ImageTextError.{ImageTextError}
+use Rattle.of_memory.specs.declared.error.ImageTextError.TheVariants.{OutOfMemory, Bad, Unlawful, PastLimits}
 use Rattle.of_memory.specs.Saving.{IsSaved, saved_limit}
 use Rattle.of_memory.specs.Texts.{IsTextOfSaved, TextHolds, IsReadBack}
 use Rattle.of_c.specs.declared.codes.TheConstants.{DONE, NO_IMAGE, NO_MEMORY, NO_ROOM}
@@ -40,7 +40,7 @@ abbrev pub IsOfNoneSaved : List ℕ → Type 0
 IsOfNoneSaved text = (d : Saved) → IsSaved d → TextHolds text d → ⊥
 
 -- the code of why nothing is read from a text
-abbrev pub fault_code : ImageTextErr → ℕ
+abbrev pub fault_code : ImageTextError → ℕ
 fault_code OutOfMemory = NO_MEMORY
 fault_code (Bad line) = NO_IMAGE
 fault_code (Unlawful cell) = NO_IMAGE

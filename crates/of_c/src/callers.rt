@@ -12,7 +12,7 @@ use crate::held::{Held, Seat};
 use crate::reply::CReply;
 use crate::slot::Slot;
 use crate::truth::{OfHandle, surely};
-use of_memory::{Answer, Handle, Instr, RunErr, Script, ScriptErr, parse};
+use of_memory::{Answer, Handle, Instr, RunError, Script, ScriptErr, parse};
 use of_script::from_words_into;
 use std::alloc::Global;
 
@@ -26,7 +26,7 @@ fn limit_of(steps: u64) -> Option<u64>
 // The code of what a call has come to, which the reply tells. `open_code` is the code if a call is
 // open that must not be, or none is. If it weren't inlined, the answer would be moved for it first.
 #[inline(always)]
-fn code_of(ended: &Result<Answer, RunErr>, open_code: u32, reply: &mut CReply) -> u32
+fn code_of(ended: &Result<Answer, RunError>, open_code: u32, reply: &mut CReply) -> u32
     ensures tells { Tells open_code ended.now result reply.new }
     ensures stays { LeavesReply result reply.old reply.new }
 {
@@ -35,22 +35,23 @@ fn code_of(ended: &Result<Answer, RunErr>, open_code: u32, reply: &mut CReply) -
             reply.tell(answer);
             DONE
         }
-        Err(RunErr::Stopped { asked }) => {
+        Err(RunError::Stopped { asked }) => {
             reply.steps = *asked;
             STOPPED
         }
-        Err(RunErr::Spent { seq }) => {
+        Err(RunError::Spent { seq }) => {
             reply.seq = *seq;
             SPENT
         }
-        Err(RunErr::Open) => open_code,
-        Err(RunErr::NoTicket) => NO_TICKET,
+        Err(RunError::InCall) => open_code,
+        Err(RunError::NoCall) => open_code,
+        Err(RunError::NoTicket) => NO_TICKET,
     }
 }
 
 impl Seat {
     // Runs a script to its answer.
-    fn run(&mut self, script: &Script) -> Result<Answer, RunErr>
+    fn run(&mut self, script: &Script) -> Result<Answer, RunError>
         ensures { CallsScript script.now None self.old.handle result self.new.handle }
     {
         surely::<Handle, OfHandle>(&self.handle);
@@ -58,7 +59,7 @@ impl Seat {
     }
 
     // Runs a script, for at most so many steps.
-    fn run_within(&mut self, script: &Script, steps: u64) -> Result<Answer, RunErr>
+    fn run_within(&mut self, script: &Script, steps: u64) -> Result<Answer, RunError>
         ensures { CallsScript script.now (Some steps) self.old.handle result self.new.handle }
     {
         surely::<Handle, OfHandle>(&self.handle);
@@ -66,7 +67,7 @@ impl Seat {
     }
 
     // Goes on with the open call, for at most so many steps.
-    fn go_on(&mut self, limit: Option<u64>) -> Result<Answer, RunErr>
+    fn go_on(&mut self, limit: Option<u64>) -> Result<Answer, RunError>
         ensures { GoesOn limit self.old.handle result self.new.handle }
     {
         surely::<Handle, OfHandle>(&self.handle);

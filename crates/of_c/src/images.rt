@@ -11,7 +11,7 @@ use crate::codes::{DONE, EMPTY, FULL, NO_IMAGE, NO_MEMORY, NO_ROOM};
 use crate::held::{Held, Kept};
 use crate::slot::Slot;
 use crate::truth::{OfSaved, surely};
-use of_memory::{ImageTextErr, Saved};
+use of_memory::{ImageTextError, Saved};
 use std::alloc::Global;
 
 // The text of what is held, or a code.
@@ -88,14 +88,14 @@ pub extern "C" fn of_c_image(
 }
 
 // The code of why nothing is read from a text.
-fn code_of_fault(fault: ImageTextErr) -> u32
+fn code_of_fault(fault: ImageTextError) -> u32
     ensures { result ≡ fault_code fault }
 {
     match fault {
-        ImageTextErr::OutOfMemory => NO_MEMORY,
-        ImageTextErr::Bad { line: _ } => NO_IMAGE,
-        ImageTextErr::Unlawful { cell: _ } => NO_IMAGE,
-        ImageTextErr::PastLimits { seq: _ } => NO_IMAGE,
+        ImageTextError::OutOfMemory => NO_MEMORY,
+        ImageTextError::Bad { line: _ } => NO_IMAGE,
+        ImageTextError::Unlawful { cell: _ } => NO_IMAGE,
+        ImageTextError::PastLimits { seq: _ } => NO_IMAGE,
     }
 }
 

@@ -16,7 +16,7 @@ use crate::held::{Held, Home, Kept, Seat};
 use crate::pair::Pair;
 use crate::slot::Slot;
 use crate::truth::{OfHandle, OfMemory, OfPair, OfSaved, surely};
-use of_memory::{EnrolErr, Handle, InUse, Memory, OpenErr, Saved};
+use of_memory::{EnrolError, Handle, InUse, Memory, OpenError, Saved};
 use std::alloc::Global;
 
 /// An empty memory: 1 to 16 callers, at most 512 blocks, sequences up to a limit.
@@ -39,7 +39,7 @@ pub extern "C" fn of_c_open(
     }
     match Memory::open(alloc, callers, blocks, limit) {
         Ok(opened) => memory.keep(alloc, Held::Memory(Home { memory: opened })),
-        Err(OpenErr::OutOfMemory(_)) => NO_MEMORY,
+        Err(OpenError::OutOfMemory(_)) => NO_MEMORY,
         Err(_) => RANGE,
     }
 }
@@ -106,9 +106,9 @@ fn enrol_held(held: &mut Held, number: u32, mut place: Box<Held, Global>, caller
                     caller.put(place);
                     DONE
                 }
-                Err(EnrolErr::OutOfMemory(_)) => NO_MEMORY,
-                Err(EnrolErr::NoCaller { number: _ }) => RANGE,
-                Err(EnrolErr::Enrolled { number: _ }) => TAKEN,
+                Err(EnrolError::OutOfMemory(_)) => NO_MEMORY,
+                Err(EnrolError::NoCaller { number: _ }) => RANGE,
+                Err(EnrolError::Enrolled { number: _ }) => TAKEN,
             }
         }
         _ => EMPTY,

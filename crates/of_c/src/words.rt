@@ -15,7 +15,7 @@ use crate::codes::{DONE, EMPTY, FULL, NO_MEMORY, NO_START, RANGE};
 use crate::held::{Held, Kept};
 use crate::slot::Slot;
 use crate::truth::{OfSaved, surely};
-use of_memory::{LimitErr, Saved, WordsErr, sizes};
+use of_memory::{LimitError, Saved, WordsError, sizes};
 use std::alloc::Global;
 use std::mem::replace;
 
@@ -49,17 +49,17 @@ pub extern "C" fn of_c_sizes(callers: u32, blocks: u32, shown: &mut CSizes) -> u
 }
 
 // The code of why nothing is found in words.
-fn code_of_words(cause: WordsErr) -> u32
+fn code_of_words(cause: WordsError) -> u32
     ensures { result ≡ words_code cause }
 {
     match cause {
-        WordsErr::OutOfMemory => NO_MEMORY,
-        WordsErr::Callers { callers: _ } => RANGE,
-        WordsErr::Blocks { blocks: _ } => RANGE,
-        WordsErr::Limit { limit: _ } => RANGE,
-        WordsErr::Count { count: _ } => RANGE,
-        WordsErr::Unlawful { cell: _ } => NO_START,
-        WordsErr::PastLimit { seq: _ } => RANGE,
+        WordsError::OutOfMemory => NO_MEMORY,
+        WordsError::Callers { callers: _ } => RANGE,
+        WordsError::Blocks { blocks: _ } => RANGE,
+        WordsError::Limit { limit: _ } => RANGE,
+        WordsError::Count { count: _ } => RANGE,
+        WordsError::Unlawful { cell: _ } => NO_START,
+        WordsError::PastLimit { seq: _ } => RANGE,
     }
 }
 
@@ -150,7 +150,7 @@ fn limit_held(held: &mut Held, limit: u32) -> u32
                     *held = Held::Saved(Kept { saved });
                     DONE
                 }
-                Err(LimitErr(saved)) => {
+                Err(LimitError(saved)) => {
                     *held = Held::Saved(Kept { saved });
                     RANGE
                 }

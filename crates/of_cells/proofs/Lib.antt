@@ -7,5 +7,5 @@ pub mod Holding
 pub mod Still
 pub mod Renumbering
 mod Meant
-mod Handing
+pub mod Handing
 mod AnyMoment

@@ -223,3 +223,8 @@ IsEnrolCause m n (Enrolled k) = (k ≡ n) × (get_or m.callers.items n None ≡ 
 abbrev pub IsOpenCause : (limit : ℕ) → OpenError → Type 0
 IsOpenCause limit (NoRoom e) = Unit {0}
 IsOpenCause limit (Limit k) = (k ≡ limit) × ((limit ≡ 0) ⊎ (GREATEST_LIMIT < limit))
+
+-- sequences may have this limit
+pub record IsLimit (limit : ℕ) : Type 0 where
+  pub some : 1 ≤ limit
+  pub few : limit ≤ GREATEST_LIMIT

@@ -36,6 +36,10 @@ saved_limit d = d.limit
 abbrev pub saved_cells : {W : Type 0} → SavedCells W → List ℕ
 saved_cells d = map payload_of (start_on d.shape d.row.items).cells
 
+-- its durable words, recovered
+abbrev pub saved_words : {W : Type 0} → SavedCells W → List ℕ
+saved_words d = d.row.items
+
 -- how many calls of a caller it holds
 abbrev pub saved_ticket : {W : Type 0} → SavedCells W → ℕ → ℕ
 saved_ticket d n = get_or (saved_cells d) (ticket_cell_at MOST_INSTRS n) 0

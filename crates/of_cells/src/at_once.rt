@@ -117,8 +117,8 @@ impl<W: Work> CellMemory<W> {
         }
     }
 
-    // Hands out a handle for each task, the last one first. At an error the first tasks are left.
-    fn hand_out<J: CellTask<W> + Drop>(
+    /// Hands out a handle for each task, the last one first. At an error the first tasks are left.
+    pub fn hand_out<J: Drop>(
         &mut self,
         tasks: &mut Vec<J>,
         slots: &mut Vec<Option<(CellHandle<W>, J)>>,
@@ -148,8 +148,8 @@ impl<W: Work> CellMemory<W> {
         Ok(())
     }
 
-    // The handles leave, and the tasks come behind those that are there, the last one first.
-    fn take_back<J: CellTask<W> + Drop>(
+    /// The handles leave, and the tasks come after those that are there, the last one first.
+    pub fn take_back<J: Drop>(
         &mut self,
         mut slots: Vec<Option<(CellHandle<W>, J)>>,
         tasks: &mut Vec<J>,

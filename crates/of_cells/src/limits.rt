@@ -26,6 +26,7 @@ impl<W: Work> SavedCells<W> {
     ghost use Rattle.std.specs.Prelude.{◌≡◌, IfOk, IfErr, OnErr};
     ghost use Rattle.of_cells.specs.Saving.{IsSavedCells, SavesSame, IsNoLimitOf};
     ghost use Rattle.of_cells.specs.Saving.{saved_limit, saved_seq};
+    ghost use Rattle.of_cells.specs.Memories.{IsLimit};
 
     /// The last sequence that was committed in it.
     pub fn seq(&self) -> u32
@@ -45,6 +46,7 @@ impl<W: Work> SavedCells<W> {
         ensures limit { IfOk result (λ d. saved_limit d ≡ limit) }
         ensures refused { IfErr result (λ e. e.0 ≡ self) }
         ensures cause { OnErr result (IsNoLimitOf self limit) }
+        ensures within { IfOk result (λ d. IsLimit limit) }
     {
         if limit == 0 || limit > GREATEST_LIMIT || limit < self.seq() {
             return Err(LimitError(self));

@@ -50,7 +50,7 @@ impl<W: Work> CellMemory<W> {
     ghost use Rattle.of_cells.specs.Memories.{KnowsOthers, OthersStayOpen, HasHistory};
     ghost use Rattle.of_cells.specs.Memories.{IsOpenCause, IsEnrolCause, HasMadeNothing};
     ghost use Rattle.of_cells.specs.Memories.{TakesOut, TakesNone, PutsCaller, OthersKnowOrder};
-    ghost use Rattle.of_cells.specs.Memories.{RemembersAll, SavesOwnCells, events_heard};
+    ghost use Rattle.of_cells.specs.Memories.{RemembersAll, SavesOwnCells, IsLimit, events_heard};
     ghost use Rattle.of_cells.specs.Telling.{KnowsOrdersOf, HearsMemory};
     ghost use Rattle.of_cells.specs.Serving.{events_known_to};
     ghost use mathlib.Core.List.{IsPrefix};
@@ -62,6 +62,7 @@ impl<W: Work> CellMemory<W> {
         ensures work { IfOk result (λ m. work_of m ≡ work) }
         ensures callers { IfOk result (λ m. callers_of m ≡ W.many work) }
         ensures limit { IfOk result (λ m. limit_of m ≡ limit) }
+        ensures within { IfOk result (λ m. IsLimit limit) }
         ensures size { IfOk result (λ m. cell_count_of m ≡ W.size work) }
         ensures zeros { IfOk result (λ m. cells_before W.meaning m ≡ replicate (W.size work) 0) }
         ensures lawful { IfOk result (BeganLawful W.size W.meaning W.lawful) }

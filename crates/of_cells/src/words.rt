@@ -32,7 +32,8 @@ pub fn sizes<W: Work>(work: W) -> TableSizes
 }
 
 impl<W: Work> SavedCells<W> {
-    ghost use Rattle.of_cells.specs.Saving.{IsSavedCells, saved_limit};
+    ghost use Rattle.std.specs.Prelude.{◌≡◌};
+    ghost use Rattle.of_cells.specs.Saving.{IsSavedCells, saved_limit, saved_words};
     ghost use Rattle.of_cells.specs.Words.{IsStartFor, AreDurableWords, IsSavedRow, WordsHold};
     ghost use Rattle.of_cells.specs.Words.{IsWordsCause};
 
@@ -71,6 +72,13 @@ impl<W: Work> SavedCells<W> {
         Ok(SavedCells::of_recovered(work, limit, row))
     }
 
+    /// Its durable words, recovered.
+    pub fn words(&self) -> &[u64]
+        ensures { result.now ≡ saved_words self.now }
+    {
+        &self.row
+    }
+
     /// What a recovered row of durable words holds, with this limit: 1 to `GREATEST_LIMIT`. A table
     /// may start from the row, and recovery changes nothing of it.
     pub fn of_recovered(work: W, limit: u32, row: Vec<u64>) -> SavedCells<W>
@@ -78,6 +86,7 @@ impl<W: Work> SavedCells<W> {
         requires row { IsStartFor W.many W.size W.meaning W.lawful work limit row.items }
         ensures saved { IsSavedCells W.many W.size W.meaning W.lawful result }
         ensures row { IsSavedRow W.many W.size work row.items result }
+        ensures words { saved_words result ≡ row.items }
         ensures limit { saved_limit result ≡ limit }
     {
         SavedCells {

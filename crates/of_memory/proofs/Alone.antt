@@ -3,6 +3,7 @@ use Rattle.std.proofs.Common.{◌≡◌, ◌≢◌, ℕ, zero, suc, ◌+◌, ◌
 use Rattle.std.proofs.lemmas.Bool.{cases_lt}
 use Rattle.std.proofs.lemmas.List.{ext_get_or, get_or-map, length-map}
 use Rattle.of_script.specs.declared.instr.Instr.{Instr}
+use Rattle.of_script.specs.Language.{instr_word}
 use Rattle.of_store.specs.Store.{Store, run, last_store}
 use Rattle.of_memory.specs.declared.memory.Memory.{Memory}
 use Rattle.of_memory.specs.declared.saved.Saved.{Saved}
@@ -54,8 +55,8 @@ abbrev IsEntryOf : List HistoryEntry → (caller ticket : ℕ) → List Instr �
 IsEntryOf h c t script = (p : ℕ) × (p < length h) × ((get_or h p no_history_entry).ticket ≡ t) × ((get_or h p no_history_entry).script ≡ script)
 
 entry_of : (h : List HistoryEntry) (c t : ℕ) (script : List Instr) (end : End) → EndsWithReply end → ExplainsEnd h c t script end → IsEntryOf h c t script
-entry_of h c t script (Replied r) is has = (has.0, has.1, ap (λ (e : HistoryEntry). e.ticket) has.2, ap (λ (e : HistoryEntry). e.script) has.2)
-entry_of h c t script Spent is has = absurd is
+entry_of h c t script (Replied r seq steps announced) is has = (has.0, has.1, ap (λ (e : HistoryEntry). e.ticket) has.2, ap (λ (e : HistoryEntry). e.script) has.2)
+entry_of h c t script (Spent seq) is has = absurd is
 
 module _ (m : Memory) (n : ℕ) (ms : List Made) (alone : HasMadeAlone m n ms) (s : Store) (d : Saved) (h : List HistoryEntry) (leads : LeadsTo m s d h) where
   abbrev t : ℕ
@@ -66,7 +67,7 @@ module _ (m : Memory) (n : ℕ) (ms : List Made) (alone : HasMadeAlone m n ms) (
 
   of_none : (i : ℕ) (e : HistoryEntry) → IsOneOf (tickets_before m i) [] (HasOpenOf m i) e → ⊥
   of_none i e (inl one) = omega (arith, one.1)
-  of_none i e (inr last) = alone.none_open i e.script last.1
+  of_none i e (inr last) = alone.none_open i (map instr_word e.script) last.1.opened
 
   stranger : (p : ℕ) → p < length h → (entry p).caller ≢ n → ⊥
   stranger p l ne =
@@ -84,7 +85,7 @@ module _ (m : Memory) (n : ℕ) (ms : List Made) (alone : HasMadeAlone m n ms) (
 
   in_range : (e : HistoryEntry) → IsOneOf t ms (HasOpenOf m n) e → (t + 1 ≤ e.ticket) × (e.ticket ≤ t + length ms)
   in_range e (inl one) = (omega (arith, one.2), omega (arith, one.1, one.2))
-  in_range e (inr last) = absurd (alone.none_open n e.script last.1)
+  in_range e (inr last) = absurd (alone.none_open n (map instr_word e.script) last.1.opened)
 
   range_at : (p : ℕ) → p < length h → (t + 1 ≤ (entry p).ticket) × ((entry p).ticket ≤ t + length ms)
   range_at p l = in_range (entry p) (leads.only n ms alone.made p no_history_entry l (mine p l))

@@ -26,7 +26,7 @@ use Rattle.of_script.proofs.WordLaws.{words_injective}
 use Rattle.of_eval.specs.Lawful.{reply_in, reply_number, OwnCellsAreSound}
 use Rattle.of_eval.proofs.ReadsOnly.{reads_of}
 use Rattle.of_caller.proofs.StoresHeld.{has_reply}
-use Rattle.of_core.specs.Linear.{recovered_number, FindsCall}
+use Rattle.of_core.specs.Linear.{ExplainsOutcome, recovered_number, FindsCall}
 use Rattle.of_store.specs.Store.{Store}
 use Rattle.of_eval.specs.declared.scripts.Scripts.{Scripts}
 use Rattle.of_eval.specs.Scripts.{store_at, scripts_data_cells, LawfulCells, scripts_meaning, script_reads}
@@ -34,7 +34,7 @@ use Rattle.of_eval.specs.Stored.{cell_store}
 use Rattle.of_core.specs.Table.{Setup, cell_count, words_before_members, durable_at, durable_word, durable_seq, ticket_cell, shape_cell, reply_cell}
 use Rattle.of_core.specs.Machine.{Call, CallState, no_call, is_idle, IsOpen}
 use Rattle.of_core.specs.TableMoment.{Moment, TableStart}
-use Rattle.of_core.specs.History.{numbers_after_calls, data_word_after, last_ticket_by, batch_at, IsCellOfCaller, IsNewestCall, SameWhereMarked}
+use Rattle.of_core.specs.History.{CallsHaveReplies, numbers_after_calls, data_word_after, last_ticket_by, batch_at, IsCellOfCaller, IsNewestCall, SameWhereMarked}
 use Rattle.of_core.specs.Events.{Event, start_ticket}
 use Rattle.of_core.specs.Calls.{operations_begun}
 use Rattle.of_core.specs.Starts.{IsDurable, IsStartRow, start_from_durable, recovered_start}
@@ -52,10 +52,16 @@ use Rattle.of_caller.proofs.StoresReplay.{number_at, state_start}
 use Rattle.of_caller.proofs.StoresRecovered.{stand_same}
 use Rattle.of_memory.specs.History.{HistoryEntry, no_history_entry, Made, no_made, store_after, IsOneOf, ScriptOnlyReads, IsUpTo}
 use Rattle.of_memory.specs.Calls.{IsScriptOperation, IsMade, AreMade, RunsScripts}
-use Rattle.of_memory.specs.Times.{calls_ended_in, calls_begun_in}
-use Rattle.of_memory.specs.Laws.{setup_with, StandsAt, HoldsLastReplies, KeepsSo, ExplainsKept, HasOpenScript, HasOnlyKept, TellsLast, RespectsEvents, HistoryLeads, HoldsHistory}
+use Rattle.of_cells.specs.Times.{calls_ended_in, calls_begun_in}
+use Rattle.of_cells.specs.Serving.{KeepsSo}
+use Rattle.of_cells.specs.Saving.{HasOpenOperation}
+use Rattle.of_cells.specs.History as generic
+use Rattle.of_core.specs.declared.place.Outcome.{Outcome}
+use Rattle.of_core.specs.declared.place.Outcome.TheVariants.{Answered, Spent}
+use Rattle.of_memory.specs.Rows.{StandsAt, HoldsLastReplies}
+use Rattle.of_memory.specs.Laws.{setup_with, ExplainsKept, HasOpenScript, HasOnlyKept, TellsLast, RespectsEvents, HistoryLeads, HoldsHistory}
 use Rattle.of_memory.specs.Moments.{EachRunsScripts, WordsHoldHistory}
-use Rattle.of_memory.proofs.Replaying.{sizes, Cells, AreScripts, IsEntryOf, entries, serial, long, leads, at, in_order, explains}
+use Rattle.of_memory.proofs.Replaying.{Cells, AreScripts, entries, serial, leads, in_order, explains_all, has_only, below, up_to, in_time, last_entry}
 
 -- ---- the operations that a kept caller has begun are scripts'
 
@@ -78,35 +84,9 @@ operations_are S B es n (x ∷ xs) (inl h) told =
     subst (λ (m : ℕ). All IsScriptOperation (operations_begun es m)) h.0 (subst (All IsScriptOperation) told.0.told.begun (begun_are x h.1))
 operations_are S B es n (x ∷ xs) (inr h) told = operations_are S B es n xs h told.1
 
--- ---- calls that are kept, as calls of scripts
-
-made_at : (es : List EndedCall) (ms : List Made) (y : ℕ) → AreMade es ms → y < length ms → (y < length es) × IsMade (get_or es y no_ended) (get_or ms y no_made)
-made_at [] [] y h l = absurd (omega arith)
-made_at [] (m ∷ ms) y h l = absurd h
-made_at (e ∷ es) [] y h l = absurd h
-made_at (e ∷ es) (m ∷ ms) zero h l = (omega arith, h.0)
-made_at (e ∷ es) (m ∷ ms) (suc y) h l = let r = made_at es ms y h.1 (omega arith) in (omega (arith, r.0), r.1)
-
 each_of : {P Q : KnownCaller → Type 0} → ((x : KnownCaller) → P x → Q x) → (xs : List KnownCaller) → Every P xs → Every Q xs
 each_of f [] h = tt
 each_of f (x ∷ xs) h = (f x h.0, each_of f xs h.1)
-
--- a script that may write is no operation that only reads
-may_write : (op : List ℕ) (script : List Instr) → op ≡ map instr_word script → IsScript script → (ScriptOnlyReads script → ⊥) → script_reads op ≡ false
-may_write op script words is writes = go (script_reads op) refl
-  where
-    go : (b : Bool) → script_reads op ≡ b → script_reads op ≡ false
-    go false e = e
-    go true e =
-        let q = reads_of op e in
-        let same : q.0.script ≡ script = words_injective q.0.script script q.0.range is.in_range (q.0.words ∙ words) in
-        absurd (writes (subst ScriptOnlyReads same (All-from_recursion (λ (i : Instr). IsTrue (reads_only i)) q.0.script q.0.reads)))
-
-made_long : (es : List EndedCall) (ms : List Made) → AreMade es ms → length ms ≡ length es
-made_long [] [] h = refl
-made_long [] (m ∷ ms) h = absurd h
-made_long (e ∷ es) [] h = absurd h
-made_long (e ∷ es) (m ∷ ms) h = let r : length ms ≡ length es = made_long es ms h.1 in omega (arith, r)
 
 -- an operation that a kept caller has begun is one of those that have ended, or the open one
 begun_at : (x : KnownCaller) (b : Bool) → is_idle x.machine.place ≡ b → (k : ℕ) → k < length (map (λ (e : EndedCall). e.op) x.ended ++ open_operation x.machine b)
@@ -233,46 +213,38 @@ module _ (w : Scripts) (limit : ℕ) (start : StartsMeetInvariant (setup_with w 
         stands = stands_from (store_at w) w.blocks (memory_of ys) (memory_of (map payload_of C.cells)) same_cell (cell_store (store_after s h)) led.stored.stands;
       }
 
+      abbrev legal : CallsHaveReplies (scripts_meaning w) xs order
+      legal = lost.linearizes.legal
+
       -- the order explains how a kept caller's calls have ended, and so does the history
+      ends_as : (c t : ℕ) (op : List ℕ) (o : Outcome) → ExplainsOutcome S order c t op o → generic.ExplainsEnd order c t op o
+      ends_as c t op (Answered seq announced raw steps) e = record { place = e.place; among = e.among; caller_is = e.caller; ticket_is = e.ticket; words = e.same; reply = e.reply }
+      ends_as c t op (Spent seq) e = e
+
       explained : (x : KnownCaller) → ExplainsEndedCalls S B order x → ExplainsKept S B h x
-      explained x all ms made y l =
-          let at = made_at x.ended ms y made l in
-          explains w limit order xs s are_scripts started lost.linearizes.legal (get_or x.ended y no_ended).outcome (get_or ms y no_made).ended
-          x.machine.caller (own_ticket S B x y) (get_or x.ended y no_ended).op (get_or ms y no_made).script at.1.script at.1.words at.1.ended (all y at.0)
+      explained x all ms made =
+          explains_all w order xs s are_scripts started legal x.machine.caller (done_before S B x.machine.caller) x.ended ms made
+          (λ y l. ends_as x.machine.caller (own_ticket S B x y) (get_or x.ended y no_ended).op (get_or x.ended y no_ended).outcome (all y l))
 
-      entry_of : (y : ℕ) → y < length h → IsEntryOf w (get_or order y no_call) (get_or h y no_history_entry)
-      entry_of y l = at w limit order xs s are_scripts started lost.linearizes.legal y l
-
-      -- each entry of a kept caller is one of its calls
-      owned : (x : KnownCaller) → IsRunBy S B lost.events x → HasOnlyKept S B h x
-      owned x told ms made = All-from_get_or (λ (e : HistoryEntry). e.caller ≡ x.machine.caller → IsOneOf (done_before S B x.machine.caller) ms (HasOpenScript x) e) h no_history_entry (λ y l mine.
+      -- each call of a kept caller is one that it has begun
+      begun_only : (x : KnownCaller) → IsRunBy S B lost.events x → generic.HasOnly order x.machine.caller (done_before S B x.machine.caller) x.ended (HasOpenOperation x)
+      begun_only x told = All-from_get_or (λ (e : Call). e.caller ≡ x.machine.caller → generic.IsOneOf (done_before S B x.machine.caller) x.ended (HasOpenOperation x) e) order no_call (λ y l mine.
           let c : Call = get_or order y no_call in
-          let e : HistoryEntry = get_or h y no_history_entry in
-          let is = entry_of y l in
-          let own : c.caller ≡ x.machine.caller = sym is.caller ∙ mine in
-          let b = (lost.linearizes.begun y no_call (subst (λ (n : ℕ). y < n) (long w s order are_scripts) l)).1 refl in
+          let b = (lost.linearizes.begun y no_call l).1 refl in
           let st : ℕ = done_before S B x.machine.caller in
-          let same_ops : operations_begun lost.events c.caller ≡ operations_known x = ap (operations_begun lost.events) own ∙ sym told.told.begun in
-          let start_is : start_ticket S B c.caller ≡ st = ap (start_ticket S B) own in
+          let same_ops : operations_begun lost.events c.caller ≡ operations_known x = ap (operations_begun lost.events) mine ∙ sym told.told.begun in
+          let start_is : start_ticket S B c.caller ≡ st = ap (start_ticket S B) mine in
           let op : c.op ≡ get_or (operations_known x) (c.ticket - st - 1) [] = b.2 ∙ (λ i. get_or (same_ops i) (c.ticket - start_is i - 1) []) in
           let low : st < c.ticket = omega (arith, b.0, start_is) in
           let high : c.ticket - st - 1 < length (operations_known x) = omega (arith, b.0, b.1, start_is, ap length same_ops) in
-          let many : length ms ≡ length x.ended = made_long x.ended ms made in
           elim (begun_at x (is_idle x.machine.place) refl (c.ticket - st - 1) high) [
-            | inl before ↦
-                let one = made_at x.ended ms (c.ticket - st - 1) made (omega (arith, before.0, many)) in
-                inl (
-                  c.ticket - st - 1,
-                  omega (arith, before.0, many),
-                  omega (arith, is.ticket, low),
-                  words_injective e.script (get_or ms (c.ticket - st - 1) no_made).script is.script.in_range one.1.script.in_range (sym is.words ∙ op ∙ before.1 ∙ one.1.words),
-                )
-            | inr last ↦ inr (omega (arith, is.ticket, low, last.0, many), (last.1, is.script, sym last.2 ∙ sym op ∙ is.words))
+            | inl before ↦ inl (c.ticket - st - 1, before.0, omega (arith, low), op ∙ before.1)
+            | inr last ↦ inr (omega (arith, low, last.0), (last.1, sym last.2 ∙ sym op))
           ])
 
-      below : All (λ (e : HistoryEntry). e.caller < w.callers) h
-      below = All-from_get_or (λ (e : HistoryEntry). e.caller < w.callers) h no_history_entry (λ y l.
-          subst (λ (n : ℕ). n < w.callers) (sym (entry_of y l).caller) (lost.linearizes.begun y no_call (subst (λ (n : ℕ). y < n) (long w s order are_scripts) l)).0)
+      owned : (x : KnownCaller) → IsRunBy S B lost.events x → HasOnlyKept S B h x
+      owned x told ms made =
+          has_only w order xs s are_scripts started legal x.machine.caller (done_before S B x.machine.caller) x.ended ms made (HasOpenOperation x) (HasOpenScript x) (λ script is opened. (is, opened)) (begun_only x told)
 
       module _ (n : ℕ) (low : n < w.callers) where
         ticket_low : ticket_cell_at MOST_INSTRS n < scripts_data_cells w
@@ -281,8 +253,6 @@ module _ (w : Scripts) (limit : ℕ) (start : StartsMeetInvariant (setup_with w 
         found_last : (y : ℕ) → y < length order → (get_or order y no_call).caller ≡ n → FindsCall S (words_alone st.words) (get_or order y no_call) → TellsLast S B C h n
         found_last y among mine finds =
             let c : Call = get_or order y no_call in
-            let l : y < length h = subst (λ (k : ℕ). y < k) (sym (long w s order are_scripts)) among in
-            let is = entry_of y l in
             let raw : RawReply = reply_in MOST_INSTRS (memory_of (map payload_of C.cells)) n in
             let shape : raw.shape ≡ c.raw.shape = number_found (shape_at MOST_INSTRS n) (omega (arith, low)) ∙ ap (λ (i : ℕ). recovered_number S (words_alone st.words) (shape_cell S i)) (sym mine) ∙ finds.shape in
             let same : SameWhereMarked S raw c.raw = (
@@ -294,13 +264,9 @@ module _ (w : Scripts) (limit : ℕ) (start : StartsMeetInvariant (setup_with w 
                   ∙ ap (λ (i : ℕ). recovered_number S (words_alone st.words) (reply_cell S i j)) (sym mine)
                   ∙ finds.replies j k (ap (λ (x : ℕ). is_marked x j) (sym shape) ∙ mark),
             ) in
-            inr (
-              get_or h y no_history_entry,
-              (y, l, refl),
-              is.caller ∙ mine,
-              is.ticket ∙ sym finds.ticket ∙ ap (λ (i : ℕ). recovered_number S (words_alone st.words) (ticket_cell S i)) mine ∙ recovered_at (ticket_cell_at MOST_INSTRS n) ticket_low,
-              has_reply (sizes w limit) raw (length c.op) (get_or h y no_history_entry).reply is.some is.few is.fits (subst (SameWhereMarked S raw) is.raw same),
-            )
+            inr (last_entry w order xs s are_scripts started legal y among n (done_before S C n) mine
+            (sym finds.ticket ∙ ap (λ (i : ℕ). recovered_number S (words_alone st.words) (ticket_cell S i)) mine ∙ recovered_at (ticket_cell_at MOST_INSTRS n) ticket_low)
+            raw same)
 
         tells_last : TellsLast S B C h n
         tells_last = elim (lost.recovered_so.own n low).last [
@@ -350,41 +316,36 @@ module _ (w : Scripts) (limit : ℕ) (start : StartsMeetInvariant (setup_with w 
           | inr q ↦ new_own q tells_last
         ]
 
-        up_to : IsUpTo h n (done_before S C n)
-        up_to = All-from_get_or (λ (e : HistoryEntry). e.caller ≡ n → (ScriptOnlyReads e.script → ⊥) → e.ticket ≤ done_before S C n) h no_history_entry (λ y l mine writes.
-            let c : Call = get_or order y no_call in
-            let is = entry_of y l in
-            let among : y < length order = subst (λ (k : ℕ). y < k) (long w s order are_scripts) l in
-            let few = (lost.recovered_so.own n low).upto y no_call among (sym is.caller ∙ mine) (may_write c.op (get_or h y no_history_entry).script is.words is.script writes) in
+        upto : IsUpTo h n (done_before S C n)
+        upto = up_to w order xs s are_scripts started legal n (done_before S C n) (λ y x l mine reads.
+            let few = (lost.recovered_so.own n low).upto y x l mine reads in
             let at_end = recovered_at (ticket_cell_at MOST_INSTRS n) ticket_low in
-            omega (arith, few, is.ticket, at_end))
+            omega (arith, few, at_end))
 
       -- what a view knows of real time, the order respects, and so does the history
       on_time : EachView (λ v. RespectsEvents S B v.past h) st.views
-      on_time j v there live n x k y before p q lt high first later =
+      on_time j v there live n x k y before = in_time w order xs s are_scripts started legal n (done_before S B n + x) k (done_before S B k + y) (λ p q lt high first later.
           let es = lost.events in
           let known : IsPrefix before.moment es = prefix_trans before.moment v.past es before.early (lost.reached.pasts j v there live) in
           let cut : take (length before.moment) es ≡ before.moment = ap (take (length before.moment)) (sym known.1) ∙ take-append_seam before.moment known.0 in
           let c : Call = get_or order q no_call in
           let d : Call = get_or order p no_call in
-          let a = entry_of q high in
-          let b = entry_of p (omega (arith, lt, high)) in
-          lost.linearizes.real_time p q lt (subst (λ (i : ℕ). q < i) (long w s order are_scripts) high) (
+          lost.linearizes.real_time p q lt high (
             length before.moment,
-            subst (λ (z : List Event × ℕ). c.ticket ≤ start_ticket S B z.1 + calls_ended_in S B z.0 z.1) (λ i. (sym cut i, (sym first.0 ∙ a.caller) i)) (omega (arith, a.ticket, first.1, before.ended)),
-            subst (λ (z : List Event × ℕ). start_ticket S B z.1 + calls_begun_in z.0 z.1 < d.ticket) (λ i. (sym cut i, (sym later.0 ∙ b.caller) i)) (omega (arith, b.ticket, later.1, before.begun)),
-          )
+            subst (λ (z : List Event × ℕ). c.ticket ≤ start_ticket S B z.1 + calls_ended_in S B z.0 z.1) (λ i. (sym cut i, sym first.0 i)) (omega (arith, first.1, before.ended)),
+            subst (λ (z : List Event × ℕ). start_ticket S B z.1 + calls_begun_in z.0 z.1 < d.ticket) (λ i. (sym cut i, sym later.0 i)) (omega (arith, later.1, before.begun)),
+          ))
 
       leads_there : EachView (λ v. HistoryLeads w limit B v s found h) st.views
       leads_there j v there live = record {
         serial = serial w s order are_scripts;
         ends = ends;
-        order = in_order w limit order xs s are_scripts started lost.linearizes.legal lost.linearizes.rising;
+        order = in_order w order xs s are_scripts started legal lost.linearizes.rising;
         calls = each_of explained v.kept (lost.explained j v there live);
         only = each_of owned v.kept (lost.reached.callers j v there live);
-        callers = below;
+        callers = below w order xs s are_scripts started legal w.callers (λ y x l. (lost.linearizes.begun y x l).0);
         last = tells_last;
-        upto = up_to;
+        upto = upto;
         time = on_time j v there live;
       }
 

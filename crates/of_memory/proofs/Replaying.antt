@@ -1,38 +1,61 @@
 -- A serial order of operations that are scripts' is a serial history of these scripts on the store that the cells stand for.
-use Rattle.std.proofs.Common.{◌≡◌, ℕ, zero, suc, ◌≤◌, ◌<◌, true, List, [], ◌∷◌, length, get_or, map, refl, sym, ap, subst, ◌∙◌, arith}
-use Rattle.std.specs.List.{AllByRecursion as Each}
+use Rattle.std.proofs.Common.{◌≡◌, ℕ, zero, suc, ◌+◌, ◌≤◌, ◌<◌, inl, inr, Bool, true, false, List, [], ◌∷◌, length, get_or, map, Ok, refl, sym, ap, subst, ◌∙◌, arith}
+use Rattle.std.specs.Prelude.{IsTrue}
+use Rattle.std.specs.List.{All, AllByRecursion as Each}
 use Rattle.std.proofs.lemmas.List.{length-map}
-use Rattle.std.proofs.lemmas.List.Elements.{All-from_get_or}
+use Rattle.std.proofs.lemmas.List.Elements.{All-from_get_or, All-from_recursion}
 use Rattle.of_mem.specs.declared.work.RawReply.{RawReply}
 use Rattle.of_mem.specs.Meaning.{Meaning}
 use Rattle.of_mem.specs.ProgramWork.{memory_of}
 use Rattle.of_script.specs.declared.instr.Instr.{Instr}
+use Rattle.of_script.specs.declared.instr.Reply.{Reply as RustReply}
 use Rattle.of_script.specs.declared.instr.TheConstants.{MOST_INSTRS}
-use Rattle.of_script.specs.Language.{IsScript, instr_word}
+use Rattle.of_script.specs.Language.{IsScript, instr_word, reads_only}
 use Rattle.of_script.proofs.WordLaws.{words_injective}
 use Rattle.of_store.specs.Store.{Store, Reply, run}
 use Rattle.of_eval.specs.declared.scripts.Scripts.{Scripts}
-use Rattle.of_eval.specs.Scripts.{store_at, scripts_data_cells, scripts_meaning}
+use Rattle.of_eval.specs.Scripts.{store_at, scripts_data_cells, scripts_meaning, script_reads, LawfulCells}
+use Rattle.of_eval.specs.Shapes.{IsHeldBy}
 use Rattle.of_eval.specs.Stored.{IsStored}
 use Rattle.of_eval.specs.SoundScripts.{scripts_sound}
 use Rattle.of_eval.proofs.Meanings.{means_words, words_mean_script}
+use Rattle.of_eval.proofs.ReadsOnly.{reads_of}
 use Rattle.of_plan.specs.Plan.{Plan}
 use Rattle.of_core.specs.declared.place.Outcome.{Outcome}
 use Rattle.of_core.specs.declared.place.Outcome.TheVariants.{Answered, Spent as Over}
 use Rattle.of_core.specs.Table.{Setup}
 use Rattle.of_core.specs.Machine.{Call, no_call}
 use Rattle.of_core.specs.History.{numbers_after_calls, CallsHaveReplies, SameWhereMarked}
-use Rattle.of_core.specs.Claim.{IsNewerCall}
-use Rattle.of_core.specs.Linear as core
+use Rattle.of_row.specs.Rows.{key_of}
+use Rattle.of_row.specs.Views.{EndedCall, no_ended}
 use Rattle.of_caller.specs.Moments.{raw_reply_of}
-use Rattle.of_caller.proofs.StoresHeld.{FitsIn, script_fits, held_response}
-use Rattle.of_memory.specs.History.{HistoryEntry, no_history_entry, End, Replied, Spent, IsSerial, store_after, StandsInOrder, HasEntry, ExplainsEnd}
-use Rattle.of_memory.specs.Calls.{IsScriptOperation, EndsAs}
+use Rattle.of_caller.proofs.StoresHeld.{FitsIn, script_fits, held_response, has_reply}
+use Rattle.of_cells.specs.declared.answer.RawAnswer.{RawAnswer}
+use Rattle.of_cells.specs.History as generic
+use Rattle.of_cells.specs.Serving.{cells_at_start}
+use Rattle.of_cells.specs.Handles.{RepliesAsMeant}
+use Rattle.of_memory.specs.declared.handle.Handle.{Handle}
+use Rattle.of_memory.specs.History.{HistoryEntry, no_history_entry, Made, no_made, End, Replied, Spent, IsSerial, store_after, StandsInOrder, HasEntry, ExplainsEnd, ExplainsAll, IsOneOf, HasOnly, ScriptOnlyReads, IsUpTo, ComeInOrder}
+use Rattle.of_memory.specs.Calls.{IsScriptOperation, HoldsResponse, EndsAs, AreMade}
+use Rattle.of_memory.specs.Called.{HoldsSomeReply}
+use Rattle.of_memory.specs.Handles.{IsHandle, home_of}
 use Rattle.of_memory.specs.Laws.{setup_with}
+use Rattle.of_memory.proofs.Called.{made_at, made_long, same_script}
 
--- a plan of these sizes, whose table is that of the scripts
-abbrev pub sizes : Scripts → (limit : ℕ) → Plan
-sizes w limit = record { callers = w.callers; blocks = w.blocks; limit = limit; scripts = []; stops = []; schedule = [] }
+-- a plan of these sizes: what is known of replies on its table is known of these
+abbrev sizes : Scripts → Plan
+sizes w = record { callers = w.callers; blocks = w.blocks; limit = 1; scripts = []; stops = []; schedule = [] }
+
+-- a script that may write is no operation that only reads
+may_write : (op : List ℕ) (script : List Instr) → op ≡ map instr_word script → IsScript script → (ScriptOnlyReads script → ⊥) → script_reads op ≡ false
+may_write op script words is writes = go (script_reads op) refl
+  where
+    go : (b : Bool) → script_reads op ≡ b → script_reads op ≡ false
+    go false e = e
+    go true e =
+        let q = reads_of op e in
+        let same : q.0.script ≡ script = words_injective q.0.script script q.0.range is.in_range (q.0.words ∙ words) in
+        absurd (writes (subst ScriptOnlyReads same (All-from_recursion (λ (i : Instr). IsTrue (reads_only i)) q.0.script q.0.reads)))
 
 module _ (w : Scripts) where
   abbrev M : Meaning
@@ -69,6 +92,21 @@ module _ (w : Scripts) where
 
   pub runs : (xs op : List ℕ) (s : Store) (script : List Instr) → Cells xs s → op ≡ map instr_word script → IsScript script → Runs xs op s script
   runs xs op s script h e k = subst (λ (ws : List ℕ). Runs xs ws s script) (sym e) (words_run xs s script h k)
+
+  -- cells stay lawful, whatever operations they come from
+  lawful_after : (cs : List Call) (xs : List ℕ) → length xs ≡ scripts_data_cells w → LawfulCells w xs → (length (numbers_after_calls M xs cs) ≡ scripts_data_cells w) × LawfulCells w (numbers_after_calls M xs cs)
+  lawful_after [] xs size lawful = (size, lawful)
+  lawful_after (c ∷ cs) xs size lawful = lawful_after cs (M.cells xs c.op) ((scripts_sound w).keeps_length xs c.op size) ((scripts_sound w).leads xs c.op size lawful)
+
+  -- what a script means on such cells holds a reply
+  pub meant_reply : (xs op : List ℕ) → length xs ≡ scripts_data_cells w → LawfulCells w xs → IsScriptOperation op → (raw : RawReply) → generic.IsMeant M xs op raw → (r : RustReply) × IsHeldBy raw r
+  meant_reply xs op size lawful script raw meant =
+      let ys = numbers_after_calls M xs meant.history in
+      let after = lawful_after meant.history xs size lawful in
+      let run = runs ys op after.1.0 script.0 (record { size = after.0; stored = after.1.1 }) script.2 script.1 in
+      let same : SameWhereMarked (setup_with w 1) raw (M.reply ys op) = (meant.reply.0, λ y l m. meant.reply.1 y l) in
+      let held = has_reply (sizes w) raw (length op) _ run.some run.few run.fits (subst (SameWhereMarked (setup_with w 1) raw) run.reply same) in
+      (held.0, held.1)
 
   -- the operation of each call is a script's
   abbrev pub AreScripts : List Call → Type 0
@@ -110,41 +148,101 @@ module _ (w : Scripts) where
       record { caller = refl; ticket = refl; script = k.0.1; words = k.0.2; raw = sym r.0 ∙ first.reply; some = first.some; few = first.few; fits = first.fits }
   entry_at (c ∷ cs) (suc y) xs s k h r l = entry_at cs y (M.cells xs c.op) (run s k.0.0).0 k.1 (runs xs c.op s k.0.0 h k.0.2 k.0.1).cells r.1 (omega arith)
 
-  module _ (limit : ℕ) (cs : List Call) (xs : List ℕ) (s : Store) (k : AreScripts cs) (h : Cells xs s) (r : CallsHaveReplies M xs cs) where
+  module _ (cs : List Call) (xs : List ℕ) (s : Store) (k : AreScripts cs) (h : Cells xs s) (r : CallsHaveReplies M xs cs) where
     abbrev S : Setup
-    S = setup_with w limit
+    S = setup_with w 1
 
     abbrev hs : List HistoryEntry
     hs = entries s cs k
 
-    pub at : (y : ℕ) → y < length hs → IsEntryOf (get_or cs y no_call) (get_or hs y no_history_entry)
-    at y l = entry_at cs y xs s k h r (subst (λ (n : ℕ). y < n) (long s cs k) l)
+    abbrev call : ℕ → Call
+    call y = get_or cs y no_call
 
-    pub in_order : ((p q : ℕ) → p < q → q < length cs → IsNewerCall (get_or cs p no_call) (get_or cs q no_call)) → StandsInOrder hs
+    abbrev entry : ℕ → HistoryEntry
+    entry y = get_or hs y no_history_entry
+
+    among_calls : (y : ℕ) → y < length hs → y < length cs
+    among_calls y l = subst (λ (n : ℕ). y < n) (long s cs k) l
+
+    among_entries : (y : ℕ) → y < length cs → y < length hs
+    among_entries y l = subst (λ (n : ℕ). y < n) (sym (long s cs k)) l
+
+    at : (y : ℕ) → y < length hs → IsEntryOf (call y) (entry y)
+    at y l = entry_at cs y xs s k h r (among_calls y l)
+
+    pub in_order : generic.StandsInOrder cs → StandsInOrder hs
     in_order rising p q lt high same =
-        let l : q < length cs = subst (λ (n : ℕ). q < n) (long s cs k) high in
         let a = at p (omega (arith, lt, high)) in
         let b = at q high in
-        let newer = rising p q lt l (sym b.caller ∙ same ∙ a.caller) in
+        let newer = rising p q lt (among_calls q high) (sym b.caller ∙ same ∙ a.caller) in
         omega (arith, newer, a.ticket, b.ticket)
 
-    has : (i t : ℕ) (op : List ℕ) (raw : RawReply) (script : List Instr) (response : Reply) → IsScript script → op ≡ map instr_word script → EndsAs (Answered 0 true raw 0) (Replied response)
-        → (place : ℕ) → place < length cs → (get_or cs place no_call).caller ≡ i → (get_or cs place no_call).ticket ≡ t → (get_or cs place no_call).op ≡ op → SameWhereMarked S raw (get_or cs place no_call).raw
-        → HasEntry hs (record { caller = i; ticket = t; script = script; reply = response })
-    has i t op raw script response is words held place among caller ticket same reply =
-        let l : place < length hs = subst (λ (n : ℕ). place < n) (sym (long s cs k)) among in
-        let e = at place l in
-        let one : (get_or hs place no_history_entry).script ≡ script = words_injective (get_or hs place no_history_entry).script script e.script.in_range is.in_range (sym e.words ∙ same ∙ words) in
-        let answer : (get_or hs place no_history_entry).reply ≡ response =
-        sym (held_response (sizes w limit) raw held.0 (length (get_or cs place no_call).op) (get_or hs place no_history_entry).reply e.some e.few e.fits (subst (SameWhereMarked S raw) e.raw reply) held.1) ∙ held.2 in
-        (place, l, λ j. record { caller = (e.caller ∙ caller) j; ticket = (e.ticket ∙ ticket) j; script = one j; reply = answer j })
+    -- ---- how the calls have ended
 
-    -- how the order explains the end of a call, the history does
-    pub explains : (o : Outcome) (end : End) (i t : ℕ) (op : List ℕ) (script : List Instr) → IsScript script → op ≡ map instr_word script → EndsAs o end → core.ExplainsOutcome S cs i t op o → ExplainsEnd hs i t script end
-    explains (Answered n announced raw steps) (Replied response) i t op script is words held call =
-        has i t op raw script response is words held call.place call.among call.caller call.ticket call.same (call.reply.0, λ y l m. call.reply.1 y l)
-    explains (Answered n announced raw steps) Spent i t op script is words held call = absurd held
-    explains (Over n) (Replied response) i t op script is words held call = absurd held
-    explains (Over n) Spent i t op script is words held none =
-        All-from_get_or (λ (e : HistoryEntry). e.caller ≡ i → e.ticket ≡ t → ⊥) hs no_history_entry
-        (λ y l a b. none y no_call (subst (λ (m : ℕ). y < m) (long s cs k) l) (sym (at y l).caller ∙ a) (sym (at y l).ticket ∙ b))
+    has : (i t : ℕ) (op : List ℕ) (raw : RawReply) (script : List Instr) (response : Reply) → IsScript script → op ≡ map instr_word script → HoldsResponse raw response → generic.HasEntry cs i t op raw
+        → HasEntry hs (record { caller = i; ticket = t; script = script; reply = response })
+    has i t op raw script response is words held c =
+        let l = among_entries c.place c.among in
+        let e = at c.place l in
+        let one : (entry c.place).script ≡ script = words_injective (entry c.place).script script e.script.in_range is.in_range (sym e.words ∙ c.words ∙ words) in
+        let same : SameWhereMarked S raw (call c.place).raw = (c.reply.0, λ y l m. c.reply.1 y l) in
+        let answer : (entry c.place).reply ≡ response =
+        sym (held_response (sizes w) raw held.0 (length (call c.place).op) (entry c.place).reply e.some e.few e.fits (subst (SameWhereMarked S raw) e.raw same) held.1) ∙ held.2 in
+        (c.place, l, λ j. record { caller = (e.caller ∙ c.caller_is) j; ticket = (e.ticket ∙ c.ticket_is) j; script = one j; reply = answer j })
+
+    -- how the calls explain the end of one, the history does
+    explains : (o : Outcome) (end : End) (i t : ℕ) (op : List ℕ) (script : List Instr) → IsScript script → op ≡ map instr_word script → EndsAs o end → generic.ExplainsEnd cs i t op o → ExplainsEnd hs i t script end
+    explains (Answered seq announced raw steps) (Replied response t n a) i ticket op script is words held c = has i ticket op raw script response is words held.0 c
+    explains (Answered seq announced raw steps) (Spent t) i ticket op script is words held c = absurd held
+    explains (Over seq) (Replied response t n a) i ticket op script is words held c = absurd held
+    explains (Over seq) (Spent t) i ticket op script is words held none =
+        All-from_get_or (λ (e : HistoryEntry). e.caller ≡ i → e.ticket ≡ ticket → ⊥) hs no_history_entry
+        (λ y l a b. none y no_call (among_calls y l) (sym (at y l).caller ∙ a) (sym (at y l).ticket ∙ b))
+
+    module _ (i n : ℕ) (es : List EndedCall) (ms : List Made) (made : AreMade es ms) where
+      pub explains_all : generic.ExplainsAll cs i n es → ExplainsAll hs i n ms
+      explains_all all y l =
+          let one = made_at es ms y made l in
+          explains (get_or es y no_ended).outcome (get_or ms y no_made).ended i (n + y + 1) (get_or es y no_ended).op (get_or ms y no_made).script one.1.script one.1.words one.1.ended (all y one.0)
+
+      -- and it has no others
+      pub has_only : (IsOpenOperation : List ℕ → Type 0) (IsOpenScript : List Instr → Type 0) → ((script : List Instr) → IsScript script → IsOpenOperation (map instr_word script) → IsOpenScript script)
+          → generic.HasOnly cs i n es IsOpenOperation → HasOnly hs i n ms IsOpenScript
+      has_only IsOpenOperation IsOpenScript opens only =
+          All-from_get_or (λ (e : HistoryEntry). e.caller ≡ i → IsOneOf n ms IsOpenScript e) hs no_history_entry (λ y l mine.
+          let is = at y l in
+          let many = made_long es ms made in
+          elim (only y no_call (among_calls y l) (sym is.caller ∙ mine)) [
+            | inl one ↦
+                let m = made_at es ms one.0 made (omega (arith, one.1, many)) in
+                inl (one.0, omega (arith, one.1, many), is.ticket ∙ one.2, same_script (entry y).script (get_or ms one.0 no_made).script is.script m.1.script (sym is.words ∙ one.3 ∙ m.1.words))
+            | inr last ↦ inr (omega (arith, is.ticket, last.0, many), opens (entry y).script is.script (subst IsOpenOperation is.words last.1))
+          ])
+
+    pub below : (n : ℕ) → All (λ (c : Call). c.caller < n) cs → All (λ (e : HistoryEntry). e.caller < n) hs
+    below n all = All-from_get_or (λ (e : HistoryEntry). e.caller < n) hs no_history_entry (λ y l.
+        subst (λ (i : ℕ). i < n) (sym (at y l).caller) (all y no_call (among_calls y l)))
+
+    pub up_to : (n t : ℕ) → generic.IsUpTo M cs n t → IsUpTo hs n t
+    up_to n t upto = All-from_get_or (λ (e : HistoryEntry). e.caller ≡ n → (ScriptOnlyReads e.script → ⊥) → e.ticket ≤ t) hs no_history_entry (λ y l mine writes.
+        let is = at y l in
+        let few = upto y no_call (among_calls y l) (sym is.caller ∙ mine) (may_write (call y).op (entry y).script is.words is.script writes) in
+        omega (arith, few, is.ticket))
+
+    pub in_time : (n t i u : ℕ) → generic.ComeInOrder cs n t i u → ComeInOrder hs n t i u
+    in_time n t i u order p q lt high first later =
+        let a = at q high in
+        let b = at p (omega (arith, lt, high)) in
+        order p q lt (among_calls q high) (sym a.caller ∙ first.0, omega (arith, a.ticket, first.1)) (sym b.caller ∙ later.0, omega (arith, b.ticket, later.1))
+
+    -- cells that hold the reply of a call hold that of its entry
+    pub last_entry : (y : ℕ) → y < length cs → (n t : ℕ) → (call y).caller ≡ n → (call y).ticket ≡ t → (raw : RawReply) → SameWhereMarked S raw (call y).raw
+        → (e : HistoryEntry) × HasEntry hs e × (e.caller ≡ n) × (e.ticket ≡ t) × HoldsResponse raw e.reply
+    last_entry y among n t mine ticket raw same =
+        let l = among_entries y among in
+        let is = at y l in
+        (entry y, (y, l, refl), is.caller ∙ mine, is.ticket ∙ ticket, has_reply (sizes w) raw (length (call y).op) (entry y).reply is.some is.few is.fits (subst (SameWhereMarked S raw) is.raw same))
+
+-- an answer to a script holds a reply
+pub holds_some : (h : Handle) → IsHandle h → (op : List ℕ) → IsScriptOperation op → (a : RawAnswer) → RepliesAsMeant scripts_meaning op h.cells (Ok a) → HoldsSomeReply a
+holds_some h is op script a meant = meant_reply (key_of (home_of h)).work (cells_at_start scripts_meaning (home_of h)) op is.row.size (is.row.store, is.row.stands) script a.raw meant

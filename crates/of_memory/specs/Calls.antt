@@ -24,10 +24,11 @@ HoldsResponse raw response = (r : RustReply) × IsHeldBy raw r × (reply_value_o
 
 -- the outcome is this end
 abbrev pub EndsAs : Outcome → End → Type 0
-EndsAs (Answered s announced raw steps) (Replied r) = HoldsResponse raw r
-EndsAs (Answered s announced raw steps) Spent = ⊥
-EndsAs (Over s) (Replied r) = ⊥
-EndsAs (Over s) Spent = Unit {0}
+EndsAs (Answered s announced raw steps) (Replied r t n a) =
+    HoldsResponse raw r × (s ≡ t) × (steps ≡ n) × (announced ≡ a)
+EndsAs (Answered s announced raw steps) (Spent t) = ⊥
+EndsAs (Over s) (Replied r t n a) = ⊥
+EndsAs (Over s) (Spent t) = s ≡ t
 
 -- what is kept of a call is this one
 pub record IsMade (e : EndedCall) (m : Made) : Type 0 where
@@ -42,7 +43,11 @@ AreMade [] (m ∷ ms) = ⊥
 AreMade (e ∷ es) [] = ⊥
 AreMade (e ∷ es) (m ∷ ms) = IsMade e m × AreMade es ms
 
+-- each of these calls is that of a script
+abbrev pub AreOfScripts : List EndedCall → Type 0
+AreOfScripts es = All (λ (e : EndedCall). IsScriptOperation e.op) es
+
 -- each call that the kept caller has made is that of a script, also its open one
 pub record RunsScripts (x : KnownCaller) : Type 0 where
-  pub ended : All (λ (e : EndedCall). IsScriptOperation e.op) x.ended
+  pub ended : AreOfScripts x.ended
   pub open_call : IsOpen x.machine.place → IsScriptOperation x.machine.op

@@ -1,89 +1,98 @@
 -- A handle: one caller of a memory.
-use Rattle.std.specs.Prelude.{◌≡◌, ℕ, ◌+◌, ◌<◌, List, length, Result, Ok, Err}
-use Rattle.std.specs.Arc.{arc_value}
+use Rattle.std.specs.Prelude.{◌≡◌, ◌⊎◌, ℕ, ◌+◌, List, length, map, Result, Ok, Err}
 use Rattle.of_script.specs.declared.instr.Instr.{Instr}
+use Rattle.of_script.specs.Language.{IsScript, instr_word}
 use Rattle.of_plan.specs.declared.answer.Answer.{Answer}
 use Rattle.of_eval.specs.declared.scripts.Scripts.{Scripts}
+use Rattle.of_eval.specs.Scripts.{scripts_meaning}
 use Rattle.of_row.specs.declared.row.Row.{Row}
-use Rattle.of_caller.specs.declared.caller.Caller.{Caller}
-use Rattle.of_caller.specs.Callers.{caller_call, calls_begun_by}
-use Rattle.of_memory.specs.declared.error.RunErr.{RunErr}
-use Rattle.of_memory.specs.declared.error.RunErr.TheVariants.{Stopped, Spent, Open, NoTicket}
+use Rattle.of_row.specs.Rows.{key_of}
+use Rattle.of_cells.specs.declared.error.RunError.{RunError}
+use Rattle.of_cells.specs.declared.error.RunError.TheVariants.{Stopped, Spent, InCall, NoCall, NoTicket}
+use Rattle.of_cells.specs.Handles as generic
 use Rattle.of_memory.specs.declared.handle.Handle.{Handle}
 use Rattle.of_memory.specs.History.{Made}
-use Rattle.of_memory.specs.Calls.{AreMade}
-use Rattle.of_memory.specs.Called.{IsOpenAt, IsInCall, LeavesOpen, made_with, CallerOpensOnly, CallerOpensNone}
-use Rattle.of_memory.specs.Serving.{IsScriptsRow, Serves, ended_of, made_before, row_step_bound}
+use Rattle.of_memory.specs.Calls.{AreMade, AreOfScripts, IsScriptOperation}
+use Rattle.of_memory.specs.Called.{made_with, without_reply}
+use Rattle.of_memory.specs.Rows.{IsScriptsRow}
 
 -- the memory that it is a handle of
 abbrev pub home_of : Handle → Row Scripts
-home_of h = arc_value h.row
+home_of h = generic.home_of h.cells
 
 -- its number
 abbrev pub number_of_handle : Handle → ℕ
-number_of_handle h = h.number
+number_of_handle h = generic.number_of_handle h.cells
 
--- the caller that it makes its calls with
-abbrev pub caller_of : Handle → Caller Scripts
-caller_of h = h.caller
+-- a call of it is open, of whatever script
+abbrev pub HasCallOpen : Handle → Type 0
+HasCallOpen h = generic.HasCallOpen h.cells
 
 -- it is a handle of some memory, and has run scripts alone
 pub record IsHandle (h : Handle) : Type 0 where
+  pub handle : generic.IsCellHandle scripts_meaning h.cells
   pub row : IsScriptsRow (home_of h)
-  pub serves : Serves (home_of h) (number_of_handle h) (caller_of h)
+  pub made : AreOfScripts (generic.made_by h.cells)
+  pub open_call : HasCallOpen h → IsScriptOperation (generic.last_operation_of h.cells)
 
 -- since the memory was opened its number has made these calls, which have ended
 abbrev pub HasMade : Handle → List Made → Type 0
-HasMade h ms = AreMade (ended_of (caller_of h)) ms
+HasMade h ms = AreMade (generic.made_by h.cells) ms
 
 -- its call of this script is open
-abbrev pub HasOpen : Handle → List Instr → Type 0
-HasOpen h script = IsOpenAt script (caller_of h)
+pub record HasOpen (h : Handle) (script : List Instr) : Type 0 where
+  pub is : IsScript script
+  pub opened : generic.HasOpen h.cells (map instr_word script)
 
 -- a call of this script has come to the result: what its number has made is what it had made, with
 -- this call if it has ended
-abbrev pub MakesCall : List Instr → Result Answer RunErr → (before now : Handle) → Type 0
+abbrev pub MakesCall : List Instr → Result Answer RunError → (before now : Handle) → Type 0
 MakesCall script result h k =
     (ms : List Made) → HasMade h ms → HasMade k (made_with script result ms)
 
 -- so it is of the call that was open, whatever script it is of
-abbrev pub ResumesCall : Result Answer RunErr → (before now : Handle) → Type 0
+abbrev pub ResumesCall : Result Answer RunError → (before now : Handle) → Type 0
 ResumesCall result h k =
     (script : List Instr) (ms : List Made) → HasOpen h script → HasMade h ms
     → HasMade k (made_with script result ms)
 
 -- a stopped call of this script stays open, and none is open after one that has ended
-abbrev pub StaysOpenOnlyIfStopped : List Instr → Result Answer RunErr → Handle → Type 0
-StaysOpenOnlyIfStopped script result h = LeavesOpen script result (caller_of h)
+abbrev pub StaysOpenOnlyIfStopped : List Instr → Result Answer RunError → Handle → Type 0
+StaysOpenOnlyIfStopped script (Ok a) h = HasCallOpen h → ⊥
+StaysOpenOnlyIfStopped script (Err (Stopped asked)) h = HasOpen h script
+StaysOpenOnlyIfStopped script (Err (Spent seq)) h = HasCallOpen h → ⊥
+StaysOpenOnlyIfStopped script (Err InCall) h = Unit {0}
+StaysOpenOnlyIfStopped script (Err NoCall) h = Unit {0}
+StaysOpenOnlyIfStopped script (Err NoTicket) h = Unit {0}
 
 -- so it is of the call that was open, whatever script it is of
-abbrev pub OpenCallStays : Result Answer RunErr → (before now : Handle) → Type 0
+abbrev pub OpenCallStays : Result Answer RunError → (before now : Handle) → Type 0
 OpenCallStays result h k =
     (script : List Instr) → HasOpen h script → StaysOpenOnlyIfStopped script result k
 
--- a call of it is open, of whatever script
-abbrev pub HasCallOpen : Handle → Type 0
-HasCallOpen h = IsInCall (caller_of h)
-
 -- how many steps its open call has made
 abbrev pub steps_so_far : Handle → ℕ
-steps_so_far h = (caller_call (caller_of h)).steps
+steps_so_far h = generic.steps_so_far h.cells
 
 -- the step bound of its memory: how many steps a call makes at most
 abbrev pub step_bound_of : Handle → ℕ
-step_bound_of h = row_step_bound (home_of h)
+step_bound_of h = generic.step_bound_of scripts_meaning h.cells
 
 -- how many calls of its number were begun, those before its memory was opened with them
 abbrev pub calls_begun : Handle → ℕ
-calls_begun h = calls_begun_by (caller_of h)
+calls_begun h = generic.calls_begun h.cells
 
 -- how many calls of its number its memory was opened with
 abbrev pub tickets_behind : Handle → ℕ
-tickets_behind h = made_before (home_of h) (number_of_handle h)
+tickets_behind h = generic.tickets_behind scripts_meaning h.cells
 
--- its number has made all calls that it may make
-abbrev pub HasNoTicketLeft : Handle → Type 0
-HasNoTicketLeft h = calls_begun h + 1 < 4294967296 → ⊥
+-- its calls have made at most so many steps more, those that were spent with them
+abbrev pub MakesAtMost : (most : ℕ) → (before now : Handle) → Type 0
+MakesAtMost most h k = generic.MakesAtMost most h.cells k.cells
+
+-- so it is if its open call goes on: with the steps that the call has made already
+abbrev pub GoesOnWithin : (most : ℕ) → (before now : Handle) → Type 0
+GoesOnWithin most h k = generic.GoesOnWithin most h.cells k.cells
 
 -- the calls of a handle that has none open are those with which its memory was opened, and those
 -- that it has made since
@@ -94,29 +103,31 @@ CallsAreCounted =
 
 -- a call that is open now is one of this script, or was open before
 abbrev pub OpensOnly : List Instr → (before now : Handle) → Type 0
-OpensOnly script h k = CallerOpensOnly script (caller_of h) (caller_of k)
+OpensOnly script h k = (s : List Instr) → HasOpen k s → (s ≡ script) ⊎ HasOpen h s
 
 -- a call that is open now was open before
 abbrev pub OpensNone : (before now : Handle) → Type 0
-OpensNone h k = CallerOpensNone (caller_of h) (caller_of k)
+OpensNone h k = generic.OpensNone h.cells k.cells
 
--- it refuses a call only if one is open, or its number has made all calls that it may make
-abbrev pub RefusesCall : Handle → Result Answer RunErr → Type 0
-RefusesCall h (Ok a) = Unit {0}
-RefusesCall h (Err (Stopped asked)) = Unit {0}
-RefusesCall h (Err (Spent seq)) = Unit {0}
-RefusesCall h (Err Open) = HasCallOpen h
-RefusesCall h (Err NoTicket) = HasNoTicketLeft h
+-- It refuses a call only if one is open, or its number has made all calls that it may make. A call
+-- is spent only where the sequence has come to the limit.
+abbrev pub RefusesCall : Handle → Result Answer RunError → Type 0
+RefusesCall h result = generic.RefusesCall h.cells (without_reply result)
 
--- it refuses to go on only if no call is open
-abbrev pub RefusesToGoOn : Handle → Result Answer RunErr → Type 0
-RefusesToGoOn h (Ok a) = Unit {0}
-RefusesToGoOn h (Err (Stopped asked)) = Unit {0}
-RefusesToGoOn h (Err (Spent seq)) = Unit {0}
-RefusesToGoOn h (Err Open) = HasCallOpen h → ⊥
-RefusesToGoOn h (Err NoTicket) = ⊥
+-- it refuses to go on only if no call is open, and a call is spent only at the limit
+abbrev pub RefusesToGoOn : Handle → Result Answer RunError → Type 0
+RefusesToGoOn h result = generic.RefusesToGoOn h.cells (without_reply result)
 
 -- it is of the same memory, and has the same number
-pub record IsSame (h k : Handle) : Type 0 where
-  pub home : home_of k ≡ home_of h
-  pub number : number_of_handle k ≡ number_of_handle h
+abbrev pub IsSame : (before now : Handle) → Type 0
+IsSame h k = generic.IsSame h.cells k.cells
+
+-- its memory has so many callers and blocks
+pub record HasSizes (h : Handle) (callers blocks : ℕ) : Type 0 where
+  pub callers_are : (key_of (home_of h)).work.callers ≡ callers
+  pub blocks_are : (key_of (home_of h)).work.blocks ≡ blocks
+
+-- the step bound of the smallest memory, and of the largest
+pub record AreStepBounds : Type 0 where
+  pub smallest : (h : Handle) → IsHandle h → HasSizes h 1 0 → step_bound_of h ≡ 6054
+  pub largest : (h : Handle) → IsHandle h → HasSizes h 16 512 → step_bound_of h ≡ 138657

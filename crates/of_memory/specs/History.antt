@@ -1,5 +1,5 @@
 -- A serial history of scripts on the plain store.
-use Rattle.std.specs.Prelude.{◌≡◌, ℕ, ◌+◌, ◌<◌, ◌≤◌, ◌⊎◌, IsTrue, List, [], ◌∷◌, length}
+use Rattle.std.specs.Prelude.{◌≡◌, ℕ, ◌+◌, ◌<◌, ◌≤◌, ◌⊎◌, IsTrue, Bool, List, [], ◌∷◌, length}
 use Rattle.std.specs.List.{All}
 use Rattle.std.proofs.Common.{get_or}
 use Rattle.of_script.specs.declared.instr.Instr.{Instr}
@@ -38,10 +38,11 @@ StandsInOrder h =
     (p q : ℕ) → p < q → q < length h
     → IsLater (get_or h p no_history_entry) (get_or h q no_history_entry)
 
--- how a call has ended: with this reply, or with none, since the limit was reached before it
+-- how a call has ended: with this reply, at this sequence, after so many steps, and whether it was
+-- announced; or with none, since the sequence had come to the limit
 pub data End : Type 0 where
-  Replied : Reply → End
-  Spent : End
+  Replied : Reply → (seq steps : ℕ) → (announced : Bool) → End
+  Spent : (seq : ℕ) → End
 
 -- a call that its caller has made, and that has ended
 pub record Made : Type 0 where
@@ -49,7 +50,7 @@ pub record Made : Type 0 where
   pub ended : End
 
 abbrev pub no_made : Made
-no_made = record { script = []; ended = Spent }
+no_made = record { script = []; ended = Spent 0 }
 
 -- the entry stands in the history
 abbrev pub HasEntry : List HistoryEntry → HistoryEntry → Type 0
@@ -57,17 +58,17 @@ HasEntry h e = (p : ℕ) × (p < length h) × (get_or h p no_history_entry ≡ e
 
 -- The history has the call with its reply; it has no call that was spent.
 abbrev pub ExplainsEnd : List HistoryEntry → (caller ticket : ℕ) → List Instr → End → Type 0
-ExplainsEnd h c t script (Replied r) =
+ExplainsEnd h c t script (Replied r seq steps announced) =
     HasEntry h (record { caller = c; ticket = t; script = script; reply = r })
-ExplainsEnd h c t script Spent = All (λ (e : HistoryEntry). e.caller ≡ c → e.ticket ≡ t → ⊥) h
+ExplainsEnd h c t script (Spent seq) = All (λ (e : HistoryEntry). e.caller ≡ c → e.ticket ≡ t → ⊥) h
 
--- so it is of each of these calls of a caller, the first of which has the number behind n
+-- so it is of each of these calls of a caller, the first of which has the number after n
 abbrev pub ExplainsAll : List HistoryEntry → (caller n : ℕ) → List Made → Type 0
 ExplainsAll h c n ms =
     (y : ℕ) → y < length ms
     → ExplainsEnd h c (n + y + 1) (get_or ms y no_made).script (get_or ms y no_made).ended
 
--- the entry is one of these calls, the first of which has the number behind n, or the one behind
+-- the entry is one of these calls, the first of which has the number after n, or the one after
 -- them, which is open
 abbrev pub IsOneOf : (n : ℕ) → List Made → (IsOpenCall : List Instr → Type 0) → HistoryEntry
     → Type 0

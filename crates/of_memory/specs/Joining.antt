@@ -45,8 +45,8 @@ NoneStaysOpen =
 
 -- the call was answered
 abbrev pub EndsWithReply : End → Type 0
-EndsWithReply (Replied r) = Unit {0}
-EndsWithReply Spent = ⊥
+EndsWithReply (Replied r seq steps announced) = Unit {0}
+EndsWithReply (Spent seq) = ⊥
 
 -- these calls of one caller were answered, and no other call was made or is open
 pub record HasMadeAlone (m : Memory) (n : ℕ) (ms : List Made) : Type 0 where

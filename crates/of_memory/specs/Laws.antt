@@ -1,46 +1,30 @@
 -- What a closed row of scripts holds: one serial history of scripts on the plain store.
-use Rattle.std.specs.Prelude.{◌≡◌, ℕ, ◌+◌, ◌<◌, ◌⊎◌, List, [], ◌∷◌, map, false}
+use Rattle.std.specs.Prelude.{◌≡◌, ℕ, ◌+◌, ◌<◌, ◌⊎◌, List, map, false}
 use Rattle.std.specs.List.{All, AllByRecursion as Each}
 use Rattle.of_cell.specs.Words.{payload_of}
 use Rattle.of_recover.specs.Recovered.{recovered_words}
-use Rattle.of_mem.specs.ProgramWork.{memory_of}
 use Rattle.of_script.specs.declared.instr.Instr.{Instr}
 use Rattle.of_script.specs.Language.{IsScript, instr_word}
-use Rattle.of_script.specs.declared.instr.TheConstants.{MOST_INSTRS}
 use Rattle.of_store.specs.Store.{Store, Reply}
 use Rattle.of_eval.specs.declared.scripts.Scripts.{Scripts}
-use Rattle.of_eval.specs.Scripts.{store_at, scripts_data_cells, LawfulCells, scripts_meaning}
-use Rattle.of_eval.specs.Stored.{IsStored}
-use Rattle.of_eval.specs.Lawful.{reply_in}
-use Rattle.of_eval.specs.Faults.{AllOwnCellsAreSound}
+use Rattle.of_eval.specs.Scripts.{scripts_data_cells, LawfulCells, scripts_meaning}
 use Rattle.of_core.specs.Table.{Setup, setup_of}
-use Rattle.of_core.specs.Machine.{IsOpen}
 use Rattle.of_core.specs.TableMoment.{TableStart}
 use Rattle.of_core.specs.Events.{Event}
 use Rattle.of_core.specs.Starts.{IsDurable, IsStartRow, start_from_durable}
 use Rattle.of_row.specs.Views.{KnownCaller, View}
 use Rattle.of_row.specs.Rule.{ViewMeetsRule, done_before}
+use Rattle.of_cells.specs.Times.{EndBefore}
+use Rattle.of_cells.specs.Saving.{HasOpenOperation}
+use Rattle.of_cells.specs.Serving.{KeepsSo}
 use Rattle.of_memory.specs.History.{HistoryEntry, Made, IsSerial, store_after, StandsInOrder, ExplainsAll, HasOnly, HasEntry, IsUpTo, ComeInOrder}
-use Rattle.of_memory.specs.Times.{EndBefore}
-use Rattle.of_memory.specs.Calls.{RunsScripts, AreMade, HoldsResponse}
+use Rattle.of_memory.specs.Calls.{RunsScripts, AreMade}
+use Rattle.of_memory.specs.Rows.{StandsAt, HoldsLastReplies}
+use Rattle.of_memory.specs.Saving.{HoldReply}
 
 -- what the machines on a table for these scripts have in common
 abbrev pub setup_with : Scripts → (limit : ℕ) → Setup
 setup_with w limit = setup_of w.callers (scripts_data_cells w) limit (scripts_meaning w)
-
--- the cells of a start stand for this store
-abbrev pub StandsAt : Scripts → TableStart → Store → Type 0
-StandsAt w B s = IsStored (store_at w) w.blocks (memory_of (map payload_of B.cells)) s
-
--- the cells of a start hold a reply to the last call of each caller that has made one
-abbrev pub HoldsLastReplies : Scripts → TableStart → Type 0
-HoldsLastReplies w B =
-    AllOwnCellsAreSound MOST_INSTRS (memory_of (map payload_of B.cells)) w.callers
-
--- a caller of this number is kept, of which this holds
-abbrev pub KeepsSo : (n : ℕ) → (KnownCaller → Type 0) → List KnownCaller → Type 0
-KeepsSo n P [] = ⊥
-KeepsSo n P (x ∷ xs) = ((x.machine.caller ≡ n) × P x) ⊎ KeepsSo n P xs
 
 -- each number is kept, and has made calls of scripts alone
 abbrev pub KeepScripts : Setup → View → Type 0
@@ -55,7 +39,7 @@ ExplainsKept S B h x =
 -- the kept caller's call of this script is open
 abbrev pub HasOpenScript : KnownCaller → List Instr → Type 0
 HasOpenScript x script =
-    IsOpen x.machine.place × IsScript script × (x.machine.op ≡ map instr_word script)
+    IsScript script × HasOpenOperation x (map instr_word script)
 
 -- and of its calls the history has no others
 abbrev pub HasOnlyKept : Setup → TableStart → List HistoryEntry → KnownCaller → Type 0
@@ -65,8 +49,7 @@ HasOnlyKept S B h x =
 
 -- the cells of a start hold this reply to the last call of caller n
 abbrev pub HoldsReplyAt : TableStart → (n : ℕ) → Reply → Type 0
-HoldsReplyAt C n response =
-    HoldsResponse (reply_in MOST_INSTRS (memory_of (map payload_of C.cells)) n) response
+HoldsReplyAt C n response = HoldReply (map payload_of C.cells) n response
 
 -- The last call of caller n that the cells at C hold: none since the start B, or one of the
 -- history, with its reply.

@@ -1,13 +1,12 @@
 pub mod History
 pub mod Calls
-pub mod Times
-pub mod Laws
-pub mod Serving
+pub mod Rows
 pub mod Called
 pub mod Within
 pub mod Saving
 pub mod Handles
 pub mod Memories
+pub mod Laws
 pub mod Telling
 pub mod Tasks
 pub mod Joining

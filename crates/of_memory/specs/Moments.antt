@@ -19,7 +19,9 @@ use Rattle.of_row.specs.Rule.{MeetsRule, members_of}
 use Rattle.of_memory.specs.declared.memory.Memory.{Memory}
 use Rattle.of_memory.specs.History.{HistoryEntry}
 use Rattle.of_memory.specs.Calls.{RunsScripts}
-use Rattle.of_memory.specs.Laws.{setup_with, StandsAt, HoldsLastReplies, KeepsSo, HistoryLeads}
+use Rattle.of_cells.specs.Serving.{KeepsSo}
+use Rattle.of_memory.specs.Rows.{StandsAt, HoldsLastReplies}
+use Rattle.of_memory.specs.Laws.{setup_with, HistoryLeads}
 use Rattle.of_memory.specs.Words.{AreStartWords, words_found}
 use Rattle.of_memory.specs.Memories.{row_of, limit_of, StartsWith}
 

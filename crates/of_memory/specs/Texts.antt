@@ -1,5 +1,5 @@
 -- Texts of what is saved, and what is saved with other sequences.
-use Rattle.std.specs.Prelude.{◌≡◌, ◌⊎◌, ℕ, ◌<◌, List}
+use Rattle.std.specs.Prelude.{◌≡◌, ℕ, ◌<◌, List}
 use Rattle.of_cell.specs.declared.word.TheConstants.{GREATEST_LIMIT}
 use Rattle.of_plan.specs.BadLine.{HasBadLine}
 use Rattle.of_store.specs.Store.{Store, Reply}
@@ -8,18 +8,20 @@ use Rattle.of_report.specs.Image.{Image, image_ticket}
 use Rattle.of_image.specs.declared.version.Version.TheVariants.{Two}
 use Rattle.of_image.specs.ImageText.{image_text, IsImageText}
 use Rattle.of_image.specs.Parsed.{ReadsImage, IsUnlawful}
+use Rattle.of_cells.specs.Saving as generic
+use Rattle.of_cells.specs.Saving.{saved_words}
 use Rattle.of_memory.specs.declared.saved.Saved.{Saved}
-use Rattle.of_memory.specs.declared.error.ImageTextErr.{ImageTextErr}
-use Rattle.of_memory.specs.declared.error.ImageTextErr.TheVariants.{OutOfMemory, Bad, Unlawful, PastLimits}
-use Rattle.of_memory.specs.Saving.{SavedHolds, HoldsReply, start_in, saved_callers, saved_ticket}
-
--- the last sequence that was committed in it
-abbrev pub saved_seq : Saved → ℕ
-saved_seq d = (start_in d).seq
+use Rattle.of_memory.specs.declared.error.ImageTextError.{ImageTextError}
+use Rattle.of_memory.specs.declared.error.ImageTextError.TheVariants.{OutOfMemory, Bad, Unlawful, PastLimits}
+use Rattle.of_memory.specs.Saving.{SavedHolds, HoldsReply, saved_scripts, saved_seq, saved_callers, saved_ticket}
 
 -- the row of its durable words
 abbrev pub saved_row : Saved → DurableRow
-saved_row d = record { callers = d.scripts.callers; blocks = d.scripts.blocks; words = d.row.items }
+saved_row d = record {
+  callers = (saved_scripts d).callers;
+  blocks = (saved_scripts d).blocks;
+  words = saved_words d.cells;
+}
 
 -- the text is the one that is printed for it
 abbrev pub IsTextOfSaved : Saved → List ℕ → Type 0
@@ -45,7 +47,7 @@ pub record SavesSame (before now : Saved) : Type 0 where
 
 -- the limit is out of its range, or below the last sequence that was committed
 abbrev pub IsNoLimitOf : Saved → (limit : ℕ) → Type 0
-IsNoLimitOf d limit = (limit ≡ 0) ⊎ ((GREATEST_LIMIT < limit) ⊎ (limit < saved_seq d))
+IsNoLimitOf d limit = generic.IsNoLimitOf d.cells limit
 
 -- the same words are saved, and so the same store, tickets and replies
 pub record IsReadBack (before now : Saved) : Type 0 where
@@ -53,7 +55,7 @@ pub record IsReadBack (before now : Saved) : Type 0 where
   pub same : SavesSame before now
 
 -- no limit is as high as the sequence of the image
-pub record IsPastAll (i : Image) (e : ImageTextErr) : Type 0 where
+pub record IsPastAll (i : Image) (e : ImageTextError) : Type 0 where
   pub is : e ≡ PastLimits i.seq
   pub past : GREATEST_LIMIT < i.seq
 
@@ -65,7 +67,7 @@ pub record IsPastLimits (text : List ℕ) (seq : ℕ) : Type 0 where
   pub past : GREATEST_LIMIT < seq
 
 -- why nothing is read from a text
-abbrev pub IsTextCause : List ℕ → ImageTextErr → Type 0
+abbrev pub IsTextCause : List ℕ → ImageTextError → Type 0
 IsTextCause text OutOfMemory = Unit {0}
 IsTextCause text (Bad line) = HasBadLine (IsImageText Two) text line
 IsTextCause text (Unlawful cell) = IsUnlawful Two text cell

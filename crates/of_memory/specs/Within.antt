@@ -1,37 +1,25 @@
 -- How many steps a call of a handle makes, and when it is stopped.
-use Rattle.std.specs.Prelude.{◌≡◌, ℕ, ◌+◌, ◌≤◌, Option, Some, None, Result, Ok, Err}
+use Rattle.std.specs.Prelude.{ℕ, Option, Result}
 use Rattle.of_plan.specs.declared.answer.Answer.{Answer}
-use Rattle.of_memory.specs.declared.error.RunErr.{RunErr}
-use Rattle.of_memory.specs.declared.error.RunErr.TheVariants.{Stopped, Spent, Open, NoTicket}
+use Rattle.of_cells.specs.declared.error.RunError.{RunError}
+use Rattle.of_cells.specs.Within as generic
+use Rattle.of_memory.specs.Called.{without_reply}
 
 -- the call is not stopped
-abbrev pub IsNeverStopped : Result Answer RunErr → Type 0
-IsNeverStopped (Ok a) = Unit {0}
-IsNeverStopped (Err (Stopped asked)) = ⊥
-IsNeverStopped (Err (Spent seq)) = Unit {0}
-IsNeverStopped (Err Open) = Unit {0}
-IsNeverStopped (Err NoTicket) = Unit {0}
+abbrev pub IsNeverStopped : Result Answer RunError → Type 0
+IsNeverStopped result = generic.IsNeverStopped (without_reply result)
 
 -- A call that had made some steps before is given more, and has made so many by now. An answer
 -- tells no more than both together. A call is stopped only if it has made them all, at the next
 -- ask.
-abbrev pub KeepsWithin : (before more now : ℕ) → Result Answer RunErr → Type 0
-KeepsWithin before more now (Ok a) = a.steps ≤ before + more
-KeepsWithin before more now (Err (Stopped asked)) = (asked ≡ more + 1) × (now ≡ before + more)
-KeepsWithin before more now (Err (Spent seq)) = Unit {0}
-KeepsWithin before more now (Err Open) = Unit {0}
-KeepsWithin before more now (Err NoTicket) = Unit {0}
+abbrev pub KeepsWithin : (before more now : ℕ) → Result Answer RunError → Type 0
+KeepsWithin before more now result = generic.KeepsWithin before more now (without_reply result)
 
 -- the same of a call that is given so many more steps, or as many as it needs
-abbrev pub KeepsToStop : (before : ℕ) → (stop : Option ℕ) → (now : ℕ)
-    → Result Answer RunErr → Type 0
-KeepsToStop before None now r = IsNeverStopped r
-KeepsToStop before (Some more) now r = KeepsWithin before more now r
+abbrev pub KeepsToStop : (before : ℕ) → (stop : Option ℕ) → (now : ℕ) → Result Answer RunError
+    → Type 0
+KeepsToStop before stop now result = generic.KeepsToStop before stop now (without_reply result)
 
 -- An answer tells at most so many steps, and a stopped call has asked at most so many times.
-abbrev pub EndsWithin : (most : ℕ) → Result Answer RunErr → Type 0
-EndsWithin most (Ok a) = a.steps ≤ most
-EndsWithin most (Err (Stopped asked)) = asked ≤ most
-EndsWithin most (Err (Spent seq)) = Unit {0}
-EndsWithin most (Err Open) = Unit {0}
-EndsWithin most (Err NoTicket) = Unit {0}
+abbrev pub EndsWithin : (most : ℕ) → Result Answer RunError → Type 0
+EndsWithin most result = generic.EndsWithin most (without_reply result)

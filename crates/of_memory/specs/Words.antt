@@ -16,10 +16,10 @@ use Rattle.of_report.specs.Image.{Image, IsRestored}
 use Rattle.of_image.specs.RowFault.{IsRowFault}
 use Rattle.of_memory.specs.declared.saved.Saved.{Saved}
 use Rattle.of_memory.specs.declared.words.TableSizes.{TableSizes}
-use Rattle.of_memory.specs.declared.error.WordsErr.{WordsErr}
-use Rattle.of_memory.specs.declared.error.WordsErr.TheVariants.{OutOfMemory, Callers, Blocks, Limit, Count, Unlawful, PastLimit}
-use Rattle.of_memory.specs.Laws.{setup_with, HoldsLastReplies}
-use Rattle.of_memory.specs.Serving.{IsScriptsRow}
+use Rattle.of_memory.specs.declared.error.WordsError.{WordsError}
+use Rattle.of_memory.specs.declared.error.WordsError.TheVariants.{OutOfMemory, Callers, Blocks, Limit, Count, Unlawful, PastLimit}
+use Rattle.of_memory.specs.Laws.{setup_with}
+use Rattle.of_memory.specs.Rows.{IsScriptsRow, HoldsLastReplies}
 use Rattle.of_memory.specs.Texts.{IsImageOfSaved}
 
 -- ---- sizes
@@ -93,7 +93,7 @@ pub record IsPastLimit (limit : ℕ) (words : List ℕ) (seq : ℕ) : Type 0 whe
   pub past : limit < seq
 
 -- why nothing is found
-abbrev pub IsWordsCause : (callers blocks limit : ℕ) → List ℕ → WordsErr → Type 0
+abbrev pub IsWordsCause : (callers blocks limit : ℕ) → List ℕ → WordsError → Type 0
 IsWordsCause callers blocks limit words OutOfMemory = Unit {0}
 IsWordsCause callers blocks limit words (Callers k) =
     (k ≡ callers) × ((callers ≡ 0) ⊎ (MOST_CALLERS < callers))

@@ -9,7 +9,7 @@ use thiserror::Error;
 
 /// Why no memory is opened.
 #[derive(Debug, Drop, Error)]
-pub enum OpenErr {
+pub enum OpenError {
     #[error("out of memory")]
     OutOfMemory(#[from(alloc)] AllocError),
     #[error("{callers} callers: there are 1 to 16")]
@@ -20,40 +20,9 @@ pub enum OpenErr {
     Limit { limit: u32 },
 }
 
-/// Why there is no handle.
-#[derive(Debug, Drop, Error)]
-pub enum EnrolErr {
-    #[error("out of memory")]
-    OutOfMemory(#[from(alloc)] AllocError),
-    #[error("there is no caller {number}")]
-    NoCaller { number: u32 },
-    /// Its handle has not left.
-    #[error("caller {number} has a handle already")]
-    Enrolled { number: u32 },
-}
-
-/// Why a call has no answer.
-#[derive(Clone, Copy, Debug, PartialEq, Eq, Error)]
-pub enum RunErr {
-    /// The call has asked for so many steps, and the last one was denied. It stays open, for
-    /// `go_on`.
-    #[error("stopped at step {asked}")]
-    Stopped { asked: u64 },
-    /// The sequence has come to the limit without the call, which is over.
-    #[error("no sequence is left after {seq}")]
-    Spent { seq: u32 },
-    /// A call is open, and `run` begins none beside it; or none is open, with which `go_on` could
-    /// go on.
-    #[error("a call is open, or none is")]
-    Open,
-    /// The number has made all calls that it may make.
-    #[error("no ticket is left")]
-    NoTicket,
-}
-
 /// Why nothing that is saved is read from a text.
 #[derive(Clone, Copy, Debug, PartialEq, Eq, Error)]
-pub enum ImageTextErr {
+pub enum ImageTextError {
     #[error("out of memory")]
     OutOfMemory,
     /// The text is no image's, and this is its first line with which none begins, or its last if it
@@ -70,7 +39,7 @@ pub enum ImageTextErr {
 
 /// Why nothing that is saved is found in words.
 #[derive(Clone, Copy, Debug, PartialEq, Eq, Error)]
-pub enum WordsErr {
+pub enum WordsError {
     #[error("out of memory")]
     OutOfMemory,
     #[error("{callers} callers: there are 1 to 16")]
@@ -92,21 +61,21 @@ pub enum WordsErr {
 
 /// What is saved can't have this limit. It is handed back.
 #[derive(Drop)]
-pub struct LimitErr(pub Saved);
+pub struct LimitError(pub Saved);
 
-impl fmt::Debug for LimitErr {
+impl fmt::Debug for LimitError {
     fn fmt<F: fmt::Write>(&self, f: &mut fmt::Formatter<F>) -> fmt::Result {
-        f.write_str("LimitErr")
+        f.write_str("LimitError")
     }
 }
 
-impl fmt::Display for LimitErr {
+impl fmt::Display for LimitError {
     fn fmt<F: fmt::Write>(&self, f: &mut fmt::Formatter<F>) -> fmt::Result {
         f.write_str("the limit is none that this can have")
     }
 }
 
-impl StdError for LimitErr {}
+impl StdError for LimitError {}
 
 /// A memory isn't closed while one of its handles is out. It is handed back.
 #[derive(Drop)]

@@ -1,50 +1,63 @@
 //! A handle: one caller of a memory, for one thread at a time.
 
-use crate::calling::{call_script, go_on_with};
-use crate::error::RunErr;
+ghost use Rattle.of_memory.specs.Called.{HoldsSomeReply, TellsRaw};
+
 use crate::memory::Memory;
-use of_caller::Caller;
-use of_eval::Scripts;
+use of_cells::{CellHandle, CellNews, RawAnswer, RunError};
+use of_eval::{Scripts, reply_of};
 use of_plan::Answer;
-use of_row::Row;
-use of_script::Script;
-use std::alloc::Global;
-use std::sync::Arc;
+use of_script::{MOST_INSTRS, Script, to_words};
+
+// The answer of a script's call.
+fn typed(answer: RawAnswer) -> Answer
+    requires { HoldsSomeReply answer }
+    ensures { TellsRaw answer result }
+{
+    let Some(reply) = reply_of(&answer.raw) else {
+        unreachable!()
+    };
+    Answer {
+        seq: answer.seq,
+        announced: answer.announced,
+        reply,
+        steps: answer.steps,
+    }
+}
 
 /// One caller of a memory, for one thread at a time.
 #[derive(Drop)]
 pub struct Handle {
-    pub(crate) row: Arc<Row<Scripts>, Global>,
-    pub(crate) number: u32,
-    pub(crate) caller: Caller<Scripts>,
+    pub(crate) cells: CellHandle<Scripts>,
 }
 
 impl Handle {
-    ghost use Rattle.std.specs.Prelude.{◌≡◌, ◌≢◌, ◌↔◌, IsTrue, List, ℕ};
+    ghost use Rattle.std.specs.Prelude.{◌≡◌, List, ℕ};
     ghost use Rattle.of_script.specs.declared.instr.Instr.{Instr as TheInstr};
     ghost use Rattle.of_memory.specs.History.{Made};
-    ghost use Rattle.of_memory.specs.Handles.{IsHandle, HasMade, HasOpen, IsSame, MakesCall};
-    ghost use Rattle.of_memory.specs.Handles.{ResumesCall, StaysOpenOnlyIfStopped, OpenCallStays};
-    ghost use Rattle.of_memory.specs.Handles.{RefusesCall, RefusesToGoOn, number_of_handle, steps_so_far};
     ghost use Rattle.of_memory.specs.Called.{LeavesAsItWas};
-    ghost use Rattle.of_memory.specs.Handles.{step_bound_of};
-    ghost use Rattle.of_memory.specs.Within.{EndsWithin, IsNeverStopped, KeepsWithin, KeepsToStop};
-    ghost use Rattle.of_memory.specs.Memories.{IsMemory, IsFrom, IsStill, HasMadeOf, KnowsOthers};
-    ghost use Rattle.of_memory.specs.Memories.{HasOpenOf, OthersStayOpen, PutsBack};
-    ghost use Rattle.of_memory.specs.Handles.{OpensOnly, OpensNone};
+    ghost use Rattle.of_memory.specs.Within.{EndsWithin, IsNeverStopped, KeepsWithin};
+    ghost use Rattle.of_memory.specs.Handles.{IsHandle, HasMade, HasOpen, IsSame, home_of};
+    ghost use Rattle.of_memory.specs.Handles.{MakesCall, ResumesCall, StaysOpenOnlyIfStopped};
+    ghost use Rattle.of_memory.specs.Handles.{OpenCallStays, OpensOnly, OpensNone};
+    ghost use Rattle.of_memory.specs.Handles.{RefusesCall, RefusesToGoOn, number_of_handle};
+    ghost use Rattle.of_memory.specs.Handles.{steps_so_far, step_bound_of};
+    ghost use Rattle.of_memory.specs.Handles.{MakesAtMost, GoesOnWithin};
+    ghost use Rattle.of_memory.specs.Memories.{IsMemory, IsFrom, IsStill, HasMadeOf, HasOpenOf};
+    ghost use Rattle.of_memory.specs.Memories.{KnowsOthers, OthersStayOpen, OthersKnowOrder};
+    ghost use Rattle.of_memory.specs.Memories.{PutsBack, RemembersAll};
     ghost use Rattle.of_memory.specs.Telling.{BeginsAfterHeard, ResumesAfterHeard, KeepsKnown};
-    ghost use Rattle.of_memory.specs.Telling.{LeavesOrder};
-    ghost use Rattle.of_memory.specs.Memories.{OthersKnowOrder};
+    ghost use Rattle.of_memory.specs.Telling.{LeavesOrder, TellsMemory, CallsStay, IsNews};
+    ghost use Rattle.of_memory.specs.Telling.{TellsOwn, TellsHeard, HearsAll};
 
     /// Its number.
     pub fn number(&self) -> u32
         ensures { result ≡ number_of_handle self.now }
     {
-        self.number
+        self.cells.number()
     }
 
     /// Runs a script, all of it or nothing, and answers its reply.
-    pub fn run(&mut self, script: &Script) -> Result<Answer, RunErr>
+    pub fn run(&mut self, script: &Script) -> Result<Answer, RunError>
         requires { IsHandle self.old }
         ensures handle { IsHandle self.new }
         ensures same { IsSame self.old self.new }
@@ -53,16 +66,23 @@ impl Handle {
         ensures cause { RefusesCall self.old result }
         ensures unmade { LeavesAsItWas result self.old self.new }
         ensures bound { EndsWithin (step_bound_of self.old) result }
+        ensures rise { MakesAtMost (step_bound_of self.old) self.old self.new }
         ensures stopped { IsNeverStopped result }
         ensures only { OpensOnly script.now self.old self.new }
         ensures behind { BeginsAfterHeard result self.old self.new }
         ensures knows { KeepsKnown self.old self.new }
     {
-        self.begin(script, None)
+        let len = script.len() as usize;
+        let mut words = [0; MOST_INSTRS];
+        to_words(script, &mut words);
+        match self.cells.run(&words[..len]) {
+            Ok(answer) => Ok(typed(answer)),
+            Err(error) => Err(error),
+        }
     }
 
     /// Runs a script for at most so many steps. If they don't do, the call stays open.
-    pub fn run_within(&mut self, script: &Script, steps: u64) -> Result<Answer, RunErr>
+    pub fn run_within(&mut self, script: &Script, steps: u64) -> Result<Answer, RunError>
         requires { IsHandle self.old }
         ensures handle { IsHandle self.new }
         ensures same { IsSame self.old self.new }
@@ -71,39 +91,24 @@ impl Handle {
         ensures cause { RefusesCall self.old result }
         ensures unmade { LeavesAsItWas result self.old self.new }
         ensures bound { EndsWithin (step_bound_of self.old) result }
+        ensures rise { MakesAtMost (step_bound_of self.old) self.old self.new }
         ensures within { KeepsWithin 0 steps (steps_so_far self.new) result }
+        ensures given { MakesAtMost steps self.old self.new }
         ensures only { OpensOnly script.now self.old self.new }
         ensures behind { BeginsAfterHeard result self.old self.new }
         ensures knows { KeepsKnown self.old self.new }
     {
-        self.begin(script, Some(steps))
-    }
-
-    fn begin(&mut self, script: &Script, stop: Option<u64>) -> Result<Answer, RunErr>
-        requires { IsHandle self.old }
-        ensures handle { IsHandle self.new }
-        ensures same { IsSame self.old self.new }
-        ensures made { MakesCall script.now result self.old self.new }
-        ensures open_call { StaysOpenOnlyIfStopped script.now result self.new }
-        ensures cause { RefusesCall self.old result }
-        ensures unmade { LeavesAsItWas result self.old self.new }
-        ensures bound { EndsWithin (step_bound_of self.old) result }
-        ensures stop { KeepsToStop 0 stop (steps_so_far self.new) result }
-        ensures only { OpensOnly script.now self.old self.new }
-        ensures behind { BeginsAfterHeard result self.old self.new }
-        ensures knows { KeepsKnown self.old self.new }
-    {
-        if !self.caller.is_idle() {
-            return Err(RunErr::Open);
+        let len = script.len() as usize;
+        let mut words = [0; MOST_INSTRS];
+        to_words(script, &mut words);
+        match self.cells.run_within(&words[..len], steps) {
+            Ok(answer) => Ok(typed(answer)),
+            Err(error) => Err(error),
         }
-        if self.caller.made() == u32::MAX {
-            return Err(RunErr::NoTicket);
-        }
-        call_script(&self.row, self.number, &mut self.caller, script, stop)
     }
 
     /// Goes on with the open call, to its answer.
-    pub fn go_on(&mut self) -> Result<Answer, RunErr>
+    pub fn go_on(&mut self) -> Result<Answer, RunError>
         requires { IsHandle self.old }
         ensures handle { IsHandle self.new }
         ensures same { IsSame self.old self.new }
@@ -112,16 +117,20 @@ impl Handle {
         ensures cause { RefusesToGoOn self.old result }
         ensures unmade { LeavesAsItWas result self.old self.new }
         ensures bound { EndsWithin (step_bound_of self.old) result }
+        ensures rise { GoesOnWithin (step_bound_of self.old) self.old self.new }
         ensures stopped { IsNeverStopped result }
         ensures only { OpensNone self.old self.new }
         ensures behind { ResumesAfterHeard result self.old self.new }
         ensures knows { KeepsKnown self.old self.new }
     {
-        self.resume(None)
+        match self.cells.go_on() {
+            Ok(answer) => Ok(typed(answer)),
+            Err(error) => Err(error),
+        }
     }
 
     /// Goes on with the open call for at most so many steps.
-    pub fn go_on_within(&mut self, steps: u64) -> Result<Answer, RunErr>
+    pub fn go_on_within(&mut self, steps: u64) -> Result<Answer, RunError>
         requires { IsHandle self.old }
         ensures handle { IsHandle self.new }
         ensures same { IsSame self.old self.new }
@@ -130,38 +139,53 @@ impl Handle {
         ensures cause { RefusesToGoOn self.old result }
         ensures unmade { LeavesAsItWas result self.old self.new }
         ensures bound { EndsWithin (step_bound_of self.old) result }
+        ensures rise { GoesOnWithin (step_bound_of self.old) self.old self.new }
         ensures within { KeepsWithin (steps_so_far self.old) steps
             (steps_so_far self.new) result }
+        ensures given { MakesAtMost steps self.old self.new }
         ensures only { OpensNone self.old self.new }
         ensures behind { ResumesAfterHeard result self.old self.new }
         ensures knows { KeepsKnown self.old self.new }
     {
-        self.resume(Some(steps))
+        match self.cells.go_on_within(steps) {
+            Ok(answer) => Ok(typed(answer)),
+            Err(error) => Err(error),
+        }
     }
 
-    fn resume(&mut self, stop: Option<u64>) -> Result<Answer, RunErr>
+    /// What the handle knows, for another handle of its memory to hear: which of its own calls have
+    /// ended, and all that it has heard of others. It takes no memory and waits for nothing. The
+    /// handle's calls stay as they are.
+    pub fn tell(&mut self) -> CellNews
         requires { IsHandle self.old }
         ensures handle { IsHandle self.new }
         ensures same { IsSame self.old self.new }
-        ensures made { ResumesCall result self.old self.new }
-        ensures open_call { OpenCallStays result self.old self.new }
-        ensures cause { RefusesToGoOn self.old result }
-        ensures unmade { LeavesAsItWas result self.old self.new }
-        ensures bound { EndsWithin (step_bound_of self.old) result }
-        ensures stop { KeepsToStop (steps_so_far self.old) stop
-            (steps_so_far self.new) result }
-        ensures only { OpensNone self.old self.new }
-        ensures behind { ResumesAfterHeard result self.old self.new }
+        ensures calls { CallsStay self.old self.new }
         ensures knows { KeepsKnown self.old self.new }
+        ensures news { IsNews (home_of self.old) result }
+        ensures own { TellsOwn self.old result }
+        ensures heard { TellsHeard self.old result }
     {
-        if self.caller.is_idle() {
-            return Err(RunErr::Open);
-        }
-        go_on_with(&self.row, self.number, &mut self.caller, stop)
+        self.cells.tell()
+    }
+
+    /// Takes in what another handle of its memory knew when it told. Each call that the handle
+    /// begins from now on comes, in the memory's history, after all calls that the news tells of.
+    pub fn hear(&mut self, news: CellNews)
+        requires handle { IsHandle self.old }
+        requires news { IsNews (home_of self.old) news }
+        ensures handle { IsHandle self.new }
+        ensures same { IsSame self.old self.new }
+        ensures calls { CallsStay self.old self.new }
+        ensures knows { KeepsKnown self.old self.new }
+        ensures heard { HearsAll news self.new }
+    {
+        self.cells.hear(news);
     }
 
     /// Leaves its memory, which keeps what it has made; a call that is open stays open. Then its
-    /// number is free again.
+    /// number is free again. Each call that a handle begins which comes after that stands later in
+    /// the memory's history, whatever its number.
     pub fn leave(self, memory: &mut Memory)
         requires handle { IsHandle self }
         requires memory { IsMemory memory.old }
@@ -177,12 +201,10 @@ impl Handle {
         ensures back { PutsBack memory.old memory.new self }
         ensures order { LeavesOrder self memory.new }
         ensures others_order { OthersKnowOrder (number_of_handle self) memory.old memory.new }
+        ensures heard { TellsMemory self memory.new }
+        ensures remembers { RemembersAll memory.old memory.new }
     {
-        let Handle {
-            row: _,
-            number,
-            caller,
-        } = self;
-        memory.take_in(number, caller);
+        let Handle { cells } = self;
+        cells.leave(&mut memory.cells);
     }
 }

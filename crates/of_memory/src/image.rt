@@ -9,9 +9,10 @@ ghost use Rattle.of_report.specs.Image.{IsImage};
 ghost use Rattle.of_memory.specs.Saving.{IsSaved, saved_limit};
 ghost use Rattle.of_memory.specs.Texts.{IsImageOfSaved, IsPastAll};
 
-use crate::error::ImageTextErr;
+use crate::error::ImageTextError;
 use crate::saved::Saved;
 use of_cell::Shape;
+use of_cells::SavedCells;
 use of_eval::{Scripts, shape_of};
 use of_image::{ImageErr, image_parse, image_print};
 use of_plan::GREATEST_LIMIT;
@@ -35,7 +36,7 @@ fn table_of(alloc: Global, shape: &Shape, row: &[u64]) -> Result<Vec<u64>, Alloc
 impl Saved {
     ghost use Rattle.std.specs.Prelude.{MatchResult};
     ghost use Rattle.of_memory.specs.declared.saved.Saved.{Saved as AnySaved};
-    ghost use Rattle.of_memory.specs.declared.error.ImageTextErr.TheVariants.{OutOfMemory};
+    ghost use Rattle.of_memory.specs.declared.error.ImageTextError.TheVariants.{OutOfMemory};
     ghost use Rattle.of_memory.specs.Texts.{IsTextOfSaved, TextHolds, IsReadBack, IsTextCause};
 
     /// The text of it, an image as the command line reads and writes them: the store, and the last
@@ -46,13 +47,14 @@ impl Saved {
         ensures printed { IfOk result (λ text. IsTextOfSaved self.now text.items) }
         ensures holds { IfOk result (λ text. TextHolds text.items self.now) }
     {
-        let words = table_of(alloc, &shape_of(self.scripts), &self.row)?;
-        image_print(alloc, &self.scripts.plot(), &words)
+        let scripts = self.scripts();
+        let words = table_of(alloc, &shape_of(scripts), self.cells.words())?;
+        image_print(alloc, &scripts.plot(), &words)
     }
 
     /// What a text holds, as `image_text` or the command line writes it; an open transaction is
     /// brought to its end. Its limit is the greatest one.
-    pub fn from_image(alloc: Global, text: &[u8]) -> Result<Saved, ImageTextErr>
+    pub fn from_image(alloc: Global, text: &[u8]) -> Result<Saved, ImageTextError>
         ensures saved { IfOk result IsSaved }
         ensures holds { IfOk result (TextHolds text.now) }
         ensures limit { IfOk result (λ d. saved_limit d ≡ GREATEST_LIMIT) }
@@ -63,15 +65,15 @@ impl Saved {
     {
         match image_parse(alloc, text) {
             Ok(image) => save_image(image),
-            Err(ImageErr::Memory) => Err(ImageTextErr::OutOfMemory),
-            Err(ImageErr::Bad { line }) => Err(ImageTextErr::Bad { line }),
-            Err(ImageErr::Unlawful { cell }) => Err(ImageTextErr::Unlawful { cell }),
+            Err(ImageErr::Memory) => Err(ImageTextError::OutOfMemory),
+            Err(ImageErr::Bad { line }) => Err(ImageTextError::Bad { line }),
+            Err(ImageErr::Unlawful { cell }) => Err(ImageTextError::Unlawful { cell }),
         }
     }
 }
 
 // What an image holds, if its sequence is within the limits.
-fn save_image(image: Image) -> Result<Saved, ImageTextErr>
+fn save_image(image: Image) -> Result<Saved, ImageTextError>
     requires { IsImage MOST_INSTRS image }
     ensures saved { IfOk result IsSaved }
     ensures image { IfOk result (IsImageOfSaved image) }
@@ -80,7 +82,7 @@ fn save_image(image: Image) -> Result<Saved, ImageTextErr>
 {
     let seq = image.recovered.seq;
     if seq > GREATEST_LIMIT {
-        return Err(ImageTextErr::PastLimits { seq });
+        return Err(ImageTextError::PastLimits { seq });
     }
     Ok(saved_of(image, GREATEST_LIMIT))
 }
@@ -100,8 +102,6 @@ pub(crate) fn saved_of(image: Image, limit: u32) -> Saved
         blocks: image.blocks,
     };
     Saved {
-        scripts,
-        limit,
-        row: image.durable,
+        cells: SavedCells::of_recovered(scripts, limit, image.durable),
     }
 }

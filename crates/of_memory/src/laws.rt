@@ -1,15 +1,17 @@
 //! What memories and their histories hold: functions that do nothing, whose contracts are the
 //! theorems.
 
-ghost use Rattle.of_memory.specs.Handles.{CallsAreCounted};
+ghost use Rattle.of_memory.specs.Handles.{CallsAreCounted, AreStepBounds};
 ghost use Rattle.of_memory.specs.Joining.{HistoriesJoin, InvariantsHold};
 ghost use Rattle.of_memory.specs.Joining.{MemoriesStay, NoneStaysOpen, LoneCallsAreSaved};
 ghost use Rattle.of_memory.specs.Laws.{HoldsHistory};
 ghost use Rattle.of_memory.specs.Memories.{IsMemory};
 ghost use Rattle.of_memory.specs.Moments.{WordsHoldHistory, HoldsWordsAlways};
-ghost use Rattle.of_memory.specs.Telling.{ToldCallsComeFirst};
+ghost use Rattle.of_memory.specs.Telling.{ToldCallsComeFirst, CallsComeInTurn};
 
 use crate::memory::Memory;
+use of_cell::laws::{largest, smallest};
+use of_cells::laws as cells;
 use of_core::laws::{every_moment, starts, step_kept};
 use of_eval::Scripts;
 use of_row::laws::stops_lose_nothing;
@@ -50,7 +52,9 @@ pub fn memory_words_hold_history(memory: &Memory)
 /// that it has made since.
 pub fn calls_are_counted()
     ensures { CallsAreCounted }
-{}
+{
+    cells::calls_are_counted::<Scripts>();
+}
 
 /// The history of a memory and that of the one that goes on from what it has left are one history.
 pub fn histories_join()
@@ -71,7 +75,9 @@ pub fn memories_stay()
 /// A handle that comes and leaves with no call open leaves none open.
 pub fn none_stays_open()
     ensures { NoneStaysOpen }
-{}
+{
+    cells::none_stays_open::<Scripts>();
+}
 
 /// If one caller has made all calls, and each was answered, what is saved is the store after their
 /// scripts.
@@ -84,3 +90,18 @@ pub fn lone_calls_are_saved()
 pub fn told_calls_come_first()
     ensures { ToldCallsComeFirst }
 {}
+
+/// Calls that a program makes one after the other come in that order in the history, whatever their
+/// numbers: those of a handle that has left before those of one that comes then.
+pub fn calls_come_in_turn()
+    ensures { CallsComeInTurn }
+{}
+
+/// A call of a handle ends within 6,054 of its own steps in the smallest memory, and within 138,657
+/// in the largest: the step bounds there, to which each call keeps.
+pub fn step_bounds()
+    ensures { AreStepBounds }
+{
+    smallest();
+    largest();
+}

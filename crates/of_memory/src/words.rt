@@ -5,9 +5,9 @@ ghost use Rattle.of_cell.specs.declared.word.TheConstants.{GREATEST_LIMIT};
 ghost use Rattle.of_memory.specs.Saving.{IsSaved, saved_limit};
 ghost use Rattle.of_memory.specs.Words.{AreCounts, AreSizesOf, IsSizeOfTables, durable_count};
 ghost use Rattle.of_memory.specs.Words.{AreStartWords, IsWordsCause, WordsHold};
-ghost use Rattle.of_memory.specs.declared.error.WordsErr.TheVariants.{OutOfMemory};
+ghost use Rattle.of_memory.specs.declared.error.WordsError.TheVariants.{OutOfMemory};
 
-use crate::error::WordsErr;
+use crate::error::WordsError;
 use crate::image::saved_of;
 use crate::saved::Saved;
 use of_eval::{Scripts, shape_of};
@@ -44,7 +44,7 @@ pub fn sizes(callers: u32, blocks: u32) -> Option<TableSizes>
 }
 
 // What recovery finds in the durable words of a table for these scripts.
-fn find(alloc: Global, scripts: Scripts, limit: u32, words: &[u64]) -> Result<Saved, WordsErr>
+fn find(alloc: Global, scripts: Scripts, limit: u32, words: &[u64]) -> Result<Saved, WordsError>
     requires count { length words.now ≡ durable_count scripts.callers scripts.blocks }
     requires some { 1 ≤ limit }
     requires few { limit ≤ GREATEST_LIMIT }
@@ -56,13 +56,13 @@ fn find(alloc: Global, scripts: Scripts, limit: u32, words: &[u64]) -> Result<Sa
 {
     let image = match image_of_words(alloc, &scripts.plot(), words) {
         Ok(image) => image,
-        Err(ImageErr::Memory) => return Err(WordsErr::OutOfMemory),
+        Err(ImageErr::Memory) => return Err(WordsError::OutOfMemory),
         Err(ImageErr::Bad { line: _ }) => unreachable!(),
-        Err(ImageErr::Unlawful { cell }) => return Err(WordsErr::Unlawful { cell }),
+        Err(ImageErr::Unlawful { cell }) => return Err(WordsError::Unlawful { cell }),
     };
     let seq = image.recovered.seq;
     if limit < seq {
-        return Err(WordsErr::PastLimit { seq });
+        return Err(WordsError::PastLimit { seq });
     }
     Ok(saved_of(image, limit))
 }
@@ -80,7 +80,7 @@ impl Saved {
         blocks: u32,
         limit: u32,
         words: &[u64],
-    ) -> Result<Saved, WordsErr>
+    ) -> Result<Saved, WordsError>
         ensures saved { IfOk result IsSaved }
         ensures holds { IfOk result (WordsHold callers blocks words.now) }
         ensures limit { IfOk result (λ d. saved_limit d ≡ limit) }
@@ -90,18 +90,18 @@ impl Saved {
             AreStartWords w limit words.now → IfErr result (λ e. e ≡ OutOfMemory) }
     {
         if callers == 0 || callers > MOST_CALLERS {
-            return Err(WordsErr::Callers { callers });
+            return Err(WordsError::Callers { callers });
         }
         if blocks > MOST_BLOCKS {
-            return Err(WordsErr::Blocks { blocks });
+            return Err(WordsError::Blocks { blocks });
         }
         if limit == 0 || limit > GREATEST_LIMIT {
-            return Err(WordsErr::Limit { limit });
+            return Err(WordsError::Limit { limit });
         }
         let scripts = Scripts { callers, blocks };
         let count = words.len();
         if count != shape_of(scripts).durable_cells() as usize {
-            return Err(WordsErr::Count { count });
+            return Err(WordsError::Count { count });
         }
         find(alloc, scripts, limit, words)
     }

@@ -5,14 +5,14 @@ ghost use Rattle.of_memory.specs.Handles.{IsHandle, home_of};
 ghost use Rattle.of_memory.specs.Memories.{IsFrom, IsMemory, IsStill};
 ghost use Rattle.of_memory.specs.Telling.{IsNews};
 
-use of_memory::{EnrolErr, GREATEST_LIMIT, Handle, Memory, News, RunErr, Script, parse};
+use of_memory::{EnrolError, GREATEST_LIMIT, Handle, Memory, News, RunError, Script, parse};
 use std::alloc::Global;
 use std::test::Fail;
 use std::thread::{Threads, join};
 
 /// The memory, and its handle of a number. A function is proved with all clauses of all its calls
 /// at hand, and a call of a memory has many; this one passes few of them on.
-fn enrolled(mut memory: Memory, number: u32) -> Result<(Memory, Handle), EnrolErr>
+fn enrolled(mut memory: Memory, number: u32) -> Result<(Memory, Handle), EnrolError>
     requires { IsMemory memory }
     ensures memory { IfOk result (λ r. IsMemory r.0) }
     ensures still { IfOk result (λ r. IsStill memory r.0) }
@@ -47,7 +47,7 @@ fn first_value(mut handle: Handle, script: &Script) -> Option<u32>
 }
 
 /// A handle makes a call, and tells of it.
-fn call_told(mut first: Handle, script: &Script) -> Result<(Handle, News), RunErr>
+fn call_told(mut first: Handle, script: &Script) -> Result<(Handle, News), RunError>
     requires { IsHandle first }
     ensures handle { IfOk result (λ r. IsHandle r.0) }
     ensures news { IfOk result (λ r. IsNews (home_of first) r.1) }

@@ -1,6 +1,6 @@
 use Rattle.std.proofs.Common.{◌≡◌, ◌+◌, ◌<◌, Some, inr, sym, ap, subst, ◌∙◌, arith}
 use Rattle.std.proofs.lemmas.Bool.Decides.{nat_tests}
-use Rattle.of_memory.specs.declared.error.RunErr.TheVariants.{Stopped}
+use Rattle.of_cells.specs.declared.error.RunError.TheVariants.{Stopped}
 use Rattle.of_memory.specs.Saving.{saved_ticket}
 use Rattle.example_bank.specs.Clerks.{CountsReply, SettlesEnd, IsFinished}
 use Rattle.example_bank.proofs.clerk.Clerk.settle.Goals as goal

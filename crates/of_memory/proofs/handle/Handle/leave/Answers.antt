@@ -1,13 +1,15 @@
-use Rattle.std.proofs.Common.{◌∙◌, sym, ap, Some, None, get_or}
-use Rattle.std.proofs.lemmas.List.{get_or-set_same}
-use Rattle.of_memory.proofs.Holding.{low_handle}
-use Rattle.of_memory.proofs.Times.{order_in}
+use Rattle.of_memory.proofs.Holding.{put_back, knows_others, others_open}
 use Rattle.of_memory.proofs.handle.Handle.leave.Goals as goal
 
-pub returns-clause-order : goal.returns-clause-order
-returns-clause-order c =
-    let h = c.args.self in
-    let m = c.args.memory.now in
-    order_in _ h
-    (ap (λ cs. get_or cs h.number None) c.take_in.ensures.back ∙ get_or-set_same m.callers.items h.number (Some h.caller) None (low_handle m h c.requires.memory c.requires.handle c.requires.from))
-    (c.requires.from ∙ sym c.take_in.ensures.still)
+pub returns-clause-memory : goal.returns-clause-memory
+returns-clause-memory c =
+    put_back c.args.memory.now _ c.requires.memory c.leave.ensures.memory c.leave.ensures.still c.args.self c.leave.ensures.back c.requires.handle
+
+pub returns-clause-open_call : goal.returns-clause-open_call
+returns-clause-open_call c script opened = record { is = opened.is; opened = c.leave.ensures.open_call _ opened.opened }
+
+pub returns-clause-others : goal.returns-clause-others
+returns-clause-others c = knows_others _ c.args.memory.now _ c.leave.ensures.others
+
+pub returns-clause-others_open : goal.returns-clause-others_open
+returns-clause-others_open c = others_open _ c.args.memory.now _ c.leave.ensures.others_open

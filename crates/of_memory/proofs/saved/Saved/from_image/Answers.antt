@@ -14,7 +14,7 @@ returns-in-Ok-clause-cause c =
 
 pub returns-in-Ok-clause-back : goal.returns-in-Ok-clause-back
 returns-in-Ok-clause-back c d is holds =
-    read_back c.args.text.now c.in-Ok.image c.save_image.result c.save_image.ensures.image c.save_image.ensures.past d is holds (c.in-Ok.ensures.only holds.0 holds.1)
+    read_back c.args.text.now c.in-Ok.image c.save_image.result c.save_image.ensures.saved c.save_image.ensures.image c.save_image.ensures.past d is holds (c.in-Ok.ensures.only holds.0 holds.1)
 
 pub returns-in-Err-Unlawful-clause-back : goal.returns-in-Err-Unlawful-clause-back
 returns-in-Err-Unlawful-clause-back c d is holds = let not = c.in-Err-Unlawful.ensures.only holds.0 holds.1 in absurd cc

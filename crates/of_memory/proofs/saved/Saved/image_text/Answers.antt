@@ -1,4 +1,4 @@
-use Rattle.std.proofs.Common.{subst}
+use Rattle.std.proofs.Common.{subst, ◌∙◌}
 use Rattle.std.proofs.lemmas.Result.{IfOk-weaker}
 use Rattle.of_image.specs.declared.version.Version.TheVariants.{Two}
 use Rattle.of_image.specs.ImageText.{SpellsImage, table_row}
@@ -9,7 +9,7 @@ use Rattle.of_memory.proofs.saved.Saved.image_text.Goals as goal
 pub returns-clause-holds : goal.returns-clause-holds
 returns-clause-holds c =
     let d = c.args.self.now in
-    let row = printed_row d c.plot.result c.shape_of.result c.in_ok-words.words.items c.deref-2.result.now c.deref.result.now c.plot.ensures.callers c.plot.ensures.instrs c.plot.ensures.blocks c.shape_of.ensures.callers c.shape_of.ensures.cells c.deref-2.ensures.value c.in_ok-words.ensures.durable c.deref.ensures.value in
-    let store = c.requires.row.may_start.lawful in
-    IfOk-weaker c.image_print.result (λ text. SpellsImage Two text.items (table_row c.plot.result c.deref-2.result.now)) (λ text. TextHolds text.items d)
+    let row = printed_row d c.scripts-scripts.result c.plot.result c.shape_of.result c.in_ok-words.words.items c.deref.result.now c.words.result.now c.scripts-scripts.ensures c.plot.ensures.callers c.plot.ensures.instrs c.plot.ensures.blocks c.shape_of.ensures.callers c.shape_of.ensures.cells c.deref.ensures.value c.in_ok-words.ensures.durable c.words.ensures in
+    let store = c.requires.saved.row.may_start.lawful in
+    IfOk-weaker c.image_print.result (λ text. SpellsImage Two text.items (table_row c.plot.result c.deref.result.now)) (λ text. TextHolds text.items d)
     (λ text spelled. text_holds d c.requires store.0 store.1 text.items (subst (SpellsImage Two text.items) row spelled)) c.image_print.ensures.again
