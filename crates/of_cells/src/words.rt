@@ -32,7 +32,6 @@ pub fn sizes<W: Work>(work: W) -> TableSizes
 }
 
 impl<W: Work> SavedCells<W> {
-    ghost use Rattle.std.specs.Prelude.{◌≡◌};
     ghost use Rattle.of_cells.specs.Saving.{IsSavedCells, saved_limit, saved_words};
     ghost use Rattle.of_cells.specs.Words.{IsStartFor, AreDurableWords, IsSavedRow, WordsHold};
     ghost use Rattle.of_cells.specs.Words.{IsWordsCause};

@@ -86,6 +86,10 @@ RemembersAll m k = generic.RemembersAll scripts_meaning m.cells k.cells
 abbrev pub HasNoHandleOut : Memory → Type 0
 HasNoHandleOut m = generic.HasNoHandleOut m.cells
 
+-- a handle is out
+abbrev pub HasHandleOut : Memory → Type 0
+HasHandleOut m = HasNoHandleOut m → ⊥
+
 -- the handle is the memory's
 abbrev pub IsFrom : Memory → Handle → Type 0
 IsFrom m h = generic.IsFrom m.cells h.cells

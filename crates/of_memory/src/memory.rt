@@ -27,7 +27,8 @@ impl Memory {
     ghost use Rattle.of_memory.specs.Memories.{StartsWith, tickets_before, HasMadeOf, HasOpenOf};
     ghost use Rattle.of_memory.specs.Memories.{IsFrom, IsStill, KnowsOthers, OthersStayOpen};
     ghost use Rattle.of_memory.specs.Memories.{OthersKnowOrder, RemembersAll, HasHistory};
-    ghost use Rattle.of_memory.specs.Memories.{HasNoneOpen, HasNoHandleOut, TakesOut, TakesNone};
+    ghost use Rattle.of_memory.specs.Memories.{HasNoneOpen, HasNoHandleOut, HasHandleOut, TakesOut};
+    ghost use Rattle.of_memory.specs.Memories.{TakesNone};
     ghost use Rattle.of_memory.specs.Memories.{IsOpenCause, IsEnrolCause};
     ghost use Rattle.of_memory.specs.Telling.{KnowsOrdersOf, HearsMemory};
 
@@ -122,8 +123,8 @@ impl Memory {
         Ok(Handle { cells })
     }
 
-    /// Closes the memory: what is durable is recovered and saved, and all else is given up. While a
-    /// handle is out, the memory is handed back.
+    /// Closes the memory: what is durable is recovered and saved, and all else is given up. If a
+    /// handle is out, and only then, the memory is handed back.
     pub fn close(self) -> Result<Saved, InUse>
         requires { IsMemory self }
         ensures saved { IfOk result IsSaved }
@@ -132,6 +133,7 @@ impl Memory {
         ensures limit { IfOk result (λ d. saved_limit d ≡ limit_of self) }
         // So no call that was answered is missing.
         ensures here { IfOk result (λ d. HasNoHandleOut self) }
+        ensures cause { OnErr result (HasHandleOut self) }
         ensures in_use { IfErr result (λ e. e.0 ≡ self) }
     {
         let Memory { alloc, cells } = self;
