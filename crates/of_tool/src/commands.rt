@@ -54,7 +54,8 @@ pub const MOST_IMAGE: usize = 1 << 22;
 /// that has seen it.
 pub type TeamRecord = Option<(Ended, Pass)>;
 
-/// A status, the text that is to be written with it, and why, for standard error.
+/// A status, the text that is to be written with it, and why, for standard error. If there is no
+/// memory for the reason it is empty.
 #[derive(Drop)]
 pub(crate) struct Output {
     pub(crate) status: u8,
@@ -91,7 +92,7 @@ pub(crate) fn plan_refusal(alloc: Global, input: &[u8], line: u64) -> Result<Out
     Ok(Output {
         status: status::BAD_PLAN,
         text: text.into_bytes(),
-        reason: plan_reason(alloc, input)?,
+        reason: plan_reason(alloc, input).unwrap_or(Vec::new(alloc)),
     })
 }
 
@@ -107,7 +108,7 @@ pub(crate) fn misfit_refusal(
     Ok(Output {
         status: status::DOES_NOT_FIT,
         text: Vec::from_slice(alloc, b"error: plan does not fit image\n")?,
-        reason: misfit_reason(alloc, image, plan)?,
+        reason: misfit_reason(alloc, image, plan).unwrap_or(Vec::new(alloc)),
     })
 }
 
@@ -258,7 +259,7 @@ fn check_output(alloc: Global, judgement: &Judgement, report: &[u8]) -> Result<O
         Judgement::Illegal(cause) => Ok(Output {
             status: status::ILLEGAL,
             text: Vec::from_slice(alloc, b"error: not a legal report\n")?,
-            reason: cause.print(alloc, report)?,
+            reason: cause.print(alloc, report).unwrap_or(Vec::new(alloc)),
         }),
     }
 }
@@ -341,7 +342,7 @@ fn output_for<R: Threads + Sync, S: Source>(
             Output {
                 status: status::USAGE,
                 text: Vec::from_slice(alloc, b"error: usage\n")?,
-                reason: usage(alloc, words)?,
+                reason: usage(alloc, words).unwrap_or(Vec::new(alloc)),
             },
             None,
         )),

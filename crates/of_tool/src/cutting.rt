@@ -46,7 +46,7 @@ pub(crate) fn part_answer<S: Source>(
         return Ok(Output {
             status: status::DOES_NOT_FIT,
             text: Vec::from_slice(alloc, b"error: no such part\n")?,
-            reason: part_reason(alloc, &bytes, number)?,
+            reason: part_reason(alloc, &bytes, number).unwrap_or(Vec::new(alloc)),
         });
     }
     Ok(done(alloc, Vec::from_slice(alloc, found)?))

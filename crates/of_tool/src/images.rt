@@ -59,7 +59,7 @@ pub(crate) fn image_refusal(
     Ok(Output {
         status: status::BAD_IMAGE,
         text: text.into_bytes(),
-        reason: image_reason(alloc, version, input)?,
+        reason: image_reason(alloc, version, input).unwrap_or(Vec::new(alloc)),
     })
 }
 

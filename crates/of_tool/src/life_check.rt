@@ -27,7 +27,7 @@ fn life_output(alloc: Global, found: &Option<LifeCause>, told: &[u8]) -> Result<
         Some(cause) => Ok(Output {
             status: status::ILLEGAL,
             text: Vec::from_slice(alloc, b"error: not a legal life\n")?,
-            reason: life_reason(alloc, told, cause)?,
+            reason: life_reason(alloc, told, cause).unwrap_or(Vec::new(alloc)),
         }),
     }
 }

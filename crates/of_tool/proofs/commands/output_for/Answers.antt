@@ -8,11 +8,11 @@ use Rattle.of_tool.proofs.CommandLemmas.{unread_of}
 use Rattle.of_tool.proofs.Carried.{carries_none, carries_nothing, carries_load, load_answers}
 use Rattle.of_tool.proofs.commands.output_for.Goals as goal
 
-pub returns-in_ok-usage-in-None-clause-answered : goal.returns-in_ok-usage-in-None-clause-answered
-returns-in_ok-usage-in-None-clause-answered g c = NoCommand c.in-None.ensures refl c.in_ok-from_slice-in-None.ensures.items
+pub returns-in_ok-from_slice-in-None-clause-answered : goal.returns-in_ok-from_slice-in-None-clause-answered
+returns-in_ok-from_slice-in-None-clause-answered g c = NoCommand c.in-None.ensures refl c.in_ok-from_slice-in-None.ensures.items
 
-pub returns-in_ok-usage-in-None-clause-carries : goal.returns-in_ok-usage-in-None-clause-carries
-returns-in_ok-usage-in-None-clause-carries g c = carries_nothing _ _ _ _ _ c.in-None.ensures
+pub returns-in_ok-from_slice-in-None-clause-carries : goal.returns-in_ok-from_slice-in-None-clause-carries
+returns-in_ok-from_slice-in-None-clause-carries g c = carries_nothing _ _ _ _ _ c.in-None.ensures
 
 pub returns-in-Some-Run-clause-unread : goal.returns-in-Some-Run-clause-unread
 returns-in-Some-Run-clause-unread g c = λ none. absurd (none (record { command = Run; are = rw c.in-Some-Run.field-0-is at c.in-Some-Run.ensures; input = PlanAlone; reads = refl }))
