@@ -12,7 +12,7 @@ use Rattle.of_cells.specs.declared.error.RunError.TheVariants.{Stopped, Spent as
 use Rattle.of_memory.specs.declared.memory.Memory.{Memory}
 use Rattle.of_memory.specs.declared.saved.Saved.{Saved}
 use Rattle.of_memory.specs.History.{HistoryEntry, no_history_entry, Made, no_made, Replied, IsOneOf, HasOnly, ExplainsAll, ExplainsEnd, ScriptOnlyReads}
-use Rattle.of_cells.specs.Serving.{made_before}
+use Rattle.of_memory.specs.Rows.{made_before}
 use Rattle.of_memory.specs.Handles.{number_of_handle, tickets_behind}
 use Rattle.of_memory.specs.Memories.{HasMadeOf, HasOpenOf, HasNoneOpen, IsStill, LeadsTo, TellsLastOf, callers_of, tickets_before}
 use Rattle.of_memory.specs.Saving.{saved_ticket, HoldsReply}
@@ -56,7 +56,7 @@ module _ (c : Saved) (m k : Memory) (n : ℕ) (x y : Clerk) (tickets : tickets_b
   at_number = w.worked.same.number ∙ w.number
 
   left_tickets : tickets_behind w.left ≡ saved_ticket c n
-  left_tickets = (λ i. made_before _ ((w.worked.same.home ∙ w.from) i) (at_number i)) ∙ tickets
+  left_tickets = (λ i. made_before ((w.worked.same.home ∙ w.from) i) (at_number i)) ∙ tickets
 
   now_tickets : tickets_before k n ≡ saved_ticket c n
   now_tickets = ap (λ (r : _). made_before r n) still ∙ tickets

@@ -12,6 +12,7 @@ use Rattle.of_eval.specs.Faults.{AllOwnCellsAreSound}
 use Rattle.of_core.specs.TableMoment.{TableStart}
 use Rattle.of_row.specs.declared.row.Row.{Row}
 use Rattle.of_row.specs.Rows.{key_of}
+use Rattle.of_cells.specs.Serving as generic
 use Rattle.of_cells.specs.Serving.{cells_at_start}
 
 -- the numbers of the data cells stand for this store
@@ -28,6 +29,10 @@ StandsAt w B s = StandFor w (map payload_of B.cells) s
 
 abbrev pub HoldsLastReplies : Scripts → TableStart → Type 0
 HoldsLastReplies w B = HoldLastReplies w (map payload_of B.cells)
+
+-- how many calls a caller had made before the row's start
+abbrev pub made_before : Row Scripts → ℕ → ℕ
+made_before r n = generic.made_before scripts_meaning r n
 
 -- the row has the sizes of its scripts, and its start stands for some store and holds the last
 -- replies
