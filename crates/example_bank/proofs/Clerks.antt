@@ -171,7 +171,7 @@ module _ (y z : Clerk) (h k : Handle) (script : List Instr) (is : script ≡ nex
   ended_on NoCall end stay counts handle same makes stays refuses unmade within only x w = absurd refuses
   ended_on NoTicket end stay counts handle same makes stays refuses unmade within only x w =
       unmade_on NoTicket end stay unmade x w tt
-      (λ small. refuses (omega (
+      (λ small. refuses.1 (omega (
         arith,
         small,
         counts h w.made handle (λ opened. let one = has_open h handle opened in not_open x w one.0 one.1) w.has,
