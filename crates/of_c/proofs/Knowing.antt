@@ -1,12 +1,20 @@
 -- A memory from which no caller is taken knows what it knew, and so does what is held.
-use Rattle.std.proofs.Common.{◌≡◌, get_or, Option, Some, None, refl, sym, subst}
+use Rattle.std.proofs.Common.{◌≡◌, ◌∙◌, ℕ, get_or, Option, Some, None, refl, sym, subst}
 use Rattle.of_memory.specs.declared.memory.Memory.{Memory as TheMemory}
 use Rattle.of_memory.specs.Memories.{IsStill, TakesNone}
-use Rattle.of_memory.proofs.Handing.{knows_same}
+use Rattle.of_memory.specs.Tasks.{KnowsSame}
 use Rattle.of_c.specs.declared.held.Home.{Home}
 use Rattle.of_c.specs.declared.held.Held.{Held}
 use Rattle.of_c.specs.declared.held.Held.TheVariants.{Nothing, Memory, Caller, Saved}
 use Rattle.of_c.specs.Causes.{KnowsAll, KeepsHeld, KeepsSlot}
+
+knows_same : (n : ℕ) (m k : TheMemory) → get_or k.cells.callers.items n None ≡ get_or m.cells.callers.items n None → KnowsSame n m k
+knows_same n m k is = record {
+  made = λ ms has. record { ended = has.ended; here = record { caller = has.here.caller; here = is ∙ has.here.here; made = has.here.made }; made = has.made };
+  only = λ ms has. record { ended = has.ended; here = record { caller = has.here.caller; here = sym is ∙ has.here.here; made = has.here.made }; made = has.made };
+  open_call = λ script has. record { is = has.is; opened = record { caller = has.opened.caller; here = is ∙ has.opened.here; opened = has.opened.opened } };
+  only_open = λ script has. record { is = has.is; opened = record { caller = has.opened.caller; here = sym is ∙ has.opened.here; opened = has.opened.opened } };
+}
 
 knows_all : (m k : TheMemory) → IsStill m k → TakesNone m k → KnowsAll m k
 knows_all m k still none = record {

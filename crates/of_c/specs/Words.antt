@@ -2,8 +2,8 @@
 use Rattle.std.specs.Prelude.{◌≡◌, ℕ, List, Option}
 use Rattle.of_memory.specs.declared.saved.Saved.{Saved}
 use Rattle.of_memory.specs.declared.words.TableSizes.{TableSizes}
-use Rattle.of_memory.specs.Saving.{saved_limit}
-use Rattle.of_memory.specs.Texts.{SavesSame, saved_seq}
+use Rattle.of_memory.specs.Saving.{saved_limit, saved_seq}
+use Rattle.of_memory.specs.Texts.{SavesSame}
 use Rattle.of_memory.specs.Words.{AreSizesOf, WordsHold}
 use Rattle.of_c.specs.declared.held.Held.{Held}
 use Rattle.of_c.specs.declared.words.CSizes.{CSizes}

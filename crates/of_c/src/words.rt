@@ -1,7 +1,7 @@
 //! The durable words of a memory, and what is saved with other sequences.
 
 ghost use Rattle.std.specs.Prelude.{◌≡◌, ◌≢◌, ◌↔◌, ◌∷◌, [], IfErr, IsSome, Some};
-ghost use Rattle.of_memory.specs.Texts.{saved_seq};
+ghost use Rattle.of_memory.specs.Saving.{saved_seq};
 ghost use Rattle.of_memory.specs.Words.{AreCounts, AreStartWords, AreCountsOf};
 ghost use Rattle.of_eval.specs.declared.scripts.Scripts.{Scripts as TheScripts};
 ghost use Rattle.of_c.specs.declared.codes.TheConstants.{DONE, EMPTY, FULL, NO_MEMORY};
