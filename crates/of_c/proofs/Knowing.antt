@@ -1,36 +1,25 @@
 -- A memory from which no caller is taken knows what it knew, and so does what is held.
-use Rattle.std.proofs.Common.{◌≡◌, ℕ, List, get_or, Option, Some, None, refl, sym, ap, ◌∙◌, subst}
-use Rattle.of_eval.specs.declared.scripts.Scripts.{Scripts}
-use Rattle.of_row.specs.Views.{EndedCall}
-use Rattle.of_caller.specs.declared.caller.Caller.{Caller as TheCaller}
-use Rattle.of_cells.specs.declared.memory.CellMemory.{CellMemory}
-use Rattle.of_cells.specs.Memories as cells
+use Rattle.std.proofs.Common.{◌≡◌, ◌∙◌, ℕ, get_or, Option, Some, None, refl, sym, subst}
 use Rattle.of_memory.specs.declared.memory.Memory.{Memory as TheMemory}
 use Rattle.of_memory.specs.Memories.{IsStill, TakesNone}
+use Rattle.of_memory.specs.Tasks.{KnowsSame}
 use Rattle.of_c.specs.declared.held.Home.{Home}
 use Rattle.of_c.specs.declared.held.Held.{Held}
 use Rattle.of_c.specs.declared.held.Held.TheVariants.{Nothing, Memory, Caller, Saved}
 use Rattle.of_c.specs.Causes.{KnowsAll, KeepsHeld, KeepsSlot}
 
-module _ (m k : CellMemory Scripts) (same : k.callers.items ≡ m.callers.items) where
-  at : (n : ℕ) → get_or k.callers.items n None ≡ get_or m.callers.items n None
-  at n = ap (λ (cs : List (Option (TheCaller Scripts))). get_or cs n None) same
-
-  made_too : (n : ℕ) (es : List EndedCall) → cells.HasMadeOf m n es → cells.HasMadeOf k n es
-  made_too n es has = record { caller = has.caller; here = at n ∙ has.here; made = has.made }
-
-  open_too : (n : ℕ) (op : List ℕ) → cells.HasOpenOf m n op → cells.HasOpenOf k n op
-  open_too n op has = record { caller = has.caller; here = at n ∙ has.here; opened = has.opened }
+knows_same : (n : ℕ) (m k : TheMemory) → get_or k.cells.callers.items n None ≡ get_or m.cells.callers.items n None → KnowsSame n m k
+knows_same n m k is = record {
+  made = λ ms has. record { ended = has.ended; here = record { caller = has.here.caller; here = is ∙ has.here.here; made = has.here.made }; made = has.made };
+  only = λ ms has. record { ended = has.ended; here = record { caller = has.here.caller; here = sym is ∙ has.here.here; made = has.here.made }; made = has.made };
+  open_call = λ script has. record { is = has.is; opened = record { caller = has.opened.caller; here = is ∙ has.opened.here; opened = has.opened.opened } };
+  only_open = λ script has. record { is = has.is; opened = record { caller = has.opened.caller; here = sym is ∙ has.opened.here; opened = has.opened.opened } };
+}
 
 knows_all : (m k : TheMemory) → IsStill m k → TakesNone m k → KnowsAll m k
 knows_all m k still none = record {
   still = still;
-  knows = λ n. record {
-    made = λ ms has. record { ended = has.ended; here = made_too m.cells k.cells none n has.ended has.here; made = has.made };
-    only = λ ms has. record { ended = has.ended; here = made_too k.cells m.cells (sym none) n has.ended has.here; made = has.made };
-    open_call = λ script has. record { is = has.is; opened = open_too m.cells k.cells none n _ has.opened };
-    only_open = λ script has. record { is = has.is; opened = open_too k.cells m.cells (sym none) n _ has.opened };
-  };
+  knows = λ n. knows_same n m k (λ i. get_or (none i) n None);
 }
 
 pub keeps_memory : (before : Held) (home now : Home) → before ≡ Memory home → IsStill home.memory now.memory → TakesNone home.memory now.memory → KeepsHeld before (Memory now)

@@ -48,11 +48,6 @@ made_more [] (n ∷ ms) e m h k = absurd h
 made_more (f ∷ es) [] e m h k = absurd h
 made_more (f ∷ es) (n ∷ ms) e m h k = (h.0, made_more es ms e m h.1 k)
 
-pub words_few : (op : List ℕ) → IsScriptOperation op → (1 ≤ length op) × (length op ≤ MOST_INSTRS)
-words_few op k =
-    let many : length op ≡ length k.0 = ap length k.2 ∙ length-map k.0 instr_word in
-    (omega (arith, many, k.1.some), omega (arith, many, k.1.few))
-
 -- the first words are the script's
 pub words_are : (script : List Instr) (count : ℕ) → count ≡ length script → (out rest : List ℕ) → out ≡ map instr_word script ++ rest → take count out ≡ map instr_word script
 words_are script count size out rest words =

@@ -43,9 +43,6 @@ same_ended c d same = ap (λ (xs : List KnownCaller). (last_caller xs).ended) sa
 pub same_open : (c d : Caller Scripts) (op : List ℕ) → KnowsMore c d → IsOpenAt op d → IsOpenAt op c
 same_open c d op same opened = subst (λ (x : CallState). IsOpen x.place × (x.op ≡ op)) same.call opened
 
-pub open_still : (c d : Caller Scripts) (op : List ℕ) → KnowsMore c d → IsOpenAt op c → IsOpenAt op d
-open_still c d op same opened = subst (λ (x : CallState). IsOpen x.place × (x.op ≡ op)) (sym same.call) opened
-
 -- this is so of each caller that is there
 abbrev EachIs : (Caller Scripts → Type 0) → Callers → Type 0
 EachIs P cs = (n : ℕ) (c : Caller Scripts) → get_or cs n None ≡ Some c → P c

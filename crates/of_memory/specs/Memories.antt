@@ -74,11 +74,7 @@ pub record HasOpenOf (m : Memory) (n : ℕ) (script : List Instr) : Type 0 where
 abbrev pub HasOrderOf : Memory → (j n x k y : ℕ) → Type 0
 HasOrderOf m j n x k y = generic.HasOrderOf scripts_meaning m.cells j n x k y
 
--- the memory knows that the first `count` calls of a number since it was opened have ended
-abbrev pub HasHeardOf : Memory → (number count : ℕ) → Type 0
-HasHeardOf m n count = generic.HasHeardOf scripts_meaning m.cells n count
-
--- it knows still what it knew of the calls that have ended
+-- the memory knows still what it knew of the calls that have ended
 abbrev pub RemembersAll : (before now : Memory) → Type 0
 RemembersAll m k = generic.RemembersAll scripts_meaning m.cells k.cells
 

@@ -1,6 +1,6 @@
 use Rattle.std.proofs.Common.{◌≡◌, ◌∙◌, ap, sym, subst}
 use Rattle.std.specs.Prelude.{Option, Some}
-use Rattle.of_memory.specs.Texts.{saved_seq}
+use Rattle.of_memory.specs.Saving.{saved_seq}
 use Rattle.of_c.specs.declared.held.Held.{Held}
 use Rattle.of_c.specs.Causes.{HoldsSavedWith}
 use Rattle.of_c.proofs.words.of_c_seq.Goals as goal
