@@ -34,14 +34,14 @@ use Rattle.of_memory.specs.Calls.{IsScriptOperation, AreOfScripts, HoldsResponse
 use Rattle.of_memory.specs.Laws.{setup_with}
 use Rattle.of_memory.specs.Rows.{HoldLastReplies, StandFor}
 use Rattle.of_memory.specs.Saving.{IsSaved, SavedHolds, HoldsReply, saved_scripts, saved_cells, saved_callers, saved_limit, saved_ticket}
-use Rattle.of_memory.specs.Memories.{IsMemory, HasOpenOf, StartsWith, LeadsTo, HasHistory, HasNoHandleOut, TellsLastOf, scripts_of, callers_of, limit_of, cells_before, tickets_before}
+use Rattle.of_memory.specs.Memories.{IsMemory, HasOpenOf, StartsWith, LeadsTo, HasHistory, HasNoHandleOut, TellsLastOf, scripts_work_of, callers_of, limit_of, cells_before, tickets_before}
 use Rattle.of_memory.proofs.Starting.{saved_size}
 use Rattle.of_memory.proofs.Replaying.{Cells, AreScripts, entries, serial, long, leads, in_order, explains_all, has_only, below, up_to, in_time, last_entry}
 
-module _ (m : Memory) (is : IsMemory m) (here : HasNoHandleOut m) (d : Saved) (work : saved_scripts d ≡ scripts_of m) (callers : saved_callers d ≡ callers_of m) (limit : saved_limit d ≡ limit_of m) (saved : IsSavedCells (λ w. w.callers) scripts_data_cells scripts_meaning LawfulCells d.cells)
+module _ (m : Memory) (is : IsMemory m) (here : HasNoHandleOut m) (d : Saved) (work : saved_scripts d ≡ scripts_work_of m) (callers : saved_callers d ≡ callers_of m) (limit : saved_limit d ≡ limit_of m) (saved : IsSavedCells (λ w. w.callers) scripts_data_cells scripts_meaning LawfulCells d.cells)
     (history : generic.HasHistory scripts_meaning m.cells d.cells) (keeps : generic.SavesOwnCells scripts_meaning m.cells d.cells) where
   abbrev w : Scripts
-  w = scripts_of m
+  w = scripts_work_of m
 
   abbrev h : List Call
   h = history.0

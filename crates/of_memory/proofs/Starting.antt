@@ -14,7 +14,7 @@ use Rattle.of_memory.specs.declared.memory.Memory.{Memory}
 use Rattle.of_memory.specs.declared.saved.Saved.{Saved}
 use Rattle.of_memory.specs.Rows.{IsScriptsRow, StandFor, HoldLastReplies}
 use Rattle.of_memory.specs.Saving.{IsSaved, SavedHolds, saved_scripts, saved_cells, saved_callers, saved_limit}
-use Rattle.of_memory.specs.Memories.{StartsWith, row_of, scripts_of, callers_of, limit_of, cells_before}
+use Rattle.of_memory.specs.Memories.{StartsWith, row_of, scripts_work_of, callers_of, limit_of, cells_before}
 
 -- no cell has a number
 module _ (w : Scripts) (cells : List ℕ) (zeros : cells ≡ replicate (scripts_data_cells w) 0) where
@@ -28,7 +28,7 @@ module _ (w : Scripts) (cells : List ℕ) (zeros : cells ≡ replicate (scripts_
   no_replies : HoldLastReplies w cells
   no_replies n low = record { none = λ zero. none_at _; some = λ not. absurd (not (none_at _)) }
 
-module _ (m : Memory) (w : Scripts) (work : scripts_of m ≡ w) (callers : callers_of m ≡ w.callers) (cells : cell_count_of m.cells ≡ scripts_data_cells w) (some : 1 ≤ limit_of m) (few : limit_of m ≤ GREATEST_LIMIT) where
+module _ (m : Memory) (w : Scripts) (work : scripts_work_of m ≡ w) (callers : callers_of m ≡ w.callers) (cells : cell_count_of m.cells ≡ scripts_data_cells w) (some : 1 ≤ limit_of m) (few : limit_of m ≤ GREATEST_LIMIT) where
   scripts_row : (s : Store) → length (cells_before m) ≡ scripts_data_cells w → StandFor w (cells_before m) s → HoldLastReplies w (cells_before m) → IsScriptsRow (row_of m)
   scripts_row s size stands replies = record {
     callers = callers ∙ ap (λ (x : Scripts). x.callers) (sym work);
@@ -52,7 +52,7 @@ module _ (m : Memory) (w : Scripts) (work : scripts_of m ≡ w) (callers : calle
 pub saved_size : (d : Saved) → IsSavedCells (λ w. w.callers) scripts_data_cells scripts_meaning LawfulCells d.cells → length (saved_cells d) ≡ scripts_data_cells (saved_scripts d)
 saved_size d is = length-map _ _ ∙ is.row.may_start.start.size ∙ is.cells
 
-module _ (m : Memory) (d : Saved) (is : IsSaved d) (work : scripts_of m ≡ saved_scripts d) (callers : callers_of m ≡ saved_callers d) (cells : cell_count_of m.cells ≡ scripts_data_cells (saved_scripts d)) (limit : limit_of m ≡ saved_limit d) (same : cells_before m ≡ saved_cells d) where
+module _ (m : Memory) (d : Saved) (is : IsSaved d) (work : scripts_work_of m ≡ saved_scripts d) (callers : callers_of m ≡ saved_callers d) (cells : cell_count_of m.cells ≡ scripts_data_cells (saved_scripts d)) (limit : limit_of m ≡ saved_limit d) (same : cells_before m ≡ saved_cells d) where
   pub saved_row : IsScriptsRow (row_of m)
   saved_row =
       let lawful = is.saved.row.may_start.lawful in

@@ -123,11 +123,11 @@ abbrev pub IsSame : (before now : Handle) → Type 0
 IsSame h k = generic.IsSame h.cells k.cells
 
 -- its memory has so many callers and blocks
-pub record HasSizes (h : Handle) (callers blocks : ℕ) : Type 0 where
+pub record IsOfSizes (h : Handle) (callers blocks : ℕ) : Type 0 where
   pub callers_are : (key_of (home_of h)).work.callers ≡ callers
   pub blocks_are : (key_of (home_of h)).work.blocks ≡ blocks
 
 -- the step bound of the smallest memory, and of the largest
 pub record AreStepBounds : Type 0 where
-  pub smallest : (h : Handle) → IsHandle h → HasSizes h 1 0 → step_bound_of h ≡ 6054
-  pub largest : (h : Handle) → IsHandle h → HasSizes h 16 512 → step_bound_of h ≡ 138657
+  pub smallest : (h : Handle) → IsHandle h → IsOfSizes h 1 0 → step_bound_of h ≡ 6054
+  pub largest : (h : Handle) → IsHandle h → IsOfSizes h 16 512 → step_bound_of h ≡ 138657

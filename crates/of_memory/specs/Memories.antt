@@ -27,8 +27,8 @@ abbrev pub row_of : Memory → Row Scripts
 row_of m = generic.row_of m.cells
 
 -- the scripts that it runs
-abbrev pub scripts_of : Memory → Scripts
-scripts_of m = generic.work_of m.cells
+abbrev pub scripts_work_of : Memory → Scripts
+scripts_work_of m = generic.work_of m.cells
 
 -- how many callers it has
 abbrev pub callers_of : Memory → ℕ
@@ -51,7 +51,7 @@ pub record IsMemory (m : Memory) : Type 0 where
 
 -- the store that it was opened with
 abbrev pub StartsWith : Memory → Store → Type 0
-StartsWith m s = StandFor (scripts_of m) (cells_before m) s
+StartsWith m s = StandFor (scripts_work_of m) (cells_before m) s
 
 -- how many calls of a caller it was opened with
 abbrev pub tickets_before : Memory → ℕ → ℕ

@@ -23,7 +23,7 @@ impl Memory {
     ghost use Rattle.of_memory.specs.Saving.{IsSaved, SavedHolds, saved_callers};
     ghost use Rattle.of_memory.specs.Saving.{saved_limit, saved_ticket};
     ghost use Rattle.of_memory.specs.Handles.{IsHandle, number_of_handle, HasMade, HasOpen};
-    ghost use Rattle.of_memory.specs.Memories.{IsMemory, callers_of, limit_of, scripts_of};
+    ghost use Rattle.of_memory.specs.Memories.{IsMemory, callers_of, limit_of, scripts_work_of};
     ghost use Rattle.of_memory.specs.Memories.{StartsWith, tickets_before, HasMadeOf, HasOpenOf};
     ghost use Rattle.of_memory.specs.Memories.{IsFrom, IsStill, KnowsOthers, OthersStayOpen};
     ghost use Rattle.of_memory.specs.Memories.{OthersKnowOrder, RemembersAll, HasHistory};
@@ -91,7 +91,7 @@ impl Memory {
 
     // The scripts that it runs.
     pub(crate) fn scripts(&self) -> Scripts
-        ensures { result ≡ scripts_of self.now }
+        ensures { result ≡ scripts_work_of self.now }
     {
         self.cells.work()
     }
