@@ -41,6 +41,16 @@ RestKnowsOrder meaning from m l =
 abbrev pub TaskWork : Type 0 → Type 0 → Type 1
 TaskWork W J = J → CellHandle W → J → CellHandle W → Type 0
 
+-- a task of this kind works with each handle of a memory
+abbrev pub TakesAny : {W : Type 0} → (W → Meaning) → (May : CellHandle W → Type 0) → Type 0
+TakesAny {W} meaning May = (h : CellHandle W) → IsCellHandle meaning h → May h
+
+-- and what it gives back is a handle of the same memory with the same number
+abbrev pub GivesBack : {W J : Type 0} → (W → Meaning) → TaskWork W J → Type 0
+GivesBack {W} {J} meaning Does =
+    (t u : J) (h k : CellHandle W) → IsCellHandle meaning h → Does t h u k
+    → IsCellHandle meaning k × IsSame h k
+
 -- a handle with its task, or none any more
 abbrev pub Slot : Type 0 → Type 0 → Type 0
 Slot W J = Option (CellHandle W × J)

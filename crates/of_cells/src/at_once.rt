@@ -3,6 +3,7 @@
 ghost use Rattle.std.specs.Prelude.{◌≡◌, ◌+◌, ◌<◌, ◌≤◌, ◌++◌, ◌∷◌, [], length};
 ghost use Rattle.std.specs.Prelude.{vec_len, vec_capacity};
 ghost use Rattle.of_cells.specs.Tasks.{MayWork, MayAllWork, WorksOn, AllWorkOn};
+ghost use Rattle.of_cells.specs.Tasks.{TakesAny, GivesBack};
 
 use crate::error::EnrolError;
 use crate::handle::CellHandle;
@@ -11,20 +12,18 @@ use of_mem::Work;
 use std::alloc::AllocError;
 use std::thread::{Threads, for_each_mut};
 
-/// What is done with a handle of a memory. It keeps what it comes to.
-pub trait CellTask<W: Work> {
-    ghost use Rattle.of_cells.specs.declared.handle.CellHandle.{CellHandle as TheHandle};
-    ghost use Rattle.of_cells.specs.Handles.{IsCellHandle, IsSame};
+/// What is done with a handle of type `H`. It keeps what it comes to.
+pub trait CellTask<H> {
+    /// With which handles it works.
+    ghost may: { H → Type 0 } = { λ _. Unit {0} };
 
     /// What its work makes of the task and the handle, as far as its users have to know.
-    ghost does: { Self → TheHandle W → Self → TheHandle W → Type 0 } = { λ _ _ _ _. Unit {0} };
+    ghost does: { Self → H → Self → H → Type 0 } = { λ _ _ _ _. Unit {0} };
 
-    /// Works with a handle of a memory, and gives it back.
-    fn work(self, handle: CellHandle<W>) -> (Self, CellHandle<W>)
-        requires { IsCellHandle W.meaning handle }
-        ensures handle { IsCellHandle W.meaning result.1 }
-        ensures same { IsSame handle result.1 }
-        ensures done { does self handle result.0 result.1 };
+    /// Works with a handle, and gives it back.
+    fn work(self, handle: H) -> (Self, H)
+        requires { may handle }
+        ensures { does self handle result.0 result.1 };
 }
 
 // Adds an item for which there is room.
@@ -40,8 +39,10 @@ fn put<T: Drop>(to: &mut Vec<T>, item: T)
 }
 
 // One task with its handle.
-fn work_with<W: Work, J: CellTask<W> + Drop>(slot: &mut Option<(CellHandle<W>, J)>)
-    requires { MayWork W.meaning slot.old }
+fn work_with<W: Work, J: CellTask<CellHandle<W>> + Drop>(slot: &mut Option<(CellHandle<W>, J)>)
+    requires may { TakesAny W.meaning J.may }
+    requires gives { GivesBack W.meaning J.does }
+    requires slot { MayWork W.meaning slot.old }
     ensures { WorksOn W.meaning J.does slot.old slot.new }
 {
     if let Some((handle, task)) = slot.take() {
@@ -51,11 +52,13 @@ fn work_with<W: Work, J: CellTask<W> + Drop>(slot: &mut Option<(CellHandle<W>, J
 }
 
 // Each task with its handle, all at once: each in a thread of its own where one can be made.
-fn work_all<W: Work, J: CellTask<W> + Send + Drop, R: Threads + Sync>(
+fn work_all<W: Work, J: CellTask<CellHandle<W>> + Send + Drop, R: Threads + Sync>(
     rt: &R,
     slots: &mut [Option<(CellHandle<W>, J)>],
 )
-    requires { MayAllWork W.meaning slots.old }
+    requires may { TakesAny W.meaning J.may }
+    requires gives { GivesBack W.meaning J.does }
+    requires slots { MayAllWork W.meaning slots.old }
     ensures { AllWorkOn W.meaning J.does slots.old slots.new }
 {
     let threads = slots.len().max(1);
@@ -64,7 +67,8 @@ fn work_all<W: Work, J: CellTask<W> + Send + Drop, R: Threads + Sync>(
         slots,
         threads,
         &|_, slot: &mut Option<(CellHandle<W>, J)>|
-            requires { MayWork W.meaning slot.now }
+            requires { TakesAny W.meaning J.may × GivesBack W.meaning J.does
+                × MayWork W.meaning slot.now }
             ensures { WorksOn W.meaning J.does slot.entry.now slot.exit.now }
         { work_with(slot) },
     );
@@ -78,13 +82,16 @@ impl<W: Work> CellMemory<W> {
 
     /// Works at all tasks at once: each with the handle of the number that is its place, in a
     /// thread of its own where one can be made. Then the handles leave. If one can't be enrolled,
-    /// no task is begun, and no number stays taken.
-    pub fn at_once<J: CellTask<W> + Send + Drop, R: Threads + Sync>(
+    /// no task is begun, and no number stays taken. A task takes any handle of a memory, and gives
+    /// back one of the same memory and number.
+    pub fn at_once<J: CellTask<CellHandle<W>> + Send + Drop, R: Threads + Sync>(
         &mut self,
         rt: &R,
         tasks: &mut Vec<J>,
     ) -> Result<(), EnrolError>
-        requires { IsCellMemory W.meaning self.old }
+        requires memory { IsCellMemory W.meaning self.old }
+        requires may { TakesAny W.meaning J.may }
+        requires gives { GivesBack W.meaning J.does }
         ensures memory { IsCellMemory W.meaning self.new }
         ensures still { IsStill self.old self.new }
         ensures worked { OnOk result

@@ -12,8 +12,8 @@ hand_out-requires-clause-small g c κs within =
     let low : c.callers-callers.result < 4294967296 = search rules in
     omega (arith, c.if-len-callers.false, c.len.ensures, low)
 
-pub work_all-requires-after_bounds : goal.work_all-requires-after_bounds
-work_all-requires-after_bounds g c κs within =
+pub work_all-requires-clause-slots : goal.work_all-requires-clause-slots
+work_all-requires-clause-slots g c κs within =
     may_work g.W.Work.meaning c.args.self.now c.hand_out.new.self c.args.tasks.now.items c.hand_out.new.tasks.items c.hand_out.new.slots.items c.in-Ok-hand_out.ensures.out c.as_mut_slice.result.now c.as_mut_slice.ensures.value
 
 pub take_back-requires-clause-room : goal.take_back-requires-clause-room
