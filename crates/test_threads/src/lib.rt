@@ -1,6 +1,6 @@
 //! Tests of what one thread hands to another, and of a memory of cells: a member that goes through
-//! a door, news of a call, and a call on cells that is stopped and goes on. There is nothing to
-//! call here.
+//! a door, news of a call, a call on cells that is stopped and goes on, and tasks that work on
+//! cells at once. There is nothing to call here.
 #![tactic(auto)]
 
 #[cfg(test)]
@@ -9,3 +9,5 @@ mod cells;
 mod doors;
 #[cfg(test)]
 mod news;
+#[cfg(test)]
+mod tasks;
