@@ -142,7 +142,8 @@ int onefile_open(onefile_memory *memory, uint32_t callers, uint32_t blocks, uint
  * FULL; EMPTY if `saved` is empty. */
 int onefile_reopen(onefile_memory *memory, onefile_saved *saved);
 
-/* Enrols the caller with this number. It goes on where this number left.
+/* Enrols the caller with this number. It goes on where this number left. Each call that it begins
+ * takes effect after all answered calls of callers that have left before.
  * EMPTY; RANGE if the memory has no such caller; TAKEN. */
 int onefile_enrol(onefile_memory *memory, uint32_t number);
 
