@@ -1,7 +1,7 @@
 -- A memory from which no caller is taken knows what it knew, and so does what is held.
 use Rattle.std.proofs.Common.{◌≡◌, ◌∙◌, ap, ℕ, get_or, Option, Some, None, refl, sym, subst}
 use Rattle.of_memory.specs.declared.memory.Memory.{Memory as TheMemory}
-use Rattle.of_memory.specs.Memories.{IsStill, TakesNone, RemembersAll}
+use Rattle.of_memory.specs.Memories.{IsStill, TakesNone, RemembersAll, HasOrderOf}
 use Rattle.of_memory.specs.Tasks.{KnowsSame}
 use Rattle.of_c.specs.declared.held.Home.{Home}
 use Rattle.of_c.specs.declared.held.Held.{Held}
@@ -16,11 +16,19 @@ knows_same n m k is = record {
   only_open = λ script has. record { is = has.is; opened = record { caller = has.opened.caller; here = sym is ∙ has.opened.here; opened = has.opened.opened } };
 }
 
+keeps_order : (m k : TheMemory) → IsStill m k → TakesNone m k → (j n x i y : ℕ) → HasOrderOf m j n x i y → HasOrderOf k j n x i y
+keeps_order m k still none j n x i y has = record {
+  caller = has.caller;
+  here = ap (λ items. get_or items j None) none ∙ has.here;
+  order = rw (sym still) at has.order;
+}
+
 knows_all : (m k : TheMemory) → IsStill m k → TakesNone m k → RemembersAll m k → KnowsAll m k
 knows_all m k still none remembers = record {
   still = still;
   none = none;
   knows = λ n. knows_same n m k (λ i. get_or (none i) n None);
+  orders = keeps_order m k still none;
   remembers = remembers;
 }
 

@@ -8,7 +8,7 @@ use Rattle.of_memory.specs.declared.memory.Memory.{Memory as TheMemory}
 use Rattle.of_memory.specs.declared.saved.Saved.{Saved as TheSaved}
 use Rattle.of_memory.specs.declared.error.WordsError.{WordsError}
 use Rattle.of_memory.specs.declared.error.WordsError.TheVariants.{OutOfMemory, Callers, Blocks, Limit, Count, Unlawful, PastLimit}
-use Rattle.of_memory.specs.Memories.{IsStill, TakesNone, RemembersAll, callers_of}
+use Rattle.of_memory.specs.Memories.{IsStill, TakesNone, RemembersAll, HasOrderOf, callers_of}
 use Rattle.of_memory.specs.Saving.{saved_callers}
 use Rattle.of_memory.specs.Tasks.{KnowsSame}
 use Rattle.of_memory.specs.Texts.{IsNoLimitOf}
@@ -76,6 +76,7 @@ pub record KnowsAll (m k : TheMemory) : Type 0 where
   pub still : IsStill m k
   pub none : TakesNone m k
   pub knows : (n : ℕ) → KnowsSame n m k
+  pub orders : (j n x i y : ℕ) → HasOrderOf m j n x i y → HasOrderOf k j n x i y
   pub remembers : RemembersAll m k
 
 -- what is held is held still; a memory knows what it knew

@@ -49,8 +49,8 @@ pub record ShowsReply (reply : Reply) (r : CReply) : Type 0 where
   pub values : ShowsEach given_number reply.values r.values
   pub abort : ShowsAbort reply.abort r.place r.cause
 
--- it tells of when and how a call was answered what it told
-pub record KeepsTime (before now : CReply) : Type 0 where
+-- its sequence, its steps and whether it was announced are as they were
+pub record LeavesSeqAndSteps (before now : CReply) : Type 0 where
   pub seq : now.seq ≡ before.seq
   pub announced : now.announced ≡ before.announced
   pub steps : now.steps ≡ before.steps

@@ -80,13 +80,13 @@ fn number_of_cause(cause: Cause) -> u32
 }
 
 impl CReply {
-    ghost use Rattle.of_c.specs.Replies.{ShowsReply, ShowsAnswer, KeepsTime};
+    ghost use Rattle.of_c.specs.Replies.{ShowsReply, ShowsAnswer, LeavesSeqAndSteps};
 
     /// Writes what a script answered.
     #[inline(always)]
     pub(crate) fn show(&mut self, reply: &Reply)
         ensures shows { ShowsReply reply.now self.new }
-        ensures time { KeepsTime self.old self.new }
+        ensures stays { LeavesSeqAndSteps self.old self.new }
     {
         self.len = u32::from(reply.len);
         write_values(&reply.values, &mut self.given, &mut self.values);
