@@ -60,4 +60,5 @@ pub record ShowsAnswer (a : Answer) (r : CReply) : Type 0 where
   pub reply : ShowsReply a.reply r
   pub seq : r.seq ≡ a.seq
   pub announced : r.announced ≡ flag_number a.announced
+  pub ticket : r.ticket ≡ 0
   pub steps : r.steps ≡ a.steps

@@ -20,7 +20,7 @@ pub struct CReply {
     pub place: u32,
     /// Why the script aborted; 0 if it did not.
     pub cause: u32,
-    /// Of a last reply, the number of its call.
+    /// Of a last reply, the number of its call; 0 of an answer.
     pub ticket: u32,
     /// How many steps the call made; if it was stopped, how many it has asked for.
     pub steps: u64,
