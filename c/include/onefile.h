@@ -142,7 +142,8 @@ int onefile_open(onefile_memory *memory, uint32_t callers, uint32_t blocks, uint
  * FULL; EMPTY if `saved` is empty. */
 int onefile_reopen(onefile_memory *memory, onefile_saved *saved);
 
-/* Enrols the caller with this number. It goes on where this number left.
+/* Enrols the caller with this number. It goes on where this number left. Each call that it begins
+ * takes effect after all answered calls of callers that have left before.
  * EMPTY; RANGE if the memory has no such caller; TAKEN. */
 int onefile_enrol(onefile_memory *memory, uint32_t number);
 
@@ -270,7 +271,7 @@ typedef struct onefile_reply {
   uint32_t len;       /* how many instructions the script has */
   uint32_t place;     /* the instruction that aborted, from 0, if `cause` is not 0 */
   uint32_t cause;     /* why the script aborted: nothing of it took effect then */
-  uint32_t ticket;    /* of onefile_last_reply: which call of its caller it was, from 1 */
+  uint32_t ticket;    /* of a last reply: which call of its caller it was, from 1; of an answer 0 */
   uint64_t steps;     /* how many steps the call made; at STOPPED, how many it has asked for */
   uint32_t given[ONEFILE_MOST_INSTRS];  /* 1 for each instruction that answered a number */
   uint32_t values[ONEFILE_MOST_INSTRS]; /* the numbers */
@@ -331,7 +332,8 @@ int onefile_last_reply(onefile_saved *saved, uint32_t number, onefile_reply *rep
 
 /* Writes what is held into `buffer`, which has room for `room` bytes, as the text of an image, with
  * no zero byte at its end, and its length into `length`. It has the store, and of each caller the
- * last ticket and reply; the limit is not in it. The program `onefile` reads it.
+ * last ticket and reply; the limit is not in it. The program `onefile` reads it. Behind the text
+ * `buffer` is as it was.
  * NO_ROOM: only `length` is written, which says how much room is needed. `buffer` may be null if
  * `room` is 0. */
 int onefile_image(onefile_saved *saved, char *buffer, size_t room, size_t *length);

@@ -2,3 +2,4 @@ pub mod Steps
 pub mod Boxes
 pub mod Stores
 pub mod Knowing
+pub mod Same

@@ -10,7 +10,8 @@ use Rattle.of_cells.specs.declared.error.RunError.TheVariants.{Stopped, Spent, I
 use Rattle.of_memory.specs.Called.{LeavesAsItWas}
 use Rattle.of_memory.specs.Handles.{IsSame, MakesCall, StaysOpenOnlyIfStopped, RefusesCall, OpensOnly}
 use Rattle.of_memory.specs.Handles.{ResumesCall, OpenCallStays, RefusesToGoOn, OpensNone}
-use Rattle.of_memory.specs.Handles.{steps_so_far, step_bound_of}
+use Rattle.of_memory.specs.Handles.{steps_so_far, step_bound_of, MakesAtMost, GoesOnWithin}
+use Rattle.of_memory.specs.Telling.{BeginsAfterHeard, ResumesAfterHeard, KeepsKnown}
 use Rattle.of_memory.specs.Within.{EndsWithin, KeepsToStop}
 use Rattle.of_c.specs.declared.codes.TheConstants.{DONE, EMPTY, NO_TICKET, SPENT, STOPPED, CALL_OPEN}
 use Rattle.of_c.specs.declared.held.Held.{Held}
@@ -44,6 +45,11 @@ pub record LeavesReply (code : ℕ) (before now : CReply) : Type 0 where
 abbrev pub ShowsPlaceAlone : (before now : CReply) → Type 0
 ShowsPlaceAlone before now = now ≡ record before { place = now.place }
 
+-- its calls have made no more steps than were given, if so many were
+abbrev pub MakesGiven : (stop : Option ℕ) → (before now : Handle) → Type 0
+MakesGiven None h k = Unit {0}
+MakesGiven (Some steps) h k = MakesAtMost steps h k
+
 -- a call of this script has come to this, and the handle to that
 pub record CallsScript (script : List Instr) (stop : Option ℕ) (h : Handle)
     (a : Result Answer RunError) (k : Handle) : Type 0 where
@@ -53,8 +59,12 @@ pub record CallsScript (script : List Instr) (stop : Option ℕ) (h : Handle)
   pub cause : RefusesCall h a
   pub unmade : LeavesAsItWas a h k
   pub bound : EndsWithin (step_bound_of h) a
+  pub rise : MakesAtMost (step_bound_of h) h k
   pub within : KeepsToStop 0 stop (steps_so_far k) a
+  pub given : MakesGiven stop h k
   pub only : OpensOnly script h k
+  pub behind : BeginsAfterHeard a h k
+  pub knows : KeepsKnown h k
 
 -- so has the call that was open
 pub record GoesOn (stop : Option ℕ) (h : Handle) (a : Result Answer RunError) (k : Handle)
@@ -65,8 +75,12 @@ pub record GoesOn (stop : Option ℕ) (h : Handle) (a : Result Answer RunError) 
   pub cause : RefusesToGoOn h a
   pub unmade : LeavesAsItWas a h k
   pub bound : EndsWithin (step_bound_of h) a
+  pub rise : GoesOnWithin (step_bound_of h) h k
   pub within : KeepsToStop (steps_so_far h) stop (steps_so_far k) a
+  pub given : MakesGiven stop h k
   pub only : OpensNone h k
+  pub behind : ResumesAfterHeard a h k
+  pub knows : KeepsKnown h k
 
 -- what a call does with a handle
 abbrev pub CallWork : Type 1

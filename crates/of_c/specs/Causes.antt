@@ -8,7 +8,7 @@ use Rattle.of_memory.specs.declared.memory.Memory.{Memory as TheMemory}
 use Rattle.of_memory.specs.declared.saved.Saved.{Saved as TheSaved}
 use Rattle.of_memory.specs.declared.error.WordsError.{WordsError}
 use Rattle.of_memory.specs.declared.error.WordsError.TheVariants.{OutOfMemory, Callers, Blocks, Limit, Count, Unlawful, PastLimit}
-use Rattle.of_memory.specs.Memories.{IsStill, callers_of}
+use Rattle.of_memory.specs.Memories.{IsStill, TakesNone, RemembersAll, HasOrderOf, callers_of}
 use Rattle.of_memory.specs.Saving.{saved_callers}
 use Rattle.of_memory.specs.Tasks.{KnowsSame}
 use Rattle.of_memory.specs.Texts.{IsNoLimitOf}
@@ -70,10 +70,14 @@ HasNoNumber n m = callers_of m ≤ n
 abbrev pub IsEnrolled : ℕ → TheMemory → Type 0
 IsEnrolled n m = get_or m.cells.callers.items n None ≡ None
 
--- it is the same memory still, and knows of every number what it knew
+-- it is the same memory still, each caller is there that was, and it knows of every number what it
+-- knew
 pub record KnowsAll (m k : TheMemory) : Type 0 where
   pub still : IsStill m k
+  pub none : TakesNone m k
   pub knows : (n : ℕ) → KnowsSame n m k
+  pub orders : (j n x i y : ℕ) → HasOrderOf m j n x i y → HasOrderOf k j n x i y
+  pub remembers : RemembersAll m k
 
 -- what is held is held still; a memory knows what it knew
 abbrev pub KeepsHeld : (before now : Held) → Type 0

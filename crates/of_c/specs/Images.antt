@@ -1,5 +1,5 @@
 -- The text of what a memory has left.
-use Rattle.std.specs.Prelude.{◌≡◌, ◌≢◌, ℕ, List, length, slice_range, Option}
+use Rattle.std.specs.Prelude.{◌≡◌, ◌≢◌, ℕ, ◌++◌, List, length, slice_range, Option}
 use Rattle.of_cell.specs.declared.word.TheConstants.{GREATEST_LIMIT}
 use Rattle.of_memory.specs.declared.saved.Saved.{Saved}
 use Rattle.of_memory.specs.declared.error.ImageTextError.{ImageTextError}
@@ -14,9 +14,9 @@ use Rattle.of_c.specs.Slots.{HoldsSaved}
 abbrev pub TellsNoText : (code : ℕ) → Type 0
 TellsNoText code = (code ≢ DONE) × (code ≢ NO_ROOM)
 
--- the buffer begins with the text
-abbrev pub BeginsWithText : (text buffer : List ℕ) → Type 0
-BeginsWithText text buffer = slice_range buffer 0 (length text) ≡ text
+-- the buffer is the text, and behind it as it was
+abbrev pub HoldsText : (text before now : List ℕ) → Type 0
+HoldsText text before now = now ≡ text ++ slice_range before (length text) (length before)
 
 -- what is held has a text, of which this is so
 pub record HasText (held : Option Held) (P : List ℕ → Type 0) : Type 0 where

@@ -9,8 +9,10 @@ use Rattle.of_memory.specs.History.{Made}
 use Rattle.of_memory.specs.Handles.{HasMade, HasOpen, number_of_handle}
 use Rattle.of_memory.specs.Memories.{callers_of, StartsWith, tickets_before, HasMadeOf, HasOpenOf}
 use Rattle.of_memory.specs.Memories.{HasNoneOpen, IsFrom, IsStill, KnowsOthers, OthersStayOpen}
-use Rattle.of_memory.specs.Memories.{HasHistory, HasNoHandleOut, limit_of}
+use Rattle.of_memory.specs.Memories.{HasHistory, HasNoHandleOut, limit_of, TakesOut, PutsBack}
+use Rattle.of_memory.specs.Memories.{OthersKnowOrder, RemembersAll}
 use Rattle.of_memory.specs.Saving.{SavedHolds, saved_callers, saved_limit, saved_ticket}
+use Rattle.of_memory.specs.Telling.{KnowsOrdersOf, LeavesOrder, HearsMemory, TellsMemory}
 use Rattle.of_c.specs.declared.held.Held.{Held}
 use Rattle.of_c.specs.Slots.{HoldsMemory, HoldsHandle, HoldsSaved}
 
@@ -39,12 +41,9 @@ pub record HoldsNext (saved now : Option Held) : Type 0 where
   pub none : (n : ℕ) → n < saved_callers left → HasMadeOf memory n []
   pub idle : HasNoneOpen memory
 
--- the memory that was held is held still
-abbrev pub HoldsStill : (before now : Option Held) → Type 0
-HoldsStill before now = (m : Memory) → HoldsMemory before m → HoldsMemory now m
-
--- of the memory the caller with this number is held, which knows what the memory knew of it; of the
--- other numbers the memory knows what it knew
+-- Of the memory the caller with this number is held. It knows what the memory knew of its number,
+-- and has heard of all calls that the memory knew to have ended. The memory still knows these, and
+-- of the other numbers what it knew.
 pub record HoldsEnrolled (number : ℕ) (before now caller : Option Held) : Type 0 where
   pub memory : Memory
   pub was : HoldsMemory before memory
@@ -57,10 +56,16 @@ pub record HoldsEnrolled (number : ℕ) (before now caller : Option Held) : Type
   pub of_number : number_of_handle handle ≡ number
   pub made : (ms : List Made) → HasMadeOf memory number ms → HasMade handle ms
   pub open_call : (script : List Instr) → HasOpenOf memory number script → HasOpen handle script
+  pub taken : TakesOut memory next handle
   pub others : KnowsOthers number memory next
   pub others_open : OthersStayOpen number memory next
+  pub order : KnowsOrdersOf memory handle
+  pub others_order : OthersKnowOrder number memory next
+  pub heard : HearsMemory memory handle
+  pub remembers : RemembersAll memory next
 
--- the memory knows of the caller's number what the caller knew, and of the others what it knew
+-- The memory knows of the caller's number what the caller knew, and of the others what it knew. It
+-- has heard of all calls that the caller knew to have ended, and forgets none.
 pub record HoldsLeft (before caller now : Option Held) : Type 0 where
   pub memory : Memory
   pub was : HoldsMemory before memory
@@ -73,8 +78,13 @@ pub record HoldsLeft (before caller now : Option Held) : Type 0 where
       → HasMadeOf next (number_of_handle handle) ms
   pub open_call : (script : List Instr) → HasOpen handle script
       → HasOpenOf next (number_of_handle handle) script
+  pub back : PutsBack memory next handle
   pub others : KnowsOthers (number_of_handle handle) memory next
   pub others_open : OthersStayOpen (number_of_handle handle) memory next
+  pub order : LeavesOrder handle next
+  pub others_order : OthersKnowOrder (number_of_handle handle) memory next
+  pub heard : TellsMemory handle next
+  pub remembers : RemembersAll memory next
 
 -- what the memory has left is held: one serial history leads to it, with each call that was
 -- answered. Each caller had left

@@ -49,9 +49,16 @@ pub record ShowsReply (reply : Reply) (r : CReply) : Type 0 where
   pub values : ShowsEach given_number reply.values r.values
   pub abort : ShowsAbort reply.abort r.place r.cause
 
+-- its sequence, its steps and whether it was announced are as they were
+pub record LeavesSeqAndSteps (before now : CReply) : Type 0 where
+  pub seq : now.seq ≡ before.seq
+  pub announced : now.announced ≡ before.announced
+  pub steps : now.steps ≡ before.steps
+
 -- it shows the answer of a call
 pub record ShowsAnswer (a : Answer) (r : CReply) : Type 0 where
   pub reply : ShowsReply a.reply r
   pub seq : r.seq ≡ a.seq
   pub announced : r.announced ≡ flag_number a.announced
+  pub ticket : r.ticket ≡ 0
   pub steps : r.steps ≡ a.steps

@@ -43,7 +43,3 @@ pub record HoldsLimited (limit : ℕ) (before now : Option Held) : Type 0 where
   pub same : SavesSame left next
   pub seq : saved_seq next ≡ saved_seq left
   pub limit_is : saved_limit next ≡ limit
-
--- what was left is held still, if anything was
-abbrev pub KeepsSaved : (before now : Option Held) → Type 0
-KeepsSaved before now = (d : Saved) → HoldsSaved before d → HoldsSaved now d

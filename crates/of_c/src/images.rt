@@ -4,7 +4,7 @@ ghost use Rattle.std.specs.Prelude.{◌≡◌, ◌≢◌, ◌↔◌, ◌<◌, �
 ghost use Rattle.of_c.specs.declared.codes.TheConstants.{DONE, EMPTY, FULL, NO_IMAGE, NO_MEMORY};
 ghost use Rattle.of_c.specs.declared.codes.TheConstants.{NO_ROOM};
 ghost use Rattle.of_c.specs.Causes.{IsOneCode, IsUnread, HoldsNo, IsNotSaved};
-ghost use Rattle.of_c.specs.Images.{TellsNoText, BeginsWithText, HasText, HoldsRead};
+ghost use Rattle.of_c.specs.Images.{TellsNoText, HoldsText, HasText, HoldsRead};
 ghost use Rattle.of_c.specs.Images.{IsOfNoneSaved, fault_code};
 
 use crate::codes::{DONE, EMPTY, FULL, NO_IMAGE, NO_MEMORY, NO_ROOM};
@@ -47,7 +47,7 @@ fn text_in(alloc: Global, saved: &mut Slot) -> Result<Vec<u8>, u32>
 
 // Writes a text to the front of a buffer, if it has room, and how long it is.
 fn write_text(text: &[u8], buffer: &mut [u8], size: &mut usize) -> u32
-    ensures written { result ≡ DONE → BeginsWithText text.now buffer.new }
+    ensures written { result ≡ DONE → HoldsText text.now buffer.old buffer.new }
     ensures codes { IsOneCode (DONE ∷ NO_ROOM ∷ []) result }
     ensures short { result ≡ NO_ROOM → length buffer.old < length text.now }
     ensures size { size.new ≡ length text.now }
@@ -72,7 +72,7 @@ pub extern "C" fn of_c_image(
     size: &mut usize,
 ) -> u32
     ensures written { result ≡ DONE → HasText saved.old.raw.held
-        (λ t. BeginsWithText t buffer.new × (size.new ≡ length t)) }
+        (λ t. HoldsText t buffer.old buffer.new × (size.new ≡ length t)) }
     ensures short { result ≡ NO_ROOM → HasText saved.old.raw.held
         (λ t. (length buffer.old < length t) × (size.new ≡ length t)) }
     ensures codes { IsOneCode (DONE ∷ NO_ROOM ∷ EMPTY ∷ NO_MEMORY ∷ []) result }

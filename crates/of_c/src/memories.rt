@@ -4,9 +4,9 @@ ghost use Rattle.std.specs.Prelude.{◌≡◌, ◌≢◌, ◌↔◌, ◌⊎◌, 
 ghost use Rattle.of_c.specs.declared.codes.TheConstants.{DONE, EMPTY, FULL, IN_USE, NO_MEMORY};
 ghost use Rattle.of_c.specs.declared.codes.TheConstants.{RANGE, TAKEN};
 ghost use Rattle.of_c.specs.declared.held.Held.TheVariants.{Memory as HeldMemory};
-ghost use Rattle.of_c.specs.Slots.{HoldsMemory, AreOfOne};
+ghost use Rattle.of_memory.specs.Memories.{HasHandleOut};
+ghost use Rattle.of_c.specs.Slots.{AreOfOne};
 ghost use Rattle.of_c.specs.Lives.{HoldsEmpty, HoldsNext, HoldsEnrolled, HoldsLeft, HoldsClosed};
-ghost use Rattle.of_c.specs.Lives.{HoldsStill};
 ghost use Rattle.of_c.specs.Causes.{IsOneCode, HoldsNo, IsNotMemory, IsNotCaller, IsNotSaved};
 ghost use Rattle.of_c.specs.Causes.{AreOutOfRange, HoldsMemoryWith, HasNoNumber, IsEnrolled};
 ghost use Rattle.of_c.specs.Causes.{KeepsHeld, KeepsSlot};
@@ -115,7 +115,8 @@ fn enrol_held(held: &mut Held, number: u32, mut place: Box<Held, Global>, caller
     }
 }
 
-/// Enrols the caller with this number.
+/// Enrols the caller with this number. Each call that it begins comes, in the memory's history,
+/// after all ended calls of callers that have left before.
 #[unsafe(no_mangle)]
 pub extern "C" fn of_c_enrol(alloc: Global, pair: &mut Pair, number: u32) -> u32
     ensures enrolled { result ≡ DONE → HoldsEnrolled number
@@ -209,7 +210,8 @@ fn close_home(home: Home, mut place: Box<Held, Global>, memory: &mut Slot, saved
     ensures codes { IsOneCode (DONE ∷ IN_USE ∷ []) result }
     ensures gone { result ≡ DONE → memory.new.raw.held ≡ None }
     ensures refused { result ≢ DONE → saved.new.raw.held ≡ saved.old.raw.held }
-    ensures back { result ≢ DONE → HoldsMemory memory.new.raw.held home.memory }
+    ensures in_use { result ≡ IN_USE → HasHandleOut home.memory }
+    ensures back { result ≢ DONE → memory.new.raw.held ≡ Some (HeldMemory home) }
 {
     surely::<Memory, OfMemory>(&home.memory);
     match home.memory.close() {
@@ -233,10 +235,11 @@ pub extern "C" fn of_c_close(alloc: Global, memory: &mut Slot, saved: &mut Slot)
     ensures codes { IsOneCode (DONE ∷ FULL ∷ EMPTY ∷ IN_USE ∷ NO_MEMORY ∷ []) result }
     ensures full { (result ≡ FULL) ↔ IsSome saved.old.raw.held }
     ensures empty { result ≡ EMPTY → HoldsNo IsNotMemory memory.old.raw.held }
-    ensures in_use { HoldsNo IsNotMemory memory.old.raw.held → result ≢ IN_USE }
+    // Only if a caller has not left.
+    ensures in_use { result ≡ IN_USE → HoldsMemoryWith HasHandleOut memory.old.raw.held }
     ensures gone { result ≡ DONE → memory.new.raw.held ≡ None }
     ensures refused { result ≢ DONE → saved.new.raw.held ≡ saved.old.raw.held }
-    ensures back { result ≢ DONE → HoldsStill memory.old.raw.held memory.new.raw.held }
+    ensures back { result ≢ DONE → memory.new.raw.held ≡ memory.old.raw.held }
 {
     if !saved.is_empty() {
         return FULL;

@@ -20,7 +20,7 @@ pub struct CReply {
     pub place: u32,
     /// Why the script aborted; 0 if it did not.
     pub cause: u32,
-    /// Of a last reply, the number of its call.
+    /// Of a last reply, the number of its call; 0 of an answer.
     pub ticket: u32,
     /// How many steps the call made; if it was stopped, how many it has asked for.
     pub steps: u64,
@@ -80,12 +80,13 @@ fn number_of_cause(cause: Cause) -> u32
 }
 
 impl CReply {
-    ghost use Rattle.of_c.specs.Replies.{ShowsReply, ShowsAnswer};
+    ghost use Rattle.of_c.specs.Replies.{ShowsReply, ShowsAnswer, LeavesSeqAndSteps};
 
     /// Writes what a script answered.
     #[inline(always)]
     pub(crate) fn show(&mut self, reply: &Reply)
-        ensures { ShowsReply reply.now self.new }
+        ensures shows { ShowsReply reply.now self.new }
+        ensures stays { LeavesSeqAndSteps self.old self.new }
     {
         self.len = u32::from(reply.len);
         write_values(&reply.values, &mut self.given, &mut self.values);

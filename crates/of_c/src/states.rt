@@ -7,6 +7,7 @@ ghost use Rattle.of_store.specs.Store.{register as register_of, queue as queue_o
 ghost use Rattle.of_script.specs.declared.instr.TheConstants.{GREATEST, QUEUES, REGISTERS};
 ghost use Rattle.of_memory.specs.Saving.{saved_ticket};
 ghost use Rattle.of_c.specs.declared.codes.TheConstants.{ABSENT, DONE, EMPTY, NO_MEMORY, RANGE};
+ghost use Rattle.of_c.specs.Replies.{LeavesSeqAndSteps};
 ghost use Rattle.of_c.specs.States.{HoldsStore, HasCallerWith, ShowsLast};
 ghost use Rattle.of_c.specs.Causes.{IsOneCode, IsUnread, HoldsNo, IsNotSaved};
 ghost use Rattle.of_c.specs.Causes.{HoldsSavedWith, HasNoTicketOf};
@@ -202,6 +203,7 @@ fn last_reply_held(held: &Held, number: u32, reply: &mut CReply) -> u32
     ensures range { result ≡ RANGE → HoldsSavedWith (HasNoTicketOf number) (Some held.now) }
     ensures empty { (result ≡ EMPTY) ↔ IsNotSaved held.now }
     ensures unread { result ≢ DONE → reply.new ≡ reply.old }
+    ensures stays { LeavesSeqAndSteps reply.old reply.new }
 {
     match held {
         Held::Saved(kept) => {
@@ -238,6 +240,7 @@ pub extern "C" fn of_c_last_reply(
     ensures range { result ≡ RANGE → HoldsSavedWith (HasNoTicketOf number) saved.old.raw.held }
     ensures empty { (result ≡ EMPTY) ↔ HoldsNo IsNotSaved saved.old.raw.held }
     ensures unread { result ≢ DONE → reply.new ≡ reply.old }
+    ensures stays { LeavesSeqAndSteps reply.old reply.new }
     ensures same { saved.new.raw.held ≡ saved.old.raw.held }
 {
     let Some(held) = saved.take(alloc) else {

@@ -7,7 +7,6 @@ ghost use Rattle.of_eval.specs.declared.scripts.Scripts.{Scripts as TheScripts};
 ghost use Rattle.of_c.specs.declared.codes.TheConstants.{DONE, EMPTY, FULL, NO_MEMORY};
 ghost use Rattle.of_c.specs.declared.codes.TheConstants.{NO_START, RANGE};
 ghost use Rattle.of_c.specs.Words.{ShowsSizes, HoldsWords, HoldsRenumbered, HoldsLimited};
-ghost use Rattle.of_c.specs.Words.{KeepsSaved};
 ghost use Rattle.of_c.specs.Causes.{IsOneCode, HoldsNo, IsNotSaved, HoldsSavedWith};
 ghost use Rattle.of_c.specs.Causes.{AreOutOfWords, HasCellAtFault, RefusesLimit, words_code};
 
@@ -139,8 +138,7 @@ fn limit_held(held: &mut Held, limit: u32) -> u32
     ensures codes { IsOneCode (DONE ∷ EMPTY ∷ RANGE ∷ []) result }
     ensures empty { (result ≡ EMPTY) ↔ IsNotSaved held.old }
     ensures range { result ≡ RANGE → HoldsSavedWith (RefusesLimit limit) (Some held.old) }
-    ensures same { result ≢ DONE → KeepsSaved (Some held.old) (Some held.new) }
-    ensures other { IsNotSaved held.old → held.new ≡ held.old }
+    ensures same { result ≢ DONE → held.new ≡ held.old }
 {
     match replace(held, Held::Nothing) {
         Held::Saved(kept) => {
@@ -171,7 +169,7 @@ pub extern "C" fn of_c_set_limit(alloc: Global, saved: &mut Slot, limit: u32) ->
     ensures codes { IsOneCode (DONE ∷ EMPTY ∷ RANGE ∷ []) result }
     ensures empty { (result ≡ EMPTY) ↔ HoldsNo IsNotSaved saved.old.raw.held }
     ensures range { result ≡ RANGE → HoldsSavedWith (RefusesLimit limit) saved.old.raw.held }
-    ensures same { result ≢ DONE → KeepsSaved saved.old.raw.held saved.new.raw.held }
+    ensures same { result ≢ DONE → saved.new.raw.held ≡ saved.old.raw.held }
 {
     let Some(mut held) = saved.take(alloc) else {
         return EMPTY;

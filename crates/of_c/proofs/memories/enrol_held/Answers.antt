@@ -18,12 +18,17 @@ returns-in-Ok-clause-enrolled c done = record {
   of_number = c.in-Ok.ensures.number;
   made = c.in-Ok.ensures.made;
   open_call = c.in-Ok.ensures.open_call;
+  taken = c.in-Ok.ensures.taken;
   others = c.enrol.ensures.others;
   others_open = c.enrol.ensures.others_open;
+  order = c.in-Ok.ensures.order;
+  others_order = c.enrol.ensures.others_order;
+  heard = c.in-Ok.ensures.heard;
+  remembers = c.enrol.ensures.remembers;
 }
 
 pub returns-in-Err-OutOfMemory-clause-kept : goal.returns-in-Err-OutOfMemory-clause-kept
-returns-in-Err-OutOfMemory-clause-kept c out = keeps_memory _ c.in-Memory.home _ c.in-Memory.is c.enrol.ensures.still c.in-Err-OutOfMemory.ensures.refused
+returns-in-Err-OutOfMemory-clause-kept c out = keeps_memory _ c.in-Memory.home _ c.in-Memory.is c.enrol.ensures.still c.in-Err-OutOfMemory.ensures.refused c.enrol.ensures.remembers
 
 pub returns-in-Err-NoCaller-clause-range : goal.returns-in-Err-NoCaller-clause-range
 returns-in-Err-NoCaller-clause-range c out = record {
@@ -33,7 +38,7 @@ returns-in-Err-NoCaller-clause-range c out = record {
 }
 
 pub returns-in-Err-NoCaller-clause-kept : goal.returns-in-Err-NoCaller-clause-kept
-returns-in-Err-NoCaller-clause-kept c out = keeps_memory _ c.in-Memory.home _ c.in-Memory.is c.enrol.ensures.still c.in-Err-NoCaller.ensures.refused
+returns-in-Err-NoCaller-clause-kept c out = keeps_memory _ c.in-Memory.home _ c.in-Memory.is c.enrol.ensures.still c.in-Err-NoCaller.ensures.refused c.enrol.ensures.remembers
 
 pub returns-in-Memory-clause-taken : goal.returns-in-Memory-clause-taken
 returns-in-Memory-clause-taken c out = record {
@@ -43,4 +48,4 @@ returns-in-Memory-clause-taken c out = record {
 }
 
 pub returns-in-Memory-clause-kept : goal.returns-in-Memory-clause-kept
-returns-in-Memory-clause-kept c out = keeps_memory _ c.in-Memory.home _ c.in-Memory.is c.enrol.ensures.still c.in-Err-Enrolled.ensures.refused
+returns-in-Memory-clause-kept c out = keeps_memory _ c.in-Memory.home _ c.in-Memory.is c.enrol.ensures.still c.in-Err-Enrolled.ensures.refused c.enrol.ensures.remembers

@@ -20,6 +20,11 @@ returns-clause-left c done = record {
   still = c.leave.ensures.still;
   made = c.leave.ensures.made;
   open_call = c.leave.ensures.open_call;
+  back = c.leave.ensures.back;
   others = c.leave.ensures.others;
   others_open = c.leave.ensures.others_open;
+  order = c.leave.ensures.order;
+  others_order = c.leave.ensures.others_order;
+  heard = c.leave.ensures.heard;
+  remembers = c.leave.ensures.remembers;
 }

@@ -13,10 +13,10 @@ returns-in-Some-clause-read c done = record {
     reply = c.in-Some.last;
     held = c.in-Some.ensures.reply;
     shows = record {
-      len = c.show.ensures.len;
-      given = c.show.ensures.given;
-      values = c.show.ensures.values;
-      abort = c.show.ensures.abort;
+      len = c.show.ensures.shows.len;
+      given = c.show.ensures.shows.given;
+      values = c.show.ensures.shows.values;
+      abort = c.show.ensures.shows.abort;
     };
   };
 }
