@@ -81,6 +81,5 @@ fn tasks_of_cells_work_at_once(rt: HostRuntime) -> Result<(), Fail> {
     assert!(rt; tasks.iter().all(|task| task.came.is_none()));
     let saved = memory.close()?;
     assert_eq!(rt; register(alloc, &saved)?, Some(10));
-    assert_eq!(rt; (saved.ticket(0), saved.ticket(1)), (1, 1));
     Ok(())
 }
