@@ -36,7 +36,7 @@ use Rattle.of_memory.specs.Rows.{HoldLastReplies, StandFor}
 use Rattle.of_memory.specs.Saving.{IsSaved, SavedHolds, HoldsReply, saved_scripts, saved_cells, saved_callers, saved_limit, saved_ticket}
 use Rattle.of_memory.specs.Memories.{IsMemory, HasOpenOf, StartsWith, LeadsTo, HasHistory, HasNoHandleOut, TellsLastOf, scripts_work_of, callers_of, limit_of, cells_before, tickets_before}
 use Rattle.of_memory.proofs.Starting.{saved_size}
-use Rattle.of_memory.proofs.Replaying.{Cells, AreScripts, entries, serial, long, leads, in_order, explains_all, has_only, below, up_to, in_time, last_entry}
+use Rattle.of_memory.proofs.Replaying.{Cells, AreScripts, entries, serial, long, leads, in_order, by_sequence, explains_all, own_sequences, has_only, below, up_to, in_time, last_entry}
 
 module _ (m : Memory) (is : IsMemory m) (here : HasNoHandleOut m) (d : Saved) (work : saved_scripts d ≡ scripts_work_of m) (callers : saved_callers d ≡ callers_of m) (limit : saved_limit d ≡ limit_of m) (saved : IsSavedCells (λ w. w.callers) scripts_data_cells scripts_meaning LawfulCells d.cells)
     (history : generic.HasHistory scripts_meaning m.cells d.cells) (keeps : generic.SavesOwnCells scripts_meaning m.cells d.cells) where
@@ -122,6 +122,9 @@ module _ (m : Memory) (is : IsMemory m) (here : HasNoHandleOut m) (d : Saved) (w
       serial = serial w s h are_scripts;
       ends = ends;
       order = in_order w h (cells_before m) s are_scripts started led.one.serial led.one.order;
+      sequences = led.one.sequences;
+      by_seq = by_sequence w h (cells_before m) s are_scripts started led.one.serial led.one.sequences led.one.by_seq;
+      own_seq = λ n ms has. own_sequences w h (cells_before m) s are_scripts started led.one.serial n (tickets_before m n) has.ended ms has.made led.one.sequences (led.one.own_seq n has.ended has.here);
       made = λ n ms has. explains_all w h (cells_before m) s are_scripts started led.one.serial n (tickets_before m n) has.ended ms has.made (led.one.made n has.ended has.here);
       only = λ n ms has. has_only w h (cells_before m) s are_scripts started led.one.serial n (tickets_before m n) has.ended ms has.made (generic.HasOpenOf m.cells n) (HasOpenOf m n) (λ script is opened. record { is = is; opened = opened }) (led.one.only n has.ended has.here);
       callers = below w h (cells_before m) s are_scripts started led.one.serial (callers_of m) led.one.callers;

@@ -25,6 +25,8 @@ use Rattle.of_core.specs.declared.place.Outcome.{Outcome}
 use Rattle.of_core.specs.declared.place.Outcome.TheVariants.{Answered, Spent as Over}
 use Rattle.of_core.specs.Table.{Setup}
 use Rattle.of_core.specs.Machine.{Call, no_call}
+use Rattle.of_core.specs.Linear.{Sequences}
+use Rattle.of_core.specs.Linear as linear
 use Rattle.of_core.specs.History.{numbers_after_calls, CallsHaveReplies, SameWhereMarked}
 use Rattle.of_row.specs.Rows.{key_of}
 use Rattle.of_row.specs.Views.{EndedCall, no_ended}
@@ -35,7 +37,7 @@ use Rattle.of_cells.specs.History as generic
 use Rattle.of_cells.specs.Serving.{cells_at_start}
 use Rattle.of_cells.specs.Handles.{RepliesAsMeant}
 use Rattle.of_memory.specs.declared.handle.Handle.{Handle}
-use Rattle.of_memory.specs.History.{HistoryEntry, no_history_entry, Made, no_made, End, Replied, Spent, IsSerial, store_after, StandsInOrder, HasEntry, ExplainsEnd, ExplainsAll, IsOneOf, HasOnly, ScriptOnlyReads, IsUpTo, ComeInOrder}
+use Rattle.of_memory.specs.History.{HistoryEntry, no_history_entry, Made, no_made, End, Replied, Spent, IsSerial, store_after, StandsInOrder, StandsBySequence, HasOwnSequence, HaveOwnSequences, HasEntry, ExplainsEnd, ExplainsAll, IsOneOf, HasOnly, ScriptOnlyReads, IsUpTo, ComeInOrder}
 use Rattle.of_memory.specs.Calls.{IsScriptOperation, HoldsResponse, EndsAs, AreMade}
 use Rattle.of_memory.specs.Called.{HoldsSomeReply}
 use Rattle.of_memory.specs.Handles.{IsHandle, home_of}
@@ -177,6 +179,26 @@ module _ (w : Scripts) where
         let newer = rising p q lt (among_calls q high) (sym b.caller ∙ same ∙ a.caller) in
         omega (arith, newer, a.ticket, b.ticket)
 
+    pub by_sequence : (q : Sequences) → linear.StandsBySequence cs q → StandsBySequence hs q
+    by_sequence q by = record {
+      rising = λ x y lt high. by.rising x y lt (among_calls y high);
+      announced_first = λ x y lt high. by.announced_first x y lt (among_calls y high);
+      by_caller = λ x y lt high same yes.
+          let a = at x (omega (arith, lt, high)) in
+          let b = at y high in
+          let below = by.by_caller x y lt (among_calls y high) same yes in
+          omega (arith, below, a.caller, b.caller);
+    }
+
+    own : (q : Sequences) (o : Outcome) (end : End) (i t : ℕ) → EndsAs o end → linear.HasOwnSequence cs q i t o → HasOwnSequence hs q i t end
+    own q (Answered seq announced raw steps) (Replied response t n a) i ticket held has = λ p l mine same.
+        let e = at p l in
+        let one = has p (among_calls p l) (sym e.caller ∙ mine) (sym e.ticket ∙ same) in
+        (one.0 ∙ held.1, one.1 ∙ held.3)
+    own q (Answered seq announced raw steps) (Spent t) i ticket held has = absurd held
+    own q (Over seq) (Replied response t n a) i ticket held has = absurd held
+    own q (Over seq) (Spent t) i ticket held has = tt
+
     -- ---- how the calls have ended
 
     has : (i t : ℕ) (op : List ℕ) (raw : RawReply) (script : List Instr) (response : Reply) → IsScript script → op ≡ map instr_word script → HoldsResponse raw response → generic.HasEntry cs i t op raw
@@ -204,6 +226,11 @@ module _ (w : Scripts) where
       explains_all all y l =
           let one = made_at es ms y made l in
           explains (get_or es y no_ended).outcome (get_or ms y no_made).ended i (n + y + 1) (get_or es y no_ended).op (get_or ms y no_made).script one.1.script one.1.words one.1.ended (all y one.0)
+
+      pub own_sequences : (q : Sequences) → generic.HaveOwnSequences cs q i n es → HaveOwnSequences hs q i n ms
+      own_sequences q all y l =
+          let one = made_at es ms y made l in
+          own q (get_or es y no_ended).outcome (get_or ms y no_made).ended i (n + y + 1) one.1.ended (all y one.0)
 
       -- and it has no others
       pub has_only : (IsOpenOperation : List ℕ → Type 0) (IsOpenScript : List Instr → Type 0) → ((script : List Instr) → IsScript script → IsOpenOperation (map instr_word script) → IsOpenScript script)

@@ -1,10 +1,11 @@
 -- A serial history of scripts on the plain store.
-use Rattle.std.specs.Prelude.{◌≡◌, ℕ, ◌+◌, ◌<◌, ◌≤◌, ◌⊎◌, IsTrue, Bool, List, [], ◌∷◌, length}
+use Rattle.std.specs.Prelude.{◌≡◌, ℕ, ◌+◌, ◌<◌, ◌≤◌, ◌⊎◌, IsTrue, Bool, true, List, [], ◌∷◌, length}
 use Rattle.std.specs.List.{All}
 use Rattle.std.proofs.Common.{get_or}
 use Rattle.of_script.specs.declared.instr.Instr.{Instr}
 use Rattle.of_script.specs.Language.{reads_only}
 use Rattle.of_store.specs.Store.{Store, Reply, Answered, run}
+use Rattle.of_core.specs.Linear.{Sequences}
 
 -- a call in the history: a script of a caller, the number that the call has among its caller's
 -- calls, and its reply
@@ -67,6 +68,27 @@ abbrev pub ExplainsAll : List HistoryEntry → (caller n : ℕ) → List Made �
 ExplainsAll h c n ms =
     (y : ℕ) → y < length ms
     → ExplainsEnd h c (n + y + 1) (get_or ms y no_made).script (get_or ms y no_made).ended
+
+-- the history stands by these sequences: they do not fall, and of one sequence the announced calls
+-- come first, by caller
+pub record StandsBySequence (h : List HistoryEntry) (s : Sequences) : Type 0 where
+  pub rising : (p q : ℕ) → p < q → q < length h → s.seq p ≤ s.seq q
+  pub announced_first : (p q : ℕ) → p < q → q < length h → s.seq p ≡ s.seq q
+      → s.announced q ≡ true → s.announced p ≡ true
+  pub by_caller : (p q : ℕ) → p < q → q < length h → s.seq p ≡ s.seq q → s.announced q ≡ true
+      → (get_or h p no_history_entry).caller < (get_or h q no_history_entry).caller
+
+-- the call has the sequence that its end tells, and was announced if that says so
+abbrev pub HasOwnSequence : List HistoryEntry → Sequences → (caller ticket : ℕ) → End → Type 0
+HasOwnSequence h s c t (Replied r seq steps announced) =
+    (p : ℕ) → p < length h → (get_or h p no_history_entry).caller ≡ c
+    → (get_or h p no_history_entry).ticket ≡ t → (s.seq p ≡ seq) × (s.announced p ≡ announced)
+HasOwnSequence h s c t (Spent seq) = Unit {0}
+
+-- so has each of these calls of a caller, the first of which has the number after n
+abbrev pub HaveOwnSequences : List HistoryEntry → Sequences → (caller n : ℕ) → List Made → Type 0
+HaveOwnSequences h s c n ms =
+    (y : ℕ) → y < length ms → HasOwnSequence h s c (n + y + 1) (get_or ms y no_made).ended
 
 -- the entry is one of these calls, the first of which has the number after n, or the one after
 -- them, which is open

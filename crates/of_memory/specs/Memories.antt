@@ -9,6 +9,7 @@ use Rattle.of_script.specs.Language.{IsScript, instr_word}
 use Rattle.of_store.specs.Store.{Store}
 use Rattle.of_eval.specs.declared.scripts.Scripts.{Scripts}
 use Rattle.of_eval.specs.Scripts.{scripts_meaning}
+use Rattle.of_core.specs.Linear.{Sequences}
 use Rattle.of_row.specs.declared.row.Row.{Row}
 use Rattle.of_row.specs.Views.{EndedCall}
 use Rattle.of_cells.specs.declared.error.EnrolError.{EnrolError}
@@ -18,7 +19,7 @@ use Rattle.of_memory.specs.declared.error.OpenError.TheVariants.{OutOfMemory, Ca
 use Rattle.of_memory.specs.declared.memory.Memory.{Memory}
 use Rattle.of_memory.specs.declared.handle.Handle.{Handle}
 use Rattle.of_memory.specs.declared.saved.Saved.{Saved}
-use Rattle.of_memory.specs.History.{HistoryEntry, Made, IsSerial, store_after, StandsInOrder, ExplainsAll, HasOnly, HasEntry, IsUpTo, ComeInOrder}
+use Rattle.of_memory.specs.History.{HistoryEntry, Made, IsSerial, store_after, StandsInOrder, StandsBySequence, ExplainsAll, HaveOwnSequences, HasOnly, HasEntry, IsUpTo, ComeInOrder}
 use Rattle.of_memory.specs.Calls.{AreMade, AreOfScripts, IsScriptOperation}
 use Rattle.of_memory.specs.Rows.{IsScriptsRow, StandFor}
 use Rattle.of_memory.specs.Saving.{SavedHolds, HoldsReply, saved_ticket}
@@ -134,14 +135,19 @@ TellsLastOf m d h n =
 
 -- The history leads from the store with which the memory was opened to the saved one. It is serial,
 -- and the calls of each caller are there in the order in which they were made, each once at most.
--- It has each call that was answered, with its reply, and no call that was spent; beside these it
--- has open calls alone. What is saved tells the last call of each caller, and no call that may
--- write is later. It respects the time between calls, where one of the numbers knows of it.
+-- It stands by sequence. It has each call that was answered, with its reply and its own sequence,
+-- and no call that was spent; beside these it has open calls alone. What is saved tells the last
+-- call of each caller, and no call that may write is later. It respects the time between calls,
+-- where one of the numbers knows of it.
 pub record LeadsTo (m : Memory) (s : Store) (d : Saved) (h : List HistoryEntry) : Type 0 where
   pub serial : IsSerial s h
   pub ends : SavedHolds d (store_after s h)
   pub order : StandsInOrder h
+  pub sequences : Sequences
+  pub by_seq : StandsBySequence h sequences
   pub made : (n : ℕ) (ms : List Made) → HasMadeOf m n ms → ExplainsAll h n (tickets_before m n) ms
+  pub own_seq : (n : ℕ) (ms : List Made) → HasMadeOf m n ms
+      → HaveOwnSequences h sequences n (tickets_before m n) ms
   pub only : (n : ℕ) (ms : List Made) → HasMadeOf m n ms
       → HasOnly h n (tickets_before m n) ms (HasOpenOf m n)
   pub callers : All (λ (e : HistoryEntry). e.caller < callers_of m) h
