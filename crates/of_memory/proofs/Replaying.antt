@@ -37,7 +37,7 @@ use Rattle.of_cells.specs.History as generic
 use Rattle.of_cells.specs.Serving.{cells_at_start}
 use Rattle.of_cells.specs.Handles.{RepliesAsMeant}
 use Rattle.of_memory.specs.declared.handle.Handle.{Handle}
-use Rattle.of_memory.specs.History.{HistoryEntry, no_history_entry, Made, no_made, End, Replied, Spent, IsSerial, store_after, StandsInOrder, StandsBySequence, HasOwnSequence, HaveOwnSequences, HasEntry, ExplainsEnd, ExplainsAll, IsOneOf, HasOnly, ScriptOnlyReads, IsUpTo, ComeInOrder}
+use Rattle.of_memory.specs.History.{HistoryEntry, no_history_entry, Made, no_made, End, Replied, Spent, IsSerial, store_after, StandsInOrder, EntriesRiseBySequence, HasSequenceOfEnd, HaveOwnSequences, HasEntry, ExplainsEnd, ExplainsAll, IsOneOf, HasOnly, ScriptOnlyReads, IsUpTo, ComeInOrder}
 use Rattle.of_memory.specs.Calls.{IsScriptOperation, HoldsResponse, EndsAs, AreMade}
 use Rattle.of_memory.specs.Called.{HoldsSomeReply}
 use Rattle.of_memory.specs.Handles.{IsHandle, home_of}
@@ -179,7 +179,7 @@ module _ (w : Scripts) where
         let newer = rising p q lt (among_calls q high) (sym b.caller ∙ same ∙ a.caller) in
         omega (arith, newer, a.ticket, b.ticket)
 
-    pub by_sequence : (q : Sequences) → linear.StandsBySequence cs q → StandsBySequence hs q
+    pub by_sequence : (q : Sequences) → linear.StandsBySequence cs q → EntriesRiseBySequence hs q
     by_sequence q by = record {
       rising = λ x y lt high. by.rising x y lt (among_calls y high);
       announced_first = λ x y lt high. by.announced_first x y lt (among_calls y high);
@@ -190,7 +190,7 @@ module _ (w : Scripts) where
           omega (arith, below, a.caller, b.caller);
     }
 
-    own : (q : Sequences) (o : Outcome) (end : End) (i t : ℕ) → EndsAs o end → linear.HasOwnSequence cs q i t o → HasOwnSequence hs q i t end
+    own : (q : Sequences) (o : Outcome) (end : End) (i t : ℕ) → EndsAs o end → linear.HasOwnSequence cs q i t o → HasSequenceOfEnd hs q i t end
     own q (Answered seq announced raw steps) (Replied response t n a) i ticket held has = λ p l mine same.
         let e = at p l in
         let one = has p (among_calls p l) (sym e.caller ∙ mine) (sym e.ticket ∙ same) in

@@ -71,7 +71,7 @@ ExplainsAll h c n ms =
 
 -- the history stands by these sequences: they do not fall, and of one sequence the announced calls
 -- come first, by caller
-pub record StandsBySequence (h : List HistoryEntry) (s : Sequences) : Type 0 where
+pub record EntriesRiseBySequence (h : List HistoryEntry) (s : Sequences) : Type 0 where
   pub rising : (p q : ℕ) → p < q → q < length h → s.seq p ≤ s.seq q
   pub announced_first : (p q : ℕ) → p < q → q < length h → s.seq p ≡ s.seq q
       → s.announced q ≡ true → s.announced p ≡ true
@@ -79,16 +79,16 @@ pub record StandsBySequence (h : List HistoryEntry) (s : Sequences) : Type 0 whe
       → (get_or h p no_history_entry).caller < (get_or h q no_history_entry).caller
 
 -- the call has the sequence that its end tells, and was announced if that says so
-abbrev pub HasOwnSequence : List HistoryEntry → Sequences → (caller ticket : ℕ) → End → Type 0
-HasOwnSequence h s c t (Replied r seq steps announced) =
+abbrev pub HasSequenceOfEnd : List HistoryEntry → Sequences → (caller ticket : ℕ) → End → Type 0
+HasSequenceOfEnd h s c t (Replied r seq steps announced) =
     (p : ℕ) → p < length h → (get_or h p no_history_entry).caller ≡ c
     → (get_or h p no_history_entry).ticket ≡ t → (s.seq p ≡ seq) × (s.announced p ≡ announced)
-HasOwnSequence h s c t (Spent seq) = Unit {0}
+HasSequenceOfEnd h s c t (Spent seq) = Unit {0}
 
 -- so has each of these calls of a caller, the first of which has the number after n
 abbrev pub HaveOwnSequences : List HistoryEntry → Sequences → (caller n : ℕ) → List Made → Type 0
 HaveOwnSequences h s c n ms =
-    (y : ℕ) → y < length ms → HasOwnSequence h s c (n + y + 1) (get_or ms y no_made).ended
+    (y : ℕ) → y < length ms → HasSequenceOfEnd h s c (n + y + 1) (get_or ms y no_made).ended
 
 -- the entry is one of these calls, the first of which has the number after n, or the one after
 -- them, which is open

@@ -19,7 +19,7 @@ use Rattle.of_memory.specs.declared.error.OpenError.TheVariants.{OutOfMemory, Ca
 use Rattle.of_memory.specs.declared.memory.Memory.{Memory}
 use Rattle.of_memory.specs.declared.handle.Handle.{Handle}
 use Rattle.of_memory.specs.declared.saved.Saved.{Saved}
-use Rattle.of_memory.specs.History.{HistoryEntry, Made, IsSerial, store_after, StandsInOrder, StandsBySequence, ExplainsAll, HaveOwnSequences, HasOnly, HasEntry, IsUpTo, ComeInOrder}
+use Rattle.of_memory.specs.History.{HistoryEntry, Made, IsSerial, store_after, StandsInOrder, EntriesRiseBySequence, ExplainsAll, HaveOwnSequences, HasOnly, HasEntry, IsUpTo, ComeInOrder}
 use Rattle.of_memory.specs.Calls.{AreMade, AreOfScripts, IsScriptOperation}
 use Rattle.of_memory.specs.Rows.{IsScriptsRow, StandFor}
 use Rattle.of_memory.specs.Saving.{SavedHolds, HoldsReply, saved_ticket}
@@ -144,7 +144,7 @@ pub record LeadsTo (m : Memory) (s : Store) (d : Saved) (h : List HistoryEntry) 
   pub ends : SavedHolds d (store_after s h)
   pub order : StandsInOrder h
   pub sequences : Sequences
-  pub by_seq : StandsBySequence h sequences
+  pub by_seq : EntriesRiseBySequence h sequences
   pub made : (n : ℕ) (ms : List Made) → HasMadeOf m n ms → ExplainsAll h n (tickets_before m n) ms
   pub own_seq : (n : ℕ) (ms : List Made) → HasMadeOf m n ms
       → HaveOwnSequences h sequences n (tickets_before m n) ms
