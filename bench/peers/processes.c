@@ -2,12 +2,12 @@
  * MILLISECONDS [stop|kill]. KIND is one of:
  *   shared   processes share a file of the library
  *   threads  threads of one process, on a memory in a file
- *   robust   processes, with a robust process-shared mutex around the accounts, and an undo log: who
- *            gets the lock of a dead process undoes its transfer
- * It prints how many calls were made in a second. With `stop` worker 0 stops itself (SIGSTOP) in the
- * middle of its calls, for 50 ms each, and it prints how many calls the others made meanwhile. With
- * `kill` it kills itself there and another process comes in its place, and it prints how long each
- * of the others was without an answer after that: the median and the most, in microseconds. */
+ *   robust   processes, with a robust process-shared mutex around the accounts, and an undo log:
+ *            who gets the lock of a dead process undoes its transfer
+ * It prints how many calls were made in a second. With `stop` worker 0 stops itself (SIGSTOP) in
+ * the middle of its calls, for 50 ms each, and it prints how many calls the others made meanwhile.
+ * With `kill` it kills itself there and another process comes in its place, and it prints how long
+ * each of the others was without an answer after that: the median and the most, in microseconds. */
 #define _GNU_SOURCE
 #include "onefile.h"
 

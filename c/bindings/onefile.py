@@ -80,9 +80,9 @@ def make(word, *given, wanted=(DONE,)):
 
 
 class Memory:
-    """A memory, which goes on from what was saved, or from the file if there is one. If it is shared,
-    other processes may have the file too. It is let go when nothing refers to it, and nothing of it
-    is saved then but in its file."""
+    """A memory, which goes on from what was saved, or from the file if there is one. If it is
+    shared, other processes may have the file too. It is let go when nothing refers to it, and
+    nothing of it is saved then but in its file."""
 
     def __init__(
         self, callers=0, blocks=0, limit=GREATEST_LIMIT, saved=None, path=None, shared=False
@@ -116,9 +116,9 @@ class Memory:
 
 
 class Caller:
-    """A caller that is enrolled: `with Caller(memory, 0) as own`, or with the first number that is free:
-    `with Caller(memory) as own`. It leaves at the end. If another one enrols or leaves at that moment,
-    it tries again."""
+    """A caller that is enrolled: `with Caller(memory, 0) as own`, or with the first number that is
+    free: `with Caller(memory) as own`. It leaves at the end. If another one enrols or leaves at
+    that moment, it tries again."""
 
     def __init__(self, memory, number=None):
         self.memory, self.number = memory, number

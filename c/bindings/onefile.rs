@@ -170,8 +170,8 @@ impl Memory {
         Ok(memory)
     }
 
-    /// A memory in a file that other processes may have too: it is made, recovered or joined. A path
-    /// has no zero byte.
+    /// A memory in a file that other processes may have too: it is made, recovered or joined. A
+    /// path has no zero byte.
     pub fn share(path: &str, callers: u32, blocks: u32, limit: u32) -> Result<Memory, Refusal> {
         let memory = Memory::none();
         let path = CString::new(path).expect("a path");

@@ -1,10 +1,12 @@
 /* fleet.c: a supervisor and its workers are processes that share one file: fleet PATH. Workers do
- * jobs; the supervisor kills some of them at random moments, and starts others. No job is lost, none
- * is done twice, and the other workers never wait. What it prints is the same whoever is killed.
+ * jobs; the supervisor kills some of them at random moments, and starts others. No job is lost,
+ * none is done twice, and the other workers never wait. What it prints is the same whoever is
+ * killed.
  *
- * A waiting job is a key, whose value is WAITING. A worker asks for the least one and claims it: the
- * key leaves the map, and the job stands at the worker's own key. Its end takes it from there, and
- * puts the result. Each of these is one call, which `need` aborts if things are not so any more.
+ * A waiting job is a key, whose value is WAITING. A worker asks for the least one and claims it:
+ * the key leaves the map, and the job stands at the worker's own key. Its end takes it from there,
+ * and puts the result. Each of these is one call, which `need` aborts if things are not so any
+ * more.
  *
  * What if a worker is killed? Its open call may still take effect, now or later. So the supervisor
  * first takes away its licence, a key that each of its calls needs: from then on no call of that
@@ -119,8 +121,8 @@ static void clean_up(uint32_t number) {
   run(BOSS, give_back, 2, &reply);
 }
 
-/* A life of the file: each number serves one worker. They are killed and others are started until no
- * number is left. The supervisor does the jobs that are given back after that. */
+/* A life of the file: each number serves one worker. They are killed and others are started until
+ * no number is left. The supervisor does the jobs that are given back after that. */
 static void supervise(void) {
   pid_t workers[CALLERS] = {0};
   int there = 0;

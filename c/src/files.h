@@ -1,5 +1,5 @@
-/* files.h: what mapped.c and shared.c have in common: the tables in files, the header of a file, and
- * how a file is locked, made and named. Private to the library. */
+/* files.h: what mapped.c and shared.c have in common: the tables in files, the header of a file,
+ * and how a file is locked, made and named. Private to the library. */
 #ifndef ONEFILE_FILES_H
 #define ONEFILE_FILES_H
 
@@ -42,7 +42,7 @@ typedef struct table {
   int file;                /* its descriptor; -1 in a forked child */
   int is_opening;          /* no memory has it yet */
   int is_shared;           /* other processes may have it too */
-  uint32_t callers, own;   /* if so: how many there are, and the numbers that this memory has had */
+  uint32_t callers, own;   /* if so: how many there are, and which this memory had */
   _Atomic(onefile_memory *) memory;    /* which is opened on it */
   _Atomic(onefile_memory *) inherited; /* the same in a forked child; null in who has opened it */
 } table;
@@ -70,8 +70,8 @@ table *mapped_table_of(const onefile_memory *memory);
 /* The place has no table any more. */
 void mapped_empty(table *one);
 
-/* The answer if the system refuses something, whose reason is in errno, and if the proved code does
- * not take its memory as it should. */
+/* The answer if the system refuses something, whose reason is in errno, and if the proved code
+ * does not take its memory as it should. */
 uint32_t mapped_refusal(void);
 uint32_t mapped_mistaken(void);
 
@@ -84,7 +84,7 @@ uint32_t mapped_read_all(int file, void *bytes, size_t size, off_t from);
 
 uint64_t mapped_sum(uint64_t sum, const void *of, size_t size);
 
-/* The header of a file that holds a memory, and its mode. BAD_FILE, OTHER_VERSION, TORN, SYSTEM. */
+/* The header of a file that has a memory, and its mode. BAD_FILE, OTHER_VERSION, TORN, SYSTEM. */
 uint32_t mapped_look(int file, header *head, mode_t *mode);
 
 /* The byte of a file at which the words are from which its life starts. */

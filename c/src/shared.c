@@ -120,8 +120,8 @@ void shared_end_life(int file) {
   if (pwrite(file, &mark, sizeof mark, offsetof(header, closed)) == sizeof mark) fsync(file);
 }
 
-/* Joins the life of a file that is locked by LOCK_SH. The table has the file then; if not, it is let
- * go. AGAIN if the life has ended, or if it is a file for one process: nobody has it. */
+/* Joins the life of a file that is locked by LOCK_SH. The table has the file then; if not, it is
+ * let go. AGAIN if the life has ended, or if it is a file for one process: nobody has it. */
 static uint32_t join_or_let_go(int file, const wish *asked) {
   birth born = {.path = asked->path};
   uint32_t answer = mapped_look(file, &born.head, &born.mode);
@@ -182,8 +182,8 @@ static uint32_t make_first(const wish *asked) {
   return answer == ONEFILE_FILE_EXISTS ? AGAIN : answer;
 }
 
-/* The answer if the file of this name is locked for one process: a memory of one process has it, or
- * a life of it begins or ends just now. */
+/* The answer if the file of this name is locked for one process: a memory of one process has it,
+ * or a life of it begins or ends just now. */
 static uint32_t who_has(const char *path) {
   uint32_t version = FOR_MANY;
   int file = open(path, O_RDONLY | O_CLOEXEC | O_NOFOLLOW);

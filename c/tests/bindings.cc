@@ -1,6 +1,6 @@
 // bindings.cc: what onefile.hh adds to onefile.h. A caller leaves at the end of its scope, also if
-// another one enrols or leaves at the same moment. A path with a zero byte is refused. Two memories
-// share a file, as two processes would: bindings [FOLDER].
+// another one enrols or leaves at the same moment. A path with a zero byte is refused. Two
+// memories share a file, as two processes would: bindings [FOLDER].
 #include "onefile.hh"
 
 #include <atomic>

@@ -1,6 +1,6 @@
 """What onefile.py adds to onefile.h: a caller leaves at the end of its `with`, also if another one
-enrols or leaves at the same moment. A path with a zero byte is refused. Two memories share a file, as
-two processes would: bindings.py [FOLDER]."""
+enrols or leaves at the same moment. A path with a zero byte is refused. Two memories share a file,
+as two processes would: bindings.py [FOLDER]."""
 import os
 import sys
 import threading

@@ -1,6 +1,6 @@
 //! bindings.rs: what onefile.rs adds to onefile.h. A caller leaves when it is dropped, also if
-//! another one enrols or leaves at the same moment. A path with a zero byte is refused. Two memories
-//! share a file, as two processes would: bindings [FOLDER].
+//! another one enrols or leaves at the same moment. A path with a zero byte is refused. Two
+//! memories share a file, as two processes would: bindings [FOLDER].
 #[path = "../bindings/onefile.rs"]
 mod onefile;
 

@@ -1,8 +1,8 @@
-/* deaths.c: processes share a bank, and are killed or stopped at random moments while the others go
- * on: deaths [FOLDER [COUNT]], which is how many are killed. Two to eight are there at once, each
- * with a number of its own. After each death the others must make calls. When no number is left,
- * all are killed at once, or one after the other, or leave. Then all the money must be there, each
- * answered call once, and of each caller that was killed at most the open one besides. */
+/* deaths.c: processes share a bank, and are killed or stopped at random moments while the others
+ * go on: deaths [FOLDER [COUNT]], which is how many are killed. Two to eight are there at once,
+ * each with a number of its own. After each death the others must make calls. When no number is
+ * left, all are killed at once or leave. Then all the money must be there, each answered call once,
+ * and of each caller that was killed at most the open one besides. */
 #define BANK_CALLERS 8
 #include "books.h"
 

@@ -1,6 +1,6 @@
-/* shares.c: memories that processes share: what each misuse and each spoilt file is answered, lives,
- * numbers, a process that is killed or stopped in the middle of a call, forked children: shares
- * [FOLDER]. It prints what is answered otherwise, and how many answers there were. */
+/* shares.c: memories that processes share: what each misuse and each spoilt file is answered,
+ * lives, numbers, a process that is killed or stopped in the middle of a call, forked children:
+ * shares [FOLDER]. It prints what is answered otherwise, and how many answers there were. */
 #define _GNU_SOURCE
 #include "onefile.h"
 
@@ -17,7 +17,7 @@
 #include <unistd.h>
 
 enum { CALLERS = 4, BLOCKS = 4, LIMIT = 100000, MOST = 1 << 17, STEPS = 100 };
-enum { VERSION_AT = 8, BOOT_AT = 64, SUM_AT = 104, CLOSED_AT = 112, LIMIT_AT = 120, USED_AT = 192 };
+enum { VERSION_AT = 8, BOOT_AT = 64, SUM_AT = 104, CLOSED_AT = 112, LIMIT_AT = 120 };
 enum { RACERS = 4, TURNS = 60, PAGE = 4096 };
 
 static int tried, wrong;
@@ -297,8 +297,8 @@ static void starts(void) {
 
 /* ---- Processes that stop or are killed in the middle of a call. */
 
-/* A caller is left in the middle of its call, after so many steps. The others go on at once, and the
- * call takes effect once or not at all. */
+/* A caller is left in the middle of its call, after so many steps. The others go on at once, and
+ * the call takes effect once or not at all. */
 static void abandoned(uint64_t steps) {
   static const char script[] = "add 1 1; push 0 7; pop 0", own[] = "add 2 1; load 1";
   EXPECT(share(&memory), ONEFILE_DONE);
@@ -467,8 +467,8 @@ static void *cancelled_task(void *unused) {
   return unused;
 }
 
-/* A thread that is cancelled ends after the call, and leaves nothing taken. Gives whether it may go
- * on: if not, the next call with a file would have no end. */
+/* A thread that is cancelled ends after the call, and leaves nothing taken. Gives whether it may
+ * go on: if not, the next call with a file would have no end. */
 static int cancelled(void) {
   static int (*const tasks[])(void) = {shares, lets_go, shares, lets_go};
   for (size_t i = 0; i < sizeof tasks / sizeof *tasks; i++) {
