@@ -34,7 +34,9 @@ static pid_t process[CALLERS]; /* 0 if there is none with this number */
 static void live(const books *known, uint32_t number) {
   uint64_t script[INSTRS];
   onefile_reply reply;
-  int answer = onefile_share_file(&bank, path, CALLERS, BLOCKS, ONEFILE_GREATEST_LIMIT);
+  int answer;
+  do answer = onefile_share_file(&bank, path, CALLERS, BLOCKS, ONEFILE_GREATEST_LIMIT);
+  while (answer == ONEFILE_FILE_IN_USE); /* the machine is busy */
   MUST(answer == ONEFILE_DONE);
   MUST(onefile_enrol(&bank, number) == ONEFILE_DONE);
   for (uint32_t call = known->calls[number] + 1; !atomic_load(&seen->is_over); call++) {
@@ -91,10 +93,12 @@ static uint32_t one_of_all(void) {
   return number;
 }
 
-/* One is killed, or stopped first, and the others go on meanwhile. */
-static void kill_one(figures *of) {
+/* One is killed, or stopped first, and the others go on meanwhile. None is stopped that has made no
+ * call yet: while it begins the life, no other has the file. */
+static void kill_one(const books *known, figures *of) {
   uint32_t number = one_of_all();
-  if (random() % 4 == 0) {
+  int has_begun = atomic_load(&seen->answered[number]) > known->calls[number];
+  if (has_begun && random() % 4 == 0) {
     int status = 0;
     MUST(kill(process[number], SIGSTOP) == 0);
     MUST(waitpid(process[number], &status, WUNTRACED) == process[number] && WIFSTOPPED(status));
@@ -131,11 +135,11 @@ static void live_and_look(books *known, figures *of, uint32_t at_once) {
   while (next < at_once) start(known, next++);
   while (next < CALLERS) {
     pause_for(random() % 4 ? LONGEST : SHORT);
-    kill_one(of);
+    kill_one(known, of);
     start(known, next++);
   }
   pause_for(LONGEST);
-  if (random() % 2) kill_one(of);
+  if (random() % 2) kill_one(known, of);
   end_all(of);
   of->lives++;
   for (uint32_t i = 0; i < CALLERS; i++) answered[i] = atomic_load(&seen->answered[i]);
