@@ -19,6 +19,7 @@
 #include <stdlib.h>
 #include <string.h>
 #include <sys/mman.h>
+#include <sys/prctl.h>
 #include <sys/wait.h>
 #include <time.h>
 #include <unistd.h>
@@ -150,6 +151,7 @@ static pid_t start_process(uint32_t lane, uint32_t number) {
   pid_t child = fork();
   expect(child >= 0, "fork");
   if (child != 0) return child;
+  prctl(PR_SET_PDEATHSIG, SIGKILL);
   if (kind == SHARED) {
     int answer = onefile_share_file(&memory, path, MOST, 0, ONEFILE_GREATEST_LIMIT);
     expect(answer == ONEFILE_DONE, onefile_name(answer));

@@ -9,6 +9,7 @@
 #include <signal.h>
 #include <stdatomic.h>
 #include <sys/mman.h>
+#include <sys/prctl.h>
 #include <sys/wait.h>
 #include <time.h>
 
@@ -35,6 +36,7 @@ static void live(const books *known, uint32_t number) {
   uint64_t script[INSTRS];
   onefile_reply reply;
   int answer;
+  prctl(PR_SET_PDEATHSIG, SIGKILL);
   do answer = onefile_share_file(&bank, path, CALLERS, BLOCKS, ONEFILE_GREATEST_LIMIT);
   while (answer == ONEFILE_FILE_IN_USE); /* the machine is busy */
   MUST(answer == ONEFILE_DONE);
