@@ -28,6 +28,11 @@ using script = std::vector<uint64_t>;
 
 class saved;
 
+// A file that processes share: `memory of(onefile::shared{path}, callers, blocks)`.
+struct shared {
+  std::string path;
+};
+
 class memory {
  public:
   memory(uint32_t callers, uint32_t blocks, uint32_t limit = ONEFILE_GREATEST_LIMIT) {
@@ -37,18 +42,32 @@ class memory {
   // One in a file: it goes on from there, or the file is made. A path has no zero byte.
   memory(const std::string &path, uint32_t callers, uint32_t blocks,
          uint32_t limit = ONEFILE_GREATEST_LIMIT) {
-    if (path.find('\0') != std::string::npos) throw std::invalid_argument("a zero byte in a path");
+    expect_whole(path);
     int answer = onefile_reopen_file(&held, path.c_str(), limit, nullptr);
     if (answer == ONEFILE_NO_FILE) {
       answer = onefile_open_file(&held, path.c_str(), callers, blocks, limit);
     }
     expect(answer);
   }
+  // One that other processes may have too: the file is made, recovered or joined.
+  memory(const shared &file, uint32_t callers, uint32_t blocks,
+         uint32_t limit = ONEFILE_GREATEST_LIMIT) {
+    expect_whole(file.path);
+    expect(onefile_share_file(&held, file.path.c_str(), callers, blocks, limit));
+  }
   memory(const memory &) = delete;
   memory &operator=(const memory &) = delete;
   ~memory() { onefile_free(&held); }
 
+  // Lets a shared file go, which all callers of this process have left.
+  void detach() { expect(onefile_close(&held, nullptr)); }
+
   onefile_memory held = ONEFILE_NONE;
+
+ private:
+  static void expect_whole(const std::string &path) {
+    if (path.find('\0') != std::string::npos) throw std::invalid_argument("a zero byte in a path");
+  }
 };
 
 // A caller that is enrolled; it leaves when its scope ends. If another one enrols or leaves at that
@@ -58,11 +77,15 @@ class caller {
   caller(memory &of, uint32_t number) : of(of), number(number) {
     expect(onefile_enrol(&of.held, number));
   }
+  // With the first number that is free.
+  explicit caller(memory &of) : of(of), number(0) { expect(onefile_enrol_any(&of.held, &number)); }
   caller(const caller &) = delete;
   caller &operator=(const caller &) = delete;
   ~caller() {
     while (onefile_leave(&of.held, number) == ONEFILE_BUSY) std::this_thread::yield();
   }
+
+  uint32_t has_number() const { return number; }
 
   onefile_reply call(const script &words) {
     onefile_reply reply{};

@@ -42,7 +42,9 @@ OF = {
     "reopen": [POINTER(RawMemory), POINTER(Guarded)],
     "open_file": [POINTER(RawMemory), c_char_p, c_uint32, c_uint32, c_uint32],
     "reopen_file": [POINTER(RawMemory), c_char_p, c_uint32, POINTER(Guarded)],
+    "share_file": [POINTER(RawMemory), c_char_p, c_uint32, c_uint32, c_uint32],
     "enrol": [POINTER(RawMemory), c_uint32],
+    "enrol_any": [POINTER(RawMemory), POINTER(c_uint32)],
     "leave": [POINTER(RawMemory), c_uint32],
     "close": [POINTER(RawMemory), POINTER(Guarded)],
     "free": [POINTER(RawMemory)],
@@ -78,10 +80,13 @@ def make(word, *given, wanted=(DONE,)):
 
 
 class Memory:
-    """A memory, which goes on from what was saved, or from the file if there is one. It is let go
-    when nothing refers to it, and nothing of it is saved then but in its file."""
+    """A memory, which goes on from what was saved, or from the file if there is one. If it is
+    shared, other processes may have the file too. It is let go when nothing refers to it, and
+    nothing of it is saved then but in its file."""
 
-    def __init__(self, callers=0, blocks=0, limit=GREATEST_LIMIT, saved=None, path=None):
+    def __init__(
+        self, callers=0, blocks=0, limit=GREATEST_LIMIT, saved=None, path=None, shared=False
+    ):
         self.held = RawMemory()
         if saved:
             make("reopen", self.held, saved.held)
@@ -89,7 +94,9 @@ class Memory:
             name, wanted = os.fsencode(path), (DONE, NO_FILE)
             if b"\0" in name:
                 raise ValueError("a zero byte in a path")
-            if make("reopen_file", self.held, name, limit, None, wanted=wanted) == NO_FILE:
+            if shared:
+                make("share_file", self.held, name, callers, blocks, limit)
+            elif make("reopen_file", self.held, name, limit, None, wanted=wanted) == NO_FILE:
                 make("open_file", self.held, name, callers, blocks, limit)
         else:
             make("open", self.held, callers, blocks, limit)
@@ -103,16 +110,26 @@ class Memory:
         make("close", self.held, saved.held)
         return saved
 
+    def detach(self):
+        """Lets a shared file go, which all callers of this process have left."""
+        make("close", self.held, None)
+
 
 class Caller:
-    """A caller that is enrolled: `with Caller(memory, 0) as own`. It leaves at the end. If another one
-    enrols or leaves at that moment, it tries again."""
+    """A caller that is enrolled: `with Caller(memory, 0) as own`, or with the first number that is
+    free: `with Caller(memory) as own`. It leaves at the end. If another one enrols or leaves at
+    that moment, it tries again."""
 
-    def __init__(self, memory, number):
+    def __init__(self, memory, number=None):
         self.memory, self.number = memory, number
 
     def __enter__(self):
-        make("enrol", self.memory.held, self.number)
+        if self.number is None:
+            number = c_uint32()
+            make("enrol_any", self.memory.held, number)
+            self.number = number.value
+        else:
+            make("enrol", self.memory.held, self.number)
         return self
 
     def __exit__(self, *_):

@@ -71,7 +71,15 @@ extern "C" {
         limit: u32,
         saved: *mut Guarded,
     ) -> c_int;
+    fn onefile_share_file(
+        memory: *mut RawMemory,
+        path: *const c_char,
+        callers: u32,
+        blocks: u32,
+        limit: u32,
+    ) -> c_int;
     fn onefile_enrol(memory: *mut RawMemory, number: u32) -> c_int;
+    fn onefile_enrol_any(memory: *mut RawMemory, number: *mut u32) -> c_int;
     fn onefile_leave(memory: *mut RawMemory, number: u32) -> c_int;
     fn onefile_close(memory: *mut RawMemory, saved: *mut Guarded) -> c_int;
     fn onefile_free(memory: *mut RawMemory) -> c_int;
@@ -162,11 +170,45 @@ impl Memory {
         Ok(memory)
     }
 
+    /// A memory in a file that other processes may have too: it is made, recovered or joined. A
+    /// path has no zero byte.
+    pub fn share(path: &str, callers: u32, blocks: u32, limit: u32) -> Result<Memory, Refusal> {
+        let memory = Memory::none();
+        let path = CString::new(path).expect("a path");
+        let (held, name) = (memory.0.get(), path.as_ptr());
+        wanted(
+            unsafe { onefile_share_file(held, name, callers, blocks, limit) },
+            DONE,
+        )?;
+        Ok(memory)
+    }
+
+    /// Lets a shared file go, which all callers of this process have left.
+    pub fn detach(self) -> Result<(), Refusal> {
+        wanted(
+            unsafe { onefile_close(self.0.get(), std::ptr::null_mut()) },
+            DONE,
+        )
+    }
+
     /// Closes the memory, which all callers have left.
     pub fn close(self) -> Result<Saved, Refusal> {
         let saved = Saved::none();
         wanted(unsafe { onefile_close(self.0.get(), saved.0.get()) }, DONE)?;
         Ok(saved)
+    }
+
+    /// A caller with the first number that is free.
+    pub fn enrol_any(&self) -> Result<Caller<'_>, Refusal> {
+        let mut number = 0;
+        wanted(
+            unsafe { onefile_enrol_any(self.0.get(), &mut number) },
+            DONE,
+        )?;
+        Ok(Caller {
+            memory: self,
+            number,
+        })
     }
 
     pub fn enrol(&self, number: u32) -> Result<Caller<'_>, Refusal> {

@@ -8,9 +8,9 @@
  *
  * Objects. onefile_memory and onefile_saved are structs of yours. Set one to ONEFILE_NONE before
  * you use it first. Then it is empty. onefile_open and onefile_reopen fill a memory, as do
- * onefile_open_file and onefile_reopen_file; onefile_close fills a saved one. onefile_free and
- * onefile_free_saved let go what is held, and leave it empty. A memory that was just filled has no
- * caller enrolled, also if it goes on from an earlier one.
+ * onefile_open_file, onefile_reopen_file and onefile_share_file; onefile_close fills a saved one.
+ * onefile_free and onefile_free_saved let go what is held, and leave it empty. A memory that was
+ * just filled has no caller enrolled, also if it goes on from an earlier one.
  *
  * Answers. A function answers ONEFILE_DONE or the code of a refusal. After a refusal nothing has
  * changed, if the function does not say otherwise here.
@@ -69,7 +69,7 @@ enum {
   ONEFILE_FULL = 4,         /* the object that is to be filled is not empty */
   ONEFILE_NO_MEMORY = 5,    /* malloc gave none */
   ONEFILE_RANGE = 6,        /* a number is out of its range */
-  ONEFILE_TAKEN = 7,        /* a caller is enrolled with this number */
+  ONEFILE_TAKEN = 7,        /* a caller is enrolled with this number, or had it */
   ONEFILE_CALL_OPEN = 8,    /* a call of the caller is open */
   ONEFILE_NO_CALL = 9,      /* no call of the caller is open */
   ONEFILE_STOPPED = 10,     /* the steps that were given are made; the call stays open */
@@ -86,7 +86,9 @@ enum {
   ONEFILE_FILE_IN_USE = 21, /* a memory is open in the file, of this process or of another one */
   ONEFILE_TORN = 22,        /* the machine stopped while a memory was open in the file */
   ONEFILE_NO_SPACE = 23,    /* the disk is full, or the process may have no file of this size */
-  ONEFILE_SYSTEM = 24       /* the system refused something else: errno says why */
+  ONEFILE_SYSTEM = 24,      /* the system refused something else: errno says why */
+  ONEFILE_OTHER_SIZES = 25, /* the memory in the file has other callers or blocks */
+  ONEFILE_OTHER_VERSION = 26 /* another version of the library has made the file */
 };
 
 /* The name of an answer, as "ONEFILE_DONE". "ONEFILE_?" if there is no such answer. */
@@ -144,8 +146,13 @@ int onefile_reopen(onefile_memory *memory, onefile_saved *saved);
 
 /* Enrols the caller with this number. It goes on where this number left. Each call that it begins
  * takes effect after all answered calls of callers that have left before.
- * EMPTY; RANGE if the memory has no such caller; TAKEN. */
+ * EMPTY; RANGE if the memory has no such caller; TAKEN; FILE_IN_USE in a forked child, of a memory
+ * that its parent has in a file. */
 int onefile_enrol(onefile_memory *memory, uint32_t number);
+
+/* The same with the first number that is free, which is written into `number`.
+ * EMPTY; TAKEN if none is free; FILE_IN_USE. */
+int onefile_enrol_any(onefile_memory *memory, uint32_t *number);
 
 /* The caller leaves, and its number is free again. A call that is open stays open: it takes effect
  * once or not at all, and the next caller of this number can go on with it. After a close no call
@@ -154,9 +161,10 @@ int onefile_enrol(onefile_memory *memory, uint32_t number);
 int onefile_leave(onefile_memory *memory, uint32_t number);
 
 /* Closes the memory. What is durable is recovered and kept in `saved`: it has each call that was
- * answered. `memory` is empty then.
- * EMPTY, FULL; IN_USE while a caller has not left; FILE_IN_USE in a forked child, of a memory that
- * its parent has opened in a file. */
+ * answered. `memory` is empty then. A shared memory is let go: nothing is written into `saved`,
+ * which may be null.
+ * EMPTY, FULL; IN_USE while a caller of this memory has not left; FILE_IN_USE in a forked child,
+ * of a memory that its parent has opened in a file. */
 int onefile_close(onefile_memory *memory, onefile_saved *saved);
 
 /* Lets go the memory and all its callers. Nothing is saved.
@@ -193,9 +201,48 @@ int onefile_open_file(onefile_memory *memory, const char *path, uint32_t callers
  * `seq` of a reply counts within its life. Tickets go on. What was found is kept in `saved`, if
  * that is not null: onefile_last_reply tells what the last call of each caller came to.
  * FULL, also if `saved` is not empty; RANGE if there is no such limit; NO_FILE, FILE_IN_USE,
- * BAD_FILE, TORN, NO_SPACE, SYSTEM. */
+ * BAD_FILE, OTHER_VERSION, TORN, NO_SPACE, SYSTEM. */
 int onefile_reopen_file(onefile_memory *memory, const char *path, uint32_t limit,
                         onefile_saved *saved);
+
+/* ---- Memories that processes share, on Linux.
+ *
+ * Several processes have one file at once, each by a memory of its own. All calls of all processes
+ * take effect in one order, by their `seq`. A process may be killed or stopped at any moment, also
+ * in the middle of a call: the others go on and never wait for it, and its open call takes effect
+ * once or not at all, perhaps later.
+ *
+ * A life of the file is from when a first process has it until none has it. In a life one process
+ * at most has a number, also if its caller has left or the process was killed: onefile_enrol of
+ * another process is answered TAKEN. So a file of 16 callers serves 16 processes in a life, or
+ * fewer that use several numbers. A process may enrol its own numbers again. Once no process has
+ * the file, the next one to come recovers it, as onefile_reopen_file does, and a life begins with
+ * all numbers free, all sequences, and tickets that go on. At SPENT let all processes close the
+ * memory.
+ *
+ * There is no saved one to ask. What a later process must know of a call, let the call keep in a
+ * register or at a key. onefile_close and onefile_free let the file go for this process alone; a
+ * process that ends does so too. All else is as above: the file doesn't survive the death of the
+ * machine while it is open, nobody else may touch it or PATH.new, and a forked child has nothing
+ * of the memory but by onefile_free.
+ *
+ * What is trusted: that processes which map one file and start from the words that it keeps have
+ * one table, which is what a proved memory takes for its own; that a mapping which comes in the
+ * place of private pages has the same words; flock; and c/src/shared.c, by which one process at
+ * most has a number in a life, nothing but steps of callers is done on the shared pages, and
+ * nobody recovers a file that another process has. Proved is, of a row that meets its rule, that
+ * what a memory knows of a number at its start fits the rule if that number has done nothing,
+ * whatever the others have done (of_row: laws::fresh_members_fit), and each step for all states of
+ * the others. What enrolment and leaving tell of earlier calls is proved in one process alone. */
+
+/* Fills `memory` with the memory of the file, which other processes may have: the file is made if
+ * there is none, recovered if no process has it, or joined. The limit is that of the process which
+ * makes or recovers it. It may wait for about a second, while another process does this.
+ * FULL, RANGE, NO_FILE if there is no such folder, BAD_FILE, TORN, NO_SPACE, SYSTEM; OTHER_SIZES,
+ * OTHER_VERSION; FILE_IN_USE if a memory of one process has the file, and also after that second.
+ * The other way, onefile_reopen_file is answered FILE_IN_USE while processes share the file. */
+int onefile_share_file(onefile_memory *memory, const char *path, uint32_t callers, uint32_t blocks,
+                       uint32_t limit);
 
 /* ---- Calls. */
 

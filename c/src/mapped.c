@@ -8,13 +8,12 @@
  * It has the three functions too by which the proved code takes memory. All of it is malloc's, but
  * for the words of a table that is being opened in a file. */
 #define _GNU_SOURCE
-#include "of_c.h"
+#include "files.h"
 #include "slots.h"
 
 #include <errno.h>
 #include <fcntl.h>
 #include <pthread.h>
-#include <stdatomic.h>
 #include <stdio.h>
 #include <stdlib.h>
 #include <string.h>
@@ -24,36 +23,12 @@
 #include <sys/stat.h>
 #include <unistd.h>
 
-enum { PAGE = 4096, VERSION = 1, ORDER = 0x01020304, MOST_FILES = 64, MOST_PATH = 4096 };
+enum { ORDER = 0x01020304, MOST_FILES = 64 };
 
 static const char magic[8] = {'O', 'n', 'e', 'F', 'i', 'l', 'e', '\n'};
-static const uint64_t IS_CLOSED = 0x6f66636c6f736564;
-
-/* What is at the front of a file. */
-typedef struct header {
-  char magic[8];
-  uint32_t version, order;
-  uint32_t callers, blocks;
-  of_c_table table;
-  uint64_t offset; /* of the table */
-  uint64_t lives;  /* how many memories there were, this one too */
-  char boot[40];   /* the run of the machine in which the file was made */
-  uint64_t sum;    /* of all bytes above */
-  uint64_t closed; /* IS_CLOSED as soon as the memory is closed and the disk has all of it */
-} header;
+static const uint64_t SUM_OF_NOTHING = 14695981039346656037u;
 
 /* ---- Tables in files. */
-
-/* A table in a file. */
-typedef struct table {
-  _Atomic uintptr_t words; /* where it is; 0 if there is none */
-  header *map;             /* the file in memory */
-  size_t size;             /* of the file */
-  int file;                /* its descriptor; -1 in a forked child */
-  int is_opening;          /* no memory has it yet */
-  onefile_memory *memory;  /* which is opened on it */
-  _Atomic(onefile_memory *) inherited; /* the same in a forked child; null in who has opened it */
-} table;
 
 static table tables[MOST_FILES];
 
@@ -63,14 +38,14 @@ static pthread_mutex_t files = PTHREAD_MUTEX_INITIALIZER;
 /* Takes the files. Most requests to the system end a thread that was cancelled, and would leave the
  * lock and the memory taken: so it cannot be cancelled until it has let go the files. It gives
  * whether it could be before. */
-static int take_files(void) {
+int mapped_take_files(void) {
   int could_be;
   pthread_setcancelstate(PTHREAD_CANCEL_DISABLE, &could_be);
   pthread_mutex_lock(&files);
   return could_be;
 }
 
-static void let_go_files(int could_be) {
+void mapped_let_go_files(int could_be) {
   pthread_mutex_unlock(&files);
   pthread_setcancelstate(could_be, NULL);
 }
@@ -92,18 +67,32 @@ static table *table_at(const void *words) {
   return NULL;
 }
 
+table *mapped_table_of(const onefile_memory *memory) {
+  for (size_t i = 0; i < MOST_FILES; i++) {
+    if (atomic_load(&tables[i].memory) != memory) continue;
+    if (atomic_load(&tables[i].words) != 0) return &tables[i];
+  }
+  return NULL;
+}
+
+void mapped_empty(table *one) {
+  atomic_store(&one->memory, NULL);
+  atomic_store(&one->words, 0);
+}
+
 /* Lets a file go. The mark that it is closed is written once the disk has all else. */
 static void let_go(table *one) {
-  int could_be = take_files();
-  atomic_store(&one->words, 0);
-  if (msync(one->map, one->size, MS_SYNC) == 0) {
+  int could_be = mapped_take_files();
+  mapped_empty(one);
+  if (!one->is_shared && msync(one->map, one->size, MS_SYNC) == 0) {
     one->map->closed = IS_CLOSED;
     msync(one->map, PAGE, MS_SYNC);
   }
   munmap(one->map, one->size);
+  if (one->is_shared) shared_end_life(one->file);
   flock(one->file, LOCK_UN); /* a forked child may have the descriptor still */
   close(one->file);
-  let_go_files(could_be);
+  mapped_let_go_files(could_be);
 }
 
 /* An answer to a request for memory: the pointer is never null. */
@@ -139,7 +128,7 @@ void rattle_dealloc(void *block) {
       let_go(one);
     } else {
       atomic_store(&one->inherited, NULL);
-      atomic_store(&one->words, 0);
+      mapped_empty(one);
     }
   }
 }
@@ -155,7 +144,7 @@ static void in_child(void) {
     if (atomic_load(&tables[i].words) == 0 || tables[i].file < 0) continue;
     close(tables[i].file);
     tables[i].file = -1;
-    atomic_store(&tables[i].inherited, tables[i].memory);
+    atomic_store(&tables[i].inherited, atomic_load(&tables[i].memory));
   }
   pthread_mutex_unlock(&files);
 }
@@ -175,11 +164,14 @@ static int watches_forks(void) {
 
 /* ---- Headers. */
 
-static uint64_t sum_of(const header *one) {
-  const unsigned char *bytes = (const unsigned char *)one;
-  uint64_t sum = 14695981039346656037u;
-  for (size_t i = 0; i < offsetof(header, sum); i++) sum = (sum ^ bytes[i]) * 1099511628211u;
+uint64_t mapped_sum(uint64_t sum, const void *of, size_t size) {
+  const unsigned char *bytes = of;
+  for (size_t i = 0; i < size; i++) sum = (sum ^ bytes[i]) * 1099511628211u;
   return sum;
+}
+
+static uint64_t sum_of(const header *one) {
+  return mapped_sum(SUM_OF_NOTHING, one, offsetof(header, sum));
 }
 
 /* The name of this run of the machine. SYSTEM. */
@@ -192,9 +184,10 @@ static uint32_t read_boot(char boot[40]) {
   return size == 36 ? ONEFILE_DONE : ONEFILE_SYSTEM;
 }
 
-/* The header of a file for a memory. RANGE, SYSTEM. */
-static uint32_t header_for(uint32_t callers, uint32_t blocks, uint64_t lives, header *made) {
-  *made = (header){.version = VERSION, .order = ORDER, .callers = callers, .blocks = blocks};
+uint32_t mapped_head_for(birth *born, uint32_t version, uint32_t callers, uint32_t blocks) {
+  header *made = &born->head;
+  uint64_t lives = made->lives + 1;
+  *made = (header){.version = version, .order = ORDER, .callers = callers, .blocks = blocks};
   memcpy(made->magic, magic, sizeof magic);
   made->offset = PAGE;
   made->lives = lives;
@@ -204,19 +197,34 @@ static uint32_t header_for(uint32_t callers, uint32_t blocks, uint64_t lives, he
   return answer;
 }
 
+static size_t pages_for(uint64_t words) {
+  return (words * sizeof(uint64_t) + PAGE - 1) / PAGE * PAGE;
+}
+
+off_t mapped_start_at(const header *head) {
+  return (off_t)(PAGE + pages_for(head->table.words));
+}
+
 static size_t size_for(const header *one) {
-  size_t size = PAGE + one->table.words * sizeof(uint64_t);
-  return (size + PAGE - 1) / PAGE * PAGE;
+  size_t start = one->version == FOR_MANY ? pages_for(one->table.durable) : 0;
+  return (size_t)mapped_start_at(one) + start;
 }
 
 /* Whether this is the header of a file of so many bytes. */
 static int is_header(const header *one, uint64_t size) {
   of_c_table sizes;
-  return memcmp(one->magic, magic, sizeof magic) == 0 && one->version == VERSION &&
-         one->order == ORDER && one->sum == sum_of(one) && one->offset == PAGE &&
-         (one->closed == 0 || one->closed == IS_CLOSED) &&
+  return (one->closed == 0 || one->closed == IS_CLOSED) && one->offset == PAGE &&
          of_c_sizes(one->callers, one->blocks, &sizes) == ONEFILE_DONE &&
          memcmp(&sizes, &one->table, sizeof sizes) == 0 && size == size_for(one);
+}
+
+/* What is wrong with the header of a file of so many bytes: BAD_FILE, OTHER_VERSION. A header of
+ * each version begins as the first one, up to its sum. */
+static uint32_t fault_of(const header *one, uint64_t size) {
+  if (memcmp(one->magic, magic, sizeof magic) != 0 || one->order != ORDER) return ONEFILE_BAD_FILE;
+  if (one->sum != sum_of(one)) return ONEFILE_BAD_FILE;
+  if (one->version != FOR_ONE && one->version != FOR_MANY) return ONEFILE_OTHER_VERSION;
+  return is_header(one, size) ? ONEFILE_DONE : ONEFILE_BAD_FILE;
 }
 
 /* Whether the words of a file are those that were in memory: it was closed, or the machine has run
@@ -232,7 +240,7 @@ static uint32_t is_whole(const header *one) {
 /* ---- Files. */
 
 /* The answer if the system refuses something: errno says what. */
-static uint32_t refusal(void) {
+uint32_t mapped_refusal(void) {
   switch (errno) {
     case ENOENT: return ONEFILE_NO_FILE;
     case EEXIST: return ONEFILE_FILE_EXISTS;
@@ -245,7 +253,7 @@ static uint32_t refusal(void) {
   }
 }
 
-static int is_named(int file, const char *path) {
+int mapped_is_named(int file, const char *path) {
   struct stat one, other;
   return fstat(file, &one) == 0 && stat(path, &other) == 0 && one.st_dev == other.st_dev &&
          one.st_ino == other.st_ino;
@@ -253,12 +261,12 @@ static int is_named(int file, const char *path) {
 
 /* Opens the file of this name and locks it. A lock belongs to the file and not to the name, which
  * may be another file's by then: so it looks, and tries again. */
-static uint32_t open_locked(const char *path, int flags, int *opened) {
+uint32_t mapped_open_locked(const char *path, int flags, int how, int *opened) {
   for (int tries = 0; tries < 100; tries++) {
     int file = open(path, flags | O_RDWR | O_CLOEXEC | O_NOFOLLOW, 0600);
-    if (file < 0) return refusal();
-    uint32_t answer = flock(file, LOCK_EX | LOCK_NB) == 0 ? ONEFILE_DONE : refusal();
-    if (answer == ONEFILE_DONE && is_named(file, path)) {
+    if (file < 0) return mapped_refusal();
+    uint32_t answer = flock(file, how | LOCK_NB) == 0 ? ONEFILE_DONE : mapped_refusal();
+    if (answer == ONEFILE_DONE && mapped_is_named(file, path)) {
       *opened = file;
       return ONEFILE_DONE;
     }
@@ -270,11 +278,10 @@ static uint32_t open_locked(const char *path, int flags, int *opened) {
   return ONEFILE_FILE_IN_USE;
 }
 
-/* Reads all these bytes. BAD_FILE if there are fewer. */
-static uint32_t read_all(int file, void *bytes, size_t size, off_t from) {
+uint32_t mapped_read_all(int file, void *bytes, size_t size, off_t from) {
   for (size_t done = 0; done < size;) {
     ssize_t count = pread(file, (char *)bytes + done, size - done, from + (off_t)done);
-    if (count < 0 && errno != EINTR) return refusal();
+    if (count < 0 && errno != EINTR) return mapped_refusal();
     if (count == 0) return ONEFILE_BAD_FILE;
     if (count > 0) done += (size_t)count;
   }
@@ -295,15 +302,6 @@ static void sync_name(const char *path) {
 
 /* ---- A memory in a new file. */
 
-/* What is to be opened. */
-typedef struct birth {
-  const char *path;
-  char beside[MOST_PATH]; /* the name that the file has until the memory is open */
-  header head;
-  mode_t mode;
-  onefile_slot *start; /* what the memory starts from */
-} birth;
-
 /* Whether this process may have a file of so many bytes. One that may not is told so, and not ended
  * by SIGXFSZ. */
 static int may_have(size_t size) {
@@ -317,65 +315,83 @@ static int may_have(size_t size) {
  * and maps it. What a process that was killed has left there goes. */
 static uint32_t make_file(birth *born, table *one) {
   one->size = size_for(&born->head);
-  if (!may_have(one->size)) return refusal();
-  if (ftruncate(one->file, 0) != 0 || fchmod(one->file, born->mode) != 0) return refusal();
+  if (!may_have(one->size)) return mapped_refusal();
+  if (ftruncate(one->file, 0) != 0 || fchmod(one->file, born->mode) != 0) return mapped_refusal();
   do errno = posix_fallocate(one->file, 0, (off_t)one->size);
   while (errno == EINTR);
-  if (errno != 0) return refusal();
+  if (errno != 0) return mapped_refusal();
   void *map = mmap(NULL, one->size, PROT_READ | PROT_WRITE, MAP_SHARED, one->file, 0);
-  if (map == MAP_FAILED) return refusal();
+  if (map == MAP_FAILED) return mapped_refusal();
   one->map = map;
-  if (madvise(map, one->size, MADV_DONTFORK) != 0) return refusal();
+  if (madvise(map, one->size, MADV_DONTFORK) != 0) return mapped_refusal();
   /* Words that no table may start from, until the table is there. */
   memset((char *)map + PAGE, 0xff, one->size - PAGE);
   memcpy(map, &born->head, sizeof born->head);
   return ONEFILE_DONE;
 }
 
-/* The answer if the proved code does not take its memory as this file expects. */
-static uint32_t mistaken(void) {
+uint32_t mapped_mistaken(void) {
   errno = ENOTSUP;
   return ONEFILE_SYSTEM;
 }
 
 /* Whether the memory that was opened has its table in the file: a memory can start from what is
  * there, and knows the same calls. */
-static uint32_t read_back(const birth *born, const table *one) {
+static uint32_t read_back(birth *born, const table *one) {
   const header *head = &born->head;
   const uint64_t *durable = (const uint64_t *)atomic_load(&one->words) + head->table.first;
   onefile_slot there = {0};
   uint32_t answer = of_c_from_words(head->callers, head->blocks, ONEFILE_GREATEST_LIMIT, durable,
                                     head->table.durable, &there);
-  if (answer == ONEFILE_BAD_FILE || answer == ONEFILE_RANGE) answer = mistaken();
+  if (answer == ONEFILE_BAD_FILE || answer == ONEFILE_RANGE) answer = mapped_mistaken();
   for (uint32_t i = 0; answer == ONEFILE_DONE && i < head->callers; i++) {
     uint32_t held = 0, wanted = 0;
     of_c_ticket(&there, i, &held);
-    of_c_ticket(born->start, i, &wanted);
-    if (held != wanted) answer = mistaken();
+    of_c_ticket(&born->start, i, &wanted);
+    if (held != wanted) answer = mapped_mistaken();
   }
   of_c_free(&there);
   return answer;
 }
 
-/* Opens the memory on the words of the file. */
-static uint32_t open_there(const birth *born, table *one, onefile_slot *memory) {
-  char *words = (char *)one->map + PAGE;
+uint32_t mapped_open_at(birth *born, table *one, char *words, onefile_slot *memory) {
   atomic_store(&one->words, (uintptr_t)words);
   awaited.bytes = born->head.table.words * sizeof(uint64_t);
   awaited.count = 0;
   awaited.words = words;
-  uint32_t answer = of_c_reopen(born->start, memory);
+  uint32_t answer = of_c_reopen(&born->start, memory);
   unsigned count = awaited.count;
   awaited.bytes = 0;
-  if (answer == ONEFILE_DONE && count != REQUESTS) answer = mistaken();
-  return answer == ONEFILE_DONE ? read_back(born, one) : answer;
+  if (answer == ONEFILE_DONE && count != REQUESTS) answer = mapped_mistaken();
+  return answer;
+}
+
+/* Lets the memory go of a file that processes are to share, which any of them may open now. The
+ * words that it has started from are kept behind the table. */
+static void keep_start(table *one, onefile_slot *memory) {
+  header *head = one->map;
+  char *words = (char *)head + PAGE, *start = (char *)head + mapped_start_at(head);
+  size_t bytes = head->table.durable * sizeof(uint64_t);
+  of_c_free(memory);
+  memcpy(start, words + head->table.first * sizeof(uint64_t), bytes);
+  head->start_sum = mapped_sum(head->sum, start, bytes);
+  head->share_sum = mapped_sum(head->sum, &head->limit, offsetof(header, share_sum) -
+                                                            offsetof(header, limit));
+}
+
+/* Opens the memory on the words of the file. */
+static uint32_t open_there(birth *born, table *one, onefile_slot *memory) {
+  uint32_t answer = mapped_open_at(born, one, (char *)one->map + PAGE, memory);
+  if (answer == ONEFILE_DONE) answer = read_back(born, one);
+  if (answer == ONEFILE_DONE && born->head.version == FOR_MANY) keep_start(one, memory);
+  return answer;
 }
 
 /* Gives the file its name, once the disk has it. */
 static uint32_t name_file(const birth *born, const table *one) {
-  if (msync(one->map, one->size, MS_SYNC) != 0 || fsync(one->file) != 0) return refusal();
+  if (msync(one->map, one->size, MS_SYNC) != 0 || fsync(one->file) != 0) return mapped_refusal();
   unsigned flags = born->head.lives == 1 ? RENAME_NOREPLACE : 0;
-  if (renameat2(AT_FDCWD, born->beside, AT_FDCWD, born->path, flags) != 0) return refusal();
+  if (renameat2(AT_FDCWD, born->beside, AT_FDCWD, born->path, flags) != 0) return mapped_refusal();
   sync_name(born->path);
   return ONEFILE_DONE;
 }
@@ -384,53 +400,63 @@ static uint32_t name_file(const birth *born, const table *one) {
 static void undo(const birth *born, table *one, onefile_slot *memory) {
   int why = errno;
   of_c_free(memory);
-  atomic_store(&one->words, 0);
+  mapped_empty(one);
   if (one->map) munmap(one->map, one->size);
   unlink(born->beside);
   close(one->file);
   errno = why;
 }
 
-static table *free_table(void) {
+table *mapped_free_table(void) {
   for (size_t i = 0; i < MOST_FILES; i++) {
-    if (atomic_load(&tables[i].words) == 0) return &tables[i];
+    if (atomic_load(&tables[i].words) == 0) return watches_forks() ? &tables[i] : NULL;
   }
   return NULL;
 }
 
-/* Opens the memory in a new file, which then has the name. `files` is held. */
-static uint32_t begin(birth *born, onefile_memory *memory) {
-  table *one = free_table();
-  if (!one || !watches_forks()) return ONEFILE_NO_MEMORY;
+uint32_t mapped_make(birth *born, table *one, onefile_slot *memory) {
   if ((size_t)snprintf(born->beside, MOST_PATH, "%s.new", born->path) >= MOST_PATH) {
+    mapped_empty(one);
     errno = ENAMETOOLONG;
     return ONEFILE_SYSTEM;
   }
   one->map = NULL;
   one->is_opening = 1;
-  one->memory = memory;
-  uint32_t answer = open_locked(born->beside, O_CREAT, &one->file);
-  if (answer != ONEFILE_DONE) return answer;
+  one->is_shared = 0;
+  uint32_t answer = mapped_open_locked(born->beside, O_CREAT, LOCK_EX, &one->file);
+  if (answer != ONEFILE_DONE) {
+    mapped_empty(one);
+    return answer;
+  }
   answer = make_file(born, one);
-  if (answer == ONEFILE_DONE) answer = open_there(born, one, &memory->memory.slot);
+  if (answer == ONEFILE_DONE) answer = open_there(born, one, memory);
   if (answer == ONEFILE_DONE) answer = name_file(born, one);
-  if (answer != ONEFILE_DONE) undo(born, one, &memory->memory.slot);
+  if (answer != ONEFILE_DONE) {
+    undo(born, one, memory);
+  } else if (born->head.version == FOR_MANY) {
+    mapped_empty(one);
+    munmap(one->map, one->size);
+  }
   one->is_opening = 0;
   return answer;
 }
 
+/* Opens the memory in a new file, which then has the name. The caller has the files. */
+static uint32_t begin(birth *born, onefile_memory *memory) {
+  table *one = mapped_free_table();
+  if (!one) return ONEFILE_NO_MEMORY;
+  atomic_store(&one->memory, memory);
+  return mapped_make(born, one, &memory->memory.slot);
+}
+
 /* An empty memory comes from what an empty one leaves, so that there is one way to open a file. */
-static uint32_t open_first(onefile_memory *memory, const char *path, uint32_t callers,
-                           uint32_t blocks, uint32_t limit) {
-  onefile_slot empty = {0}, start = {0};
-  birth born = {.path = path, .mode = 0600, .start = &start};
-  if (access(path, F_OK) == 0) return ONEFILE_FILE_EXISTS;
+uint32_t mapped_conceive(birth *born, uint32_t callers, uint32_t blocks, uint32_t limit) {
+  onefile_slot empty = {0};
+  born->mode = 0600;
+  if (access(born->path, F_OK) == 0) return ONEFILE_FILE_EXISTS;
   uint32_t answer = of_c_open(callers, blocks, limit, &empty);
-  if (answer == ONEFILE_DONE) answer = of_c_close(&empty, &start);
-  if (answer == ONEFILE_DONE) answer = header_for(callers, blocks, 1, &born.head);
-  if (answer == ONEFILE_DONE) answer = begin(&born, memory);
+  if (answer == ONEFILE_DONE) answer = of_c_close(&empty, &born->start);
   of_c_free(&empty);
-  of_c_free(&start);
   return answer;
 }
 
@@ -440,9 +466,13 @@ int onefile_open_file(onefile_memory *memory, const char *path, uint32_t callers
   if (!claim_all(memory)) return ONEFILE_BUSY;
   uint32_t answer = ONEFILE_FULL;
   if (memory->memory.slot.state == 0 && !has_caller(memory)) {
-    int could_be = take_files();
-    answer = open_first(memory, path, callers, blocks, limit);
-    let_go_files(could_be);
+    birth born = {.path = path};
+    int could_be = mapped_take_files();
+    answer = mapped_conceive(&born, callers, blocks, limit);
+    if (answer == ONEFILE_DONE) answer = mapped_head_for(&born, FOR_ONE, callers, blocks);
+    if (answer == ONEFILE_DONE) answer = begin(&born, memory);
+    of_c_free(&born.start);
+    mapped_let_go_files(could_be);
   }
   release_all(memory);
   return (int)answer;
@@ -456,7 +486,7 @@ static uint32_t find(int file, const header *head, onefile_slot *found) {
   off_t from = (off_t)(head->offset + head->table.first * sizeof(uint64_t));
   uint64_t *words = malloc(bytes);
   if (!words) return ONEFILE_NO_MEMORY;
-  uint32_t answer = read_all(file, words, bytes, from);
+  uint32_t answer = mapped_read_all(file, words, bytes, from);
   if (answer == ONEFILE_DONE) {
     answer = of_c_from_words(head->callers, head->blocks, ONEFILE_GREATEST_LIMIT, words,
                              head->table.durable, found);
@@ -466,47 +496,43 @@ static uint32_t find(int file, const header *head, onefile_slot *found) {
   return answer;
 }
 
-/* The header of a file that holds a memory, and its mode. BAD_FILE, TORN, SYSTEM. */
-static uint32_t look(int file, header *head, mode_t *mode) {
+uint32_t mapped_look(int file, header *head, mode_t *mode) {
   struct stat about;
-  if (fstat(file, &about) != 0) return refusal();
+  if (fstat(file, &about) != 0) return mapped_refusal();
   if (!S_ISREG(about.st_mode)) return ONEFILE_BAD_FILE;
   *mode = about.st_mode & 0777;
-  uint32_t answer = read_all(file, head, sizeof *head, 0);
-  if (answer != ONEFILE_DONE) return answer;
-  return is_header(head, (uint64_t)about.st_size) ? is_whole(head) : ONEFILE_BAD_FILE;
+  memset(head, 0, sizeof *head);
+  uint32_t answer = mapped_read_all(file, head, sizeof *head, 0);
+  if (answer == ONEFILE_DONE) answer = fault_of(head, (uint64_t)about.st_size);
+  return answer == ONEFILE_DONE ? is_whole(head) : answer;
 }
 
-/* Goes on from a file that is locked. What was found is kept in `found`, with new sequences. */
-static uint32_t go_on_from(int file, const char *path, uint32_t limit, onefile_memory *memory,
-                           onefile_slot *found) {
-  header head;
-  birth born = {.path = path, .start = found};
-  uint32_t answer = look(file, &head, &born.mode);
-  if (answer == ONEFILE_DONE) answer = find(file, &head, found);
-  if (answer == ONEFILE_DONE) answer = of_c_renumber(found);
-  if (answer == ONEFILE_DONE) answer = of_c_set_limit(found, limit);
-  if (answer == ONEFILE_DONE) {
-    answer = header_for(head.callers, head.blocks, head.lives + 1, &born.head);
-  }
-  return answer == ONEFILE_DONE ? begin(&born, memory) : answer;
+uint32_t mapped_go_on_from(int file, birth *born, uint32_t limit) {
+  uint32_t answer = mapped_look(file, &born->head, &born->mode);
+  if (answer == ONEFILE_DONE) answer = find(file, &born->head, &born->start);
+  if (answer == ONEFILE_DONE) answer = of_c_renumber(&born->start);
+  return answer == ONEFILE_DONE ? of_c_set_limit(&born->start, limit) : answer;
 }
 
 /* Fills both slots, or neither. */
 static uint32_t reopen(onefile_memory *memory, const char *path, uint32_t limit,
                        onefile_slot *saved) {
-  onefile_slot found = {0};
-  int file = -1, could_be = take_files();
-  uint32_t answer = open_locked(path, 0, &file);
+  birth born = {.path = path};
+  int file = -1, could_be = mapped_take_files();
+  uint32_t answer = mapped_open_locked(path, 0, LOCK_EX, &file);
   if (answer == ONEFILE_DONE) {
-    answer = go_on_from(file, path, limit, memory, &found);
+    answer = mapped_go_on_from(file, &born, limit);
+    if (answer == ONEFILE_DONE) {
+      answer = mapped_head_for(&born, FOR_ONE, born.head.callers, born.head.blocks);
+    }
+    if (answer == ONEFILE_DONE) answer = begin(&born, memory);
     int why = errno;
     close(file); /* the new file has been locked since before it had the name */
     errno = why;
   }
-  let_go_files(could_be);
-  if (answer == ONEFILE_DONE && saved) *saved = found;
-  else of_c_free(&found);
+  mapped_let_go_files(could_be);
+  if (answer == ONEFILE_DONE && saved) *saved = born.start;
+  else of_c_free(&born.start);
   return answer;
 }
 

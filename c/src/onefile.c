@@ -18,7 +18,7 @@ const char *onefile_name(int answer) {
       "ONEFILE_NO_TICKET",   "ONEFILE_NO_SCRIPT",   "ONEFILE_IN_USE",   "ONEFILE_ABSENT",
       "ONEFILE_NO_ROOM",     "ONEFILE_NO_IMAGE",    "ONEFILE_BAD_FILE", "ONEFILE_NO_FILE",
       "ONEFILE_FILE_EXISTS", "ONEFILE_FILE_IN_USE", "ONEFILE_TORN",     "ONEFILE_NO_SPACE",
-      "ONEFILE_SYSTEM"};
+      "ONEFILE_SYSTEM",      "ONEFILE_OTHER_SIZES", "ONEFILE_OTHER_VERSION"};
   return answer >= 0 && (size_t)answer < sizeof names / sizeof *names ? names[answer]
                                                                       : "ONEFILE_?";
 }
@@ -47,18 +47,42 @@ int onefile_reopen(onefile_memory *memory, onefile_saved *saved) {
   return (int)answer;
 }
 
+/* Enrols a caller, if its slot and the memory's are taken. */
+static uint32_t enrol(onefile_memory *memory, uint32_t number) {
+  onefile_guarded *caller = &memory->caller[number];
+  uint32_t answer = shared_take_number(memory, number);
+  if (answer != ONEFILE_DONE) return answer;
+  of_c_pair both = {memory->memory.slot, caller->slot};
+  answer = of_c_enrol(&both, number);
+  memory->memory.slot = both.memory;
+  caller->slot = both.caller;
+  return answer;
+}
+
 int onefile_enrol(onefile_memory *memory, uint32_t number) {
   if (!memory) return ONEFILE_NULL;
   if (number >= ONEFILE_MOST_CALLERS) return ONEFILE_RANGE;
   onefile_guarded *caller = &memory->caller[number];
   if (!claim_both(&memory->memory, caller)) return ONEFILE_BUSY;
-  of_c_pair both = {memory->memory.slot, caller->slot};
-  uint32_t answer = of_c_enrol(&both, number);
-  memory->memory.slot = both.memory;
-  caller->slot = both.caller;
+  uint32_t answer = enrol(memory, number);
   release(caller);
   release(&memory->memory);
   return (int)answer;
+}
+
+int onefile_enrol_any(onefile_memory *memory, uint32_t *number) {
+  if (!memory || !number) return ONEFILE_NULL;
+  if (!claim(&memory->memory)) return ONEFILE_BUSY;
+  uint32_t answer = ONEFILE_TAKEN;
+  for (uint32_t i = 0; answer == ONEFILE_TAKEN && i < ONEFILE_MOST_CALLERS; i++) {
+    onefile_guarded *caller = &memory->caller[i];
+    if (!claim(caller)) continue; /* a call has it */
+    answer = enrol(memory, i);
+    release(caller);
+    if (answer == ONEFILE_DONE) *number = i;
+  }
+  release(&memory->memory);
+  return (int)(answer == ONEFILE_RANGE ? ONEFILE_TAKEN : answer);
 }
 
 int onefile_leave(onefile_memory *memory, uint32_t number) {
@@ -75,17 +99,26 @@ int onefile_leave(onefile_memory *memory, uint32_t number) {
   return (int)answer;
 }
 
+/* Closes a memory that is taken with all its callers. One that is shared is let go: others work on
+ * with it, so nothing is recovered. */
+static uint32_t close_taken(onefile_memory *memory, onefile_saved *saved) {
+  int is_shared = shared_has(memory);
+  if (!saved && !is_shared) return ONEFILE_NULL;
+  if (mapped_is_inherited(memory)) return ONEFILE_FILE_IN_USE;
+  if (has_caller(memory)) return ONEFILE_IN_USE;
+  if (is_shared) return of_c_free(&memory->memory.slot);
+  return of_c_close(&memory->memory.slot, &saved->saved.slot);
+}
+
 int onefile_close(onefile_memory *memory, onefile_saved *saved) {
-  if (!memory || !saved) return ONEFILE_NULL;
-  if (!claim(&saved->saved)) return ONEFILE_BUSY;
+  if (!memory) return ONEFILE_NULL;
+  if (saved && !claim(&saved->saved)) return ONEFILE_BUSY;
   uint32_t answer = ONEFILE_BUSY;
   if (claim_all(memory)) {
-    answer = ONEFILE_IN_USE;
-    if (mapped_is_inherited(memory)) answer = ONEFILE_FILE_IN_USE;
-    else if (!has_caller(memory)) answer = of_c_close(&memory->memory.slot, &saved->saved.slot);
+    answer = close_taken(memory, saved);
     release_all(memory);
   }
-  release(&saved->saved);
+  if (saved) release(&saved->saved);
   return (int)answer;
 }
 

@@ -9,6 +9,13 @@
  * is not here. */
 int mapped_is_inherited(onefile_memory *memory);
 
+/* Whether processes share the memory. */
+int shared_has(const onefile_memory *memory);
+
+/* Takes a number of a shared memory for this process, if none has had it. Of any other memory it
+ * is DONE, but in a forked child. TAKEN, FILE_IN_USE. The memory is claimed. */
+uint32_t shared_take_number(onefile_memory *memory, uint32_t number);
+
 static inline int claim(onefile_guarded *one) {
   return __atomic_exchange_n(&one->busy, 1, __ATOMIC_SEQ_CST) == 0;
 }

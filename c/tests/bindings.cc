@@ -1,5 +1,6 @@
 // bindings.cc: what onefile.hh adds to onefile.h. A caller leaves at the end of its scope, also if
-// another one enrols or leaves at the same moment. A path with a zero byte is refused.
+// another one enrols or leaves at the same moment. A path with a zero byte is refused. Two
+// memories share a file, as two processes would: bindings [FOLDER].
 #include "onefile.hh"
 
 #include <atomic>
@@ -38,7 +39,29 @@ static bool takes_path(const std::string &path) {
   return true;
 }
 
-int main() {
+// Two memories of one file: what one answers the other adds to.
+static uint32_t shares(const std::string &path) {
+  onefile::memory one(onefile::shared{path}, 2, 4), other(onefile::shared{path}, 2, 4);
+  onefile::caller first(one), second(other);
+  first.call({onefile_add(3, 5)});
+  uint32_t sum = second.call({onefile_add(3, 6)}).values[0];
+  return sum * 10 + first.has_number() * 2 + second.has_number();
+}
+
+// All have let the file go, so the next life has all numbers, and the sum.
+static uint32_t shares_again(const std::string &path) {
+  onefile::memory one(onefile::shared{path}, 2, 4);
+  uint32_t sum = 0;
+  {
+    onefile::caller own(one, 1);
+    sum = own.call({onefile_load(3)}).values[0];
+  }
+  one.detach();
+  std::remove(path.c_str());
+  return sum;
+}
+
+int main(int argc, char **argv) {
   onefile::memory of(2, 0);
   bool other = false;
   std::thread thread([&of, &other] { other = stays(of, 1); });
@@ -49,4 +72,8 @@ int main() {
   const char path[] = "/no/such\0folder";
   bool is_taken = takes_path(std::string(path, sizeof path - 1));
   std::printf("a path with a zero byte: %s\n", is_taken ? "taken" : "refused");
+  std::string file = std::string(argc > 1 ? argv[1] : "/tmp") + "/onefile-bindings.cc";
+  std::remove(file.c_str());
+  uint32_t sum = shares(file);
+  std::printf("two that share a file: %u, and later %u\n", sum, shares_again(file));
 }

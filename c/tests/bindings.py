@@ -1,5 +1,8 @@
 """What onefile.py adds to onefile.h: a caller leaves at the end of its `with`, also if another one
-enrols or leaves at the same moment. A path with a zero byte is refused."""
+enrols or leaves at the same moment. A path with a zero byte is refused. Two memories share a file,
+as two processes would: bindings.py [FOLDER]."""
+import os
+import sys
 import threading
 import time
 
@@ -34,6 +37,24 @@ def takes_path(path):
     return True
 
 
+def shares(path):
+    """Two memories of one file: what one answers the other adds to."""
+    one, other = (Memory(path=path, callers=2, blocks=4, shared=True) for _ in range(2))
+    with Caller(one) as first, Caller(other) as second:
+        first.call("add 3 5")
+        return second.call("add 3 6").values[0] * 10 + first.number * 2 + second.number
+
+
+def shares_again(path):
+    """All have let the file go, so the next life has all numbers, and the sum."""
+    one = Memory(path=path, callers=2, blocks=4, shared=True)
+    with Caller(one, 1) as own:
+        found = own.call("load 3").values[0]
+    one.detach()
+    os.remove(path)
+    return found
+
+
 def main():
     of, others = Memory(callers=2), []
     thread = threading.Thread(target=lambda: others.append(stays(of, 1)))
@@ -43,6 +64,10 @@ def main():
     print("a caller has not left" if any(others) else "each caller has left")
     of.close()
     print("a path with a zero byte:", "taken" if takes_path("/no/such\0folder") else "refused")
+    path = os.path.join(sys.argv[1] if len(sys.argv) > 1 else "/tmp", "onefile-bindings.py")
+    if os.path.exists(path):
+        os.remove(path)
+    print(f"two that share a file: {shares(path)}, and later {shares_again(path)}")
 
 
 main()

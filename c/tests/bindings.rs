@@ -1,5 +1,6 @@
 //! bindings.rs: what onefile.rs adds to onefile.h. A caller leaves when it is dropped, also if
-//! another one enrols or leaves at the same moment. A path with a zero byte is refused.
+//! another one enrols or leaves at the same moment. A path with a zero byte is refused. Two
+//! memories share a file, as two processes would: bindings [FOLDER].
 #[path = "../bindings/onefile.rs"]
 mod onefile;
 
@@ -25,6 +26,27 @@ fn stays(of: &Memory, number: u32, met: &AtomicU32, end: Instant) -> bool {
     false
 }
 
+/// Two memories of one file: what one answers the other adds to.
+fn shares(path: &str) -> u32 {
+    let one = Memory::share(path, 2, 4, GREATEST_LIMIT).expect("a memory");
+    let other = Memory::share(path, 2, 4, GREATEST_LIMIT).expect("a memory");
+    let (first, second) = (one.enrol_any().expect("0"), other.enrol_any().expect("1"));
+    first.call("add 3 5").expect("a call");
+    let sum = second.call("add 3 6").expect("a call").values[0];
+    sum * 10 + first.number * 2 + second.number
+}
+
+/// All have let the file go, so the next life has all numbers, and the sum.
+fn shares_again(path: &str) -> u32 {
+    let one = Memory::share(path, 2, 4, GREATEST_LIMIT).expect("a memory");
+    let own = one.enrol(1).expect("a caller");
+    let sum = own.call("load 3").expect("a call").values[0];
+    drop(own);
+    one.detach().expect("a close");
+    std::fs::remove_file(path).expect("a file");
+    sum
+}
+
 fn main() {
     let of = Memory::open(2, 0, GREATEST_LIMIT).expect("a memory");
     let (met, end) = (AtomicU32::new(0), Instant::now() + Duration::from_secs(10));
@@ -45,4 +67,9 @@ fn main() {
         "a path with a zero byte: {}",
         if is_taken { "taken" } else { "refused" }
     );
+    let folder = std::env::args().nth(1).unwrap_or("/tmp".to_string());
+    let path = format!("{folder}/onefile-bindings.rs");
+    let _ = std::fs::remove_file(&path);
+    let sum = shares(&path);
+    println!("two that share a file: {sum}, and later {}", shares_again(&path));
 }

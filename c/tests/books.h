@@ -1,5 +1,5 @@
-/* books.h: a bank in a file, and what a memory that goes on from the file must have. For kills.c
- * and steps.c. */
+/* books.h: a bank in a file, and what a memory that goes on from the file must have. For kills.c,
+ * steps.c and deaths.c, which has more callers. */
 #define _GNU_SOURCE
 #include "onefile.h"
 
@@ -10,7 +10,11 @@
 #include <string.h>
 #include <unistd.h>
 
-enum { CALLERS = 4, ACCOUNTS = 8, MONEY = 100000000, BLOCKS = 20, INSTRS = 6 };
+#ifndef BANK_CALLERS
+#define BANK_CALLERS 4
+#endif
+
+enum { CALLERS = BANK_CALLERS, ACCOUNTS = 8, MONEY = 100000000, BLOCKS = 20, INSTRS = 6 };
 
 typedef struct transfer {
   uint32_t from, to, amount;
@@ -42,15 +46,15 @@ static transfer transfer_of(uint32_t caller, uint32_t call) {
 }
 
 /* The script of a call. Its third instruction counts the calls of the caller, its fourth keeps the
- * number of the call, and the last two go through the caller's queue. */
+ * number of the call, and the last two go through a queue, which is empty between two calls. */
 static void write_script(uint32_t caller, uint32_t call, uint64_t script[INSTRS]) {
   transfer one = transfer_of(caller, call);
   script[0] = onefile_sub(one.from, one.amount);
   script[1] = onefile_add(one.to, one.amount);
   script[2] = onefile_add(ACCOUNTS + caller, 1);
   script[3] = onefile_put(caller, call);
-  script[4] = onefile_push(caller, call);
-  script[5] = onefile_pop(caller);
+  script[4] = onefile_push(caller % ONEFILE_QUEUES, call);
+  script[5] = onefile_pop(caller % ONEFILE_QUEUES);
 }
 
 static int is_reply_to(const onefile_reply *reply, uint32_t call) {
@@ -102,7 +106,7 @@ static void look_at(onefile_saved *saved, books *known, uint32_t number, uint32_
   MUST(calls >= answered && calls <= answered + 1);
   int answer = onefile_key(saved, number, &value);
   MUST(calls == 0 ? answer == ONEFILE_ABSENT : answer == ONEFILE_DONE && value == calls);
-  MUST(onefile_item(saved, number, 0, &value) == ONEFILE_ABSENT);
+  MUST(onefile_item(saved, number % ONEFILE_QUEUES, 0, &value) == ONEFILE_ABSENT);
   answer = onefile_last_reply(saved, number, &reply);
   if (calls > 0) MUST(answer == ONEFILE_DONE && is_reply_to(&reply, calls));
   MUST(calls >= known->calls[number]);

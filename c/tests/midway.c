@@ -199,6 +199,16 @@ static int reopens(onefile_memory *memory) {
   return onefile_reopen_file(memory, path, LIMIT, NULL);
 }
 
+/* A process that shares the file: it is made, or recovered, and let go. */
+static int shares(onefile_memory *memory) {
+  return onefile_share_file(memory, path, CALLERS, BLOCKS, LIMIT);
+}
+
+static int shares_and_closes(onefile_memory *memory) {
+  int answer = shares(memory);
+  return answer == ONEFILE_DONE ? onefile_close(memory, NULL) : answer;
+}
+
 static int reopens_and_closes(onefile_memory *memory) {
   int answer = reopens(memory);
   return answer == ONEFILE_DONE ? onefile_free(memory) : answer;
@@ -215,7 +225,9 @@ static int refuse(trial *call, long at) {
   if (count < at) return NOT_REACHED;
   if (answer != ONEFILE_DONE) {
     HOLDS(answer == ONEFILE_NO_MEMORY || answer == ONEFILE_NO_SPACE || answer == ONEFILE_SYSTEM);
-    HOLDS(open_files() == files && is_as_before());
+    HOLDS(open_files() == files);
+    /* A shared file may have come to a new life, which has the same. */
+    HOLDS(is_as_before() || (call == shares && is_file(path) && has_wanted()));
     HOLDS(!is_file(beside));
     MUST(call(&memory));
   }
@@ -325,9 +337,11 @@ int main(int argc, char **argv) {
   snprintf(beside, sizeof beside, "%s.new", path);
   make_empty();
   int tried = try_all(opens, refuse) + try_all(opens, killed);
+  tried += try_all(shares, refuse) + try_all(shares_and_closes, killed);
   for (size_t i = 0; i < sizeof steps / sizeof *steps; i++) {
     make_file(steps[i]);
     tried += try_all(reopens, refuse) + try_all(reopens_and_closes, killed);
+    tried += try_all(shares, refuse) + try_all(shares_and_closes, killed);
     tried += refused_closings();
   }
   renamed_meanwhile();

@@ -50,6 +50,12 @@ static void *all(void *unused) {
   must(onefile_free(&memory));
   must(onefile_free_saved(&saved));
   must(onefile_free_saved(&read_again));
+  for (int i = 0; i < 2; i++) { /* recovered, and made */
+    must(onefile_share_file(&memory, path, 16, 512, ONEFILE_GREATEST_LIMIT));
+    calls();
+    must(onefile_close(&memory, NULL));
+    if (i == 0) must(unlink(path));
+  }
   return unused;
 }
 

@@ -1,0 +1,266 @@
+/* shared.c: memories that several processes have at once.
+ *
+ * The life of a shared file begins when it is made or recovered, which only a process does that
+ * nobody shares the file with (LOCK_EX). It ends when nobody has it any more (LOCK_SH). The file
+ * keeps, behind its table, the durable words that the life has started from. Each process opens a
+ * memory of its own on private pages, from these words: they are the same for all. No caller has
+ * made a step then. Then the pages of the file come in the place of the private ones.
+ *
+ * So each process has callers of all numbers, in the state from which every number starts. It uses
+ * one only if nobody has used it in this life: it sets the number's bit in the header before the
+ * caller is enrolled, and the bit stays set until the life ends. Nothing but steps of callers is
+ * done on the shared pages: no memory on them is ever closed. */
+#define _GNU_SOURCE
+#include "files.h"
+#include "slots.h"
+
+#include <errno.h>
+#include <fcntl.h>
+#include <pthread.h>
+#include <stdlib.h>
+#include <string.h>
+#include <sys/file.h>
+#include <sys/mman.h>
+#include <time.h>
+#include <unistd.h>
+
+/* The answer if another process begins or ends a life of the file just now. */
+enum { AGAIN = 1000 };
+
+/* How often it is tried again, and after how long. */
+enum { MOST_TRIES = 1000, A_MILLISECOND = 1000000 };
+
+/* What is asked for. */
+typedef struct wish {
+  const char *path;
+  uint32_t callers, blocks, limit;
+  onefile_memory *memory;
+} wish;
+
+/* ---- To have a life of the file. */
+
+/* The words that the life of a file has started from. BAD_FILE. */
+static uint32_t read_start(int file, birth *born) {
+  const header *head = &born->head;
+  size_t bytes = head->table.durable * sizeof(uint64_t);
+  size_t summed = offsetof(header, share_sum) - offsetof(header, limit);
+  if (head->share_sum != mapped_sum(head->sum, &head->limit, summed)) return ONEFILE_BAD_FILE;
+  uint64_t *words = malloc(bytes);
+  if (!words) return ONEFILE_NO_MEMORY;
+  uint32_t answer = mapped_read_all(file, words, bytes, mapped_start_at(head));
+  if (answer == ONEFILE_DONE && mapped_sum(head->sum, words, bytes) != head->start_sum) {
+    answer = ONEFILE_BAD_FILE;
+  }
+  if (answer == ONEFILE_DONE) {
+    answer = of_c_from_words(head->callers, head->blocks, head->limit, words, head->table.durable,
+                             &born->start);
+    if (answer == ONEFILE_RANGE) answer = ONEFILE_BAD_FILE;
+  }
+  free(words);
+  return answer;
+}
+
+/* Whether the words of the memory that was opened are those that all others have started from. */
+static uint32_t is_start(const birth *born, const char *words) {
+  const header *head = &born->head;
+  const char *durable = words + head->table.first * sizeof(uint64_t);
+  uint64_t sum = mapped_sum(head->sum, durable, head->table.durable * sizeof(uint64_t));
+  return sum == head->start_sum ? ONEFILE_DONE : mapped_mistaken();
+}
+
+/* Opens a memory on private pages, and puts those of the file in their place. */
+static uint32_t open_shared(int file, birth *born, table *one, onefile_slot *memory) {
+  int may = PROT_READ | PROT_WRITE;
+  one->size = (size_t)mapped_start_at(&born->head);
+  void *map = mmap(NULL, one->size, may, MAP_PRIVATE | MAP_ANONYMOUS, -1, 0);
+  if (map == MAP_FAILED) return mapped_refusal();
+  one->map = map;
+  one->callers = born->head.callers;
+  char *words = (char *)map + PAGE;
+  uint32_t answer = mapped_open_at(born, one, words, memory);
+  if (answer == ONEFILE_DONE) answer = is_start(born, words);
+  if (answer != ONEFILE_DONE) return answer;
+  if (mmap(map, one->size, may, MAP_SHARED | MAP_FIXED, file, 0) == MAP_FAILED ||
+      madvise(map, one->size, MADV_DONTFORK) != 0) {
+    return mapped_refusal();
+  }
+  return ONEFILE_DONE;
+}
+
+/* Has the memory of the wish on a life of the file. */
+static uint32_t join(int file, birth *born, const wish *asked) {
+  onefile_slot *memory = &asked->memory->memory.slot;
+  if (born->head.callers != asked->callers || born->head.blocks != asked->blocks) {
+    return ONEFILE_OTHER_SIZES;
+  }
+  table *one = mapped_free_table();
+  if (!one) return ONEFILE_NO_MEMORY;
+  one->map = NULL;
+  one->file = file;
+  one->is_opening = one->is_shared = 1;
+  one->own = 0;
+  atomic_store(&one->memory, asked->memory);
+  uint32_t answer = read_start(file, born);
+  if (answer == ONEFILE_DONE) answer = open_shared(file, born, one, memory);
+  if (answer != ONEFILE_DONE) {
+    int why = errno;
+    of_c_free(memory);
+    mapped_empty(one);
+    if (one->map) munmap(one->map, one->size);
+    errno = why;
+  }
+  one->is_opening = 0;
+  return answer;
+}
+
+void shared_end_life(int file) {
+  static const uint64_t mark = IS_CLOSED;
+  if (flock(file, LOCK_EX | LOCK_NB) != 0) return; /* others have it still */
+  if (fsync(file) != 0) return;
+  if (pwrite(file, &mark, sizeof mark, offsetof(header, closed)) == sizeof mark) fsync(file);
+}
+
+/* Joins the life of a file that is locked by LOCK_SH. The table has the file then; if not, it is
+ * let go. AGAIN if the life has ended, or if it is a file for one process: nobody has it. */
+static uint32_t join_or_let_go(int file, const wish *asked) {
+  birth born = {.path = asked->path};
+  uint32_t answer = mapped_look(file, &born.head, &born.mode);
+  if (answer == ONEFILE_DONE) {
+    if (born.head.version != FOR_MANY || born.head.closed == IS_CLOSED) answer = AGAIN;
+    else answer = join(file, &born, asked);
+    of_c_free(&born.start);
+    if (answer == ONEFILE_DONE) return answer;
+    int why = errno;
+    if (answer != AGAIN) shared_end_life(file);
+    errno = why;
+  }
+  int why = errno;
+  close(file);
+  errno = why;
+  return answer;
+}
+
+/* ---- To begin one. */
+
+/* Begins a life in a new file with what `born` has, and joins it. As the lock changes, another
+ * process may take the file to end that life, in which no step was made. */
+static uint32_t begin_life(birth *born, const wish *asked) {
+  onefile_slot first = {0};
+  table *one = mapped_free_table();
+  if (!one) return ONEFILE_NO_MEMORY;
+  uint32_t answer = mapped_head_for(born, FOR_MANY, asked->callers, asked->blocks);
+  born->head.limit = asked->limit;
+  if (answer == ONEFILE_DONE) answer = mapped_make(born, one, &first);
+  if (answer == ONEFILE_FILE_IN_USE) return AGAIN; /* another process makes the new file */
+  if (answer != ONEFILE_DONE) return answer;
+  int file = one->file;
+  if (flock(file, LOCK_SH | LOCK_NB) == 0 && mapped_is_named(file, born->path)) {
+    return join_or_let_go(file, asked);
+  }
+  close(file);
+  return AGAIN;
+}
+
+/* Begins a life with what recovery finds in a file that this process alone has. */
+static uint32_t recover(int file, const wish *asked) {
+  birth born = {.path = asked->path};
+  uint32_t answer = mapped_go_on_from(file, &born, asked->limit);
+  if (answer == ONEFILE_DONE &&
+      (born.head.callers != asked->callers || born.head.blocks != asked->blocks)) {
+    answer = ONEFILE_OTHER_SIZES;
+  }
+  if (answer == ONEFILE_DONE) answer = begin_life(&born, asked);
+  of_c_free(&born.start);
+  return answer;
+}
+
+static uint32_t make_first(const wish *asked) {
+  birth born = {.path = asked->path};
+  uint32_t answer = mapped_conceive(&born, asked->callers, asked->blocks, asked->limit);
+  if (answer == ONEFILE_DONE) answer = begin_life(&born, asked);
+  of_c_free(&born.start);
+  return answer == ONEFILE_FILE_EXISTS ? AGAIN : answer;
+}
+
+/* The answer if the file of this name is locked for one process: a memory of one process has it,
+ * or a life of it begins or ends just now. */
+static uint32_t who_has(const char *path) {
+  uint32_t version = FOR_MANY;
+  int file = open(path, O_RDONLY | O_CLOEXEC | O_NOFOLLOW);
+  if (file < 0) return AGAIN;
+  ssize_t size = pread(file, &version, sizeof version, offsetof(header, version));
+  close(file);
+  return size == sizeof version && version == FOR_ONE ? ONEFILE_FILE_IN_USE : AGAIN;
+}
+
+/* Makes the file, recovers it or joins it. The caller has the files. */
+static uint32_t try_to_share(const wish *asked) {
+  int file = -1;
+  uint32_t answer = mapped_open_locked(asked->path, 0, LOCK_EX, &file);
+  if (answer == ONEFILE_NO_FILE) return make_first(asked);
+  if (answer == ONEFILE_DONE) {
+    answer = recover(file, asked);
+    int why = errno;
+    close(file); /* the new file has been locked since before it had the name */
+    errno = why;
+    return answer;
+  }
+  if (answer != ONEFILE_FILE_IN_USE) return answer;
+  answer = mapped_open_locked(asked->path, 0, LOCK_SH, &file);
+  if (answer == ONEFILE_DONE) return join_or_let_go(file, asked);
+  if (answer == ONEFILE_NO_FILE) return AGAIN;
+  return answer == ONEFILE_FILE_IN_USE ? who_has(asked->path) : answer;
+}
+
+/* Tries until no other process begins or ends a life of the file, for about a second. */
+static uint32_t share(const wish *asked) {
+  static const struct timespec a_while = {0, A_MILLISECOND};
+  uint32_t answer = AGAIN;
+  for (int tries = 0; answer == AGAIN && tries < MOST_TRIES; tries++) {
+    if (tries > 0) nanosleep(&a_while, NULL);
+    int could_be = mapped_take_files();
+    answer = try_to_share(asked);
+    mapped_let_go_files(could_be);
+  }
+  return answer == AGAIN ? ONEFILE_FILE_IN_USE : answer;
+}
+
+int onefile_share_file(onefile_memory *memory, const char *path, uint32_t callers, uint32_t blocks,
+                       uint32_t limit) {
+  of_c_table sizes;
+  if (!memory || !path) return ONEFILE_NULL;
+  if (of_c_sizes(callers, blocks, &sizes) != ONEFILE_DONE) return ONEFILE_RANGE;
+  if (limit == 0 || limit > ONEFILE_GREATEST_LIMIT) return ONEFILE_RANGE;
+  int could_be;
+  pthread_setcancelstate(PTHREAD_CANCEL_DISABLE, &could_be);
+  uint32_t answer = ONEFILE_BUSY;
+  if (claim_all(memory)) {
+    answer = ONEFILE_FULL;
+    if (memory->memory.slot.state == 0 && !has_caller(memory)) {
+      answer = share(&(wish){path, callers, blocks, limit, memory});
+    }
+    release_all(memory);
+  }
+  pthread_setcancelstate(could_be, NULL);
+  return (int)answer;
+}
+
+/* ---- Numbers. */
+
+int shared_has(const onefile_memory *memory) {
+  const table *one = mapped_table_of(memory);
+  return one && one->is_shared;
+}
+
+/* The bit is set before the caller can make a step, and a process that is killed leaves it set. So
+ * in each life one process at most has a number. */
+uint32_t shared_take_number(onefile_memory *memory, uint32_t number) {
+  table *one = mapped_table_of(memory);
+  if (one && one->file < 0) return ONEFILE_FILE_IN_USE;
+  if (!one || !one->is_shared || number >= one->callers) return ONEFILE_DONE;
+  uint32_t bit = (uint32_t)1 << number;
+  if (one->own & bit) return ONEFILE_DONE;
+  if (atomic_fetch_or(&one->map->used, bit) & bit) return ONEFILE_TAKEN;
+  one->own |= bit;
+  return ONEFILE_DONE;
+}
