@@ -1,6 +1,8 @@
 """A memory by the number of its cells: what the parts of its life take. crates/example_accounts goes
 through them if it is given a number of accounts. It tells how long each took, and waits after each,
-so that its memory can be looked at."""
+so that its memory can be looked at. A look goes through all pages of the program, and what comes
+next finds the caches full of that, the more so the larger the memory is: so times are of runs that
+nobody looks at."""
 import os
 import pathlib
 import re
@@ -62,8 +64,8 @@ def bytes_of(process, file, name):
 
 class Part(typing.NamedTuple):
     """What a part of the life of a memory took: how often it was done, the nanoseconds of all of
-    that, and the memory after it. That is what the program has touched: no code, and nothing that
-    is only reserved."""
+    that, and, if it was looked at, the memory after it. That is what the program has touched: no
+    code, and nothing that is only reserved."""
 
     count: int
     spent: int
@@ -71,7 +73,12 @@ class Part(typing.NamedTuple):
     most: int
 
 
-def parts(words):
+def memory_of(process):
+    """The memory of the program, and the most that it had."""
+    return bytes_of(process, "smaps_rollup", "Anonymous"), bytes_of(process, "status", "VmHWM")
+
+
+def parts(words, looks):
     """The parts by their names, and the status of the program."""
     pipes = {"stdin": subprocess.PIPE, "stdout": subprocess.PIPE, "stderr": subprocess.DEVNULL}
     environment = {**os.environ, "ASAN_OPTIONS": CHECKED_BUILD}
@@ -82,23 +89,22 @@ def parts(words):
             if not told:
                 continue
             name, count, spent = told.groups()
-            memory = bytes_of(process, "smaps_rollup", "Anonymous")
-            most = bytes_of(process, "status", "VmHWM")
-            found[name] = Part(int(count), int(spent), memory, most)
+            memory = memory_of(process) if looks else (0, 0)
+            found[name] = Part(int(count), int(spent), *memory)
             process.stdin.write("\n")
             process.stdin.flush()
     return found, process.returncode
 
 
-def taken(found):
-    """What is shown of the parts."""
-    spent = {name: it.spent / it.count for name, it in found.items() if name in ROWS}
-    after = {name: it.memory for name, it in found.items()}
+def taken(timed, looked):
+    """What is shown of the parts: the times of one run, and the memory of another."""
+    spent = {name: it.spent / it.count for name, it in timed.items() if name in ROWS}
+    after = {name: it.memory for name, it in looked.items()}
     return spent | {
-        "words": 8 * found["words"].count,
+        "words": 8 * looked["words"].count,
         "memory": after["open"] - after["words"],
-        "most": max(it.most for it in found.values()),
-        "handle": (after["first"] - after["visit"]) / found["first"].count,
+        "most": max(it.most for it in looked.values()),
+        "handle": (after["first"] - after["visit"]) / looked["first"].count,
         "busy": after["far"] - after["first"],
     }
 
@@ -111,9 +117,11 @@ def measured(program, part, rounds):
     for _ in range(rounds):
         for size, its in samples.items():
             accounts = max(FEWEST, size // part - OWN_CELLS)
-            found, status = parts([*program, str(accounts), str(times)])
-            if status or LAST not in found:
-                return {}, [f"{size:,} cells: status {status}"]
-            its.append(taken(found))
+            words = [*program, str(accounts), str(times)]
+            runs = [parts(words, looks) for looks in (False, True)]
+            for found, status in runs:
+                if status or LAST not in found:
+                    return {}, [f"{size:,} cells: status {status}"]
+            its.append(taken(*(found for found, _ in runs)))
     return {str(size): {name: middle([it[name] for it in found]) for name in ROWS}
             for size, found in samples.items()}, []
