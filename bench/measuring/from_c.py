@@ -14,17 +14,25 @@ NAMES = {
 CALLS = 20_000
 
 
-def words(folder):
-    """The words that run each, by name, and why there are none."""
+def compiled(names, folder):
+    """Programs of bench/peers over the library, by name, and why there are none."""
     library = TOP / "c/out/libonefile.a"
     if not shutil.which("cc"):
         return {}, ["no cc, so there are no calls from C"]
     if not library.exists():
         return {}, ["no c/out/libonefile.a: c/build makes it"]
-    path = folder / "calls"
-    command = ["cc", "-std=c11", "-O2", f"-I{library.parent}", TOP / "bench/peers/calls.c", library,
-               "-o", path, "-lpthread"]
-    done = subprocess.run(command, stdout=subprocess.PIPE, stderr=subprocess.STDOUT, text=True)
-    if done.returncode:
-        return {}, [f"calls.c: status {done.returncode} {done.stdout.strip()}"]
-    return {name: [path, name] for name in NAMES}, []
+    made = {}
+    for name in names:
+        made[name] = folder / name
+        command = ["cc", "-std=c11", "-O2", f"-I{library.parent}", TOP / f"bench/peers/{name}.c",
+                   library, "-o", made[name], "-lpthread"]
+        done = subprocess.run(command, stdout=subprocess.PIPE, stderr=subprocess.STDOUT, text=True)
+        if done.returncode:
+            return {}, [f"{name}.c: status {done.returncode} {done.stdout.strip()}"]
+    return made, []
+
+
+def words(_, folder):
+    """The words that run each, by name, and why there are none."""
+    made, why = compiled(("calls",), folder)
+    return {name: [made["calls"], name] for name in NAMES if made}, why

@@ -1,7 +1,7 @@
 """The results as lines, as the tables of docs/BENCH.md, and as its pictures."""
 import re
 
-from . import chart, from_c, sizes, threads
+from . import chart, from_c, hot, sizes, threads
 from .runs import CALLERS, KEYS, KINDS, by_callers, by_keys
 
 LACKING = "-"
@@ -199,6 +199,9 @@ PARTS = {
     "texts": lambda it: runs_table(it, ("reading", "printing")),
     "threads": lambda it: race_text(it["threads"], threads.NAMES, threads.CALLS),
     "calls": lambda it: race_text(it.get("calls"), from_c.NAMES, from_c.CALLS),
+    **{f"hot {work}": lambda it, work=work, calls=calls: race_text(it.get(f"hot {work}"), hot.NAMES,
+                                                                   calls)
+       for work, calls in hot.WORKS.items()},
     "sizes": lambda it: sizes_table(it.get("sizes"), sizes.TIMES),
     "memory": lambda it: sizes_table(it.get("sizes"), sizes.MEMORY),
 }
