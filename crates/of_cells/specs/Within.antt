@@ -1,5 +1,6 @@
 -- How many steps a call of a handle makes, and when it is stopped.
 use Rattle.std.specs.Prelude.{◌≡◌, ℕ, ◌+◌, ◌≤◌, Option, Some, None, Result, Ok, Err}
+use Rattle.of_brake.specs.Stops.{HasRisen}
 use Rattle.of_cells.specs.declared.answer.RawAnswer.{RawAnswer}
 use Rattle.of_cells.specs.declared.error.RunError.{RunError}
 use Rattle.of_cells.specs.declared.error.RunError.TheVariants.{Stopped, Spent, InCall, NoCall, NoTicket}
@@ -52,3 +53,16 @@ IsSpentAtLimit limit (Err NoTicket) = Unit {0}
 abbrev pub RisesWithin : (stop : Option ℕ) → (before now : ℕ) → Type 0
 RisesWithin None before now = Unit {0}
 RisesWithin (Some more) before now = now ≤ before + more
+
+-- A call keeps to the steps left of its brake, if the brake tells them.
+abbrev pub KeepsToBrake : (left : Option (Option ℕ)) → (before now : ℕ)
+    → Result RawAnswer RunError → Type 0
+KeepsToBrake left before now r = (stop : Option ℕ) → left ≡ Some stop → KeepsToStop before stop now r
+
+-- A count of steps has risen by no more than the steps left of a brake, if it tells them.
+abbrev pub RisesByBrake : (left : Option (Option ℕ)) → (before now : ℕ) → Type 0
+RisesByBrake left before now = (stop : Option ℕ) → left ≡ Some stop → RisesWithin stop before now
+
+-- A call is not stopped if its brake has denied no step.
+abbrev pub EndsUnlessDenied : (before now : ℕ) → Result RawAnswer RunError → Type 0
+EndsUnlessDenied before now r = (HasRisen before now → ⊥) → IsNeverStopped r

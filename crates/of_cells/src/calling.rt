@@ -13,9 +13,11 @@ ghost use Rattle.of_cells.specs.Called.{outcome_of, made_with, AnswersAsMeant, L
 ghost use Rattle.of_cells.specs.Called.{BeginsItsNext, ResumesItsNext, LearnsMore};
 ghost use Rattle.of_cells.specs.Called.{CallerOpensOnly, CallerOpensNone};
 ghost use Rattle.of_cells.specs.Within.{EndsWithin, KeepsToStop, IsSpentAtLimit, RisesWithin};
+ghost use Rattle.of_cells.specs.Within.{EndsUnlessDenied, KeepsToBrake, RisesByBrake};
 
 use crate::answer::RawAnswer;
 use crate::error::RunError;
+use crate::free::Free;
 use of_brake::{Brake, Fuel, Steps};
 use of_caller::{CallErr, Caller};
 use of_core::Outcome;
@@ -46,22 +48,22 @@ fn answer_of(outcome: Outcome) -> RawAnswer
     }
 }
 
-// A brake with so many steps; None is no end.
-fn fuel_of(stop: Option<u64>) -> Fuel
-    ensures { ⟦<Fuel as Brake>⟧.left result ≡ Some stop }
+// A brake with so many steps.
+fn fuel_of(steps: u64) -> Fuel
+    ensures { ⟦<Fuel as Brake>⟧.left result ≡ Some (Some steps) }
 {
     let mut fuel = Fuel::new();
-    fuel.arm(stop);
+    fuel.arm(Some(steps));
     fuel
 }
 
-// Makes a call of an operation, for at most so many steps, with a count of its steps that takes no
+// Makes a call of an operation, as far as a brake lets it, with a count of its steps that takes no
 // bytes.
-fn call_counted<W: Work, L: Ledger>(
+fn call_counted<W: Work, L: Ledger, B: Brake>(
     row: &Row<W>,
     caller: &mut Caller<W>,
     op: &[u64],
-    stop: Option<u64>,
+    brake: &mut B,
     blank: Blank,
 ) -> Result<RawAnswer, RunError>
     requires name { blank.name ≡ L.name }
@@ -77,8 +79,10 @@ fn call_counted<W: Work, L: Ledger>(
     ensures open_call { LeavesOpen op.now result caller.new }
     ensures tried { WasTried result }
     ensures bound { EndsWithin (row_step_bound W.meaning row.now) result }
-    ensures stop { KeepsToStop 0 stop (caller_call caller.new).steps result }
-    ensures given { RisesWithin stop (steps_made_by caller.old) (steps_made_by caller.new) }
+    ensures stop { KeepsToBrake (B.left brake.old) 0 (caller_call caller.new).steps result }
+    ensures given { RisesByBrake (B.left brake.old) (steps_made_by caller.old)
+        (steps_made_by caller.new) }
+    ensures freely { EndsUnlessDenied (B.denials brake.old) (B.denials brake.new) result }
     ensures rise { steps_made_by caller.new
         ≤ steps_made_by caller.old + row_step_bound W.meaning row.now }
     ensures touched { RisesByTouch W.meaning W.lawful row.now op.now 0
@@ -88,20 +92,19 @@ fn call_counted<W: Work, L: Ledger>(
     ensures next { BeginsItsNext result caller.old }
     ensures more { LearnsMore caller.old caller.new }
 {
-    let mut brake = fuel_of(stop);
     let mut steps: Steps<L> = Steps::new(blank);
-    match caller.call(row, op, &mut brake, &mut steps) {
+    match caller.call(row, op, brake, &mut steps) {
         Ok(outcome) => Ok(answer_of(outcome)),
         Err(CallErr::Stopped { asked }) => Err(RunError::Stopped { asked }),
         Err(CallErr::Spent { seq }) => Err(RunError::Spent { seq }),
     }
 }
 
-// Goes on with the open call, for at most so many steps.
-fn go_on_counted<W: Work, L: Ledger>(
+// Goes on with the open call, as far as a brake lets it.
+fn go_on_counted<W: Work, L: Ledger, B: Brake>(
     row: &Row<W>,
     caller: &mut Caller<W>,
-    stop: Option<u64>,
+    brake: &mut B,
     blank: Blank,
 ) -> Result<RawAnswer, RunError>
     requires name { blank.name ≡ L.name }
@@ -115,9 +118,11 @@ fn go_on_counted<W: Work, L: Ledger>(
     ensures open_call { LeavesOpen (caller_call caller.old).op result caller.new }
     ensures tried { WasTried result }
     ensures bound { EndsWithin (row_step_bound W.meaning row.now) result }
-    ensures stop { KeepsToStop (caller_call caller.old).steps stop
+    ensures stop { KeepsToBrake (B.left brake.old) (caller_call caller.old).steps
         (caller_call caller.new).steps result }
-    ensures given { RisesWithin stop (steps_made_by caller.old) (steps_made_by caller.new) }
+    ensures given { RisesByBrake (B.left brake.old) (steps_made_by caller.old)
+        (steps_made_by caller.new) }
+    ensures freely { EndsUnlessDenied (B.denials brake.old) (B.denials brake.new) result }
     ensures rise { (caller_call caller.old).steps + steps_made_by caller.new
         ≤ steps_made_by caller.old + row_step_bound W.meaning row.now }
     ensures touched { RisesByTouch W.meaning W.lawful row.now (caller_call caller.old).op
@@ -127,9 +132,8 @@ fn go_on_counted<W: Work, L: Ledger>(
     ensures next { ResumesItsNext result caller.old }
     ensures more { LearnsMore caller.old caller.new }
 {
-    let mut brake = fuel_of(stop);
     let mut steps: Steps<L> = Steps::new(blank);
-    match caller.go_on(row, &mut brake, &mut steps) {
+    match caller.go_on(row, brake, &mut steps) {
         Ok(outcome) => Ok(answer_of(outcome)),
         Err(CallErr::Stopped { asked }) => Err(RunError::Stopped { asked }),
         Err(CallErr::Spent { seq }) => Err(RunError::Spent { seq }),
@@ -165,7 +169,13 @@ pub(crate) fn call_with<W: Work>(
     ensures next { BeginsItsNext result caller.old }
     ensures more { LearnsMore caller.old caller.new }
 {
-    call_counted::<W, Brand>(row, caller, op, stop, Blank::new(1))
+    match stop {
+        None => call_counted::<W, Brand, Free>(row, caller, op, &mut Free, Blank::new(1)),
+        Some(steps) => {
+            let mut fuel = fuel_of(steps);
+            call_counted::<W, Brand, Fuel>(row, caller, op, &mut fuel, Blank::new(1))
+        }
+    }
 }
 
 /// Goes on with the open call, for at most so many steps.
@@ -195,5 +205,11 @@ pub(crate) fn go_on_with<W: Work>(
     ensures next { ResumesItsNext result caller.old }
     ensures more { LearnsMore caller.old caller.new }
 {
-    go_on_counted::<W, Brand>(row, caller, stop, Blank::new(1))
+    match stop {
+        None => go_on_counted::<W, Brand, Free>(row, caller, &mut Free, Blank::new(1)),
+        Some(steps) => {
+            let mut fuel = fuel_of(steps);
+            go_on_counted::<W, Brand, Fuel>(row, caller, &mut fuel, Blank::new(1))
+        }
+    }
 }

@@ -10,12 +10,20 @@ use of_row::Row;
 use std::alloc::Global;
 use std::sync::Arc;
 
+/// How many words are unused at either end of a handle: 128 bytes, since processors fetch the lines
+/// of the cache in pairs. A call writes into its handle at each step. If two handles side by side
+/// shared a line, a step by one would take the line from the other's thread.
+pub(crate) const APART: usize = 16;
+
 /// One caller of a memory of cells, for one thread at a time.
 #[derive(Drop)]
 pub struct CellHandle<W: Work> {
+    /// Unused, as is what is behind: no two handles share a line of the cache.
+    pub(crate) front: [u64; APART],
     pub(crate) row: Arc<Row<W>, Global>,
     pub(crate) number: u32,
     pub(crate) caller: Caller<W>,
+    pub(crate) behind: [u64; APART],
 }
 
 impl<W: Work> CellHandle<W> {
@@ -213,9 +221,11 @@ impl<W: Work> CellHandle<W> {
         ensures remembers { RemembersAll W.meaning memory.old memory.new }
     {
         let CellHandle {
+            front: _,
             row: _,
             number,
             caller,
+            behind: _,
         } = self;
         memory.take_in(number, caller);
     }

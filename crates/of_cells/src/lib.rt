@@ -6,6 +6,7 @@ mod answer;
 mod at_once;
 mod calling;
 mod error;
+mod free;
 mod handle;
 pub mod laws;
 mod limits;

@@ -4,7 +4,7 @@ ghost use Rattle.std.specs.Prelude.{◌≡◌};
 ghost use Rattle.of_cell.specs.declared.word.TheConstants.{GREATEST_LIMIT};
 
 use crate::error::{EnrolError, InUse, OpenError};
-use crate::handle::CellHandle;
+use crate::handle::{APART, CellHandle};
 use crate::saved::{SavedCells, shape_for};
 use crate::seating::{all_here, gather, put_at, seat_all, take_at};
 use crate::telling::exchange;
@@ -194,9 +194,11 @@ impl<W: Work> CellMemory<W> {
             Some(mut caller) => {
                 exchange(&self.row, &mut caller, &mut self.known);
                 Ok(CellHandle {
+                    front: [0; APART],
                     row,
                     number,
                     caller,
+                    behind: [0; APART],
                 })
             }
             None => Err(EnrolError::Enrolled { number }),

@@ -62,19 +62,19 @@ returns-in-Err-Stopped-clause-bound g c =
     stops_within _ _ _ _ _ _ _ _ _ _ c.go_on.ensures.told c.in-Err-Stopped.asked (c.in-Err-Stopped.is ∙ ap (λ e. Err e) c.in-Err-Stopped.field-0-is)
 
 pub returns-in-Ok-clause-stop : goal.returns-in-Ok-clause-stop
-returns-in-Ok-clause-stop g c =
+returns-in-Ok-clause-stop g c stop told_stop =
     let told = c.in-Ok.ensures.told in
-    keeps_answered _ _ _ _ _ _ _ _ _ _ told c.args.stop _ c.fuel_of-brake.ensures (Some c.go_on.new.brake.left) c.in-Ok.ensures.left c.in-Ok.outcome c.answer_of.result c.answer_of.ensures told.result
+    keeps_answered _ _ _ _ _ _ _ _ _ _ told stop _ told_stop _ c.in-Ok.ensures.left c.in-Ok.outcome c.answer_of.result c.answer_of.ensures told.result
 
 pub returns-in-Err-Stopped-clause-stop : goal.returns-in-Err-Stopped-clause-stop
-returns-in-Err-Stopped-clause-stop g c =
-    keeps_stopped _ _ _ _ _ _ _ _ _ _ c.go_on.ensures.told c.args.stop _ c.fuel_of-brake.ensures c.go_on.ensures.stop c.in-Err-Stopped.asked (c.in-Err-Stopped.is ∙ ap (λ e. Err e) c.in-Err-Stopped.field-0-is)
+returns-in-Err-Stopped-clause-stop g c stop told_stop =
+    keeps_stopped _ _ _ _ _ _ _ _ _ _ c.go_on.ensures.told stop _ told_stop c.go_on.ensures.stop c.in-Err-Stopped.asked (c.in-Err-Stopped.is ∙ ap (λ e. Err e) c.in-Err-Stopped.field-0-is)
 
 pub returns-clause-stop : goal.returns-clause-stop
-returns-clause-stop g c = keeps_over _ _ _ _ _ _ _ _ _ _ c.go_on.ensures.told c.args.stop _
+returns-clause-stop g c stop told_stop = keeps_over _ _ _ _ _ _ _ _ _ _ c.go_on.ensures.told stop _
 
 pub returns-in-Ok-clause-given : goal.returns-in-Ok-clause-given
-returns-in-Ok-clause-given g c = rises_as_given _ _ _ _ _ _ _ _ _ _ c.in-Ok.ensures.told c.args.stop _ (Some c.go_on.new.brake.left) c.fuel_of-brake.ensures c.in-Ok.ensures.left
+returns-in-Ok-clause-given g c stop told_stop = rises_as_given _ _ _ _ _ _ _ _ _ _ c.in-Ok.ensures.told stop _ _ told_stop c.in-Ok.ensures.left
 
 pub returns-in-Ok-clause-rise : goal.returns-in-Ok-clause-rise
 returns-in-Ok-clause-rise g c = rises_within _ _ _ _ _ _ _ _ _ _ c.in-Ok.ensures.told
@@ -92,7 +92,7 @@ returns-in-Ok-clause-next g c begun none started =
     (answered_some _ _ _ _ _ _ _ _ _ _ told c.in-Ok.outcome told.result)
 
 pub returns-in-Err-Stopped-clause-given : goal.returns-in-Err-Stopped-clause-given
-returns-in-Err-Stopped-clause-given g c = rises_as_given _ _ _ _ _ _ _ _ _ _ c.go_on.ensures.told c.args.stop _ (Some c.go_on.new.brake.left) c.fuel_of-brake.ensures c.go_on.ensures.left
+returns-in-Err-Stopped-clause-given g c stop told_stop = rises_as_given _ _ _ _ _ _ _ _ _ _ c.go_on.ensures.told stop _ _ told_stop c.go_on.ensures.left
 
 pub returns-in-Err-Stopped-clause-rise : goal.returns-in-Err-Stopped-clause-rise
 returns-in-Err-Stopped-clause-rise g c = rises_within _ _ _ _ _ _ _ _ _ _ c.go_on.ensures.told
@@ -110,7 +110,7 @@ returns-in-Err-Stopped-clause-next g c begun none started =
     (stopped_some _ _ _ _ _ _ _ _ _ _ told c.in-Err-Stopped.asked (c.in-Err-Stopped.is ∙ ap (λ e. Err e) c.in-Err-Stopped.field-0-is) started)
 
 pub returns-clause-given : goal.returns-clause-given
-returns-clause-given g c = rises_as_given _ _ _ _ _ _ _ _ _ _ c.go_on.ensures.told c.args.stop _ (Some c.go_on.new.brake.left) c.fuel_of-brake.ensures c.go_on.ensures.left
+returns-clause-given g c stop told_stop = rises_as_given _ _ _ _ _ _ _ _ _ _ c.go_on.ensures.told stop _ _ told_stop c.go_on.ensures.left
 
 pub returns-clause-rise : goal.returns-clause-rise
 returns-clause-rise g c = rises_within _ _ _ _ _ _ _ _ _ _ c.go_on.ensures.told

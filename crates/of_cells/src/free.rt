@@ -1,0 +1,30 @@
+//! A brake that never denies.
+
+ghost use Rattle.std.specs.Prelude.{◌≡◌, true, None};
+
+use of_brake::Brake;
+
+/// A brake that allows each ask, and counts nothing: to ask it costs nothing. It tells no steps
+/// left, whatever it is armed with.
+#[derive(Drop)]
+pub(crate) struct Free;
+
+impl Brake for Free {
+    ghost denials = { λ _. 0 };
+
+    ghost left = { λ _. None };
+
+    ghost answers = { λ _. None };
+
+    ghost asks = { λ _. None };
+
+    fn arm(&mut self, _stop: Option<u64>) {}
+
+    fn ask(&mut self) -> bool
+        ensures { result ≡ true }
+    {
+        true
+    }
+
+    fn answered(&mut self) {}
+}
