@@ -1,5 +1,5 @@
 -- A row of scripts holds a serial history of scripts at any moment, which recovery finds the end of.
-use Rattle.std.proofs.Common.{◌≡◌, ℕ, ◌<◌, inl, inr, false, List, [], ◌∷◌, length, get_or, map, refl, sym, subst, ◌∙◌}
+use Rattle.std.proofs.Common.{◌≡◌, ℕ, ◌+◌, ◌<◌, inl, inr, false, List, [], ◌∷◌, length, get_or, map, refl, sym, subst, ◌∙◌}
 use Rattle.std.specs.List.{AllByRecursion as Every}
 use Rattle.std.proofs.lemmas.List.{length-map}
 use Rattle.std.proofs.lemmas.List.Elements.{All-from_get_or, recursion_from_All}
@@ -82,9 +82,9 @@ module _ (w : Scripts) (limit : ℕ) (law : RowsHoldHistory (LawfulCells w) (set
           views = λ j v at live.
               let view = got.views j v at live in
               record {
-                calls = each_of {saving.ExplainsKept S B h} {ExplainsKept S B hs} (λ x all ms made. explains_all w h (numbers_of B) s are_scripts from got.leads.serial x.machine.caller (done_before S B x.machine.caller) x.ended ms made all) v.kept view.calls;
-                own_seq = each_of {saving.HaveKeptSequences S B h q} {HaveKeptSequences S B hs q} (λ x all ms made. own_sequences w h (numbers_of B) s are_scripts from got.leads.serial x.machine.caller (done_before S B x.machine.caller) x.ended ms made q all) v.kept view.own_seq;
-                only = each_of {saving.HasOnlyKept S B h} {HasOnlyKept S B hs} (λ x all ms made. has_only w h (numbers_of B) s are_scripts from got.leads.serial x.machine.caller (done_before S B x.machine.caller) x.ended ms made (HasOpenOperation x) (HasOpenScript x) (λ script is opened. (is, opened)) all) v.kept view.only;
+                calls = each_of {P = saving.ExplainsKept S B h} {Q = ExplainsKept S B hs} (λ x all ms made. explains_all w h (numbers_of B) s are_scripts from got.leads.serial x.machine.caller (done_before S B x.machine.caller) x.ended ms made all) v.kept view.calls;
+                own_seq = each_of {P = saving.HaveKeptSequences S B h q} {Q = HaveKeptSequences S B hs q} (λ x all ms made. own_sequences w h (numbers_of B) s are_scripts from got.leads.serial x.machine.caller (done_before S B x.machine.caller) x.ended ms made q all) v.kept view.own_seq;
+                only = each_of {P = saving.HasOnlyKept S B h} {Q = HasOnlyKept S B hs} (λ x all ms made. has_only w h (numbers_of B) s are_scripts from got.leads.serial x.machine.caller (done_before S B x.machine.caller) x.ended ms made (HasOpenOperation x) (HasOpenScript x) (λ script is opened. (is, opened)) all) v.kept view.only;
                 time = λ n x k y before. in_time w h (numbers_of B) s are_scripts from got.leads.serial n (done_before S B n + x) k (done_before S B k + y) (view.time n x k y before);
               };
         }
