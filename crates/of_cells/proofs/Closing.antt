@@ -1,4 +1,4 @@
--- What recovery finds in the words of a closed table of a work.
+-- What recovery finds in the words of a table at any moment, and in those of a closed one.
 use Rattle.std.proofs.Common.{◌≡◌, ℕ, ◌+◌, ◌-◌, ◌≤◌, ◌<◌, ◌⊎◌, inl, inr, Bool, true, false, refl, sym, ◌∙◌, ap, subst, arith, List, [], ◌∷◌, ◌++◌, length, get_or, map, take, length-append}
 use Rattle.std.specs.Prelude.{slice_index}
 use Rattle.std.specs.List.{AllByRecursion as Each}
@@ -13,11 +13,12 @@ use Rattle.of_cell.specs.Words.{payload_of}
 use Rattle.of_cell.specs.declared.word.TheConstants.{GREATEST_LIMIT}
 use Rattle.of_cell.specs.Cells.{data_cell}
 use Rattle.of_mem.specs.Meaning.{Meaning, HasRoom}
-use Rattle.of_mem.specs.Places.{ticket_cell_at, shape_at, reply_at}
+use Rattle.of_mem.specs.Places.{shape_at, reply_at}
 use Rattle.of_mem.specs.declared.work.TheConstants.{MOST_INSTRS}
 use Rattle.of_mem.proofs.Lists.{part_at, prefix_trans}
-use Rattle.of_recover.specs.Recovered.{recovered_words, recovered_data, RecoversData}
+use Rattle.of_recover.specs.Recovered.{recovered_words}
 use Rattle.of_recover.proofs.Agreeing.{recovered_data-same}
+use Rattle.of_recover.proofs.Kept.{data_at}
 use Rattle.of_core.specs.declared.place.Outcome.{Outcome}
 use Rattle.of_core.specs.declared.place.Outcome.TheVariants.{Answered, Spent}
 use Rattle.of_core.specs.Table.{Setup, setup_of, durable_word, ticket_cell, shape_cell, reply_cell}
@@ -33,18 +34,18 @@ use Rattle.of_core.specs.Starts.{IsDurable, IsStartRow, start_from_durable}
 use Rattle.of_row.specs.declared.member.Pass.{Pass}
 use Rattle.of_row.specs.declared.row.Row.{Row}
 use Rattle.of_row.specs.Views.{EndedCall, KnownCaller, View, no_ended}
-use Rattle.of_row.specs.Rule.{MeetsRule, ViewMeetsRule}
+use Rattle.of_row.specs.Rule.{MeetsRule, done_before}
 use Rattle.of_row.specs.Told.{open_operation, operations_known}
-use Rattle.of_row.specs.Trail.{EachView, IsRunBy}
+use Rattle.of_row.specs.Trail.{IsRunBy}
 use Rattle.of_row.specs.Rows.{key_of, setup_at, row_start, view_of_pass, IsRowPass, MayStartFrom}
 use Rattle.of_row.specs.Keys.{FitsWork}
 use Rattle.of_row.specs.Passes.{ClosesWithDurable}
-use Rattle.of_row.specs.Moments.{ExplainsEndedCalls, HaveOwnSequence, StopsLoseNothing, LosesNothing, words_alone}
+use Rattle.of_row.specs.Moments.{ExplainsEndedCalls, HasNoneOf, HaveOwnSequence, StopsLoseNothing, LosesNothing, words_alone}
 use Rattle.of_cells.specs.declared.saved.SavedCells.{SavedCells}
 use Rattle.of_cells.specs.History.{ExplainsEnd, IsOneOf}
-use Rattle.of_cells.specs.Serving.{made_before}
-use Rattle.of_cells.specs.Words.{WordsHold}
-use Rattle.of_cells.specs.Saving.{ExplainsKept, HaveKeptSequences, HasOpenOperation, HasOnlyKept, RespectsEvents, HistoryLeads, HoldsReply, TellsLast, IsSavedCells, SavesHistory, KeepsOwnCells, saved_cells}
+use Rattle.of_cells.specs.Serving.{cells_at_start, made_before}
+use Rattle.of_cells.specs.Moments.{HoldsHistory, RowsHoldHistory, numbers_found, numbers_of}
+use Rattle.of_cells.specs.Saving.{ExplainsKept, HaveKeptSequences, HasOpenOperation, HasOnlyKept, RespectsEvents, HistoryLeads, HoldReply, TellLast, IsSavedCells, SavesHistory, KeepsOwnCells, OwnCellsStay, saved_cells, ticket_in}
 use Rattle.of_cells.proofs.OwnCells.{own_stay}
 use Rattle.of_cells.proofs.Holding.{number_at}
 
@@ -73,85 +74,118 @@ begun_at x b place k lt = elim (cases_lt k (length x.ended)) [
         let at : k ≡ length (map (λ (e : EndedCall). e.op) x.ended) = omega (arith, length-append (map (λ (e : EndedCall). e.op) x.ended) (x.machine.op ∷ []), long, some, high) in
         (at ∙ long, is, ap (λ (n : ℕ). get_or (map (λ (e : EndedCall). e.op) x.ended ++ x.machine.op ∷ []) n []) at ∙ get_or-append_seam (map (λ (e : EndedCall). e.op) x.ended) x.machine.op [] [])
 
-module _ {W : Type 0} (meaning : W → Meaning) (lawful : W → List ℕ → Type 0) (r : Row W) (room : HasRoom (key_of r).callers (key_of r).cells) (law : StopsLoseNothing (lawful (key_of r).work) (setup_at meaning r))
-    (v : View) (live : v.spent ≡ false) (ws : List ℕ) (meets : ViewMeetsRule (setup_at meaning r) (lawful (key_of r).work) (row_start meaning r) ws v) where
+-- ---- any moment of a row
+
+module _ (callers cell_count limit : ℕ) (M : Meaning) (L : List ℕ → Type 0) (room : HasRoom callers cell_count) (start : StartsMeetInvariant (setup_of callers cell_count limit M) L) (runs : SchedulesKeepInvariant (setup_of callers cell_count limit M) L)
+    (grounds : GoodGrounds (setup_of callers cell_count limit M) L) (sound : InvariantIsSound (setup_of callers cell_count limit M) L) (first : FirstStateIsStart) (law : StopsLoseNothing L (setup_of callers cell_count limit M)) where
   abbrev S : Setup
-  S = setup_at meaning r
+  S = setup_of callers cell_count limit M
 
-  abbrev L : List ℕ → Type 0
-  L = lawful (key_of r).work
+  module _ (B : TableStart) (s : State (Unit {0}) View) (rule : MeetsRule S L B s) (words : List ℕ) (durable : IsDurable S s.words words) where
+    abbrev lost : LosesNothing S L B s
+    lost = law B s rule
 
-  abbrev B : TableStart
-  B = row_start meaning r
+    abbrev h : List Call
+    h = lost.order
 
-  abbrev lost : LosesNothing S L B meets.state
-  lost = law B meets.state meets.rule
+    -- ---- what recovery finds in the words
 
-  abbrev h : List Call
-  h = lost.order
+    abbrev number_in : ℕ → ℕ
+    number_in a = recovered_number S (words_alone s.words) a
 
-  -- what recovery finds in the words
-  abbrev number_in : ℕ → ℕ
-  number_in a = recovered_number S (words_alone meets.state.words) a
+    abbrev found : List ℕ
+    found = recovered_words callers cell_count words
 
-  -- ---- the history has a kept caller's calls as they have ended
+    starts : IsStartRow S L found
+    starts = lost.restarts words durable
 
-  ends_as : (c t : ℕ) (op : List ℕ) (o : Outcome) → ExplainsOutcome S h c t op o → ExplainsEnd h c t op o
-  ends_as c t op (Answered seq announced raw steps) e = record { place = e.place; among = e.among; caller_is = e.caller; ticket_is = e.ticket; words = e.same; reply = e.reply }
-  ends_as c t op (Spent seq) e = e
+    abbrev cells : List ℕ
+    cells = (start_from_durable callers cell_count found).cells
 
-  explained : (x : KnownCaller) → ExplainsEndedCalls S B h x → ExplainsKept meaning r h x
-  explained x all y l = ends_as x.machine.caller (made_before meaning r x.machine.caller + y + 1) (get_or x.ended y no_ended).op (get_or x.ended y no_ended).outcome (all y l)
+    abbrev now : List ℕ
+    now = numbers_found callers cell_count words
 
-  -- each with its own sequence
-  sequenced : (x : KnownCaller) → HaveOwnSequence S B h lost.by_seq.sequences x → HaveKeptSequences meaning r h lost.by_seq.sequences x
-  sequenced x all = all
+    now_long : length now ≡ cell_count
+    now_long = length-map cells payload_of ∙ starts.may_start.start.size
 
-  -- and no others
-  owned : (x : KnownCaller) → IsRunBy S B lost.events x → HasOnlyKept meaning r h x
-  owned x told = All-from_get_or (λ (e : Call). e.caller ≡ x.machine.caller → IsOneOf (made_before meaning r x.machine.caller) x.ended (HasOpenOperation x) e) h no_call (λ y l mine.
-      let c : Call = get_or h y no_call in
-      let b = (lost.linearizes.begun y no_call l).1 refl in
-      let st : ℕ = made_before meaning r x.machine.caller in
-      let same_ops : operations_begun lost.events c.caller ≡ operations_known x = ap (operations_begun lost.events) mine ∙ sym told.told.begun in
-      let start_is : start_ticket S B c.caller ≡ st = ap (start_ticket S B) mine in
-      let op : c.op ≡ get_or (operations_known x) (c.ticket - st - 1) [] = b.2 ∙ (λ i. get_or (same_ops i) (c.ticket - start_is i - 1) []) in
-      let low : st < c.ticket = omega (arith, b.0, start_is) in
-      let high : c.ticket - st - 1 < length (operations_known x) = omega (arith, b.0, b.1, start_is, ap length same_ops) in
-      elim (begun_at x (is_idle x.machine.place) refl (c.ticket - st - 1) high) [
-        | inl before ↦ inl (c.ticket - st - 1, before.0, omega (arith, low), op ∙ before.1)
-        | inr last ↦ inr (omega (arith, low, last.0), (last.1, sym last.2 ∙ sym op))
-      ])
+    found_at : (a : ℕ) → a < cell_count → get_or now a 0 ≡ number_in a
+    found_at a l =
+        let e : data_cell callers 0 + a ≡ data_cell callers a = omega arith in
+        get_or-map payload_of cells a 0 0 (omega (arith, l, starts.may_start.start.size))
+        ∙ ap payload_of (part_at found (data_cell callers 0) cell_count a l ∙ ap (λ n. get_or found n 0) e ∙ data_at callers cell_count words durable.long a l
+        ∙ recovered_data-same callers cell_count (slice_index words) (durable_word S s.words) durable.each a l (omega (arith, l, room.few, room.small)))
 
-  -- ---- what is saved
+    -- ---- the history has a kept caller's calls as they have ended
 
-  module _ (d : SavedCells W) (callers_are : d.shape.callers ≡ (key_of r).callers) (cells_are : length (saved_cells d) ≡ (key_of r).cells) (found_at : (a : ℕ) → a < (key_of r).cells → get_or (saved_cells d) a 0 ≡ number_in a) where
-    holds_reply : (n : ℕ) (c : Call) → n < (key_of r).callers → c.caller ≡ n → FindsCall S (words_alone meets.state.words) c → HoldsReply d n c.raw
+    ends_as : (c t : ℕ) (op : List ℕ) (o : Outcome) → ExplainsOutcome S h c t op o → ExplainsEnd h c t op o
+    ends_as c t op (Answered seq announced raw steps) e = record { place = e.place; among = e.among; caller_is = e.caller; ticket_is = e.ticket; words = e.same; reply = e.reply }
+    ends_as c t op (Spent seq) e = e
+
+    explained : (x : KnownCaller) → ExplainsEndedCalls S B h x → ExplainsKept S B h x
+    explained x all y l = ends_as x.machine.caller (done_before S B x.machine.caller + y + 1) (get_or x.ended y no_ended).op (get_or x.ended y no_ended).outcome (all y l)
+
+    -- each with its own sequence
+    sequenced : (x : KnownCaller) → HaveOwnSequence S B h lost.by_seq.sequences x → HaveKeptSequences S B h lost.by_seq.sequences x
+    sequenced x all = all
+
+    -- and no others
+    owned : (x : KnownCaller) → IsRunBy S B lost.events x → HasOnlyKept S B h x
+    owned x told = All-from_get_or (λ (e : Call). e.caller ≡ x.machine.caller → IsOneOf (done_before S B x.machine.caller) x.ended (HasOpenOperation x) e) h no_call (λ y l mine.
+        let c : Call = get_or h y no_call in
+        let b = (lost.linearizes.begun y no_call l).1 refl in
+        let st : ℕ = done_before S B x.machine.caller in
+        let same_ops : operations_begun lost.events c.caller ≡ operations_known x = ap (operations_begun lost.events) mine ∙ sym told.told.begun in
+        let start_is : start_ticket S B c.caller ≡ st = ap (start_ticket S B) mine in
+        let op : c.op ≡ get_or (operations_known x) (c.ticket - st - 1) [] = b.2 ∙ (λ i. get_or (same_ops i) (c.ticket - start_is i - 1) []) in
+        let low : st < c.ticket = omega (arith, b.0, start_is) in
+        let high : c.ticket - st - 1 < length (operations_known x) = omega (arith, b.0, b.1, start_is, ap length same_ops) in
+        elim (begun_at x (is_idle x.machine.place) refl (c.ticket - st - 1) high) [
+          | inl before ↦ inl (c.ticket - st - 1, before.0, omega (arith, low), op ∙ before.1)
+          | inr last ↦ inr (omega (arith, low, last.0), (last.1, sym last.2 ∙ sym op))
+        ])
+
+    -- a number that is not taken has begun none
+    none_of : (n : ℕ) → operations_begun lost.events n ≡ [] → HasNoneOf h n
+    none_of n none = All-from_get_or (λ (e : Call). e.caller ≡ n → ⊥) h no_call (λ y l mine.
+        let b = (lost.linearizes.begun y no_call l).1 refl in
+        let long : length (operations_begun lost.events (get_or h y no_call).caller) ≡ 0 = ap (λ (i : ℕ). length (operations_begun lost.events i)) mine ∙ ap length none in
+        absurd (omega (arith, b.0, b.1, long)))
+
+    -- ---- what the cells tell of each caller
+
+    own_in : (n : ℕ) → n < callers → ticket_cell S n < cell_count
+    own_in n low = omega (arith, low, room.own)
+
+    holds_reply : (n : ℕ) (c : Call) → n < callers → c.caller ≡ n → FindsCall S (words_alone s.words) c → HoldReply now n c.raw
     holds_reply n c low mine finds = record {
       shape = found_at (shape_at MOST_INSTRS n) (omega (arith, low, room.own)) ∙ ap (λ (i : ℕ). number_in (shape_cell S i)) (sym mine) ∙ finds.shape;
       numbers = λ y k marked. found_at (reply_at MOST_INSTRS n y) (omega (arith, low, room.own, k)) ∙ ap (λ (i : ℕ). number_in (reply_cell S i y)) (sym mine) ∙ finds.replies y k marked;
     }
 
-    ticket_at : (n : ℕ) → n < (key_of r).callers → get_or (saved_cells d) (ticket_cell_at MOST_INSTRS n) 0 ≡ number_in (ticket_cell S n)
-    ticket_at n low = found_at (ticket_cell_at MOST_INSTRS n) (omega (arith, low, room.own))
-
-    tells_last : (n : ℕ) → n < (key_of r).callers → TellsLast d h n (made_before meaning r n)
+    tells_last : (n : ℕ) → n < callers → TellLast now h n (done_before S B n)
     tells_last n low = elim (lost.recovered_so.own n low).last [
-      | inl none ↦ inl (ticket_at n low ∙ none)
+      | inl none ↦ inl (found_at (ticket_cell S n) (own_in n low) ∙ none)
       | inr q ↦ inr (
         q.0,
         q.1,
         q.2,
-        sym q.3.ticket ∙ ap (λ (i : ℕ). number_in (ticket_cell S i)) q.2 ∙ sym (ticket_at n low),
+        sym q.3.ticket ∙ ap (λ (i : ℕ). number_in (ticket_cell S i)) q.2 ∙ sym (found_at (ticket_cell S n) (own_in n low)),
         holds_reply n (get_or h q.0 no_call) low q.2 q.3,
       )
     ]
 
-    -- what the view knows of real time, the order respects
-    on_time : RespectsEvents meaning r v.past h
-    on_time n x k y before p q lt high first later =
+    own_cells : (n : ℕ) → n < callers → ticket_in now n ≡ done_before S B n → OwnCellsStay (numbers_of B) now n
+    own_cells n low same a from upto =
+        let lt : a < cell_count = omega (arith, low, upto, room.own) in
+        found_at a lt
+        ∙ own_stay S L start runs grounds sound first law B s rule n low (own_in n low) (sym (found_at (ticket_cell S n) (own_in n low)) ∙ same) a (from, upto) lt
+        ∙ sym (number_at B.cells a)
+
+    -- what a view knows of real time, the order respects
+    on_time : (past : List Event) → IsPrefix past lost.events → RespectsEvents S B past h
+    on_time past early n x k y before p q lt high first later =
         let es = lost.events in
-        let known : IsPrefix before.moment es = prefix_trans before.moment v.past es before.early (lost.reached.pasts meets.seat v meets.view live) in
+        let known : IsPrefix before.moment es = prefix_trans before.moment past es before.early early in
         let cut : take (length before.moment) es ≡ before.moment = ap (take (length before.moment)) (sym known.1) ∙ take-append_seam before.moment known.0 in
         let c : Call = get_or h q no_call in
         let e : Call = get_or h p no_call in
@@ -161,105 +195,59 @@ module _ {W : Type 0} (meaning : W → Meaning) (lawful : W → List ℕ → Typ
           subst (λ (z : List Event × ℕ). start_ticket S B z.1 + calls_begun_in z.0 z.1 < e.ticket) (λ i. (sym cut i, sym later.0 i)) (omega (arith, later.1, before.begun)),
         )
 
-    pub leads : HistoryLeads meaning r v d h
-    leads = record {
-      serial = lost.linearizes.legal;
-      ends = λ a high lt. found_at a (omega (arith, lt, cells_are)) ∙ lost.recovered_so.numbers a (omega (arith, high, callers_are)) (omega (arith, lt, cells_are));
-      order = lost.linearizes.rising;
+    holds : HoldsHistory S L B s words
+    holds = record {
+      row = starts;
+      history = h;
       sequences = lost.by_seq.sequences;
-      by_seq = lost.by_seq.stands;
-      calls = each_of explained v.kept (lost.explained meets.seat v meets.view live);
-      own_seq = each_of sequenced v.kept (lost.sequenced meets.seat v meets.view live);
-      only = each_of owned v.kept (lost.reached.callers meets.seat v meets.view live);
-      callers = λ y x l. (lost.linearizes.begun y x l).0;
-      last = tells_last;
-      time = on_time;
-      upto = λ n low y x l mine writes.
-          let few = (lost.recovered_so.own n low).upto y x l mine writes in
-          let at = ticket_at n low in
-          omega (arith, few, at);
+      leads = record {
+        serial = lost.linearizes.legal;
+        ends = λ a high lt. let low : a < cell_count = omega (arith, lt, now_long) in found_at a low ∙ lost.recovered_so.numbers a (omega (arith, high)) low;
+        order = lost.linearizes.rising;
+        by_seq = lost.by_seq.stands;
+        callers = λ y x l. (lost.linearizes.begun y x l).0;
+        later = λ y x l. ((lost.linearizes.begun y x l).1 refl).0;
+        last = tells_last;
+        upto = λ n low y x l mine writes.
+            let few = (lost.recovered_so.own n low).upto y x l mine writes in
+            let at = found_at (ticket_cell S n) (own_in n low) in
+            omega (arith, few, at);
+      };
+      views = λ j v at live. record {
+        calls = each_of explained v.kept (lost.explained j v at live);
+        own_seq = each_of sequenced v.kept (lost.sequenced j v at live);
+        only = each_of owned v.kept (lost.reached.callers j v at live);
+        time = on_time v.past (lost.reached.pasts j v at live);
+      };
+      free = λ n low free. none_of n (lost.reached.free n low free).0;
+      own = own_cells;
     }
 
-  -- ---- what recovery finds
-
-  module _ (durable : List ℕ) (is_durable : IsDurable S ws durable) (recovers : RecoversData S.callers S.cells durable (recovered_words S.callers S.cells durable)) where
-    abbrev found : List ℕ
-    found = recovered_words S.callers S.cells durable
-
-    pub starts : IsStartRow S L found
-    starts = lost.restarts durable (subst (λ xs. IsDurable S xs durable) (sym meets.words) is_durable)
-
-    abbrev cells : List ℕ
-    cells = (start_from_durable S.callers S.cells found).cells
-
-    pub cells_found : length (map payload_of cells) ≡ S.cells
-    cells_found = length-map cells payload_of ∙ starts.may_start.start.size
-
-    pub number_found : (a : ℕ) → a < S.cells → get_or (map payload_of cells) a 0 ≡ number_in a
-    number_found a l =
-        let e : data_cell S.callers 0 + a ≡ data_cell S.callers a = omega arith in
-        get_or-map payload_of cells a 0 0 (omega (arith, l, starts.may_start.start.size))
-        ∙ ap payload_of (part_at found (data_cell S.callers 0) S.cells a l ∙ ap (λ n. get_or found n 0) e ∙ recovers a l
-        ∙ recovered_data-same S.callers S.cells (slice_index durable) (durable_word S ws) is_durable.each a l (omega (arith, l, room.few, room.small))
-        ∙ ap (λ xs. recovered_data S.callers S.cells (durable_word S xs) a) (sym meets.words))
-
--- ---- any moment of a row
-
-module _ {W : Type 0} (many size : W → ℕ) (meaning : W → Meaning) (lawful : W → List ℕ → Type 0) (fits : (w : W) → HasRoom (many w) (size w)) (r : Row W) (fit : FitsWork many size (key_of r))
-    (law : StopsLoseNothing (lawful (key_of r).work) (setup_at meaning r)) (s : State (Unit {0}) View) (rule : MeetsRule (setup_at meaning r) (lawful (key_of r).work) (row_start meaning r) s) (words : List ℕ) (durable : IsDurable (setup_at meaning r) s.words words)
-    (recovers : RecoversData (key_of r).callers (key_of r).cells words (recovered_words (key_of r).callers (key_of r).cells words)) where
-  room_of : HasRoom (key_of r).callers (key_of r).cells
-  room_of = subst (λ (k : ℕ × ℕ). HasRoom k.0 k.1) (λ i. (sym fit.0 i, sym fit.1 i)) (fits (key_of r).work)
-
-  pub order_of : List Call
-  order_of = (law (row_start meaning r) s rule).order
-
-  pub leads_at_any : (d : SavedCells W) → WordsHold many size (key_of r).work words d → EachView (λ v. HistoryLeads meaning r v d order_of) s.views
-  unfolding order_of
-  leads_at_any d holds j v at live =
-      let meets : ViewMeetsRule (setup_at meaning r) (lawful (key_of r).work) (row_start meaning r) s.words v = record { state = s; rule = rule; words = refl; seat = j; view = at } in
-      let cells : saved_cells d ≡ map payload_of (start_from_durable (key_of r).callers (key_of r).cells (recovered_words (key_of r).callers (key_of r).cells words)).cells
-      = holds.cells ∙ (λ i. map payload_of (start_from_durable (sym fit.0 i) (sym fit.1 i) (recovered_words (sym fit.0 i) (sym fit.1 i) words)).cells) in
-      leads meaning lawful r room_of law v live s.words meets d (holds.callers ∙ sym fit.0)
-      (ap (λ (xs : List ℕ). length xs) cells ∙ cells_found meaning lawful r room_of law v live s.words meets words durable recovers)
-      (λ a l. ap (λ (xs : List ℕ). get_or xs a 0) cells ∙ number_found meaning lawful r room_of law v live s.words meets words durable recovers a l)
+  pub rows_hold : RowsHoldHistory L S
+  rows_hold B s rule words durable = holds B s rule words durable
 
 -- ---- the same of what is saved, with the sizes and the limit that the row tells
 
-module _ {W : Type 0} (many size : W → ℕ) (meaning : W → Meaning) (lawful : W → List ℕ → Type 0) (fits : (w : W) → HasRoom (many w) (size w)) (r : Row W) (p : Pass) (seat : IsRowPass r p) (durable : List ℕ) (closes : ClosesWithDurable meaning lawful r p durable)
+module _ {W : Type 0} (many size : W → ℕ) (meaning : W → Meaning) (lawful : W → List ℕ → Type 0) (r : Row W) (p : Pass) (seat : IsRowPass r p) (durable : List ℕ) (closes : ClosesWithDurable meaning lawful r p durable)
     (d : SavedCells W) (work_is : d.work ≡ (key_of r).work) (limit_is : d.limit ≡ (key_of r).limit) (few_limit : d.limit ≤ GREATEST_LIMIT) (callers_are : d.shape.callers ≡ (key_of r).callers) (instrs : d.shape.instrs ≡ MOST_INSTRS) (cells_are : d.shape.cells ≡ (key_of r).cells) (fit : FitsWork many size (key_of r))
-    (law : StopsLoseNothing (lawful d.work) (setup_for many size meaning d.limit d.work))
-    (row_is : d.row.items ≡ recovered_words d.shape.callers d.shape.cells durable) (recovers : RecoversData d.shape.callers d.shape.cells durable (recovered_words d.shape.callers d.shape.cells durable)) where
-  abbrev T : Setup
-  T = setup_at meaning r
+    (law : RowsHoldHistory (lawful d.work) (setup_for many size meaning d.limit d.work)) (row_is : d.row.items ≡ recovered_words d.shape.callers d.shape.cells durable) where
+  -- the law of the setup that the sizes make is that of the row's
+  law_at : RowsHoldHistory (lawful (key_of r).work) (setup_at meaning r)
+  law_at = subst (λ (k : (W × ℕ) × (ℕ × ℕ)). RowsHoldHistory (lawful k.0.0) (setup_of k.0.1 k.1.0 k.1.1 (meaning k.0.0)))
+      (λ i. ((work_is i, (ap many work_is ∙ sym fit.0) i), ((ap size work_is ∙ sym fit.1) i, limit_is i))) law
 
-  abbrev K : List ℕ → Type 0
-  K = lawful (key_of r).work
-
-  -- the laws of the setup that the sizes make are those of the row's
-  at_row : (P : (List ℕ → Type 0) → Setup → Type 0) → P (lawful d.work) (setup_for many size meaning d.limit d.work) → P K T
-  at_row P h = subst (λ (k : (W × ℕ) × (ℕ × ℕ)). P (lawful k.0.0) (setup_of k.0.1 k.1.0 k.1.1 (meaning k.0.0)))
-      (λ i. ((work_is i, (ap many work_is ∙ sym fit.0) i), ((ap size work_is ∙ sym fit.1) i, limit_is i))) h
-
-  law_at : StopsLoseNothing K T
-  law_at = at_row StopsLoseNothing law
-
-  room_at : HasRoom (key_of r).callers (key_of r).cells
-  room_at = subst (λ (k : ℕ × ℕ). HasRoom k.0 k.1) (λ i. (sym fit.0 i, sym fit.1 i)) (fits (key_of r).work)
-
-  recovers_here : RecoversData (key_of r).callers (key_of r).cells durable (recovered_words (key_of r).callers (key_of r).cells durable)
-  recovers_here = subst (λ (k : ℕ × ℕ). RecoversData k.0 k.1 durable (recovered_words k.0 k.1 durable)) (λ i. (callers_are i, cells_are i)) recovers
+  holds_here : HoldsHistory (setup_at meaning r) (lawful (key_of r).work) (row_start meaning r) closes.meets.state durable
+  holds_here = law_at (row_start meaning r) closes.meets.state closes.meets.rule durable (subst (λ (xs : List ℕ). IsDurable (setup_at meaning r) xs durable) (sym closes.meets.words) closes.durable)
 
   row_here : d.row.items ≡ recovered_words (key_of r).callers (key_of r).cells durable
   row_here = row_is ∙ (λ i. recovered_words (callers_are i) (cells_are i) durable)
 
-  start_here : start_from_durable d.shape.callers d.shape.cells d.row.items ≡ start_from_durable (key_of r).callers (key_of r).cells (recovered_words (key_of r).callers (key_of r).cells durable)
-  start_here = λ i. start_from_durable (callers_are i) (cells_are i) (row_here i)
+  cells_here : saved_cells d ≡ numbers_found (key_of r).callers (key_of r).cells durable
+  cells_here = λ i. numbers_of (start_from_durable (callers_are i) (cells_are i) (row_here i))
 
   may_start : MayStartFrom meaning lawful d.shape d.limit d.work d.row.items
   may_start = subst (λ (k : ((W × ℕ) × (ℕ × ℕ)) × List ℕ). IsStartRow (setup_of k.0.0.1 k.0.1.0 k.0.1.1 (meaning k.0.0.0)) (lawful k.0.0.0) k.1)
-      (λ i. (((sym work_is i, sym callers_are i), (sym cells_are i, sym limit_is i)), sym row_here i))
-      (starts meaning lawful r room_at law_at (view_of_pass p) seat.2 closes.words closes.meets durable closes.durable recovers_here)
+      (λ i. (((sym work_is i, sym callers_are i), (sym cells_are i, sym limit_is i)), sym row_here i)) holds_here.row
 
   pub saved_so : IsSavedCells many size meaning lawful d
   saved_so = record {
@@ -271,23 +259,12 @@ module _ {W : Type 0} (many size : W → ℕ) (meaning : W → Meaning) (lawful 
   }
 
   pub history_so : SavesHistory meaning r (view_of_pass p) d
-  history_so = (
-    h meaning lawful r room_at law_at (view_of_pass p) seat.2 closes.words closes.meets,
-    leads meaning lawful r room_at law_at (view_of_pass p) seat.2 closes.words closes.meets d callers_are
-        (ap (λ (C : TableStart). length (map payload_of C.cells)) start_here ∙ cells_found meaning lawful r room_at law_at (view_of_pass p) seat.2 closes.words closes.meets durable closes.durable recovers_here)
-        (λ a l. ap (λ (C : TableStart). get_or (map payload_of C.cells) a 0) start_here ∙ number_found meaning lawful r room_at law_at (view_of_pass p) seat.2 closes.words closes.meets durable closes.durable recovers_here a l),
-  )
+  history_so = record {
+    history = holds_here.history;
+    sequences = holds_here.sequences;
+    leads = subst (λ (xs : List ℕ). HistoryLeads (meaning (key_of r).work) (key_of r).callers (made_before meaning r) (cells_at_start meaning r) xs holds_here.history holds_here.sequences) (sym cells_here) holds_here.leads;
+    view = holds_here.views closes.meets.seat (view_of_pass p) closes.meets.view seat.2;
+  }
 
-  module _ (start : StartsMeetInvariant (setup_for many size meaning d.limit d.work) (lawful d.work)) (runs : SchedulesKeepInvariant (setup_for many size meaning d.limit d.work) (lawful d.work)) (grounds : GoodGrounds (setup_for many size meaning d.limit d.work) (lawful d.work))
-      (sound : InvariantIsSound (setup_for many size meaning d.limit d.work) (lawful d.work)) (first : FirstStateIsStart) where
-    found_here : (a : ℕ) → a < T.cells → get_or (saved_cells d) a 0 ≡ recovered_number T (words_alone closes.meets.state.words) a
-    found_here a l = ap (λ (C : TableStart). get_or (map payload_of C.cells) a 0) start_here ∙ number_found meaning lawful r room_at law_at (view_of_pass p) seat.2 closes.words closes.meets durable closes.durable recovers_here a l
-
-    pub own_so : KeepsOwnCells meaning r d
-    own_so n low same a from upto =
-        let lt : a < T.cells = omega (arith, low, upto, room_at.own) in
-        let own_in : ticket_cell T n < T.cells = omega (arith, low, room_at.own) in
-        found_here a lt
-        ∙ own_stay T K (at_row (λ L S. StartsMeetInvariant S L) start) (at_row (λ L S. SchedulesKeepInvariant S L) runs) (at_row (λ L S. GoodGrounds S L) grounds) (at_row (λ L S. InvariantIsSound S L) sound) first law_at (row_start meaning r) closes.words (view_of_pass p) closes.meets n low own_in
-        (sym (found_here (ticket_cell T n) own_in) ∙ same) a (from, upto) lt
-        ∙ sym (number_at (row_start meaning r).cells a)
+  pub own_so : KeepsOwnCells meaning r d
+  own_so = subst (λ (xs : List ℕ). (n : ℕ) → n < (key_of r).callers → ticket_in xs n ≡ made_before meaning r n → OwnCellsStay (cells_at_start meaning r) xs n) (sym cells_here) holds_here.own

@@ -26,9 +26,9 @@ use Rattle.of_cells.specs.declared.saved.SavedCells.{SavedCells}
 use Rattle.of_cells.specs.History.{ExplainsAll, HaveOwnSequences, HasOnly, IsOneOf}
 use Rattle.of_cells.specs.Called.{IsOpenAt}
 use Rattle.of_cells.specs.Serving.{KeepsSo, IsNew, Serves, ServeAll, AllStand, IsKeptOf, KeepsThose, KnowsPasts, KnowsMore, IsKnowledge, ended_of, events_known_to, cells_at_start, durable_count, made_before}
-use Rattle.of_cells.specs.Saving.{HasOpenOperation, HasOnlyKept, HistoryLeads}
+use Rattle.of_cells.specs.Saving.{HasOpenOperation, HasOnlyKept, SavesHistory, saved_callers}
 use Rattle.of_cells.specs.Handles.{IsCellHandle}
-use Rattle.of_cells.specs.Memories.{IsCellMemory, IsFrom, HasMadeOf, HasOpenOf, HasMadeNothing, HasNoneOpen, KnowsOthers, OthersStayOpen, OthersKnowOrder, HasHistory, BeganLawful, row_of, work_of, cells_before}
+use Rattle.of_cells.specs.Memories.{IsCellMemory, IsFrom, HasMadeOf, HasOpenOf, HasMadeNothing, HasNoneOpen, KnowsOthers, OthersStayOpen, OthersKnowOrder, HasHistory, BeganLawful, row_of, work_of, callers_of, cells_before}
 use Rattle.of_cells.proofs.Seats.{number_below, is_within}
 
 -- ---- zeros
@@ -176,7 +176,7 @@ module _ {W : Type 0} where
     from_kept P r n c (x ∷ xs) (inr k) all = from_kept P r n c xs k all.1
 
     -- the history has none but these calls of the caller
-    only_kept : (m : CellMemory W) (r : Row W) (h : List Call) (n : ℕ) (c : Caller W) → get_or m.callers.items n None ≡ Some c → (xs : List KnownCaller) → KeepsSo n (IsKeptOf c) xs → Each (HasOnlyKept meaning r h) xs
+    only_kept : (m : CellMemory W) (r : Row W) (h : List Call) (n : ℕ) (c : Caller W) → get_or m.callers.items n None ≡ Some c → (xs : List KnownCaller) → KeepsSo n (IsKeptOf c) xs → Each (HasOnlyKept (setup_at meaning r) (row_start meaning r) h) xs
         → HasOnly h n (made_before meaning r n) (ended_of c) (HasOpenOf m n)
     only_kept m r h n c here [] k all = absurd k
     only_kept m r h n c here (x ∷ xs) (inl k) all = λ y d lt mine.
@@ -196,36 +196,38 @@ module _ {W : Type 0} where
             )
     only_kept m r h n c here (x ∷ xs) (inr k) all = only_kept m r h n c here xs k all.1
 
-    pub history : (m : CellMemory W) (d : SavedCells W) (r : Row W) (v : View) → r ≡ row_of m → KeepsThose m.callers.items (length m.callers.items) v.kept → KnowsPasts m.callers.items (length m.callers.items) v.past → (h : List Call) × HistoryLeads meaning r v d h → HasHistory meaning m d
-    history m d r v same keeps pasts found =
-        let h = found.0 in
-        let there : HistoryLeads meaning (row_of m) v d h = subst (λ (x : Row W). HistoryLeads meaning x v d h) same found.1 in
-        let Held : ℕ → List EndedCall → Type 0 = λ n es. ExplainsAll h n (made_before meaning (row_of m) n) es × HaveOwnSequences h there.sequences n (made_before meaning (row_of m) n) es × HasOnly h n (made_before meaning (row_of m) n) es (HasOpenOf m n) in
+    pub history : (m : CellMemory W) (d : SavedCells W) (r : Row W) (v : View) → r ≡ row_of m → saved_callers d ≡ (key_of r).callers → KeepsThose m.callers.items (length m.callers.items) v.kept → KnowsPasts m.callers.items (length m.callers.items) v.past → SavesHistory meaning r v d → HasHistory meaning m d
+    history m d r v same many keeps pasts found =
+        let there : SavesHistory meaning (row_of m) v d = subst (λ (x : Row W). SavesHistory meaning x v d) same found in
+        let many_there : saved_callers d ≡ callers_of m = many ∙ ap (λ (x : Row W). (key_of x).callers) same in
+        let h = there.history in
+        let q = there.sequences in
+        let Held : ℕ → List EndedCall → Type 0 = λ n es. ExplainsAll h n (made_before meaning (row_of m) n) es × HaveOwnSequences h q n (made_before meaning (row_of m) n) es × HasOnly h n (made_before meaning (row_of m) n) es (HasOpenOf m n) in
         let held : (n : ℕ) (es : List EndedCall) → HasMadeOf m n es → Held n es = (λ n es made.
         let k = keeps n made.caller (is_within m.callers.items n made.caller made.here) made.here in
         subst (Held n) made.made (
-          from_kept (ExplainsAll h) (row_of m) n made.caller v.kept k there.calls,
-          from_kept (HaveOwnSequences h there.sequences) (row_of m) n made.caller v.kept k there.own_seq,
-          only_kept m (row_of m) h n made.caller made.here v.kept k there.only,
+          from_kept (ExplainsAll h) (row_of m) n made.caller v.kept k there.view.calls,
+          from_kept (HaveOwnSequences h q) (row_of m) n made.caller v.kept k there.view.own_seq,
+          only_kept m (row_of m) h n made.caller made.here v.kept k there.view.only,
         )) in (
           h,
           record {
             one = record {
-              serial = there.serial;
-              ends = there.ends;
-              order = there.order;
-              sequences = there.sequences;
-              by_seq = there.by_seq;
+              serial = there.leads.serial;
+              ends = λ a high lt. there.leads.ends a (omega (arith, high, many_there)) lt;
+              order = there.leads.order;
+              sequences = q;
+              by_seq = there.leads.by_seq;
               made = λ n es made. (held n es made).0;
               own_seq = λ n es made. (held n es made).1;
               only = λ n es made. (held n es made).2;
-              callers = there.callers;
-              last = there.last;
-              upto = there.upto;
+              callers = there.leads.callers;
+              last = there.leads.last;
+              upto = there.leads.upto;
             };
             time = λ j n x k y has.
                 let past = pasts j has.caller (is_within m.callers.items j has.caller has.here) has.here in
-                there.time n x k y (record {
+                there.view.time n x k y (record {
                   moment = has.order.moment;
                   early = prefix_trans has.order.moment (events_known_to has.caller) v.past has.order.early past;
                   ended = has.order.ended;

@@ -9,4 +9,5 @@ pub mod Memories
 pub mod Telling
 pub mod Joining
 pub mod Tasks
+pub mod Moments
 pub mod Words

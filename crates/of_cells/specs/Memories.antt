@@ -24,7 +24,7 @@ use Rattle.of_cells.specs.History.{IsSerial, cells_after, StandsInOrder, Explain
 use Rattle.of_cells.specs.Times.{calls_ended_in, EndBefore}
 use Rattle.of_cells.specs.Called.{IsOpenAt}
 use Rattle.of_cells.specs.Serving.{ServeAll, AllHere, KnowsMore, IsKnowledge, ended_of, events_known_to, events_in, cells_at_start, durable_count, made_before}
-use Rattle.of_cells.specs.Saving.{SavedHolds, TellsLast, KeepsOwnCells, saved_ticket}
+use Rattle.of_cells.specs.Saving.{HoldAfterOwn, TellLast, KeepsOwnCells, saved_callers, saved_cells, saved_ticket}
 use Rattle.of_cells.specs.Handles.{home_of, number_of_handle, caller_of}
 
 abbrev pub row_of : {W : Type 0} → CellMemory W → Row W
@@ -177,7 +177,8 @@ PutsBack m k h = PutsCaller (number_of_handle h) (caller_of h) m k
 pub record IsOneHistory {W : Type 0} (meaning : W → Meaning) (m : CellMemory W) (d : SavedCells W)
     (h : List Call) : Type 0 where
   pub serial : IsSerial (meaning (work_of m)) (cells_before meaning m) h
-  pub ends : SavedHolds d (cells_after (meaning (work_of m)) (cells_before meaning m) h)
+  pub ends : HoldAfterOwn (saved_callers d) (saved_cells d)
+      (cells_after (meaning (work_of m)) (cells_before meaning m) h)
   pub order : StandsInOrder h
   pub sequences : Sequences
   pub by_seq : StandsBySequence h sequences
@@ -188,7 +189,7 @@ pub record IsOneHistory {W : Type 0} (meaning : W → Meaning) (m : CellMemory W
   pub only : (n : ℕ) (es : List EndedCall) → HasMadeOf m n es
       → HasOnly h n (tickets_before meaning m n) es (HasOpenOf m n)
   pub callers : All (λ (e : Call). e.caller < callers_of m) h
-  pub last : (n : ℕ) → n < callers_of m → TellsLast d h n (tickets_before meaning m n)
+  pub last : (n : ℕ) → n < callers_of m → TellLast (saved_cells d) h n (tickets_before meaning m n)
   pub upto : (n : ℕ) → n < callers_of m → IsUpTo (meaning (work_of m)) h n (saved_ticket d n)
 
 -- The history respects the time between calls, where one of the numbers knows of it: calls that had

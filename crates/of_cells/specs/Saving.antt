@@ -8,12 +8,15 @@ use Rattle.of_mem.specs.Meaning.{Meaning, is_marked}
 use Rattle.of_mem.specs.Places.{ticket_cell_at, shape_at, reply_at}
 use Rattle.of_mem.specs.declared.work.RawReply.{RawReply}
 use Rattle.of_mem.specs.declared.work.TheConstants.{MOST_INSTRS}
+use Rattle.of_core.specs.Table.{Setup}
+use Rattle.of_core.specs.TableMoment.{TableStart}
 use Rattle.of_core.specs.Machine.{Call, no_call, IsOpen}
 use Rattle.of_core.specs.Starts.{start_on}
 use Rattle.of_row.specs.declared.row.Row.{Row}
 use Rattle.of_core.specs.Events.{Event}
 use Rattle.of_core.specs.Linear.{Sequences, StandsBySequence}
 use Rattle.of_row.specs.Rows.{key_of, setup_at, row_start, MayStartFrom}
+use Rattle.of_row.specs.Rule.{done_before}
 use Rattle.of_row.specs.Views.{KnownCaller, View}
 use Rattle.of_cells.specs.declared.saved.SavedCells.{SavedCells}
 use Rattle.of_cells.specs.History.{IsSerial, cells_after, StandsInOrder, ExplainsAll, HaveOwnSequences, HasOnly, IsUpTo, ComeInOrder}
@@ -40,15 +43,19 @@ saved_cells d = map payload_of (start_on d.shape d.row.items).cells
 abbrev pub saved_words : {W : Type 0} → SavedCells W → List ℕ
 saved_words d = d.row.items
 
--- how many calls of a caller it holds
+-- how many calls of caller n data cells with these numbers hold
+abbrev pub ticket_in : (cells : List ℕ) → (n : ℕ) → ℕ
+ticket_in cells n = get_or cells (ticket_cell_at MOST_INSTRS n) 0
+
+-- so many does it hold
 abbrev pub saved_ticket : {W : Type 0} → SavedCells W → ℕ → ℕ
-saved_ticket d n = get_or (saved_cells d) (ticket_cell_at MOST_INSTRS n) 0
+saved_ticket d n = ticket_in (saved_cells d) n
 
 -- the shape and the numbers of the reply are in the own cells of caller n
-pub record HoldsReply {W : Type 0} (d : SavedCells W) (n : ℕ) (raw : RawReply) : Type 0 where
-  pub shape : get_or (saved_cells d) (shape_at MOST_INSTRS n) 0 ≡ raw.shape
+pub record HoldReply (cells : List ℕ) (n : ℕ) (raw : RawReply) : Type 0 where
+  pub shape : get_or cells (shape_at MOST_INSTRS n) 0 ≡ raw.shape
   pub numbers : (y : ℕ) → y < MOST_INSTRS → is_marked raw.shape y ≡ true
-      → get_or (saved_cells d) (reply_at MOST_INSTRS n y) 0 ≡ get_or raw.values y 0
+      → get_or cells (reply_at MOST_INSTRS n y) 0 ≡ get_or raw.values y 0
 
 -- the reply in the own cells of caller n
 pub record IsReplyIn {W : Type 0} (d : SavedCells W) (n : ℕ) (raw : RawReply) : Type 0 where
@@ -84,67 +91,81 @@ pub record IsSavedCells {W : Type 0} (many size : W → ℕ) (meaning : W → Me
 abbrev pub HoldsLawful : {W : Type 0} → (W → List ℕ → Type 0) → SavedCells W → Type 0
 HoldsLawful lawful d = lawful (saved_work d) (saved_cells d)
 
--- the cells that are no caller's own have these numbers
-abbrev pub SavedHolds : {W : Type 0} → SavedCells W → List ℕ → Type 0
-SavedHolds d cells =
-    (a : ℕ) → saved_callers d * (MOST_INSTRS + 2) ≤ a → a < length (saved_cells d)
-    → get_or (saved_cells d) a 0 ≡ get_or cells a 0
+-- of these numbers of data cells, those of cells that are no caller's own are these
+abbrev pub HoldAfterOwn : (caller_count : ℕ) → (cells numbers : List ℕ) → Type 0
+HoldAfterOwn k cells numbers =
+    (a : ℕ) → k * (MOST_INSTRS + 2) ≤ a → a < length cells → get_or cells a 0 ≡ get_or numbers a 0
 
--- What is saved of the last call of caller n, where it had made so many before: there was none
--- since, or it is one of the history, with its reply.
-abbrev pub TellsLast : {W : Type 0} → SavedCells W → List Call → (n before : ℕ) → Type 0
-TellsLast d h n before =
-    (saved_ticket d n ≡ before)
+-- so it is of what is saved
+abbrev pub SavedHolds : {W : Type 0} → SavedCells W → List ℕ → Type 0
+SavedHolds d numbers = HoldAfterOwn (saved_callers d) (saved_cells d) numbers
+
+-- What data cells hold of the last call of caller n, where it had made so many before: there was
+-- none since, or it is one of the history, with its reply.
+abbrev pub TellLast : (cells : List ℕ) → List Call → (n before : ℕ) → Type 0
+TellLast xs h n before =
+    (ticket_in xs n ≡ before)
     ⊎ ((p : ℕ) × (p < length h) × ((get_or h p no_call).caller ≡ n)
-    × ((get_or h p no_call).ticket ≡ saved_ticket d n) × HoldsReply d n (get_or h p no_call).raw)
+    × ((get_or h p no_call).ticket ≡ ticket_in xs n) × HoldReply xs n (get_or h p no_call).raw)
 
 -- the history has the calls of the kept caller as they have ended
-abbrev pub ExplainsKept : {W : Type 0} → (W → Meaning) → Row W → List Call → KnownCaller → Type 0
-ExplainsKept meaning r h x =
-    ExplainsAll h x.machine.caller (made_before meaning r x.machine.caller) x.ended
+abbrev pub ExplainsKept : Setup → TableStart → List Call → KnownCaller → Type 0
+ExplainsKept S B h x =
+    ExplainsAll h x.machine.caller (done_before S B x.machine.caller) x.ended
 
 -- and each that was answered has its own sequence
-abbrev pub HaveKeptSequences : {W : Type 0} → (W → Meaning) → Row W → List Call → Sequences
-    → KnownCaller → Type 0
-HaveKeptSequences meaning r h s x =
-    HaveOwnSequences h s x.machine.caller (made_before meaning r x.machine.caller) x.ended
+abbrev pub HaveKeptSequences : Setup → TableStart → List Call → Sequences → KnownCaller → Type 0
+HaveKeptSequences S B h q x =
+    HaveOwnSequences h q x.machine.caller (done_before S B x.machine.caller) x.ended
 
 -- the kept caller's call of this operation is open
 abbrev pub HasOpenOperation : KnownCaller → (op : List ℕ) → Type 0
 HasOpenOperation x op = IsOpen x.machine.place × (x.machine.op ≡ op)
 
 -- and of its calls the history has no others
-abbrev pub HasOnlyKept : {W : Type 0} → (W → Meaning) → Row W → List Call → KnownCaller → Type 0
-HasOnlyKept meaning r h x =
-    HasOnly h x.machine.caller (made_before meaning r x.machine.caller) x.ended (HasOpenOperation x)
+abbrev pub HasOnlyKept : Setup → TableStart → List Call → KnownCaller → Type 0
+HasOnlyKept S B h x =
+    HasOnly h x.machine.caller (done_before S B x.machine.caller) x.ended (HasOpenOperation x)
 
 -- the history has calls in the order in which these events have them: those that had ended come
 -- before those that had not begun
-abbrev pub RespectsEvents : {W : Type 0} → (W → Meaning) → Row W → List Event → List Call → Type 0
-RespectsEvents meaning r es h =
-    (n x k y : ℕ) → EndBefore (setup_at meaning r) (row_start meaning r) es n x k y
-    → ComeInOrder h n (made_before meaning r n + x) k (made_before meaning r k + y)
+abbrev pub RespectsEvents : Setup → TableStart → List Event → List Call → Type 0
+RespectsEvents S B es h =
+    (n x k y : ℕ) → EndBefore S B es n x k y
+    → ComeInOrder h n (done_before S B n + x) k (done_before S B k + y)
 
--- A serial history of what callers have made on a row leads to what is saved of the row. The view
--- is that of the pass with which it was closed.
-pub record HistoryLeads {W : Type 0} (meaning : W → Meaning) (r : Row W) (v : View)
-    (d : SavedCells W) (h : List Call) : Type 0 where
-  pub serial : IsSerial (meaning (key_of r).work) (cells_at_start meaning r) h
-  pub ends : SavedHolds d (cells_after (meaning (key_of r).work) (cells_at_start meaning r) h)
+-- A serial history leads from these numbers of data cells to those. It has calls that each caller
+-- has made after so many, in the order in which it made them, each once at most, and stands by
+-- sequence. The cells tell the last call of each caller, and no call that may write is later.
+pub record HistoryLeads (M : Meaning) (caller_count : ℕ) (made : ℕ → ℕ) (before now : List ℕ)
+    (h : List Call) (q : Sequences) : Type 0 where
+  pub serial : IsSerial M before h
+  pub ends : HoldAfterOwn caller_count now (cells_after M before h)
   pub order : StandsInOrder h
-  pub sequences : Sequences
-  pub by_seq : StandsBySequence h sequences
-  pub calls : Each (ExplainsKept meaning r h) v.kept
-  pub own_seq : Each (HaveKeptSequences meaning r h sequences) v.kept
-  pub only : Each (HasOnlyKept meaning r h) v.kept
-  pub callers : All (λ (e : Call). e.caller < (key_of r).callers) h
-  pub last : (n : ℕ) → n < (key_of r).callers → TellsLast d h n (made_before meaning r n)
-  pub upto : (n : ℕ) → n < (key_of r).callers
-      → IsUpTo (meaning (key_of r).work) h n (saved_ticket d n)
-  pub time : RespectsEvents meaning r v.past h
+  pub by_seq : StandsBySequence h q
+  pub callers : All (λ (e : Call). e.caller < caller_count) h
+  pub later : All (λ (e : Call). made e.caller < e.ticket) h
+  pub last : (n : ℕ) → n < caller_count → TellLast now h n (made n)
+  pub upto : (n : ℕ) → n < caller_count → IsUpTo M h n (ticket_in now n)
 
-abbrev pub SavesHistory : {W : Type 0} → (W → Meaning) → Row W → View → SavedCells W → Type 0
-SavesHistory meaning r v d = (h : List Call) × HistoryLeads meaning r v d h
+-- The history has the calls of each caller that the view keeps as they have ended, each with its
+-- own sequence, and no others of theirs. It respects what the view knows of real time.
+pub record ExplainsView (S : Setup) (B : TableStart) (h : List Call) (q : Sequences) (v : View)
+    : Type 0 where
+  pub calls : Each (ExplainsKept S B h) v.kept
+  pub own_seq : Each (HaveKeptSequences S B h q) v.kept
+  pub only : Each (HasOnlyKept S B h) v.kept
+  pub time : RespectsEvents S B v.past h
+
+-- A history of what callers have made on a row leads to what is saved of the row. The view is that
+-- of the pass with which it was closed.
+pub record SavesHistory {W : Type 0} (meaning : W → Meaning) (r : Row W) (v : View)
+    (d : SavedCells W) : Type 0 where
+  pub history : List Call
+  pub sequences : Sequences
+  pub leads : HistoryLeads (meaning (key_of r).work) (key_of r).callers (made_before meaning r)
+      (cells_at_start meaning r) (saved_cells d) history sequences
+  pub view : ExplainsView (setup_at meaning r) (row_start meaning r) history sequences v
 
 -- the own cells of caller n have the numbers that they had
 abbrev pub OwnCellsStay : (before now : List ℕ) → (n : ℕ) → Type 0

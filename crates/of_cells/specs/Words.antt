@@ -7,12 +7,14 @@ use Rattle.of_cell.specs.declared.word.TheConstants.{GREATEST_LIMIT}
 use Rattle.of_mem.specs.declared.work.TheConstants.{MOST_INSTRS}
 use Rattle.of_mem.specs.Meaning.{Meaning}
 use Rattle.of_recover.specs.Recovered.{recovered_words}
-use Rattle.of_core.specs.Table.{Setup, setup_of}
+use Rattle.of_core.specs.Table.{setup_of}
 use Rattle.of_core.specs.Machine.{Call}
+use Rattle.of_core.specs.Linear.{Sequences}
 use Rattle.of_core.specs.TableMoment.{TableStart}
 use Rattle.of_core.specs.Starts.{IsDurable, IsStartRow, start_from_durable}
 use Rattle.of_row.specs.Views.{View}
-use Rattle.of_row.specs.Rule.{MeetsRule}
+use Rattle.of_row.specs.Rule.{MeetsRule, EachFree}
+use Rattle.of_row.specs.Moments.{HasNoneOf}
 use Rattle.of_row.specs.Rows.{setup_at, row_start}
 use Rattle.of_row.specs.Trail.{EachView}
 use Rattle.of_cells.specs.declared.words.TableSizes.{TableSizes}
@@ -20,8 +22,8 @@ use Rattle.of_cells.specs.declared.memory.CellMemory.{CellMemory}
 use Rattle.of_cells.specs.declared.saved.SavedCells.{SavedCells}
 use Rattle.of_cells.specs.declared.error.WordsError.{WordsError}
 use Rattle.of_cells.specs.declared.error.WordsError.TheVariants.{OutOfMemory, Limit, Count, PastLimit}
-use Rattle.of_cells.specs.Memories.{row_of, work_of}
-use Rattle.of_cells.specs.Saving.{HistoryLeads, saved_callers, saved_cells, saved_seq, saved_work}
+use Rattle.of_cells.specs.Memories.{SavesOwnCells, row_of, work_of, callers_of, cells_before, tickets_before}
+use Rattle.of_cells.specs.Saving.{HistoryLeads, ExplainsView, saved_callers, saved_cells, saved_seq, saved_work}
 
 -- these are the sizes of a table for so many callers and data cells
 pub record AreSizesOf (callers cells : ℕ) (s : TableSizes) : Type 0 where
@@ -82,17 +84,30 @@ IsWordsCause many size work limit words (PastLimit seq) =
 
 -- ---- moments
 
--- At each moment of the memory's row, as between any two steps on it, recovery finds a start in the
--- durable words as they are then. One serial history leads to what is found from the cells with
--- which the memory was opened. It has each call that was answered to whomever a pass or a member
--- keeps, with its reply, and beside these it has open calls alone.
+-- Recovery finds a start in the durable words, and one serial history leads from the cells with
+-- which the memory was opened to what is saved of them. Each view that is not spent finds in it
+-- what it knows: each call that was answered to whomever a pass or a member keeps, with its reply,
+-- and beside these open calls alone. A number that is not taken has no call in it.
+pub record HoldsWords {W : Type 0} (many size : W → ℕ) (meaning : W → Meaning)
+    (lawful : W → List ℕ → Type 0) (m : CellMemory W) (s : State (Unit {0}) View)
+    (words : List ℕ) : Type 0 where
+  pub starts : AreDurableWords many size meaning lawful (work_of m) words
+  pub history : List Call
+  pub sequences : Sequences
+  pub leads : (d : SavedCells W) → WordsHold many size (work_of m) words d
+      → HistoryLeads (meaning (work_of m)) (callers_of m) (tickets_before meaning m)
+      (cells_before meaning m) (saved_cells d) history sequences
+  pub views : EachView (ExplainsView (setup_at meaning (row_of m)) (row_start meaning (row_of m))
+      history sequences) s.views
+  pub free : EachFree (setup_at meaning (row_of m)) s.words (HasNoneOf history)
+  pub own : (d : SavedCells W) → WordsHold many size (work_of m) words d → SavesOwnCells meaning m d
+
+-- So it is at each moment of the memory's row, as between any two steps on it, of the durable words
+-- as they are then.
 abbrev pub HoldsWordsAlways : {W : Type 0} → (many size : W → ℕ) → (W → Meaning)
     → (W → List ℕ → Type 0) → CellMemory W → Type 0
-HoldsWordsAlways {W} many size meaning lawful m =
-    let S : Setup = setup_at meaning (row_of m) in
+HoldsWordsAlways many size meaning lawful m =
     (s : State (Unit {0}) View)
-    → MeetsRule S (lawful (work_of m)) (row_start meaning (row_of m)) s
-    → (words : List ℕ) → IsDurable S s.words words →
-    AreDurableWords many size meaning lawful (work_of m) words
-    × (h : List Call) × ((d : SavedCells W) → WordsHold many size (work_of m) words d
-    → EachView (λ v. HistoryLeads meaning (row_of m) v d h) s.views)
+    → MeetsRule (setup_at meaning (row_of m)) (lawful (work_of m)) (row_start meaning (row_of m)) s
+    → (words : List ℕ) → IsDurable (setup_at meaning (row_of m)) s.words words
+    → HoldsWords many size meaning lawful m s words

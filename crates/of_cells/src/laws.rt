@@ -5,9 +5,12 @@ ghost use Rattle.of_cells.specs.Handles.{CallsAreCounted};
 ghost use Rattle.of_cells.specs.Joining.{HistoriesJoin, CellsStayLawful, MemoriesStay, NoneStaysOpen};
 ghost use Rattle.of_cells.specs.Telling.{ToldCallsComeFirst, CallsComeInTurn};
 ghost use Rattle.of_cells.specs.Memories.{IsCellMemory};
+ghost use Rattle.of_cells.specs.Moments.{RowsHoldHistory};
 ghost use Rattle.of_cells.specs.Words.{HoldsWordsAlways};
+ghost use Rattle.of_core.specs.Laws.{setup_for};
 
 use crate::memory::CellMemory;
+use of_core::laws::{every_moment, histories, step_kept};
 use of_mem::Work;
 use of_row::laws::stops_lose_nothing;
 
@@ -51,6 +54,17 @@ pub fn calls_come_in_turn<W: Work>()
     ensures { CallsComeInTurn W.meaning }
 {}
 
+/// At each moment of a row of a work, its durable words hold one serial history of the calls that
+/// were answered, and a table may start from what recovery finds in them.
+pub fn rows_hold_history<W: Work>(work: W, limit: u32)
+    ensures { RowsHoldHistory (W.lawful work) (setup_for W.many W.size W.meaning limit work) }
+{
+    step_kept(limit, work);
+    every_moment(limit, work);
+    histories();
+    stops_lose_nothing(limit, work);
+}
+
 /// A process that is killed at any moment loses no call that was answered: `SavedCells::from_words`
 /// takes the durable words of a memory as they are then, and one serial history leads to what it
 /// finds.
@@ -59,5 +73,5 @@ pub fn words_hold_history<W: Work>(memory: &CellMemory<W>)
     ensures { HoldsWordsAlways W.many W.size W.meaning W.lawful memory.now }
 {
     let _shape = memory.shape();
-    stops_lose_nothing(memory.limit(), memory.work());
+    rows_hold_history(memory.work(), memory.limit());
 }

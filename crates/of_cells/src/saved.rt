@@ -5,14 +5,12 @@ ghost use Rattle.of_cell.specs.Words.{payload_of};
 ghost use Rattle.of_mem.specs.declared.work.TheConstants.{MOST_INSTRS};
 ghost use Rattle.of_core.specs.Starts.{start_on};
 ghost use Rattle.of_recover.specs.OfShape.{IsShapeRow, row_after_recovery};
-ghost use Rattle.of_recover.specs.Recovered.{RecoversData};
 
+use crate::laws::rows_hold_history;
 use of_cell::{Shape, payload_of};
-use of_core::laws::{every_moment, histories, step_kept};
 use of_mem::{MOST_INSTRS, RawReply, Work};
 use of_recover::laws::recovered_cells;
 use of_recover::recover;
-use of_row::laws::stops_lose_nothing;
 use of_row::{Pass, Row};
 use std::alloc::{AllocError, Global};
 
@@ -53,8 +51,6 @@ pub(crate) fn recover_words(shape: &Shape, words: &mut Vec<u64>)
     requires { IsShapeRow shape.now words.old.items }
     ensures row { words.new.items ≡ row_after_recovery shape.now words.old.items }
     ensures size { IsShapeRow shape.now words.new.items }
-    ensures on_data { RecoversData shape.now.callers shape.now.cells words.old.items
-        (row_after_recovery shape.now words.old.items) }
 {
     recovered_cells(shape, words);
     recover(shape, words);
@@ -95,10 +91,7 @@ impl<W: Work> SavedCells<W> {
     {
         let work = row.work();
         let limit = row.limit();
-        step_kept(limit, work);
-        every_moment(limit, work);
-        histories();
-        stops_lose_nothing(limit, work);
+        rows_hold_history(work, limit);
         let shape = row.shape();
         row.load_durable(&mut pass, &mut words);
         recover_words(&shape, &mut words);

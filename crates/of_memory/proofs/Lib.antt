@@ -4,6 +4,7 @@ pub mod Times
 pub mod Replaying
 pub mod Saving
 pub mod Starting
+pub mod Leading
 pub mod Closing
 pub mod Histories
 pub mod AnyMoment

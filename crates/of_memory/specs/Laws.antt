@@ -1,26 +1,27 @@
 -- What a closed row of scripts holds: one serial history of scripts on the plain store.
-use Rattle.std.specs.Prelude.{◌≡◌, ℕ, ◌+◌, ◌<◌, ◌⊎◌, List, map, false}
+use Rattle.std.specs.Prelude.{◌≡◌, ℕ, ◌+◌, ◌<◌, List, map, false}
 use Rattle.std.specs.List.{All, AllByRecursion as Each}
-use Rattle.of_cell.specs.Words.{payload_of}
 use Rattle.of_recover.specs.Recovered.{recovered_words}
 use Rattle.of_script.specs.declared.instr.Instr.{Instr}
 use Rattle.of_script.specs.Language.{IsScript, instr_word}
-use Rattle.of_store.specs.Store.{Store, Reply}
+use Rattle.of_store.specs.Store.{Store}
 use Rattle.of_eval.specs.declared.scripts.Scripts.{Scripts}
 use Rattle.of_eval.specs.Scripts.{scripts_data_cells, LawfulCells, scripts_meaning}
 use Rattle.of_core.specs.Table.{Setup, setup_of}
 use Rattle.of_core.specs.TableMoment.{TableStart}
 use Rattle.of_core.specs.Events.{Event}
+use Rattle.of_core.specs.Linear.{Sequences}
 use Rattle.of_core.specs.Starts.{IsDurable, IsStartRow, start_from_durable}
 use Rattle.of_row.specs.Views.{KnownCaller, View}
 use Rattle.of_row.specs.Rule.{ViewMeetsRule, done_before}
 use Rattle.of_cells.specs.Times.{EndBefore}
-use Rattle.of_cells.specs.Saving.{HasOpenOperation}
+use Rattle.of_cells.specs.Moments.{numbers_found}
+use Rattle.of_cells.specs.Saving.{HasOpenOperation, ticket_in}
 use Rattle.of_cells.specs.Serving.{KeepsSo}
-use Rattle.of_memory.specs.History.{HistoryEntry, Made, IsSerial, store_after, StandsInOrder, ExplainsAll, HasOnly, HasEntry, IsUpTo, ComeInOrder}
+use Rattle.of_memory.specs.History.{HistoryEntry, Made, IsSerial, store_after, StandsInOrder, EntriesRiseBySequence, ExplainsAll, HaveOwnSequences, HasOnly, IsUpTo, ComeInOrder}
 use Rattle.of_memory.specs.Calls.{RunsScripts, AreMade}
-use Rattle.of_memory.specs.Rows.{StandsAt, HoldsLastReplies}
-use Rattle.of_memory.specs.Saving.{HoldReply}
+use Rattle.of_memory.specs.Rows.{StandFor, StandsAt, HoldsLastReplies}
+use Rattle.of_memory.specs.Saving.{TellLast}
 
 -- what the machines on a table for these scripts have in common
 abbrev pub setup_with : Scripts → (limit : ℕ) → Setup
@@ -36,6 +37,13 @@ ExplainsKept S B h x =
     (ms : List Made) → AreMade x.ended ms
     → ExplainsAll h x.machine.caller (done_before S B x.machine.caller) ms
 
+-- and each that was answered has its own sequence
+abbrev pub HaveKeptSequences : Setup → TableStart → List HistoryEntry → Sequences → KnownCaller
+    → Type 0
+HaveKeptSequences S B h q x =
+    (ms : List Made) → AreMade x.ended ms
+    → HaveOwnSequences h q x.machine.caller (done_before S B x.machine.caller) ms
+
 -- the kept caller's call of this script is open
 abbrev pub HasOpenScript : KnownCaller → List Instr → Type 0
 HasOpenScript x script =
@@ -47,18 +55,6 @@ HasOnlyKept S B h x =
     (ms : List Made) → AreMade x.ended ms
     → HasOnly h x.machine.caller (done_before S B x.machine.caller) ms (HasOpenScript x)
 
--- the cells of a start hold this reply to the last call of caller n
-abbrev pub HoldsReplyAt : TableStart → (n : ℕ) → Reply → Type 0
-HoldsReplyAt C n response = HoldReply (map payload_of C.cells) n response
-
--- The last call of caller n that the cells at C hold: none since the start B, or one of the
--- history, with its reply.
-abbrev pub TellsLast : Setup → (B C : TableStart) → List HistoryEntry → (n : ℕ) → Type 0
-TellsLast S B C h n =
-    (done_before S C n ≡ done_before S B n)
-    ⊎ ((e : HistoryEntry) × HasEntry h e × (e.caller ≡ n) × (e.ticket ≡ done_before S C n)
-    × HoldsReplyAt C n e.reply)
-
 -- the history has calls in the order in which these events have them: those that had ended come
 -- before those that had not begun
 abbrev pub RespectsEvents : Setup → TableStart → List Event → List HistoryEntry → Type 0
@@ -66,23 +62,38 @@ RespectsEvents S B es h =
     (n x k y : ℕ) → EndBefore S B es n x k y
     → ComeInOrder h n (done_before S B n + x) k (done_before S B k + y)
 
--- a serial history leads from the store to the one that the row stands for
-pub record HistoryLeads (w : Scripts) (limit : ℕ) (B : TableStart) (v : View) (s : Store)
-    (row : List ℕ) (h : List HistoryEntry) : Type 0 where
+-- A serial history leads from the store to the one that data cells with these numbers stand for.
+-- The calls of each caller are there in the order in which it made them, each once at most, and the
+-- history stands by sequence. The cells tell the last call of each caller, which had made so many
+-- before, and no call that may write is later.
+pub record HistoryLeads (w : Scripts) (caller_count : ℕ) (made : ℕ → ℕ) (s : Store) (now : List ℕ)
+    (h : List HistoryEntry) (q : Sequences) : Type 0 where
   pub serial : IsSerial s h
-  pub ends : StandsAt w (start_from_durable w.callers (scripts_data_cells w) row) (store_after s h)
+  pub ends : StandFor w now (store_after s h)
   pub order : StandsInOrder h
-  pub calls : Each (ExplainsKept (setup_with w limit) B h) v.kept
-  pub only : Each (HasOnlyKept (setup_with w limit) B h) v.kept
-  pub callers : All (λ (e : HistoryEntry). e.caller < w.callers) h
-  pub last : (n : ℕ) → n < w.callers
-      → TellsLast (setup_with w limit) B
-      (start_from_durable w.callers (scripts_data_cells w) row) h n
-  pub upto : (n : ℕ) → n < w.callers
-      → IsUpTo h n
-      (done_before (setup_with w limit)
-      (start_from_durable w.callers (scripts_data_cells w) row) n)
-  pub time : RespectsEvents (setup_with w limit) B v.past h
+  pub by_seq : EntriesRiseBySequence h q
+  pub callers : All (λ (e : HistoryEntry). e.caller < caller_count) h
+  pub last : (n : ℕ) → n < caller_count → TellLast now h n (made n)
+  pub upto : (n : ℕ) → n < caller_count → IsUpTo h n (ticket_in now n)
+
+-- The history has the calls of each caller that the view keeps as they have ended, each with its
+-- own sequence, and no others of theirs. It respects what the view knows of real time.
+pub record ExplainsView (S : Setup) (B : TableStart) (h : List HistoryEntry) (q : Sequences)
+    (v : View) : Type 0 where
+  pub calls : Each (ExplainsKept S B h) v.kept
+  pub own_seq : Each (HaveKeptSequences S B h q) v.kept
+  pub only : Each (HasOnlyKept S B h) v.kept
+  pub time : RespectsEvents S B v.past h
+
+-- a serial history leads from the store to what recovery finds in the durable words, and of these
+-- views each finds in it what it knows
+pub record HistoryFound (w : Scripts) (limit : ℕ) (B : TableStart) (s : Store) (words : List ℕ)
+    (OfViews : (View → Type 0) → Type 0) : Type 0 where
+  pub history : List HistoryEntry
+  pub sequences : Sequences
+  pub leads : HistoryLeads w w.callers (done_before (setup_with w limit) B) s
+      (numbers_found w.callers (scripts_data_cells w) words) history sequences
+  pub views : OfViews (ExplainsView (setup_with w limit) B history sequences)
 
 -- Where words and a view meet the rule of a row of these scripts, and the view keeps each caller,
 -- recovery of the durable words finds a row from which a table may start, and a serial history
@@ -98,4 +109,4 @@ HoldsHistory w limit =
     let C : TableStart = start_from_durable w.callers (scripts_data_cells w) found in
     IsStartRow S (LawfulCells w) found
     × (HoldsLastReplies w B → HoldsLastReplies w C)
-    × ((s : Store) → StandsAt w B s → (h : List HistoryEntry) × HistoryLeads w limit B v s found h)
+    × ((s : Store) → StandsAt w B s → HistoryFound w limit B s row (λ P. P v))

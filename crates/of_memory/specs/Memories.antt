@@ -19,10 +19,10 @@ use Rattle.of_memory.specs.declared.error.OpenError.TheVariants.{OutOfMemory, Ca
 use Rattle.of_memory.specs.declared.memory.Memory.{Memory}
 use Rattle.of_memory.specs.declared.handle.Handle.{Handle}
 use Rattle.of_memory.specs.declared.saved.Saved.{Saved}
-use Rattle.of_memory.specs.History.{HistoryEntry, Made, IsSerial, store_after, StandsInOrder, EntriesRiseBySequence, ExplainsAll, HaveOwnSequences, HasOnly, HasEntry, IsUpTo, ComeInOrder}
+use Rattle.of_memory.specs.History.{HistoryEntry, Made, IsSerial, store_after, StandsInOrder, EntriesRiseBySequence, ExplainsAll, HaveOwnSequences, HasOnly, IsUpTo, ComeInOrder}
 use Rattle.of_memory.specs.Calls.{AreMade, AreOfScripts, IsScriptOperation}
 use Rattle.of_memory.specs.Rows.{IsScriptsRow, StandFor}
-use Rattle.of_memory.specs.Saving.{SavedHolds, HoldsReply, saved_ticket}
+use Rattle.of_memory.specs.Saving.{SavedHolds, TellLast, saved_cells, saved_ticket}
 
 abbrev pub row_of : Memory → Row Scripts
 row_of m = generic.row_of m.cells
@@ -125,13 +125,10 @@ TakesNone m k = generic.TakesNone m.cells k.cells
 abbrev pub PutsBack : (before now : Memory) → Handle → Type 0
 PutsBack m k h = generic.PutsBack m.cells k.cells h.cells
 
--- What is saved of the last call of caller n: there was none since the memory was opened, or it is
--- one of the history, with its reply.
+-- what is saved of the last call of caller n: there was none since the memory was opened, or it is
+-- one of the history, with its reply
 abbrev pub TellsLastOf : Memory → Saved → List HistoryEntry → ℕ → Type 0
-TellsLastOf m d h n =
-    (saved_ticket d n ≡ tickets_before m n)
-    ⊎ ((e : HistoryEntry) × HasEntry h e × (e.caller ≡ n) × (e.ticket ≡ saved_ticket d n)
-    × HoldsReply d n e.reply)
+TellsLastOf m d h n = TellLast (saved_cells d) h n (tickets_before m n)
 
 -- The history leads from the store with which the memory was opened to the saved one. It is serial,
 -- and the calls of each caller are there in the order in which they were made, each once at most.

@@ -14,15 +14,14 @@ use Rattle.of_core.specs.Starts.{IsDurable}
 use Rattle.of_row.specs.Rows.{key_of, setup_at}
 use Rattle.of_row.specs.Views.{View}
 use Rattle.of_caller.specs.PlanRows.{start_of_row}
-use Rattle.of_row.specs.Trail.{EachView}
 use Rattle.of_row.specs.Rule.{MeetsRule, members_of}
+use Rattle.of_row.specs.Trail.{EachView}
 use Rattle.of_memory.specs.declared.memory.Memory.{Memory}
-use Rattle.of_memory.specs.History.{HistoryEntry}
 use Rattle.of_memory.specs.Calls.{RunsScripts}
 use Rattle.of_cells.specs.Serving.{KeepsSo}
 use Rattle.of_memory.specs.Rows.{StandsAt, HoldsLastReplies}
-use Rattle.of_memory.specs.Laws.{setup_with, HistoryLeads}
-use Rattle.of_memory.specs.Words.{AreStartWords, words_found}
+use Rattle.of_memory.specs.Laws.{setup_with, HistoryFound}
+use Rattle.of_memory.specs.Words.{AreStartWords}
 use Rattle.of_memory.specs.Memories.{row_of, limit_of, StartsWith}
 
 -- one of the views, which is not spent, keeps a caller of this number, which has run scripts alone
@@ -41,7 +40,7 @@ EachRunsScripts S s =
 -- At each moment of a row of these scripts, as between any two steps on it, a table may start from
 -- what recovery finds in the durable words as they are. From each store that the row has started
 -- with one serial history leads there. It has each call that was answered to whomever a pass or a
--- member keeps, with its reply, and beside these it has open calls alone.
+-- member keeps, with its reply and its sequence, and beside these it has open calls alone.
 abbrev pub WordsHoldHistory : Scripts → (limit : ℕ) → Type 0
 WordsHoldHistory w limit =
     let S : Setup = setup_with w limit in
@@ -49,8 +48,7 @@ WordsHoldHistory w limit =
     → EachRunsScripts S s → HoldsLastReplies w B → 1 ≤ limit → limit ≤ GREATEST_LIMIT
     → (words : List ℕ) → IsDurable S s.words words →
     AreStartWords w limit words
-    × ((t : Store) → StandsAt w B t → (h : List HistoryEntry)
-    × EachView (λ v. HistoryLeads w limit B v t (words_found w words) h) s.views)
+    × ((t : Store) → StandsAt w B t → HistoryFound w limit B t words (λ P. EachView P s.views))
 
 -- So it is of the memory at each moment of its row: it may go on from what recovery finds in the
 -- durable words as they are, and one serial history leads there from the store with which it was
@@ -63,5 +61,5 @@ HoldsWordsAlways m =
     (s : State (Unit {0}) View) → MeetsRule S (LawfulCells w) B s → EachRunsScripts S s
     → (words : List ℕ) → IsDurable S s.words words →
     AreStartWords w (limit_of m) words
-    × ((t : Store) → StartsWith m t → (h : List HistoryEntry)
-    × EachView (λ v. HistoryLeads w (limit_of m) B v t (words_found w words) h) s.views)
+    × ((t : Store) → StartsWith m t
+    → HistoryFound w (limit_of m) B t words (λ P. EachView P s.views))

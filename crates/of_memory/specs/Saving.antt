@@ -1,5 +1,5 @@
 -- What a closed memory leaves.
-use Rattle.std.specs.Prelude.{ℕ, ◌≤◌, List}
+use Rattle.std.specs.Prelude.{◌≡◌, ◌⊎◌, ℕ, ◌≤◌, List}
 use Rattle.of_mem.specs.declared.work.TheConstants.{MOST_INSTRS}
 use Rattle.of_mem.specs.ProgramWork.{memory_of}
 use Rattle.of_store.specs.Store.{Store, Reply}
@@ -8,6 +8,7 @@ use Rattle.of_eval.specs.Scripts.{scripts_data_cells, LawfulCells, scripts_meani
 use Rattle.of_eval.specs.Lawful.{reply_in}
 use Rattle.of_cells.specs.Saving as generic
 use Rattle.of_memory.specs.declared.saved.Saved.{Saved}
+use Rattle.of_memory.specs.History.{HistoryEntry, HasEntry}
 use Rattle.of_memory.specs.Calls.{HoldsResponse}
 use Rattle.of_memory.specs.Rows.{StandFor, HoldLastReplies}
 
@@ -49,6 +50,14 @@ SavedHolds d s = StandFor (saved_scripts d) (saved_cells d) s
 -- the numbers of the data cells hold this reply to the last call of caller n
 abbrev pub HoldReply : (cells : List ℕ) → (n : ℕ) → Reply → Type 0
 HoldReply cells n response = HoldsResponse (reply_in MOST_INSTRS (memory_of cells) n) response
+
+-- What the cells hold of the last call of caller n, where it had made so many before: there was
+-- none since, or it is one of the history, with its reply.
+abbrev pub TellLast : (cells : List ℕ) → List HistoryEntry → (n before : ℕ) → Type 0
+TellLast cells h n before =
+    (generic.ticket_in cells n ≡ before)
+    ⊎ ((e : HistoryEntry) × HasEntry h e × (e.caller ≡ n) × (e.ticket ≡ generic.ticket_in cells n)
+    × HoldReply cells n e.reply)
 
 -- so does it
 abbrev pub HoldsReply : Saved → ℕ → Reply → Type 0

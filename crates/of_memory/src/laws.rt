@@ -12,19 +12,14 @@ ghost use Rattle.of_memory.specs.Telling.{ToldCallsComeFirst, CallsComeInTurn};
 use crate::memory::Memory;
 use of_cell::laws::{largest, smallest};
 use of_cells::laws as cells;
-use of_core::laws::{every_moment, starts, step_kept};
 use of_eval::Scripts;
-use of_row::laws::stops_lose_nothing;
 
 /// A closed row on which callers have run scripts alone holds one serial history of scripts on the
 /// plain store. It has each call that was answered, with its reply, and recovery finds its end.
 pub fn history_is_held(work: Scripts, limit: u32)
     ensures { HoldsHistory work limit }
 {
-    step_kept(limit, work);
-    every_moment(limit, work);
-    starts(limit, work);
-    stops_lose_nothing(limit, work);
+    cells::rows_hold_history(work, limit);
 }
 
 /// A process that is killed at any moment loses no call that was answered: a memory may go on from
@@ -33,10 +28,7 @@ pub fn history_is_held(work: Scripts, limit: u32)
 pub fn words_hold_history(work: Scripts, limit: u32)
     ensures { WordsHoldHistory work limit }
 {
-    step_kept(limit, work);
-    every_moment(limit, work);
-    starts(limit, work);
-    stops_lose_nothing(limit, work);
+    cells::rows_hold_history(work, limit);
 }
 
 /// So it is of a memory: what recovery finds in its durable words, as they are at any moment, is the

@@ -15,7 +15,7 @@ close-requires-clause-keeps g c κs within =
 
 pub returns-clause-history : goal.returns-clause-history
 returns-clause-history g c =
-    history g.W.Work.meaning c.args.self c.close.result c.deref-2.result.now c.gather-pass.result.seat.me.0 c.deref-2.ensures c.gather-pass.ensures.keeps c.gather-pass.ensures.pasts c.close.ensures.leads
+    history g.W.Work.meaning c.args.self c.close.result c.deref-2.result.now c.gather-pass.result.seat.me.0 c.deref-2.ensures c.close.ensures.callers c.gather-pass.ensures.keeps c.gather-pass.ensures.pasts c.close.ensures.leads
 
 pub returns-clause-own : goal.returns-clause-own
 returns-clause-own g c = subst (λ r. KeepsOwnCells g.W.Work.meaning r c.close.result) c.deref-2.ensures c.close.ensures.own
