@@ -12,7 +12,7 @@ use Rattle.of_cells.specs.declared.memory.CellMemory.{CellMemory}
 use Rattle.of_cells.specs.declared.saved.SavedCells.{SavedCells}
 use Rattle.of_cells.specs.Memories.{row_of}
 use Rattle.of_cells.specs.Moments.{HoldsHistory, RowsHoldHistory, numbers_found}
-use Rattle.of_cells.specs.Saving.{HistoryLeads, OwnCellsStay, saved_cells, ticket_in}
+use Rattle.of_cells.specs.Saving.{HistoryLeads, OwnCellsStay, saved_cells, own_ticket}
 use Rattle.of_cells.specs.Serving.{cells_at_start, made_before}
 use Rattle.of_cells.specs.Words.{HoldsWordsAlways, WordsHold}
 
@@ -41,5 +41,5 @@ module _ {W : Type 0} (many size : W → ℕ) (meaning : W → Meaning) (lawful 
         leads = λ d is. subst (λ (xs : List ℕ). HistoryLeads (meaning (key_of r).work) (key_of r).callers (made_before meaning r) (cells_at_start meaning r) xs holds.history holds.sequences) (cells_found words d is) holds.leads;
         views = holds.views;
         free = holds.free;
-        own = λ d is. subst (λ (xs : List ℕ). (n : ℕ) → n < (key_of r).callers → ticket_in xs n ≡ made_before meaning r n → OwnCellsStay (cells_at_start meaning r) xs n) (cells_found words d is) holds.own;
+        own = λ d is. subst (λ (xs : List ℕ). (n : ℕ) → n < (key_of r).callers → own_ticket xs n ≡ made_before meaning r n → OwnCellsStay (cells_at_start meaning r) xs n) (cells_found words d is) holds.own;
       }

@@ -45,7 +45,7 @@ use Rattle.of_cells.specs.declared.saved.SavedCells.{SavedCells}
 use Rattle.of_cells.specs.History.{ExplainsEnd, IsOneOf}
 use Rattle.of_cells.specs.Serving.{cells_at_start, made_before}
 use Rattle.of_cells.specs.Moments.{HoldsHistory, RowsHoldHistory, numbers_found, numbers_of}
-use Rattle.of_cells.specs.Saving.{ExplainsKept, HaveKeptSequences, HasOpenOperation, HasOnlyKept, RespectsEvents, HistoryLeads, HoldReply, TellLast, IsSavedCells, SavesHistory, KeepsOwnCells, OwnCellsStay, saved_cells, ticket_in}
+use Rattle.of_cells.specs.Saving.{ExplainsKept, HaveKeptSequences, HasOpenOperation, HasOnlyKept, RespectsEvents, HistoryLeads, HoldReply, TellLast, IsSavedCells, SavesHistory, KeepsOwnCells, OwnCellsStay, saved_cells, own_ticket}
 use Rattle.of_cells.proofs.OwnCells.{own_stay}
 use Rattle.of_cells.proofs.Holding.{number_at}
 
@@ -174,7 +174,7 @@ module _ (callers cell_count limit : ℕ) (M : Meaning) (L : List ℕ → Type 0
       )
     ]
 
-    own_cells : (n : ℕ) → n < callers → ticket_in now n ≡ done_before S B n → OwnCellsStay (numbers_of B) now n
+    own_cells : (n : ℕ) → n < callers → own_ticket now n ≡ done_before S B n → OwnCellsStay (numbers_of B) now n
     own_cells n low same a from upto =
         let lt : a < cell_count = omega (arith, low, upto, room.own) in
         found_at a lt
@@ -267,4 +267,4 @@ module _ {W : Type 0} (many size : W → ℕ) (meaning : W → Meaning) (lawful 
   }
 
   pub own_so : KeepsOwnCells meaning r d
-  own_so = subst (λ (xs : List ℕ). (n : ℕ) → n < (key_of r).callers → ticket_in xs n ≡ made_before meaning r n → OwnCellsStay (cells_at_start meaning r) xs n) (sym cells_here) holds_here.own
+  own_so = subst (λ (xs : List ℕ). (n : ℕ) → n < (key_of r).callers → own_ticket xs n ≡ made_before meaning r n → OwnCellsStay (cells_at_start meaning r) xs n) (sym cells_here) holds_here.own

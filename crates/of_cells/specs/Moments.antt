@@ -12,7 +12,7 @@ use Rattle.of_row.specs.Views.{View}
 use Rattle.of_row.specs.Rule.{MeetsRule, EachFree, done_before}
 use Rattle.of_row.specs.Moments.{HasNoneOf}
 use Rattle.of_row.specs.Trail.{EachView}
-use Rattle.of_cells.specs.Saving.{HistoryLeads, ExplainsView, OwnCellsStay, ticket_in}
+use Rattle.of_cells.specs.Saving.{HistoryLeads, ExplainsView, OwnCellsStay, own_ticket}
 
 -- the numbers of the data cells of a start
 abbrev pub numbers_of : TableStart → List ℕ
@@ -35,7 +35,7 @@ pub record HoldsHistory (S : Setup) (Lawful : List ℕ → Type 0) (B : TableSta
   pub views : EachView (ExplainsView S B history sequences) s.views
   pub free : EachFree S s.words (HasNoneOf history)
   pub own : (n : ℕ) → n < S.callers
-      → ticket_in (numbers_found S.callers S.cells words) n ≡ done_before S B n
+      → own_ticket (numbers_found S.callers S.cells words) n ≡ done_before S B n
       → OwnCellsStay (numbers_of B) (numbers_found S.callers S.cells words) n
 
 -- So it is at each moment of a row, as between any two steps on it, of the durable words as they

@@ -44,12 +44,12 @@ abbrev pub saved_words : {W : Type 0} → SavedCells W → List ℕ
 saved_words d = d.row.items
 
 -- how many calls of caller n data cells with these numbers hold
-abbrev pub ticket_in : (cells : List ℕ) → (n : ℕ) → ℕ
-ticket_in cells n = get_or cells (ticket_cell_at MOST_INSTRS n) 0
+abbrev pub own_ticket : (cells : List ℕ) → (n : ℕ) → ℕ
+own_ticket cells n = get_or cells (ticket_cell_at MOST_INSTRS n) 0
 
 -- so many does it hold
 abbrev pub saved_ticket : {W : Type 0} → SavedCells W → ℕ → ℕ
-saved_ticket d n = ticket_in (saved_cells d) n
+saved_ticket d n = own_ticket (saved_cells d) n
 
 -- the shape and the numbers of the reply are in the own cells of caller n
 pub record HoldReply (cells : List ℕ) (n : ℕ) (raw : RawReply) : Type 0 where
@@ -103,10 +103,10 @@ SavedHolds d numbers = HoldAfterOwn (saved_callers d) (saved_cells d) numbers
 -- What data cells hold of the last call of caller n, where it had made so many before: there was
 -- none since, or it is one of the history, with its reply.
 abbrev pub TellLast : (cells : List ℕ) → List Call → (n before : ℕ) → Type 0
-TellLast cells h n before =
-    (ticket_in cells n ≡ before)
+TellLast xs h n before =
+    (own_ticket xs n ≡ before)
     ⊎ ((p : ℕ) × (p < length h) × ((get_or h p no_call).caller ≡ n)
-    × ((get_or h p no_call).ticket ≡ ticket_in cells n) × HoldReply cells n (get_or h p no_call).raw)
+    × ((get_or h p no_call).ticket ≡ own_ticket xs n) × HoldReply xs n (get_or h p no_call).raw)
 
 -- the history has the calls of the kept caller as they have ended
 abbrev pub ExplainsKept : Setup → TableStart → List Call → KnownCaller → Type 0
@@ -146,7 +146,7 @@ pub record HistoryLeads (M : Meaning) (caller_count : ℕ) (made : ℕ → ℕ) 
   pub callers : All (λ (e : Call). e.caller < caller_count) h
   pub later : All (λ (e : Call). made e.caller < e.ticket) h
   pub last : (n : ℕ) → n < caller_count → TellLast now h n (made n)
-  pub upto : (n : ℕ) → n < caller_count → IsUpTo M h n (ticket_in now n)
+  pub upto : (n : ℕ) → n < caller_count → IsUpTo M h n (own_ticket now n)
 
 -- The history has the calls of each caller that the view keeps as they have ended, each with its
 -- own sequence, and no others of theirs. It respects what the view knows of real time.

@@ -55,9 +55,9 @@ RisesWithin None before now = Unit {0}
 RisesWithin (Some more) before now = now ≤ before + more
 
 -- A call keeps to the steps left of its brake, if the brake tells them.
-abbrev pub KeepsToBrake : (left : Option (Option ℕ)) → (before now : ℕ)
+abbrev pub KeepsToStepsLeft : (left : Option (Option ℕ)) → (before now : ℕ)
     → Result RawAnswer RunError → Type 0
-KeepsToBrake left before now r = (stop : Option ℕ) → left ≡ Some stop
+KeepsToStepsLeft left before now r = (stop : Option ℕ) → left ≡ Some stop
     → KeepsToStop before stop now r
 
 -- A count of steps has risen by no more than the steps left of a brake, if it tells them.

@@ -88,7 +88,7 @@ IsWordsCause many size work limit words (PastLimit seq) =
 -- which the memory was opened to what is saved of them. Each view that is not spent finds in it
 -- what it knows: each call that was answered to whomever a pass or a member keeps, with its reply,
 -- and beside these open calls alone. A number that is not taken has no call in it.
-pub record HoldsWords {W : Type 0} (many size : W → ℕ) (meaning : W → Meaning)
+pub record MayGoOnFromWords {W : Type 0} (many size : W → ℕ) (meaning : W → Meaning)
     (lawful : W → List ℕ → Type 0) (m : CellMemory W) (s : State (Unit {0}) View)
     (words : List ℕ) : Type 0 where
   pub starts : AreDurableWords many size meaning lawful (work_of m) words
@@ -110,4 +110,4 @@ HoldsWordsAlways many size meaning lawful m =
     (s : State (Unit {0}) View)
     → MeetsRule (setup_at meaning (row_of m)) (lawful (work_of m)) (row_start meaning (row_of m)) s
     → (words : List ℕ) → IsDurable (setup_at meaning (row_of m)) s.words words
-    → HoldsWords many size meaning lawful m s words
+    → MayGoOnFromWords many size meaning lawful m s words

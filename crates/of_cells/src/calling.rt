@@ -13,7 +13,7 @@ ghost use Rattle.of_cells.specs.Called.{outcome_of, made_with, AnswersAsMeant, L
 ghost use Rattle.of_cells.specs.Called.{BeginsItsNext, ResumesItsNext, LearnsMore};
 ghost use Rattle.of_cells.specs.Called.{CallerOpensOnly, CallerOpensNone};
 ghost use Rattle.of_cells.specs.Within.{EndsWithin, KeepsToStop, IsSpentAtLimit, RisesWithin};
-ghost use Rattle.of_cells.specs.Within.{EndsUnlessDenied, KeepsToBrake, RisesByBrake};
+ghost use Rattle.of_cells.specs.Within.{EndsUnlessDenied, KeepsToStepsLeft, RisesByBrake};
 
 use crate::answer::RawAnswer;
 use crate::error::RunError;
@@ -79,7 +79,7 @@ fn call_counted<W: Work, L: Ledger, B: Brake>(
     ensures open_call { LeavesOpen op.now result caller.new }
     ensures tried { WasTried result }
     ensures bound { EndsWithin (row_step_bound W.meaning row.now) result }
-    ensures stop { KeepsToBrake (B.left brake.old) 0 (caller_call caller.new).steps result }
+    ensures stop { KeepsToStepsLeft (B.left brake.old) 0 (caller_call caller.new).steps result }
     ensures given { RisesByBrake (B.left brake.old) (steps_made_by caller.old)
         (steps_made_by caller.new) }
     ensures freely { EndsUnlessDenied (B.denials brake.old) (B.denials brake.new) result }
@@ -118,7 +118,7 @@ fn go_on_counted<W: Work, L: Ledger, B: Brake>(
     ensures open_call { LeavesOpen (caller_call caller.old).op result caller.new }
     ensures tried { WasTried result }
     ensures bound { EndsWithin (row_step_bound W.meaning row.now) result }
-    ensures stop { KeepsToBrake (B.left brake.old) (caller_call caller.old).steps
+    ensures stop { KeepsToStepsLeft (B.left brake.old) (caller_call caller.old).steps
         (caller_call caller.new).steps result }
     ensures given { RisesByBrake (B.left brake.old) (steps_made_by caller.old)
         (steps_made_by caller.new) }

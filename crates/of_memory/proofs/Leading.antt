@@ -19,7 +19,7 @@ use Rattle.of_core.specs.Linear.{Sequences}
 use Rattle.of_core.specs.Machine.{Call, no_call}
 use Rattle.of_core.specs.History.{numbers_after_calls, SameWhereMarked}
 use Rattle.of_caller.proofs.StoresRecovered.{stand_same}
-use Rattle.of_cells.specs.Saving.{HoldReply, OwnCellsStay, ticket_in}
+use Rattle.of_cells.specs.Saving.{HoldReply, OwnCellsStay, own_ticket}
 use Rattle.of_cells.specs.Saving as generic
 use Rattle.of_memory.specs.History.{HistoryEntry, store_after}
 use Rattle.of_memory.specs.Laws.{setup_with, HistoryLeads}
@@ -62,7 +62,7 @@ module _ (w : Scripts) (caller_count : ℕ) (many : caller_count ≡ w.callers) 
 
   last_of : (n : ℕ) → generic.TellLast now h n (made n) → TellLast now hs n (made n)
   last_of n (inl none) = inl none
-  last_of n (inr l) = inr (last_entry w h xs s are_scripts started led.serial l.0 l.1 n (ticket_in now n) l.2 l.3 (reply_in MOST_INSTRS (memory_of now) n) (holds_same w now n (get_or h l.0 no_call) l.4))
+  last_of n (inr l) = inr (last_entry w h xs s are_scripts started led.serial l.0 l.1 n (own_ticket now n) l.2 l.3 (reply_in MOST_INSTRS (memory_of now) n) (holds_same w now n (get_or h l.0 no_call) l.4))
 
   pub history_leads : HistoryLeads w caller_count made s now hs q
   history_leads = record {
@@ -72,12 +72,12 @@ module _ (w : Scripts) (caller_count : ℕ) (many : caller_count ≡ w.callers) 
     by_seq = by_sequence w h xs s are_scripts started led.serial q led.by_seq;
     callers = below w h xs s are_scripts started led.serial caller_count led.callers;
     last = λ n low. last_of n (led.last n low);
-    upto = λ n low. up_to w h xs s are_scripts started led.serial n (ticket_in now n) (led.upto n low);
+    upto = λ n low. up_to w h xs s are_scripts started led.serial n (own_ticket now n) (led.upto n low);
   }
 
   -- ---- the last replies
 
-  module _ (n : ℕ) (low : n < caller_count) (keeps : ticket_in now n ≡ made n → OwnCellsStay xs now n) (before : OwnCellsAreSound MOST_INSTRS (memory_of xs) n) where
+  module _ (n : ℕ) (low : n < caller_count) (keeps : own_ticket now n ≡ made n → OwnCellsStay xs now n) (before : OwnCellsAreSound MOST_INSTRS (memory_of xs) n) where
     -- the own cells are as they were, or hold the reply to a later call
     sound_so : generic.TellLast now h n (made n) → TellLast now hs n (made n) → OwnCellsAreSound MOST_INSTRS (memory_of now) n
     sound_so (inl same) last = stand_same (memory_of now) (memory_of xs) n (λ a own. keeps same a own.0 own.1) before

@@ -16,7 +16,7 @@ use Rattle.of_row.specs.Views.{KnownCaller, View}
 use Rattle.of_row.specs.Rule.{ViewMeetsRule, done_before}
 use Rattle.of_cells.specs.Times.{EndBefore}
 use Rattle.of_cells.specs.Moments.{numbers_found}
-use Rattle.of_cells.specs.Saving.{HasOpenOperation, ticket_in}
+use Rattle.of_cells.specs.Saving.{HasOpenOperation, own_ticket}
 use Rattle.of_cells.specs.Serving.{KeepsSo}
 use Rattle.of_memory.specs.History.{HistoryEntry, Made, IsSerial, store_after, StandsInOrder, EntriesRiseBySequence, ExplainsAll, HaveOwnSequences, HasOnly, IsUpTo, ComeInOrder}
 use Rattle.of_memory.specs.Calls.{RunsScripts, AreMade}
@@ -74,7 +74,7 @@ pub record HistoryLeads (w : Scripts) (caller_count : ℕ) (made : ℕ → ℕ) 
   pub by_seq : EntriesRiseBySequence h q
   pub callers : All (λ (e : HistoryEntry). e.caller < caller_count) h
   pub last : (n : ℕ) → n < caller_count → TellLast now h n (made n)
-  pub upto : (n : ℕ) → n < caller_count → IsUpTo h n (ticket_in now n)
+  pub upto : (n : ℕ) → n < caller_count → IsUpTo h n (own_ticket now n)
 
 -- The history has the calls of each caller that the view keeps as they have ended, each with its
 -- own sequence, and no others of theirs. It respects what the view knows of real time.

@@ -61,4 +61,5 @@ HoldsWordsAlways m =
     (s : State (Unit {0}) View) → MeetsRule S (LawfulCells w) B s → EachRunsScripts S s
     → (words : List ℕ) → IsDurable S s.words words →
     AreStartWords w (limit_of m) words
-    × ((t : Store) → StartsWith m t → HistoryFound w (limit_of m) B t words (λ P. EachView P s.views))
+    × ((t : Store) → StartsWith m t
+    → HistoryFound w (limit_of m) B t words (λ P. EachView P s.views))
