@@ -2,11 +2,15 @@
 import argparse
 import os
 import pathlib
+import pty
 import subprocess
 import sys
 
 # The status of bin/onefile if there is no build that may run.
 NOT_RUN = 127
+
+# What ends the input at a terminal.
+CONTROL_D = b"\x04"
 
 
 class Program:
@@ -23,6 +27,17 @@ class Program:
         if done.returncode == NOT_RUN:
             sys.exit(done.stderr.decode())
         return done
+
+    def at_terminal(self, words, data):
+        """A run whose standard input is a terminal, at which these bytes are typed."""
+        keyboard, terminal = pty.openpty()
+        try:
+            os.write(keyboard, data + CONTROL_D)
+            command = [self.path, *words]
+            return subprocess.run(command, stdin=terminal, capture_output=True, timeout=60)
+        finally:
+            os.close(terminal)
+            os.close(keyboard)
 
     def answer(self, word, text):
         """The status of a command, and what it prints."""
