@@ -9,4 +9,3 @@ pub mod RenumberedImages
 pub mod Shifted
 pub mod MovedRows
 pub mod RunImages
-pub mod FirstWords
