@@ -14,7 +14,7 @@ ghost use Rattle.of_image.specs.Heading.{IsHeadingAbove};
 
 use crate::line::{ImageLine, ReadLine, read_line};
 use crate::parse_row::cells;
-use crate::pieces::{FlawedPiece, no_count, no_numbers, past_numbers, word_from, word_too_many};
+use crate::pieces::{FlawedPiece, no_count, no_numbers, past_number, word_from, word_too_many};
 use crate::reason::Reason;
 use crate::version::Version;
 use of_cell::MOST_CALLERS;
@@ -123,9 +123,13 @@ fn in_title(text: &[u8], above: u64, line: &[u8], version: Version) -> Option<Fi
         }
         return Some(Finding { start, end, reason });
     }
-    match no_numbers(line, last, u32::MAX, 0) {
-        Some(piece) => Some(flawed(piece)),
-        None => other_version(text, above, line, last, version),
+    let after = match past_number(line, last, u32::MAX) {
+        Ok(after) => after,
+        Err(piece) => return Some(flawed(piece)),
+    };
+    match other_version(text, above, line, last, version) {
+        Some(finding) => Some(finding),
+        None => Some(flawed(word_too_many(line, after)?)),
     }
 }
 
@@ -196,18 +200,18 @@ fn in_cell(text: &[u8], above: u64, line: &[u8], from: usize, heading: Heading) 
     requires heading { IsHeadingAbove (text_lines text.now) above heading }
     ensures { IfSome result (IsImageFinding heading.version (text_lines text.now) above line.now) }
 {
-    let after = match past_numbers(line, from, u32::MAX, u32::MAX) {
+    let after = match past_number(line, from, u32::MAX) {
         Ok(after) => after,
         Err(piece) => return Some(flawed(piece)),
     };
-    if let Some(piece) = no_numbers(line, after, u32::MAX, 0) {
-        return Some(flawed(piece));
-    }
     if let Some(finding) = no_cell(text, above, line, from, heading) {
         return Some(finding);
     }
-    match out_of_order(text, above, line, from) {
-        Some(finding) => Some(finding),
+    if let Some(finding) = out_of_order(text, above, line, from) {
+        return Some(finding);
+    }
+    match no_numbers(line, after, u32::MAX, u32::MAX) {
+        Some(piece) => Some(flawed(piece)),
         None => empty_cell(line, from),
     }
 }
@@ -310,14 +314,22 @@ fn in_line(text: &[u8], above: u64, line: &[u8], version: Version) -> Option<Fin
             reason: Reason::AfterEnd,
         });
     }
-    if let Some(byte) = hidden(line, above) {
-        return Some(Finding {
+    in_heading(text, above, line, version)
+}
+
+// A byte that looks like nothing is at fault, if it comes no later than the piece that was found.
+fn hidden_or(above: u64, line: &[u8], finding: Finding) -> Finding
+    ensures { (v : TheVersion) (ls : List (List ℕ)) → IsImageFinding v ls above line.now finding →
+        IsImageFinding v ls above line.now result }
+{
+    match hidden(line, above) {
+        Some(byte) if byte.start < finding.end => Finding {
             start: byte.start,
             end: byte.end,
             reason: Reason::Flawed { flaw: byte.flaw },
-        });
+        },
+        _ => finding,
     }
-    in_heading(text, above, line, version)
 }
 
 /// Why this line of the text is its bad line.
@@ -329,7 +341,7 @@ pub(crate) fn explain(version: Version, text: &[u8], number: u64) -> Finding
     let above = number - 1;
     let (line, last) = line_at(text, above);
     if let Some(finding) = in_line(text, above, line, version) {
-        return finding;
+        return hidden_or(above, line, finding);
     }
     if last && find(text, number, Wanted::End).is_none() {
         return Finding {

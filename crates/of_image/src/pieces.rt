@@ -117,9 +117,9 @@ fn number_flaw(piece: &[u8], most: u32) -> Option<Flaw>
     }
 }
 
-// Where the number that comes next ends, or why there is none up to the most. A most of 0 wants no
-// number.
-fn past_number(line: &[u8], from: usize, most: u32) -> Result<usize, FlawedPiece>
+/// Where the number that comes next ends, or why there is none up to the most. A most of 0 wants no
+/// number.
+pub(crate) fn past_number(line: &[u8], from: usize, most: u32) -> Result<usize, FlawedPiece>
     requires { from ≤ length line.now }
     ensures { MatchResult result (λ end. end ≤ length line.now) (IsFlawedAnywhere line.now) }
 {
@@ -133,13 +133,8 @@ fn past_number(line: &[u8], from: usize, most: u32) -> Result<usize, FlawedPiece
     }
 }
 
-/// Where two numbers end that come next, or why they are not there. A most of 0 wants no number.
-pub(crate) fn past_numbers(
-    line: &[u8],
-    from: usize,
-    first: u32,
-    second: u32,
-) -> Result<usize, FlawedPiece>
+// Where two numbers end that come next, or why they are not there. A most of 0 wants no number.
+fn past_numbers(line: &[u8], from: usize, first: u32, second: u32) -> Result<usize, FlawedPiece>
     requires { from ≤ length line.now }
     ensures { MatchResult result (λ end. end ≤ length line.now) (IsFlawedAnywhere line.now) }
 {
@@ -165,8 +160,12 @@ pub(crate) fn no_count(line: &[u8], from: usize, most: u32) -> Option<FlawedPiec
     requires { from ≤ length line.now }
     ensures { IfSome result (IsFlawedAnywhere line.now) }
 {
-    match no_numbers(line, from, most, 0) {
+    let after = match past_number(line, from, most) {
+        Ok(after) => after,
+        Err(flawed) => return Some(flawed),
+    };
+    match zero(line, from) {
         Some(flawed) => Some(flawed),
-        None => zero(line, from),
+        None => word_too_many(line, after),
     }
 }
