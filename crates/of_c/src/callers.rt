@@ -12,8 +12,9 @@ use crate::held::{Held, Seat};
 use crate::reply::CReply;
 use crate::slot::Slot;
 use crate::truth::{OfHandle, surely};
-use of_memory::{Answer, Handle, Instr, RunError, Script, ScriptErr, parse};
-use of_script::from_words_into;
+use of_cells::RawAnswer;
+use of_memory::{Answer, Handle, RunError, ScriptErr, parse};
+use of_script::{MOST_INSTRS, from_word, to_words};
 use std::alloc::Global;
 
 // As many steps as C says; the greatest number is no end.
@@ -23,47 +24,57 @@ fn limit_of(steps: u64) -> Option<u64>
     if steps == u64::MAX { None } else { Some(steps) }
 }
 
-// The code of what a call has come to, which the reply tells. `open_code` is the code if a call is
-// open that must not be, or none is. If it weren't inlined, the answer would be moved for it first.
-#[inline(always)]
-fn code_of(ended: &Result<Answer, RunError>, open_code: u32, reply: &mut CReply) -> u32
-    ensures tells { Tells open_code ended.now result reply.new }
+// The code of why a call was not answered, which the reply tells. `open_code` is the code if a call is
+// open that must not be, or none is.
+fn code_of(error: RunError, open_code: u32, reply: &mut CReply) -> u32
+    ensures tells { Tells open_code (Err error) result reply.new }
     ensures stays { LeavesReply result reply.old reply.new }
 {
-    match ended {
-        Ok(answer) => {
-            reply.tell(answer);
-            DONE
-        }
-        Err(RunError::Stopped { asked }) => {
-            reply.steps = *asked;
+    match error {
+        RunError::Stopped { asked } => {
+            reply.steps = asked;
             STOPPED
         }
-        Err(RunError::Spent { seq }) => {
-            reply.seq = *seq;
+        RunError::Spent { seq } => {
+            reply.seq = seq;
             SPENT
         }
-        Err(RunError::InCall) => open_code,
-        Err(RunError::NoCall) => open_code,
-        Err(RunError::NoTicket) => NO_TICKET,
+        RunError::InCall => open_code,
+        RunError::NoCall => open_code,
+        RunError::NoTicket => NO_TICKET,
     }
 }
 
-impl Seat {
-    // Runs a script to its answer.
-    fn run(&mut self, script: &Script) -> Result<Answer, RunError>
-        ensures { CallsScript script.now None self.old.handle result self.new.handle }
-    {
-        surely::<Handle, OfHandle>(&self.handle);
-        self.handle.run(script)
+// Whether the words are a script's.
+fn are_script(words: &[u64]) -> bool
+    ensures some { IsTrue result → IsScriptOperation words.now }
+    ensures only { (script : List TheInstr) → IsScript script → map instr_word script ≡ words.now
+        → IsTrue result }
+{
+    let len = words.len();
+    if len == 0 {
+        return false;
     }
+    if len > MOST_INSTRS {
+        return false;
+    }
+    for i in 0..len {
+        if from_word(words[i]).is_none() {
+            return false;
+        }
+    }
+    true
+}
 
-    // Runs a script, for at most so many steps.
-    fn run_within(&mut self, script: &Script, steps: u64) -> Result<Answer, RunError>
-        ensures { CallsScript script.now (Some steps) self.old.handle result self.new.handle }
+impl Seat {
+    // Runs the script with these words, for at most so many steps.
+    fn run(&mut self, words: &[u64], limit: Option<u64>) -> Result<RawAnswer, RunError>
+        requires { IsScriptOperation words.now }
+        ensures reply { IfOk result HoldsSomeReply }
+        ensures calls { CallsWords words.now limit self.old.handle result self.new.handle }
     {
         surely::<Handle, OfHandle>(&self.handle);
-        self.handle.run_within(script, steps)
+        self.handle.run_words(words, limit)
     }
 
     // Goes on with the open call, for at most so many steps.
@@ -78,17 +89,16 @@ impl Seat {
     }
 }
 
-// Runs a script, if a caller is held.
-fn run_held(held: &mut Held, script: &Script, limit: Option<u64>, reply: &mut CReply) -> u32
-    ensures runs { CallsHeld (CallsScript script.now limit) CALL_OPEN
-        held.old held.new reply.new result }
-    ensures stays { LeavesReply result reply.old reply.new }
+// Runs the script with these words, if a caller is held.
+fn run_held(held: &mut Held, words: &[u64], limit: Option<u64>, reply: &mut CReply) -> u32
 {
     match held {
-        // Each arm hands on what its call answers, which spares moving it.
-        Held::Caller(seat) => match limit {
-            Some(steps) => code_of(&seat.run_within(script, steps), CALL_OPEN, reply),
-            None => code_of(&seat.run(script), CALL_OPEN, reply),
+        Held::Caller(seat) => match seat.run(words, limit) {
+            Ok(answer) => {
+                reply.tell_cells(&answer);
+                DONE
+            }
+            Err(error) => code_of(error, CALL_OPEN, reply),
         },
         _ => EMPTY,
     }
@@ -100,27 +110,30 @@ fn go_on_held(held: &mut Held, limit: Option<u64>, reply: &mut CReply) -> u32
     ensures stays { LeavesReply result reply.old reply.new }
 {
     match held {
-        Held::Caller(seat) => code_of(&seat.go_on(limit), NO_CALL, reply),
+        Held::Caller(seat) => match seat.go_on(limit) {
+            Ok(answer) => {
+                reply.tell(&answer);
+                DONE
+            }
+            Err(error) => code_of(error, NO_CALL, reply),
+        },
         _ => EMPTY,
     }
 }
 
-// Runs a script, if the slot holds a caller.
+// Runs the script with these words, if the slot holds a caller.
 fn run_in(
     alloc: Global,
     caller: &mut Slot,
-    script: &Script,
+    words: &[u64],
     limit: Option<u64>,
     reply: &mut CReply,
 ) -> u32
-    ensures runs { CallsSlot (CallsScript script.now limit) CALL_OPEN
-        caller.old.raw.held caller.new.raw.held reply.new result }
-    ensures stays { LeavesReply result reply.old reply.new }
 {
     let Some(mut held) = caller.take(alloc) else {
         return EMPTY;
     };
-    let code = run_held(&mut held, script, limit, reply);
+    let code = run_held(&mut held, words, limit, reply);
     caller.put(held);
     code
 }
@@ -140,11 +153,10 @@ pub extern "C" fn of_c_call(
     ensures same { AreNoScript words.now → caller.new.raw.held ≡ caller.old.raw.held }
     ensures stays { LeavesReply result reply.old reply.new }
 {
-    let mut script = Script::one(Instr::Count);
-    if !from_words_into(words, &mut script) {
+    if !are_script(words) {
         return NO_SCRIPT;
     }
-    run_in(alloc, caller, &script, limit_of(steps), reply)
+    run_in(alloc, caller, words, limit_of(steps), reply)
 }
 
 /// Runs the script that a text spells, for at most so many steps. If it spells none, the reply's
@@ -166,7 +178,11 @@ pub extern "C" fn of_c_call_text(
     ensures else_stays { IsNoText text.now → ShowsPlaceAlone reply.old reply.new }
 {
     match parse(text) {
-        Ok(script) => run_in(alloc, caller, &script, limit_of(steps), reply),
+        Ok(script) => {
+            let mut words = [0; MOST_INSTRS];
+            let len = to_words(&script, &mut words) as usize;
+            run_in(alloc, caller, &words[..len], limit_of(steps), reply)
+        }
         Err(ScriptErr::Bad { at }) => {
             reply.place = at;
             NO_SCRIPT

@@ -3,6 +3,7 @@
 ghost use Rattle.std.specs.Prelude.{◌≡◌};
 ghost use Rattle.of_c.specs.Replies.{given_flag, given_number, cause_number, ShowsEach};
 
+use of_cells::RawAnswer;
 use of_memory::{Abort, Answer, Cause, Reply};
 use of_script::MOST_INSTRS;
 
@@ -108,6 +109,27 @@ impl CReply {
         ensures { ShowsAnswer answer.now self.new }
     {
         self.show(&answer.reply);
+        self.seq = answer.seq;
+        self.announced = u32::from(answer.announced);
+        self.ticket = 0;
+        self.steps = answer.steps;
+    }
+
+    /// Writes the answer of a call, of which cells hold the reply.
+    #[inline(always)]
+    pub(crate) fn tell_cells(&mut self, answer: &RawAnswer)
+    {
+        let shape = answer.raw.shape;
+        let mut marks = shape % (1 << 16);
+        for place in 0..MOST_INSTRS {
+            let given = marks % 2;
+            self.given[place] = given;
+            self.values[place] = given * answer.raw.values[place];
+            marks /= 2;
+        }
+        self.len = shape / (1 << 16) % 32;
+        self.place = shape / (1 << 21) % 32;
+        self.cause = shape / (1 << 26);
         self.seq = answer.seq;
         self.announced = u32::from(answer.announced);
         self.ticket = 0;

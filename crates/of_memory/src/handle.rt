@@ -81,6 +81,21 @@ impl Handle {
         }
     }
 
+    /// Runs the script with these words, as `run` does, or as `run_within` if so many steps are given,
+    /// and answers its reply as cells hold it.
+    pub fn run_words(&mut self, words: &[u64], stop: Option<u64>) -> Result<RawAnswer, RunError>
+        requires handle { IsHandle self.old }
+        requires script { IsScriptOperation words.now }
+        ensures handle { IsHandle self.new }
+        ensures reply { IfOk result HoldsSomeReply }
+        ensures calls { CallsWords words.now stop self.old result self.new }
+    {
+        match stop {
+            Some(steps) => self.cells.run_within(words, steps),
+            None => self.cells.run(words),
+        }
+    }
+
     /// Runs a script for at most so many steps. If they don't do, the call stays open.
     pub fn run_within(&mut self, script: &Script, steps: u64) -> Result<Answer, RunError>
         requires { IsHandle self.old }
