@@ -8,7 +8,7 @@ use Rattle.of_mem.specs.Calls.{HasStore}
 use Rattle.of_mem.specs.Places.{cells_at}
 use Rattle.of_mem.specs.Part.{Part}
 use Rattle.of_mem.specs.Programs.{program_answer, memory_after, program_writes, StaysBetween, IsPartOf, RunsAs}
-use Rattle.of_mem.specs.Stores.{CellStore, StandsForStore, thing_count}
+use Rattle.of_mem.specs.Stores.{queue_chain, CellStore, StandsForStore, thing_count}
 use Rattle.of_mem.proofs.Moves.{out_owner}
 use Rattle.of_mem.proofs.Counts.{all_chains, lengths, counted}
 use Rattle.of_mem.proofs.Runs.{run_ended}
@@ -32,15 +32,15 @@ module _ (o blocks : ℕ) (few : blocks ≤ MOST_BLOCKS) (m : ℕ → ℕ) (s : 
   pub room_left : (b : ℕ) (n : ℕ → ℕ) → HasTakenBlock o blocks m h.chains b n → ltb (thing_count s) blocks ≡ true
   room_left b n t = lt-ltb (thing_count s) blocks (omega (
     arith,
-    all_chains t.chains_after,
+    all_chains blocks t.chains_after,
     t.heap.counted,
     t.heap.few,
     t.sums,
     h.holds.key_blocks,
-    ap length (t.others 33 (omega arith) (omega arith)),
-    ap length (t.others 34 (omega arith) (omega arith)),
-    ap length (t.others 35 (omega arith) (omega arith)),
-    ap length (t.others 36 (omega arith) (omega arith)),
+    ap length (t.others (queue_chain blocks 0) (omega arith) (omega arith)),
+    ap length (t.others (queue_chain blocks 1) (omega arith) (omega arith)),
+    ap length (t.others (queue_chain blocks 2) (omega arith) (omega arith)),
+    ap length (t.others (queue_chain blocks 3) (omega arith) (omega arith)),
     ap length t.out,
     lengths o blocks m s h 0 (omega arith),
     lengths o blocks m s h 1 (omega arith),

@@ -1,7 +1,7 @@
 -- A block that was taken from a heap of chains.
 use Rattle.std.specs.Prelude.{◌≡◌, ◌≢◌, ℕ, ◌+◌, ◌<◌, ◌≤◌, List, [], ◌∷◌, length}
 use Rattle.of_mem.specs.Places.{fresh_at, free_at}
-use Rattle.of_mem.specs.Stores.{IsHeap, blocks_in_chains}
+use Rattle.of_mem.specs.Stores.{out_chain, queue_chain, IsHeap, blocks_in_chains}
 
 -- the block is out from then on, no other chain than the free list changed, and no other cell than
 -- free and fresh
@@ -10,8 +10,8 @@ pub record HasTakenBlock (o blocks : ℕ) (m : ℕ → ℕ) (chains : ℕ → Li
   pub chains_after : ℕ → List ℕ
   pub owner : ℕ → ℕ
   pub heap : IsHeap o blocks n chains_after owner
-  pub out : chains_after 37 ≡ b ∷ []
-  pub others : (c : ℕ) → 1 ≤ c → c < 37 → chains_after c ≡ chains c
-  pub sums : blocks_in_chains chains_after 33 + length (chains 0)
-      ≡ blocks_in_chains chains 33 + length (chains_after 0)
+  pub out : chains_after (out_chain blocks) ≡ b ∷ []
+  pub others : (c : ℕ) → 1 ≤ c → c < out_chain blocks → chains_after c ≡ chains c
+  pub sums : blocks_in_chains chains_after (queue_chain blocks 0) + length (chains 0)
+      ≡ blocks_in_chains chains (queue_chain blocks 0) + length (chains_after 0)
   pub cells : (a : ℕ) → a ≢ free_at o → a ≢ fresh_at o → n a ≡ m a

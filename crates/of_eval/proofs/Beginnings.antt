@@ -6,11 +6,13 @@ use Rattle.std.specs.List.{All}
 use Rattle.std.proofs.lemmas.Bool.{cases_lt}
 use Rattle.std.proofs.lemmas.List.{get_or_past}
 use Rattle.of_mem.specs.declared.plot.Plot.{Plot}
-use Rattle.of_mem.specs.Places.{fresh_at}
+use Rattle.of_mem.specs.Places.{bucket_count, fresh_at}
 use Rattle.of_mem.specs.Plots.{base, data_cell_count}
 use Rattle.of_mem.specs.ProgramWork.{memory_of}
-use Rattle.of_mem.specs.Stores.{front_at, link_at, first_at, value_in, blocks_in_chains}
+use Rattle.of_mem.specs.Stores.{out_chain, queue_chain, front_at, link_at, first_at, value_in, blocks_in_chains}
 use Rattle.of_store.specs.Store.{Store}
+use Rattle.of_mem.proofs.BucketPlaces.{some_buckets}
+use Rattle.of_mem.proofs.Standing.{empty_chains}
 use Rattle.of_mem.proofs.Heaps.{front_below, each_weaker, cell_in}
 use Rattle.of_eval.specs.Faults.{pointer_cell}
 use Rattle.of_eval.specs.Walking.{HasBegun, HasWalked, LinkLeadsOn, HasWalkedFreeList, IsBeforeChain, HasRegisters, unmet_count}
@@ -40,19 +42,19 @@ walked_none p cells owners begun sized zeros =
         buckets = λ k l. tt;
         items = λ q l. tt;
       };
-      counted = counted_few (base p) (memory_of cells) 0 (λ _. []) (omega arith);
+      counted = counted_few (base p) p.blocks (memory_of cells) 0 (λ _. []) (omega arith);
       painted = record {
         sized = sized;
         paint = λ c b h. absurd h;
         met = λ b n. absurd (n (zero_at owners zeros b));
-        counted = omega (arith, u, sized);
+        counted = omega (arith, u, sized, empty_chains (out_chain p.blocks));
       };
     }
 
 -- the pointer cell that is read next is among the data cells
-pub here_below : (p : Plot) (cells : List ℕ) (n k : ℕ) (chains : ℕ → List ℕ) (owners : List ℕ) → HasWalked p cells n k chains owners → n < 37 → pointer_cell (base p) n chains < data_cell_count p
+pub here_below : (p : Plot) (cells : List ℕ) (n k : ℕ) (chains : ℕ → List ℕ) (owners : List ℕ) → HasWalked p cells n k chains owners → n < out_chain p.blocks → pointer_cell (base p) p.blocks n chains < data_cell_count p
 here_below p cells n k chains owners w l =
-    cell_in (base p) (λ a. a < data_cell_count p) (front_at (base p) n) (chains n) (omega (arith, (front_below (base p) n l).1))
+    cell_in (base p) (λ a. a < data_cell_count p) (front_at (base p) p.blocks n) (chains n) (omega (arith, (front_below (base p) p.blocks n l).1))
     (each_weaker (λ b. (b < memory_of cells (fresh_at (base p))) × (w.passed.owner b ≡ n)) (λ b. link_at (base p) b < data_cell_count p) (λ b h. omega (arith, h.0, w.begun.few)) (chains n) (w.passed.owned n))
 
 -- each step meets a block
@@ -68,16 +70,16 @@ stepped_end cells cell chain before after None n s = s
 stepped_end cells cell chain before after (Some b) n s = absurd (n b refl)
 
 -- every block fits the free list
-pub fits_free : (o : ℕ) (m : ℕ → ℕ) (chains : ℕ → List ℕ) (b : ℕ) → Fits o m 0 chains b
-fits_free o m chains b = record { bucket = λ k l e. absurd (omega (arith, e)); item = λ q l e. absurd (omega (arith, e)) }
+pub fits_free : (o blocks : ℕ) (m : ℕ → ℕ) (chains : ℕ → List ℕ) (b : ℕ) → Fits o blocks m 0 chains b
+fits_free o blocks m chains b = record { bucket = λ k l e. absurd (omega (arith, e)); item = λ q l e. absurd (omega (arith, e)) }
 
 -- the free list ends
-pub freed : (p : Plot) (cells : List ℕ) (chains : ℕ → List ℕ) (owners after : List ℕ) (cell : ℕ) → HasWalked p cells 0 0 chains owners → cell ≡ pointer_cell (base p) 0 chains → memory_of cells cell ≡ 0 → after ≡ owners → HasWalkedFreeList p cells after
+pub freed : (p : Plot) (cells : List ℕ) (chains : ℕ → List ℕ) (owners after : List ℕ) (cell : ℕ) → HasWalked p cells 0 0 chains owners → cell ≡ pointer_cell (base p) p.blocks 0 chains → memory_of cells cell ≡ 0 → after ≡ owners → HasWalkedFreeList p cells after
 freed p cells chains owners after cell w e z same = subst (λ (x : List ℕ). HasWalkedFreeList p cells x) (sym same) (
     let on = walked_on p cells 0 0 chains owners w 1 cell refl e z in
     record {
       chains = chains;
-      walked = record { begun = w.begun; passed = on.passed; counted = counted_few (base p) (memory_of cells) 1 chains (omega arith); painted = w.painted };
+      walked = record { begun = w.begun; passed = on.passed; counted = counted_few (base p) p.blocks (memory_of cells) 1 chains (omega (arith, some_buckets p.blocks)); painted = w.painted };
       start = w.passed.others 1 (omega arith);
     })
 
@@ -90,17 +92,18 @@ total_first chains h (suc n) = let r : blocks_in_chains chains (suc n) ≡ lengt
 pub begins : (p : Plot) (cells owners : List ℕ) (s : Store) → HasWalkedFreeList p cells owners → HasRegisters p cells 16 s → IsBeforeChain p cells 1 0 owners s
 begins p cells owners s f r = record {
   chains = f.chains;
-  walked = record { begun = f.walked.begun; passed = f.walked.passed; counted = counted_few (base p) (memory_of cells) 0 f.chains (omega arith); painted = f.walked.painted };
+  walked = record { begun = f.walked.begun; passed = f.walked.passed; counted = counted_few (base p) p.blocks (memory_of cells) 0 f.chains (omega arith); painted = f.walked.painted };
   kept = record {
     state = r.state;
     room = r.room;
     registers = r.registers;
-    values = λ key. ap (λ (m : fin.FinMap nat_cmp ℕ). fin.get m key) r.keys ∙ fin.get-empty nat_cmp key ∙ ap (value_in (base p) (memory_of cells) key) (sym (none (1 + key % 32) (omega arith)));
+    values = λ key. ap (λ (m : fin.FinMap nat_cmp ℕ). fin.get m key) r.keys ∙ fin.get-empty nat_cmp key ∙ ap (value_in (base p) (memory_of cells) key) (sym (none (1 + key % bucket_count p.blocks) (omega arith)));
     key_blocks =
-        let t = total_first f.chains none 32 in
+        let t = total_first f.chains none (bucket_count p.blocks) in
         let e : fin.len s.keys ≡ 0 = ap fin.len r.keys ∙ fin.len-empty nat_cmp ℕ in
-        t ∙ omega (arith, e);
-    items = λ q l. ap (map (λ b. memory_of cells (first_at (base p) b))) (none (33 + q) (omega arith)) ∙ sym (r.queues q);
+        let first : queue_chain p.blocks 0 ≡ suc (bucket_count p.blocks) = omega arith in
+        ap (blocks_in_chains f.chains) first ∙ t ∙ omega (arith, e);
+    items = λ q l. ap (map (λ b. memory_of cells (first_at (base p) b))) (none (queue_chain p.blocks q) (omega arith)) ∙ sym (r.queues q);
   };
   start = f.start;
 }

@@ -4,15 +4,16 @@ use Rattle.std.specs.List.{AllByRecursion as Each}
 use Rattle.std.specs.FinMap as fin
 use Rattle.std.proofs.lemmas.Bool.{ne_eqb, eqb-false}
 use Rattle.of_mem.specs.declared.plot.Plot.{Plot}
-use Rattle.of_mem.specs.Places.{fresh_at, keys_at}
+use Rattle.of_mem.specs.Places.{bucket_count, fresh_at, keys_at}
 use Rattle.of_mem.specs.Plots.{base}
 use Rattle.of_mem.specs.ProgramWork.{memory_of}
 use Rattle.of_mem.specs.Numbers.{IsNumber}
-use Rattle.of_mem.specs.Stores.{StandsForStore, first_at, blocks_in_chains}
+use Rattle.of_mem.specs.Stores.{out_chain, queue_chain, StandsForStore, first_at, blocks_in_chains}
+use Rattle.of_mem.proofs.Counts.{chain_more}
 use Rattle.of_store.specs.Store.{Store}
 use Rattle.of_eval.specs.Stored.{cell_store}
 use Rattle.of_eval.specs.Lawful.{DataCellsStandFor}
-use Rattle.of_eval.specs.Faults.{IsFirstFault}
+use Rattle.of_eval.specs.Faults.{HasPassed, IsFirstFault}
 use Rattle.of_eval.specs.Faults.CountFault.{Keys}
 use Rattle.of_eval.specs.Faults.IsFirstFault.{Count, Lost}
 use Rattle.of_eval.specs.Walking.{IsBeforeChain, unmet_count}
@@ -43,7 +44,7 @@ none_unmet (x ∷ l) e (suc b) k = none_unmet l (go (eqb x 0) e) b (omega arith)
     go false h = omega (arith, h)
 
 module _ (p : Plot) (cells owners : List ℕ) (s : Store) where
-  pub keys_right : (cell : ℕ) → cell ≡ keys_at (base p) → memory_of cells cell ≡ fin.len s.keys → IsBeforeChain p cells 33 0 owners s → IsBeforeChain p cells 33 33 owners s
+  pub keys_right : (cell : ℕ) → cell ≡ keys_at (base p) → memory_of cells cell ≡ fin.len s.keys → IsBeforeChain p cells (queue_chain p.blocks 0) 0 owners s → IsBeforeChain p cells (queue_chain p.blocks 0) (queue_chain p.blocks 0) owners s
   keys_right cell is e h =
       let here : memory_of cells (keys_at (base p)) ≡ fin.len s.keys = ap (memory_of cells) (sym is) ∙ e in
       record {
@@ -58,16 +59,19 @@ module _ (p : Plot) (cells owners : List ℕ) (s : Store) where
         start = h.start;
       }
 
-  pub keys_fault : (cell : ℕ) → cell ≡ keys_at (base p) → memory_of cells cell ≢ fin.len s.keys → IsBeforeChain p cells 33 0 owners s → IsFirstFault p.callers p.instrs p.blocks (memory_of cells) cell
-  keys_fault cell is n h = Count h.walked.begun 32 h.chains h.walked.passed (counted_few (base p) (memory_of cells) 32 h.chains (omega arith)) h.start
-      (Keys refl (λ e. n (ap (memory_of cells) is ∙ len (memory_of cells (keys_at (base p))) e)) is)
+  pub keys_fault : (cell : ℕ) → cell ≡ keys_at (base p) → memory_of cells cell ≢ fin.len s.keys → IsBeforeChain p cells (queue_chain p.blocks 0) 0 owners s → IsFirstFault p.callers p.instrs p.blocks (memory_of cells) cell
+  keys_fault cell is n h = Count h.walked.begun (bucket_count p.blocks) h.chains (subst (λ (x : ℕ). HasPassed (base p) p.blocks (memory_of cells) x h.chains) first h.walked.passed) (counted_few (base p) p.blocks (memory_of cells) (bucket_count p.blocks) h.chains (omega arith)) (subst (λ (x : ℕ). h.chains x ≡ []) first h.start)
+      (Keys (omega arith) (λ e. n (ap (memory_of cells) is ∙ len (memory_of cells (keys_at (base p))) e)) is)
     where
-      len : (n : ℕ) → n + length (h.chains 0) ≡ blocks_in_chains h.chains 33 → n ≡ fin.len s.keys
-      len n e = let k : blocks_in_chains h.chains 33 ≡ length (h.chains 0) + fin.len s.keys = h.kept.key_blocks in let both : n + length (h.chains 0) ≡ length (h.chains 0) + fin.len s.keys = e ∙ k in omega (arith, both)
+      first : queue_chain p.blocks 0 ≡ 1 + bucket_count p.blocks
+      first = omega arith
 
-  module _ (h : IsBeforeChain p cells 37 37 owners s) where
+      len : (n : ℕ) → n + length (h.chains 0) ≡ blocks_in_chains h.chains (queue_chain p.blocks 0) → n ≡ fin.len s.keys
+      len n e = let k : blocks_in_chains h.chains (queue_chain p.blocks 0) ≡ length (h.chains 0) + fin.len s.keys = h.kept.key_blocks in let both : n + length (h.chains 0) ≡ length (h.chains 0) + fin.len s.keys = e ∙ k in omega (arith, both)
+
+  module _ (h : IsBeforeChain p cells (out_chain p.blocks) (out_chain p.blocks) owners s) where
     pub lost : (cell : ℕ) → cell ≡ fresh_at (base p) → unmet_count owners ≢ 0 → IsFirstFault p.callers p.instrs p.blocks (memory_of cells) cell
-    lost cell is n = Lost h.walked.begun h.chains h.walked.passed h.walked.counted h.start (λ e. n (left (blocks_in_chains h.chains 37) h.walked.painted.counted e)) is
+    lost cell is n = Lost h.walked.begun h.chains h.walked.passed h.walked.counted h.start (λ e. n (left (blocks_in_chains h.chains (out_chain p.blocks)) h.walked.painted.counted e)) is
       where
         left : (t : ℕ) → t + unmet_count owners ≡ memory_of cells (fresh_at (base p)) → t ≡ memory_of cells (fresh_at (base p)) → unmet_count owners ≡ 0
         left t e k = omega (arith, e, k)
@@ -79,7 +83,7 @@ module _ (p : Plot) (cells owners : List ℕ) (s : Store) where
       heap = record {
         linked = h.walked.passed.linked;
         owned = λ c l. h.walked.passed.owned c;
-        counted = all (blocks_in_chains h.chains 37) h.walked.painted.counted;
+        counted = chain_more h.chains (out_chain p.blocks) (1 + out_chain p.blocks) (omega arith) ∙ all (blocks_in_chains h.chains (out_chain p.blocks)) h.walked.painted.counted;
         few = h.walked.begun.few;
       };
       none_out = h.start;
@@ -91,7 +95,7 @@ module _ (p : Plot) (cells owners : List ℕ) (s : Store) where
         key_blocks = h.kept.key_blocks;
         queues = λ q l. record {
           listed = h.kept.items q l;
-          numbers = subst (λ (x : List ℕ). Each IsNumber x) (h.kept.items q l) (each_map IsNumber (λ b. memory_of cells (first_at (base p) b)) (h.chains (33 + q)) (h.walked.passed.items q l));
+          numbers = subst (λ (x : List ℕ). Each IsNumber x) (h.kept.items q l) (each_map IsNumber (λ b. memory_of cells (first_at (base p) b)) (h.chains (queue_chain p.blocks q)) (h.walked.passed.items q l));
           ends = h.walked.counted.tails q (omega arith);
           counted = h.walked.counted.lengths q (omega arith) ∙ lengths p cells h.chains s h.kept q l;
         };
@@ -100,11 +104,11 @@ module _ (p : Plot) (cells owners : List ℕ) (s : Store) where
       sixteen = h.kept.state.registers;
     }
       where
-        all : (t : ℕ) → t + unmet_count owners ≡ memory_of cells (fresh_at (base p)) → t + length (h.chains 37) ≡ memory_of cells (fresh_at (base p))
+        all : (t : ℕ) → t + unmet_count owners ≡ memory_of cells (fresh_at (base p)) → t + length (h.chains (out_chain p.blocks)) ≡ memory_of cells (fresh_at (base p))
         all t e = omega (arith, e, none, ap length h.start)
 
-        len : (n : ℕ) → n + length (h.chains 0) ≡ blocks_in_chains h.chains 33 → n ≡ fin.len s.keys
-        len n e = let k : blocks_in_chains h.chains 33 ≡ length (h.chains 0) + fin.len s.keys = h.kept.key_blocks in let both : n + length (h.chains 0) ≡ length (h.chains 0) + fin.len s.keys = e ∙ k in omega (arith, both)
+        len : (n : ℕ) → n + length (h.chains 0) ≡ blocks_in_chains h.chains (queue_chain p.blocks 0) → n ≡ fin.len s.keys
+        len n e = let k : blocks_in_chains h.chains (queue_chain p.blocks 0) ≡ length (h.chains 0) + fin.len s.keys = h.kept.key_blocks in let both : n + length (h.chains 0) ≡ length (h.chains 0) + fin.len s.keys = e ∙ k in omega (arith, both)
 
     pub stand_for : unmet_count owners ≡ 0 → DataCellsStandFor p.callers p.instrs p.blocks (memory_of cells) s
     stand_for none = record { own = h.walked.begun.own; stored = record { state = h.kept.state; stands = stands none } }

@@ -4,8 +4,8 @@ use Rattle.std.specs.List.{AllByRecursion as Each}
 use Rattle.std.specs.FinMap as fin
 use Rattle.of_mem.specs.Places.{base_of, fresh_at, keys_at}
 use Rattle.of_mem.specs.Numbers.{IsNumber}
-use Rattle.of_mem.specs.Stores.{CellStore, StandsForStore, first_at, blocks_in_chains}
-use Rattle.of_mem.proofs.Counts.{lengths}
+use Rattle.of_mem.specs.Stores.{out_chain, queue_chain, CellStore, StandsForStore, first_at, blocks_in_chains}
+use Rattle.of_mem.proofs.Counts.{chain_more, lengths}
 use Rattle.of_store.specs.Store.{Store}
 use Rattle.of_eval.specs.Stored.{cell_store}
 use Rattle.of_eval.specs.Lawful.{DataCellsStandFor}
@@ -19,29 +19,29 @@ each_unmap P f [] h = tt
 each_unmap P f (b ∷ l) h = (h.0, each_unmap P f l h.1)
 
 module _ (o blocks : ℕ) (m : ℕ → ℕ) (s : CellStore) (h : StandsForStore o blocks m s) where
-  whole_stands : Whole o m 37 h.chains
+  whole_stands : Whole o blocks m (out_chain blocks) h.chains
   whole_stands = record {
     linked = h.heap.linked;
     owner = h.owner;
     owned = λ c l. h.heap.owned c (omega arith);
     buckets = λ k k_in l. h.holds.buckets k k_in;
-    items = λ q q_in l. each_unmap IsNumber (λ b. m (first_at o b)) (h.chains (33 + q)) (subst (Each IsNumber) (sym (h.holds.queues q q_in).listed) (h.holds.queues q q_in).numbers);
+    items = λ q q_in l. each_unmap IsNumber (λ b. m (first_at o b)) (h.chains (queue_chain blocks q)) (subst (Each IsNumber) (sym (h.holds.queues q q_in).listed) (h.holds.queues q q_in).numbers);
   }
 
   keys_counted : (t : ℕ) → t ≡ length (h.chains 0) + fin.len s.map → m (keys_at o) + length (h.chains 0) ≡ t
   keys_counted t e = omega (arith, e, h.holds.keys)
 
-  counted_stands : HasRightCounts o m 37 h.chains
+  counted_stands : HasRightCounts o blocks m (out_chain blocks) h.chains
   counted_stands = record {
-    keys = λ _. keys_counted (blocks_in_chains h.chains 33) h.holds.key_blocks;
+    keys = λ _. keys_counted (blocks_in_chains h.chains (queue_chain blocks 0)) h.holds.key_blocks;
     tails = λ q l. (h.holds.queues q (omega arith)).ends;
     lengths = λ q l. (h.holds.queues q (omega arith)).counted ∙ sym (lengths o blocks m s h q (omega arith));
   }
 
-  blocks_counted : blocks_in_chains h.chains 37 ≡ m (fresh_at o)
-  blocks_counted = less (blocks_in_chains h.chains 37) h.heap.counted
+  blocks_counted : blocks_in_chains h.chains (out_chain blocks) ≡ m (fresh_at o)
+  blocks_counted = less (blocks_in_chains h.chains (out_chain blocks)) (sym (chain_more h.chains (out_chain blocks) (1 + out_chain blocks) (omega arith)) ∙ h.heap.counted)
     where
-      less : (t : ℕ) → t + length (h.chains 37) ≡ m (fresh_at o) → t ≡ m (fresh_at o)
+      less : (t : ℕ) → t + length (h.chains (out_chain blocks)) ≡ m (fresh_at o) → t ≡ m (fresh_at o)
       less t e = omega (arith, e, ap length h.none_out)
 
 -- a first fault excludes every store
@@ -51,12 +51,12 @@ first_excludes callers instrs blocks m s cell h (Register own r l before bad e) 
 first_excludes callers instrs blocks m s cell h (Fresh own registers bad e) = omega (arith, bad, h.stored.stands.heap.few)
 first_excludes callers instrs blocks m s cell h (Chain b n chains p c f) =
     let o = base_of callers instrs in
-    chain_excludes (base_of callers instrs) m n 37 chains h.stored.stands.chains cell p (whole_stands (base_of callers instrs) blocks m (cell_store s) h.stored.stands) (fault_block (base_of callers instrs) m n chains cell f).0 f
+    chain_excludes (base_of callers instrs) blocks m n (out_chain blocks) chains h.stored.stands.chains cell p (whole_stands (base_of callers instrs) blocks m (cell_store s) h.stored.stands) (fault_block (base_of callers instrs) blocks m n chains cell f).0 f
 first_excludes callers instrs blocks m s cell h (Count b n chains p c start f) =
-    let l : 1 + n ≤ 37 = (let k = count_in (base_of callers instrs) m (1 + n) chains cell f in omega (arith, k)) in
-    count_excludes (base_of callers instrs) m (1 + n) 37 chains h.stored.stands.chains cell
-    (all_same (base_of callers instrs) m (1 + n) 37 chains h.stored.stands.chains p (whole_stands (base_of callers instrs) blocks m (cell_store s) h.stored.stands) l)
+    let l : 1 + n ≤ out_chain blocks = (let k = count_in (base_of callers instrs) blocks m (1 + n) chains cell f in omega (arith, k)) in
+    count_excludes (base_of callers instrs) blocks m (1 + n) (out_chain blocks) chains h.stored.stands.chains cell
+    (all_same (base_of callers instrs) blocks m (1 + n) (out_chain blocks) chains h.stored.stands.chains p (whole_stands (base_of callers instrs) blocks m (cell_store s) h.stored.stands) l)
     (counted_stands (base_of callers instrs) blocks m (cell_store s) h.stored.stands) l f
 first_excludes callers instrs blocks m s cell h (Lost b chains p c start bad e) =
-    bad (total_passed chains h.stored.stands.chains (all_same (base_of callers instrs) m 37 37 chains h.stored.stands.chains p (whole_stands (base_of callers instrs) blocks m (cell_store s) h.stored.stands) (omega arith))
+    bad (total_passed blocks chains h.stored.stands.chains (all_same (base_of callers instrs) blocks m (out_chain blocks) (out_chain blocks) chains h.stored.stands.chains p (whole_stands (base_of callers instrs) blocks m (cell_store s) h.stored.stands) (omega arith))
     ∙ blocks_counted (base_of callers instrs) blocks m (cell_store s) h.stored.stands)

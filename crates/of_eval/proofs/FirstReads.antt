@@ -10,7 +10,7 @@ use Rattle.of_eval.specs.ScriptPrograms.{InstrResult, answer_program, instr_prog
 module _ (o blocks : ℕ) where
   begins : (low : ℕ)
       → (k : ℕ → Program InstrResult)
-      × (then_do (least_program o blocks low) answer_program ≡ Read (bucket_at o 0) k)
+      × (then_do (least_program o blocks low) answer_program ≡ Read (bucket_at o blocks 0) k)
   begins low =
       let b = least_begins o blocks low in (
         (λ v. then_do (b.0 v) answer_program),
@@ -18,9 +18,9 @@ module _ (o blocks : ℕ) where
       )
 
   pub first_begins : (k : ℕ → Program InstrResult)
-      × (instr_program o blocks First ≡ Read (bucket_at o 0) k)
+      × (instr_program o blocks First ≡ Read (bucket_at o blocks 0) k)
   first_begins = begins 0
 
   pub next_begins : (key : ℕ)
-      → (k : ℕ → Program InstrResult) × (instr_program o blocks (Next key) ≡ Read (bucket_at o 0) k)
+      → (k : ℕ → Program InstrResult) × (instr_program o blocks (Next key) ≡ Read (bucket_at o blocks 0) k)
   next_begins key = begins (key + 1)

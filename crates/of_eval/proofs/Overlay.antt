@@ -9,12 +9,13 @@ use Rattle.of_mem.specs.CellMap.{value_for}
 use Rattle.of_mem.specs.Part.{Part, newest_at, newer_of, overlaid}
 use Rattle.of_mem.specs.declared.plot.Plot.{Plot}
 use Rattle.of_mem.specs.Plots.{base}
-use Rattle.of_mem.specs.Places.{cells_at, register_at, fresh_at, keys_at, tail_at, length_at}
+use Rattle.of_mem.specs.Places.{bucket_count, cells_at, register_at, fresh_at, keys_at, tail_at, length_at}
 use Rattle.of_mem.specs.declared.part.Need.{Need}
 use Rattle.of_mem.specs.Programs.{Program, RunEnd, Lacks, Ends, run_program, IsPartOf, NeedsAt}
 use Rattle.of_mem.specs.Meaning.{Needs, Gives, Agrees, RunsAsWalked}
 use Rattle.of_mem.specs.ProgramWork.{memory_of, fresh_part, walk_of_run}
-use Rattle.of_mem.specs.Stores.{CellStore, StandsForStore, front_at, link_at, first_at, second_at}
+use Rattle.of_mem.specs.Stores.{out_chain, queue_chain, CellStore, StandsForStore, front_at, link_at, first_at, second_at}
+use Rattle.of_mem.proofs.BucketPlaces.{key_bucket}
 use Rattle.of_mem.proofs.Counts.{blocks_below}
 use Rattle.of_mem.proofs.Frames.{SameBlocks, value_same, bucket_same, queue_same}
 use Rattle.of_mem.proofs.Heaps.{front_below, chain_copy}
@@ -46,7 +47,7 @@ module _ (o blocks : ℕ) (m n : ℕ → ℕ) (same : (a : ℕ) → o ≤ a → 
   blocks_same [] k = tt
   blocks_same (b ∷ l) k = ((back (first_at o b) (omega arith) (omega (arith, k.0)), back (second_at o b) (omega arith) (omega (arith, k.0))), blocks_same l k.1)
 
-  chain_same : (c : ℕ) → c < 38 → SameBlocks o m n (h.chains c)
+  chain_same : (c : ℕ) → c < 1 + out_chain blocks → SameBlocks o m n (h.chains c)
   chain_same c l = blocks_same (h.chains c) (blocks_below o blocks m s h c l)
 
   pub stands_below : StandsForStore o blocks n s
@@ -56,7 +57,7 @@ module _ (o blocks : ℕ) (m n : ℕ → ℕ) (same : (a : ℕ) → o ≤ a → 
         chains = h.chains;
         owner = h.owner;
         heap = record {
-          linked = λ c l. chain_copy o m n (front_at o c) (front_at o c) (h.chains c) (back (front_at o c) (omega (arith, (front_below o c l).0)) (omega (arith, (front_below o c l).1))) (links (h.chains c) (blocks_below o blocks m s h c (omega (arith, l)))) (h.heap.linked c l);
+          linked = λ c l. chain_copy o m n (front_at o blocks c) (front_at o blocks c) (h.chains c) (back (front_at o blocks c) (omega (arith, (front_below o blocks c l).0)) (omega (arith, (front_below o blocks c l).1))) (links (h.chains c) (blocks_below o blocks m s h c (omega (arith, l)))) (h.heap.linked c l);
           owned = λ c l. rw fresh (h.heap.owned c l);
           counted = h.heap.counted ∙ sym fresh;
           few = rw fresh h.heap.few;
@@ -66,11 +67,11 @@ module _ (o blocks : ℕ) (m n : ℕ → ℕ) (same : (a : ℕ) → o ≤ a → 
         sixteen = h.sixteen;
         holds = record {
           registers = λ r l. let e : n (register_at o r) ≡ m (register_at o r) = back (register_at o r) (omega arith) (omega (arith, l)) in rw e (h.holds.registers r l);
-          values = λ key. h.holds.values key ∙ sym (value_same o m n key (h.chains (1 + key % 32)) (chain_same (1 + key % 32) (omega arith)));
-          buckets = λ b l. bucket_same o m n b (h.chains (1 + b)) (chain_same (1 + b) (omega (arith, l))) (h.holds.buckets b l);
+          values = λ key. h.holds.values key ∙ sym (value_same o m n key (h.chains (1 + key % bucket_count blocks)) (chain_same (1 + key % bucket_count blocks) (omega (arith, key_bucket blocks key))));
+          buckets = λ b l. bucket_same o blocks m n b (h.chains (1 + b)) (chain_same (1 + b) (omega (arith, l))) (h.holds.buckets b l);
           keys = back (keys_at o) (omega arith) (omega arith) ∙ h.holds.keys;
           key_blocks = h.holds.key_blocks;
-          queues = λ q l. queue_same o m n q (h.chains (33 + q)) (s.queues q) (chain_same (33 + q) (omega (arith, l))) (back (tail_at o q) (omega arith) (omega (arith, l))) (back (length_at o q) (omega arith) (omega (arith, l))) (h.holds.queues q l);
+          queues = λ q l. queue_same o m n q (h.chains (queue_chain blocks q)) (s.queues q) (chain_same (queue_chain blocks q) (omega (arith, l))) (back (tail_at o q) (omega arith) (omega (arith, l))) (back (length_at o q) (omega arith) (omega (arith, l))) (h.holds.queues q l);
         };
       }
 

@@ -4,7 +4,7 @@ use Rattle.std.specs.List.{AllByRecursion as Each}
 use Rattle.std.proofs.lemmas.Bool.{cases_eq, ne_eqb}
 use Rattle.std.proofs.lemmas.List.{get_or-set_same, get_or-set_other}
 use Rattle.of_mem.specs.Programs.{with_value}
-use Rattle.of_mem.specs.Stores.{blocks_in_chains}
+use Rattle.of_mem.specs.Stores.{out_chain, blocks_in_chains}
 use Rattle.of_mem.proofs.Changes.{changed_same, changed_other, total_changed}
 use Rattle.of_eval.specs.Faults.{ContainsNumber, IsMet}
 use Rattle.of_eval.specs.Walking.{OwnersMatchChains, unmet_count}
@@ -29,7 +29,7 @@ owner_below [] b c e = absurd (omega arith)
 owner_below (x ∷ l) zero c e = omega arith
 owner_below (x ∷ l) (suc b) c e = let r = owner_below l b c e in omega (arith, r)
 
-module _ (fresh : ℕ) (chains : ℕ → List ℕ) (owners : List ℕ) (h : OwnersMatchChains fresh chains owners) where
+module _ (blocks fresh : ℕ) (chains : ℕ → List ℕ) (owners : List ℕ) (h : OwnersMatchChains blocks fresh chains owners) where
   pub owned_of : (c : ℕ) → Each (λ b. (b < fresh) × (get_or owners b 0 - 1 ≡ c)) (chains c)
   owned_of c = each_has (λ b. (b < fresh) × (get_or owners b 0 - 1 ≡ c)) (chains c) (λ b k.
       let e = h.paint c b k in (subst (λ (n : ℕ). b < n) h.sized (owner_below owners b c e), omega (arith, e)))
@@ -37,7 +37,7 @@ module _ (fresh : ℕ) (chains : ℕ → List ℕ) (owners : List ℕ) (h : Owne
   pub not_met : (b : ℕ) → get_or owners b 0 ≡ 0 → IsMet chains b → ⊥
   not_met b e k = omega (arith, e, h.paint k.0 b k.1)
 
-  module _ (n b : ℕ) (n_in : n < 37) (b_in : b < length owners) (free : get_or owners b 0 ≡ 0) where
+  module _ (n b : ℕ) (n_in : n < out_chain blocks) (b_in : b < length owners) (free : get_or owners b 0 ≡ 0) where
     abbrev chains' : ℕ → List ℕ
     chains' = with_value chains n (chains n ++ b ∷ [])
 
@@ -70,18 +70,18 @@ module _ (fresh : ℕ) (chains : ℕ → List ℕ) (owners : List ℕ) (h : Owne
           )
     ]
 
-    pub painted_step : OwnersMatchChains fresh chains' owners'
+    pub painted_step : OwnersMatchChains blocks fresh chains' owners'
     painted_step = record {
       sized = length-set owners b (n + 1) ∙ h.sized;
       paint = paint';
       met = met';
       counted =
-          let t = total_changed chains n (chains n ++ b ∷ []) 37 n_in in
+          let t = total_changed chains n (chains n ++ b ∷ []) (out_chain blocks) n_in in
           let u = unmet_set owners b (n + 1) b_in free (λ q. omega (arith, q)) in
           let l = length-append (chains n) (b ∷ []) in
           omega (arith, t, u, l, h.counted);
     }
 
     -- there are fewer blocks in the chains than blocks below fresh
-    pub room_left : blocks_in_chains chains 37 < fresh
+    pub room_left : blocks_in_chains chains (out_chain blocks) < fresh
     room_left = let u = unmet_some owners b b_in free in omega (arith, u, h.counted)

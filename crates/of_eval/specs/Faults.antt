@@ -5,9 +5,9 @@ use Rattle.std.specs.List.{AllByRecursion as Each, AllPairs}
 use Rattle.of_script.specs.declared.instr.Reply.{Reply}
 use Rattle.of_script.specs.declared.instr.TheConstants.{MOST_INSTRS, REGISTERS}
 use Rattle.of_mem.specs.declared.work.RawReply.{RawReply}
-use Rattle.of_mem.specs.Places.{base_of, ticket_cell_at, shape_at, reply_at, register_at, fresh_at, keys_at, tail_at, length_at}
+use Rattle.of_mem.specs.Places.{bucket_count, base_of, ticket_cell_at, shape_at, reply_at, register_at, fresh_at, keys_at, tail_at, length_at}
 use Rattle.of_mem.specs.Numbers.{IsNumber}
-use Rattle.of_mem.specs.Stores.{IsChain, IsBucket, front_at, first_at, second_at, link_at, cell_after, last_pointer, blocks_in_chains}
+use Rattle.of_mem.specs.Stores.{out_chain, queue_chain, IsChain, IsBucket, front_at, first_at, second_at, link_at, cell_after, last_pointer, blocks_in_chains}
 use Rattle.of_eval.specs.declared.lawful_cells.LawErr.{LawErr}
 use Rattle.of_eval.specs.declared.lawful_cells.LawErr.TheVariants.{Memory, Unlawful}
 use Rattle.of_eval.specs.Shapes.{IsHeldBy}
@@ -78,73 +78,86 @@ ContainsNumber (a ∷ l) x = (x ≡ a) ⊎ ContainsNumber l x
 -- The blocks that were met: all of the chains before chain n, and those of chain n from its front
 -- up to here. Each is below fresh and stands in one chain, and once in it, and what stands in the
 -- blocks is sound.
-pub record HasPassed (o : ℕ) (m : ℕ → ℕ) (n : ℕ) (chains : ℕ → List ℕ) : Type 0 where
-  pub linked : (c : ℕ) → c < n → IsChain o m (front_at o c) (chains c)
-  pub path : IsPath o m (front_at o n) (chains n)
+pub record HasPassed (o blocks : ℕ) (m : ℕ → ℕ) (n : ℕ) (chains : ℕ → List ℕ) : Type 0 where
+  pub linked : (c : ℕ) → c < n → IsChain o m (front_at o blocks c) (chains c)
+  pub path : IsPath o m (front_at o blocks n) (chains n)
   pub others : (c : ℕ) → n < c → chains c ≡ []
   pub owner : ℕ → ℕ
   pub owned : (c : ℕ) → Each (λ b. (b < m (fresh_at o)) × (owner b ≡ c)) (chains c)
   pub once : AllPairs (λ x y. x ≢ y) (chains n)
-  pub buckets : (k : ℕ) → k < 32 → IsBucket o m k (chains (1 + k))
-  pub items : (q : ℕ) → q < 4 → Each (λ b. IsNumber (m (first_at o b))) (chains (33 + q))
+  pub buckets : (k : ℕ) → k < bucket_count blocks → IsBucket o blocks m k (chains (1 + k))
+  pub items : (q : ℕ) → q < 4
+      → Each (λ b. IsNumber (m (first_at o b))) (chains (queue_chain blocks q))
 
 -- what is counted behind the chains before chain n is right: keys behind the buckets, and behind
 -- each queue its tail and its length
-pub record HasRightCounts (o : ℕ) (m : ℕ → ℕ) (n : ℕ) (chains : ℕ → List ℕ) : Type 0 where
-  pub keys : 33 ≤ n → m (keys_at o) + length (chains 0) ≡ blocks_in_chains chains 33
-  pub tails : (q : ℕ) → 33 + q < n → m (tail_at o q) ≡ last_pointer 0 (chains (33 + q))
-  pub lengths : (q : ℕ) → 33 + q < n → m (length_at o q) ≡ length (chains (33 + q))
+pub record HasRightCounts (o blocks : ℕ) (m : ℕ → ℕ) (n : ℕ) (chains : ℕ → List ℕ) : Type 0 where
+  pub keys : queue_chain blocks 0 ≤ n
+      → m (keys_at o) + length (chains 0) ≡ blocks_in_chains chains (queue_chain blocks 0)
+  pub tails : (q : ℕ) → queue_chain blocks q < n
+      → m (tail_at o q) ≡ last_pointer 0 (chains (queue_chain blocks q))
+  pub lengths : (q : ℕ) → queue_chain blocks q < n
+      → m (length_at o q) ≡ length (chains (queue_chain blocks q))
 
 -- the pointer cell behind the blocks of chain n that were met
-abbrev pub pointer_cell : ℕ → ℕ → (ℕ → List ℕ) → ℕ
-pointer_cell o n chains = cell_after o (front_at o n) (chains n)
+abbrev pub pointer_cell : ℕ → ℕ → ℕ → (ℕ → List ℕ) → ℕ
+pointer_cell o blocks n chains = cell_after o (front_at o blocks n) (chains n)
 
 -- the block was met
 abbrev pub IsMet : (ℕ → List ℕ) → ℕ → Type 0
 IsMet chains b = (c : ℕ) × ContainsNumber (chains c) b
 
 -- the pointer leads to a block that was not met yet
-pub record LeadsToNewBlock (o : ℕ) (m : ℕ → ℕ) (n : ℕ) (chains : ℕ → List ℕ) (b : ℕ) : Type 0 where
-  pub pointer : m (pointer_cell o n chains) ≡ b + 1
+pub record LeadsToNewBlock (o blocks : ℕ) (m : ℕ → ℕ) (n : ℕ) (chains : ℕ → List ℕ) (b : ℕ)
+    : Type 0 where
+  pub pointer : m (pointer_cell o blocks n chains) ≡ b + 1
   pub below : b < m (fresh_at o)
   pub unmet : IsMet chains b → ⊥
 
 -- a key is none: too great, of another bucket, or met in its bucket before
-abbrev pub IsNoKey : ℕ → (ℕ → ℕ) → ℕ → List ℕ → ℕ → Type 0
-IsNoKey o m k bucket key =
+abbrev pub IsNoKey : ℕ → ℕ → (ℕ → ℕ) → ℕ → List ℕ → ℕ → Type 0
+IsNoKey o blocks m k bucket key =
     (IsNumber key → ⊥)
-    ⊎ ((key % 32 ≢ k) ⊎ ((x : ℕ) × ContainsNumber bucket x × (m (first_at o x) ≡ key)))
+    ⊎ ((key % bucket_count blocks ≢ k)
+    ⊎ ((x : ℕ) × ContainsNumber bucket x × (m (first_at o x) ≡ key)))
 
 -- the first fault, where these blocks were met
-pub data ChainFault (o : ℕ) (m : ℕ → ℕ) (n : ℕ) (chains : ℕ → List ℕ) (cell : ℕ) : Type 0 where
+pub data ChainFault (o blocks : ℕ) (m : ℕ → ℕ) (n : ℕ) (chains : ℕ → List ℕ) (cell : ℕ)
+    : Type 0 where
   -- the pointer leads to a block that is not below fresh or was met
-  Pointer : n < 37 → (b : ℕ) → m (pointer_cell o n chains) ≡ b + 1
-      → (m (fresh_at o) ≤ b) ⊎ IsMet chains b → cell ≡ pointer_cell o n chains
-      → ChainFault o m n chains cell
+  Pointer : n < out_chain blocks → (b : ℕ) → m (pointer_cell o blocks n chains) ≡ b + 1
+      → (m (fresh_at o) ≤ b) ⊎ IsMet chains b → cell ≡ pointer_cell o blocks n chains
+      → ChainFault o blocks m n chains cell
   -- the key is none of this bucket
-  Key : (k b : ℕ) → k < 32 → n ≡ 1 + k → LeadsToNewBlock o m n chains b
-      → IsNoKey o m k (chains n) (m (first_at o b)) → cell ≡ first_at o b
-      → ChainFault o m n chains cell
+  Key : (k b : ℕ) → k < bucket_count blocks → n ≡ 1 + k → LeadsToNewBlock o blocks m n chains b
+      → IsNoKey o blocks m k (chains n) (m (first_at o b)) → cell ≡ first_at o b
+      → ChainFault o blocks m n chains cell
   -- the value beside a key is too great
-  Value : (k b : ℕ) → k < 32 → n ≡ 1 + k → LeadsToNewBlock o m n chains b
-      → (IsNoKey o m k (chains n) (m (first_at o b)) → ⊥) → (IsNumber (m (second_at o b)) → ⊥)
-      → cell ≡ second_at o b → ChainFault o m n chains cell
+  Value : (k b : ℕ) → k < bucket_count blocks → n ≡ 1 + k → LeadsToNewBlock o blocks m n chains b
+      → (IsNoKey o blocks m k (chains n) (m (first_at o b)) → ⊥)
+      → (IsNumber (m (second_at o b)) → ⊥)
+      → cell ≡ second_at o b → ChainFault o blocks m n chains cell
   -- the item is too great
-  Item : (q b : ℕ) → q < 4 → n ≡ 33 + q → LeadsToNewBlock o m n chains b
-      → (IsNumber (m (first_at o b)) → ⊥) → cell ≡ first_at o b → ChainFault o m n chains cell
+  Item : (q b : ℕ) → q < 4 → n ≡ queue_chain blocks q → LeadsToNewBlock o blocks m n chains b
+      → (IsNumber (m (first_at o b)) → ⊥) → cell ≡ first_at o b
+      → ChainFault o blocks m n chains cell
 
 -- the first fault of what is counted behind the chains before chain n
-pub data CountFault (o : ℕ) (m : ℕ → ℕ) (n : ℕ) (chains : ℕ → List ℕ) (cell : ℕ) : Type 0 where
+pub data CountFault (o blocks : ℕ) (m : ℕ → ℕ) (n : ℕ) (chains : ℕ → List ℕ) (cell : ℕ)
+    : Type 0 where
   -- there are not so many keys in the buckets
-  Keys : n ≡ 33 → m (keys_at o) + length (chains 0) ≢ blocks_in_chains chains 33 → cell ≡ keys_at o
-      → CountFault o m n chains cell
+  Keys : n ≡ queue_chain blocks 0
+      → m (keys_at o) + length (chains 0) ≢ blocks_in_chains chains (queue_chain blocks 0)
+      → cell ≡ keys_at o → CountFault o blocks m n chains cell
   -- the tail does not point to the last block
-  Tail : (q : ℕ) → q < 4 → n ≡ 34 + q → m (tail_at o q) ≢ last_pointer 0 (chains (33 + q))
-      → cell ≡ tail_at o q → CountFault o m n chains cell
+  Tail : (q : ℕ) → q < 4 → n ≡ queue_chain blocks (1 + q)
+      → m (tail_at o q) ≢ last_pointer 0 (chains (queue_chain blocks q))
+      → cell ≡ tail_at o q → CountFault o blocks m n chains cell
   -- there are not so many items
-  Length : (q : ℕ) → q < 4 → n ≡ 34 + q → m (tail_at o q) ≡ last_pointer 0 (chains (33 + q))
-      → m (length_at o q) ≢ length (chains (33 + q)) → cell ≡ length_at o q
-      → CountFault o m n chains cell
+  Length : (q : ℕ) → q < 4 → n ≡ queue_chain blocks (1 + q)
+      → m (tail_at o q) ≡ last_pointer 0 (chains (queue_chain blocks q))
+      → m (length_at o q) ≢ length (chains (queue_chain blocks q)) → cell ≡ length_at o q
+      → CountFault o blocks m n chains cell
 
 -- The first cell at fault. What is looked at before it is sound.
 pub data IsFirstFault (callers instrs blocks : ℕ) (m : ℕ → ℕ) (cell : ℕ) : Type 0 where
@@ -162,22 +175,23 @@ pub data IsFirstFault (callers instrs blocks : ℕ) (m : ℕ → ℕ) (cell : �
       → cell ≡ fresh_at (base_of callers instrs) → IsFirstFault callers instrs blocks m cell
   -- a pointer of a chain, or what stands in a block
   Chain : HasSoundHead callers instrs blocks m → (n : ℕ) (chains : ℕ → List ℕ)
-      → HasPassed (base_of callers instrs) m n chains
-      → HasRightCounts (base_of callers instrs) m n chains
-      → ChainFault (base_of callers instrs) m n chains cell
+      → HasPassed (base_of callers instrs) blocks m n chains
+      → HasRightCounts (base_of callers instrs) blocks m n chains
+      → ChainFault (base_of callers instrs) blocks m n chains cell
       → IsFirstFault callers instrs blocks m cell
   -- what is counted behind the chains up to chain n; what is counted behind those before it is
   -- right
   Count : HasSoundHead callers instrs blocks m → (n : ℕ) (chains : ℕ → List ℕ)
-      → HasPassed (base_of callers instrs) m (1 + n) chains
-      → HasRightCounts (base_of callers instrs) m n chains → chains (1 + n) ≡ []
-      → CountFault (base_of callers instrs) m (1 + n) chains cell
+      → HasPassed (base_of callers instrs) blocks m (1 + n) chains
+      → HasRightCounts (base_of callers instrs) blocks m n chains → chains (1 + n) ≡ []
+      → CountFault (base_of callers instrs) blocks m (1 + n) chains cell
       → IsFirstFault callers instrs blocks m cell
   -- a block below fresh was not met
   Lost : HasSoundHead callers instrs blocks m → (chains : ℕ → List ℕ)
-      → HasPassed (base_of callers instrs) m 37 chains
-      → HasRightCounts (base_of callers instrs) m 37 chains → chains 37 ≡ []
-      → blocks_in_chains chains 37 ≢ m (fresh_at (base_of callers instrs))
+      → HasPassed (base_of callers instrs) blocks m (out_chain blocks) chains
+      → HasRightCounts (base_of callers instrs) blocks m (out_chain blocks) chains
+      → chains (out_chain blocks) ≡ []
+      → blocks_in_chains chains (out_chain blocks) ≢ m (fresh_at (base_of callers instrs))
       → cell ≡ fresh_at (base_of callers instrs) → IsFirstFault callers instrs blocks m cell
 
 -- an error that names a cell says this of it

@@ -3,10 +3,10 @@
 use Rattle.std.proofs.Common.{◌≡◌, ℕ, ◌+◌, ◌%◌, ◌<◌, ◌≤◌, inl, inr, refl, sym, ◌∙◌, arith, List, [], ◌∷◌, get_or, set, length-set}
 use Rattle.std.proofs.lemmas.Bool.{cases_eq}
 use Rattle.std.proofs.lemmas.List.{get_or-set_same, get_or-set_other}
-use Rattle.of_mem.specs.Places.{register_at, keys_at, tail_at, length_at}
+use Rattle.of_mem.specs.Places.{bucket_count, register_at, keys_at, tail_at, length_at}
 use Rattle.of_mem.specs.Programs.{with_value}
 use Rattle.of_mem.specs.Numbers.{IsNumber}
-use Rattle.of_mem.specs.Stores.{CellStore, StandsForStore, first_at, second_at}
+use Rattle.of_mem.specs.Stores.{queue_chain, CellStore, StandsForStore, first_at, second_at}
 use Rattle.of_mem.proofs.Changes.{changed_same, changed_other}
 use Rattle.of_mem.proofs.Heaps.{front_below}
 use Rattle.of_mem.proofs.Frames.{SameBlocks, value_same, bucket_same, queue_same}
@@ -45,7 +45,7 @@ module _ (o blocks : ℕ) (m : ℕ → ℕ) (s : CellStore) (h : StandsForStore 
     owner = h.owner;
     heap =
         heap_changed o blocks m h.chains h.owner h.heap (register_at o r) v
-        (λ e. omega (arith, r_in)) (λ c l e. omega (arith, r_in, (front_below o c l).0))
+        (λ e. omega (arith, r_in)) (λ c l e. omega (arith, r_in, (front_below o blocks c l).0))
         (λ b e. omega (arith, r_in));
     none_out = h.none_out;
     room = h.room;
@@ -54,14 +54,17 @@ module _ (o blocks : ℕ) (m : ℕ → ℕ) (s : CellStore) (h : StandsForStore 
       registers = registers;
       values =
           λ key. h.holds.values key
-          ∙ sym (value_same o m n key (h.chains (1 + key % 32)) (same (h.chains (1 + key % 32))));
+          ∙ (let at = 1 + key % bucket_count blocks in
+          sym (value_same o m n key (h.chains at) (same (h.chains at))));
       buckets =
           λ b l.
-          bucket_same o m n b (h.chains (1 + b)) (same (h.chains (1 + b))) (h.holds.buckets b l);
+          bucket_same o blocks m n b (h.chains (1 + b)) (same (h.chains (1 + b)))
+          (h.holds.buckets b l);
       keys = other (keys_at o) (omega arith) ∙ h.holds.keys;
       key_blocks = h.holds.key_blocks;
       queues =
-          λ q l. queue_same o m n q (h.chains (33 + q)) (s.queues q) (same (h.chains (33 + q)))
+          λ q l. queue_same o m n q (h.chains (queue_chain blocks q)) (s.queues q)
+          (same (h.chains (queue_chain blocks q)))
           (other (tail_at o q) (omega arith)) (other (length_at o q) (omega arith))
           (h.holds.queues q l);
     };

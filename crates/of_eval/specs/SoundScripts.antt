@@ -7,6 +7,7 @@ use Rattle.of_mem.specs.Programs.{program_answer, memory_after}
 use Rattle.of_mem.specs.Stores.{CellStore, StandsForStore}
 use Rattle.of_mem.specs.Meaning.{IsSoundMeaning, HasRoom}
 use Rattle.of_mem.specs.ProgramWork.{IsReplyTo}
+use Rattle.of_mem.proofs.BucketPlaces.{few_behind}
 use Rattle.of_mem.proofs.Standing.{empty_stands, stands_from}
 use Rattle.of_mem.proofs.Sounds.{sound}
 use Rattle.of_script.specs.declared.instr.TheConstants.{MOST_INSTRS, REGISTERS}
@@ -125,7 +126,8 @@ scripts_sound w =
           λ op. words_stay (store_at w) w.blocks (length (take MOST_INSTRS op))
           (take MOST_INSTRS op) [];
       inside = λ m op l. (script_run (store_at w) w.blocks w.few_blocks op m l.0 l.1).inside;
-      few = λ m op l. inl (omega (arith, w.few_callers, w.few_blocks));
+      few = λ m op l.
+          inl (omega (arith, w.few_callers, w.few_blocks, few_behind w.blocks w.few_blocks));
       replies = λ m op l. script_replies (store_at w) w.blocks w.few_blocks m op l;
       reads_only =
           λ op e. words_only (store_at w) w.blocks (length (take MOST_INSTRS op))
@@ -137,5 +139,5 @@ scripts_fit w = record {
   some = w.some_callers;
   few = w.few_callers;
   own = omega arith;
-  small = omega (arith, w.few_callers, w.few_blocks);
+  small = omega (arith, w.few_callers, w.few_blocks, few_behind w.blocks w.few_blocks);
 }

@@ -4,10 +4,10 @@ use Rattle.std.specs.Prelude.{◌≡◌, ◌≢◌, ◌⊎◌, ℕ, ◌+◌, ◌
 use Rattle.std.specs.FinMap as fin
 use Rattle.std.proofs.Common.{get_or, set}
 use Rattle.of_mem.specs.declared.plot.Plot.{Plot}
-use Rattle.of_mem.specs.Places.{register_at, fresh_at}
+use Rattle.of_mem.specs.Places.{bucket_count, register_at, fresh_at}
 use Rattle.of_mem.specs.Plots.{base}
 use Rattle.of_mem.specs.ProgramWork.{memory_of}
-use Rattle.of_mem.specs.Stores.{first_at, value_in, blocks_in_chains}
+use Rattle.of_mem.specs.Stores.{out_chain, queue_chain, first_at, value_in, blocks_in_chains}
 use Rattle.of_script.specs.declared.instr.TheConstants.{REGISTERS}
 use Rattle.of_store.specs.Store.{Store, IsState, queue}
 use Rattle.of_eval.specs.declared.lawful_cells.LawErr.{LawErr}
@@ -50,20 +50,21 @@ unmet_count (x ∷ owners) = cond (eqb x 0) 1 0 + unmet_count owners
 
 -- The owners table has 1 more than its chain's number for each block that was met, and 0 for the
 -- others.
-pub record OwnersMatchChains (fresh : ℕ) (chains : ℕ → List ℕ) (owners : List ℕ) : Type 0 where
+pub record OwnersMatchChains (blocks fresh : ℕ) (chains : ℕ → List ℕ) (owners : List ℕ)
+    : Type 0 where
   pub sized : length owners ≡ fresh
   pub paint : (c b : ℕ) → ContainsNumber (chains c) b → get_or owners b 0 ≡ c + 1
   pub met : (b : ℕ) → get_or owners b 0 ≢ 0 → IsMet chains b
-  pub counted : blocks_in_chains chains 37 + unmet_count owners ≡ fresh
+  pub counted : blocks_in_chains chains (out_chain blocks) + unmet_count owners ≡ fresh
 
 -- the walk met these blocks, the last of them in chain n, and what it counted behind the chains
 -- before chain k is right
 pub record HasWalked (p : Plot) (cells : List ℕ) (n k : ℕ) (chains : ℕ → List ℕ) (owners : List ℕ) :
     Type 0 where
   pub begun : HasBegun p cells
-  pub passed : HasPassed (base p) (memory_of cells) n chains
-  pub counted : HasRightCounts (base p) (memory_of cells) k chains
-  pub painted : OwnersMatchChains (memory_of cells (fresh_at (base p))) chains owners
+  pub passed : HasPassed (base p) p.blocks (memory_of cells) n chains
+  pub counted : HasRightCounts (base p) p.blocks (memory_of cells) k chains
+  pub painted : OwnersMatchChains p.blocks (memory_of cells (fresh_at (base p))) chains owners
 
 -- the store has the registers, and what the blocks that were met hold
 pub record HoldsWhatWasMet (p : Plot) (cells : List ℕ) (chains : ℕ → List ℕ) (s : Store)
@@ -73,10 +74,13 @@ pub record HoldsWhatWasMet (p : Plot) (cells : List ℕ) (chains : ℕ → List 
   pub registers : (r : ℕ) → r < 16
       → memory_of cells (register_at (base p) r) ≡ get_or s.registers r 0
   pub values : (key : ℕ)
-      → fin.get s.keys key ≡ value_in (base p) (memory_of cells) key (chains (1 + key % 32))
-  pub key_blocks : blocks_in_chains chains 33 ≡ length (chains 0) + fin.len s.keys
+      → fin.get s.keys key
+      ≡ value_in (base p) (memory_of cells) key (chains (1 + key % bucket_count p.blocks))
+  pub key_blocks :
+      blocks_in_chains chains (queue_chain p.blocks 0) ≡ length (chains 0) + fin.len s.keys
   pub items : (q : ℕ) → q < 4
-      → map (λ b. memory_of cells (first_at (base p) b)) (chains (33 + q)) ≡ queue s q
+      → map (λ b. memory_of cells (first_at (base p) b)) (chains (queue_chain p.blocks q))
+      ≡ queue s q
 
 -- the walk stands before chain n, and what was counted behind the chains before chain k is right
 pub record IsBeforeChain (p : Plot) (cells : List ℕ) (n k : ℕ) (owners : List ℕ) (s : Store)
@@ -118,19 +122,23 @@ LinkIsAtFault cells cell owners (Unlawful at) =
 -- a walk that came to the queues found the keys counted rightly
 abbrev pub KeysAreCounted : Plot → List ℕ → Store → Type 0
 KeysAreCounted p cells s =
-    (owners : List ℕ) → IsBeforeChain p cells 33 0 owners s → IsBeforeChain p cells 33 33 owners s
+    (owners : List ℕ) → IsBeforeChain p cells (queue_chain p.blocks 0) 0 owners s
+    → IsBeforeChain p cells (queue_chain p.blocks 0) (queue_chain p.blocks 0) owners s
 
 -- or wrongly
 abbrev pub KeysAreMiscounted : Plot → List ℕ → Store → LawErr → Type 0
 KeysAreMiscounted p cells s e =
-    (owners : List ℕ) → IsBeforeChain p cells 33 0 owners s → NamesFault p cells e
+    (owners : List ℕ) → IsBeforeChain p cells (queue_chain p.blocks 0) 0 owners s
+    → NamesFault p cells e
 
 -- a walk through all chains met every block
 abbrev pub AllAreMet : Plot → List ℕ → List ℕ → Type 0
 AllAreMet p cells owners =
-    (s : Store) → IsBeforeChain p cells 37 37 owners s → CellsStandFor p cells s
+    (s : Store) → IsBeforeChain p cells (out_chain p.blocks) (out_chain p.blocks) owners s
+    → CellsStandFor p cells s
 
 -- or not every one
 abbrev pub SomeAreUnmet : Plot → List ℕ → List ℕ → LawErr → Type 0
 SomeAreUnmet p cells owners e =
-    (s : Store) → IsBeforeChain p cells 37 37 owners s → NamesFault p cells e
+    (s : Store) → IsBeforeChain p cells (out_chain p.blocks) (out_chain p.blocks) owners s
+    → NamesFault p cells e

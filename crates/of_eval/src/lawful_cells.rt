@@ -13,7 +13,7 @@ mod walk;
 use crate::lawful_cells::fill::begun_store;
 use crate::lawful_cells::own::callers;
 use crate::lawful_cells::walk::{all_met, bucket, free_list, fresh, keys, queue, registers};
-use of_mem::{BUCKETS, Plot};
+use of_mem::Plot;
 use of_script::QUEUES;
 use of_store::Store;
 use std::alloc::{AllocError, Global};
@@ -52,7 +52,7 @@ fn read_store(alloc: Global, plot: &Plot, cells: &[u32]) -> Result<Store, LawErr
     let mut owners = vec![in alloc; 0; fresh as usize]?;
     free_list(plot, cells, &mut owners)?;
     let mut store = begun_store(alloc, plot, cells)?;
-    for b in 0..BUCKETS {
+    for b in 0..plot.buckets() {
         bucket(plot, cells, b, &mut owners, &mut store)?;
     }
     keys(plot, cells, &store)?;

@@ -1,10 +1,10 @@
 -- The first cell at fault is a data cell.
-use Rattle.std.proofs.Common.{◌≡◌, ℕ, ◌+◌, ◌-◌, ◌*◌, ◌<◌, ◌≤◌, Bool, true, false, cond, ltb, List, [], ◌∷◌, refl, sym, subst, arith}
+use Rattle.std.proofs.Common.{◌≡◌, ℕ, ◌+◌, ◌-◌, ◌*◌, ◌<◌, ◌≤◌, List, [], ◌∷◌, refl, sym, subst, arith}
 use Rattle.std.specs.List.{AllByRecursion as Each}
 use Rattle.std.proofs.lemmas.Nat.{mul-add-lt}
-use Rattle.std.proofs.lemmas.Bool.Decides.{nat_tests}
 use Rattle.of_mem.specs.Places.{base_of, cells_at, fresh_at}
 use Rattle.of_mem.specs.Stores.{front_at, link_at, cell_after}
+use Rattle.of_mem.proofs.Heaps.{front_below}
 use Rattle.of_eval.specs.Faults.{OwnFault, HasPassed, ChainFault, CountFault, IsFirstFault}
 use Rattle.of_eval.specs.Faults.OwnFault.{Left, NoShape, GreatReply}
 use Rattle.of_eval.specs.Faults.ChainFault.{Pointer, Key, Value, Item}
@@ -21,16 +21,6 @@ own_fault callers instrs c cell m l (NoShape some none e) = omega (arith, e, own
 own_fault callers instrs c cell m l (GreatReply some r shape j below has before bad e) =
     omega (arith, e, own_below callers instrs c (2 + j) l (let few = shape.few in omega arith))
 
--- the front of a chain
-front_below : (o c : ℕ) → c < 37 → front_at o c < o + 63
-unfolding front_at
-front_below o c l = go (ltb c 1) (ltb c 33) refl refl
-  where
-    go : (a b : Bool) → ltb c 1 ≡ a → ltb c 33 ≡ b → cond a (o + 17) (cond b (o + 19 + (c - 1)) (o + 51 + 3 * (c - 33))) < o + 63
-    go true b e f = omega arith
-    go false true e f = let k : c < 33 = grind (arith, nat_tests) in omega arith
-    go false false e f = omega arith
-
 -- the pointer cell behind blocks
 after_below : (o blocks cell : ℕ) (bs : List ℕ) → cell < cells_at o blocks → Each (λ b. b < blocks) bs → cell_after o cell bs < cells_at o blocks
 after_below o blocks cell [] l h = l
@@ -40,14 +30,14 @@ each_below : (fresh blocks c : ℕ) (owner : ℕ → ℕ) (bs : List ℕ) → fr
 each_below fresh blocks c owner [] l h = tt
 each_below fresh blocks c owner (b ∷ bs) l h = (omega (arith, h.0.0), each_below fresh blocks c owner bs l h.1)
 
-chain_fault : (o blocks n cell : ℕ) (m : ℕ → ℕ) (chains : ℕ → List ℕ) → m (fresh_at o) ≤ blocks → HasPassed o m n chains → ChainFault o m n chains cell → cell < cells_at o blocks
+chain_fault : (o blocks n cell : ℕ) (m : ℕ → ℕ) (chains : ℕ → List ℕ) → m (fresh_at o) ≤ blocks → HasPassed o blocks m n chains → ChainFault o blocks m n chains cell → cell < cells_at o blocks
 chain_fault o blocks n cell m chains few p (Pointer l b leads bad e) =
-    subst (λ (x : ℕ). x < cells_at o blocks) (sym e) (after_below o blocks (front_at o n) (chains n) (omega (arith, front_below o n l)) (each_below (m (fresh_at o)) blocks n p.owner (chains n) few (p.owned n)))
+    subst (λ (x : ℕ). x < cells_at o blocks) (sym e) (after_below o blocks (front_at o blocks n) (chains n) (front_below o blocks n l).1 (each_below (m (fresh_at o)) blocks n p.owner (chains n) few (p.owned n)))
 chain_fault o blocks n cell m chains few p (Key k b l is on bad e) = omega (arith, e, on.below, few)
 chain_fault o blocks n cell m chains few p (Value k b l is on right bad e) = omega (arith, e, on.below, few)
 chain_fault o blocks n cell m chains few p (Item q b l is on bad e) = omega (arith, e, on.below, few)
 
-count_fault : (o blocks n cell : ℕ) (m : ℕ → ℕ) (chains : ℕ → List ℕ) → CountFault o m n chains cell → cell < cells_at o blocks
+count_fault : (o blocks n cell : ℕ) (m : ℕ → ℕ) (chains : ℕ → List ℕ) → CountFault o blocks m n chains cell → cell < cells_at o blocks
 count_fault o blocks n cell m chains (Keys is bad e) = omega (arith, e)
 count_fault o blocks n cell m chains (Tail q l is bad e) = omega (arith, e)
 count_fault o blocks n cell m chains (Length q l is right bad e) = omega (arith, e)

@@ -18,6 +18,7 @@ use Rattle.of_image.specs.declared.line.ImageLine.{ImageLine}
 use Rattle.of_image.specs.declared.line.ImageLine.TheVariants.{Title, Callers, Blocks, Cell, End}
 use Rattle.of_image.specs.declared.reading.Stage.{Stage}
 use Rattle.of_image.specs.declared.reading.Stage.TheVariants.{Start, Named, Counted, Body, Ended}
+use Rattle.of_mem.proofs.BucketPlaces.{few_behind}
 use Rattle.of_report.specs.ImageRow.{DurableRow, IsRow, data_cell_count_for}
 use Rattle.of_image.specs.Version.{version_number, instrs_of}
 use Rattle.of_image.specs.ImageText.{cell_line, cell_lines, image_lines}
@@ -214,11 +215,11 @@ row_leads v r h =
 
 pub few_cells : (v : Version) (n b : ℕ) → n ≤ 16 → b ≤ 512 → durable_cells n (data_cell_count_for (instrs_of v) n b) ≤ 65536
 few_cells One n b few low =
-    let rows : 2 * log_room n (data_cell_count_for (instrs_of One) n b) + 1 ≤ 3903 = omega (arith, room_upto n (data_cell_count_for (instrs_of One) n b)) in
-    omega (arith, mul-le-mul_left n rows)
+    let rows : 2 * log_room n (data_cell_count_for (instrs_of One) n b) + 1 ≤ 3903 = omega (arith, room_upto n (data_cell_count_for (instrs_of One) n b), few_behind b low) in
+    omega (arith, mul-le-mul_left n rows, few_behind b low)
 few_cells Two n b few low =
-    let rows : 2 * log_room n (data_cell_count_for (instrs_of Two) n b) + 1 ≤ 3903 = omega (arith, room_upto n (data_cell_count_for (instrs_of Two) n b)) in
-    omega (arith, mul-le-mul_left n rows)
+    let rows : 2 * log_room n (data_cell_count_for (instrs_of Two) n b) + 1 ≤ 3903 = omega (arith, room_upto n (data_cell_count_for (instrs_of Two) n b), few_behind b low) in
+    omega (arith, mul-le-mul_left n rows, few_behind b low)
 
 pub row_short : (v : Version) (r : DurableRow) → IsRow (instrs_of v) r → length r.words ≤ 65536
 row_short v r h = omega (arith, h.size, few_cells v r.callers r.blocks h.few_callers h.few_blocks)

@@ -11,7 +11,7 @@ use Rattle.of_cell.specs.Words.{seq_of, payload_of}
 use Rattle.of_cell.specs.Cells.{request_cell, data_cell, durable_cells}
 use Rattle.of_cell.proofs.Order.{seq_zero, pay_zero}
 use Rattle.of_mem.specs.declared.work.RawReply.{RawReply}
-use Rattle.of_mem.specs.Places.{base_of, ticket_cell_at, shape_at, reply_at}
+use Rattle.of_mem.specs.Places.{buckets_behind, base_of, ticket_cell_at, shape_at, reply_at}
 use Rattle.of_mem.specs.ProgramWork.{memory_of}
 use Rattle.of_script.specs.declared.instr.TheConstants.{MOST_INSTRS}
 use Rattle.of_plan.proofs.Lists.{map-same}
@@ -105,7 +105,7 @@ module _ (few many callers blocks : ℕ) (words : List ℕ) (le : few ≤ many) 
   rest_at c x l low k = data_at (c * (many + 2) + x) (omega (arith, own_below c x l k)) ∙ ap (word_from callers old) (own_none c x l low k)
 
   -- a cell of the store
-  store_at : (k : ℕ) → k < 63 + 3 * blocks → get_or vs (data_cell callers (base_of callers many + k)) 0 ≡ get_or words (data_cell callers (base_of callers few + k)) 0
+  store_at : (k : ℕ) → k < 63 + 3 * blocks + buckets_behind blocks → get_or vs (data_cell callers (base_of callers many + k)) 0 ≡ get_or words (data_cell callers (base_of callers few + k)) 0
   store_at k l =
       let one : nat_lt (base_of callers many + k) (base_of callers many) ≡ false = grind (arith, nat_tests) in
       let here : base_of callers many + k - base_of callers many ≡ k = omega arith in
@@ -125,7 +125,7 @@ has_moved few many r le =
       shapes = λ c l. own_at few many N B ws le c 1 l (omega arith);
       replies = λ c j l k. (let e : reply_at many c j ≡ c * (many + 2) + (2 + j) = omega arith in let f : c * (few + 2) + (2 + j) ≡ reply_at few c j = omega arith in ap (λ (x : ℕ). get_or (moved_words few many N B ws) (data_cell N x) 0) e ∙ own_at few many N B ws le c (2 + j) l (omega arith) ∙ ap (λ (x : ℕ). get_or ws (data_cell N x) 0) f);
       no_more = λ c j l low k. (let e : reply_at many c j ≡ c * (many + 2) + (2 + j) = omega arith in ap (λ (x : ℕ). get_or (moved_words few many N B ws) (data_cell N x) 0) e ∙ rest_at few many N B ws le c (2 + j) l (omega arith) (omega arith));
-      store = λ k l. store_at few many N B ws le k l;
+      store = λ k l. store_at few many N B ws le k (omega (arith, l));
       logs = λ c l. logs_at few many N B ws le c l;
     }
 
@@ -252,8 +252,8 @@ module _ (few many : ℕ) (i : Image) (h : IsImage few i) (le : few ≤ many) (l
     some = λ e. (let s = k.some (λ z. e (ticket_same c l ∙ z)) in record { reply = s.reply; held = subst (λ (t : RawReply). IsHeldBy t s.reply) (sym (reply_same c l)) s.held; few = omega (arith, s.few) });
   }
 
-  stored_same : (k : ℕ) → k < 63 + 3 * r.blocks → n (base_of N many + k) ≡ m (base_of N few + k)
-  stored_same k l = n_at (base_of N many + k) (omega (arith, l)) ∙ ap payload_of (has.store k l) ∙ sym (m_at (base_of N few + k) (omega (arith, l)))
+  stored_same : (k : ℕ) → k < 63 + 3 * r.blocks + buckets_behind r.blocks → n (base_of N many + k) ≡ m (base_of N few + k)
+  stored_same k l = n_at (base_of N many + k) (omega (arith, l)) ∙ ap payload_of (has.store k (omega (arith, l))) ∙ sym (m_at (base_of N few + k) (omega (arith, l)))
 
   pub moved_stands : DataCellsStandFor N many r.blocks n i.store
   moved_stands = record {

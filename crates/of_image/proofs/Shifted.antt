@@ -1,10 +1,11 @@
 -- Cells that stand for a store stand for it at another place too.
-use Rattle.std.proofs.Common.{◌≡◌, ◌≢◌, ℕ, ◌+◌, ◌-◌, ◌*◌, ◌%◌, ◌<◌, Bool, true, false, ltb, List, [], ◌∷◌, map, refl, sym, ap, ◌∙◌, arith}
+use Rattle.std.proofs.Common.{◌≡◌, ◌≢◌, ℕ, ◌+◌, ◌-◌, ◌*◌, ◌%◌, ◌<◌, List, [], ◌∷◌, map, refl, sym, ap, ◌∙◌, arith}
 use Rattle.std.specs.List.{AllByRecursion as Each}
-use Rattle.std.proofs.lemmas.Bool.Decides.{nat_tests}
-use Rattle.of_mem.specs.Places.{register_at, fresh_at, keys_at, tail_at, length_at}
-use Rattle.of_mem.specs.Stores.{CellStore, StandsForStore, IsChain, IsBucket, front_at, first_at, second_at, link_at, value_in}
+use Rattle.of_mem.specs.Places.{bucket_count, buckets_behind, register_at, fresh_at, keys_at, tail_at, length_at}
+use Rattle.of_mem.specs.Stores.{out_chain, queue_chain, CellStore, StandsForStore, IsChain, IsBucket, front_at, first_at, second_at, link_at, value_in}
+use Rattle.of_mem.proofs.BucketPlaces.{key_bucket}
 use Rattle.of_mem.proofs.Counts.{blocks_below}
+use Rattle.of_mem.proofs.Heaps.{fronts, front_below}
 
 -- ---- blocks whose cells are the same, n from u on as m from o on
 
@@ -19,10 +20,10 @@ each_not : (o u : ℕ) (m n : ℕ → ℕ) (x y : ℕ) (l : List ℕ) → Same o
 each_not o u m n x y [] h e k = tt
 each_not o u m n x y (z ∷ l) h e k = ((λ (q : n (first_at u z) ≡ x). k.0 (sym h.0.0 ∙ q ∙ e)), each_not o u m n x y l h.1 e k.1)
 
-bucket_shifted : (o u : ℕ) (m n : ℕ → ℕ) (b : ℕ) (l : List ℕ) → Same o u m n l → IsBucket o m b l → IsBucket u n b l
-bucket_shifted o u m n b [] h k = tt
-bucket_shifted o u m n b (x ∷ l) h k =
-    (rw h.0.0 k.0, rw h.0.0 k.1, rw h.0.1 k.2, each_not o u m n (n (first_at u x)) (m (first_at o x)) l h.1 h.0.0 k.3, bucket_shifted o u m n b l h.1 k.4)
+bucket_shifted : (o u blocks : ℕ) (m n : ℕ → ℕ) (b : ℕ) (l : List ℕ) → Same o u m n l → IsBucket o blocks m b l → IsBucket u blocks n b l
+bucket_shifted o u blocks m n b [] h k = tt
+bucket_shifted o u blocks m n b (x ∷ l) h k =
+    (rw h.0.0 k.0, rw h.0.0 k.1, rw h.0.1 k.2, each_not o u m n (n (first_at u x)) (m (first_at o x)) l h.1 h.0.0 k.3, bucket_shifted o u blocks m n b l h.1 k.4)
 
 items_shifted : (o u : ℕ) (m n : ℕ → ℕ) (l : List ℕ) → Same o u m n l → map (λ b. n (first_at u b)) l ≡ map (λ b. m (first_at o b)) l
 items_shifted o u m n [] h = refl
@@ -33,30 +34,29 @@ chain_shifted o u m n c d [] e h k = e ∙ k
 chain_shifted o u m n c d (b ∷ bs) e h k = (e ∙ k.0, chain_shifted o u m n (link_at o b) (link_at u b) bs h.0 h.1 k.1)
 
 -- the front of a chain stands as far behind o as behind u
-record IsFront (o u c : ℕ) : Type 0 where
+record IsFront (o u blocks c : ℕ) : Type 0 where
   pub far : ℕ
-  pub within : far < 63
-  pub old : front_at o c ≡ o + far
-  pub new : front_at u c ≡ u + far
+  pub within : far < 63 + 3 * blocks + buckets_behind blocks
+  pub old : front_at o blocks c ≡ o + far
+  pub new : front_at u blocks c ≡ u + far
 
-front_of : (o u c : ℕ) → c < 37 → IsFront o u c
-unfolding front_at
-front_of o u c l = go (ltb c 1) (ltb c 33) refl refl
-  where
-    go : (a b : Bool) → ltb c 1 ≡ a → ltb c 33 ≡ b → IsFront o u c
-    go true b e f = record { far = 17; within = omega arith; old = rw e refl; new = rw e refl }
-    go false true e f = let k : c < 33 = grind (arith, nat_tests) in record { far = 19 + (c - 1); within = omega arith; old = rw (e, f) (omega arith); new = rw (e, f) (omega arith) }
-    go false false e f = record { far = 51 + 3 * (c - 33); within = omega arith; old = rw (e, f) (omega arith); new = rw (e, f) (omega arith) }
+front_of : (o u blocks c : ℕ) → c < out_chain blocks → IsFront o u blocks c
+front_of o u blocks c l = record {
+  far = front_at o blocks c - o;
+  within = omega (arith, front_below o blocks c l);
+  old = omega (arith, front_below o blocks c l);
+  new = omega (arith, front_below o blocks c l, fronts o blocks c l, fronts u blocks c l);
+}
 
 -- ---- the store
 
-module _ (o u blocks : ℕ) (m n : ℕ → ℕ) (same : (k : ℕ) → k < 63 + 3 * blocks → n (u + k) ≡ m (o + k)) (s : CellStore) (h : StandsForStore o blocks m s) where
+module _ (o u blocks : ℕ) (m n : ℕ → ℕ) (same : (k : ℕ) → k < 63 + 3 * blocks + buckets_behind blocks → n (u + k) ≡ m (o + k)) (s : CellStore) (h : StandsForStore o blocks m s) where
   -- the cell that stands so far behind
-  at : (k x y : ℕ) → k < 63 + 3 * blocks → x ≡ u + k → y ≡ o + k → n x ≡ m y
+  at : (k x y : ℕ) → k < 63 + 3 * blocks + buckets_behind blocks → x ≡ u + k → y ≡ o + k → n x ≡ m y
   at k x y l e f = ap n e ∙ same k l ∙ ap m (sym f)
 
-  front : (c : ℕ) → c < 37 → n (front_at u c) ≡ m (front_at o c)
-  front c l = let f = front_of o u c l in at f.far (front_at u c) (front_at o c) (omega (arith, f.within)) f.new f.old
+  front : (c : ℕ) → c < out_chain blocks → n (front_at u blocks c) ≡ m (front_at o blocks c)
+  front c l = let f = front_of o u blocks c l in at f.far (front_at u blocks c) (front_at o blocks c) (omega (arith, f.within)) f.new f.old
 
   links : (l : List ℕ) → Each (λ b. b < blocks) l → Each (λ b. n (link_at u b) ≡ m (link_at o b)) l
   links [] k = tt
@@ -67,7 +67,7 @@ module _ (o u blocks : ℕ) (m n : ℕ → ℕ) (same : (k : ℕ) → k < 63 + 3
   blocks_same (b ∷ l) k =
       ((at (63 + 3 * b) (first_at u b) (first_at o b) (omega (arith, k.0)) (omega arith) (omega arith), at (64 + 3 * b) (second_at u b) (second_at o b) (omega (arith, k.0)) (omega arith) (omega arith)), blocks_same l k.1)
 
-  chain_same : (c : ℕ) → c < 38 → Same o u m n (h.chains c)
+  chain_same : (c : ℕ) → c < 1 + out_chain blocks → Same o u m n (h.chains c)
   chain_same c l = blocks_same (h.chains c) (blocks_below o blocks m s h c l)
 
   pub stands_shifted : StandsForStore u blocks n s
@@ -77,7 +77,7 @@ module _ (o u blocks : ℕ) (m n : ℕ → ℕ) (same : (k : ℕ) → k < 63 + 3
         chains = h.chains;
         owner = h.owner;
         heap = record {
-          linked = λ c l. chain_shifted o u m n (front_at o c) (front_at u c) (h.chains c) (front c l) (links (h.chains c) (blocks_below o blocks m s h c (omega (arith, l)))) (h.heap.linked c l);
+          linked = λ c l. chain_shifted o u m n (front_at o blocks c) (front_at u blocks c) (h.chains c) (front c l) (links (h.chains c) (blocks_below o blocks m s h c (omega (arith, l)))) (h.heap.linked c l);
           owned = λ c l. rw fresh (h.heap.owned c l);
           counted = h.heap.counted ∙ sym fresh;
           few = rw fresh h.heap.few;
@@ -87,12 +87,12 @@ module _ (o u blocks : ℕ) (m n : ℕ → ℕ) (same : (k : ℕ) → k < 63 + 3
         sixteen = h.sixteen;
         holds = record {
           registers = λ r l. let e : n (register_at u r) ≡ m (register_at o r) = at r (register_at u r) (register_at o r) (omega (arith, l)) refl refl in rw e (h.holds.registers r l);
-          values = λ key. h.holds.values key ∙ sym (value_shifted o u m n key (h.chains (1 + key % 32)) (chain_same (1 + key % 32) (omega arith)));
-          buckets = λ b l. bucket_shifted o u m n b (h.chains (1 + b)) (chain_same (1 + b) (omega (arith, l))) (h.holds.buckets b l);
+          values = λ key. h.holds.values key ∙ sym (value_shifted o u m n key (h.chains (1 + key % bucket_count blocks)) (chain_same (1 + key % bucket_count blocks) (omega (arith, key_bucket blocks key))));
+          buckets = λ b l. bucket_shifted o u blocks m n b (h.chains (1 + b)) (chain_same (1 + b) (omega (arith, l))) (h.holds.buckets b l);
           keys = at 18 (keys_at u) (keys_at o) (omega arith) refl refl ∙ h.holds.keys;
           key_blocks = h.holds.key_blocks;
           queues = λ q l. (let k = h.holds.queues q l in record {
-            listed = items_shifted o u m n (h.chains (33 + q)) (chain_same (33 + q) (omega (arith, l))) ∙ k.listed;
+            listed = items_shifted o u m n (h.chains (queue_chain blocks q)) (chain_same (queue_chain blocks q) (omega (arith, l))) ∙ k.listed;
             numbers = k.numbers;
             ends = at (52 + 3 * q) (tail_at u q) (tail_at o q) (omega (arith, l)) (omega arith) (omega arith) ∙ k.ends;
             counted = at (53 + 3 * q) (length_at u q) (length_at o q) (omega (arith, l)) (omega arith) (omega arith) ∙ k.counted;

@@ -84,7 +84,8 @@ pub record HasMoved (few many : ℕ) (old new : DurableRow) : Type 0 where
   pub no_more : (c j : ℕ) → c < old.callers → few ≤ j → j < many
       → slice_index new.words (data_cell old.callers (reply_at many c j)) ≡ 0
   -- the cells of the store, behind those of the callers
-  pub store : (k : ℕ) → k < 63 + 3 * old.blocks
+  pub store : (k : ℕ)
+      → base_of old.callers many + k < data_cell_count_for many old.callers old.blocks
       → slice_index new.words (data_cell old.callers (base_of old.callers many + k))
       ≡ slice_index old.words (data_cell old.callers (base_of old.callers few + k))
   pub logs : (c : ℕ) → data_cell old.callers (data_cell_count_for many old.callers old.blocks) ≤ c

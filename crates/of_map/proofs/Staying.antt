@@ -1,6 +1,6 @@
 -- The calls of the map read and write nothing before the first cell of the store; get and count write nothing.
 use Rattle.std.proofs.Common.{ℕ, ◌+◌, ◌%◌, Option, Some, None, arith}
-use Rattle.of_mem.specs.Places.{bucket_at}
+use Rattle.of_mem.specs.Places.{bucket_count, bucket_at}
 use Rattle.of_mem.specs.Programs.{StaysFrom, OnlyReads}
 use Rattle.of_mem.proofs.Runs.{stays_then, stays_after, reads_then}
 use Rattle.of_alloc.specs.BlockPrograms.{take_program}
@@ -11,7 +11,7 @@ use Rattle.of_map.proofs.Seeks.{seek_stays, seek_yields, IsFrom}
 
 module _ (o blocks key : ℕ) where
   seeking : StaysFrom o (seek_program o blocks key) × OnlyReads (seek_program o blocks key)
-  seeking = seek_stays o key (blocks + 1) (bucket_at o (key % 32)) (omega arith)
+  seeking = seek_stays o key (blocks + 1) (bucket_at o blocks (key % bucket_count blocks)) (omega arith)
 
   got_stays : (r : Option Position) → StaysFrom o (get_at o r) × OnlyReads (get_at o r)
   got_stays None = (tt, tt)
@@ -23,12 +23,12 @@ module _ (o blocks key : ℕ) where
   pub get_reads : OnlyReads (get_program o blocks key)
   get_reads = reads_then (seek_program o blocks key) (get_at o) seeking.1 (λ r. (got_stays r).1)
 
-  new_stays : (v : ℕ) (r : Option ℕ) → StaysFrom o (put_new o key v r)
+  new_stays : (v : ℕ) (r : Option ℕ) → StaysFrom o (put_new o blocks key v r)
   new_stays v None = tt
   new_stays v (Some b) = (omega arith, (omega arith, (omega arith, λ front. (omega arith, (omega arith, (omega arith, λ n. (omega arith, tt)))))))
 
   put_found_stays : (v : ℕ) (r : Option Position) → StaysFrom o (put_found o blocks key v r)
-  put_found_stays v None = stays_then o (take_program o blocks) (put_new o key v) (take_stays o blocks) (new_stays v)
+  put_found_stays v None = stays_then o (take_program o blocks) (put_new o blocks key v) (take_stays o blocks) (new_stays v)
   put_found_stays v (Some r) = (omega arith, λ w. (omega arith, tt))
 
   pub put_stays : (v : ℕ) → StaysFrom o (put_program o blocks key v)
@@ -39,4 +39,4 @@ module _ (o blocks key : ℕ) where
   unlink_stays (Some r) l = (omega arith, λ v. (omega arith, λ link. (l, (omega arith, λ f. (omega arith, (omega arith, (omega arith, λ n. (omega arith, tt))))))))
 
   pub del_stays : StaysFrom o (del_program o blocks key)
-  del_stays = stays_after o (IsFrom o) (seek_program o blocks key) (del_found o) seeking.0 (seek_yields o key (blocks + 1) (bucket_at o (key % 32)) (omega arith)) unlink_stays
+  del_stays = stays_after o (IsFrom o) (seek_program o blocks key) (del_found o) seeking.0 (seek_yields o key (blocks + 1) (bucket_at o blocks (key % bucket_count blocks)) (omega arith)) unlink_stays

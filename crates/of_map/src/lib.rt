@@ -17,7 +17,7 @@ mod answers;
 
 use crate::answers::{Look, Position};
 pub use answers::Put;
-use of_mem::{BUCKETS, Need, Part, Plot, Walk};
+use of_mem::{Need, Part, Plot, Walk};
 
 // Where the block of a key stands, None where the key is absent.
 fn seek(plot: &Plot, part: &mut Part, key: u32) -> Result<Option<Position>, Need>
@@ -151,7 +151,7 @@ fn fill(plot: &Plot, part: &mut Part, key: u32, value: u32, block: u32) -> Resul
 {
     part.write(plot.block(block, 0), key);
     part.write(plot.block(block, 1), value);
-    let bucket = plot.bucket(key % BUCKETS);
+    let bucket = plot.bucket(key % plot.buckets());
     let front = part.read(bucket)?;
     part.write(plot.block(block, 2), front);
     part.write(bucket, block + 1);

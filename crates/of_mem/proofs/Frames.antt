@@ -19,10 +19,10 @@ pub each_not : (o : ℕ) (m n : ℕ → ℕ) (x y : ℕ) (l : List ℕ) → Same
 each_not o m n x y [] h e k = tt
 each_not o m n x y (z ∷ l) h e k = ((λ (q : n (first_at o z) ≡ x). k.0 (sym h.0.0 ∙ q ∙ e)), each_not o m n x y l h.1 e k.1)
 
-pub bucket_same : (o : ℕ) (m n : ℕ → ℕ) (b : ℕ) (l : List ℕ) → SameBlocks o m n l → IsBucket o m b l → IsBucket o n b l
-bucket_same o m n b [] h k = tt
-bucket_same o m n b (x ∷ l) h k =
-    (rw h.0.0 k.0, rw h.0.0 k.1, rw h.0.1 k.2, each_not o m n (n (first_at o x)) (m (first_at o x)) l h.1 h.0.0 k.3, bucket_same o m n b l h.1 k.4)
+pub bucket_same : (o blocks : ℕ) (m n : ℕ → ℕ) (b : ℕ) (l : List ℕ) → SameBlocks o m n l → IsBucket o blocks m b l → IsBucket o blocks n b l
+bucket_same o blocks m n b [] h k = tt
+bucket_same o blocks m n b (x ∷ l) h k =
+    (rw h.0.0 k.0, rw h.0.0 k.1, rw h.0.1 k.2, each_not o m n (n (first_at o x)) (m (first_at o x)) l h.1 h.0.0 k.3, bucket_same o blocks m n b l h.1 k.4)
 
 pub items_same : (o : ℕ) (m n : ℕ → ℕ) (l : List ℕ) → SameBlocks o m n l → map (λ b. n (first_at o b)) l ≡ map (λ b. m (first_at o b)) l
 items_same o m n [] h = refl
@@ -51,10 +51,10 @@ none_value o m key [] e = tt
 none_value o m key (b ∷ l) e = none_case o m key b l (none_value o m key l) (eqb (m (first_at o b)) key) refl e
 
 -- a block in the middle of a bucket is found by its key, and what is left holds the other keys
-pub bucket_split : (o : ℕ) (m : ℕ → ℕ) (n b : ℕ) (xs ys : List ℕ) → IsBucket o m n (xs ++ b ∷ ys) → IsBucket o m n (xs ++ ys) × Each (λ z. m (first_at o z) ≢ m (first_at o b)) (xs ++ ys)
-bucket_split o m n b [] ys h = (h.4, h.3)
-bucket_split o m n b (x ∷ xs) ys h =
-    let r = bucket_split o m n b xs ys h.4 in
+pub bucket_split : (o blocks : ℕ) (m : ℕ → ℕ) (n b : ℕ) (xs ys : List ℕ) → IsBucket o blocks m n (xs ++ b ∷ ys) → IsBucket o blocks m n (xs ++ ys) × Each (λ z. m (first_at o z) ≢ m (first_at o b)) (xs ++ ys)
+bucket_split o blocks m n b [] ys h = (h.4, h.3)
+bucket_split o blocks m n b (x ∷ xs) ys h =
+    let r = bucket_split o blocks m n b xs ys h.4 in
     let apart : m (first_at o b) ≢ m (first_at o x) = (each_right (λ z. m (first_at o z) ≢ m (first_at o x)) xs (b ∷ ys) h.3).0 in (
       (h.0, h.1, h.2, each_append (λ z. m (first_at o z) ≢ m (first_at o x)) xs ys (each_left (λ z. m (first_at o z) ≢ m (first_at o x)) xs (b ∷ ys) h.3) (each_right (λ z. m (first_at o z) ≢ m (first_at o x)) xs (b ∷ ys) h.3).1, r.0),
       ((λ (e : m (first_at o x) ≡ m (first_at o b)). apart (sym e)), r.1),

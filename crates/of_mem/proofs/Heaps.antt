@@ -5,36 +5,45 @@ use Rattle.std.proofs.lemmas.Bool.{cases_lt}
 use Rattle.std.proofs.lemmas.Bool.Decides.{nat_tests}
 use Rattle.of_mem.specs.Numbers.{FitsCell}
 use Rattle.of_mem.specs.declared.plot.TheConstants.{MOST_BLOCKS}
-use Rattle.of_mem.specs.Places.{free_at, keys_at, bucket_at, head_at}
+use Rattle.of_mem.specs.Places.{free_at, keys_at, bucket_count, first_bucket, bucket_at, head_at, tail_at, length_at, block_at, cells_at}
 use Rattle.of_mem.specs.Programs.{with_value}
-use Rattle.of_mem.specs.Stores.{IsChain, front_at, link_at, cell_after}
+use Rattle.of_mem.specs.Stores.{IsChain, queue_chain, out_chain, front_at, link_at, cell_after}
+use Rattle.of_mem.proofs.BucketPlaces.{bucket_places}
 use Rattle.of_mem.proofs.Changes.{changed_same, changed_other}
 
-pub front_free : (o : ℕ) → front_at o 0 ≡ free_at o
+pub front_free : (o blocks : ℕ) → front_at o blocks 0 ≡ free_at o
 unfolding front_at
-front_free o = refl
+front_free o blocks = refl
 
-pub front_bucket : (o n : ℕ) → n < 32 → front_at o (1 + n) ≡ bucket_at o n
+pub front_bucket : (o blocks n : ℕ) → n < bucket_count blocks → front_at o blocks (1 + n) ≡ bucket_at o blocks n
 unfolding front_at
-front_bucket o n l = grind (arith, nat_tests)
+front_bucket o blocks n l = grind (arith, nat_tests)
 
-pub front_head : (o q : ℕ) → front_at o (33 + q) ≡ head_at o q
+pub front_head : (o blocks q : ℕ) → front_at o blocks (queue_chain blocks q) ≡ head_at o q
 unfolding front_at
-front_head o q = grind (arith, nat_tests)
+front_head o blocks q = grind (arith, nat_tests)
 
 -- where a front can stand
-pub fronts : (o c : ℕ) → c < 37 → ((c ≡ 0) × (front_at o c ≡ o + 17)) ⊎ (((1 ≤ c) × (c < 33) × (front_at o c ≡ o + 18 + c)) ⊎ ((33 ≤ c) × (front_at o c + 48 ≡ o + 3 * c)))
+pub fronts : (o blocks c : ℕ) → c < out_chain blocks → ((c ≡ 0) × (front_at o blocks c ≡ o + 17)) ⊎ (((1 ≤ c) × (c < queue_chain blocks 0) × (front_at o blocks c + 1 ≡ o + first_bucket blocks + c)) ⊎ ((queue_chain blocks 0 ≤ c) × (front_at o blocks c + 3 * queue_chain blocks 0 ≡ o + 51 + 3 * c)))
 unfolding front_at
-fronts o c l = elim (cases_lt c 1) [
+fronts o blocks c l = elim (cases_lt c 1) [
   | inl a ↦ inl (omega arith, grind (arith, nat_tests))
-  | inr a ↦ elim (cases_lt c 33) [ inl b ↦ inr (inl (a, b, grind (arith, nat_tests))) | inr b ↦ inr (inr (b, grind (arith, nat_tests))) ]
+  | inr a ↦ elim (cases_lt c (queue_chain blocks 0)) [ inl b ↦ inr (inl (a, b, grind (arith, nat_tests))) | inr b ↦ inr (inr (b, grind (arith, nat_tests))) ]
 ]
 
-pub front_apart : (o c d : ℕ) → c < 37 → d < 37 → front_at o c ≡ front_at o d → c ≡ d
-front_apart o c d l k e = grind (arith, fronts o c l, fronts o d k)
+pub front_apart : (o blocks c d : ℕ) → c < out_chain blocks → d < out_chain blocks → front_at o blocks c ≡ front_at o blocks d → c ≡ d
+front_apart o blocks c d l k e = omega (arith, fronts o blocks c l, fronts o blocks d k, bucket_places blocks)
 
-pub front_below : (o c : ℕ) → c < 37 → (o + 17 ≤ front_at o c) × (front_at o c < o + 63) × (front_at o c ≢ keys_at o)
-front_below o c l = grind (arith, fronts o c l)
+pub front_below : (o blocks c : ℕ) → c < out_chain blocks → (o + 17 ≤ front_at o blocks c) × (front_at o blocks c < cells_at o blocks) × (front_at o blocks c ≢ keys_at o)
+front_below o blocks c l = (omega (arith, fronts o blocks c l, bucket_places blocks), omega (arith, fronts o blocks c l, bucket_places blocks), (λ e. omega (arith, fronts o blocks c l, bucket_places blocks)))
+
+-- no front is a cell of a block
+pub front_no_block : (o blocks c b f : ℕ) → c < out_chain blocks → b < blocks → f < 3 → front_at o blocks c ≢ block_at o b f
+front_no_block o blocks c b f l k g e = omega (arith, fronts o blocks c l, bucket_places blocks)
+
+-- nor counts it what a queue has, or points to its last block
+pub front_no_end : (o blocks c q : ℕ) → c < out_chain blocks → q < 4 → (front_at o blocks c ≢ tail_at o q) × (front_at o blocks c ≢ length_at o q)
+front_no_end o blocks c q l k = ((λ e. omega (arith, fronts o blocks c l, bucket_places blocks)), (λ e. omega (arith, fronts o blocks c l, bucket_places blocks)))
 
 pub each_weaker : (P Q : ℕ → Type 0) → ((x : ℕ) → P x → Q x) → (l : List ℕ) → Each P l → Each Q l
 each_weaker P Q w [] h = tt

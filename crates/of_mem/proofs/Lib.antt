@@ -5,6 +5,7 @@ pub mod Listed
 pub mod Cells
 pub mod Held
 pub mod Newest
+pub mod BucketPlaces
 pub mod PlotPlaces
 pub mod Changes
 pub mod Unread

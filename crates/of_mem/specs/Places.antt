@@ -1,6 +1,6 @@
 -- Where each data cell stands: o is the first cell behind those of the callers.
-use Rattle.std.specs.Prelude.{ℕ, ◌+◌, ◌*◌}
-use Rattle.of_mem.specs.declared.plot.TheConstants.{FRESH, FREE, KEYS, FIRST_BUCKET, FIRST_QUEUE, FIRST_BLOCK}
+use Rattle.std.specs.Prelude.{ℕ, ◌+◌, ◌-◌, ◌*◌, ◌/◌, if◌then◌else◌, nat_le}
+use Rattle.of_mem.specs.declared.plot.TheConstants.{FEW_BLOCKS, BUCKETS, FRESH, FREE, KEYS, FIRST_BUCKET, FIRST_QUEUE, FIRST_BLOCK}
 
 -- the first cell behind the cells of the callers
 abbrev pub base_of : ℕ → ℕ → ℕ
@@ -27,8 +27,27 @@ free_at o = o + FREE
 abbrev pub keys_at : ℕ → ℕ
 keys_at o = o + KEYS
 
-abbrev pub bucket_at : ℕ → ℕ → ℕ
-bucket_at o b = o + FIRST_BUCKET + b
+-- how many buckets the keys are spread over: with many blocks an odd number, some one a block
+unfoldable pub bucket_count : (blocks : ℕ) → ℕ
+bucket_count blocks =
+    if nat_le blocks FEW_BLOCKS then BUCKETS
+    else (BUCKETS + (blocks - FEW_BLOCKS)) / 2 * 2 + 1
+
+-- how far from o the buckets begin: with many blocks behind all other cells
+unfoldable pub first_bucket : (blocks : ℕ) → ℕ
+first_bucket blocks =
+    if nat_le blocks FEW_BLOCKS then FIRST_BUCKET else FIRST_BLOCK + 3 * blocks
+
+-- how many buckets stand behind the blocks
+unfoldable pub buckets_behind : (blocks : ℕ) → ℕ
+buckets_behind blocks = if nat_le blocks FEW_BLOCKS then 0 else bucket_count blocks
+
+abbrev pub bucket_at : (o blocks b : ℕ) → ℕ
+bucket_at o blocks b = o + first_bucket blocks + b
+
+-- with few blocks
+abbrev pub few_bucket_at : (o b : ℕ) → ℕ
+few_bucket_at o b = o + FIRST_BUCKET + b
 
 abbrev pub head_at : ℕ → ℕ → ℕ
 head_at o q = o + FIRST_QUEUE + 3 * q
@@ -43,4 +62,4 @@ abbrev pub block_at : ℕ → ℕ → ℕ → ℕ
 block_at o b field = o + FIRST_BLOCK + 3 * b + field
 
 abbrev pub cells_at : ℕ → ℕ → ℕ
-cells_at o blocks = o + FIRST_BLOCK + 3 * blocks
+cells_at o blocks = o + FIRST_BLOCK + 3 * blocks + buckets_behind blocks

@@ -1,8 +1,8 @@
 -- The places of a plot and its sizes.
 use Rattle.std.specs.Prelude.{◌≡◌, ◌<◌, ℕ}
 use Rattle.of_mem.specs.declared.plot.Plot.{Plot}
-use Rattle.of_mem.specs.declared.plot.TheConstants.{REGISTERS, BUCKETS, QUEUES}
-use Rattle.of_mem.specs.Places.{base_of, cells_at, ticket_cell_at, shape_at, reply_at, register_at, fresh_at, free_at, keys_at, bucket_at, head_at, tail_at, length_at, block_at}
+use Rattle.of_mem.specs.declared.plot.TheConstants.{REGISTERS, QUEUES}
+use Rattle.of_mem.specs.Places.{base_of, cells_at, ticket_cell_at, shape_at, reply_at, register_at, fresh_at, free_at, keys_at, bucket_count, bucket_at, head_at, tail_at, length_at, block_at}
 
 -- the first cell behind the cells of the callers
 abbrev pub base : Plot → ℕ
@@ -36,7 +36,7 @@ HasPlace p (Register r) = r < REGISTERS
 HasPlace p Fresh = Unit {0}
 HasPlace p Free = Unit {0}
 HasPlace p Keys = Unit {0}
-HasPlace p (Bucket b) = b < BUCKETS
+HasPlace p (Bucket b) = b < bucket_count p.blocks
 HasPlace p (Head q) = q < QUEUES
 HasPlace p (Tail q) = q < QUEUES
 HasPlace p (Length q) = q < QUEUES
@@ -51,7 +51,7 @@ cell_for p (Register r) = register_at (base p) r
 cell_for p Fresh = fresh_at (base p)
 cell_for p Free = free_at (base p)
 cell_for p Keys = keys_at (base p)
-cell_for p (Bucket b) = bucket_at (base p) b
+cell_for p (Bucket b) = bucket_at (base p) p.blocks b
 cell_for p (Head q) = head_at (base p) q
 cell_for p (Tail q) = tail_at (base p) q
 cell_for p (Length q) = length_at (base p) q

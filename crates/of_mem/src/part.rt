@@ -4,12 +4,11 @@ ghost use Rattle.std.specs.Prelude.{◌≡◌, ◌<◌, ◌≤◌, ◌%◌, [], 
 ghost use Rattle.std.proofs.Common.{get_or, is_some};
 ghost use Rattle.of_mem.specs.Part.{empty_part, learn, write, keep, ReadsAt};
 ghost use Rattle.of_mem.specs.Newest.{HoldsNewest};
-ghost use Rattle.of_mem.specs.declared.plot.TheConstants.{BUCKETS};
-ghost use Rattle.of_mem.specs.Places.{bucket_at};
+ghost use Rattle.of_mem.specs.Places.{bucket_at, bucket_count};
 ghost use Rattle.of_mem.specs.Plots.{base};
 ghost use Rattle.of_mem.specs.Walks.{Passes};
 
-use crate::plot::{BUCKETS, Plot};
+use crate::plot::Plot;
 use crate::touched_cells::TouchedCells;
 use crate::write_set::WriteSet;
 use std::alloc::{AllocError, Global};
@@ -34,6 +33,7 @@ pub struct Walk {
 #[derive(Clone, Copy, Debug, PartialEq, Eq)]
 struct KeyWalk {
     base: u32,
+    blocks: u32,
     key: u32,
     walk: Walk,
 }
@@ -62,10 +62,9 @@ impl Model for Part {
     ghost Value = { Part };
 
     ghost use Rattle.std.specs.Prelude.{◌≤◌, ◌%◌};
-    ghost use Rattle.of_mem.specs.declared.plot.TheConstants.{BUCKETS};
     ghost use Rattle.of_mem.specs.Newest.{part_of, HoldsNewest};
     ghost use Rattle.of_mem.specs.Part.{visible};
-    ghost use Rattle.of_mem.specs.Places.{bucket_at};
+    ghost use Rattle.of_mem.specs.Places.{bucket_at, bucket_count};
     ghost use Rattle.of_mem.specs.Walks.{Passes};
 
     ghost view = { λ p. visible p.undone (part_of p.cells p.batch p.script) };
@@ -73,7 +72,8 @@ impl Model for Part {
     ghost invariant = { λ p. HoldsNewest p.cells p.batch p.script
         × (1 ≤ p.last.walk.passed
         → Passes p.last.base p.last.key (part_of p.cells p.batch p.script) p.last.walk.passed
-        (bucket_at p.last.base (p.last.key % BUCKETS)) p.last.walk.cell) };
+        (bucket_at p.last.base p.last.blocks (p.last.key % bucket_count p.last.blocks))
+        p.last.walk.cell) };
 }
 
 #[tactic(auto, unfolding(crate::specs::Part::newest_at, crate::specs::Part::write))]
@@ -93,6 +93,7 @@ impl Part {
             undone: false,
             last: KeyWalk {
                 base: 0,
+                blocks: 0,
                 key: 0,
                 walk: Walk { cell: 0, passed: 0 },
             },
@@ -241,16 +242,18 @@ impl Part {
     /// How far the walk of a key came that was kept; if none was, it is at the front of the bucket.
     pub fn walk(&self, plot: &Plot, key: u32) -> Walk
         ensures passes { Passes (base plot.now) key self.now result.passed
-            (bucket_at (base plot.now) (key % BUCKETS)) result.cell }
+            (bucket_at (base plot.now) plot.now.blocks (key % bucket_count plot.now.blocks))
+            result.cell }
         ensures few { result.passed ≤ plot.now.blocks }
     {
         let last = self.last;
-        let is_of_key = last.key == key && last.base == plot.base();
+        let is_of_plot = last.base == plot.base() && last.blocks == plot.blocks;
+        let is_of_key = is_of_plot && last.key == key;
         if is_of_key && !self.undone && last.walk.passed > 0 && last.walk.passed <= plot.blocks {
             return last.walk;
         }
         Walk {
-            cell: plot.bucket(key % BUCKETS),
+            cell: plot.bucket(key % plot.buckets()),
             passed: 0,
         }
     }
@@ -258,7 +261,8 @@ impl Part {
     /// Keeps how far the walk of a key came, until the script writes or a cell changes.
     pub fn keep_walk(&mut self, plot: &Plot, key: u32, walk: Walk)
         requires { Passes (base plot.now) key self.old walk.passed
-            (bucket_at (base plot.now) (key % BUCKETS)) walk.cell }
+            (bucket_at (base plot.now) plot.now.blocks (key % bucket_count plot.now.blocks))
+            walk.cell }
         ensures { self.new ≡ self.old }
     {
         if self.undone {
@@ -266,6 +270,7 @@ impl Part {
         } else {
             self.last = KeyWalk {
                 base: plot.base(),
+                blocks: plot.blocks,
                 key,
                 walk,
             };

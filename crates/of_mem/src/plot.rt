@@ -2,12 +2,12 @@
 
 ghost use Rattle.std.specs.Prelude.{◌≡◌, ◌<◌, ◌≤◌, ◌+◌, ◌*◌};
 ghost use Rattle.of_mem.specs.declared.work.TheConstants.{MOST_CALLERS, MOST_INSTRS};
-ghost use Rattle.of_mem.specs.declared.plot.TheConstants.{REGISTERS, BUCKETS, QUEUES, MOST_BLOCKS};
+ghost use Rattle.of_mem.specs.declared.plot.TheConstants.{REGISTERS, BUCKETS, QUEUES, MOST_BLOCKS, FIRST_BLOCK};
 
 /// How many registers a store has.
 pub const REGISTERS: u32 = 16;
 
-/// How many buckets its keys are spread over.
+/// How many buckets its keys are spread over, if it has no more blocks than a plan may have.
 pub const BUCKETS: u32 = 32;
 
 /// How many queues it has.
@@ -15,6 +15,10 @@ pub const QUEUES: u32 = 4;
 
 /// The most blocks that it has.
 pub const MOST_BLOCKS: u32 = 512;
+
+// Up to how many blocks it has `BUCKETS` buckets, in front of the queues. A store with more blocks
+// would have about a bucket for each, behind the blocks.
+const FEW_BLOCKS: u32 = 512;
 
 // How far behind the callers' cells the store's parts begin: the registers first, then the cells
 // that the allocator and the map count with.
@@ -50,7 +54,7 @@ pub struct Plot {
 
 impl Plot {
     ghost use Rattle.of_mem.specs.Plots.{base, data_cell_count};
-    ghost use Rattle.of_mem.specs.Places.{ticket_cell_at, shape_at, reply_at, register_at, fresh_at, free_at, keys_at, bucket_at, head_at, tail_at, length_at, block_at};
+    ghost use Rattle.of_mem.specs.Places.{ticket_cell_at, shape_at, reply_at, register_at, fresh_at, free_at, keys_at, bucket_count, first_bucket, buckets_behind, bucket_at, head_at, tail_at, length_at, block_at};
 
     // The first cell of a caller.
     fn row(&self, caller: u32) -> u32
@@ -69,11 +73,51 @@ impl Plot {
         self.row(self.callers)
     }
 
+    /// How many buckets the keys are spread over.
+    #[tactic(auto, using(crate::proofs::BucketPlaces::few_count, crate::proofs::BucketPlaces::many_count))]
+    pub fn buckets(&self) -> u32
+        ensures value { result ≡ bucket_count self.now.blocks }
+        ensures some { 1 ≤ result }
+        ensures few { result ≤ BUCKETS + self.now.blocks }
+    {
+        if self.blocks <= FEW_BLOCKS {
+            BUCKETS
+        } else {
+            (BUCKETS + (self.blocks - FEW_BLOCKS)) / 2 * 2 + 1
+        }
+    }
+
+    // How far from the store's first cell the buckets begin.
+    #[tactic(auto, using(crate::proofs::BucketPlaces::few_first, crate::proofs::BucketPlaces::many_first))]
+    fn first_bucket(&self) -> u32
+        ensures value { result ≡ first_bucket self.now.blocks }
+        ensures small { result ≤ FIRST_BLOCK + 3 * self.now.blocks }
+    {
+        if self.blocks <= FEW_BLOCKS {
+            FIRST_BUCKET
+        } else {
+            FIRST_BLOCK + 3 * self.blocks
+        }
+    }
+
+    // How many buckets stand behind the blocks.
+    #[tactic(auto, using(crate::proofs::BucketPlaces::few_behind, crate::proofs::BucketPlaces::many_behind))]
+    fn buckets_behind(&self) -> u32
+        ensures value { result ≡ buckets_behind self.now.blocks }
+        ensures few { result ≤ BUCKETS + self.now.blocks }
+    {
+        if self.blocks <= FEW_BLOCKS {
+            0
+        } else {
+            self.buckets()
+        }
+    }
+
     /// The number of data cells.
     pub fn cells(&self) -> u32
         ensures { result ≡ data_cell_count self.now }
     {
-        self.base() + FIRST_BLOCK + 3 * self.blocks
+        self.base() + FIRST_BLOCK + 3 * self.blocks + self.buckets_behind()
     }
 
     /// The cell of a caller's ticket.
@@ -131,11 +175,12 @@ impl Plot {
     }
 
     /// The front of a bucket.
+    #[tactic(auto, using(crate::proofs::BucketPlaces::most_buckets))]
     pub fn bucket(&self, b: u32) -> u32
-        requires { b < BUCKETS }
-        ensures { result ≡ bucket_at (base self.now) b }
+        requires { b < bucket_count self.now.blocks }
+        ensures { result ≡ bucket_at (base self.now) self.now.blocks b }
     {
-        self.base() + FIRST_BUCKET + b
+        self.base() + self.first_bucket() + b
     }
 
     /// The front of a queue.

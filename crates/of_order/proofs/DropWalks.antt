@@ -2,7 +2,7 @@
 use Rattle.std.proofs.Common.{◌≡◌, ℕ, suc, ◌+◌, ◌-◌, ◌<◌, ◌≤◌, ◌≢◌, refl, sym, ◌∙◌, ap, subst, arith, ltb, Some, None, List, ◌∷◌, length, Ok, lt-ltb, le-ltb}
 use Rattle.of_mem.specs.declared.plot.Plot.{Plot}
 use Rattle.of_mem.specs.Plots.{base, data_cell_count}
-use Rattle.of_mem.specs.Places.{keys_at, bucket_at}
+use Rattle.of_mem.specs.Places.{bucket_count, keys_at, bucket_at}
 use Rattle.of_mem.specs.Part.{Part, newest_at, write}
 use Rattle.of_mem.specs.Programs.{StaysBetween, Read, Lacks, Ends, run_program, then_do, with_value, memory_after, IsPartOf}
 use Rattle.of_mem.specs.Stores.{CellStore, first_at, link_at}
@@ -26,20 +26,20 @@ pub record Stays (plot : Plot) (p : Part) (low i cell pointer gone : ℕ) : Type
   pub behind : List ℕ
   pub within : IsInsideBucket (base plot) plot.blocks low i first memory cell pointer gone behind
 
-pub stays_first : (plot : Plot) (p : Part) (low i gone a f : ℕ) → IsDropping plot p low i gone → i < 32 → a ≡ bucket_at (base plot) i → newest_at p a ≡ Some f → Stays plot p low i a f gone
+pub stays_first : (plot : Plot) (p : Part) (low i gone a f : ℕ) → IsDropping plot p low i gone → i < bucket_count plot.blocks → a ≡ bucket_at (base plot) plot.blocks i → newest_at p a ≡ Some f → Stays plot p low i a f gone
 stays_first plot p low i gone a f h l is e =
     let w = within_first (base plot) plot.blocks low plot.few_blocks h.first i l h.memory gone h.state in
-    let same : h.memory (bucket_at (base plot) i) ≡ f = h.part (bucket_at (base plot) i) f (rw is at e) in
+    let same : h.memory (bucket_at (base plot) plot.blocks i) ≡ f = h.part (bucket_at (base plot) plot.blocks i) f (rw is at e) in
     record {
       fits = h.fits;
       memory = h.memory;
       first = h.first;
       part = h.part;
       behind = h.state.stands.chains (1 + i);
-      within = rw is (subst (λ (x : ℕ). IsInsideBucket (base plot) plot.blocks low i h.first h.memory (bucket_at (base plot) i) x gone (h.state.stands.chains (1 + i))) same w);
+      within = rw is (subst (λ (x : ℕ). IsInsideBucket (base plot) plot.blocks low i h.first h.memory (bucket_at (base plot) plot.blocks i) x gone (h.state.stands.chains (1 + i))) same w);
     }
 
-module _ (plot : Plot) (p : Part) (low i cell f gone : ℕ) (small : i < 32) (h : Stays plot p low i cell f gone) (some : f ≢ 0) where
+module _ (plot : Plot) (p : Part) (low i cell f gone : ℕ) (small : i < bucket_count plot.blocks) (h : Stays plot p low i cell f gone) (some : f ≢ 0) where
   abbrev o : ℕ
   o = base plot
 
@@ -107,7 +107,7 @@ module _ (plot : Plot) (p : Part) (low i cell f gone : ℕ) (small : i < 32) (h 
         }
 
 -- the pointer cell is a cell of the plot
-pub cell_fits : (plot : Plot) (p : Part) (low i cell f gone : ℕ) → i < 32 → (h : Stays plot p low i cell f gone) → f ≢ 0 → (k a c g : ℕ) → a ≡ first_at (base plot) (f - 1) → newest_at p a ≡ Some k → k < low → cell < data_cell_count plot
+pub cell_fits : (plot : Plot) (p : Part) (low i cell f gone : ℕ) → i < bucket_count plot.blocks → (h : Stays plot p low i cell f gone) → f ≢ 0 → (k a c g : ℕ) → a ≡ first_at (base plot) (f - 1) → newest_at p a ≡ Some k → k < low → cell < data_cell_count plot
 cell_fits plot p low i cell f gone small h some k a c g is e less =
     let t = leaves_inside (base plot) plot.blocks low i small h.first h.memory cell f gone (f - 1) (here plot p low i cell f gone small h some).0 (w plot p low i cell f gone small h some) plot.few_blocks
     (let key : h.memory (first_at (base plot) (f - 1)) ≡ k = h.part (first_at (base plot) (f - 1)) k (rw is at e) in omega (arith, key, less)) in t.1
@@ -165,7 +165,7 @@ no_bucket o blocks low n i gone l = ap (λ (j : ℕ). drop_buckets o blocks low 
 pub begins : (plot : Plot) (p : Part) (low : ℕ) → HasStore plot p → IsDropping plot p low 0 0
 begins plot p low h = record { fits = h.fits; memory = h.memory; first = h.store; part = h.part; state = at_first (base plot) plot.blocks low plot.few_blocks h.store h.memory h.stands }
 
-pub next_bucket : (plot : Plot) (p q : Part) (low i gone g : ℕ) → i < 32 → IsDropping plot p low i gone → RunsProgram (drop_in plot i low gone) p q (Ok g) → IsDropping plot q low (i + 1) g
+pub next_bucket : (plot : Plot) (p q : Part) (low i gone g : ℕ) → i < bucket_count plot.blocks → IsDropping plot p low i gone → RunsProgram (drop_in plot i low gone) p q (Ok g) → IsDropping plot q low (i + 1) g
 next_bucket plot p q low i gone g small h ran =
     let r = in_drops (base plot) plot.blocks low plot.few_blocks h.first i small h.memory gone h.state in
     let d = run_ended (base plot) (data_cell_count plot) (drop_in plot i low gone) p q h.memory g h.part r.0 ran.walk in

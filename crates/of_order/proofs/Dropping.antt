@@ -6,11 +6,12 @@ use Rattle.std.specs.Ordering.{nat_cmp, eq_by_cmp}
 use Rattle.std.specs.FinMap as fin
 use Rattle.std.proofs.lemmas.Bool.{ne_eqb, cases_eq, cases_lt}
 use Rattle.of_mem.specs.declared.plot.TheConstants.{MOST_BLOCKS}
-use Rattle.of_mem.specs.Places.{free_at, keys_at, bucket_at, cells_at, fresh_at}
+use Rattle.of_mem.specs.Places.{bucket_count, free_at, keys_at, bucket_at, cells_at, fresh_at}
 use Rattle.of_mem.specs.Programs.{Write, with_value, StaysBetween}
 use Rattle.of_mem.specs.Stores.{CellStore, StandsForStore, IsChain, IsBucket, front_at, link_at, first_at, cell_after, value_in}
+use Rattle.of_mem.proofs.BucketPlaces.{bucket_in}
 use Rattle.of_mem.proofs.Changes.{changed_same, changed_other}
-use Rattle.of_mem.proofs.Heaps.{front_bucket, front_below, each_weaker, each_right, each_append, cell_in, chain_copy, all_links, same_chain}
+use Rattle.of_mem.proofs.Heaps.{front_bucket, front_no_block, each_weaker, each_left, each_right, each_append, cell_in, chain_copy, all_links, same_chain}
 use Rattle.of_mem.proofs.Counts.{blocks_below}
 use Rattle.of_mem.specs.Numbers.{FitsCell}
 use Rattle.of_alloc.specs.Blocks.{IsFreeList, IsOut}
@@ -79,12 +80,13 @@ pub value_past : (o : ℕ) (m : ℕ → ℕ) (key : ℕ) (xs ys : List ℕ) → 
 value_past o m key [] ys h = refl
 value_past o m key (x ∷ xs) ys h = rw (ne_eqb (m (first_at o x)) key h.0) (value_past o m key xs ys h.1)
 
-each_same : (o low : ℕ) (m n : ℕ → ℕ) (xs : List ℕ) → ((x : ℕ) → n (first_at o x) ≡ m (first_at o x)) → Each (λ x. low ≤ m (first_at o x)) xs → Each (λ x. low ≤ n (first_at o x)) xs
-each_same o low m n xs same h = each_weaker (λ x. low ≤ m (first_at o x)) (λ x. low ≤ n (first_at o x)) (λ x k. omega (arith, same x, k)) xs h
+each_same : (o blocks low : ℕ) (m n : ℕ → ℕ) (xs : List ℕ) → ((x : ℕ) → x < blocks → n (first_at o x) ≡ m (first_at o x)) → Each (λ x. x < blocks) xs → Each (λ x. low ≤ m (first_at o x)) xs → Each (λ x. low ≤ n (first_at o x)) xs
+each_same o blocks low m n [] same below h = tt
+each_same o blocks low m n (x ∷ xs) same below h = (omega (arith, same x below.0, h.0), each_same o blocks low m n xs same below.1 h.1)
 
-here_in_bucket : (o : ℕ) (m : ℕ → ℕ) (n b : ℕ) (xs ys : List ℕ) → IsBucket o m n (xs ++ b ∷ ys) → (m (first_at o b) % 32 ≡ n)
-here_in_bucket o m n b [] ys h = h.0
-here_in_bucket o m n b (x ∷ xs) ys h = here_in_bucket o m n b xs ys h.4
+here_in_bucket : (o blocks : ℕ) (m : ℕ → ℕ) (n b : ℕ) (xs ys : List ℕ) → IsBucket o blocks m n (xs ++ b ∷ ys) → (m (first_at o b) % bucket_count blocks ≡ n)
+here_in_bucket o blocks m n b [] ys h = h.0
+here_in_bucket o blocks m n b (x ∷ xs) ys h = here_in_bucket o blocks m n b xs ys h.4
 
 after_push : (o c b : ℕ) (xs : List ℕ) → cell_after o c (xs ++ b ∷ []) ≡ link_at o b
 after_push o c b [] = refl
@@ -98,7 +100,7 @@ some_chain : (o : ℕ) (m : ℕ → ℕ) (c b : ℕ) (l : List ℕ) → IsChain 
 some_chain o m c b [] h e = absurd (omega (arith, h, e))
 some_chain o m c b (x ∷ l) h e = let is : x ≡ b = omega (arith, h.0, e) in (l, ap (λ (y : ℕ). y ∷ l) is)
 
-module _ (o blocks low i : ℕ) (small : i < 32) (first : CellStore) (m : ℕ → ℕ) (cell p gone : ℕ) (behind : List ℕ) (w : IsInsideBucket o blocks low i first m cell p gone behind) where
+module _ (o blocks low i : ℕ) (small : i < bucket_count blocks) (first : CellStore) (m : ℕ → ℕ) (cell p gone : ℕ) (behind : List ℕ) (w : IsInsideBucket o blocks low i first m cell p gone behind) where
   abbrev pub M : ℕ → ℕ
   M = with_value m (keys_at o) (fin.len w.state.store.map)
 
@@ -106,7 +108,7 @@ module _ (o blocks low i : ℕ) (small : i < 32) (first : CellStore) (m : ℕ �
   same_m a n = changed_other m (keys_at o) (fin.len w.state.store.map) a n
 
   abbrev front : ℕ
-  front = front_at o (1 + i)
+  front = front_at o blocks (1 + i)
 
   whole : IsChain o M front (w.before ++ behind)
   whole = subst (λ (q : List ℕ). IsChain o M front q) w.split (w.state.stands.heap.linked (1 + i) (omega (arith, small)))
@@ -115,11 +117,11 @@ module _ (o blocks low i : ℕ) (small : i < 32) (first : CellStore) (m : ℕ �
   apart : (a : ℕ) → a ≢ front → ((x : ℕ) → a ≢ link_at o x) → a ≢ cell
   apart a n k = rw w.place (cell_in o (λ c. a ≢ c) front w.before n (all_links o a k w.before))
 
-  front_is : front ≡ bucket_at o i
-  front_is = front_bucket o i small
+  front_is : front ≡ bucket_at o blocks i
+  front_is = front_bucket o blocks i small
 
   no_keys : keys_at o ≢ cell
-  no_keys = apart (keys_at o) (λ e. omega (arith, e, front_is)) (λ x e. omega arith)
+  no_keys = apart (keys_at o) (λ e. omega (arith, e, front_is, bucket_in o blocks i small)) (λ x e. omega arith)
 
   chain : IsChain o M cell behind
   chain = subst (λ (a : ℕ). IsChain o M a behind) (sym w.place) (chain_behind o M front w.before behind whole)
@@ -147,17 +149,20 @@ module _ (o blocks low i : ℕ) (small : i < 32) (first : CellStore) (m : ℕ �
     fewer = w.state.fewer;
     counted = w.state.counted;
     few = w.state.few;
-    cleared = λ key l k. elim (cases_lt (key % 32) i) [
+    cleared = λ key l k. elim (cases_lt (key % bucket_count blocks) i) [
       | inl less ↦ w.state.cleared key l less
-      | inr not ↦ (let is : key % 32 ≡ i = omega (arith, not, k) in
+      | inr not ↦ (let is : key % bucket_count blocks ≡ i = omega (arith, not, k) in
           w.state.stands.holds.values key ∙ ap (λ (x : ℕ). value_in o M key (w.state.stands.chains (1 + x))) is ∙ ap (value_in o M key) (w.split ∙ ap (λ (l : List ℕ). w.before ++ l) none) ∙ value_past o M key w.before [] (past key l))
     ];
   }
 
 -- the block at the pointer
-module _ (o blocks low i : ℕ) (small : i < 32) (first : CellStore) (m : ℕ → ℕ) (cell p gone b : ℕ) (l : List ℕ) (w : IsInsideBucket o blocks low i first m cell p gone (b ∷ l)) where
+module _ (o blocks low i : ℕ) (small : i < bucket_count blocks) (first : CellStore) (m : ℕ → ℕ) (cell p gone b : ℕ) (l : List ℕ) (w : IsInsideBucket o blocks low i first m cell p gone (b ∷ l)) where
   pub block_below : b < blocks
   block_below = (each_right (λ x. x < blocks) w.before (b ∷ l) (subst (λ (q : List ℕ). Each (λ x. x < blocks) q) w.split (blocks_below o blocks (M o blocks low i small first m cell p gone (b ∷ l) w) w.state.store w.state.stands (1 + i) (omega (arith, small))))).0
+
+  before_below : Each (λ x. x < blocks) w.before
+  before_below = each_left (λ x. x < blocks) w.before (b ∷ l) (subst (λ (q : List ℕ). Each (λ x. x < blocks) q) w.split (blocks_below o blocks (M o blocks low i small first m cell p gone (b ∷ l) w) w.state.store w.state.stands (1 + i) (omega (arith, small))))
 
   -- its key stays
   pub stays : low ≤ m (first_at o b) → IsInsideBucket o blocks low i first m (link_at o b) (m (link_at o b)) gone l
@@ -165,7 +170,7 @@ module _ (o blocks low i : ℕ) (small : i < 32) (first : CellStore) (m : ℕ �
     state = w.state;
     before = w.before ++ b ∷ [];
     split = w.split ∙ sym (append_assoc w.before (b ∷ []) l);
-    place = sym (after_push o (front_at o (1 + i)) b w.before);
+    place = sym (after_push o (front_at o blocks (1 + i)) b w.before);
     points = refl;
     passed = each_append (λ x. low ≤ m (first_at o x)) w.before (b ∷ []) w.passed (k, tt);
   }
@@ -184,15 +189,15 @@ module _ (o blocks low i : ℕ) (small : i < 32) (first : CellStore) (m : ℕ �
     pub key_is : key ≡ m (first_at o b)
     key_is = first_same o blocks low i small first m cell p gone (b ∷ l) w b
 
-    pub in_bucket : key % 32 ≡ i
-    in_bucket = here_in_bucket o N i b w.before l (subst (λ (q : List ℕ). IsBucket o N i q) w.split (w.state.stands.holds.buckets i small))
+    pub in_bucket : key % bucket_count blocks ≡ i
+    in_bucket = here_in_bucket o blocks N i b w.before l (subst (λ (q : List ℕ). IsBucket o blocks N i q) w.split (w.state.stands.holds.buckets i small))
 
-    abbrev pub found : HasKeyBlock o N key (bucket_at o (key % 32)) (w.state.stands.chains (1 + key % 32)) cell b
+    abbrev pub found : HasKeyBlock o N key (bucket_at o blocks (key % bucket_count blocks)) (w.state.stands.chains (1 + key % bucket_count blocks)) cell b
     found = record {
       before = w.before;
       behind = l;
       split = ap (λ (x : ℕ). w.state.stands.chains (1 + x)) in_bucket ∙ w.split;
-      place = w.place ∙ ap (λ (a : ℕ). cell_after o a w.before) (front_bucket o i small ∙ ap (bucket_at o) (sym in_bucket));
+      place = w.place ∙ ap (λ (a : ℕ). cell_after o a w.before) (front_bucket o blocks i small ∙ ap (bucket_at o blocks) (sym in_bucket));
       same = refl;
       value = ap (value_in o N key) (ap (λ (x : ℕ). w.state.stands.chains (1 + x)) in_bucket ∙ w.split)
           ∙ value_past o N key w.before (b ∷ l) (past o blocks low i small first m cell p gone (b ∷ l) w key (omega (arith, key_is, less))) ∙ rw (eq-eqb key key refl) refl;
@@ -241,14 +246,14 @@ module _ (o blocks low i : ℕ) (small : i < 32) (first : CellStore) (m : ℕ �
     next_stands : StandsForStore o blocks (with_value given (keys_at o) (fin.len next.map)) next
     next_stands = subst (λ (x : ℕ → ℕ). StandsForStore o blocks x next) (sym same_cells) (del_stands o blocks N s w.state.stands key b cell found)
 
-    chain_left : IsChain o (with_value given (keys_at o) (fin.len next.map)) (front_at o (1 + i)) (w.before ++ l)
-    chain_left = subst (λ (x : ℕ → ℕ). IsChain o x (front_at o (1 + i)) (w.before ++ l)) (sym same_cells)
-        (subst (λ (x : ℕ). IsChain o (m4 o blocks N s w.state.stands key b cell found) (front_at o (1 + x)) (w.before ++ l)) in_bucket (left_chain o blocks N s w.state.stands key b cell found))
+    chain_left : IsChain o (with_value given (keys_at o) (fin.len next.map)) (front_at o blocks (1 + i)) (w.before ++ l)
+    chain_left = subst (λ (x : ℕ → ℕ). IsChain o x (front_at o blocks (1 + i)) (w.before ++ l)) (sym same_cells)
+        (subst (λ (x : ℕ). IsChain o (m4 o blocks N s w.state.stands key b cell found) (front_at o blocks (1 + x)) (w.before ++ l)) in_bucket (left_chain o blocks N s w.state.stands key b cell found))
 
-    first_given : (x : ℕ) → given (first_at o x) ≡ m (first_at o x)
-    first_given x = changed_other (with_value linked (link_at o b) (linked (free_at o))) (free_at o) (b + 1) (first_at o x) (λ e. omega arith)
+    first_given : (x : ℕ) → x < blocks → given (first_at o x) ≡ m (first_at o x)
+    first_given x x_in = changed_other (with_value linked (link_at o b) (linked (free_at o))) (free_at o) (b + 1) (first_at o x) (λ e. omega arith)
         ∙ changed_other linked (link_at o b) (linked (free_at o)) (first_at o x) (λ e. omega arith)
-        ∙ changed_other m cell (m (link_at o b)) (first_at o x) (apart o blocks low i small first m cell p gone (b ∷ l) w (first_at o x) (λ e. omega (arith, e, front_below o (1 + i) (omega (arith, small)))) (λ y e. omega arith))
+        ∙ changed_other m cell (m (link_at o b)) (first_at o x) (apart o blocks low i small first m cell p gone (b ∷ l) w (first_at o x) (λ e. front_no_block o blocks (1 + i) x 0 (omega (arith, small)) x_in (omega arith) (sym e)) (λ y e. omega arith))
 
     removed : (k : ℕ) → k ≢ key → fin.get next.map k ≡ fin.get s.map k
     removed k n = fin.get-remove nat_cmp_total s.map key k ∙ ap (λ (t : Bool). cond t None (fin.get s.map k)) (keys_tie k key ∙ ne_eqb k key n)
@@ -275,12 +280,12 @@ module _ (o blocks low i : ℕ) (small : i < 32) (first : CellStore) (m : ℕ �
     leaves = record {
       state = next_state;
       before = w.before;
-      split = same_chain o (with_value given (keys_at o) (fin.len next.map)) (front_at o (1 + i)) (next_stands.chains (1 + i)) (w.before ++ l) (next_stands.heap.linked (1 + i) (omega (arith, small))) chain_left;
+      split = same_chain o (with_value given (keys_at o) (fin.len next.map)) (front_at o blocks (1 + i)) (next_stands.chains (1 + i)) (w.before ++ l) (next_stands.heap.linked (1 + i) (omega (arith, small))) chain_left;
       place = w.place;
       points = sym link_same ∙ same_head o N (with_value given (keys_at o) (fin.len next.map)) (link_at o b) cell l (chain o blocks low i small first m cell p gone (b ∷ l) w).1
-          (subst (λ (a : ℕ). IsChain o (with_value given (keys_at o) (fin.len next.map)) a l) (sym w.place) (chain_behind o (with_value given (keys_at o) (fin.len next.map)) (front_at o (1 + i)) w.before l chain_left))
+          (subst (λ (a : ℕ). IsChain o (with_value given (keys_at o) (fin.len next.map)) a l) (sym w.place) (chain_behind o (with_value given (keys_at o) (fin.len next.map)) (front_at o blocks (1 + i)) w.before l chain_left))
           ∙ changed_other given (keys_at o) (fin.len next.map) cell (λ e. no_keys_here (sym e));
-      passed = each_same o low m given w.before first_given w.passed;
+      passed = each_same o blocks low m given w.before first_given before_below w.passed;
     }
 
     -- the pointer cell takes the link, and the block is given back

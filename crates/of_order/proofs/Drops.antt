@@ -10,11 +10,12 @@ use Rattle.of_mem.specs.declared.part.Need.{Need}
 use Rattle.of_mem.specs.declared.plot.Plot.{Plot}
 use Rattle.of_mem.specs.Plots.{base}
 use Rattle.of_mem.specs.Part.{Part}
-use Rattle.of_mem.specs.Places.{keys_at, bucket_at, cells_at}
+use Rattle.of_mem.specs.Places.{bucket_count, keys_at, bucket_at, cells_at}
 use Rattle.of_mem.specs.Programs.{Program, Write, with_value, program_answer, memory_after, StaysBetween, StaysFrom}
 use Rattle.of_mem.specs.Stores.{CellStore, StandsForStore, first_at, link_at}
 use Rattle.of_mem.specs.Calls.{RunsProgram, ActsOnStore}
 use Rattle.of_mem.proofs.Calls.{acts}
+use Rattle.of_mem.proofs.BucketPlaces.{bucket_in, key_bucket}
 use Rattle.of_mem.proofs.Changes.{changed_same, changed_other}
 use Rattle.of_mem.proofs.Counts.{few_blocks, keys_small}
 use Rattle.of_mem.proofs.Heaps.{front_bucket}
@@ -43,7 +44,7 @@ module _ (o blocks low : ℕ) (few : blocks ≤ MOST_BLOCKS) (first : CellStore)
   abbrev pub Drops : ℕ → (ℕ → ℕ) → Program ℕ → Type 0
   Drops i m f = StaysBetween o (cells_at o blocks) f m × IsBetweenBuckets o blocks low (i + 1) first (memory_after f m) (program_answer f m)
 
-  module _ (i : ℕ) (small : i < 32) where
+  module _ (i : ℕ) (small : i < bucket_count blocks) where
     abbrev Walks : ℕ → Type 0
     Walks n = (m : ℕ → ℕ) (cell p gone : ℕ) (behind : List ℕ) → IsInsideBucket o blocks low i first m cell p gone behind → length behind ≤ n → Drops i m (drop_walk o low n cell p gone)
 
@@ -69,12 +70,12 @@ module _ (o blocks low : ℕ) (few : blocks ≤ MOST_BLOCKS) (first : CellStore)
     walk_drops zero m cell p gone behind w k = (tt, bucket_done o blocks low i small first m cell p gone behind w (no_length behind k))
     walk_drops (suc n) m cell p gone behind w k = at_drops n (walk_drops n) m cell p gone behind w k p refl
 
-    pub within_first : (m : ℕ → ℕ) (gone : ℕ) → (s : IsBetweenBuckets o blocks low i first m gone) → IsInsideBucket o blocks low i first m (bucket_at o i) (m (bucket_at o i)) gone (s.stands.chains (1 + i))
+    pub within_first : (m : ℕ → ℕ) (gone : ℕ) → (s : IsBetweenBuckets o blocks low i first m gone) → IsInsideBucket o blocks low i first m (bucket_at o blocks i) (m (bucket_at o blocks i)) gone (s.stands.chains (1 + i))
     within_first m gone s = record {
       state = s;
       before = [];
       split = refl;
-      place = sym (front_bucket o i small);
+      place = sym (front_bucket o blocks i small);
       points = refl;
       passed = tt;
     }
@@ -82,18 +83,18 @@ module _ (o blocks low : ℕ) (few : blocks ≤ MOST_BLOCKS) (first : CellStore)
     pub in_drops : (m : ℕ → ℕ) (gone : ℕ) → IsBetweenBuckets o blocks low i first m gone → Drops i m (drop_in_program o blocks i low gone)
     in_drops m gone s =
         let many : length (s.stands.chains (1 + i)) ≤ blocks = omega (arith, few_blocks o blocks _ s.store s.stands (1 + i) (omega (arith, small))) in
-        let r = walk_drops blocks m (bucket_at o i) (m (bucket_at o i)) gone (s.stands.chains (1 + i)) (within_first m gone s) many in
-        ((omega arith, omega (arith, small), r.0), r.1)
+        let r = walk_drops blocks m (bucket_at o blocks i) (m (bucket_at o blocks i)) gone (s.stands.chains (1 + i)) (within_first m gone s) many in
+        ((omega arith, (bucket_in o blocks i small).1, r.0), r.1)
 
   -- ---- all buckets
 
-  module _ (m : ℕ → ℕ) (gone : ℕ) (s : IsBetweenBuckets o blocks low 32 first m gone) where
+  module _ (m : ℕ → ℕ) (gone : ℕ) (s : IsBetweenBuckets o blocks low (bucket_count blocks) first m gone) where
     left : (key : ℕ) → fin.get s.store.map key ≡ fin.get (keys_from first.map low) key
     left key = go (leb low key) refl ∙ sym (get-retain_keys first.map (λ k. leb low k) key (λ x t. ap (leb low) (sym (nat_cmp-IsAntisymmetric key x t))))
       where
         go : (t : Bool) → leb low key ≡ t → fin.get s.store.map key ≡ cond (leb low key) (fin.get first.map key) None
         go true e = rw e (s.fewer.stays key (leb-true low key e))
-        go false e = rw e (s.cleared key (let k = leb-false low key e in omega (arith, k)) (omega arith))
+        go false e = rw e (s.cleared key (let k = leb-false low key e in omega (arith, k)) (key_bucket blocks key))
 
     map_is : s.store.map ≡ keys_from first.map low
     map_is = same_map nat_cmp_total nat_cmp-IsAntisymmetric s.store.map (keys_from first.map low) left
@@ -117,9 +118,9 @@ module _ (o blocks low : ℕ) (few : blocks ≤ MOST_BLOCKS) (first : CellStore)
   abbrev Ends : ℕ → ℕ → (ℕ → ℕ) → ℕ → Type 0
   Ends j i m gone = StaysBetween o (cells_at o blocks) (drop_buckets o blocks low j i gone) m × (program_answer (drop_buckets o blocks low j i gone) m ≡ dropped_count low first) × StandsForStore o blocks (memory_after (drop_buckets o blocks low j i gone) m) (after_drop low first)
 
-  buckets_end : (j i : ℕ) (m : ℕ → ℕ) (gone : ℕ) → i + j ≡ 32 → IsBetweenBuckets o blocks low i first m gone → Ends j i m gone
+  buckets_end : (j i : ℕ) (m : ℕ → ℕ) (gone : ℕ) → i + j ≡ bucket_count blocks → IsBetweenBuckets o blocks low i first m gone → Ends j i m gone
   unfolding drop_buckets
-  buckets_end zero i m gone e s = let is : i ≡ 32 = omega arith in counted_stands m gone (subst (λ (x : ℕ). IsBetweenBuckets o blocks low x first m gone) is s) gone refl
+  buckets_end zero i m gone e s = let is : i ≡ bucket_count blocks = omega arith in counted_stands m gone (subst (λ (x : ℕ). IsBetweenBuckets o blocks low x first m gone) is s) gone refl
   buckets_end (suc j) i m gone e s =
       let f = drop_in_program o blocks i low gone in
       let g = drop_buckets o blocks low j (i + 1) in
@@ -141,7 +142,7 @@ module _ (o blocks low : ℕ) (few : blocks ≤ MOST_BLOCKS) (first : CellStore)
   }
 
   pub drop_means : (m : ℕ → ℕ) → StandsForStore o blocks m first → StaysBetween o (cells_at o blocks) (drop_program o blocks low) m × (program_answer (drop_program o blocks low) m ≡ dropped_count low first) × StandsForStore o blocks (memory_after (drop_program o blocks low) m) (after_drop low first)
-  drop_means m h = buckets_end 32 0 m 0 refl (at_first m h)
+  drop_means m h = buckets_end (bucket_count blocks) 0 m 0 (omega arith) (at_first m h)
 
 -- what such a call does
 pub drop_acts : (plot : Plot) (low : ℕ) (p q : Part) (result : Result ℕ Need) → RunsProgram (drop_below plot low) p q result → ActsOnStore plot p q result (dropped_count low) (after_drop low)
@@ -171,7 +172,7 @@ module _ (o low : ℕ) where
   unfolding drop_buckets
   buckets_stay blocks zero i gone = count_stays gone
   buckets_stay blocks (suc j) i gone =
-      stays_then o (drop_in_program o blocks i low gone) (drop_buckets o blocks low j (i + 1)) (omega arith, λ front. walk_stays blocks (bucket_at o i) front gone (omega arith)) (λ g. buckets_stay blocks j (i + 1) g)
+      stays_then o (drop_in_program o blocks i low gone) (drop_buckets o blocks low j (i + 1)) (omega arith, λ front. walk_stays blocks (bucket_at o blocks i) front gone (omega arith)) (λ g. buckets_stay blocks j (i + 1) g)
 
   pub drop_stays : (blocks : ℕ) → StaysFrom o (drop_program o blocks low)
-  drop_stays blocks = buckets_stay blocks 32 0 0
+  drop_stays blocks = buckets_stay blocks (bucket_count blocks) 0 0

@@ -6,7 +6,7 @@ use Rattle.std.proofs.lemmas.Result.{MatchResult-weaker}
 use Rattle.of_mem.specs.declared.part.Need.{Need}
 use Rattle.of_mem.specs.declared.plot.Plot.{Plot}
 use Rattle.of_mem.specs.Plots.{base, data_cell_count}
-use Rattle.of_mem.specs.Places.{bucket_at}
+use Rattle.of_mem.specs.Places.{bucket_count, bucket_at}
 use Rattle.of_mem.specs.Part.{Part, newest_at}
 use Rattle.of_mem.specs.Programs.{Program, then_do, Read, Lacks, Ends, run_program, IsPartOf}
 use Rattle.of_mem.specs.Stores.{IsChain, link_at, first_at}
@@ -32,7 +32,7 @@ pub record Points (plot : Plot) (p : Part) (pointer : ℕ) : Type 0 where
 pub is_suc : (f : ℕ) → f ≢ 0 → f ≡ suc (f - 1)
 is_suc f n = omega arith
 
-pub points_first : (plot : Plot) (p : Part) (i a f : ℕ) → HasStore plot p → i < 32 → a ≡ bucket_at (base plot) i → newest_at p a ≡ Some f → Points plot p f
+pub points_first : (plot : Plot) (p : Part) (i a f : ℕ) → HasStore plot p → i < bucket_count plot.blocks → a ≡ bucket_at (base plot) plot.blocks i → newest_at p a ≡ Some f → Points plot p f
 points_first plot p i a f h l is e = record {
   fits = h.fits;
   memory = h.memory;
@@ -40,7 +40,7 @@ points_first plot p i a f h l is e = record {
   cell = a;
   is = sym (h.part a f e);
   chain = h.stands.chains (1 + i);
-  linked = subst (λ (x : ℕ). IsChain (base plot) h.memory x (h.stands.chains (1 + i))) (front_bucket (base plot) i l ∙ sym is) (h.stands.heap.linked (1 + i) (omega arith));
+  linked = subst (λ (x : ℕ). IsChain (base plot) h.memory x (h.stands.chains (1 + i))) (front_bucket (base plot) plot.blocks i l ∙ sym is) (h.stands.heap.linked (1 + i) (omega arith));
   below = blocks_below (base plot) plot.blocks h.memory h.store h.stands (1 + i) (omega arith);
 }
 

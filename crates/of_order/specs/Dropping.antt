@@ -4,8 +4,7 @@ use Rattle.std.specs.Prelude.{◌≡◌, ℕ, ◌+◌, ◌%◌, ◌<◌, ◌≤�
 use Rattle.std.specs.List.{AllByRecursion as Each}
 use Rattle.std.specs.FinMap as fin
 use Rattle.of_mem.specs.declared.plot.Plot.{Plot}
-use Rattle.of_mem.specs.declared.plot.TheConstants.{BUCKETS}
-use Rattle.of_mem.specs.Places.{keys_at}
+use Rattle.of_mem.specs.Places.{bucket_count, keys_at}
 use Rattle.of_mem.specs.Plots.{base, data_cell_count}
 use Rattle.of_mem.specs.Part.{Part, newest_at}
 use Rattle.of_mem.specs.Programs.{with_value, IsPartOf}
@@ -26,7 +25,8 @@ pub record IsBetweenBuckets (o blocks low i : ℕ) (first : CellStore) (m : ℕ 
   pub fewer : HasFewerKeys low first store gone
   pub counted : m (keys_at o) ≡ fin.len first.map
   pub few : fin.len first.map ≤ blocks
-  pub cleared : (key : ℕ) → key < low → key % BUCKETS < i → fin.get store.map key ≡ None
+  pub cleared : (key : ℕ) → key < low → key % bucket_count blocks < i
+      → fin.get store.map key ≡ None
 
 -- inside bucket i: the blocks before this pointer cell stay, and these are behind it
 pub record IsInsideBucket (o blocks low i : ℕ) (first : CellStore) (m : ℕ → ℕ)
@@ -34,7 +34,7 @@ pub record IsInsideBucket (o blocks low i : ℕ) (first : CellStore) (m : ℕ �
   pub state : IsBetweenBuckets o blocks low i first m gone
   pub before : List ℕ
   pub split : state.stands.chains (1 + i) ≡ before ++ behind
-  pub place : cell ≡ cell_after o (front_at o (1 + i)) before
+  pub place : cell ≡ cell_after o (front_at o blocks (1 + i)) before
   pub points : pointer ≡ m cell
   pub passed : Each (λ b. low ≤ m (first_at o b)) before
 

@@ -1,9 +1,8 @@
 -- What the calls on keys in their order read and write, and in which order.
 use Rattle.std.specs.Prelude.{ℕ, zero, suc, ◌+◌, ◌-◌, Bool, true, false, nat_lt, Option, None}
 use Rattle.of_mem.specs.declared.plot.Plot.{Plot}
-use Rattle.of_mem.specs.declared.plot.TheConstants.{BUCKETS}
 use Rattle.of_mem.specs.Plots.{base}
-use Rattle.of_mem.specs.Places.{bucket_at, keys_at}
+use Rattle.of_mem.specs.Places.{bucket_count, bucket_at, keys_at}
 use Rattle.of_mem.specs.Stores.{first_at, link_at}
 use Rattle.of_mem.specs.Programs.{Program, Done, Read, Write, then_do}
 use Rattle.of_alloc.specs.BlockPrograms.{give_program}
@@ -34,7 +33,7 @@ abbrev pub from_front : ℕ → ℕ → ℕ → Option ℕ → ℕ → Program (
 from_front o blocks low best front = least_walk o low blocks front best
 
 abbrev pub least_in_program : ℕ → ℕ → ℕ → ℕ → Option ℕ → Program (Option ℕ)
-least_in_program o blocks i low best = Read (bucket_at o i) (from_front o blocks low best)
+least_in_program o blocks i low best = Read (bucket_at o blocks i) (from_front o blocks low best)
 
 -- so many buckets, from this one on
 unfoldable pub least_buckets : ℕ → ℕ → ℕ → ℕ → ℕ → Option ℕ → Program (Option ℕ)
@@ -43,7 +42,7 @@ least_buckets o blocks low (suc j) i best =
     then_do (least_in_program o blocks i low best) (least_buckets o blocks low j (i + 1))
 
 abbrev pub least_program : ℕ → ℕ → ℕ → Program (Option ℕ)
-least_program o blocks low = least_buckets o blocks low BUCKETS 0 None
+least_program o blocks low = least_buckets o blocks low (bucket_count blocks) 0 None
 
 -- Dropping the keys below one.
 
@@ -74,10 +73,10 @@ drop_walk o low zero cell pointer gone = Done gone
 drop_walk o low (suc n) cell pointer gone = drop_pointer o low (drop_walk o low n) cell gone pointer
 
 abbrev pub drop_front : ℕ → ℕ → ℕ → ℕ → ℕ → ℕ → Program ℕ
-drop_front o blocks i low gone front = drop_walk o low blocks (bucket_at o i) front gone
+drop_front o blocks i low gone front = drop_walk o low blocks (bucket_at o blocks i) front gone
 
 abbrev pub drop_in_program : ℕ → ℕ → ℕ → ℕ → ℕ → Program ℕ
-drop_in_program o blocks i low gone = Read (bucket_at o i) (drop_front o blocks i low gone)
+drop_in_program o blocks i low gone = Read (bucket_at o blocks i) (drop_front o blocks i low gone)
 
 -- the keys are counted at the end, where one has left
 abbrev pub less_gone : ℕ → ℕ → ℕ → Program ℕ
@@ -93,7 +92,7 @@ drop_buckets o blocks low (suc j) i gone =
     then_do (drop_in_program o blocks i low gone) (drop_buckets o blocks low j (i + 1))
 
 abbrev pub drop_program : ℕ → ℕ → ℕ → Program ℕ
-drop_program o blocks low = drop_buckets o blocks low BUCKETS 0 0
+drop_program o blocks low = drop_buckets o blocks low (bucket_count blocks) 0 0
 
 -- The programs of the calls on a plot.
 

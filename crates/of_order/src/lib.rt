@@ -3,13 +3,13 @@
 #![tactic(auto)]
 
 ghost use Rattle.std.specs.Prelude.{◌≡◌, ◌+◌, ◌<◌, length};
-ghost use Rattle.of_mem.specs.declared.plot.TheConstants.{BUCKETS};
+ghost use Rattle.of_mem.specs.Places.{bucket_count};
 ghost use Rattle.of_mem.specs.Calls.{RunsProgram, HasStore, AnswersOfStore, ActsOnStore};
 ghost use Rattle.of_order.specs.OrderPrograms as program;
 ghost use Rattle.of_order.specs.Means.{least_from, better_of, dropped_count, after_drop};
 ghost use Rattle.of_order.specs.Dropping.{IsDropping, IsDropped};
 
-use of_mem::{BUCKETS, Need, Part, Plot};
+use of_mem::{Need, Part, Plot};
 
 /// The least key, None where there is none. The error names a cell that is read and isn't known.
 pub fn first(plot: &Plot, part: &Part) -> Result<Option<u32>, Need>
@@ -36,7 +36,7 @@ fn least(plot: &Plot, part: &Part, low: u64) -> Result<Option<u32>, Need>
     ensures { RunsProgram (program.least plot.now low) part.now part.now result }
 {
     let mut best = None;
-    for bucket in 0..BUCKETS {
+    for bucket in 0..plot.buckets() {
         best = least_in(plot, part, bucket, low, best)?;
     }
     Ok(best)
@@ -51,7 +51,7 @@ fn least_in(
     best: Option<u32>,
 ) -> Result<Option<u32>, Need>
     requires stands { HasStore plot.now part.now }
-    requires bucket { bucket < BUCKETS }
+    requires bucket { bucket < bucket_count plot.now.blocks }
     ensures { RunsProgram (program.least_in plot.now bucket low best) part.now part.now result }
 {
     let mut best = best;
@@ -90,7 +90,7 @@ pub fn drop_below(plot: &Plot, part: &mut Part, key: u32) -> Result<u32, Need>
         (dropped_count key) (after_drop key) }
 {
     let mut gone = 0;
-    for bucket in 0..BUCKETS {
+    for bucket in 0..plot.buckets() {
         gone = drop_in(plot, part, bucket, key, gone)?;
     }
     count_down(plot, part, gone)
@@ -99,7 +99,7 @@ pub fn drop_below(plot: &Plot, part: &mut Part, key: u32) -> Result<u32, Need>
 // Drops the keys of a bucket that are below this one, and answers how many are gone then.
 fn drop_in(plot: &Plot, part: &mut Part, bucket: u32, key: u32, gone: u32) -> Result<u32, Need>
     requires stands { IsDropping plot.now part.old key bucket gone }
-    requires bucket { bucket < BUCKETS }
+    requires bucket { bucket < bucket_count plot.now.blocks }
     ensures { RunsProgram (program.drop_in plot.now bucket key gone) part.old part.new result }
 {
     let mut gone = gone;

@@ -16,6 +16,7 @@ use Rattle.of_plan.specs.declared.parser.state.Stage.{Stage}
 use Rattle.of_plan.specs.declared.parser.state.Stage.TheVariants.{Start, Named, Counted, Sized, Body as InBody, Ended}
 use Rattle.of_cell.specs.Cells.{durable_cells, log_room}
 use Rattle.of_cell.proofs.Rooms.{room_upto}
+use Rattle.of_mem.proofs.BucketPlaces.{few_behind}
 use Rattle.of_plan.specs.Lines.{text_lines, line_words}
 use Rattle.of_plan.specs.Plan.{Plan, turns_of, data_cells}
 use Rattle.of_plan.specs.Grammar.{Heading, limit_lines, plan_lines, IsHeading, IsEntryInRange, AreEntries, SpellsPlan, item_of, scripts_in, stop_in}
@@ -227,8 +228,8 @@ follows h es k a = follows_by h.callers h.blocks h.limit es k a
 
 cells_small : (n b a : ℕ) → n ≤ 16 → b ≤ 512 → a < durable_cells n (data_cells n b) → a ≤ 4294967295
 cells_small n b a few low lt =
-    let rows : 2 * log_room n (data_cells n b) + 1 ≤ 3775 = omega (arith, room_upto n (data_cells n b)) in
-    omega (arith, mul-le-mul_left n rows)
+    let rows : 2 * log_room n (data_cells n b) + 1 ≤ 3775 = omega (arith, room_upto n (data_cells n b), few_behind b low) in
+    omega (arith, mul-le-mul_left n rows, few_behind b low)
 
 entries_range : (h : Heading) (es : List BodyLine) → IsHeading h → AllByRecursion (IsEntryInRange h) es → sum_by turns_of (filter_map item_of es) ≤ 10000000 → AllByRecursion IsLineInRange (map Body es ++ End ∷ [])
 entries_range h [] k r few = (tt, tt)

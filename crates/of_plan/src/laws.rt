@@ -50,7 +50,7 @@ pub fn numbers()
 {}
 
 /// A log of a plan's table has room for each data cell.
-#[tactic(auto, using(of_cell::proofs::Rooms::room_whole))]
+#[tactic(auto, using(of_cell::proofs::Rooms::room_whole, of_mem::proofs::BucketPlaces::few_behind))]
 pub fn logs_are_whole()
     ensures { (n b : ℕ) → n ≤ cell.MOST_CALLERS → b ≤ store.MOST_BLOCKS
         → log_room n (data_cells n b) ≡ data_cells n b }

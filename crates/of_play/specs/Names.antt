@@ -3,7 +3,7 @@
 use Rattle.std.specs.Prelude.{◌≡◌, ℕ, ◌+◌, ◌-◌, ◌*◌, ◌/◌, ◌%◌, ◌<◌, ◌==◌, nat_lt, if◌then◌else◌}
 use Rattle.of_cell.specs.Cells.{log_room, request_cell, data_cell, log_cell, durable_cells, durable_place, script_place, announce_place, members_place, table_words}
 use Rattle.of_mem.specs.declared.work.TheConstants.{MOST_INSTRS}
-use Rattle.of_mem.specs.Places.{base_of, ticket_cell_at, shape_at, reply_at, register_at, fresh_at, free_at, keys_at, bucket_at, head_at, tail_at, length_at, block_at}
+use Rattle.of_mem.specs.Places.{base_of, ticket_cell_at, shape_at, reply_at, register_at, fresh_at, free_at, keys_at, few_bucket_at, head_at, tail_at, length_at, block_at}
 use Rattle.of_play.specs.declared.names.CellUse.{CellUse}
 use Rattle.of_play.specs.declared.names.CellUse.TheVariants.{Ticket, Shape, Reply, Register, Taken, Free, Keys, Bucket, Front, Back, Length, Block}
 use Rattle.of_play.specs.declared.names.ShownCell.{ShownCell}
@@ -20,7 +20,7 @@ address_of n (Register r) = register_at (base_of n MOST_INSTRS) r
 address_of n Taken = fresh_at (base_of n MOST_INSTRS)
 address_of n Free = free_at (base_of n MOST_INSTRS)
 address_of n Keys = keys_at (base_of n MOST_INSTRS)
-address_of n (Bucket b) = bucket_at (base_of n MOST_INSTRS) b
+address_of n (Bucket b) = few_bucket_at (base_of n MOST_INSTRS) b
 address_of n (Front q) = head_at (base_of n MOST_INSTRS) q
 address_of n (Back q) = tail_at (base_of n MOST_INSTRS) q
 address_of n (Length q) = length_at (base_of n MOST_INSTRS) q
@@ -56,7 +56,7 @@ store_cell o a =
     else if a == fresh_at o then Taken
     else if a == free_at o then Free
     else if a == keys_at o then Keys
-    else if nat_lt a (head_at o 0) then Bucket (a - bucket_at o 0)
+    else if nat_lt a (head_at o 0) then Bucket (a - few_bucket_at o 0)
     else if nat_lt a (block_at o 0 0)
     then queue_cell ((a - head_at o 0) / 3) ((a - head_at o 0) % 3)
     else Block ((a - block_at o 0 0) / 3) ((a - block_at o 0 0) % 3)

@@ -97,6 +97,7 @@ impl CellUse {
     ghost use Rattle.of_mem.specs.Places.{base_of};
 
     /// What a data cell behind those of the callers holds.
+    #[tactic(auto, using(of_mem::proofs::BucketPlaces::few_first, of_mem::proofs::BucketPlaces::some_buckets))]
     fn in_store(plot: &Plot, addr: u32) -> CellUse
         requires instrs { plot.now.instrs ≡ MOST_INSTRS }
         requires behind { base_of plot.now.callers MOST_INSTRS ≤ addr }

@@ -4,7 +4,7 @@ use Rattle.std.specs.List.{AllByRecursion as Each}
 use Rattle.of_mem.specs.Places.{fresh_at, free_at, head_at, tail_at, length_at}
 use Rattle.of_mem.specs.Part.{Part, newest_at, write}
 use Rattle.of_mem.specs.Programs.{memory_after, with_value}
-use Rattle.of_mem.specs.Stores.{IsChain, front_at, first_at, link_at}
+use Rattle.of_mem.specs.Stores.{queue_chain, IsChain, front_at, first_at, link_at}
 use Rattle.of_mem.specs.declared.plot.Plot.{Plot}
 use Rattle.of_mem.specs.Plots.{base}
 use Rattle.of_mem.specs.Calls.{RunsProgram, HasStore}
@@ -41,15 +41,15 @@ last_apart o q (suc t) l e = omega arith
 
 -- the front of a queue that isn't empty
 pub front_is : (plot : Plot) (p : Part) (q f a : ℕ) → q < 4 → HasStore plot p → a ≡ head_at (base plot) q → newest_at p a ≡ Some f → f ≢ 0 → IsFront plot p q (f - 1)
-front_is plot p q f a l has at e n = go (has.stands.chains (33 + q)) refl
+front_is plot p q f a l has at e n = go (has.stands.chains (queue_chain plot.blocks q)) refl
   where
-    head : has.memory (front_at (base plot) (33 + q)) ≡ f
-    head = rw front_head (has.part (head_at (base plot) q) f (rw at at e))
+    head : has.memory (front_at (base plot) plot.blocks (queue_chain plot.blocks q)) ≡ f
+    head = rw (front_head (base plot) plot.blocks q) (has.part (head_at (base plot) q) f (rw at at e))
 
-    go : (l : List ℕ) → has.stands.chains (33 + q) ≡ l → IsFront plot p q (f - 1)
-    go [] is = absurd (n (sym head ∙ subst (IsChain (base plot) has.memory (front_at (base plot) (33 + q))) is (has.stands.heap.linked (33 + q) (omega arith))))
+    go : (l : List ℕ) → has.stands.chains (queue_chain plot.blocks q) ≡ l → IsFront plot p q (f - 1)
+    go [] is = absurd (n (sym head ∙ subst (IsChain (base plot) has.memory (front_at (base plot) plot.blocks (queue_chain plot.blocks q))) is (has.stands.heap.linked (queue_chain plot.blocks q) (omega arith))))
     go (b ∷ rest) is =
-        let first : has.memory (front_at (base plot) (33 + q)) ≡ b + 1 = (subst (IsChain (base plot) has.memory (front_at (base plot) (33 + q))) is (has.stands.heap.linked (33 + q) (omega arith))).0 in
+        let first : has.memory (front_at (base plot) plot.blocks (queue_chain plot.blocks q)) ≡ b + 1 = (subst (IsChain (base plot) has.memory (front_at (base plot) plot.blocks (queue_chain plot.blocks q))) is (has.stands.heap.linked (queue_chain plot.blocks q) (omega arith))).0 in
         let same : b ≡ f - 1 = omega (arith, head) in
         record { fits = has.fits; queue = l; memory = has.memory; store = has.store; part = has.part; stands = has.stands; rest = rest; front = rw (← same) is }
 

@@ -6,7 +6,7 @@ use Rattle.of_mem.specs.Places.{head_at, cells_at}
 use Rattle.of_mem.specs.Part.{Part}
 use Rattle.of_mem.specs.Programs.{program_answer, memory_after, StaysBetween}
 use Rattle.of_mem.specs.Numbers.{IsNumber}
-use Rattle.of_mem.specs.Stores.{CellStore, StandsForStore, IsChain, front_at, first_at}
+use Rattle.of_mem.specs.Stores.{queue_chain, CellStore, StandsForStore, IsChain, front_at, first_at}
 use Rattle.of_mem.specs.declared.part.Need.{Need}
 use Rattle.of_mem.specs.declared.plot.Plot.{Plot}
 use Rattle.of_mem.specs.Plots.{base}
@@ -43,10 +43,10 @@ module _ (o blocks : ℕ) (few : blocks ≤ MOST_BLOCKS) (m : ℕ → ℕ) (s : 
   abbrev Popped : Option ℕ → (ℕ → ℕ) → Type 0
   Popped r n = (r ≡ front_of (s.queues q)) × StandsForStore o blocks n (after_pop q s)
 
-  linked : (l : List ℕ) → h.chains (33 + q) ≡ l → IsChain o m (head_at o q) l
-  linked l is = subst (λ (a : ℕ). IsChain o m a l) (front_head o q) (subst (IsChain o m (front_at o (33 + q))) is (h.heap.linked (33 + q) (omega (arith, q_in))))
+  linked : (l : List ℕ) → h.chains (queue_chain blocks q) ≡ l → IsChain o m (head_at o q) l
+  linked l is = subst (λ (a : ℕ). IsChain o m a l) (front_head o blocks q) (subst (IsChain o m (front_at o blocks (queue_chain blocks q))) is (h.heap.linked (queue_chain blocks q) (omega (arith, q_in))))
 
-  items_are : (l : List ℕ) → h.chains (33 + q) ≡ l → s.queues q ≡ map (λ (x : ℕ). m (first_at o x)) l
+  items_are : (l : List ℕ) → h.chains (queue_chain blocks q) ≡ l → s.queues q ≡ map (λ (x : ℕ). m (first_at o x)) l
   items_are l is = sym (h.holds.queues q q_in).listed ∙ ap (map (λ (x : ℕ). m (first_at o x))) is
 
   by_head : (f : ℕ) → m (head_at o q) ≡ f → StaysBetween o (cells_at o blocks) (with_head o q f) m × Popped (program_answer (with_head o q f) m) (memory_after (with_head o q f) m)
@@ -55,14 +55,14 @@ module _ (o blocks : ℕ) (few : blocks ≤ MOST_BLOCKS) (m : ℕ → ℕ) (s : 
       let g = subst (λ (x : ℕ). StaysBetween o (cells_at o blocks) (with_head o q x) m × Popped (program_answer (with_head o q x) m) (memory_after (with_head o q x) m)) (sym e) k in
       ((omega arith, omega (arith, q_in), g.0), g.1)
 
-  by_chain : (l : List ℕ) → h.chains (33 + q) ≡ l → StaysBetween o (cells_at o blocks) (pop_program o q) m × Popped (program_answer (pop_program o q) m) (memory_after (pop_program o q) m)
+  by_chain : (l : List ℕ) → h.chains (queue_chain blocks q) ≡ l → StaysBetween o (cells_at o blocks) (pop_program o q) m × Popped (program_answer (pop_program o q) m) (memory_after (pop_program o q) m)
   by_chain [] is = by_head 0 (linked [] is) (tt, rw (items_are [] is) (refl, h))
   by_chain (b ∷ rest) is =
       let items = map (λ (x : ℕ). m (first_at o x)) rest in
       by_head (suc b) ((linked (b ∷ rest) is).0 ∙ (omega arith)) (front_inside o blocks m s h q b rest items q_in is (items_are (b ∷ rest) is) few, pop_acts o blocks m s h q b rest items q_in is (items_are (b ∷ rest) is))
 
   pub pop_means : StaysBetween o (cells_at o blocks) (pop_program o q) m × Popped (program_answer (pop_program o q) m) (memory_after (pop_program o q) m)
-  pop_means = by_chain (h.chains (33 + q)) refl
+  pop_means = by_chain (h.chains (queue_chain blocks q)) refl
 
 -- what a push does
 pub push_acts : (plot : Plot) (q v : ℕ) → IsItem q v → (p n : Part) (result : Result Bool Need) → RunsProgram (push plot q v) p n result → ActsOnStore plot p n result (has_room plot.blocks) (after_push plot.blocks q v)

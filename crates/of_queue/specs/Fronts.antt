@@ -7,7 +7,7 @@ use Rattle.of_mem.specs.Places.{tail_at, length_at}
 use Rattle.of_mem.specs.Plots.{base, data_cell_count}
 use Rattle.of_mem.specs.Part.{Part, newest_at}
 use Rattle.of_mem.specs.Programs.{IsPartOf}
-use Rattle.of_mem.specs.Stores.{CellStore}
+use Rattle.of_mem.specs.Stores.{queue_chain, CellStore}
 use Rattle.of_mem.specs.Calls.{PlotStandsForStore}
 use Rattle.of_alloc.specs.Blocks.{HasOut}
 
@@ -34,7 +34,7 @@ pub record IsFront (plot : Plot) (p : Part) (q b : ℕ) : Type 0 where
   pub part : IsPartOf p memory
   pub stands : PlotStandsForStore plot memory store
   pub rest : List ℕ
-  pub front : stands.chains (33 + q) ≡ b ∷ rest
+  pub front : stands.chains (queue_chain plot.blocks q) ≡ b ∷ rest
 
 -- the block is out, and an item is still counted for it
 pub record IsPopped (plot : Plot) (p : Part) (q b : ℕ) : Type 0 where

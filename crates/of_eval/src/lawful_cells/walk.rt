@@ -1,24 +1,33 @@
 //! The walk through the chains.
 
 ghost use Rattle.std.specs.Prelude.{◌≡◌, ◌≢◌, ◌<◌, ◌+◌, ◌↔◌, IsTrue, EachIndex, slice_index, ℕ, List, length, IfOk, IfErr, OnOk, All};
-ghost use Rattle.of_mem.specs.declared.plot.TheConstants.{BUCKETS, QUEUES};
+ghost use Rattle.of_mem.specs.declared.plot.TheConstants.{QUEUES};
+ghost use Rattle.of_mem.specs.Numbers.{FitsCell};
 ghost use Rattle.of_mem.specs.Plots.{base, data_cell_count};
-ghost use Rattle.of_mem.specs.Places.{fresh_at};
+ghost use Rattle.of_mem.specs.Places.{bucket_count, fresh_at};
+ghost use Rattle.of_mem.specs.Stores.{queue_chain};
 ghost use Rattle.of_mem.specs.ProgramWork.{memory_of};
 ghost use Rattle.of_eval.specs.Walking.{NamesFault, CallersAreSound, RegistersAreNumbers, HasBegun, HasWalkedFreeList, IsBeforeChain, LinkLeadsOn, LinkIsAtFault, KeysAreCounted, KeysAreMiscounted, AllAreMet, SomeAreUnmet};
 
 use crate::lawful_cells::LawErr;
 use crate::lawful_cells::fill::{push, put};
-use of_mem::{BUCKETS, Plot};
+use of_mem::Plot;
 use of_script::{GREATEST, REGISTERS};
 use of_store::Store;
 
 // The chains in order: the free list, the buckets, the queues.
-const FREE_CHAIN: u8 = 0;
+const FREE_CHAIN: u32 = 0;
 
-const FIRST_BUCKET_CHAIN: u8 = FREE_CHAIN + 1;
+const FIRST_BUCKET_CHAIN: u32 = FREE_CHAIN + 1;
 
-const FIRST_QUEUE_CHAIN: u8 = FIRST_BUCKET_CHAIN + BUCKETS as u8;
+// The number of a queue's chain.
+fn chain_of_queue(plot: &Plot, q: u32) -> u32
+    requires { q < QUEUES }
+    ensures value { result ≡ queue_chain plot.now.blocks q }
+    ensures small { FitsCell (result + 1) }
+{
+    FIRST_BUCKET_CHAIN + plot.buckets() + q
+}
 
 /// Looks at the registers.
 pub(crate) fn registers(plot: &Plot, cells: &[u32]) -> Result<(), LawErr>
@@ -55,9 +64,9 @@ pub(crate) fn fresh(plot: &Plot, cells: &[u32]) -> Result<u32, LawErr>
 
 /// The block to which a pointer cell leads, None at a chain's end. The block becomes its chain's; a
 /// block that has a chain already, or is beyond the table, is a fault of the pointer.
-fn next(cells: &[u32], cell: u32, chain: u8, owners: &mut [u8]) -> Result<Option<u32>, LawErr>
+fn next(cells: &[u32], cell: u32, chain: u32, owners: &mut [u32]) -> Result<Option<u32>, LawErr>
     requires cell { cell < length cells.now }
-    requires chain { chain < 255 }
+    requires chain { FitsCell (chain + 1) }
     ensures ok { IfOk result (LinkLeadsOn cells.now cell chain owners.old owners.new) }
     ensures err { IfErr result (LinkIsAtFault cells.now cell owners.old) }
 {
@@ -77,7 +86,7 @@ fn next(cells: &[u32], cell: u32, chain: u8, owners: &mut [u8]) -> Result<Option
 }
 
 /// Walks the free list, the first chain.
-pub(crate) fn free_list(plot: &Plot, cells: &[u32], owners: &mut [u8]) -> Result<(), LawErr>
+pub(crate) fn free_list(plot: &Plot, cells: &[u32], owners: &mut [u32]) -> Result<(), LawErr>
     requires sized { length cells.now ≡ data_cell_count plot.now }
     requires begun { HasBegun plot.now cells.now }
     requires fresh { length owners.old ≡ memory_of cells.now (fresh_at (base plot.now)) }
@@ -93,26 +102,28 @@ pub(crate) fn free_list(plot: &Plot, cells: &[u32], owners: &mut [u8]) -> Result
 }
 
 /// Walks a bucket and puts its keys into the store.
+#[tactic(auto, using(of_mem::proofs::BucketPlaces::most_buckets))]
 pub(crate) fn bucket(
     plot: &Plot,
     cells: &[u32],
     b: u32,
-    owners: &mut [u8],
+    owners: &mut [u32],
     store: &mut Store,
 ) -> Result<(), LawErr>
     requires sized { length cells.now ≡ data_cell_count plot.now }
-    requires b { b < BUCKETS }
+    requires b { b < bucket_count plot.now.blocks }
     requires before { IsBeforeChain plot.now cells.now (1 + b) 0 owners.old store.old }
     ensures ok { OnOk result (IsBeforeChain plot.now cells.now (2 + b) 0 owners.new store.new) }
     ensures err { IfErr result (NamesFault plot.now cells.now) }
 {
+    let buckets = plot.buckets();
     let mut cell = plot.bucket(b);
-    while let Some(block) = next(cells, cell, FIRST_BUCKET_CHAIN + b as u8, owners)? {
+    while let Some(block) = next(cells, cell, FIRST_BUCKET_CHAIN + b, owners)? {
         let first = plot.block(block, 0);
         let second = plot.block(block, 1);
         let key = cells[first as usize];
         let value = cells[second as usize];
-        if key > GREATEST || key % BUCKETS != b || store.key(key).is_some() {
+        if key > GREATEST || key % buckets != b || store.key(key).is_some() {
             return Err(LawErr::Unlawful { cell: first });
         }
         if value > GREATEST {
@@ -143,19 +154,22 @@ pub(crate) fn queue(
     plot: &Plot,
     cells: &[u32],
     q: u32,
-    owners: &mut [u8],
+    owners: &mut [u32],
     store: &mut Store,
 ) -> Result<(), LawErr>
     requires sized { length cells.now ≡ data_cell_count plot.now }
     requires q { q < QUEUES }
-    requires before { IsBeforeChain plot.now cells.now (33 + q) (33 + q) owners.old store.old }
+    requires before { let n = queue_chain plot.now.blocks q in
+        IsBeforeChain plot.now cells.now n n owners.old store.old }
     ensures ok { OnOk result
-        (IsBeforeChain plot.now cells.now (34 + q) (34 + q) owners.new store.new) }
+        (let n = queue_chain plot.now.blocks (1 + q) in
+        IsBeforeChain plot.now cells.now n n owners.new store.new) }
     ensures err { IfErr result (NamesFault plot.now cells.now) }
 {
+    let chain = chain_of_queue(plot, q);
     let mut cell = plot.head(q);
     let mut last = 0;
-    while let Some(block) = next(cells, cell, FIRST_QUEUE_CHAIN + q as u8, owners)? {
+    while let Some(block) = next(cells, cell, chain, owners)? {
         let first = plot.block(block, 0);
         let item = cells[first as usize];
         if item > GREATEST {
@@ -177,7 +191,7 @@ pub(crate) fn queue(
 }
 
 /// Looks for a block that is in no chain.
-pub(crate) fn all_met(plot: &Plot, cells: &[u32], owners: &[u8]) -> Result<(), LawErr>
+pub(crate) fn all_met(plot: &Plot, cells: &[u32], owners: &[u32]) -> Result<(), LawErr>
     ensures ok { OnOk result (AllAreMet plot.now cells.now owners.now) }
     ensures err { IfErr result (SomeAreUnmet plot.now cells.now owners.now) }
 {
@@ -188,7 +202,7 @@ pub(crate) fn all_met(plot: &Plot, cells: &[u32], owners: &[u8]) -> Result<(), L
 }
 
 /// Whether each block of the table has an owner.
-fn all_owned(owners: &[u8]) -> bool
+fn all_owned(owners: &[u32]) -> bool
     ensures { IsTrue result ↔ EachIndex owners.now (λ k. slice_index owners.now k ≢ 0) }
 {
     owners.iter().all(|owner| *owner != 0)

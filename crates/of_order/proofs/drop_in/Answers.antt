@@ -3,6 +3,7 @@ use Rattle.std.proofs.lemmas.Result.{err_from_is_err_and}
 use Rattle.of_mem.specs.Plots.{base}
 use Rattle.of_mem.specs.Places.{bucket_at}
 use Rattle.of_mem.specs.Programs.{run_program}
+use Rattle.of_mem.proofs.BucketPlaces.{bucket_in}
 use Rattle.of_mem.proofs.Runs.{run_read, run_then_gives, run_then_needs}
 use Rattle.of_alloc.specs.BlockPrograms.{give_program}
 use Rattle.of_order.specs.OrderPrograms.{drop_walk, drop_front, after_give}
@@ -13,13 +14,18 @@ use Rattle.of_order.proofs.Rests.{turn, whole}
 
 pub loop-step-init : goal.loop-step-init
 loop-step-init c = record {
-  ran = run_read (bucket_at (base c.args.plot.now) c.args.bucket) (drop_front (base c.args.plot.now) c.args.plot.now.blocks c.args.bucket c.args.key c.args.gone) c.args.part.now c.in_ok-pointer.pointer (rw c.bucket-cell.ensures at c.in_ok-pointer.ensures)
+  ran = run_read (bucket_at (base c.args.plot.now) c.args.plot.now.blocks c.args.bucket) (drop_front (base c.args.plot.now) c.args.plot.now.blocks c.args.bucket c.args.key c.args.gone) c.args.part.now c.in_ok-pointer.pointer (rw c.bucket-cell.ensures at c.in_ok-pointer.ensures)
       ∙ ap (λ (x : ℕ). run_program (drop_walk (base c.args.plot.now) c.args.key c.args.plot.now.blocks x c.in_ok-pointer.pointer c.args.gone) c.args.part.now) (sym c.bucket-cell.ensures)
       ∙ ap (λ (n : ℕ). run_program (drop_walk (base c.args.plot.now) c.args.key n c.bucket-cell.result c.in_ok-pointer.pointer c.args.gone) c.args.part.now) (whole c.args.plot.now.blocks);
   stays = stays_first c.args.plot.now c.args.part.now c.args.key c.args.bucket c.args.gone c.bucket-cell.result c.in_ok-pointer.pointer c.requires.stands c.requires.bucket c.bucket-cell.ensures c.in_ok-pointer.ensures;
   known = refl;
   batch = refl;
 }
+
+pub read-requires : goal.read-requires
+read-requires c =
+    let k = bucket_in (base c.args.plot.now) c.args.plot.now.blocks c.args.bucket c.requires.bucket in
+    omega (arith, k, c.bucket-cell.ensures, c.requires.stands.fits)
 
 pub returns-then-pointer-eq0 : goal.returns-then-pointer-eq0
 returns-then-pointer-eq0 c = record {

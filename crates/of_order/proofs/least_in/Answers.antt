@@ -3,6 +3,7 @@ use Rattle.std.proofs.lemmas.Result.{err_from_is_err_and}
 use Rattle.of_mem.specs.Plots.{base}
 use Rattle.of_mem.specs.Places.{bucket_at}
 use Rattle.of_mem.specs.Programs.{run_program}
+use Rattle.of_mem.proofs.BucketPlaces.{bucket_in}
 use Rattle.of_mem.proofs.Runs.{run_read}
 use Rattle.of_order.specs.OrderPrograms.{least_walk, from_front}
 use Rattle.of_order.proofs.Walking.{points_first, points_below, points_on, least_end, least_needs_key, least_needs_link, least_on}
@@ -11,10 +12,15 @@ use Rattle.of_order.proofs.Rests.{turn, whole}
 
 pub loop-step-init : goal.loop-step-init
 loop-step-init c = record {
-  ran = run_read (bucket_at (base c.args.plot.now) c.args.bucket) (from_front (base c.args.plot.now) c.args.plot.now.blocks c.args.low c.args.best) c.args.part.now c.in_ok-pointer.pointer (rw c.bucket.ensures at c.in_ok-pointer.ensures)
+  ran = run_read (bucket_at (base c.args.plot.now) c.args.plot.now.blocks c.args.bucket) (from_front (base c.args.plot.now) c.args.plot.now.blocks c.args.low c.args.best) c.args.part.now c.in_ok-pointer.pointer (rw c.bucket.ensures at c.in_ok-pointer.ensures)
       ∙ ap (λ (n : ℕ). run_program (least_walk (base c.args.plot.now) c.args.low n c.in_ok-pointer.pointer c.args.best) c.args.part.now) (whole c.args.plot.now.blocks);
   points = points_first c.args.plot.now c.args.part.now c.args.bucket c.bucket.result c.in_ok-pointer.pointer c.requires.stands c.requires.bucket c.bucket.ensures c.in_ok-pointer.ensures;
 }
+
+pub read-requires : goal.read-requires
+read-requires c =
+    let k = bucket_in (base c.args.plot.now) c.args.plot.now.blocks c.args.bucket c.requires.bucket in
+    omega (arith, k, c.bucket.ensures, c.requires.stands.fits)
 
 pub returns-then-pointer-eq0 : goal.returns-then-pointer-eq0
 returns-then-pointer-eq0 c = record {

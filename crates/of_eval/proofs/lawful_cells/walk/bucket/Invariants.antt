@@ -5,7 +5,7 @@ use Rattle.of_eval.specs.Walking.{HasWalked, HoldsWhatWasMet, unmet_count}
 use Rattle.of_eval.proofs.lawful_cells.walk.bucket.Given as goal
 
 abbrev pub invariant-loop-block : goal.invariant-loop-block
-invariant-loop-block l = (chains : ℕ → List ℕ) × HasWalked l.plot l.cells (1 + l.b) 0 chains l.owners × HoldsWhatWasMet l.plot l.cells chains l.store × (l.cell ≡ pointer_cell (base l.plot) (1 + l.b) chains)
+invariant-loop-block l = (chains : ℕ → List ℕ) × HasWalked l.plot l.cells (1 + l.b) 0 chains l.owners × HoldsWhatWasMet l.plot l.cells chains l.store × (l.cell ≡ pointer_cell (base l.plot) l.plot.blocks (1 + l.b) chains)
 
 abbrev pub decreases-loop-block : goal.decreases-loop-block
 decreases-loop-block l = unmet_count l.owners

@@ -9,7 +9,7 @@ use Rattle.of_eval.proofs.Passing.{counted_few, leads_on, walked_step, pointer_f
 use Rattle.of_eval.proofs.lawful_cells.walk.free_list.Goals as goal
 
 pub loop-block-init : goal.loop-block-init
-loop-block-init c = ((λ _. []), walked_none c.args.plot.now c.args.cells.now c.args.owners.now c.requires.begun c.requires.fresh c.requires.unmet, c.free-cell.ensures ∙ sym (front_free (base c.args.plot.now)))
+loop-block-init c = ((λ _. []), walked_none c.args.plot.now c.args.cells.now c.args.owners.now c.requires.begun c.requires.fresh c.requires.unmet, c.free-cell.ensures ∙ sym (front_free (base c.args.plot.now) c.args.plot.now.blocks))
 
 pub next-requires-clause-cell : goal.next-requires-clause-cell
 next-requires-clause-cell c =
@@ -21,7 +21,7 @@ pub returns-in_err-block-clause-err : goal.returns-in_err-block-clause-err
 returns-in_err-block-clause-err c =
     let i = c.loop-block.invariant in
     let q = err_from_is_err_and c.from_residual.result c.from_residual.ensures.1 in
-    rw (q.1, q.2) (pointer_fault c.args.plot.now c.args.cells.now 0 0 i.0 c.loop-block.owners i.1 c.loop-block.cell c.in_err-block.field-0.0 (omega arith) (counted_few (base c.args.plot.now) (memory_of c.args.cells.now) 0 i.0 (omega arith)) i.2 c.in_err-block.ensures.err)
+    rw (q.1, q.2) (pointer_fault c.args.plot.now c.args.cells.now 0 0 i.0 c.loop-block.owners i.1 c.loop-block.cell c.in_err-block.field-0.0 (omega arith) (counted_few (base c.args.plot.now) c.args.plot.now.blocks (memory_of c.args.cells.now) 0 i.0 (omega arith)) i.2 c.in_err-block.ensures.err)
 
 pub loop-block-smaller : goal.loop-block-smaller
 loop-block-smaller c =
@@ -34,7 +34,7 @@ loop-block-preserved c =
     let s = subst (λ (o : Option ℕ). LinkLeadsOn c.args.cells.now c.loop-block.cell 0 c.loop-block.owners c.next.new.owners o) c.in-Some.is c.in_ok-block.ensures.ok in
     let l = leads_on c.args.plot.now c.args.cells.now 0 0 i.0 c.loop-block.owners i.1 c.loop-block.cell 0 c.in-Some.block c.next.new.owners i.2 s in (
       with_block i.0 0 c.in-Some.block,
-      walked_step c.args.plot.now c.args.cells.now 0 0 i.0 c.loop-block.owners i.1 0 c.in-Some.block c.next.new.owners refl (omega arith) (omega arith) s.1 s.2 s.3 l (fits_free (base c.args.plot.now) (memory_of c.args.cells.now) i.0 c.in-Some.block),
+      walked_step c.args.plot.now c.args.cells.now 0 0 i.0 c.loop-block.owners i.1 0 c.in-Some.block c.next.new.owners refl (omega arith) (omega arith) s.1 s.2 s.3 l (fits_free (base c.args.plot.now) c.args.plot.now.blocks (memory_of c.args.cells.now) i.0 c.in-Some.block),
       c.block-cell.ensures ∙ sym (here_push c.args.plot.now c.args.cells.now 0 0 i.0 c.loop-block.owners i.1 c.in-Some.block),
     )
 
