@@ -339,10 +339,11 @@ def pointed(line, fault):
     """What is said of a fault of a line: the line, 100 bytes of it near the piece, and carets."""
     first = 0 if len(line) <= 100 else max(fault.start - 60, 0)
     last = min(len(line), first + 100)
+    front, behind = "." * 2 * (first > 0), "." * 2 * (last < len(line))
     carets = "^" * max(min(fault.end, last) - fault.start, 1)
     return (f"line {fault.line}, column {fault.start + 1}: {fault.reason}\n"
-            f"    {signs(line[first:last])}\n"
-            f"    {' ' * (fault.start - first)}{carets}\n")
+            f"    {front}{signs(line[first:last])}{behind}\n"
+            f"    {' ' * (len(front) + fault.start - first)}{carets}\n")
 
 
 def told(text, fault):

@@ -1,5 +1,5 @@
 -- What is printed of a piece of a line.
-use Rattle.std.specs.Prelude.{ℕ, ◌+◌, ◌-◌, min, max, nat_lt, nat_le, List, ◌++◌, length, map, replicate, slice_range, if◌then◌else◌, codes, decimal}
+use Rattle.std.specs.Prelude.{ℕ, ◌+◌, ◌-◌, min, max, Bool, nat_lt, nat_le, List, [], ◌∷◌, ◌++◌, length, map, replicate, slice_range, if◌then◌else◌, codes, decimal}
 use Rattle.of_plan.specs.declared.refusal.BadPiece.{BadPiece}
 use Rattle.of_plan.specs.Lines.{text_lines}
 use Rattle.of_plan.specs.Above.{line_at}
@@ -18,18 +18,33 @@ first_shown_byte size start = if nat_le size 100 then 0 else start - 60
 abbrev pub last : (start size : ℕ) → ℕ
 last start size = min size (first_shown_byte size start + 100)
 
+-- the byte twice, where something of a line is cut off
+abbrev pub cut_mark : (byte : ℕ) → Bool → List ℕ
+cut_mark byte is_cut = if is_cut then byte ∷ byte ∷ [] else []
+
 -- how many carets there are, at least one
 abbrev pub width : (start end size : ℕ) → ℕ
 width start end size = max (min end (last start size) - start) 1
 
--- the line's number, the column and the reason, the line, and carets below the piece
+-- whether something of a line is cut off before what is shown, and whether behind it
+abbrev pub is_cut_before : (size start : ℕ) → Bool
+is_cut_before size start = nat_lt 0 (first_shown_byte size start)
+
+abbrev pub is_cut_behind : (size start : ℕ) → Bool
+is_cut_behind size start = nat_lt (last start size) size
+
+-- the line's number, the column and the reason, the line, with two dots where it is cut, and carets
+-- below the piece
 abbrev pub message : (number : ℕ) (line : List ℕ) (start end : ℕ) (reason : List ℕ) → List ℕ
 message number line start end reason =
-    ((((((codes "line " ++ (decimal number ++ (codes ", column " ++ (decimal (start + 1)
+    (((((((((codes "line " ++ (decimal number ++ (codes ", column " ++ (decimal (start + 1)
     ++ (codes ": " ++ (reason ++ codes "\n    "))))))
+    ++ cut_mark 46 (is_cut_before (length line) start))
     ++ map sign
     (slice_range line (first_shown_byte (length line) start) (last start (length line))))
-    ++ codes "\n    ") ++ replicate (start - first_shown_byte (length line) start) 32)
+    ++ cut_mark 46 (is_cut_behind (length line) start))
+    ++ codes "\n    ") ++ cut_mark 32 (is_cut_before (length line) start))
+    ++ replicate (start - first_shown_byte (length line) start) 32)
     ++ replicate (width start end (length line)) 94) ++ codes "\n")
 
 -- what is printed of the bad piece of a text

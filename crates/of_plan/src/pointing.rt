@@ -40,6 +40,16 @@ fn put_times(out: &mut Vec<u8>, byte: u8, times: usize) -> Result<(), AllocError
     Ok(())
 }
 
+// Writes a byte twice at the end, where something of a line is cut off.
+fn put_cut(out: &mut Vec<u8>, byte: u8, is_cut: bool) -> Result<(), AllocError>
+    ensures { OnOk result (out.new.items ≡ out.old.items ++ pointed.cut_mark byte is_cut) }
+{
+    if is_cut {
+        return put_times(out, byte, 2);
+    }
+    Ok(())
+}
+
 // The first byte that is shown of a line with so many bytes.
 fn first_shown(bytes: usize, start: usize) -> usize
     ensures value { result ≡ pointed.first_shown_byte bytes start }
@@ -53,7 +63,7 @@ fn first_shown(bytes: usize, start: usize) -> usize
 
 /// What is printed of a piece of a line, from the byte `start` to before `end`: the line's number,
 /// the column and the reason, the line, and carets below the piece. Of a long line only what is
-/// near the piece is shown. The error is want of memory.
+/// near the piece is shown, with two dots where it is cut. The error is want of memory.
 pub fn point_out(
     alloc: Global,
     number: u64,
@@ -74,8 +84,11 @@ pub fn point_out(
     let head = format!(in alloc; "line {number}, column {column}: {reason}\n    ")?;
     let mut out = Vec::new(alloc);
     out.extend_from_slice(head.as_bytes())?;
+    put_cut(&mut out, b'.', first > 0)?;
     put_signs(&mut out, &line[first..last])?;
+    put_cut(&mut out, b'.', last < line.len())?;
     out.extend_from_slice(b"\n    ".as_slice())?;
+    put_cut(&mut out, b' ', first > 0)?;
     put_times(&mut out, b' ', start - first)?;
     put_times(&mut out, b'^', width)?;
     out.push(b'\n')?;
