@@ -37,13 +37,13 @@ class Row(typing.NamedTuple):
     cells: list
 
     def edits(self):
-        """The edits that its last cell names, as CRATE/NAME."""
+        """The edits that its last cell names, as CRATE::NAME."""
         return [name for kind, name in SHOWN.findall(self.cells[-1]) if kind == "edit"]
 
     def crates(self):
         """The crates that it names, and those of its edits; all, if there is none."""
         parts = {part for cell in self.cells for it in SPAN.findall(cell) for part in it.split("::")}
-        named = parts | {it.partition("/")[0] for it in self.edits()}
+        named = parts | {it.partition("::")[0] for it in self.edits()}
         return named & CRATES or CRATES
 
 
@@ -67,13 +67,13 @@ def is_told(file):
 
 @functools.cache
 def edits():
-    """The edits by CRATE/NAME, each with its file."""
+    """The edits by CRATE::NAME, each with its file."""
     found = {}
     for pattern, up in (("tests/wrong/*", 0), ("crates/*/must-fail", 1)):
         for folder in repository.TOP.glob(pattern):
             crate = folder.parent.name if up else folder.name
             for name, edit in repository.edits(folder).items():
-                found[f"{crate}/{name}"] = folder / f"{name}.edit", edit
+                found[f"{crate}::{name}"] = folder / f"{name}.edit", edit
     return dict(sorted(found.items()))
 
 
@@ -81,7 +81,7 @@ def page():
     """The text of docs/REFUSED.md, in the order of crates.txt."""
     parts = [HEAD]
     for crate in repository.crates():
-        own = [(file, it) for name, (file, it) in edits().items() if name.startswith(f"{crate}/")]
+        own = [(file, it) for name, (file, it) in edits().items() if name.startswith(f"{crate}::")]
         lines = [f"| {it.does} | {it.refused} | `{it.name}` |" for file, it in own if is_told(file)]
         if lines:
             head = ["| The body | Refused by | Edit |", "|---|---|---|"]
@@ -92,7 +92,7 @@ def page():
 def unfit(name, edit):
     """Why an edit cannot be applied, or None."""
     try:
-        edit.applied(repository.CRATES / name.partition("/")[0])
+        edit.applied(repository.CRATES / name.partition("::")[0])
     except repository.Unfit as why:
         return str(why)
 
