@@ -50,7 +50,8 @@ module _ (o blocks : ℕ) (many : MOST_ORDERED_BLOCKS < blocks) where
   sub_after r v true = tt
   sub_after r v false = tt
 
-  none_ordered : (f : Program InstrResult) → WritesAtMost most_instr_writes (ordered_program blocks f)
+  none_ordered : (f : Program InstrResult)
+      → WritesAtMost most_instr_writes (ordered_program blocks f)
   none_ordered f = rw (lt-ltb MOST_ORDERED_BLOCKS blocks many) tt
 
   instr_few : (i : Instr) → WritesAtMost most_instr_writes (instr_program o blocks i)
