@@ -32,7 +32,7 @@ impl Memory {
     ghost use Rattle.of_memory.specs.Memories.{IsOpenCause, IsEnrolCause};
     ghost use Rattle.of_memory.specs.Telling.{KnowsOrdersOf, HearsMemory};
 
-    /// An empty memory: 1 to 16 callers, and room for at most 512 keys and queued items. `limit` is
+    /// An empty memory: 1 to 64 callers, and room for at most 512 keys and queued items. `limit` is
     /// the last sequence that may be committed.
     pub fn open(alloc: Global, callers: u32, blocks: u32, limit: u32) -> Result<Memory, OpenError>
         ensures memory { IfOk result IsMemory }
