@@ -14,6 +14,7 @@ ghost use Rattle.of_eval.specs.Resuming.{LooksFor};
 use of_map::Put;
 use of_mem::{Need, Part, Plot};
 use of_script::{Cause, GREATEST, Instr, from_word};
+use of_store::MOST_ORDERED_BLOCKS;
 
 /// A number or none, or the cause for which the script aborts.
 pub(crate) type InstrResult = Result<Option<u32>, Cause>;
@@ -231,12 +232,15 @@ fn count(plot: &Plot, part: &Part) -> Result<InstrResult, Need>
     Ok(Ok(Some(keys)))
 }
 
-/// Answers the least key.
+/// Answers the least key. With many blocks it aborts, and so do the next two.
 #[tactic(auto, using(of_mem::proofs::Runs::run_then_gives, of_mem::proofs::Runs::run_then_needs))]
 fn first(plot: &Plot, part: &Part) -> Result<InstrResult, Need>
     requires { HasStore plot.now part.now }
     ensures { RunsProgram (step plot.now First) part.now part.now result }
 {
+    if plot.blocks > MOST_ORDERED_BLOCKS {
+        return Ok(Err(Cause::BadOp));
+    }
     let key = of_order::first(plot, part)?;
     Ok(Ok(key))
 }
@@ -247,6 +251,9 @@ fn next(plot: &Plot, part: &Part, key: u32) -> Result<InstrResult, Need>
     requires { HasStore plot.now part.now }
     ensures { RunsProgram (step plot.now (Next key)) part.now part.now result }
 {
+    if plot.blocks > MOST_ORDERED_BLOCKS {
+        return Ok(Err(Cause::BadOp));
+    }
     let next = of_order::next(plot, part, key)?;
     Ok(Ok(next))
 }
@@ -257,6 +264,9 @@ fn drop_below(plot: &Plot, part: &mut Part, key: u32) -> Result<InstrResult, Nee
     requires { HasStore plot.now part.old }
     ensures { RunsProgram (step plot.now (DropBelow key)) part.old part.new result }
 {
+    if plot.blocks > MOST_ORDERED_BLOCKS {
+        return Ok(Err(Cause::BadOp));
+    }
     let dropped = of_order::drop_below(plot, part, key)?;
     Ok(Ok(Some(dropped)))
 }
