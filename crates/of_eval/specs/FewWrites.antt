@@ -1,6 +1,6 @@
 -- Scripts write few cells, where there are so many blocks that no instruction on keys in their order
 -- is run. These lemmas stand in specs/ since SoundScripts, the law of an impl, is proved with them.
-use Rattle.std.proofs.Common.{◌≡◌, ℕ, ◌+◌, ◌*◌, ◌<◌, true, false, Bool, Option, Some, None, Ok, Err, List, [], ◌∷◌, ◌++◌, length, take, length-take, arith}
+use Rattle.std.proofs.Common.{◌≡◌, ℕ, ◌+◌, ◌-◌, ◌*◌, ◌<◌, true, false, Bool, Option, Some, None, Ok, Err, List, [], ◌∷◌, ◌++◌, length, take, length-take, arith}
 use Rattle.std.specs.Prelude.{nat_lt}
 use Rattle.std.proofs.lemmas.Bool.{lt-ltb}
 use Rattle.of_mem.specs.declared.work.RawReply.{RawReply}
@@ -50,7 +50,8 @@ module _ (o blocks : ℕ) (many : MOST_ORDERED_BLOCKS < blocks) where
   sub_after r v true = tt
   sub_after r v false = tt
 
-  none_ordered : (f : Program InstrResult) → WritesAtMost most_instr_writes (ordered_program blocks f)
+  none_ordered : (f : Program InstrResult)
+      → WritesAtMost most_instr_writes (ordered_program blocks f)
   none_ordered f = rw (lt-ltb MOST_ORDERED_BLOCKS blocks many) tt
 
   instr_few : (i : Instr) → WritesAtMost most_instr_writes (instr_program o blocks i)
