@@ -1,7 +1,6 @@
 -- What the heading of an image says.
 use Rattle.std.specs.Prelude.{ℕ, ◌≤◌, List}
-use Rattle.of_cell.specs.declared.shape.TheConstants.{MOST_CALLERS}
-use Rattle.of_store.specs.declared.store.TheConstants.{MOST_BLOCKS}
+use Rattle.of_plan.specs.declared.plan.TheConstants.{MOST_PLAN_CALLERS, MOST_PLAN_BLOCKS}
 use Rattle.of_plan.specs.declared.above.Wanted.TheVariants.{Callers, Blocks}
 use Rattle.of_image.specs.Reasons.{SaidAbove}
 use Rattle.of_image.specs.declared.explaining.Heading.{Heading}
@@ -10,5 +9,5 @@ use Rattle.of_image.specs.declared.explaining.Heading.{Heading}
 pub record IsHeadingAbove (ls : List (List ℕ)) (above : ℕ) (h : Heading) : Type 0 where
   pub callers : SaidAbove ls above Callers h.callers
   pub blocks : SaidAbove ls above Blocks h.blocks
-  pub few_callers : h.callers ≤ MOST_CALLERS
-  pub few_blocks : h.blocks ≤ MOST_BLOCKS
+  pub few_callers : h.callers ≤ MOST_PLAN_CALLERS
+  pub few_blocks : h.blocks ≤ MOST_PLAN_BLOCKS

@@ -17,11 +17,10 @@ use crate::parse_row::cells;
 use crate::pieces::{FlawedPiece, no_count, no_numbers, past_numbers, word_from, word_too_many};
 use crate::reason::Reason;
 use crate::version::Version;
-use of_cell::MOST_CALLERS;
 use of_plan::above::{Wanted, find, line_at};
 use of_plan::pieces::{hidden, next_word};
+use of_plan::{MOST_PLAN_BLOCKS, MOST_PLAN_CALLERS};
 use of_script::text::{number, word};
-use of_store::MOST_BLOCKS;
 
 /// What the lines of the heading say.
 #[derive(Clone, Copy, Debug, PartialEq, Eq)]
@@ -265,7 +264,7 @@ fn in_heading(text: &[u8], above: u64, line: &[u8], version: Version) -> Option<
     let name = &line[start..end];
     let Some((_, callers)) = find(text, above, Wanted::Callers) else {
         if name == b"callers".as_slice() {
-            return Some(flawed(no_count(line, end, MOST_CALLERS)?));
+            return Some(flawed(no_count(line, end, MOST_PLAN_CALLERS)?));
         }
         return Some(Finding {
             start,
@@ -275,7 +274,7 @@ fn in_heading(text: &[u8], above: u64, line: &[u8], version: Version) -> Option<
     };
     let Some((_, blocks)) = find(text, above, Wanted::Blocks) else {
         if name == b"blocks".as_slice() {
-            return Some(flawed(no_numbers(line, end, MOST_BLOCKS, 0)?));
+            return Some(flawed(no_numbers(line, end, MOST_PLAN_BLOCKS, 0)?));
         }
         return Some(Finding {
             start,
@@ -283,7 +282,7 @@ fn in_heading(text: &[u8], above: u64, line: &[u8], version: Version) -> Option<
             reason: Reason::BlocksExpected,
         });
     };
-    if callers > MOST_CALLERS || blocks > MOST_BLOCKS {
+    if callers > MOST_PLAN_CALLERS || blocks > MOST_PLAN_BLOCKS {
         return None;
     }
     let heading = Heading {
