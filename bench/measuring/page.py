@@ -1,7 +1,7 @@
 """The results as lines, as the tables of docs/BENCH.md, and as its pictures."""
 import re
 
-from . import chart, from_c, hot, sizes, threads
+from . import chart, from_c, hot, keys, sizes, threads
 from .runs import CALLERS, KEYS, KINDS, by_callers, by_keys
 
 LACKING = "-"
@@ -52,15 +52,16 @@ def thread_lines(what, names, found):
 
 def size_value(row, values):
     """The median of a row of sizes."""
-    return f"{values[0] / row.size:,.{row.decimals}f}"
+    return f"{values[0] / row.size:,.{row.decimals}f}" if values else LACKING
 
 
-def size_lines(found):
-    """A line for each row, with the median of each size, and how the last is to the first."""
-    for name, row in sizes.ROWS.items() if found else ():
-        medians = [by[name] for by in found.values()]
+def size_lines(found, every):
+    """A line for each of these rows, with the median of each size, and how the last is to the
+    first."""
+    for name, row in every.items() if found else ():
+        medians = [by.get(name) for by in found.values()]
         values = "".join(f"{size_value(row, it):>11}" for it in medians)
-        growth = medians[-1][0] / (medians[0][0] or 1)
+        growth = medians[-1][0] / (medians[0][0] or 1) if all(medians) else 1
         yield f"{row.name + ', ' + row.unit:45}{values}{growth:11,.2f}"
 
 
@@ -96,13 +97,13 @@ def threads_table(found, names, kind, cell):
     return table(head, rows)
 
 
-def sizes_table(found, wanted):
-    """The rows of these names, with a column for each number of cells."""
+def sizes_table(found, what, every, wanted):
+    """Those of the rows that have these names, with a column for each number of cells or keys."""
     if not found:
         return ""
-    head = ["Cells", *[f"{int(it):,}" for it in found]]
-    rows = [[f"{row.name}, {row.unit}", *[size_value(row, by[name]) for by in found.values()]]
-            for name, row in sizes.ROWS.items() if name in wanted]
+    head = [what, *[f"{int(it):,}" for it in found]]
+    rows = [[f"{row.name}, {row.unit}", *[size_value(row, by.get(name)) for by in found.values()]]
+            for name, row in every.items() if name in wanted]
     return table(head, rows)
 
 
@@ -202,8 +203,9 @@ PARTS = {
     **{f"hot {work}": lambda it, work=work, calls=calls: race_text(it.get(f"hot {work}"), hot.NAMES,
                                                                    calls)
        for work, calls in hot.WORKS.items()},
-    "sizes": lambda it: sizes_table(it.get("sizes"), sizes.TIMES),
-    "memory": lambda it: sizes_table(it.get("sizes"), sizes.MEMORY),
+    "sizes": lambda it: sizes_table(it.get("sizes"), "Cells", sizes.ROWS, sizes.TIMES),
+    "memory": lambda it: sizes_table(it.get("sizes"), "Cells", sizes.ROWS, sizes.MEMORY),
+    "keys": lambda it: sizes_table(it.get("keys"), "Keys", keys.ROWS, keys.ROWS),
 }
 
 

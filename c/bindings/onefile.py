@@ -19,7 +19,7 @@ class Guarded(ctypes.Structure):
 
 
 class RawMemory(ctypes.Structure):
-    _fields_ = [("memory", Guarded), ("caller", Guarded * 16)]
+    _fields_ = [("memory", Guarded), ("caller", Guarded * 64)]
 
 
 class Reply(ctypes.Structure):

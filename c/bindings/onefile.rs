@@ -15,7 +15,7 @@ pub const NO_FILE: c_int = 19;
 pub const CAUSE_SHORT: u32 = 2;
 pub const GREATEST_LIMIT: u32 = 4_294_967_294;
 pub const NO_END: u64 = u64::MAX;
-const MOST_CALLERS: usize = 16;
+const MOST_CALLERS: usize = 64;
 const MOST_INSTRS: usize = 16;
 
 // The structs of onefile.h.

@@ -1,6 +1,6 @@
 /* onefile.h: a memory on which threads run scripts at once, for C and C++.
  *
- * A memory has 16 registers, a map from keys to numbers and 4 queues. It has 1 to 16 callers, which
+ * A memory has 16 registers, a map from keys to numbers and 4 queues. It has 1 to 64 callers, which
  * have the numbers from 0. A call runs a script of 1 to 16 instructions, all of it or nothing. All
  * calls of all callers take effect in one order. A call never waits for another caller: it ends
  * within a bound of its own steps. What a memory leaves when it is closed is kept in an
@@ -96,7 +96,7 @@ const char *onefile_name(int answer);
 
 /* ---- Objects. */
 
-#define ONEFILE_MOST_CALLERS 16
+#define ONEFILE_MOST_CALLERS 64
 #define ONEFILE_MOST_BLOCKS 16777216
 #define ONEFILE_MOST_ORDERED_BLOCKS 512 /* with more, ONEFILE_CAUSE_BAD_OP */
 #define ONEFILE_MOST_INSTRS 16
@@ -134,7 +134,7 @@ typedef struct onefile_saved {
 
 /* ---- Memories. */
 
-/* Fills `memory` with an empty memory of so many callers (1 to 16), with room for so many keys and
+/* Fills `memory` with an empty memory of so many callers (1 to 64), with room for so many keys and
  * queued items together (0 to ONEFILE_MOST_BLOCKS). `limit` (1 to ONEFILE_GREATEST_LIMIT) is the
  * last sequence that may be committed: each batch of calls that write takes one.
  * FULL, RANGE. */
@@ -215,7 +215,7 @@ int onefile_reopen_file(onefile_memory *memory, const char *path, uint32_t limit
  *
  * A life of the file is from when a first process has it until none has it. In a life one process
  * at most has a number, also if its caller has left or the process was killed: onefile_enrol of
- * another process is answered TAKEN. So a file of 16 callers serves 16 processes in a life, or
+ * another process is answered TAKEN. So a file of 64 callers serves 64 processes in a life, or
  * fewer that use several numbers. A process may enrol its own numbers again. Once no process has
  * the file, the next one to come recovers it, as onefile_reopen_file does, and a life begins with
  * all numbers free, all sequences, and tickets that go on. At SPENT let all processes close the
@@ -382,7 +382,8 @@ int onefile_last_reply(onefile_saved *saved, uint32_t number, onefile_reply *rep
 
 /* Writes what is held into `buffer`, which has room for `room` bytes, as the text of an image, with
  * no zero byte at its end, and its length into `length`. It has the store, and of each caller the
- * last ticket and reply; the limit is not in it. The program `onefile` reads it. Behind the text
+ * last ticket and reply; the limit is not in it. The program `onefile` reads it. The text of a
+ * memory of more than 16 callers is not read again: open such a memory in a file. Behind the text
  * `buffer` is as it was.
  * NO_ROOM: only `length` is written, which says how much room is needed. `buffer` may be null if
  * `room` is 0. */

@@ -31,7 +31,7 @@ typedef struct header {
   uint32_t limit, apart; /* the limit of this life */
   uint64_t start_sum;    /* of the durable words that the life starts from, behind the table */
   uint64_t share_sum;    /* of the two lines above, and of `sum` */
-  _Alignas(64) _Atomic uint32_t used; /* a bit for each number that a process has had */
+  _Alignas(64) _Atomic uint64_t used; /* a bit for each number that a process has had */
 } header;
 
 /* A table in a file. */
@@ -42,7 +42,8 @@ typedef struct table {
   int file;                /* its descriptor; -1 in a forked child */
   int is_opening;          /* no memory has it yet */
   int is_shared;           /* other processes may have it too */
-  uint32_t callers, own;   /* if so: how many there are, and which this memory had */
+  uint32_t callers;        /* if so: how many there are */
+  uint64_t own;            /* and which of them this memory had, a bit for each */
   _Atomic(onefile_memory *) memory;    /* which is opened on it */
   _Atomic(onefile_memory *) inherited; /* the same in a forked child; null in who has opened it */
 } table;

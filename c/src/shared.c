@@ -258,7 +258,7 @@ uint32_t shared_take_number(onefile_memory *memory, uint32_t number) {
   table *one = mapped_table_of(memory);
   if (one && one->file < 0) return ONEFILE_FILE_IN_USE;
   if (!one || !one->is_shared || number >= one->callers) return ONEFILE_DONE;
-  uint32_t bit = (uint32_t)1 << number;
+  uint64_t bit = (uint64_t)1 << number;
   if (one->own & bit) return ONEFILE_DONE;
   if (atomic_fetch_or(&one->map->used, bit) & bit) return ONEFILE_TAKEN;
   one->own |= bit;

@@ -90,7 +90,7 @@ static void arguments(void) {
   EXPECT(onefile_reopen_file(NULL, path, 1, NULL), ONEFILE_NULL);
   EXPECT(onefile_reopen_file(&memory, NULL, 1, NULL), ONEFILE_NULL);
   EXPECT(onefile_open_file(&memory, path, 0, 0, 1), ONEFILE_RANGE);
-  EXPECT(onefile_open_file(&memory, path, 17, 0, 1), ONEFILE_RANGE);
+  EXPECT(onefile_open_file(&memory, path, 65, 0, 1), ONEFILE_RANGE);
   EXPECT(onefile_open_file(&memory, path, 1, 16777217, 1), ONEFILE_RANGE);
   EXPECT(onefile_open_file(&memory, path, 1, 0, 0), ONEFILE_RANGE);
   EXPECT(onefile_open_file(&memory, path, 1, 0, UINT32_MAX), ONEFILE_RANGE);
@@ -169,7 +169,7 @@ static void rubbish(void) {
 
 /* Memories of all sizes, and their last callers. */
 static void shapes(void) {
-  static const uint32_t counts[][2] = {{1, 0}, {16, 0}, {1, 512}, {16, 512}, {3, 7}};
+  static const uint32_t counts[][2] = {{1, 0}, {64, 0}, {1, 512}, {64, 512}, {3, 7}};
   char name[240];
   snprintf(name, sizeof name, "%s.shape", path);
   for (size_t i = 0; i < sizeof counts / sizeof *counts; i++) {

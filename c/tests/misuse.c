@@ -89,21 +89,21 @@ static void empty_objects(void) {
 
 static void numbers(void) {
   EXPECT(onefile_open(&memory, 0, 0, 1), ONEFILE_RANGE);
-  EXPECT(onefile_open(&memory, 17, 0, 1), ONEFILE_RANGE);
+  EXPECT(onefile_open(&memory, 65, 0, 1), ONEFILE_RANGE);
   EXPECT(onefile_open(&memory, 1, 16777217, 1), ONEFILE_RANGE);
   EXPECT(onefile_open(&memory, 1, 0, 0), ONEFILE_RANGE);
   EXPECT(onefile_open(&memory, 1, 0, 4294967295u), ONEFILE_RANGE);
   EXPECT(onefile_open(&memory, 2, 1, 5), ONEFILE_DONE);
   EXPECT(onefile_open(&memory, 2, 1, 5), ONEFILE_FULL);
   EXPECT(onefile_enrol(&memory, 2), ONEFILE_RANGE);
-  EXPECT(onefile_enrol(&memory, 16), ONEFILE_RANGE);
-  EXPECT(onefile_leave(&memory, 16), ONEFILE_RANGE);
+  EXPECT(onefile_enrol(&memory, 64), ONEFILE_RANGE);
+  EXPECT(onefile_leave(&memory, 64), ONEFILE_RANGE);
   EXPECT(onefile_enrol(&memory, 0), ONEFILE_DONE);
   EXPECT(onefile_enrol(&memory, 0), ONEFILE_TAKEN);
   EXPECT(onefile_leave(&memory, 1), ONEFILE_EMPTY);
   EXPECT(text(1, "load 0"), ONEFILE_EMPTY);
-  EXPECT(text(16, "load 0"), ONEFILE_RANGE);
-  EXPECT(onefile_go_on(&memory, 16, 1, &reply), ONEFILE_RANGE);
+  EXPECT(text(64, "load 0"), ONEFILE_RANGE);
+  EXPECT(onefile_go_on(&memory, 64, 1, &reply), ONEFILE_RANGE);
 }
 
 static void scripts(void) {

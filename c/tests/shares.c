@@ -84,7 +84,7 @@ static void arguments(void) {
   EXPECT(onefile_share_file(NULL, path, 1, 0, 1), ONEFILE_NULL);
   EXPECT(onefile_share_file(&memory, NULL, 1, 0, 1), ONEFILE_NULL);
   EXPECT(onefile_share_file(&memory, path, 0, 0, 1), ONEFILE_RANGE);
-  EXPECT(onefile_share_file(&memory, path, 17, 0, 1), ONEFILE_RANGE);
+  EXPECT(onefile_share_file(&memory, path, 65, 0, 1), ONEFILE_RANGE);
   EXPECT(onefile_share_file(&memory, path, 1, 16777217, 1), ONEFILE_RANGE);
   EXPECT(onefile_share_file(&memory, path, 1, 0, 0), ONEFILE_RANGE);
   EXPECT(onefile_share_file(&memory, path, 1, 0, UINT32_MAX), ONEFILE_RANGE);

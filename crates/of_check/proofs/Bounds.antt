@@ -5,6 +5,7 @@ use Rattle.std.specs.List.{AllByRecursion as Each}
 use Rattle.std.proofs.lemmas.List.{length-replicate, get_or_default}
 use Rattle.std.proofs.lemmas.List.Elements.{All-from_recursion, recursion_from_All}
 use Rattle.std.proofs.lemmas.List.Sums.{sum_by-cons, sum_by-set, get_or-le-sum_by}
+use Rattle.of_mem.proofs.BucketPlaces.{few_behind}
 use Rattle.of_script.specs.declared.instr.Instr.{Instr}
 use Rattle.of_plan.specs.Plan.{Plan, IsPlan, scripts_of}
 use Rattle.of_plan.specs.Report.{Entry, EndState, done, stopped, spent, Line, Report, Start, empty_start, caller_line}
@@ -99,4 +100,4 @@ module _ (p : Plan) (plan : IsPlan p) (s : Start) (knows : KnowsEach p s) (r : R
           let is = is_ending p s knows r legal k below in
           let answered = answered_few (caller_line r k).state (caller_line r k).answered (left_of p s.finished k) r.seq p.limit is.ended in
           subst IsSmallEnd (get_or_default r.callers k (record { state = done; answered = 0; entries = 0; longest = 0 }) d lt)
-          (omega (arith, answered, few_scripts p plan k below), omega (arith, is.within.0, plan.few_callers, plan.few_blocks))
+          (omega (arith, answered, few_scripts p plan k below), omega (arith, is.within.0, plan.few_callers, plan.few_blocks, few_behind p.blocks plan.few_blocks))

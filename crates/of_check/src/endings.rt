@@ -10,6 +10,7 @@ use of_report::{EndState, Line};
 use std::alloc::{AllocError, Global};
 
 // The steps that a call of a plan takes at most.
+#[tactic(auto, using(of_mem::proofs::BucketPlaces::few_behind))]
 pub(crate) fn step_bound(plan: &Plan) -> u32
     ensures { result ≡ bound_of plan.now }
 {

@@ -24,7 +24,7 @@ use Rattle.of_core.specs.Starts.{IsStartRow, start_from_durable}
 use Rattle.of_caller.proofs.StoresReplay.{number_at}
 use Rattle.of_report.specs.ImageRow.{DurableRow, row_cell_count}
 use Rattle.of_report.specs.ImageLaw.{IsLawfulRow}
-use Rattle.of_report.specs.Image.{Image, IsImage, IsRestored, image_ticket}
+use Rattle.of_report.specs.Image.{Image, IsImage, IsTableImage, IsRestored, image_ticket}
 use Rattle.of_image.specs.declared.version.Version.TheVariants.{Two}
 use Rattle.of_image.specs.ImageText.{SpellsImage, table_row}
 use Rattle.of_image.specs.Parsed.{ReadsImage}
@@ -120,16 +120,25 @@ printed_row d w p shape words copy row scripts callers instrs blocks shape_calle
 
 -- ---- what is saved from an image
 
+-- a text's image has no more callers and blocks than a table may have
+pub table_image : (i : Image) → IsImage MOST_INSTRS i → IsTableImage MOST_INSTRS i
+table_image i h = record {
+  row = record { some_callers = h.row.some_callers; few_callers = omega (arith, h.row.few_callers); few_blocks = omega (arith, h.row.few_blocks); size = h.row.size; words = h.row.words };
+  settled = h.settled;
+  seq = h.seq;
+  lawful = h.lawful;
+}
+
 -- the image is of these words
-module _ (w : Scripts) (words : List ℕ) (i : Image) (rows : i.row ≡ record { callers = w.callers; blocks = w.blocks; words = words }) (h : IsImage MOST_INSTRS i) where
+module _ (w : Scripts) (words : List ℕ) (i : Image) (rows : i.row ≡ record { callers = w.callers; blocks = w.blocks; words = words }) (h : IsTableImage MOST_INSTRS i) where
   abbrev C : TableStart
   C = start_of w words
 
   abbrev many : ℕ
   many = scripts_data_cells w
 
-  own : IsImage MOST_INSTRS (record i { row = record { callers = w.callers; blocks = w.blocks; words = words } })
-  own = subst (λ (r : DurableRow). IsImage MOST_INSTRS (record i { row = r })) rows h
+  own : IsTableImage MOST_INSTRS (record i { row = record { callers = w.callers; blocks = w.blocks; words = words } })
+  own = subst (λ (r : DurableRow). IsTableImage MOST_INSTRS (record i { row = r })) rows h
 
   old : (a : ℕ) → seq_of (get_or C.cells a 0) ≤ C.seq
   old a = elim (cases_lt a many) [
@@ -155,7 +164,7 @@ module _ (w : Scripts) (words : List ℕ) (i : Image) (rows : i.row ≡ record {
   }
 
 -- it is saved in these words
-module _ (d : Saved) (i : Image) (is : IsSavedCells (λ w. w.callers) scripts_data_cells scripts_meaning LawfulCells d.cells) (rows : i.row ≡ saved_row d) (h : IsImage MOST_INSTRS i) where
+module _ (d : Saved) (i : Image) (is : IsSavedCells (λ w. w.callers) scripts_data_cells scripts_meaning LawfulCells d.cells) (rows : i.row ≡ saved_row d) (h : IsTableImage MOST_INSTRS i) where
   stands : DataCellsStandFor (saved_scripts d).callers MOST_INSTRS (saved_scripts d).blocks (memory_of (saved_cells d)) i.store
   stands =
       subst (λ (xs : List ℕ). DataCellsStandFor (saved_scripts d).callers MOST_INSTRS (saved_scripts d).blocks (memory_of xs) i.store) (sym (cells_are d is))

@@ -1,6 +1,7 @@
 -- Texts of what is saved, and what is saved with other sequences.
-use Rattle.std.specs.Prelude.{◌≡◌, ℕ, ◌<◌, List}
+use Rattle.std.specs.Prelude.{◌≡◌, ℕ, ◌<◌, ◌≤◌, List}
 use Rattle.of_cell.specs.declared.word.TheConstants.{GREATEST_LIMIT}
+use Rattle.of_plan.specs.declared.plan.TheConstants.{MOST_PLAN_CALLERS, MOST_PLAN_BLOCKS}
 use Rattle.of_plan.specs.BadLine.{HasBadLine}
 use Rattle.of_store.specs.Store.{Store, Reply}
 use Rattle.of_report.specs.ImageRow.{DurableRow}
@@ -22,6 +23,11 @@ saved_row d = record {
   blocks = (saved_scripts d).blocks;
   words = saved_words d.cells;
 }
+
+-- a plan may have as many callers and blocks
+pub record IsOfPlanSize (d : Saved) : Type 0 where
+  pub few_callers : (saved_scripts d).callers ≤ MOST_PLAN_CALLERS
+  pub few_blocks : (saved_scripts d).blocks ≤ MOST_PLAN_BLOCKS
 
 -- the text is the one that is printed for it
 abbrev pub IsTextOfSaved : Saved → List ℕ → Type 0

@@ -12,7 +12,7 @@ use thiserror::Error;
 pub enum OpenError {
     #[error("out of memory")]
     OutOfMemory(#[from(alloc)] AllocError),
-    #[error("{callers} callers: there are 1 to 16")]
+    #[error("{callers} callers: there are 1 to 64")]
     Callers { callers: u32 },
     #[error("{blocks} blocks: there are at most 16777216")]
     Blocks { blocks: u32 },
@@ -42,7 +42,7 @@ pub enum ImageTextError {
 pub enum WordsError {
     #[error("out of memory")]
     OutOfMemory,
-    #[error("{callers} callers: there are 1 to 16")]
+    #[error("{callers} callers: there are 1 to 64")]
     Callers { callers: u32 },
     #[error("{blocks} blocks: there are at most 16777216")]
     Blocks { blocks: u32 },

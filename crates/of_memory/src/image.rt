@@ -5,7 +5,7 @@ ghost use Rattle.of_cell.specs.declared.word.TheConstants.{GREATEST_LIMIT};
 ghost use Rattle.of_cell.specs.Cells.{durable_cells, table_words};
 ghost use Rattle.of_mem.specs.declared.work.TheConstants.{MOST_INSTRS};
 ghost use Rattle.of_recover.specs.Row.{IsDurableRow};
-ghost use Rattle.of_report.specs.Image.{IsImage};
+ghost use Rattle.of_report.specs.Image.{IsImage, IsTableImage};
 ghost use Rattle.of_memory.specs.Saving.{IsSaved, saved_limit};
 ghost use Rattle.of_memory.specs.Texts.{IsImageOfSaved, IsPastAll};
 
@@ -37,15 +37,16 @@ impl Saved {
     ghost use Rattle.std.specs.Prelude.{MatchResult};
     ghost use Rattle.of_memory.specs.declared.saved.Saved.{Saved as AnySaved};
     ghost use Rattle.of_memory.specs.declared.error.ImageTextError.TheVariants.{OutOfMemory};
-    ghost use Rattle.of_memory.specs.Texts.{IsTextOfSaved, TextHolds, IsReadBack, IsTextCause};
+    ghost use Rattle.of_memory.specs.Texts.{IsOfPlanSize, IsTextOfSaved, TextHolds, IsReadBack, IsTextCause};
 
     /// The text of it, an image as the command line reads and writes them: the store, and the last
-    /// ticket and reply of each caller. The limit is not in it. The error is that there is no
-    /// memory.
+    /// ticket and reply of each caller. The limit is not in it. No text is read again that has more
+    /// callers or blocks than a plan may have. The error is that there is no memory.
     pub fn image_text(&self, alloc: Global) -> Result<Vec<u8>, AllocError>
         requires { IsSaved self.now }
         ensures printed { IfOk result (λ text. IsTextOfSaved self.now text.items) }
-        ensures holds { IfOk result (λ text. TextHolds text.items self.now) }
+        // A text of as many callers and blocks as a plan may have is read again.
+        ensures holds { IsOfPlanSize self.now → IfOk result (λ text. TextHolds text.items self.now) }
     {
         let scripts = self.scripts();
         let words = table_of(alloc, &shape_of(scripts), self.cells.words())?;
@@ -89,7 +90,7 @@ fn save_image(image: Image) -> Result<Saved, ImageTextError>
 
 // What an image holds, with this limit.
 pub(crate) fn saved_of(image: Image, limit: u32) -> Saved
-    requires image { IsImage MOST_INSTRS image }
+    requires image { IsTableImage MOST_INSTRS image }
     requires some { 1 ≤ limit }
     requires few { limit ≤ GREATEST_LIMIT }
     requires within { image.seq ≤ limit }

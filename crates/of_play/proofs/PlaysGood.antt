@@ -2,6 +2,7 @@
 -- there.
 use Rattle.std.proofs.Common.{◌≡◌, ℕ, ◌+◌, ◌<◌, List, length, get_or, refl, ◌∙◌, ap, arith, Bool, true, false}
 use Rattle.std.proofs.lemmas.List.{get_or-set_same, get_or_default}
+use Rattle.of_mem.proofs.BucketPlaces.{few_behind}
 use Rattle.of_plan.specs.Plan.{Plan}
 use Rattle.of_core.specs.declared.place.Place.{Place}
 use Rattle.of_core.specs.declared.place.Place.TheVariants.{Idle}
@@ -46,7 +47,7 @@ module _ (p : Plan) (play : IsPlayable p) where
     own = get_or_default w.machines c (machine_in w c) no_machine here
 
     pub few_steps : (machine_in w c).steps + 1 < 18446744073709551616
-    few_steps = omega (arith, (sound_at w g).within c h, play.plan.few_callers, play.plan.few_blocks)
+    few_steps = omega (arith, (sound_at w g).within c h, play.plan.few_callers, play.plan.few_blocks, few_behind p.blocks play.plan.few_blocks)
 
   module _ (w : Moment) (g : IsGood w) (c : ℕ) (h : c < p.callers) where
     abbrev m : CallState

@@ -5,6 +5,7 @@ use Rattle.std.proofs.lemmas.List.{get_or-set_other}
 use Rattle.of_cell.specs.Cells.{durable_cells, durable_place, table_words}
 use Rattle.of_cell.specs.Words.{seq_of, payload_of}
 use Rattle.of_recover.proofs.Agreeing.{recovered_data-same}
+use Rattle.of_mem.proofs.BucketPlaces.{few_behind}
 use Rattle.of_mem.specs.Places.{ticket_cell_at}
 use Rattle.of_mem.specs.declared.work.RawReply.{RawReply}
 use Rattle.of_script.specs.declared.instr.TheConstants.{MOST_INSTRS}
@@ -60,7 +61,7 @@ module _ (p : Plan) (s : Start) (plan : IsPlan p) (e : Ended) (long : length e.w
   durable_same c l = get_or-set_other e.words (words_before_members (plan_setup p)) (durable_place p.callers (plan_data_cells p) c) 0 0 (λ q. omega (arith, q, l))
 
   found : (a : ℕ) → a < plan_data_cells p → recovered_data_word p d a ≡ recovered_data_word p e a
-  found a l = recovered_data-same p.callers (plan_data_cells p) (durable_of p d) (durable_of p e) durable_same a l (omega (arith, l, plan.few_callers, plan.few_blocks))
+  found a l = recovered_data-same p.callers (plan_data_cells p) (durable_of p d) (durable_of p e) durable_same a l (omega (arith, l, plan.few_callers, plan.few_blocks, few_behind p.blocks plan.few_blocks))
 
   number : (a : ℕ) → a < plan_data_cells p → record_number p d a ≡ record_number p e a
   number a l = ap payload_of (found a l)

@@ -1,8 +1,7 @@
 -- The words of the commands.
 use Rattle.std.specs.Prelude.{◌≡◌, ◌≤◌, ◌*◌, ℕ, List, [], ◌∷◌, map, codes, decimal, string_bytes, String}
 use Rattle.std.specs.Global.{Global}
-use Rattle.of_cell.specs.declared.shape.TheConstants.{MOST_CALLERS}
-use Rattle.of_plan.specs.declared.plan.TheConstants.{MOST_SCRIPTS}
+use Rattle.of_plan.specs.declared.plan.TheConstants.{MOST_PLAN_CALLERS, MOST_SCRIPTS}
 use Rattle.of_tool.specs.declared.command.Command.{Command}
 use Rattle.of_tool.specs.declared.command.HelpWord.{HelpWord}
 use Rattle.of_tool.specs.declared.command.HelpWord.TheVariants.{Long, Short, Bare}
@@ -52,7 +51,7 @@ pub record IsTrace (first count : ℕ) : Type 0 where
 -- so many callers with so many scripts each
 pub record IsLoad (callers scripts : ℕ) : Type 0 where
   pub some : 1 ≤ callers
-  pub few : callers ≤ MOST_CALLERS
+  pub few : callers ≤ MOST_PLAN_CALLERS
   pub each : scripts ≤ MOST_SCRIPTS
   pub all : callers * scripts ≤ MOST_SCRIPTS
 

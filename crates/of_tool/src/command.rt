@@ -4,8 +4,7 @@ ghost use Rattle.std.specs.Prelude.{◌≡◌, ◌∷◌, [], ℕ, IsTrue, Match
 ghost use Rattle.of_tool.specs.Commands.{word_bytes, AreWordsOf, IsNoCommand, SpellsUpTo};
 ghost use Rattle.of_tool.specs.Inputs.{input_of};
 
-use of_cell::MOST_CALLERS;
-use of_plan::MOST_SCRIPTS;
+use of_plan::{MOST_PLAN_CALLERS, MOST_SCRIPTS};
 
 /// What `--help` prints.
 pub const HELP: &str = "usage: onefile COMMAND
@@ -162,7 +161,7 @@ impl Command {
             (IsNoCommand (codes "load" ∷ callers.now ∷ scripts.now ∷ []))
             (AreWordsOf (codes "load" ∷ callers.now ∷ scripts.now ∷ [])) }
     {
-        let callers = number(callers, MOST_CALLERS)?;
+        let callers = number(callers, MOST_PLAN_CALLERS)?;
         let scripts = number(scripts, MOST_SCRIPTS)?;
         if callers == 0 || callers * scripts > MOST_SCRIPTS {
             return None;

@@ -2,8 +2,9 @@
 //! schedules and traces.
 
 ghost use Rattle.std.specs.Prelude.{◌≡◌, codes};
-ghost use Rattle.of_mem.specs.declared.work.TheConstants.{FEW_DATA_CELLS, MOST_CALLERS, MOST_DATA_CELLS, MOST_INSTRS};
-ghost use Rattle.of_mem.specs.declared.plot.TheConstants.{BUCKETS, MOST_BLOCKS, QUEUES, REGISTERS};
+ghost use Rattle.of_mem.specs.declared.work.TheConstants.{FEW_DATA_CELLS, MOST_DATA_CELLS, MOST_INSTRS};
+ghost use Rattle.of_mem.specs.declared.plot.TheConstants.{BUCKETS, QUEUES, REGISTERS};
+ghost use Rattle.of_plan.specs.declared.plan.TheConstants.{MOST_PLAN_BLOCKS, MOST_PLAN_CALLERS};
 ghost use Rattle.of_plan.specs.Plan.{data_cells};
 ghost use Rattle.of_tool.specs.HelpText.{help_text};
 ghost use Rattle.of_tool.specs.declared.command.TheConstants.{MOST_EVENTS, MOST_FIRST};
@@ -46,13 +47,13 @@ pub fn numbers()
 /// cells of the greatest store, registers, buckets, queues, keys and items together. A table of a
 /// program's own work may have more data cells.
 pub fn limits()
-    ensures callers { MOST_CALLERS ≡ 16 }
+    ensures callers { MOST_PLAN_CALLERS ≡ 16 }
     ensures instrs { MOST_INSTRS ≡ 16 }
     ensures registers { REGISTERS ≡ 16 }
     ensures buckets { BUCKETS ≡ 32 }
     ensures queues { QUEUES ≡ 4 }
-    ensures blocks { MOST_BLOCKS ≡ 512 }
-    ensures cells { data_cells 16 512 ≡ 1887 }
+    ensures blocks { MOST_PLAN_BLOCKS ≡ 512 }
+    ensures cells { data_cells MOST_PLAN_CALLERS MOST_PLAN_BLOCKS ≡ 1887 }
     ensures few_data_cells { FEW_DATA_CELLS ≡ 4096 }
     ensures data_cells { MOST_DATA_CELLS ≡ 134217728 }
     ensures first { MOST_FIRST ≡ 10000000 }

@@ -1,8 +1,7 @@
 //! What is said of words that are no command: what the command takes, and how a file is given.
 
 use crate::command::{Command, MOST_EVENTS, MOST_FIRST, MOST_PART};
-use of_cell::MOST_CALLERS;
-use of_plan::MOST_SCRIPTS;
+use of_plan::{MOST_PLAN_CALLERS, MOST_SCRIPTS};
 use std::alloc::{AllocError, Global};
 use std::fmt::Write;
 
@@ -57,7 +56,7 @@ fn put_mistake(out: &mut String, first: &String, words: &[String]) -> Result<(),
         ),
         "load" => writeln!(
             out,
-            "load takes two numbers: callers, from 1 to {MOST_CALLERS}, \
+            "load takes two numbers: callers, from 1 to {MOST_PLAN_CALLERS}, \
              and scripts of each, from 0, at most {MOST_SCRIPTS} in all"
         ),
         "part" => writeln!(out, "part takes one number, from 1 to {MOST_PART}"),

@@ -5,11 +5,11 @@ ghost use Rattle.of_store.specs.Store.{Store, empty_store};
 ghost use Rattle.of_eval.specs.Shapes.{IsWhole};
 ghost use Rattle.of_serial.specs.SerialRun.{CellsHoldStore, RunsScript};
 
-use of_cell::MOST_CALLERS;
 use of_eval::{LawErr, Scripts, lawful, reply_of};
 use of_mem::{RawReply, Work, Workspace};
+use of_plan::{MOST_PLAN_BLOCKS, MOST_PLAN_CALLERS};
 use of_script::{MOST_INSTRS, Reply, Script, to_words};
-use of_store::{MOST_BLOCKS, Store};
+use of_store::Store;
 use std::alloc::{AllocError, Global};
 
 /// The data cells of a store. Each is known, and those of the callers are never written.
@@ -23,8 +23,8 @@ impl Cells {
     /// The cells of the empty store: all are 0. The error is that there is no memory.
     pub(super) fn new(alloc: Global, callers: u32, blocks: u32) -> Result<Cells, AllocError>
         requires some { 1 ≤ callers }
-        requires few { callers ≤ MOST_CALLERS }
-        requires blocks { blocks ≤ MOST_BLOCKS }
+        requires few { callers ≤ MOST_PLAN_CALLERS }
+        requires blocks { blocks ≤ MOST_PLAN_BLOCKS }
         ensures { IfOk result (λ cells. CellsHoldStore cells (empty_store blocks)) }
     {
         let scripts = Scripts { callers, blocks };

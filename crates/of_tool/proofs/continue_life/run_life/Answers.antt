@@ -1,4 +1,4 @@
-use Rattle.std.proofs.Common.{◌≡◌, ℕ, ◌+◌, List, length, ◌++◌, refl, sym, ap, ◌∙◌, subst}
+use Rattle.std.proofs.Common.{◌≡◌, ℕ, ◌+◌, List, length, ◌++◌, refl, sym, ap, ◌∙◌, subst, arith}
 use Rattle.std.specs.Prelude.{slice_range}
 use Rattle.of_cell.specs.Cells.{durable_cells, table_words}
 use Rattle.of_mem.specs.Places.{base_of, cells_at}
@@ -42,7 +42,7 @@ returns g c =
     let run = c.reports_respect_time.ensures.teams (start_of_image i) (start_from_row p i.row.words) e handed.sight handed.team in
     let leaves = told.leaves in
     let left : c.in_ok-left.left.items ≡ image_text Two (durable_row p e) = c.in_ok-left.ensures.text ∙ ap (image_text Two) row in
-    let again : SpellsImage Two (image_text Two (durable_row p e)) (durable_row p e) = subst (λ (t : List ℕ). SpellsImage Two t (durable_row p e)) left (subst (SpellsImage Two c.in_ok-left.left.items) row c.in_ok-left.ensures.again) in
+    let again : SpellsImage Two (image_text Two (durable_row p e)) (durable_row p e) = subst (λ (t : List ℕ). SpellsImage Two t (durable_row p e)) left (subst (SpellsImage Two c.in_ok-left.left.items) row (c.in_ok-left.ensures.again (omega (arith, callers, c.plot.ensures.plan.few_callers)) (omega (arith, blocks, c.plot.ensures.plan.few_blocks)))) in
     record {
       report = report_value c.in_ok-report.field-0.report;
       life = record {
