@@ -97,7 +97,6 @@ impl CellUse {
     ghost use Rattle.of_mem.specs.Places.{base_of};
 
     /// What a data cell behind those of the callers holds.
-    #[tactic(auto, using(of_mem::proofs::BucketPlaces::few_first, of_mem::proofs::BucketPlaces::some_buckets))]
     fn in_store(plot: &Plot, addr: u32) -> CellUse
         requires instrs { plot.now.instrs ≡ MOST_INSTRS }
         requires behind { base_of plot.now.callers MOST_INSTRS ≤ addr }
@@ -114,7 +113,8 @@ impl CellUse {
         } else if addr == plot.keys() {
             CellUse::Keys
         } else if addr < queues {
-            CellUse::Bucket(addr - plot.bucket(0))
+            // a plan has few blocks, so its buckets stand behind the count of keys
+            CellUse::Bucket(addr - plot.keys() - 1)
         } else if addr < blocks {
             queue_cell((addr - queues) / 3, (addr - queues) % 3)
         } else {
