@@ -127,7 +127,7 @@ pub record IsOfSizes (h : Handle) (callers blocks : ℕ) : Type 0 where
   pub callers_are : (key_of (home_of h)).work.callers ≡ callers
   pub blocks_are : (key_of (home_of h)).work.blocks ≡ blocks
 
--- the step bound of the smallest memory, and of the largest
+-- the step bound of the smallest memory, and of one that is as large as a plan's may be
 pub record AreStepBounds : Type 0 where
   pub smallest : (h : Handle) → IsHandle h → IsOfSizes h 1 0 → step_bound_of h ≡ 6054
   pub largest : (h : Handle) → IsHandle h → IsOfSizes h 16 512 → step_bound_of h ≡ 138657

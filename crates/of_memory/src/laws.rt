@@ -90,7 +90,7 @@ pub fn calls_come_in_turn()
 {}
 
 /// A call of a handle ends within 6,054 of its own steps in the smallest memory, and within 138,657
-/// in the largest: the step bounds there, to which each call keeps.
+/// with sixteen callers and 512 blocks: the step bounds there, to which each call keeps.
 pub fn step_bounds()
     ensures { AreStepBounds }
 {

@@ -96,8 +96,8 @@ impl CellUse {
     ghost use Rattle.of_play.specs.Names.{cell_use_at, store_cell};
     ghost use Rattle.of_mem.specs.Places.{base_of};
 
-    /// What a data cell behind those of the callers holds.
-    #[tactic(auto, using(of_mem::proofs::BucketPlaces::few_first, of_mem::proofs::BucketPlaces::some_buckets))]
+    /// What a data cell behind those of the callers holds. A plan has few blocks, so its buckets
+    /// stand right after the count of keys.
     fn in_store(plot: &Plot, addr: u32) -> CellUse
         requires instrs { plot.now.instrs ≡ MOST_INSTRS }
         requires behind { base_of plot.now.callers MOST_INSTRS ≤ addr }
@@ -114,7 +114,7 @@ impl CellUse {
         } else if addr == plot.keys() {
             CellUse::Keys
         } else if addr < queues {
-            CellUse::Bucket(addr - plot.bucket(0))
+            CellUse::Bucket(addr - plot.keys() - 1)
         } else if addr < blocks {
             queue_cell((addr - queues) / 3, (addr - queues) % 3)
         } else {
