@@ -154,7 +154,7 @@ def reason_of(found, wanted, same):
         return STORE
     if name == b"entry" and same >= 5:
         return REPLY
-    if same > found.count(b" "):
+    if not rest or not rest[0]:
         return SPELLED
     if name == b"caller" and same in (1, 4):
         return ANOTHER if same == 1 else ENTRIES

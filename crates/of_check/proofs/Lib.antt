@@ -9,5 +9,6 @@ pub mod Readings
 pub mod Verdicts
 pub mod Causes
 pub mod Differences
+pub mod Pieces
 pub mod Stores
 pub mod Replies

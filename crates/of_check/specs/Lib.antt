@@ -4,4 +4,5 @@ pub mod Endings
 pub mod Replay
 pub mod Verdict
 pub mod Causes
+pub mod LineRules
 pub mod Ends

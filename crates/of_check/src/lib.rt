@@ -6,6 +6,7 @@ mod claims;
 mod endings;
 mod ends;
 mod judging;
+mod line_rule;
 mod reason;
 mod replay;
 mod start;

@@ -4,11 +4,11 @@
 ghost use Rattle.std.specs.Prelude.{◌≤◌, length};
 
 use crate::cause::{Cause, EndRule, EntryRule};
+use crate::line_rule::{LineRule, line_rule};
 use of_plan::above::line_at;
 use of_plan::point_out;
+use of_script::text::word;
 use std::alloc::{AllocError, Global};
-
-const SPELLED_OTHERWISE: &str = "not as a report prints it";
 
 // The word of an entry that breaks a rule, by the number of words before it, and what is said.
 fn entry_reason(rule: EntryRule) -> (usize, &'static str) {
@@ -49,20 +49,28 @@ fn end_reason(rule: EndRule) -> (usize, &'static str) {
     }
 }
 
-// Where the word begins before which so many words come; the end of the line where it has fewer.
+// Where the word begins before which so many words come, as claims are read; the end of the line
+// where it has fewer.
 fn word_at(line: &[u8], before: usize) -> usize
     ensures { result ≤ length line.now }
 {
-    let mut left = before;
-    for at in 0..line.len() {
-        if left == 0 {
-            return at;
-        }
-        if line[at] == b' ' {
-            left -= 1;
+    if before == 0 {
+        return 0;
+    }
+    let mut rest = line;
+    for _ in 0..before {
+        match word(rest) {
+            Some((_, after)) => rest = after,
+            None => return line.len(),
         }
     }
-    line.len()
+    match word(rest) {
+        Some((first, after)) => {
+            let end = line.len().saturating_sub(after.len());
+            end.saturating_sub(first.len())
+        }
+        None => line.len(),
+    }
 }
 
 // Where the word ends that this byte is in.
@@ -126,40 +134,6 @@ fn first_word(found: &[u8], wanted: &[u8]) -> usize
     word_start(found, at)
 }
 
-// Whether a line is one of a store.
-fn is_of_store(line: &[u8]) -> bool {
-    line.starts_with(b"register ".as_slice())
-        || line.starts_with(b"key ".as_slice())
-        || line.starts_with(b"queue ".as_slice())
-}
-
-// What is said of a line that is not the wanted one; so many words before the first other one are
-// the same.
-fn line_reason(found: &[u8], wanted: &[u8], before: usize) -> &'static str {
-    if wanted.is_empty() {
-        return "nothing comes after the line `end`";
-    }
-    if is_of_store(wanted) || is_of_store(found) && wanted == b"end".as_slice() {
-        return "the report breaks rule 5: another store than the scripts leave";
-    }
-    if wanted.starts_with(b"entry ".as_slice()) && before >= 4 {
-        return "the report breaks rule 4: another reply than the script gives";
-    }
-    if wanted.starts_with(b"caller ".as_slice()) && before == 1 {
-        return "the report breaks rule 2: the line of another caller";
-    }
-    if wanted.starts_with(b"caller ".as_slice()) && before == 4 {
-        return "the report breaks rule 2: another number of entries than the caller has";
-    }
-    if wanted.starts_with(b"seq ".as_slice()) && before == 1 {
-        return "the report breaks rule 3: another sequence than that of the last entry";
-    }
-    if wanted.starts_with(b"seq ".as_slice()) && found.starts_with(b"caller ".as_slice()) {
-        return "the report breaks rule 2: a line of a caller too many";
-    }
-    SPELLED_OTHERWISE
-}
-
 // What is said of a line that is not the wanted one: both, and the first word in which they differ.
 fn print_other(
     alloc: Global,
@@ -168,16 +142,15 @@ fn print_other(
     wanted: &[u8],
 ) -> Result<Vec<u8>, AllocError> {
     let start = first_word(found, wanted);
-    let before = found[..start].iter().filter(|byte| **byte == b' ').count();
     let spaced = found.get(start) == Some(&b' ');
     let doubled = spaced && (wanted.len() != start || word_ends(found, start + 1));
-    let reason = if doubled {
-        SPELLED_OTHERWISE
+    let rule = if doubled {
+        LineRule::Spelling
     } else {
-        line_reason(found, wanted, before)
+        line_rule(found, wanted)
     };
     let end = word_end(found, start);
-    let mut out = point_out(alloc, number, found, start, end, reason)?;
+    let mut out = point_out(alloc, number, found, start, end, rule.text())?;
     if !wanted.is_empty() {
         let end = word_end(wanted, start);
         let expected = point_out(alloc, number, wanted, start, end, "expected")?;
@@ -241,7 +214,7 @@ fn missing_reason(report: &[u8], above: u64, caller: u32) -> &'static str {
     if line.starts_with(b"caller ".as_slice())
         || caller == 0 && line.starts_with(b"entry ".as_slice())
     {
-        return SPELLED_OTHERWISE;
+        return LineRule::Spelling.text();
     }
     reason
 }
