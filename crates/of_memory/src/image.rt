@@ -46,7 +46,8 @@ impl Saved {
         requires { IsSaved self.now }
         ensures printed { IfOk result (λ text. IsTextOfSaved self.now text.items) }
         // A text of as many callers and blocks as a plan may have is read again.
-        ensures holds { IsOfPlanSize self.now → IfOk result (λ text. TextHolds text.items self.now) }
+        ensures holds { IsOfPlanSize self.now
+            → IfOk result (λ text. TextHolds text.items self.now) }
     {
         let scripts = self.scripts();
         let words = table_of(alloc, &shape_of(scripts), self.cells.words())?;
