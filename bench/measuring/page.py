@@ -80,20 +80,19 @@ def about(results):
 
 def runs_table(results, wanted):
     """The runs whose names begin so."""
-    head = ["What", "Instructions", "Each", "Processor time", "Memory", "Page faults"]
+    head = ["What", "Instructions", "Each", "Processor time", "Memory"]
     rows = []
     for name, run in results["runs"].items():
         if name.startswith(wanted):
             name = f"{name}, {run['read']:,} bytes" if name.startswith("recover") else name
             took = f"{1e3 * run['seconds'][0]:,.1f} ms"
-            rows.append([name, short(run["instructions"]), each_text(run), took, memory(run),
-                         f"{run['faults']:,}"])
+            rows.append([name, short(run["instructions"]), each_text(run), took, memory(run)])
     return table(head, rows)
 
 
-def threads_table(found, names, kind, cell):
+def threads_table(found, names, kind):
     head = ["Callers", *[names[name] for name in found]]
-    rows = [[str(it), *[cell(by[str(it)][kind]) for by in found.values()]] for it in CALLERS]
+    rows = [[str(it), *[spread(by[str(it)][kind]) for by in found.values()]] for it in CALLERS]
     return table(head, rows)
 
 
@@ -105,10 +104,6 @@ def sizes_table(found, what, every, wanted):
     rows = [[f"{row.name}, {row.unit}", *[size_value(row, by.get(name)) for by in found.values()]]
             for name, row in every.items() if name in wanted]
     return table(head, rows)
-
-
-def calls_a_second(spent):
-    return f"{round(1e9 / spent[0], -3):,.0f}" if spent[0] else LACKING
 
 
 def exact(value):
@@ -186,11 +181,9 @@ def race_text(found, names, calls):
     return "\n\n".join([
         f"Processor nanoseconds a call, with the least and the greatest of all rounds, {calls:,} "
         "calls a burst:",
-        threads_table(found, names, "processor", spread),
+        threads_table(found, names, "processor"),
         "By the clock, nanoseconds a call:",
-        threads_table(found, names, "clock", spread),
-        "Calls a second, by the clock:",
-        threads_table(found, names, "clock", calls_a_second)])
+        threads_table(found, names, "clock")])
 
 
 PARTS = {
