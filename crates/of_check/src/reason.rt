@@ -7,6 +7,7 @@ use crate::cause::{Cause, EndRule, EntryRule};
 use crate::line_rule::{LineRule, line_rule};
 use of_plan::above::line_at;
 use of_plan::point_out;
+use of_script::text::word;
 use std::alloc::{AllocError, Global};
 
 // The word of an entry that breaks a rule, by the number of words before it, and what is said.
@@ -48,20 +49,28 @@ fn end_reason(rule: EndRule) -> (usize, &'static str) {
     }
 }
 
-// Where the word begins before which so many words come; the end of the line where it has fewer.
+// Where the word begins before which so many words come, as claims are read; the end of the line
+// where it has fewer.
 fn word_at(line: &[u8], before: usize) -> usize
     ensures { result ≤ length line.now }
 {
-    let mut left = before;
-    for at in 0..line.len() {
-        if left == 0 {
-            return at;
-        }
-        if line[at] == b' ' {
-            left -= 1;
+    if before == 0 {
+        return 0;
+    }
+    let mut rest = line;
+    for _ in 0..before {
+        match word(rest) {
+            Some((_, after)) => rest = after,
+            None => return line.len(),
         }
     }
-    line.len()
+    match word(rest) {
+        Some((first, after)) => {
+            let end = line.len().saturating_sub(after.len());
+            end.saturating_sub(first.len())
+        }
+        None => line.len(),
+    }
 }
 
 // Where the word ends that this byte is in.

@@ -1,6 +1,7 @@
 //! Why a text is no image.
 
 use crate::law::RowErr;
+use crate::refusal::{ImageFault, Refusal, Unread};
 use std::alloc::AllocError;
 use std::fmt;
 
@@ -38,6 +39,37 @@ impl From<RowErr> for ImageErr {
         match e {
             RowErr::Memory => ImageErr::Memory,
             RowErr::Unlawful { cell, .. } => ImageErr::Unlawful { cell },
+        }
+    }
+}
+
+impl From<Unread> for ImageErr {
+    ghost use Rattle.std.specs.Prelude.{◌≡◌};
+    ghost use Rattle.of_image.specs.Faults.{unread_err};
+
+    ghost from_gives = { λ r e. e ≡ unread_err r };
+
+    fn from(e: Unread) -> ImageErr {
+        match e {
+            Unread::Memory => ImageErr::Memory,
+            Unread::Bad { piece } => ImageErr::Bad { line: piece.line },
+        }
+    }
+}
+
+impl From<Refusal> for ImageErr {
+    ghost use Rattle.std.specs.Prelude.{◌≡◌};
+    ghost use Rattle.of_image.specs.Faults.{refusal_err};
+
+    ghost from_gives = { λ r e. e ≡ refusal_err r };
+
+    fn from(e: Refusal) -> ImageErr {
+        match e {
+            Refusal::Memory => ImageErr::Memory,
+            Refusal::Fault { fault } => match fault {
+                ImageFault::Line { piece } => ImageErr::Bad { line: piece.line },
+                ImageFault::Cell { cell, .. } => ImageErr::Unlawful { cell },
+            },
         }
     }
 }

@@ -1,17 +1,17 @@
 //! Rows from the texts of images.
 
-ghost use Rattle.std.specs.Prelude.{◌≡◌, ◌≤◌, ◌<◌, length, IfOk, IfErr};
+ghost use Rattle.std.specs.Prelude.{◌≡◌, ◌≤◌, ◌<◌, length, false, IfOk, IfErr};
 ghost use Rattle.of_script.specs.Text.{text_words};
 ghost use Rattle.of_cell.specs.Cells.{durable_cells};
 ghost use Rattle.of_report.specs.ImageRow.{data_cell_count_for};
 ghost use Rattle.of_image.specs.Version.{instrs_of};
 ghost use Rattle.of_image.specs.ImageText.{SpellsImage};
 ghost use Rattle.of_image.specs.ImageReading.{IsImageLineInRange, row_reading_value, no_row_read, with_cell, row_read, after_line_at, AnswersNext, TakesImageLine};
-ghost use Rattle.of_image.specs.Parsed.{IsNoImage};
+ghost use Rattle.of_image.specs.Faults.{HasLineFault};
 
-use crate::error::ImageErr;
 use crate::line::{ImageLine, ReadLine, read_line};
 use crate::reading::{Reading, Stage};
+use crate::refusal::{Unread, at_end, in_text};
 use crate::version::Version;
 use of_cell::{MOST_CALLERS, pack};
 use of_script::text::cut;
@@ -46,8 +46,9 @@ impl Reading {
 
     // Takes the word of a cell, where it may come next.
     fn take_cell(&mut self, cell: u32, seq: u32, payload: u32) -> bool
-        ensures { AnswersNext (with_cell (row_reading_value self.old) cell seq payload)
+        ensures taken { AnswersNext (with_cell (row_reading_value self.old) cell seq payload)
             result (row_reading_value self.new) }
+        ensures same { result ≡ false → row_reading_value self.new ≡ row_reading_value self.old }
     {
         let place = cell as usize;
         let word = pack(seq, payload);
@@ -68,9 +69,11 @@ impl Reading {
     // Takes a line, where it may come next.
     fn take(&mut self, alloc: Global, version: Version, line: ImageLine) -> Result<bool, AllocError>
         requires range { IsImageLineInRange line }
-        ensures { let before = row_reading_value self.old in IfOk result (λ taken.
+        ensures taken { let before = row_reading_value self.old in IfOk result (λ taken.
             AnswersNext (after_line_at version before.stage before line)
             taken (row_reading_value self.new)) }
+        ensures same { IfOk result (λ taken. taken ≡ false →
+            row_reading_value self.new ≡ row_reading_value self.old) }
     {
         match self.stage {
             Stage::Start => match line {
@@ -119,8 +122,10 @@ impl Reading {
 
     // Reads a line, and takes it where it may come next.
     fn feed(&mut self, alloc: Global, version: Version, bytes: &[u8]) -> Result<bool, AllocError>
-        ensures { IfOk result (λ taken. TakesImageLine version (text_words bytes.now)
+        ensures taken { IfOk result (λ taken. TakesImageLine version (text_words bytes.now)
             taken (row_reading_value self.old) (row_reading_value self.new)) }
+        ensures same { IfOk result (λ taken. taken ≡ false →
+            row_reading_value self.new ≡ row_reading_value self.old) }
     {
         match read_line(bytes) {
             ReadLine::Skipped => Ok(true),
@@ -130,27 +135,31 @@ impl Reading {
     }
 }
 
-/// The row that a text spells.
-pub(crate) fn read_row(alloc: Global, version: Version, text: &[u8]) -> Result<Reading, ImageErr>
+/// The row that a text spells, or the piece of it at fault.
+pub(crate) fn read_row(alloc: Global, version: Version, text: &[u8]) -> Result<Reading, Unread>
     ensures ok { IfOk result (λ reading.
         SpellsImage version text.now (row_read (row_reading_value reading))) }
-    ensures err { IfErr result (IsNoImage version text.now) }
+    ensures err { IfErr result (HasLineFault version text.now) }
 {
     let mut reading = Reading::new(alloc);
     let mut number: u64 = 0;
     let mut rest = text;
     loop {
-        let (first, after) = cut(rest, b'\n');
+        let (line, after) = cut(rest, b'\n');
         number += 1;
-        if !reading.feed(alloc, version, first)? {
-            return Err(ImageErr::Bad { line: number });
+        if !reading.feed(alloc, version, line)? {
+            let bad = reading.line_fault(version, line);
+            let piece = in_text(version, text, number, line, bad);
+            return Err(Unread::Bad { piece });
         }
         match after {
             Some(more) => rest = more,
             None => {
                 return match reading.stage {
                     Stage::Ended => Ok(reading),
-                    _ => Err(ImageErr::Bad { line: number }),
+                    _ => Err(Unread::Bad {
+                        piece: at_end(version, text, number, line),
+                    }),
                 };
             }
         }
