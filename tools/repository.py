@@ -177,12 +177,20 @@ class Change(typing.NamedTuple):
 
 
 class Edit:
-    """An edit: lines before the first `file:` are for readers."""
+    """An edit. Lines before the first `file:` are for readers: in tests/wrong the first one says what
+    the wrong body does, and the second, which begins with REFUSED, by what it is refused."""
+
+    REFUSED = "# refused by "
 
     def __init__(self, path):
         self.name, self.changes = path.stem, []
+        lines = path.read_text().splitlines()
+        first, second, *_ = [*lines, "", ""]
+        self.does = first[2:] if first.startswith("# ") else ""
+        is_told = second.startswith(self.REFUSED)
+        self.refused = second.removeprefix(self.REFUSED) if is_told else ""
         file = old = None
-        for line in path.read_text().splitlines():
+        for line in lines:
             word, _, rest = line.partition(": ")
             if word == "file":
                 file = rest
@@ -190,6 +198,10 @@ class Edit:
                 old = rest
             elif word == "new":
                 self.changes.append(Change(file, old, rest))
+
+    def named(self):
+        """The calls, clauses and definitions by which it is refused."""
+        return re.findall(r"`([^`]+)`", self.refused)
 
     def applied(self, folder):
         """The new texts of the files in a folder that it changes."""

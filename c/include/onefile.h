@@ -97,7 +97,8 @@ const char *onefile_name(int answer);
 /* ---- Objects. */
 
 #define ONEFILE_MOST_CALLERS 16
-#define ONEFILE_MOST_BLOCKS 512
+#define ONEFILE_MOST_BLOCKS 16777216
+#define ONEFILE_MOST_ORDERED_BLOCKS 512 /* with more, ONEFILE_CAUSE_BAD_OP */
 #define ONEFILE_MOST_INSTRS 16
 #define ONEFILE_REGISTERS 16
 #define ONEFILE_QUEUES 4
@@ -134,8 +135,8 @@ typedef struct onefile_saved {
 /* ---- Memories. */
 
 /* Fills `memory` with an empty memory of so many callers (1 to 16), with room for so many keys and
- * queued items together (0 to 512). `limit` (1 to ONEFILE_GREATEST_LIMIT) is the last sequence that
- * may be committed: each batch of calls that write takes one.
+ * queued items together (0 to ONEFILE_MOST_BLOCKS). `limit` (1 to ONEFILE_GREATEST_LIMIT) is the
+ * last sequence that may be committed: each batch of calls that write takes one.
  * FULL, RANGE. */
 int onefile_open(onefile_memory *memory, uint32_t callers, uint32_t blocks, uint32_t limit);
 
@@ -291,7 +292,8 @@ static inline uint64_t onefile_len(uint32_t queue) { return onefile_word(144, qu
 /* Answers the number of keys. */
 static inline uint64_t onefile_count(void) { return onefile_word(160, 0, 0); }
 
-/* Answers the least key, or none. */
+/* The next three abort in a memory with room for more than ONEFILE_MOST_ORDERED_BLOCKS keys and
+ * items. Answers the least key, or none. */
 static inline uint64_t onefile_first(void) { return onefile_word(176, 0, 0); }
 
 /* Answers the least key above this one, or none. */
@@ -328,7 +330,8 @@ enum {
   ONEFILE_CAUSE_OVERFLOW = 1, /* a sum is above ONEFILE_GREATEST */
   ONEFILE_CAUSE_SHORT = 2,    /* more is taken off than a register has */
   ONEFILE_CAUSE_NO_ROOM = 3,  /* no block is free */
-  ONEFILE_CAUSE_DIFFERS = 4   /* the value at the key is not the one that is needed */
+  ONEFILE_CAUSE_DIFFERS = 4,  /* the value at the key is not the one that is needed */
+  ONEFILE_CAUSE_BAD_OP = 5    /* a memory with so much room does not run the instruction */
 };
 
 /* Steps that are never all made. */

@@ -90,7 +90,7 @@ static void empty_objects(void) {
 static void numbers(void) {
   EXPECT(onefile_open(&memory, 0, 0, 1), ONEFILE_RANGE);
   EXPECT(onefile_open(&memory, 17, 0, 1), ONEFILE_RANGE);
-  EXPECT(onefile_open(&memory, 1, 513, 1), ONEFILE_RANGE);
+  EXPECT(onefile_open(&memory, 1, 16777217, 1), ONEFILE_RANGE);
   EXPECT(onefile_open(&memory, 1, 0, 0), ONEFILE_RANGE);
   EXPECT(onefile_open(&memory, 1, 0, 4294967295u), ONEFILE_RANGE);
   EXPECT(onefile_open(&memory, 2, 1, 5), ONEFILE_DONE);

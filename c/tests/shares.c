@@ -85,7 +85,7 @@ static void arguments(void) {
   EXPECT(onefile_share_file(&memory, NULL, 1, 0, 1), ONEFILE_NULL);
   EXPECT(onefile_share_file(&memory, path, 0, 0, 1), ONEFILE_RANGE);
   EXPECT(onefile_share_file(&memory, path, 17, 0, 1), ONEFILE_RANGE);
-  EXPECT(onefile_share_file(&memory, path, 1, 513, 1), ONEFILE_RANGE);
+  EXPECT(onefile_share_file(&memory, path, 1, 16777217, 1), ONEFILE_RANGE);
   EXPECT(onefile_share_file(&memory, path, 1, 0, 0), ONEFILE_RANGE);
   EXPECT(onefile_share_file(&memory, path, 1, 0, UINT32_MAX), ONEFILE_RANGE);
   EXPECT(onefile_share_file(&memory, "/no/such/folder", 1, 0, 1), ONEFILE_NO_FILE);

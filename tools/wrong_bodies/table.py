@@ -1,13 +1,16 @@
-"""Compares docs/WRONG.md, the table of wrong bodies, with what there is.
+"""The table of wrong bodies: makes docs/REFUSED.md, and compares docs/WRONG.md with what there is.
 
-- each edit of tests/wrong and of crates/*/must-fail has one row, in the section of its crate, and
-  can be applied: what it replaces is there once in the file that it names (`rt ci` passes one that
-  cannot be applied)
+docs/REFUSED.md has a row for each edit of tests/wrong, made of the edit's first two lines: what the
+wrong body does, and `refused by` with calls and clauses. docs/WRONG.md, written by hand, has the
+edits of crates/*/must-fail and what no clause refuses.
+
+- each edit of tests/wrong has these two lines, each one of must-fail has one row, and each can be
+  applied: what it replaces is there once in the file that it names (`rt ci` passes one that cannot)
 - each row has three cells: the body, what refuses it, and what shows that: an edit, a test, a case,
   a script, or the words `by reading`
 - what a row names exists: edits, tests, cases and scripts, and in its second cell the calls,
-  clauses and definitions of the section's crate, or of one that the cell names, as in
-  `of_mem::Work::run_on`
+  clauses and definitions of its crates: that of its edit, those that the row names, as in
+  `of_mem::Work::run_on`, and if there is none of these, any
 - a row names a clause, or the checker, or says that **no clause** refuses the body
 """
 import functools
@@ -17,57 +20,79 @@ import typing
 import repository
 
 PAGE = repository.TOP / "docs/WRONG.md"
+MADE = repository.TOP / "docs/REFUSED.md"
+HEAD = """# Wrong bodies that a check refuses
+
+Each row is an edit of `tests/wrong`, in the folder of its crate: what the changed body does, and the call and clause that refuse it. `tools/wrong --write` makes this page from the first lines of the edits; [WRONG.md](WRONG.md) has the edits that each `rt ci` tries, what no clause refuses, and how edits are tried.
+"""
 CRATES = {it.name for it in repository.CRATES.iterdir()}
 SHOWN = re.compile(r"\b(edit|test|case|script) `([^`]+)`")
 SPAN = re.compile(r"`([^`]+)`")
 
 
 class Row(typing.NamedTuple):
-    """A row of the page: its number of line, the crate of its section or None, and its cells."""
+    """A row: where it is, and its cells."""
 
-    line: int
-    crate: str | None
+    where: str
     cells: list
 
     def edits(self):
-        """The edits that its last cell names, each with the crate."""
-        shown = SHOWN.findall(self.cells[-1])
-        return [(self.crate, name) for kind, name in shown if kind == "edit"]
+        """The edits that its last cell names, as CRATE::NAME."""
+        return [name for kind, name in SHOWN.findall(self.cells[-1]) if kind == "edit"]
+
+    def crates(self):
+        """The crates that it names, and those of its edits; all, if there is none."""
+        parts = {part for cell in self.cells for it in SPAN.findall(cell) for part in it.split("::")}
+        named = parts | {it.partition("::")[0] for it in self.edits()}
+        return named & CRATES or CRATES
 
 
 def rows():
-    """The rows of all tables of bodies."""
-    crate, inside = None, False
+    """The rows of the tables of docs/WRONG.md, and those of the edits."""
+    inside = False
     for number, line in enumerate(PAGE.read_text().splitlines(), 1):
-        heading = re.match(r"(##+) (.*)", line)
-        if heading:
-            crate = heading[2] if heading[1] == "###" else None
-        elif inside and line.startswith("| "):
-            yield Row(number, crate, line.strip("| ").split(" | "))
+        if inside and line.startswith("| "):
+            yield Row(f"docs/WRONG.md, line {number}", line.strip("| ").split(" | "))
         inside = line.startswith("| The body |") or inside and line.startswith("|")
+    for name, (file, edit) in edits().items():
+        if is_told(file):
+            where = str(file.relative_to(repository.TOP))
+            yield Row(where, [edit.does, edit.refused, f"edit `{name}`"])
 
 
-def named():
-    """By crate and name of an edit the names in its row's second cell."""
-    return {edit: SPAN.findall(row.cells[1]) for row in rows() for edit in row.edits()}
+def is_told(file):
+    """Whether an edit has its row in its own first lines: those of must-fail have theirs by hand."""
+    return file.parent.name != "must-fail"
 
 
 @functools.cache
 def edits():
-    """The edits by their crates and names, each with its file."""
+    """The edits by CRATE::NAME, each with its file."""
     found = {}
     for pattern, up in (("tests/wrong/*", 0), ("crates/*/must-fail", 1)):
         for folder in repository.TOP.glob(pattern):
             crate = folder.parent.name if up else folder.name
             for name, edit in repository.edits(folder).items():
-                found[crate, name] = folder / f"{name}.edit", edit
-    return found
+                found[f"{crate}::{name}"] = folder / f"{name}.edit", edit
+    return dict(sorted(found.items()))
 
 
-def unfit(crate, edit):
+def page():
+    """The text of docs/REFUSED.md, in the order of crates.txt."""
+    parts = [HEAD]
+    for crate in repository.crates():
+        own = [(file, it) for name, (file, it) in edits().items() if name.startswith(f"{crate}::")]
+        lines = [f"| {it.does} | {it.refused} | `{it.name}` |" for file, it in own if is_told(file)]
+        if lines:
+            head = ["| The body | Refused by | Edit |", "|---|---|---|"]
+            parts.append("\n".join([f"## {crate}\n", *head, *lines]) + "\n")
+    return "\n".join(parts)
+
+
+def unfit(name, edit):
     """Why an edit cannot be applied, or None."""
     try:
-        edit.applied(repository.CRATES / crate)
+        edit.applied(repository.CRATES / name.partition("::")[0])
     except repository.Unfit as why:
         return str(why)
 
@@ -91,9 +116,9 @@ def is_test(path):
     return file.exists() and repository.has_test(file.read_text(), name)
 
 
-def exists(crate, kind, name):
+def exists(kind, name):
     if kind == "edit":
-        return (crate, name) in edits()
+        return name in edits()
     if kind == "test":
         return is_test(name)
     folders = "tests/cases/" if kind == "case" else ("tools/", "tests/")
@@ -103,8 +128,7 @@ def exists(crate, kind, name):
 def undeclared(row):
     """The names in a row's second cell that no source declares."""
     parts = [part for span in SPAN.findall(row.cells[1]) for part in span.split("::")]
-    crates = [row.crate, *(it for it in parts if it in CRATES)]
-    known = {"laws", "text", *crates}.union(*map(names, crates))
+    known = {"laws", "text", *CRATES}.union(*map(names, row.crates()))
     return [it for it in parts if it not in known]
 
 
@@ -113,29 +137,35 @@ def faults(row):
     if len(row.cells) != 3:
         yield f"{len(row.cells)} cells, and not three"
         return
-    _, refused, shown = row.cells
+    does, refused, shown = row.cells
+    if not does or not refused:
+        yield f"it does not begin with `# ` and what the body does, and `{repository.Edit.REFUSED}`"
+        return
     said = SHOWN.findall(shown)
     if not said and "by reading" not in shown:
         yield "it is shown by nothing"
     for kind, name in said:
-        if not exists(row.crate, kind, name):
+        if not exists(kind, name):
             yield f"no {kind} {name}"
     if not re.search(r"`|the checker|\*\*no clause\*\*", refused):
         yield "it names no clause, and does not say that there is none"
-    for name in undeclared(row) if row.crate else []:
-        yield f"{row.crate} declares no {name}"
+    where = "no crate" if row.crates() == CRATES else " or ".join(sorted(row.crates()))
+    for name in undeclared(row):
+        yield f"{where} declares no {name}"
 
 
 def tries():
-    """Each row and each edit, and what is wrong with it or None."""
+    """The page that is made, each row and each edit, and what is wrong with it or None."""
+    is_made = MADE.exists() and MADE.read_text() == page()
+    yield "docs/REFUSED.md", None if is_made else "is not what tools/wrong --write makes of the edits"
     told = {}
     for row in rows():
         wrong = list(faults(row))
-        yield from ((f"docs/WRONG.md, line {row.line}", it) for it in wrong or [None])
+        yield from ((row.where, it) for it in wrong or [None])
         for edit in row.edits():
-            told.setdefault(edit, []).append(row.line)
-    for (crate, name), (file, edit) in sorted(edits().items()):
-        lines, wrong = told.get((crate, name), []), unfit(crate, edit)
-        if len(lines) != 1:
-            wrong = f"has {len(lines)} rows, in lines {lines}" if lines else "has no row"
+            told.setdefault(edit, []).append(row.where)
+    for name, (file, edit) in edits().items():
+        wrong, places = unfit(name, edit), told.get(name, [])
+        if len(places) != 1:
+            wrong = f"has {len(places)} rows: {'; '.join(places)}" if places else "has no row"
         yield str(file.relative_to(repository.TOP)), wrong

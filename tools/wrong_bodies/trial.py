@@ -7,8 +7,8 @@ at its own function.
 - A function that is only refused because of one that it calls has not been tried: its wrong body
   goes to a later round, as does a second one of the same function.
 - An edit of a definition or of a contract may change what other functions have to prove. It is
-  tried alone, by a check of the functions that its row of docs/WRONG.md names: one must be refused.
-  If the row names none of the crate, a lemma that it names must be rejected.
+  tried alone, by a check of the functions that its line `refused by` names: one must be refused.
+  If the line names none of the crate, a lemma that it names must be rejected.
 - First the crate is checked as it is, in its own place: all of it must be proved. In each round
   only edited functions may be refused by themselves.
 - A round that the check cannot read, or that breaks more than it should, counts for nothing. It is
@@ -101,13 +101,10 @@ def chosen(folder, bodies):
 
 
 class Trial:
-    """Tries wrong bodies of a crate. By edit, `named` are the functions that its row names.
+    """Tries wrong bodies of a crate. Each check has so many jobs, or as many as it likes."""
 
-    Each check has so many jobs, or as many as it likes.
-    """
-
-    def __init__(self, crate, every, named, jobs, say):
-        self.crate, self.every, self.named, self.jobs, self.say = crate, every, named, jobs, say
+    def __init__(self, crate, every, jobs, say):
+        self.crate, self.every, self.jobs, self.say = crate, every, jobs, say
         self.rounds, self.results = 0, []
 
     def run(self, edits):
@@ -188,20 +185,20 @@ class Trial:
         return True
 
     def try_alone(self, it, found):
-        """Tries an edit of definitions or contracts, by what its row names."""
-        rows = self.named.get((self.crate.name, it.edit.name), [])
-        paths = sorted(path for path in found if any(path.endswith(f"::{row}") for row in rows))
+        """Tries an edit of definitions or contracts, by what its line `refused by` names."""
+        named = it.edit.named()
+        paths = sorted(path for path in found if any(path.endswith(f"::{own}") for own in named))
         with room(self.crate, self.every) as folder:
             chosen(folder, [it])
             text = self.checked(f"{it.edit.name} alone", folder, paths)
         said = checks.verdicts(text)
         refused = [it for it in paths if said.get(it) not in (None, Verdict.PROVED)]
         if not paths:
-            refused = checks.rejected(text) & set(rows)
+            refused = checks.rejected(text) & set(named)
         if fault := checks.unread(text):
             self.note(it.edit, fault=f"BAD EDIT: {fault}")
         elif refused:
             self.note(it.edit, {path.removeprefix(f"{self.crate.name}::") for path in refused})
         else:
-            some = ", ".join(paths or rows)
-            self.note(it.edit, fault=f"NOT REFUSED by what its row names: {some}")
+            some = ", ".join(paths or named)
+            self.note(it.edit, fault=f"NOT REFUSED by what its edit names: {some}")

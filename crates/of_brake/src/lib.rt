@@ -4,12 +4,14 @@
 
 mod boxed;
 mod brake;
+mod free;
 mod fuel;
 mod hold;
 mod pattern;
 mod steps;
 
 pub use brake::Brake;
+pub use free::Free;
 pub use fuel::Fuel;
 pub use hold::{Holder, Teller, hold_pair};
 pub use pattern::Pattern;

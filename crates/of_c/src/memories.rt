@@ -19,7 +19,7 @@ use crate::truth::{OfHandle, OfMemory, OfPair, OfSaved, surely};
 use of_memory::{EnrolError, Handle, InUse, Memory, OpenError, Saved};
 use std::alloc::Global;
 
-/// An empty memory: 1 to 16 callers, at most 512 blocks, sequences up to a limit.
+/// An empty memory: 1 to 16 callers, at most 16,777,216 blocks, sequences up to a limit.
 #[unsafe(no_mangle)]
 pub extern "C" fn of_c_open(
     alloc: Global,

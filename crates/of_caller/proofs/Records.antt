@@ -65,7 +65,7 @@ module _ (p : Plan) (s : Start) (B : TableStart) (w : Moment) (e : Ended) (run :
     least_reads = λ x among only.
         let n : ℕ = finished_of s c in
         let op = operation_is p s B w run.operations run.outcomes moment c (n + x + 1) (get_or (ops c) x []) lt (omega arith) (omega (arith, among)) (ap (λ (i : ℕ). get_or (ops c) i []) (omega arith)) in
-        ap (least_read (plan_setup p)) op.words ∙ least_reads p (script_of_ticket p c (n + x + 1)) op.script only;
+        ap (least_read (plan_setup p)) op.words ∙ least_reads p (omega (arith, moment.plan.few_blocks)) (script_of_ticket p c (n + x + 1)) op.script only;
     recovered = recovered_is c lt;
   }
 

@@ -11,6 +11,7 @@ use Rattle.of_recover.specs.Recovered.{recovered_words, recovered_data}
 use Rattle.of_recover.proofs.Rows.{length-recovered}
 use Rattle.of_recover.proofs.Kept.{data_at, others_kept, recovered_twice}
 use Rattle.of_recover.proofs.Agreeing.{recovered_data-same}
+use Rattle.of_mem.proofs.BucketPlaces.{few_behind}
 use Rattle.of_mem.specs.Places.{base_of, ticket_cell_at}
 use Rattle.of_script.specs.declared.instr.TheConstants.{MOST_INSTRS}
 use Rattle.of_mem.specs.declared.work.RawReply.{RawReply}
@@ -91,7 +92,7 @@ module _ (p : Plan) (s : Start) (B : TableStart) (w : Moment) (e : Ended) (run :
 
   -- a data word is the recovered one
   few_cells : plan_data_cells p < 4294967296
-  few_cells = omega (arith, run.moment.plan.few_callers, run.moment.plan.few_blocks)
+  few_cells = omega (arith, run.moment.plan.few_callers, run.moment.plan.few_blocks, few_behind p.blocks run.moment.plan.few_blocks)
 
   word_at : (a : ℕ) → a < plan_data_cells p → get_or C.cells a 0 ≡ recovered_data p.callers (plan_data_cells p) (durable_word S w.words) a
   word_at a l =

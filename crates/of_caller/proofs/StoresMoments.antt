@@ -18,7 +18,7 @@ use Rattle.of_caller.specs.Runs.{IsMomentOf}
 
 -- the work that a plan's table runs
 abbrev pub work_of : (p : Plan) → IsPlan p → Scripts
-work_of p is = record { callers = p.callers; blocks = p.blocks; some_callers = is.some_callers; few_callers = is.few_callers; few_blocks = is.few_blocks }
+work_of p is = record { callers = p.callers; blocks = p.blocks; some_callers = is.some_callers; few_callers = omega (arith, is.few_callers); few_blocks = omega (arith, is.few_blocks) }
 
 -- caller i has a script with the ticket t, and these are its words
 pub record IsOperation (p : Plan) (i t : ℕ) (op : List ℕ) : Type 0 where

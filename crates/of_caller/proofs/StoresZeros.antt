@@ -1,5 +1,5 @@
 -- A table of zeros starts where a plan's empty start is.
-use Rattle.std.proofs.Common.{◌≡◌, ℕ, refl, sym, ap, ◌∙◌}
+use Rattle.std.proofs.Common.{◌≡◌, ℕ, refl, sym, ap, ◌∙◌, arith}
 use Rattle.std.proofs.lemmas.List.{length-replicate}
 use Rattle.of_cell.specs.Words.{payload_of}
 use Rattle.of_cell.proofs.Order.{pay_zero}
@@ -27,7 +27,7 @@ zeros_are_empty p plan = record {
   size = length-replicate (plan_setup p).cells 0;
   stands = record {
     own = λ c lt. record { none = λ is. number_zero p (shape_at MOST_INSTRS c); some = λ not. absurd (not (number_zero p (ticket_cell_at MOST_INSTRS c))) };
-    stored = empty_is_stored (base_of p.callers MOST_INSTRS) p.blocks plan.few_blocks (start_number (zero_start (plan_setup p))) (number_zero p);
+    stored = empty_is_stored (base_of p.callers MOST_INSTRS) p.blocks (omega (arith, plan.few_blocks)) (start_number (zero_start (plan_setup p))) (number_zero p);
   };
   each_caller = length-replicate p.callers 0;
   tickets = λ c lt. number_zero p (ticket_cell_at MOST_INSTRS c) ∙ sym (none_finished p c);

@@ -27,9 +27,9 @@ room_share n m = go (cases_lt (4096 + n * 256) m)
     go (inl l) = inr (omega (arith, min-eq_right {n = 4096 + n * 256} {m = m} (omega (arith, l))))
     go (inr l) = inl (min-eq_left l)
 
-few_rows : (n k : ℕ) → n ≤ 16 → n * k ≤ 16 * k
+few_rows : (n k : ℕ) → n ≤ 64 → n * k ≤ 64 * k
 few_rows n k l = grind arith
 
 -- so the cells of the largest tables have numbers of 32 bits, and their durable words places
-pub cells_small : (n m : ℕ) → n ≤ 16 → m ≤ 134217728 → durable_cells n m ≤ 134479905
+pub cells_small : (n m : ℕ) → n ≤ 64 → m ≤ 134217728 → durable_cells n m ≤ 136839297
 cells_small n m l k = omega (arith, few_rows n (2 * log_room n m + 1) l, room_few n m, l, k)

@@ -5,7 +5,7 @@ ghost use Rattle.std.specs.Prelude.{◌≡◌, ℕ, ◌^◌, ◌<◌, ◌≤◌,
 ghost use Rattle.of_cell.specs.Words.{pack, seq_of, payload_of, IsEarlier};
 ghost use Rattle.of_cell.specs.Cells.{log_room, durable_cells, table_words, step_bound};
 ghost use Rattle.of_cell.specs.Named.{CellsDiffer, CellsBelow, WordPlacesDiffer, PlacesBelow};
-ghost use Rattle.of_cell.specs.declared.shape.TheConstants.{MOST_DATA_CELLS, MOST_CELLS, FEW_DATA_CELLS, LOG_SHARE};
+ghost use Rattle.of_cell.specs.declared.shape.TheConstants.{MOST_CALLERS, MOST_DATA_CELLS, MOST_CELLS, FEW_DATA_CELLS, LOG_SHARE};
 
 use crate::Shape;
 
@@ -38,18 +38,19 @@ pub fn log_rooms()
     ensures share { (n m : ℕ) → m ≤ log_room n m ⊎ FEW_DATA_CELLS + n * LOG_SHARE ≤ log_room n m }
 {}
 
-/// The greatest numbers of data cells and of cells, and what a log's room is made of. At the
+/// The greatest numbers of callers, of data cells and of cells, and what a log's room is made of. At the
 /// smallest table whose logs lack room for a data cell, the room is one less.
 #[tactic(auto, unfolding(crate::specs::Cells::log_room))]
 pub fn limits()
     ensures data_cells { MOST_DATA_CELLS ≡ 134217728 }
-    ensures cells { MOST_CELLS ≡ 134479905 }
-    ensures reached { durable_cells 16 MOST_DATA_CELLS ≡ MOST_CELLS }
+    ensures callers { MOST_CALLERS ≡ 64 }
+    ensures cells { MOST_CELLS ≡ 136839297 }
+    ensures reached { durable_cells MOST_CALLERS MOST_DATA_CELLS ≡ MOST_CELLS }
     ensures few { FEW_DATA_CELLS ≡ 4096 }
     ensures share { LOG_SHARE ≡ 256 }
     ensures whole { log_room 16 1887 ≡ 1887 }
     ensures cut { log_room 1 4353 ≡ 4352 }
-    ensures greatest { log_room 16 MOST_DATA_CELLS ≡ 8192 }
+    ensures greatest { log_room MOST_CALLERS MOST_DATA_CELLS ≡ 20480 }
 {}
 
 /// The numbers for sixteen callers with scripts of sixteen and 512 blocks, which make 1887 data

@@ -17,8 +17,7 @@ ghost use Rattle.of_cells.specs.Within.{EndsUnlessDenied, KeepsToStepsLeft, Rise
 
 use crate::answer::RawAnswer;
 use crate::error::RunError;
-use crate::free::Free;
-use of_brake::{Brake, Fuel, Steps};
+use of_brake::{Brake, Free, Fuel, Steps};
 use of_caller::{CallErr, Caller};
 use of_core::Outcome;
 use of_mem::Work;

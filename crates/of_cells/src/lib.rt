@@ -6,7 +6,6 @@ mod answer;
 mod at_once;
 mod calling;
 mod error;
-mod free;
 mod handle;
 pub mod laws;
 mod limits;

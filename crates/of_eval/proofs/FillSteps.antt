@@ -9,7 +9,7 @@ use Rattle.of_mem.specs.Places.{register_at}
 use Rattle.of_mem.specs.Plots.{base}
 use Rattle.of_mem.specs.ProgramWork.{memory_of}
 use Rattle.of_script.specs.declared.instr.Instr.{Instr}
-use Rattle.of_script.specs.declared.instr.Instr.TheVariants.{Store as StoreInstr, Put, Push}
+use Rattle.of_script.specs.declared.instr.Instr.TheVariants.{Put, Push}
 use Rattle.of_script.specs.Language.{IsScript, IsInstrInRange, greatest}
 use Rattle.of_store.specs.Store.{Store, InstrEffect, instr_effect, then_outcome, run_result, run, stored_count, queue, with_key, with_queue, with_register, empty_store}
 use Rattle.of_store.proofs.Effects.{put_new}

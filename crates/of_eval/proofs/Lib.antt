@@ -3,6 +3,7 @@ pub mod Unpacked
 pub mod Meanings
 pub mod Walks
 pub mod FirstReads
+mod Ordered
 pub mod ReadsOnly
 pub mod Resumed
 pub mod Overlay

@@ -24,13 +24,14 @@ use Rattle.of_order.proofs.Drops.{drop_means}
 use Rattle.of_queue.specs.QueuePrograms.{push_program, pop_program}
 use Rattle.of_queue.specs.Means.{push_store, pop_store, front_of}
 use Rattle.of_queue.proofs.Wholes.{push_means, pop_means}
-use Rattle.of_script.specs.declared.instr.Cause.TheVariants.{Overflow, Short, NoRoom, Differs}
+use Rattle.of_script.specs.declared.instr.Cause.TheVariants.{Overflow, Short, NoRoom, Differs, BadOp}
 use Rattle.of_script.specs.declared.instr.Instr.{Instr}
 use Rattle.of_script.specs.declared.instr.Instr.TheVariants.{Load, Store as Put_in, Add, Sub, Get, Put, Del, Need, Push, Pop, Len, Count, First, Next, DropBelow}
 use Rattle.of_script.specs.Language.{IsInstrInRange, greatest}
-use Rattle.of_store.specs.Store.{Store, IsState, InstrEffect, instr_effect, pop_effect, least_from, queue, stored_count, register, with_register, with_queue, is_there}
+use Rattle.of_store.specs.declared.store.TheConstants.{MOST_ORDERED_BLOCKS}
+use Rattle.of_store.specs.Store.{Store, IsState, InstrEffect, instr_effect, ordered_effect, pop_effect, least_from, keys_from, queue, stored_count, register, with_register, with_queue, is_there}
 use Rattle.of_eval.specs.Stored.{cell_store, IsStored}
-use Rattle.of_eval.specs.ScriptPrograms.{InstrResult, answer_program, answers_number, put_answers, answers_if, need_answers, add_to, add_unless, sub_from, sub_unless, instr_program}
+use Rattle.of_eval.specs.ScriptPrograms.{InstrResult, abort_program, ordered_program, answer_program, answers_number, put_answers, answers_if, need_answers, add_to, add_unless, sub_from, sub_unless, instr_program}
 use Rattle.of_eval.specs.Registers.{register_stands}
 
 -- the answer and the cells are those of this effect; an abort's cells are not asked
@@ -268,6 +269,20 @@ module _ (o blocks : ℕ) (few : blocks ≤ MOST_BLOCKS) (m : ℕ → ℕ) (s : 
   count =
       ((omega arith, omega arith, tt), (ap (λ (v : ℕ). Ok (Some v)) h.stands.holds.keys, h.stands))
 
+  ordered_case : (t : Bool) (f : Program InstrResult) (e : InstrEffect) → Does f e
+      → Does (cond t (abort_program BadOp) f) (cond t (Err BadOp) e)
+  ordered_case true f e d = (tt, refl)
+  ordered_case false f e d = d
+
+  -- the cells have as many blocks as the store has room
+  ordered : (f : Program InstrResult) (e : InstrEffect) → Does f e
+      → Does (ordered_program blocks f) (ordered_effect s e)
+  ordered f e d =
+      subst
+      (λ (n : ℕ).
+      Does (ordered_program blocks f) (cond (ltb MOST_ORDERED_BLOCKS n) (Err BadOp) e))
+      (sym room_is) (ordered_case (ltb MOST_ORDERED_BLOCKS blocks) f e d)
+
   least : (low : ℕ)
       → Does (then_do (least_program o blocks low) answer_program) (Ok (s, least_from s.keys low))
   least low =
@@ -281,10 +296,16 @@ module _ (o blocks : ℕ) (few : blocks ≤ MOST_BLOCKS) (m : ℕ → ℕ) (s : 
         ),
       )
 
-  drop : (k : ℕ) → Does (instr_program o blocks (DropBelow k)) (instr_effect s (DropBelow k))
+  abbrev dropped : ℕ → InstrEffect
+  dropped k = Ok (
+    record s { keys = keys_from s.keys k },
+    Some (fin.len s.keys - fin.len (keys_from s.keys k)),
+  )
+
+  drop : (k : ℕ) → Does (then_do (drop_program o blocks k) answers_number) (dropped k)
   drop k =
       let d = drop_means o blocks k few (cell_store s) m h.stands in
-      after_first o blocks m (drop_program o blocks k) answers_number (instr_effect s (DropBelow k))
+      after_first o blocks m (drop_program o blocks k) answers_number (dropped k)
       d.0 (tt, (ap (λ (v : ℕ). Ok (Some v)) d.1, d.2))
 
   -- every instruction does to the cells what it does to the store
@@ -302,6 +323,6 @@ module _ (o blocks : ℕ) (few : blocks ≤ MOST_BLOCKS) (m : ℕ → ℕ) (s : 
   instr_acts (Pop q) k = pop q k
   instr_acts (Len q) k = len q k
   instr_acts Count k = count
-  instr_acts First k = least 0
-  instr_acts (Next k) l = least (k + 1)
-  instr_acts (DropBelow k) l = drop k
+  instr_acts First k = ordered _ _ (least 0)
+  instr_acts (Next k) l = ordered _ _ (least (k + 1))
+  instr_acts (DropBelow k) l = ordered _ _ (drop k)

@@ -11,6 +11,7 @@ pub mod Instructions
 pub mod ScriptRuns
 pub mod MaskLaws
 pub mod ScriptsStay
+pub mod FewWrites
 pub mod SoundScripts
 pub mod Means
 pub mod Lawful

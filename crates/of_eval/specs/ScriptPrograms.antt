@@ -1,5 +1,5 @@
 -- What scripts read and write, and in which order.
-use Rattle.std.specs.Prelude.{ℕ, ◌+◌, ◌-◌, Bool, true, false, List, [], ◌∷◌, ◌++◌, length, take, nat_lt, Option, Some, None, Result, Ok, Err}
+use Rattle.std.specs.Prelude.{ℕ, ◌+◌, ◌-◌, Bool, true, false, List, [], ◌∷◌, ◌++◌, length, take, nat_lt, if◌then◌else◌, Option, Some, None, Result, Ok, Err}
 use Rattle.of_mem.specs.declared.work.RawReply.{RawReply}
 use Rattle.of_mem.specs.Places.{register_at}
 use Rattle.of_mem.specs.Programs.{Program, Done, Read, Write, then_do}
@@ -15,6 +15,7 @@ use Rattle.of_script.specs.declared.instr.Cause.TheVariants.{Overflow, Short, No
 use Rattle.of_script.specs.declared.instr.TheConstants.{MOST_INSTRS}
 use Rattle.of_script.specs.Language.{greatest}
 use Rattle.of_script.specs.Reading.{instr_at}
+use Rattle.of_store.specs.declared.store.TheConstants.{MOST_ORDERED_BLOCKS}
 use Rattle.of_store.specs.Store.{is_there, Answered, Aborted}
 use Rattle.of_eval.specs.Shapes.{reply_cells}
 use Rattle.of_eval.specs.Words.{reply_to}
@@ -65,6 +66,11 @@ answers_if cause false = abort_program cause
 abbrev pub need_answers : ℕ → Option ℕ → Program InstrResult
 need_answers v found = answers_if Differs (is_there found v)
 
+-- Keys in their order: with more blocks than this such an instruction aborts as a word that is none.
+
+abbrev pub ordered_program : ℕ → Program InstrResult → Program InstrResult
+ordered_program blocks f = if nat_lt MOST_ORDERED_BLOCKS blocks then abort_program BadOp else f
+
 abbrev pub instr_program : ℕ → ℕ → Instr → Program InstrResult
 instr_program o blocks (Load r) = Read (register_at o r) answers_number
 instr_program o blocks (Store r v) = Write (register_at o r) v (answer_program None)
@@ -78,9 +84,12 @@ instr_program o blocks (Push q v) = then_do (push_program o blocks q v) (answers
 instr_program o blocks (Pop q) = then_do (pop_program o q) answer_program
 instr_program o blocks (Len q) = then_do (len_program o q) answers_number
 instr_program o blocks Count = then_do (key_count_program o) answers_number
-instr_program o blocks First = then_do (least_program o blocks 0) answer_program
-instr_program o blocks (Next k) = then_do (least_program o blocks (k + 1)) answer_program
-instr_program o blocks (DropBelow k) = then_do (drop_program o blocks k) answers_number
+instr_program o blocks First =
+    ordered_program blocks (then_do (least_program o blocks 0) answer_program)
+instr_program o blocks (Next k) =
+    ordered_program blocks (then_do (least_program o blocks (k + 1)) answer_program)
+instr_program o blocks (DropBelow k) =
+    ordered_program blocks (then_do (drop_program o blocks k) answers_number)
 
 abbrev pub program_of : ℕ → ℕ → Option Instr → Program InstrResult
 program_of o blocks None = abort_program BadOp

@@ -1,7 +1,7 @@
 -- Scripts read and write nothing before the first cell of the store; those that only read write
 -- nothing. These lemmas stand in specs/ since SoundScripts, the law of an impl, is proved with
 -- them.
-use Rattle.std.proofs.Common.{◌≡◌, ℕ, ◌+◌, ◌-◌, Bool, true, false, Option, Some, None, Ok, Err, List, [], ◌∷◌, ◌++◌, arith}
+use Rattle.std.proofs.Common.{◌≡◌, ℕ, ◌+◌, ◌-◌, Bool, true, false, cond, Option, Some, None, Ok, Err, List, [], ◌∷◌, ◌++◌, arith}
 use Rattle.std.proofs.lemmas.Bool.{false≢true}
 use Rattle.of_mem.specs.declared.work.RawReply.{RawReply}
 use Rattle.of_mem.specs.Programs.{Program, StaysFrom, OnlyReads}
@@ -15,7 +15,7 @@ use Rattle.of_order.proofs.Buckets.{least_stays, least_reads}
 use Rattle.of_order.proofs.Drops.{drop_stays}
 use Rattle.of_queue.specs.QueuePrograms.{push_program, pop_program}
 use Rattle.of_queue.proofs.Staying.{push_stays, pop_stays}
-use Rattle.of_script.specs.declared.instr.Cause.TheVariants.{NoRoom, Differs}
+use Rattle.of_script.specs.declared.instr.Cause.TheVariants.{NoRoom, Differs, BadOp}
 use Rattle.of_script.specs.declared.instr.Instr.{Instr}
 use Rattle.of_script.specs.declared.instr.Instr.TheVariants.{Load, Store, Add, Sub, Get, Put, Del, Need, Push, Pop, Len, Count, First, Next, DropBelow}
 use Rattle.of_script.specs.Language.{reads_only}
@@ -25,7 +25,7 @@ use Rattle.of_store.specs.Store.{is_there}
 use Rattle.std.specs.Prelude.{nat_lt}
 use Rattle.of_script.specs.Language.{greatest}
 use Rattle.of_eval.specs.Scripts.{instr_reads, words_read}
-use Rattle.of_eval.specs.ScriptPrograms.{InstrResult, answer_program, answers_number, put_answers, answers_if, need_answers, add_unless, sub_unless, instr_program, program_of, word_program, go_on, words_program}
+use Rattle.of_eval.specs.ScriptPrograms.{InstrResult, abort_program, answer_program, answers_number, put_answers, answers_if, need_answers, add_unless, sub_unless, instr_program, program_of, word_program, go_on, words_program}
 
 module _ (o blocks : ℕ) where
   put_after : (r : PutAnswer) → StaysFrom o (put_answers r)
@@ -49,6 +49,11 @@ module _ (o blocks : ℕ) where
   sub_after r v true = tt
   sub_after r v false = (omega arith, tt)
 
+  ordered_after : (t : Bool) (f : Program InstrResult) → StaysFrom o f
+      → StaysFrom o (cond t (abort_program BadOp) f)
+  ordered_after true f h = tt
+  ordered_after false f h = h
+
   instr_stays : (i : Instr) → StaysFrom o (instr_program o blocks i)
   instr_stays (Load r) = (omega arith, λ v. tt)
   instr_stays (Store r v) = (omega arith, tt)
@@ -70,12 +75,15 @@ module _ (o blocks : ℕ) where
   instr_stays (Len q) = (omega arith, λ v. tt)
   instr_stays Count = (omega arith, λ v. tt)
   instr_stays First =
-      stays_then o (least_program o blocks 0) answer_program (least_stays o 0 blocks) (λ r. tt)
+      ordered_after _ _
+      (stays_then o (least_program o blocks 0) answer_program (least_stays o 0 blocks) (λ r. tt))
   instr_stays (Next k) =
-      stays_then o (least_program o blocks (k + 1)) answer_program (least_stays o (k + 1) blocks)
-      (λ r. tt)
+      ordered_after _ _
+      (stays_then o (least_program o blocks (k + 1)) answer_program (least_stays o (k + 1) blocks)
+      (λ r. tt))
   instr_stays (DropBelow k) =
-      stays_then o (drop_program o blocks k) answers_number (drop_stays o k blocks) (λ r. tt)
+      ordered_after _ _
+      (stays_then o (drop_program o blocks k) answers_number (drop_stays o k blocks) (λ r. tt))
 
   word_stays : (i : Option Instr) → StaysFrom o (program_of o blocks i)
   word_stays None = tt
@@ -96,6 +104,11 @@ module _ (o blocks : ℕ) where
       (next_stays n done (λ v. words_program o blocks n (done ++ v ∷ []) ws)
       (λ v. words_stay n ws (done ++ v ∷ [])))
 
+  ordered_only : (t : Bool) (f : Program InstrResult) → OnlyReads f
+      → OnlyReads (cond t (abort_program BadOp) f)
+  ordered_only true f h = tt
+  ordered_only false f h = h
+
   instr_only : (i : Instr) → reads_only i ≡ true → OnlyReads (instr_program o blocks i)
   instr_only (Load r) e = λ v. tt
   instr_only (Store r v) e = absurd (false≢true e)
@@ -113,10 +126,12 @@ module _ (o blocks : ℕ) where
   instr_only (Len q) e = λ v. tt
   instr_only Count e = λ v. tt
   instr_only First e =
-      reads_then (least_program o blocks 0) answer_program (least_reads o 0 blocks) (λ r. tt)
+      ordered_only _ _
+      (reads_then (least_program o blocks 0) answer_program (least_reads o 0 blocks) (λ r. tt))
   instr_only (Next k) e =
-      reads_then (least_program o blocks (k + 1)) answer_program (least_reads o (k + 1) blocks)
-      (λ r. tt)
+      ordered_only _ _
+      (reads_then (least_program o blocks (k + 1)) answer_program (least_reads o (k + 1) blocks)
+      (λ r. tt))
   instr_only (DropBelow k) e = absurd (false≢true e)
 
   word_only : (i : Option Instr) → instr_reads i ≡ true → OnlyReads (program_of o blocks i)

@@ -1,17 +1,20 @@
 -- Scripts keep the rules of a work. `impl Work for Scripts` cites these lemmas as its laws, and an
 -- impl may cite specs/ alone.
-use Rattle.std.proofs.Common.{◌≡◌, ℕ, inl, zero, suc, ◌*◌, ◌≤◌, true, leb, ◌&&◌, refl, sym, ◌∙◌, ap, subst, arith, List, [], ◌∷◌, length, take, replicate, get_or, Ok, Err, length-take, ◌+◌}
-use Rattle.std.proofs.lemmas.Bool.{ltb-true}
+use Rattle.std.proofs.Common.{◌≡◌, ℕ, inl, inr, zero, suc, ◌*◌, ◌≤◌, true, leb, ◌&&◌, refl, sym, ◌∙◌, ap, subst, arith, List, [], ◌∷◌, length, take, replicate, get_or, Ok, Err, length-take, ◌+◌}
+use Rattle.std.proofs.lemmas.Bool.{ltb-true, cases_lt}
 use Rattle.of_mem.specs.declared.plot.TheConstants.{MOST_BLOCKS}
 use Rattle.of_mem.specs.Programs.{program_answer, memory_after}
 use Rattle.of_mem.specs.Stores.{CellStore, StandsForStore}
 use Rattle.of_mem.specs.Meaning.{IsSoundMeaning, HasRoom}
+use Rattle.of_mem.specs.declared.work.TheConstants.{MOST_WRITES}
 use Rattle.of_mem.specs.ProgramWork.{IsReplyTo}
-use Rattle.of_mem.proofs.BucketPlaces.{few_behind}
+use Rattle.of_mem.specs.ProgramTouches.{few_writes}
+use Rattle.of_mem.proofs.BucketPlaces.{few_behind, bucket_places, most_buckets}
 use Rattle.of_mem.proofs.Standing.{empty_stands, stands_from}
 use Rattle.of_mem.proofs.Sounds.{sound}
 use Rattle.of_script.specs.declared.instr.TheConstants.{MOST_INSTRS, REGISTERS}
 use Rattle.of_script.proofs.Numbers.{both}
+use Rattle.of_store.specs.declared.store.TheConstants.{MOST_ORDERED_BLOCKS}
 use Rattle.of_store.specs.Store.{Store, ScriptOutcome, empty_store}
 use Rattle.of_store.proofs.Keeps.{empty_is}
 use Rattle.of_eval.specs.declared.scripts.Scripts.{Scripts}
@@ -24,6 +27,7 @@ use Rattle.of_script.specs.Reading.{instr_at}
 use Rattle.of_eval.specs.ScriptRuns.{DoesOutcome, LeadsToOutcome, reply_behind, words_run, words_answer}
 use Rattle.of_eval.specs.MaskLaws.{reply_fits}
 use Rattle.of_eval.specs.ScriptsStay.{words_stay, words_only}
+use Rattle.of_eval.specs.FewWrites.{script_few}
 use Rattle.of_eval.specs.ShapeLaws.{code_some}
 
 -- memory of zeros stands for the empty store
@@ -127,7 +131,13 @@ scripts_sound w =
           (take MOST_INSTRS op) [];
       inside = λ m op l. (script_run (store_at w) w.blocks w.few_blocks op m l.0 l.1).inside;
       few = λ m op l.
-          inl (omega (arith, w.few_callers, w.few_blocks, few_behind w.blocks w.few_blocks));
+          elim (cases_lt MOST_ORDERED_BLOCKS w.blocks) [
+            | inl many ↦
+                inr
+                (few_writes MOST_WRITES (script_program (store_at w) w.blocks op) m
+                (script_few (store_at w) w.blocks many op))
+            | inr few ↦ inl (omega (arith, w.few_callers, few, few_behind w.blocks few))
+          ];
       replies = λ m op l. script_replies (store_at w) w.blocks w.few_blocks m op l;
       reads_only =
           λ op e. words_only (store_at w) w.blocks (length (take MOST_INSTRS op))
@@ -139,5 +149,6 @@ scripts_fit w = record {
   some = w.some_callers;
   few = w.few_callers;
   own = omega arith;
-  small = omega (arith, w.few_callers, w.few_blocks, few_behind w.blocks w.few_blocks);
+  small = omega
+      (arith, w.few_callers, w.few_blocks, bucket_places w.blocks, most_buckets w.blocks);
 }

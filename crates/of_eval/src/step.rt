@@ -1,10 +1,11 @@
 //! One instruction over cells.
 
-ghost use Rattle.std.specs.Prelude.{◌≡◌, ℕ, IfSome};
+ghost use Rattle.std.specs.Prelude.{◌≡◌, ℕ, IfSome, nat_lt};
 ghost use Rattle.of_mem.specs.Calls.{RunsProgram, HasStore};
 ghost use Rattle.of_mem.specs.Programs.{Done};
 ghost use Rattle.of_script.specs.Language.{IsInstrInRange};
 ghost use Rattle.of_script.specs.declared.instr.Instr.TheVariants.{Load, Store, Add, Sub, Get, Put as PutAt, Del, Need as Needs, Push, Pop, Len, Count, First, Next, DropBelow};
+ghost use Rattle.of_store.specs.declared.store.TheConstants.{MOST_ORDERED_BLOCKS};
 ghost use Rattle.of_eval.specs.ScriptPrograms.{need_answers};
 ghost use Rattle.of_script.specs.Reading.{instr_at};
 ghost use Rattle.of_eval.specs.Calls.{step, run_word};
@@ -14,6 +15,7 @@ ghost use Rattle.of_eval.specs.Resuming.{LooksFor};
 use of_map::Put;
 use of_mem::{Need, Part, Plot};
 use of_script::{Cause, GREATEST, Instr, from_word};
+use of_store::MOST_ORDERED_BLOCKS;
 
 /// A number or none, or the cause for which the script aborts.
 pub(crate) type InstrResult = Result<Option<u32>, Cause>;
@@ -231,12 +233,22 @@ fn count(plot: &Plot, part: &Part) -> Result<InstrResult, Need>
     Ok(Ok(Some(keys)))
 }
 
+// Whether there are so many blocks that instructions on keys in their order abort.
+fn is_large(plot: &Plot) -> bool
+    ensures { result ≡ nat_lt MOST_ORDERED_BLOCKS plot.now.blocks }
+{
+    plot.blocks > MOST_ORDERED_BLOCKS
+}
+
 /// Answers the least key.
 #[tactic(auto, using(of_mem::proofs::Runs::run_then_gives, of_mem::proofs::Runs::run_then_needs))]
 fn first(plot: &Plot, part: &Part) -> Result<InstrResult, Need>
     requires { HasStore plot.now part.now }
     ensures { RunsProgram (step plot.now First) part.now part.now result }
 {
+    if is_large(plot) {
+        return Ok(Err(Cause::BadOp));
+    }
     let key = of_order::first(plot, part)?;
     Ok(Ok(key))
 }
@@ -247,6 +259,9 @@ fn next(plot: &Plot, part: &Part, key: u32) -> Result<InstrResult, Need>
     requires { HasStore plot.now part.now }
     ensures { RunsProgram (step plot.now (Next key)) part.now part.now result }
 {
+    if is_large(plot) {
+        return Ok(Err(Cause::BadOp));
+    }
     let next = of_order::next(plot, part, key)?;
     Ok(Ok(next))
 }
@@ -257,6 +272,9 @@ fn drop_below(plot: &Plot, part: &mut Part, key: u32) -> Result<InstrResult, Nee
     requires { HasStore plot.now part.old }
     ensures { RunsProgram (step plot.now (DropBelow key)) part.old part.new result }
 {
+    if is_large(plot) {
+        return Ok(Err(Cause::BadOp));
+    }
     let dropped = of_order::drop_below(plot, part, key)?;
     Ok(Ok(Some(dropped)))
 }

@@ -17,16 +17,17 @@ use Rattle.of_mem.specs.Plots.{data_cell_count}
 use Rattle.of_mem.specs.Places.{base_of, cells_at}
 use Rattle.of_mem.proofs.Lists.{part_at, part_long}
 use Rattle.of_script.specs.declared.instr.TheConstants.{MOST_INSTRS}
+use Rattle.of_plan.specs.declared.plan.TheConstants.{MOST_PLAN_CALLERS, MOST_PLAN_BLOCKS}
 use Rattle.of_image.specs.declared.error.ImageErr.{ImageErr}
 use Rattle.of_image.specs.declared.error.ImageErr.TheVariants.{Memory, Bad, Unlawful}
 use Rattle.of_image.specs.declared.version.Version.{Version}
-use Rattle.of_report.specs.ImageRow.{DurableRow, IsRow, row_cell_count, row_in}
+use Rattle.of_report.specs.ImageRow.{DurableRow, IsRow, IsRowWithin, IsTableRow, row_cell_count, row_in}
 use Rattle.of_image.specs.Version.{instrs_of}
 use Rattle.of_report.proofs.Recovery.{row_long}
 use Rattle.of_image.specs.ImageText.{SpellsImage}
 use Rattle.of_report.specs.ImageLaw.{IsLawfulRow}
 use Rattle.of_image.specs.RowFault.{IsRowFault}
-use Rattle.of_report.specs.Image.{Image, IsImage, IsRestored}
+use Rattle.of_report.specs.Image.{Image, IsImage, IsImageWithin, IsRestored}
 use Rattle.of_image.specs.declared.law.RowErr.{RowErr}
 use Rattle.of_image.specs.declared.law.RowErr.TheVariants.{Memory as NoMemory, Unlawful as UnlawfulRow}
 use Rattle.of_image.specs.Parsed.{ReadsImage, ImageIsRefused, IsUnlawful, NamesRowFault, image_err}
@@ -72,7 +73,7 @@ recovered_small N M ws h c = elim (cases_lt c (length ws)) [
 
 -- ---- images
 
-pub recovered_is_row : (instrs : ℕ) (r : DurableRow) → IsRow instrs r → IsRow instrs (recovered_row instrs r)
+pub recovered_is_row : {n b : ℕ} → (instrs : ℕ) (r : DurableRow) → IsRowWithin n b instrs r → IsRowWithin n b instrs (recovered_row instrs r)
 recovered_is_row instrs r h = record {
   some_callers = h.some_callers;
   few_callers = h.few_callers;
@@ -82,14 +83,14 @@ recovered_is_row instrs r h = record {
 }
 
 -- the current transaction is that of the row
-same_current : (instrs : ℕ) (r : DurableRow) → IsRow instrs r → current_seq (λ c. get_or (recovered_row instrs r).words c 0) ≡ current_seq (λ c. get_or r.words c 0)
+same_current : {n b : ℕ} → (instrs : ℕ) (r : DurableRow) → IsRowWithin n b instrs r → current_seq (λ c. get_or (recovered_row instrs r).words c 0) ≡ current_seq (λ c. get_or r.words c 0)
 same_current instrs r h = ap seq_of (others_kept r.callers (row_cell_count instrs r) r.words h.size 0 (omega (arith, h.size)) (inl (omega arith)) (λ e. omega (arith, e)))
 
-pub restored_is_image : (instrs : ℕ) (r : DurableRow) (i : Image) → IsRow instrs r → IsRestored instrs r i → IsImage instrs i
-restored_is_image instrs r i h k =
+pub restored_is_image : {n b : ℕ} → (instrs : ℕ) (r : DurableRow) (i : Image) → IsRowWithin n b instrs r → IsRestored instrs r i → IsImageWithin n b instrs i
+restored_is_image {n} {b} instrs r i h k =
     let is = sym k.row in
     record {
-      row = subst (IsRow instrs) is (recovered_is_row instrs r h);
+      row = subst (IsRowWithin n b instrs) is (recovered_is_row instrs r h);
       settled = subst (λ (q : DurableRow). recovered_row instrs q ≡ q) is (λ j. record r { words = recovered_twice r.callers (row_cell_count instrs r) r.words h.size j });
       seq = k.seq ∙ sym (same_current instrs r h) ∙ ap (λ (q : DurableRow). current_seq (λ c. get_or q.words c 0)) is;
       lawful = k.lawful;
@@ -150,7 +151,7 @@ module _ (p : Plot) (instrs : p.instrs ≡ MOST_INSTRS) (words copy : List ℕ) 
   pub words_restored : (i : Image) → IsRestored p.instrs (row_in p copy) i → IsRestored MOST_INSTRS (row_in p words) i
   words_restored i h = subst (λ (n : ℕ). IsRestored n (row_in p words) i) instrs (subst (λ (ws : List ℕ). IsRestored p.instrs (row_in p ws) i) same h)
 
-  pub words_are_row : IsDurableRow p.callers (data_cell_count p) words → ((c : ℕ) → get_or words c 0 < 2 ^ 64) → IsRow MOST_INSTRS (row_in p words)
+  pub words_are_row : IsDurableRow p.callers (data_cell_count p) words → ((c : ℕ) → get_or words c 0 < 2 ^ 64) → IsTableRow MOST_INSTRS (row_in p words)
   words_are_row long small = record {
     some_callers = p.some_callers;
     few_callers = p.few_callers;
@@ -185,12 +186,12 @@ slice_small ws a n le h c = elim (cases_lt c n) [
 twice_within : (d k : ℕ) → d + d ≤ d + d + k + 1
 twice_within d k = omega arith
 
-pub table_is_row : (p : Plot) (ws : List ℕ) → p.instrs ≡ MOST_INSTRS → length ws ≡ table_words p.callers MOST_INSTRS (data_cell_count p) → ((c : ℕ) → get_or ws c 0 < 2 ^ 64)
+pub table_is_row : (p : Plot) (ws : List ℕ) → p.instrs ≡ MOST_INSTRS → length ws ≡ table_words p.callers MOST_INSTRS (data_cell_count p) → ((c : ℕ) → get_or ws c 0 < 2 ^ 64) → p.callers ≤ MOST_PLAN_CALLERS → p.blocks ≤ MOST_PLAN_BLOCKS
     → IsRow MOST_INSTRS (row_in p (slice_range ws (durable_cells p.callers (data_cell_count p)) (durable_cells p.callers (data_cell_count p) + durable_cells p.callers (data_cell_count p))))
-table_is_row p ws instrs long small = record {
+table_is_row p ws instrs long small few_callers few_blocks = record {
   some_callers = p.some_callers;
-  few_callers = p.few_callers;
-  few_blocks = p.few_blocks;
+  few_callers = few_callers;
+  few_blocks = few_blocks;
   size = row_long p.callers (data_cell_count p) ws _ long refl ∙ ap (λ (n : ℕ). durable_cells p.callers (cells_at (base_of p.callers n) p.blocks)) instrs;
   words = slice_small ws (durable_cells p.callers (data_cell_count p)) (durable_cells p.callers (data_cell_count p)) (subst (λ (n : ℕ). durable_cells p.callers (data_cell_count p) + durable_cells p.callers (data_cell_count p) ≤ n) (sym long) (twice_within (durable_cells p.callers (data_cell_count p)) (p.callers * (MOST_INSTRS + 1)))) small;
 }

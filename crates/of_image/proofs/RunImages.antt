@@ -4,6 +4,7 @@ use Rattle.std.specs.List.{range_with_len}
 use Rattle.std.proofs.lemmas.List.FromFn.{get_or-map-range_with_len}
 use Rattle.of_cell.specs.Words.{seq_of, payload_of}
 use Rattle.of_cell.specs.Cells.{data_cell}
+use Rattle.of_mem.proofs.BucketPlaces.{few_behind}
 use Rattle.of_mem.specs.Places.{ticket_cell_at}
 use Rattle.of_mem.specs.ProgramWork.{memory_of}
 use Rattle.of_mem.proofs.Lists.{map_range_same}
@@ -42,7 +43,7 @@ module _ (p : Plan) (s : Start) (e : Ended) (r : Report) (plan : IsPlan p) (lawf
 
   -- what recovery finds in a data cell
   found : (a : ℕ) → a < M → get_or (recovered_words N M ws) (data_cell N a) 0 ≡ recovered_data_word p e a
-  found a l = data_at N M ws size a l ∙ recovered_data-same N M (λ c. get_or ws c 0) (durable_of p e) (row_at N M e.words ws refl) a l (omega (arith, l, plan.few_callers, plan.few_blocks))
+  found a l = data_at N M ws size a l ∙ recovered_data-same N M (λ c. get_or ws c 0) (durable_of p e) (row_at N M e.words ws refl) a l (omega (arith, l, plan.few_callers, plan.few_blocks, few_behind p.blocks plan.few_blocks))
 
   stands : DataCellsStandFor N MOST_INSTRS p.blocks (memory_of (data_numbers_in MOST_INSTRS (row_left_by_run p e))) r.store
   stands = stands_for_same N p.blocks (record_number p e) (memory_of (data_numbers_in MOST_INSTRS (row_left_by_run p e)))

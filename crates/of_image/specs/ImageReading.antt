@@ -2,10 +2,9 @@
 use Rattle.std.specs.Prelude.{◌≡◌, ℕ, ◌+◌, Bool, true, ◌==◌, nat_lt, nat_le, List, [], ◌∷◌, length, replicate, slice_set, if◌then◌else◌, codes, Option, Some, None, ◌≤◌}
 use Rattle.std.specs.Bool.{MatchBool}
 use Rattle.std.specs.Str.{bytes_eq}
-use Rattle.of_cell.specs.declared.shape.TheConstants.{MOST_CALLERS}
 use Rattle.of_cell.specs.Words.{pack}
 use Rattle.of_cell.specs.Cells.{durable_cells}
-use Rattle.of_store.specs.declared.store.TheConstants.{MOST_BLOCKS}
+use Rattle.of_plan.specs.declared.plan.TheConstants.{MOST_PLAN_CALLERS, MOST_PLAN_BLOCKS}
 use Rattle.of_script.specs.Reading.{◌>>=◌, next_number, at_end_of_words}
 use Rattle.of_image.specs.declared.version.Version.{Version}
 use Rattle.of_image.specs.declared.line.ImageLine.{ImageLine}
@@ -26,8 +25,8 @@ use Rattle.of_plan.specs.Reader.{Language, Reader, SpellsLine, SpellsNoLine, Rea
 -- the ranges of a line's numbers, whatever lines stand before it
 abbrev pub IsImageLineInRange : ImageLine → Type 0
 IsImageLineInRange (Title v) = v ≤ 4294967295
-IsImageLineInRange (Callers n) = n ≤ MOST_CALLERS
-IsImageLineInRange (Blocks n) = n ≤ MOST_BLOCKS
+IsImageLineInRange (Callers n) = n ≤ MOST_PLAN_CALLERS
+IsImageLineInRange (Blocks n) = n ≤ MOST_PLAN_BLOCKS
 IsImageLineInRange (Cell c s p) = (c ≤ 4294967295) × (s ≤ 4294967295) × (p ≤ 4294967295)
 IsImageLineInRange End = Unit {0}
 
@@ -53,8 +52,8 @@ cell_line_of ws = do
 unfoldable pub line_named : (name : List ℕ) → List (List ℕ) → Option ImageLine
 line_named name ws =
     if bytes_eq name (codes "onefile") then image_title_line ws
-    else if bytes_eq name (codes "callers") then line_with_count Callers MOST_CALLERS ws
-    else if bytes_eq name (codes "blocks") then line_with_count Blocks MOST_BLOCKS ws
+    else if bytes_eq name (codes "callers") then line_with_count Callers MOST_PLAN_CALLERS ws
+    else if bytes_eq name (codes "blocks") then line_with_count Blocks MOST_PLAN_BLOCKS ws
     else if bytes_eq name (codes "cell") then cell_line_of ws
     else if bytes_eq name (codes "end") then at_end_of_words End ws
     else None

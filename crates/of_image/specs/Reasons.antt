@@ -1,11 +1,10 @@
 -- When a reason is true of a piece of a line, and what a fault of an image's text is.
 use Rattle.std.specs.Prelude.{◌≡◌, ◌⊎◌, ℕ, ◌+◌, ◌-◌, ◌≤◌, ◌<◌, false, Some, List, [], ◌∷◌, length, take, drop, map, slice_range, codes, decimal}
-use Rattle.of_cell.specs.declared.shape.TheConstants.{MOST_CALLERS}
 use Rattle.of_cell.specs.Cells.{durable_cells}
-use Rattle.of_store.specs.declared.store.TheConstants.{MOST_BLOCKS}
 use Rattle.of_script.specs.Text.{text_words}
 use Rattle.of_report.specs.ImageRow.{data_cell_count_for}
 use Rattle.of_plan.specs.declared.above.Wanted.TheVariants.{Cell}
+use Rattle.of_plan.specs.declared.plan.TheConstants.{MOST_PLAN_CALLERS, MOST_PLAN_BLOCKS}
 use Rattle.of_plan.specs.declared.flaw.Flaw.{Flaw}
 use Rattle.of_plan.specs.declared.flaw.Flaw.TheVariants.{NumberMissing, NoNumber, TooGreat, Zero, WordTooMany}
 use Rattle.of_plan.specs.Above.{Says, line_at}
@@ -30,8 +29,8 @@ use Rattle.of_image.specs.Version.{version_number, instrs_of}
 abbrev pub WantsNumber : (before : List (List ℕ)) (most : ℕ) → Type 0
 WantsNumber before most =
     ((before ≡ codes "onefile" ∷ codes "image" ∷ []) × (most ≡ 4294967295))
-    ⊎ (((before ≡ codes "callers" ∷ []) × (most ≡ MOST_CALLERS))
-    ⊎ (((before ≡ codes "blocks" ∷ []) × (most ≡ MOST_BLOCKS))
+    ⊎ (((before ≡ codes "callers" ∷ []) × (most ≡ MOST_PLAN_CALLERS))
+    ⊎ (((before ≡ codes "blocks" ∷ []) × (most ≡ MOST_PLAN_BLOCKS))
     ⊎ ((numbers : List ℕ) × (length numbers ≤ 2)
     × (before ≡ codes "cell" ∷ map decimal numbers) × (most ≡ 4294967295))))
 

@@ -6,9 +6,8 @@ ghost use Rattle.of_script.specs.Reading.{at_end_of_words};
 ghost use Rattle.of_image.specs.ImageReading.{image_title_line, cell_line_of, line_named, line_with_count, IsReadAs};
 ghost use Rattle.of_image.specs.declared.line.ImageLine.TheVariants.{Callers, Blocks};
 
-use of_cell::MOST_CALLERS;
+use of_plan::{MOST_PLAN_BLOCKS, MOST_PLAN_CALLERS};
 use of_script::text::{next_number, word};
-use of_store::MOST_BLOCKS;
 
 /// What a line says.
 #[derive(Clone, Copy, Debug)]
@@ -52,16 +51,16 @@ fn title(bytes: &[u8]) -> Option<ImageLine>
 }
 
 fn callers(bytes: &[u8]) -> Option<ImageLine>
-    ensures { result ≡ line_with_count Callers MOST_CALLERS (text_words bytes.now) }
+    ensures { result ≡ line_with_count Callers MOST_PLAN_CALLERS (text_words bytes.now) }
 {
-    let (count, rest) = next_number(bytes, MOST_CALLERS)?;
+    let (count, rest) = next_number(bytes, MOST_PLAN_CALLERS)?;
     end_of(ImageLine::Callers { count }, rest)
 }
 
 fn blocks(bytes: &[u8]) -> Option<ImageLine>
-    ensures { result ≡ line_with_count Blocks MOST_BLOCKS (text_words bytes.now) }
+    ensures { result ≡ line_with_count Blocks MOST_PLAN_BLOCKS (text_words bytes.now) }
 {
-    let (count, rest) = next_number(bytes, MOST_BLOCKS)?;
+    let (count, rest) = next_number(bytes, MOST_PLAN_BLOCKS)?;
     end_of(ImageLine::Blocks { count }, rest)
 }
 

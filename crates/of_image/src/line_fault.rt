@@ -13,11 +13,9 @@ ghost use Rattle.of_image.specs.LineFaults.{IsNumberFault, TooMany, IsBodyRow, R
 use crate::reading::{Reading, Stage};
 use crate::reason::Reason;
 use crate::version::Version;
-use of_cell::MOST_CALLERS;
-use of_plan::Flaw;
 use of_plan::pieces::{Piece, next_word, read_slot, read_word, word_too_many};
+use of_plan::{Flaw, MOST_PLAN_BLOCKS, MOST_PLAN_CALLERS};
 use of_script::text::word;
-use of_store::MOST_BLOCKS;
 
 /// The piece of a line at fault, and why.
 #[derive(Clone, Copy, Debug, PartialEq, Eq)]
@@ -126,7 +124,7 @@ impl Reading {
             Ok(after) => after,
             Err(_) => return bad_word(line, Reason::CallersExpected),
         };
-        let (count, end) = match read_number(rest, MOST_CALLERS) {
+        let (count, end) = match read_number(rest, MOST_PLAN_CALLERS) {
             Ok(read) => read,
             Err(bad) => return bad,
         };
@@ -146,7 +144,7 @@ impl Reading {
             Ok(after) => after,
             Err(_) => return bad_word(line, Reason::BlocksExpected),
         };
-        match read_number(rest, MOST_BLOCKS) {
+        match read_number(rest, MOST_PLAN_BLOCKS) {
             Ok((_, end)) => extra_word(end),
             Err(bad) => bad,
         }

@@ -15,17 +15,16 @@ use crate::parse_row::read_row;
 use crate::refusal::{ImageFault, Refusal, Unread};
 use crate::restore::restore;
 use crate::version::Version;
-use of_cell::MOST_CALLERS;
 use of_mem::Plot;
+use of_plan::{MOST_PLAN_BLOCKS, MOST_PLAN_CALLERS};
 use of_report::Image;
-use of_store::MOST_BLOCKS;
 use std::alloc::Global;
 
 /// Where the data cells of an image stand.
 pub(crate) fn plot_of(version: Version, callers: u32, blocks: u32) -> Plot
     requires some_callers { 1 ≤ callers }
-    requires few_callers { callers ≤ MOST_CALLERS }
-    requires few_blocks { blocks ≤ MOST_BLOCKS }
+    requires few_callers { callers ≤ MOST_PLAN_CALLERS }
+    requires few_blocks { blocks ≤ MOST_PLAN_BLOCKS }
     ensures callers { result.callers ≡ callers }
     ensures instrs { result.instrs ≡ instrs_of version }
     ensures blocks { result.blocks ≡ blocks }

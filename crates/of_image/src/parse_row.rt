@@ -13,16 +13,16 @@ use crate::line::{ImageLine, ReadLine, read_line};
 use crate::reading::{Reading, Stage};
 use crate::refusal::{Unread, at_end, in_text};
 use crate::version::Version;
-use of_cell::{MOST_CALLERS, pack};
+use of_cell::pack;
+use of_plan::{MOST_PLAN_BLOCKS, MOST_PLAN_CALLERS};
 use of_script::text::cut;
-use of_store::MOST_BLOCKS;
 use std::alloc::{AllocError, Global};
 
 /// The number of durable cells.
-#[tactic(auto, using(of_cell::proofs::Rooms::room_whole))]
+#[tactic(auto, using(of_cell::proofs::Rooms::room_whole, of_mem::proofs::BucketPlaces::few_behind))]
 pub(crate) fn cells(version: Version, callers: u32, blocks: u32) -> u32
-    requires callers { callers ≤ MOST_CALLERS }
-    requires blocks { blocks ≤ MOST_BLOCKS }
+    requires callers { callers ≤ MOST_PLAN_CALLERS }
+    requires blocks { blocks ≤ MOST_PLAN_BLOCKS }
     ensures { result
         ≡ durable_cells callers (data_cell_count_for (instrs_of version) callers blocks) }
 {

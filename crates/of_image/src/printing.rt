@@ -1,9 +1,10 @@
 //! Texts of images.
 
-ghost use Rattle.std.specs.Prelude.{◌≡◌, ◌+◌, ◌<◌, ◌^◌, length, IfOk, OnOk, slice_range};
+ghost use Rattle.std.specs.Prelude.{◌≡◌, ◌+◌, ◌<◌, ◌≤◌, ◌^◌, length, IfOk, OnOk, slice_range};
 ghost use Rattle.of_cell.specs.Cells.{table_words};
 ghost use Rattle.of_mem.specs.Plots.{data_cell_count};
 ghost use Rattle.of_mem.specs.declared.work.TheConstants.{MOST_INSTRS};
+ghost use Rattle.of_plan.specs.declared.plan.TheConstants.{MOST_PLAN_CALLERS, MOST_PLAN_BLOCKS};
 ghost use Rattle.of_image.specs.declared.version.Version.TheVariants.{Two};
 ghost use Rattle.of_report.specs.ImageRow.{row_in};
 ghost use Rattle.of_image.specs.ImageText.{image_cell_text, image_cells_text, image_line_text, image_text, table_row, SpellsImage};
@@ -95,9 +96,9 @@ pub fn image_print(alloc: Global, plot: &Plot, words: &[u64]) -> Result<Vec<u8>,
         ≡ table_words plot.now.callers MOST_INSTRS (data_cell_count plot.now) }
     ensures text { IfOk result (λ text.
         text.items ≡ image_text Two (table_row plot.now words.now)) }
-    // It is read again as that row.
-    ensures again { IfOk result (λ text.
-        SpellsImage Two text.items (table_row plot.now words.now)) }
+    // If a plan may have as many callers and blocks, it is read again as that row.
+    ensures again { plot.now.callers ≤ MOST_PLAN_CALLERS → plot.now.blocks ≤ MOST_PLAN_BLOCKS →
+        IfOk result (λ text. SpellsImage Two text.items (table_row plot.now words.now)) }
 {
     let cells = table_shape(plot).durable_cells() as usize;
     print_row(alloc, Version::Two, plot, &words[cells..cells + cells])

@@ -4,7 +4,7 @@ ghost use Rattle.std.specs.Prelude.{◌≡◌, IfOk, IfErr, MatchResult};
 ghost use Rattle.of_mem.specs.declared.work.TheConstants.{MOST_INSTRS};
 ghost use Rattle.of_mem.specs.Plots.{data_cell_count};
 ghost use Rattle.of_recover.specs.Row.{IsDurableRow};
-ghost use Rattle.of_report.specs.Image.{Image as PlainImage, IsImage, IsRestored};
+ghost use Rattle.of_report.specs.Image.{Image as PlainImage, IsRestored, IsTableImage};
 ghost use Rattle.of_report.specs.ImageRow.{row_in};
 ghost use Rattle.of_image.specs.Parsed.{WordsAreRefused};
 ghost use Rattle.of_image.specs.declared.error.ImageErr.TheVariants.{Memory};
@@ -21,7 +21,7 @@ pub fn image_of_words(alloc: Global, plot: &Plot, words: &[u64]) -> Result<Image
     requires row { IsDurableRow plot.now.callers (data_cell_count plot.now) words.now }
     ensures ok { IfOk result (λ image.
         IsRestored MOST_INSTRS (row_in plot.now words.now) image) }
-    ensures image { IfOk result (λ image. IsImage MOST_INSTRS image) }
+    ensures image { IfOk result (λ image. IsTableImage MOST_INSTRS image) }
     // A cell that is named is the first at fault.
     ensures err { IfErr result (WordsAreRefused (row_in plot.now words.now)) }
     // Words that have an image are answered by it, unless memory runs out.

@@ -1,10 +1,12 @@
--- The calls of the map read and write nothing before the first cell of the store; get and count write nothing.
+-- The calls of the map read and write nothing before the first cell of the store; get and count write nothing, put makes six writes at most, and del four.
 use Rattle.std.proofs.Common.{ℕ, ◌+◌, ◌%◌, Option, Some, None, arith}
 use Rattle.of_mem.specs.Places.{bucket_count, bucket_at}
 use Rattle.of_mem.specs.Programs.{StaysFrom, OnlyReads}
+use Rattle.of_mem.specs.Touching.{WritesAtMost}
+use Rattle.of_mem.proofs.FewWrites.{writes_none, writes_then}
 use Rattle.of_mem.proofs.Runs.{stays_then, stays_after, reads_then}
 use Rattle.of_alloc.specs.BlockPrograms.{take_program}
-use Rattle.of_alloc.proofs.Staying.{take_stays}
+use Rattle.of_alloc.proofs.Staying.{take_stays, take_few}
 use Rattle.of_map.specs.declared.answers.Position.{Position}
 use Rattle.of_map.specs.MapPrograms.{seek_program, get_at, get_program, put_new, put_found, put_program, del_found, del_program}
 use Rattle.of_map.proofs.Seeks.{seek_stays, seek_yields, IsFrom}
@@ -40,3 +42,21 @@ module _ (o blocks key : ℕ) where
 
   pub del_stays : StaysFrom o (del_program o blocks key)
   del_stays = stays_after o (IsFrom o) (seek_program o blocks key) (del_found o) seeking.0 (seek_yields o key (blocks + 1) (bucket_at o blocks (key % bucket_count blocks)) (omega arith)) unlink_stays
+
+  new_few : (v : ℕ) (r : Option ℕ) → WritesAtMost 5 (put_new o blocks key v r)
+  new_few v None = tt
+  new_few v (Some b) = λ front n. tt
+
+  put_found_few : (v : ℕ) (r : Option Position) → WritesAtMost 6 (put_found o blocks key v r)
+  put_found_few v None = writes_then 1 5 (take_program o blocks) (put_new o blocks key v) (take_few o blocks) (new_few v)
+  put_found_few v (Some r) = λ w. tt
+
+  pub put_few : (v : ℕ) → WritesAtMost 6 (put_program o blocks key v)
+  put_few v = writes_then 0 6 (seek_program o blocks key) (put_found o blocks key v) (writes_none 0 (seek_program o blocks key) seeking.1) (put_found_few v)
+
+  unlink_few : (r : Option Position) → WritesAtMost 4 (del_found o r)
+  unlink_few None = tt
+  unlink_few (Some r) = λ v link f n. tt
+
+  pub del_few : WritesAtMost 4 (del_program o blocks key)
+  del_few = writes_then 0 4 (seek_program o blocks key) (del_found o) (writes_none 0 (seek_program o blocks key) seeking.1) unlink_few

@@ -1,8 +1,27 @@
 -- The chains of entries by their homes.
-use Rattle.std.proofs.Common.{◌≡◌, ◌≢◌, ℕ, zero, suc, ◌-◌, ◌<◌, ◌≤◌, ◌⊎◌, inl, inr, ◌==◌, ◌%◌, Bool, true, false, if◌then◌else◌, List, length, refl, sym, ◌∙◌, ap, arith}
+use Rattle.std.proofs.Common.{◌≡◌, ◌≢◌, ℕ, zero, suc, ◌-◌, ◌<◌, ◌≤◌, ◌⊎◌, inl, inr, ◌==◌, ◌%◌, Bool, true, false, if◌then◌else◌, List, length, get_or, refl, sym, ◌∙◌, ap, arith}
 use Rattle.std.proofs.lemmas.Bool.{cases_eq, cases_lt, eqb-true as same, eqb-false as other}
+use Rattle.std.proofs.lemmas.List.{length-map}
+use Rattle.std.proofs.Math.ListN.{get_or-map}
+use Rattle.of_mem.specs.declared.index.Entry.{Entry}
 use Rattle.of_mem.specs.CellMap.{entry_address}
-use Rattle.of_mem.specs.Chains.{latest, note_at, HasChains}
+use Rattle.of_mem.specs.Chains.{pairs_of, olders_of, latest, note_at, HasChains}
+
+-- an entry in place of one that isn't there
+abbrev pub no_entry : Entry
+no_entry = record { pair = (0, 0); older = 0 }
+
+pub entries_size : (es : List Entry) → length (pairs_of es) ≡ length es
+entries_size es = length-map es (λ (e : Entry). e.pair)
+
+pub pair_is : (es : List Entry) (k : ℕ) → get_or (pairs_of es) k (0, 0) ≡ (get_or es k no_entry).pair
+pair_is es k = get_or-map (λ (e : Entry). e.pair) es k no_entry
+
+pub address_is : (es : List Entry) (k : ℕ) → entry_address (pairs_of es) k ≡ (get_or es k no_entry).pair.0
+address_is es k = ap (λ (p : ℕ × ℕ). p.0) (pair_is es k)
+
+pub noted_older : (es : List Entry) (k : ℕ) → note_at (olders_of es) k ≡ (get_or es k no_entry).older
+noted_older es k = get_or-map (λ (e : Entry). e.older) es k no_entry
 
 -- it is the number of one of the first n
 pub latest_few : (H : ℕ) (es : List (ℕ × ℕ)) (h n : ℕ) → latest H es h n ≤ n

@@ -22,4 +22,5 @@ pub mod Calls
 pub mod Extended
 pub mod Filled
 pub mod FewTouches
+pub mod FewWrites
 pub mod Walks

@@ -10,7 +10,11 @@ use Rattle.std.proofs.lemmas.List.{get_or-map, length-map, get_or_append_left, g
 use Rattle.of_mem.specs.CellMap.{value_for, put_pair, entry_address, IsAbsent, IsEntryFor}
 use Rattle.of_mem.specs.WriteSet.{IsWriteSet}
 use Rattle.of_mem.specs.Chains.{IsChained, note_at, latest}
-use Rattle.of_mem.proofs.Chains.{latest_same}
+use Rattle.std.proofs.lemmas.List.{map-append, map-set}
+use Rattle.std.proofs.Math.Seq.{map-set_same}
+use Rattle.of_mem.specs.declared.index.Entry.{Entry}
+use Rattle.of_mem.specs.Chains.{pairs_of, olders_of}
+use Rattle.of_mem.proofs.Chains.{no_entry, address_is, latest_same}
 use Rattle.of_mem.proofs.WriteSets.{value_at-here, put-here}
 
 -- of different addresses below n there are at most n
@@ -66,7 +70,7 @@ room_left room es a below once absent inside = omega (arith, size, few_addresses
         let t : k < length es = omega (arith, size) in
         once j k s t (sym (old j s) ∙ q ∙ old k t)
 
-module _ (homes room : ℕ) (es : List (ℕ × ℕ)) (os fs : List ℕ) (capacity links : ℕ) (h : IsChained homes room es os fs capacity links) where
+module _ (homes room : ℕ) (es : List (ℕ × ℕ)) (os fs : List ℕ) (capacity : ℕ) (h : IsChained homes room es os fs capacity) where
   pub few : length es ≤ room
   few = few_addresses es room h.below h.once
 
@@ -84,7 +88,7 @@ module _ (homes room : ℕ) (es : List (ℕ × ℕ)) (os fs : List ℕ) (capacit
     put-found v = put-here es a v k f.0 f.1 first
 
 -- an entry more, whose number is noted at its home
-module _ (homes room : ℕ) (es : List (ℕ × ℕ)) (os fs : List ℕ) (capacity links a v : ℕ) (h : IsChained homes room es os fs capacity links) (absent : IsAbsent es a) (inside : a < room) (home : a % homes < homes) where
+module _ (homes room : ℕ) (es : List (ℕ × ℕ)) (os fs : List ℕ) (capacity a v : ℕ) (h : IsChained homes room es os fs capacity) (absent : IsAbsent es a) (inside : a < room) (home : a % homes < homes) where
   abbrev pub gs : List ℕ
   gs = set fs (a % homes) (length es + 1)
 
@@ -142,11 +146,10 @@ module _ (homes room : ℕ) (es : List (ℕ × ℕ)) (os fs : List ℕ) (capacit
       ∙ h.chains k s
       ∙ sym (ap (λ (b : ℕ). latest homes (es ++ (a, v) ∷ []) (b % homes) k) (old k s) ∙ latest_same homes es (es ++ (a, v) ∷ []) (entry_address es k % homes) k (λ j m. old j (omega arith)))
 
-  pub pair_written : (c d : ℕ) → capacity ≤ c → links ≤ d → IsChained homes room (es ++ (a, v) ∷ []) (os ++ latest homes es (a % homes) (length es) ∷ []) gs c d
-  pair_written c d more more_links = record {
+  pub pair_written : (c : ℕ) → capacity ≤ c → IsChained homes room (es ++ (a, v) ∷ []) (os ++ latest homes es (a % homes) (length es) ∷ []) gs c
+  pair_written c more = record {
     fits = h.fits;
     spare = omega (arith, h.spare);
-    spare_links = omega (arith, h.spare_links);
     homes_noted = length-set fs (a % homes) (length es + 1) ∙ h.homes_noted;
     linked = length-append os (latest homes es (a % homes) (length es) ∷ []) ∙ omega (arith, h.linked, size);
     below = λ k m. below k (cases_eq k (length es)) m;
@@ -156,7 +159,7 @@ module _ (homes room : ℕ) (es : List (ℕ × ℕ)) (os fs : List ℕ) (capacit
   }
 
 -- an entry with another value
-module _ (homes room : ℕ) (es : List (ℕ × ℕ)) (os fs : List ℕ) (capacity links a v k : ℕ) (h : IsChained homes room es os fs capacity links) (f : IsEntryFor es a k) where
+module _ (homes room : ℕ) (es : List (ℕ × ℕ)) (os fs : List ℕ) (capacity a v k : ℕ) (h : IsChained homes room es os fs capacity) (f : IsEntryFor es a k) where
   kept_size : length (set es k (a, v)) ≡ length es
   kept_size = length-set es k (a, v)
 
@@ -174,11 +177,10 @@ module _ (homes room : ℕ) (es : List (ℕ × ℕ)) (os fs : List ℕ) (capacit
   kept_front x (inl z) = inl (kept_last x ∙ z)
   kept_front x (inr z) = inr (z ∙ sym (kept_last x))
 
-  pub pair_changed : IsChained homes room (set es k (a, v)) os fs capacity links
+  pub pair_changed : IsChained homes room (set es k (a, v)) os fs capacity
   pair_changed = record {
     fits = h.fits;
     spare = h.spare;
-    spare_links = h.spare_links;
     homes_noted = h.homes_noted;
     linked = h.linked ∙ sym kept_size;
     below = λ j l. rw (kept j) (h.below j (omega (arith, l, kept_size)));
@@ -186,3 +188,28 @@ module _ (homes room : ℕ) (es : List (ℕ × ℕ)) (os fs : List ℕ) (capacit
     fronts = λ x l. kept_front x (h.fronts x l);
     chains = λ j l. h.chains j (omega (arith, l, kept_size)) ∙ sym (ap (λ (b : ℕ). latest homes (set es k (a, v)) (b % homes) j) (kept j) ∙ latest_same homes es (set es k (a, v)) (entry_address es j % homes) j (λ i m. kept i));
   }
+
+-- the same of the entries themselves
+module _ (homes room : ℕ) (es : List Entry) (fs : List ℕ) (capacity a v : ℕ) (h : IsChained homes room (pairs_of es) (olders_of es) fs capacity) where
+  pub pairs_with : (x : ℕ) → pairs_of (es ++ record { pair = (a, v); older = x } ∷ []) ≡ pairs_of es ++ (a, v) ∷ []
+  pairs_with x = map-append (λ (e : Entry). e.pair) es (record { pair = (a, v); older = x } ∷ [])
+
+  pub entry_written : IsAbsent (pairs_of es) a → a < room → a % homes < homes → (c : ℕ) → capacity ≤ c → (x : ℕ) → x ≡ latest homes (pairs_of es) (a % homes) (length (pairs_of es)) → IsChained homes room (pairs_of (es ++ record { pair = (a, v); older = x } ∷ [])) (olders_of (es ++ record { pair = (a, v); older = x } ∷ [])) (set fs (a % homes) (length (pairs_of es) + 1)) c
+  entry_written absent inside home c more x q =
+      rw (pairs_with x, map-append (λ (e : Entry). e.older) es (record { pair = (a, v); older = x } ∷ []), q)
+      (pair_written homes room (pairs_of es) (olders_of es) fs capacity a v h absent inside home c more)
+
+  module _ (k : ℕ) (f : IsEntryFor (pairs_of es) a k) (x : Entry) (same : x ≡ get_or es k no_entry) where
+    address : x.pair.0 ≡ a
+    address = ap (λ (e : Entry). e.pair.0) same ∙ sym (address_is es k) ∙ f.1
+
+    pub pairs_changed : pairs_of (set es k (record { pair = (x.pair.0, v); older = x.older })) ≡ set (pairs_of es) k (a, v)
+    pairs_changed =
+        map-set (λ (e : Entry). e.pair) es k (record { pair = (x.pair.0, v); older = x.older })
+        ∙ ap (λ (b : ℕ). set (pairs_of es) k (b, v)) address
+
+    olders_kept : olders_of (set es k (record { pair = (x.pair.0, v); older = x.older })) ≡ olders_of es
+    olders_kept = map-set_same (λ (e : Entry). e.older) es k (record { pair = (x.pair.0, v); older = x.older }) no_entry (ap (λ (e : Entry). e.older) same)
+
+    pub entry_changed : IsChained homes room (pairs_of (set es k (record { pair = (x.pair.0, v); older = x.older }))) (olders_of (set es k (record { pair = (x.pair.0, v); older = x.older }))) fs capacity
+    entry_changed = rw (pairs_changed, olders_kept) (pair_changed homes room (pairs_of es) (olders_of es) fs capacity a v k h f)

@@ -1,10 +1,19 @@
 -- How the code finds addresses: each has a home, the entries of one home are a chain from the last
 -- to the first, and for each home the last one is noted. The number of an entry is its place and
 -- one more. No public contract speaks of it.
-use Rattle.std.specs.Prelude.{◌≡◌, ℕ, zero, suc, ◌<◌, ◌≤◌, ◌⊎◌, ◌==◌, ◌%◌, if◌then◌else◌, List, length}
+use Rattle.std.specs.Prelude.{◌≡◌, ℕ, zero, suc, ◌<◌, ◌≤◌, ◌⊎◌, ◌==◌, ◌%◌, if◌then◌else◌, List, length, map}
 use Rattle.std.proofs.Common.{get_or}
+use Rattle.of_mem.specs.declared.index.Entry.{Entry}
 use Rattle.of_mem.specs.CellMap.{entry_address}
 use Rattle.of_mem.specs.Numbers.{FitsCell}
+
+-- the address and the number of each entry
+abbrev pub pairs_of : List Entry → List (ℕ × ℕ)
+pairs_of es = map (λ (e : Entry). e.pair) es
+
+-- for each entry the number of the one before it of its home, as it is noted there
+abbrev pub olders_of : List Entry → List ℕ
+olders_of es = map (λ (e : Entry). e.older) es
 
 -- the number of the last of the first n entries that has this home, 0 if none has it
 abbrev pub latest : (homes : ℕ) → List (ℕ × ℕ) → (home n : ℕ) → ℕ
@@ -30,10 +39,9 @@ HasChains homes es os =
 -- the invariant of a write-set: no address is in two entries, each is found from the note of its
 -- home, and there is room for an entry at each address
 pub record IsChained (homes room : ℕ) (es : List (ℕ × ℕ)) (os fs : List ℕ)
-    (capacity links : ℕ) : Type 0 where
+    (capacity : ℕ) : Type 0 where
   pub fits : FitsCell room
   pub spare : room ≤ capacity
-  pub spare_links : room ≤ links
   pub homes_noted : length fs ≡ homes
   pub linked : length os ≡ length es
   pub below : (k : ℕ) → k < length es → entry_address es k < room

@@ -2,9 +2,10 @@
 //! are the theorems.
 
 ghost use Rattle.std.specs.Prelude.{◌≡◌, ◌<◌, ◌≤◌, ◌+◌, ◌-◌, ◌*◌, ◌%◌};
-ghost use Rattle.of_mem.specs.declared.work.TheConstants.{MOST_INSTRS};
+ghost use Rattle.of_mem.specs.declared.work.TheConstants.{MOST_INSTRS, MOST_DATA_CELLS};
+ghost use Rattle.of_mem.specs.declared.plot.TheConstants.{MOST_BLOCKS};
 ghost use Rattle.of_mem.specs.Places.{bucket_count};
-ghost use Rattle.of_mem.specs.Plots.{CellPlacesDiffer};
+ghost use Rattle.of_mem.specs.Plots.{CellPlacesDiffer, data_cell_count};
 ghost use Rattle.of_mem.specs.ProgramTouches.{HasSmallPrograms};
 ghost use Rattle.of_mem.specs.Touching.{TouchesFew};
 
@@ -16,14 +17,21 @@ pub fn places_differ(plot: Plot)
     ensures { CellPlacesDiffer plot }
 {}
 
-/// A store of at most 512 blocks has 32 buckets. One of more would have an odd number of buckets,
-/// one for each block above 512 and 32 at least besides.
+/// A store of at most 512 blocks has 32 buckets. One of more has an odd number of buckets, one for
+/// each block above 512 and 32 at least besides.
 #[tactic(auto, using(crate::proofs::BucketPlaces::some_buckets, crate::proofs::BucketPlaces::few_count, crate::proofs::BucketPlaces::many_count))]
 pub fn buckets_follow_blocks(blocks: u32)
     ensures some { 1 ≤ bucket_count blocks }
     ensures few { blocks ≤ 512 → bucket_count blocks ≡ 32 }
     ensures many { 512 < blocks → 32 + (blocks - 512) ≤ bucket_count blocks }
     ensures odd { 512 < blocks → bucket_count blocks % 2 ≡ 1 }
+{}
+
+/// How many blocks a store has at most: with them and the cells of all callers it has fewer cells
+/// than a table may have.
+pub fn numbers(plot: Plot)
+    ensures blocks { MOST_BLOCKS ≡ 16777216 }
+    ensures cells { data_cell_count plot ≤ MOST_DATA_CELLS }
 {}
 
 /// A work of programs that make at most so many reads and writes needs at most so many cells for an

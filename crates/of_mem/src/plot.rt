@@ -14,10 +14,10 @@ pub const BUCKETS: u32 = 32;
 pub const QUEUES: u32 = 4;
 
 /// The most blocks that it has.
-pub const MOST_BLOCKS: u32 = 512;
+pub const MOST_BLOCKS: u32 = 16_777_216;
 
 // Up to how many blocks it has `BUCKETS` buckets, in front of the queues. A store with more blocks
-// would have about a bucket for each, behind the blocks.
+// has about a bucket for each, behind the blocks.
 const FEW_BLOCKS: u32 = 512;
 
 // How far behind the callers' cells the store's parts begin: the registers first, then the cells

@@ -13,7 +13,7 @@ use crate::workspace::Workspace;
 pub const MOST_INSTRS: usize = 16;
 
 /// The most callers, as many as a table of cell words has.
-pub const MOST_CALLERS: u32 = 16;
+pub const MOST_CALLERS: u32 = 64;
 
 /// The most data cells, as many as such a table has.
 pub const MOST_DATA_CELLS: u32 = 134_217_728;

@@ -4,7 +4,7 @@ ghost use Rattle.std.specs.Prelude.{◌↔◌, IsTrue, ◌≡◌, ◌<◌, ◌==
 ghost use Rattle.of_mem.specs.CellMap.{value_for, put_pair, with_last_pair, IsAbsent, IsEntryFor};
 ghost use Rattle.of_mem.specs.WriteSet.{IsWriteSet};
 
-use crate::index::{HOMES, find, front, search};
+use crate::index::{Entry, HOMES, find, front, search};
 use std::alloc::{AllocError, Global};
 use std::marker::Model;
 
@@ -15,10 +15,7 @@ use std::marker::Model;
 #[derive(Drop)]
 pub struct WriteSet {
     room: u32,
-    entries: Vec<(u32, u32)>,
-    /// For each entry the number of the one before it with the same home. The number of an entry is
-    /// its place and one more; 0 says that there is none.
-    older: Vec<u32>,
+    entries: Vec<Entry>,
     /// For each home of an entry, the number of the last one there. At another home there may be a
     /// number that is left over from before a `clear`, or 0.
     fronts: Vec<u32>,
@@ -31,12 +28,12 @@ impl Model for WriteSet {
 
     ghost use Rattle.std.specs.Vec.{vec_capacity};
     ghost use Rattle.of_mem.specs.declared.index.TheConstants.{HOMES};
-    ghost use Rattle.of_mem.specs.Chains.{IsChained};
+    ghost use Rattle.of_mem.specs.Chains.{IsChained, pairs_of, olders_of};
 
-    ghost view = { λ w. record { room = w.room; entries = w.entries.items } };
+    ghost view = { λ w. record { room = w.room; entries = pairs_of w.entries.items } };
 
-    ghost invariant = { λ w. IsChained HOMES w.room w.entries.items w.older.items w.fronts.items
-        (vec_capacity w.entries) (vec_capacity w.older) };
+    ghost invariant = { λ w. IsChained HOMES w.room (pairs_of w.entries.items)
+        (olders_of w.entries.items) w.fronts.items (vec_capacity w.entries) };
 }
 
 impl WriteSet {
@@ -45,13 +42,11 @@ impl WriteSet {
         ensures { IfOk result (λ w. w ≡ record { room = room; entries = [] }) }
     {
         let entries = Vec::with_capacity(alloc, room as usize)?;
-        let older = Vec::with_capacity(alloc, room as usize)?;
         let mut fronts = Vec::with_capacity(alloc, HOMES as usize)?;
         fronts.resize(HOMES as usize, 0)?;
         Ok(WriteSet {
             room,
             entries,
-            older,
             fronts,
         })
     }
@@ -78,7 +73,7 @@ impl WriteSet {
         ensures place { MatchOption result (IsAbsent self.now.entries addr)
             (IsEntryFor self.now.entries addr) }
     {
-        find(&self.fronts, &self.older, &self.entries, addr)
+        find(&self.fronts, &self.entries, addr)
     }
 
     /// The number at an address, if it was written.
@@ -86,7 +81,7 @@ impl WriteSet {
         ensures { result ≡ value_for self.now.entries addr }
     {
         let place = self.find(addr)?;
-        Some(self.entries[place].1)
+        Some(self.entries[place].pair.1)
     }
 
     /// The place of an address, if it was written before; else it comes last, with this number.
@@ -101,12 +96,14 @@ impl WriteSet {
     {
         let home = addr % HOMES;
         let last = front(&self.fronts, &self.entries, home);
-        match search(&self.older, &self.entries, last, addr) {
+        match search(&self.entries, last, addr) {
             Some(place) => Some(place),
             None => {
                 // there is room for each address below `room`
-                self.older.push_reserved(last);
-                self.entries.push_reserved((addr, value));
+                self.entries.push_reserved(Entry {
+                    pair: (addr, value),
+                    older: last,
+                });
                 self.fronts[home as usize] = self.entries.len() as u32;
                 None
             }
@@ -119,7 +116,7 @@ impl WriteSet {
         ensures { self.new ≡ record self.old { entries = put_pair self.old.entries addr value } }
     {
         if let Some(place) = self.enter(addr, value) {
-            self.entries[place].1 = value;
+            self.entries[place].pair.1 = value;
         }
     }
 
@@ -129,7 +126,7 @@ impl WriteSet {
         ensures value { result ≡ slice_index_or self.now.entries i (0, 0) }
         ensures below { result.0 < self.now.room }
     {
-        self.entries[i as usize]
+        self.entries[i as usize].pair
     }
 
     /// Empties it.
@@ -138,7 +135,6 @@ impl WriteSet {
     {
         if !self.entries.is_empty() {
             self.entries.clear();
-            self.older.clear();
         }
     }
 
@@ -146,7 +142,17 @@ impl WriteSet {
     pub fn has_entries_of(&self, other: &WriteSet) -> bool
         ensures { IsTrue result ↔ (self.now.entries ≡ other.now.entries) }
     {
-        self.entries.as_slice() == other.entries.as_slice()
+        if self.len() != other.len() {
+            return false;
+        }
+        for place in 0..self.len() {
+            let (addr, value) = self.entry(place);
+            let (other_addr, other_value) = other.entry(place);
+            if addr != other_addr || value != other_value {
+                return false;
+            }
+        }
+        true
     }
 
     /// Takes the entries of another one.

@@ -14,7 +14,7 @@ pub enum OpenError {
     OutOfMemory(#[from(alloc)] AllocError),
     #[error("{callers} callers: there are 1 to 16")]
     Callers { callers: u32 },
-    #[error("{blocks} blocks: there are at most 512")]
+    #[error("{blocks} blocks: there are at most 16777216")]
     Blocks { blocks: u32 },
     #[error("{limit} is no limit of sequences")]
     Limit { limit: u32 },
@@ -44,7 +44,7 @@ pub enum WordsError {
     OutOfMemory,
     #[error("{callers} callers: there are 1 to 16")]
     Callers { callers: u32 },
-    #[error("{blocks} blocks: there are at most 512")]
+    #[error("{blocks} blocks: there are at most 16777216")]
     Blocks { blocks: u32 },
     #[error("{limit} is no limit of sequences")]
     Limit { limit: u32 },

@@ -32,8 +32,9 @@ impl Memory {
     ghost use Rattle.of_memory.specs.Memories.{IsOpenCause, IsEnrolCause};
     ghost use Rattle.of_memory.specs.Telling.{KnowsOrdersOf, HearsMemory};
 
-    /// An empty memory: 1 to 16 callers, and room for at most 512 keys and queued items. `limit` is
-    /// the last sequence that may be committed.
+    /// An empty memory: 1 to 16 callers, and room for at most `MOST_BLOCKS` keys and queued
+    /// items, 16,777,216. With room for more than 512 it runs no instruction on keys in their
+    /// order. `limit` is the last sequence that may be committed.
     pub fn open(alloc: Global, callers: u32, blocks: u32, limit: u32) -> Result<Memory, OpenError>
         ensures memory { IfOk result IsMemory }
         ensures callers { IfOk result (λ m. callers_of m ≡ callers) }

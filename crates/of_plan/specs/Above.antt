@@ -1,8 +1,7 @@
 -- What the lines above a line say.
 use Rattle.std.specs.Prelude.{◌≡◌, ℕ, ◌-◌, ◌<◌, List, [], ◌∷◌, nat_lt, slice_index_or, slice_index, if◌then◌else◌, ◌==◌, codes, Option, Some, None}
 use Rattle.std.specs.Str.{bytes_eq}
-use Rattle.of_cell.specs.declared.shape.TheConstants.{MOST_CALLERS}
-use Rattle.of_store.specs.declared.store.TheConstants.{MOST_BLOCKS}
+use Rattle.of_plan.specs.declared.plan.TheConstants.{MOST_PLAN_CALLERS, MOST_PLAN_BLOCKS}
 use Rattle.of_plan.specs.declared.parser.line.TheConstants.{GREATEST_CELL}
 use Rattle.of_script.specs.Text.{text_words}
 use Rattle.of_script.specs.Reading.{◌>>=◌, next_number, at_end_of_words}
@@ -27,10 +26,10 @@ at_least least n = if nat_lt n least then None else Some n
 abbrev pub said : Wanted → List (List ℕ) → Option ℕ
 said wanted [] = None
 said Kept (name ∷ ws) = if slice_index name 0 == 35 then None else Some 0
-said Callers (name ∷ ws) = number_behind name (codes "callers") ws MOST_CALLERS
-said Blocks (name ∷ ws) = number_behind name (codes "blocks") ws MOST_BLOCKS
+said Callers (name ∷ ws) = number_behind name (codes "callers") ws MOST_PLAN_CALLERS
+said Blocks (name ∷ ws) = number_behind name (codes "blocks") ws MOST_PLAN_BLOCKS
 said End (name ∷ ws) = if bytes_eq name (codes "end") then at_end_of_words 0 ws else None
-said (Stop c) (name ∷ ws) = number_behind name (codes "stop") ws (MOST_CALLERS - 1) >>= only c
+said (Stop c) (name ∷ ws) = number_behind name (codes "stop") ws (MOST_PLAN_CALLERS - 1) >>= only c
 said (Cell least) (name ∷ ws) =
     number_behind name (codes "cell") ws GREATEST_CELL >>= at_least least
 

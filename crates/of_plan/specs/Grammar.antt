@@ -1,8 +1,6 @@
 -- The grammar of plans: which texts are in it, the plan of each, and the bad line of every other
 -- text.
-use Rattle.of_cell.specs.declared.shape.TheConstants.{MOST_CALLERS}
-use Rattle.of_store.specs.declared.store.TheConstants.{MOST_BLOCKS}
-use Rattle.of_plan.specs.declared.plan.TheConstants.{LATEST_STOP, MOST_SCRIPTS, MOST_TURNS}
+use Rattle.of_plan.specs.declared.plan.TheConstants.{MOST_PLAN_CALLERS, MOST_PLAN_BLOCKS, LATEST_STOP, MOST_SCRIPTS, MOST_TURNS}
 use Rattle.of_cell.specs.declared.word.TheConstants.{GREATEST_LIMIT}
 use Rattle.std.specs.Prelude.{◌≡◌, ℕ, ◌≤◌, ◌<◌, List, [], ◌∷◌, ◌++◌, length, map, sum_by, filter_map, if◌then◌else◌, ◌==◌, Option, Some, None, IfSome}
 use Rattle.std.specs.Option.{unwrap_or}
@@ -41,8 +39,8 @@ plan_lines h entries = heading_lines h ++ (map Body entries ++ End ∷ [])
 -- the ranges of the heading
 pub record IsHeading (h : Heading) : Type 0 where
   pub some_callers : 1 ≤ h.callers
-  pub few_callers : h.callers ≤ MOST_CALLERS
-  pub few_blocks : h.blocks ≤ MOST_BLOCKS
+  pub few_callers : h.callers ≤ MOST_PLAN_CALLERS
+  pub few_blocks : h.blocks ≤ MOST_PLAN_BLOCKS
   pub limit_range : IfSome h.limit (λ x. (1 ≤ x) × (x ≤ GREATEST_LIMIT))
 
 -- scripts, stops and turns are of a caller of the heading, and evictions of a cell that has a

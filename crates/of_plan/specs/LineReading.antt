@@ -1,7 +1,5 @@
 -- How the code reads a line: the ranges of its numbers, and what its words say.
-use Rattle.of_cell.specs.declared.shape.TheConstants.{MOST_CALLERS}
-use Rattle.of_store.specs.declared.store.TheConstants.{MOST_BLOCKS}
-use Rattle.of_plan.specs.declared.plan.TheConstants.{LATEST_STOP, MOST_TURNS}
+use Rattle.of_plan.specs.declared.plan.TheConstants.{MOST_PLAN_CALLERS, MOST_PLAN_BLOCKS, LATEST_STOP, MOST_TURNS}
 use Rattle.of_cell.specs.declared.word.TheConstants.{GREATEST_LIMIT}
 use Rattle.of_plan.specs.declared.parser.line.TheConstants.{GREATEST_CELL}
 use Rattle.std.specs.Prelude.{ℕ, ◌-◌, ◌≤◌, ◌&&◌, List, [], ◌∷◌, if◌then◌else◌, codes, Option, None}
@@ -19,12 +17,12 @@ use Rattle.of_plan.specs.Reader.{Language}
 -- the ranges of a line's numbers, whatever lines stand before it
 abbrev pub IsLineInRange : PlanLine → Type 0
 IsLineInRange Title = Unit {0}
-IsLineInRange (Callers n) = n ≤ MOST_CALLERS
-IsLineInRange (Blocks n) = n ≤ MOST_BLOCKS
+IsLineInRange (Callers n) = n ≤ MOST_PLAN_CALLERS
+IsLineInRange (Blocks n) = n ≤ MOST_PLAN_BLOCKS
 IsLineInRange (Limit x) = x ≤ GREATEST_LIMIT
-IsLineInRange (Body (Script c script)) = (c ≤ MOST_CALLERS - 1) × IsScript script
-IsLineInRange (Body (Stop c x)) = (c ≤ MOST_CALLERS - 1) × (x ≤ LATEST_STOP)
-IsLineInRange (Body (Turns c x)) = (c ≤ MOST_CALLERS - 1) × (x ≤ MOST_TURNS)
+IsLineInRange (Body (Script c script)) = (c ≤ MOST_PLAN_CALLERS - 1) × IsScript script
+IsLineInRange (Body (Stop c x)) = (c ≤ MOST_PLAN_CALLERS - 1) × (x ≤ LATEST_STOP)
+IsLineInRange (Body (Turns c x)) = (c ≤ MOST_PLAN_CALLERS - 1) × (x ≤ MOST_TURNS)
 IsLineInRange (Body (Evict a)) = a ≤ GREATEST_CELL
 IsLineInRange End = Unit {0}
 

@@ -1,7 +1,5 @@
 -- Plans: for each caller its scripts and its stop, and the schedule.
-use Rattle.of_cell.specs.declared.shape.TheConstants.{MOST_CALLERS}
-use Rattle.of_store.specs.declared.store.TheConstants.{MOST_BLOCKS}
-use Rattle.of_plan.specs.declared.plan.TheConstants.{LATEST_STOP, MOST_SCRIPTS, MOST_TURNS}
+use Rattle.of_plan.specs.declared.plan.TheConstants.{MOST_PLAN_CALLERS, MOST_PLAN_BLOCKS, LATEST_STOP, MOST_SCRIPTS, MOST_TURNS}
 use Rattle.of_cell.specs.declared.word.TheConstants.{GREATEST_LIMIT}
 use Rattle.std.specs.Prelude.{◌≡◌, ℕ, ◌≤◌, ◌<◌, List, [], length, sum_by, slice_index_or, IfSome, Option, None}
 use Rattle.std.specs.List.{AllByRecursion}
@@ -56,8 +54,8 @@ IsScheduleItem p (Evict a) = a < durable_cells_of p
 -- the ranges of a plan
 pub record IsPlan (p : Plan) : Type 0 where
   pub some_callers : 1 ≤ p.callers
-  pub few_callers : p.callers ≤ MOST_CALLERS
-  pub few_blocks : p.blocks ≤ MOST_BLOCKS
+  pub few_callers : p.callers ≤ MOST_PLAN_CALLERS
+  pub few_blocks : p.blocks ≤ MOST_PLAN_BLOCKS
   pub some_limit : 1 ≤ p.limit
   pub limit_range : p.limit ≤ GREATEST_LIMIT
   pub each_caller : length p.scripts ≡ p.callers

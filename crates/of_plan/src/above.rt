@@ -6,9 +6,8 @@ ghost use Rattle.of_plan.specs.Lines.{text_lines};
 ghost use Rattle.of_plan.specs.Above as lines_above;
 
 use crate::parser::line::GREATEST_CELL;
-use of_cell::MOST_CALLERS;
+use crate::plan::{MOST_PLAN_BLOCKS, MOST_PLAN_CALLERS};
 use of_script::text::{cut, next_number, word};
-use of_store::MOST_BLOCKS;
 
 /// What a line is asked for.
 #[derive(Clone, Copy, Debug, PartialEq, Eq)]
@@ -48,8 +47,8 @@ pub(crate) fn said(wanted: Wanted, line: &[u8]) -> Option<u32>
             b'#' => None,
             _ => Some(0),
         },
-        Wanted::Callers => number_behind(name, b"callers".as_slice(), rest, MOST_CALLERS),
-        Wanted::Blocks => number_behind(name, b"blocks".as_slice(), rest, MOST_BLOCKS),
+        Wanted::Callers => number_behind(name, b"callers".as_slice(), rest, MOST_PLAN_CALLERS),
+        Wanted::Blocks => number_behind(name, b"blocks".as_slice(), rest, MOST_PLAN_BLOCKS),
         Wanted::End => {
             if name != b"end".as_slice() || word(rest).is_some() {
                 return None;
@@ -57,7 +56,7 @@ pub(crate) fn said(wanted: Wanted, line: &[u8]) -> Option<u32>
             Some(0)
         }
         Wanted::Stop { caller } => {
-            let found = number_behind(name, b"stop".as_slice(), rest, MOST_CALLERS - 1)?;
+            let found = number_behind(name, b"stop".as_slice(), rest, MOST_PLAN_CALLERS - 1)?;
             if found != caller {
                 return None;
             }

@@ -14,7 +14,7 @@ ghost use Rattle.of_plan.specs.Histories.{HistoriesAreLegal};
 ghost use Rattle.of_plan.specs.Serial.{serial_report};
 ghost use Rattle.of_plan.specs.Worked.{two_callers, legal_report, script_twice, entry_too_many, sequence_left_out, stale_read, writes_lost, stopped_at_the_end, step_too_many};
 
-use crate::plan::{LATEST_STOP, MOST_SCRIPTS, MOST_TURNS};
+use crate::plan::{LATEST_STOP, MOST_PLAN_BLOCKS, MOST_PLAN_CALLERS, MOST_SCRIPTS, MOST_TURNS};
 use of_cell::GREATEST_LIMIT;
 
 /// The report of a plan whose scripts run one after the other is legal from the empty start.
@@ -41,8 +41,10 @@ pub fn worked_reports()
     ensures within_bound { IsLegal two_callers (empty_start two_callers) step_too_many → ⊥ }
 {}
 
-/// The greatest limit and stop, and how many scripts and turns a plan has at most.
+/// The greatest limit and stop, and how many callers, blocks, scripts and turns a plan has at most.
 pub fn numbers()
+    ensures callers { MOST_PLAN_CALLERS ≡ 16 }
+    ensures blocks { MOST_PLAN_BLOCKS ≡ 512 }
     ensures limit { GREATEST_LIMIT ≡ 4294967294 }
     ensures stop { LATEST_STOP ≡ 4294967295 }
     ensures scripts { MOST_SCRIPTS ≡ 20000 }
@@ -52,8 +54,15 @@ pub fn numbers()
 /// A log of a plan's table has room for each data cell.
 #[tactic(auto, using(of_cell::proofs::Rooms::room_whole, of_mem::proofs::BucketPlaces::few_behind))]
 pub fn logs_are_whole()
-    ensures { (n b : ℕ) → n ≤ cell.MOST_CALLERS → b ≤ store.MOST_BLOCKS
+    ensures { (n b : ℕ) → n ≤ MOST_PLAN_CALLERS → b ≤ MOST_PLAN_BLOCKS
         → log_room n (data_cells n b) ≡ data_cells n b }
+{}
+
+/// A plan has no more callers and blocks than the tables and stores that it runs on may have.
+pub fn plans_fit()
+    ensures callers { MOST_PLAN_CALLERS ≤ cell.MOST_CALLERS }
+    ensures cells { MOST_PLAN_BLOCKS ≤ plot.MOST_BLOCKS }
+    ensures stores { MOST_PLAN_BLOCKS ≤ store.MOST_BLOCKS }
 {}
 
 /// A limit that two crates state, since neither stands on the other, is one number in both.

@@ -7,7 +7,7 @@ use of_cell::Shape;
 use of_mem::Plot;
 
 /// The shape of a table with these data cells.
-#[tactic(auto, using(of_mem::proofs::BucketPlaces::few_behind))]
+#[tactic(auto, using(crate::proofs::Layouts::cells_fit))]
 pub fn table_shape(plot: &Plot) -> Shape
     ensures callers { result.callers ≡ plot.now.callers }
     ensures instrs { result.instrs ≡ plot.now.instrs }

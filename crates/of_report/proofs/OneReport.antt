@@ -9,6 +9,7 @@ use Rattle.std.proofs.lemmas.List.Elements.{All-nil, All-append, recursion_from_
 use Rattle.std.proofs.lemmas.List.FromFn.{get_or-range_with_len}
 use Rattle.std.proofs.lemmas.List.Sorted.{All-permutation, length_permutation}
 use Rattle.std.proofs.lemmas.List.Sums.{get_or-le-sum_by}
+use Rattle.of_mem.proofs.BucketPlaces.{few_behind}
 use Rattle.of_script.specs.declared.instr.Instr.{Instr}
 use Rattle.of_store.specs.Store.{replies_in_order, last_store}
 use Rattle.of_plan.specs.Plan.{Plan, IsPlan, scripts_of}
@@ -107,7 +108,7 @@ module _ (p : Plan) (plan : IsPlan p) (s : Start) (low : s.seq ≤ p.limit) (r :
       record {
         answered = omega (arith, answered, few_scripts k below, ap (λ (l : Line). l.answered) same);
         entries = omega (arith, legal.open_calls.entries k below, few_own k below, ap (λ (l : Line). l.entries) same);
-        longest = omega (arith, (legal.within_bound k d lt).0, plan.few_callers, plan.few_blocks);
+        longest = omega (arith, (legal.within_bound k d lt).0, plan.few_callers, plan.few_blocks, few_behind p.blocks plan.few_blocks);
       }
 
   pub small_report : IsSmallReport r

@@ -5,15 +5,18 @@ use Rattle.std.specs.Coded.{Coded, code_by, coded×, coded_ℕ, coded_bool, code
 use Rattle.std.specs.List.{range_with_len}
 use Rattle.of_cell.specs.Words.{payload_of}
 use Rattle.of_cell.specs.Cells.{data_cell, durable_cells}
+use Rattle.of_mem.specs.declared.plot.TheConstants.{MOST_BLOCKS}
+use Rattle.of_mem.specs.declared.work.TheConstants.{MOST_CALLERS}
 use Rattle.of_mem.specs.Places.{ticket_cell_at}
 use Rattle.of_mem.specs.ProgramWork.{memory_of}
 use Rattle.of_script.specs.declared.instr.TheConstants.{MOST_INSTRS}
 use Rattle.of_recover.specs.Row.{current_seq, is_open}
 use Rattle.of_store.specs.Store.{Store, state_code}
+use Rattle.of_plan.specs.declared.plan.TheConstants.{MOST_PLAN_CALLERS, MOST_PLAN_BLOCKS}
 use Rattle.of_plan.specs.Plan.{Plan, data_cells}
 use Rattle.of_plan.specs.Report.{Start}
 use Rattle.of_plan.specs.Ended.{Ended}
-use Rattle.of_report.specs.ImageRow.{DurableRow, IsRow, recovered_row, data_numbers_in}
+use Rattle.of_report.specs.ImageRow.{DurableRow, IsRowWithin, recovered_row, data_numbers_in}
 use Rattle.of_report.specs.ImageLaw.{IsLawfulRow}
 
 -- the recovered row, its sequence, whether a transaction was brought to its end, and the store
@@ -38,13 +41,21 @@ image_code =
     })
     (λ _. refl)
 
--- an image as reading answers it: its words are in range and recovered, its sequence is theirs, and
--- they are lawful with its store
-pub record IsImage (instrs : ℕ) (i : Image) : Type 0 where
-  pub row : IsRow instrs i.row
+-- an image of at most so many callers and blocks: its words are in range and recovered, its sequence
+-- is theirs, and they are lawful with its store
+pub record IsImageWithin (callers blocks instrs : ℕ) (i : Image) : Type 0 where
+  pub row : IsRowWithin callers blocks instrs i.row
   pub settled : recovered_row instrs i.row ≡ i.row
   pub seq : i.seq ≡ current_seq (slice_index i.row.words)
   pub lawful : IsLawfulRow instrs i.row i.store
+
+-- an image as reading a text answers it
+abbrev pub IsImage : (instrs : ℕ) → Image → Type 0
+IsImage instrs i = IsImageWithin MOST_PLAN_CALLERS MOST_PLAN_BLOCKS instrs i
+
+-- an image of the words of any table
+abbrev pub IsTableImage : (instrs : ℕ) → Image → Type 0
+IsTableImage instrs i = IsImageWithin MOST_CALLERS MOST_BLOCKS instrs i
 
 -- what recovery finds in this row is the image
 pub record IsRestored (instrs : ℕ) (raw : DurableRow) (i : Image) : Type 0 where

@@ -2,12 +2,13 @@
 -- depends on how many instructions a script has at most.
 use Rattle.std.specs.Prelude.{ℕ, ◌^◌, ◌≤◌, ◌<◌, List, map, slice_index}
 use Rattle.std.specs.List.{range_with_len}
-use Rattle.of_cell.specs.declared.shape.TheConstants.{MOST_CALLERS}
 use Rattle.of_cell.specs.Words.{payload_of}
 use Rattle.of_cell.specs.Cells.{data_cell}
-use Rattle.of_store.specs.declared.store.TheConstants.{MOST_BLOCKS}
+use Rattle.of_mem.specs.declared.plot.TheConstants.{MOST_BLOCKS}
+use Rattle.of_mem.specs.declared.work.TheConstants.{MOST_CALLERS}
 use Rattle.of_mem.specs.declared.plot.Plot.{Plot}
 use Rattle.of_mem.specs.Places.{base_of, cells_at}
+use Rattle.of_plan.specs.declared.plan.TheConstants.{MOST_PLAN_CALLERS, MOST_PLAN_BLOCKS}
 use Rattle.of_recover.specs.Row.{IsDurableRow}
 use Rattle.of_recover.specs.Recovered.{recovered_words}
 
@@ -34,14 +35,22 @@ data_numbers_in instrs r =
     map (λ a. payload_of (slice_index r.words (data_cell r.callers a)))
     (range_with_len 0 (row_cell_count instrs r))
 
--- the ranges of a row, where scripts have at most so many instructions: a word of 64 bits for each
--- cell
-pub record IsRow (instrs : ℕ) (r : DurableRow) : Type 0 where
+-- the ranges of a row of at most so many callers and blocks, where scripts have at most so many
+-- instructions: a word of 64 bits for each cell
+pub record IsRowWithin (callers blocks instrs : ℕ) (r : DurableRow) : Type 0 where
   pub some_callers : 1 ≤ r.callers
-  pub few_callers : r.callers ≤ MOST_CALLERS
-  pub few_blocks : r.blocks ≤ MOST_BLOCKS
+  pub few_callers : r.callers ≤ callers
+  pub few_blocks : r.blocks ≤ blocks
   pub size : IsDurableRow r.callers (row_cell_count instrs r) r.words
   pub words : (c : ℕ) → slice_index r.words c < 2 ^ 64
+
+-- the row of an image's text, which has no more callers and blocks than a plan may have
+abbrev pub IsRow : (instrs : ℕ) → DurableRow → Type 0
+IsRow instrs r = IsRowWithin MOST_PLAN_CALLERS MOST_PLAN_BLOCKS instrs r
+
+-- the row of any table
+abbrev pub IsTableRow : (instrs : ℕ) → DurableRow → Type 0
+IsTableRow instrs r = IsRowWithin MOST_CALLERS MOST_BLOCKS instrs r
 
 -- what recovery makes of a row
 abbrev pub recovered_row : (instrs : ℕ) → DurableRow → DurableRow

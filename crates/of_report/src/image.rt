@@ -18,9 +18,9 @@ use std::marker::Model;
 /// as reading a text answers one: `IsImage MOST_INSTRS`.
 #[derive(Drop)]
 pub struct Image {
-    /// How many callers there are, 1 to 16.
+    /// How many callers there are: in a text's image 1 to `of_plan::MOST_PLAN_CALLERS`.
     pub callers: u32,
-    /// How many blocks there are, at most 512.
+    /// How many blocks there are: in a text's image at most `of_plan::MOST_PLAN_BLOCKS`.
     pub blocks: u32,
     /// The recovered durable words.
     pub durable: Vec<u64>,

@@ -126,8 +126,8 @@ takes_back s t (Push q v) o h k f e = same_back _ s _ t (behind_test _ _ _ t _ o
 takes_back s t (Pop q) o h k f e = absurd cc
 takes_back s t (Len q) o h k f e = no_change s t (ap (left_by s) e)
 takes_back s t Count o h k f e = no_change s t (ap (left_by s) e)
-takes_back s t First o h k f e = no_change s t (ap (left_by s) e)
-takes_back s t (Next n) o h k f e = no_change s t (ap (left_by s) e)
+takes_back s t First o h k f e = no_change s t (behind_test _ _ _ t _ o e)
+takes_back s t (Next n) o h k f e = no_change s t (behind_test _ _ _ t _ o e)
 takes_back s t (DropBelow n) o h k f e = absurd cc
 
 -- what an effect answers, or this
@@ -177,8 +177,8 @@ aborts_may_fail s (Push q v) cause e = refl
 aborts_may_fail s (Pop q) cause e = absurd (not_popped s q (queue s q) cause e)
 aborts_may_fail s (Len q) cause e = absurd cc
 aborts_may_fail s Count cause e = absurd cc
-aborts_may_fail s First cause e = absurd cc
-aborts_may_fail s (Next k) cause e = absurd cc
+aborts_may_fail s First cause e = refl
+aborts_may_fail s (Next k) cause e = refl
 aborts_may_fail s (DropBelow k) cause e = refl
 
 -- the first n instructions take nothing out

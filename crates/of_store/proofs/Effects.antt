@@ -4,11 +4,12 @@ use Rattle.std.specs.Prelude.{option_copied}
 use denote.Ref.{Bor}
 use Rattle.std.specs.FinMap as fm
 use Rattle.std.specs.Ordering.{nat_cmp}
-use Rattle.std.proofs.lemmas.Bool.{le-leb}
+use Rattle.std.proofs.lemmas.Bool.{le-leb, le-ltb}
 use Rattle.std.proofs.lemmas.Bool.Decides.{leb_tells}
 use Rattle.of_script.specs.Language.{greatest}
 use Rattle.of_script.specs.declared.instr.Instr.TheVariants.{Put, Del, DropBelow}
 use Rattle.of_script.specs.declared.instr.Cause.TheVariants.{NoRoom}
+use Rattle.of_store.specs.declared.store.TheConstants.{MOST_ORDERED_BLOCKS}
 use Rattle.of_store.specs.Store.{Store, InstrEffect, instr_effect, stored_count, keys_from}
 
 pub put_full : (s : Store) (k v : ℕ) → fm.get s.keys k ≡ None → s.room ≤ stored_count s → instr_effect s (Put k v) ≡ Err NoRoom
@@ -26,10 +27,10 @@ put_old s m k v (Some w) e there is = rw e (ap (λ (n : fm.FinMap nat_cmp ℕ). 
 pub del_effect : (s : Store) (m : fm.FinMap nat_cmp ℕ) (k : ℕ) (before : Option ℕ) → before ≡ fm.get s.keys k → m ≡ fm.remove s.keys k → instr_effect s (Del k) ≡ Ok (record s { keys = m }, before)
 del_effect s m k before e is = let f : fm.FinMap nat_cmp ℕ → Option ℕ → InstrEffect = λ n o. Ok (record s { keys = n }, o) in ap (λ (n : fm.FinMap nat_cmp ℕ). f n (fm.get s.keys k)) (sym is) ∙ ap (f m) (sym e)
 
-pub drop_effect : (s : Store) (m : fm.FinMap nat_cmp ℕ) (k n : ℕ) → m ≡ keys_from s.keys k → n ≡ fm.len s.keys - fm.len m → instr_effect s (DropBelow k) ≡ Ok (record s { keys = m }, Some n)
-drop_effect s m k n is e =
+pub drop_effect : (s : Store) (m : fm.FinMap nat_cmp ℕ) (k n : ℕ) → s.room ≤ MOST_ORDERED_BLOCKS → m ≡ keys_from s.keys k → n ≡ fm.len s.keys - fm.len m → instr_effect s (DropBelow k) ≡ Ok (record s { keys = m }, Some n)
+drop_effect s m k n few is e =
     let f : fm.FinMap nat_cmp ℕ → ℕ → InstrEffect = λ x y. Ok (record s { keys = x }, Some y) in
-    ap (λ (x : fm.FinMap nat_cmp ℕ). f x (fm.len s.keys - fm.len x)) (sym is) ∙ ap (f m) (sym e)
+    rw (le-ltb MOST_ORDERED_BLOCKS s.room few) (ap (λ (x : fm.FinMap nat_cmp ℕ). f x (fm.len s.keys - fm.len x)) (sym is) ∙ ap (f m) (sym e))
 
 -- ---- what a look-up answers
 

@@ -26,6 +26,10 @@ where_there : (b : Bool) (cause : Cause) (s : Store) → Stays s (cond b (Ok (s,
 where_there true cause s = refl
 where_there false cause s = tt
 
+unless : (b : Bool) (cause : Cause) (s : Store) (o : Option ℕ) → Stays s (cond b (Err cause) (Ok (s, o)))
+unless true cause s o = tt
+unless false cause s o = refl
+
 effect_stays : (s : Store) (i : Instr) → reads_only i ≡ true → Stays s (instr_effect s i)
 effect_stays s (Load r) e = refl
 effect_stays s (StoreInstr r v) e = absurd cc
@@ -39,8 +43,8 @@ effect_stays s (Push q v) e = absurd cc
 effect_stays s (Pop q) e = absurd cc
 effect_stays s (Len q) e = refl
 effect_stays s Count e = refl
-effect_stays s First e = refl
-effect_stays s (Next k) e = refl
+effect_stays s First e = unless _ _ s _
+effect_stays s (Next k) e = unless _ _ s _
 effect_stays s (DropBelow k) e = absurd cc
 
 -- what the outcome leaves is the store from before

@@ -44,8 +44,8 @@ may_fail (Push q v) = true
 may_fail (Pop q) = false
 may_fail (Len q) = false
 may_fail Count = false
-may_fail First = false
-may_fail (Next k) = false
+may_fail First = true
+may_fail (Next k) = true
 may_fail (DropBelow k) = true
 
 -- behind what takes something out, nothing of the script can fail

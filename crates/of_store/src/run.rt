@@ -47,6 +47,8 @@ fn may_fail(instr: Instr) -> bool
             | Instr::Put { key: _, value: _ }
             | Instr::Need { key: _, value: _ }
             | Instr::Push { queue: _, value: _ }
+            | Instr::First
+            | Instr::Next { key: _ }
             | Instr::DropBelow { key: _ }
     )
 }
@@ -105,9 +107,9 @@ impl Store {
             Instr::Pop { queue } => Ok(Ok(self.pop(queue))),
             Instr::Len { queue } => Ok(Ok(Some(self.queue_len(queue)))),
             Instr::Count => Ok(Ok(Some(self.keys()))),
-            Instr::First => Ok(Ok(self.least_from(0))),
-            Instr::Next { key } => Ok(Ok(self.least_from(key + 1))),
-            Instr::DropBelow { key } => Ok(Ok(Some(self.drop_below(key)?))),
+            Instr::First => Ok(self.least(0)),
+            Instr::Next { key } => Ok(self.least(key + 1)),
+            Instr::DropBelow { key } => self.drop_below(key),
         }
     }
 

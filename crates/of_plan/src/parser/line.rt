@@ -5,10 +5,9 @@ ghost use Rattle.of_plan.specs.LineReading.{line_of_scriptless};
 ghost use Rattle.of_plan.specs.LineTable as table;
 ghost use Rattle.of_plan.specs.Checks as checks;
 
-use crate::plan::{LATEST_STOP, MOST_TURNS};
-use of_cell::{GREATEST_LIMIT, MOST_CALLERS};
+use crate::plan::{LATEST_STOP, MOST_PLAN_BLOCKS, MOST_PLAN_CALLERS, MOST_TURNS};
+use of_cell::GREATEST_LIMIT;
 use of_script::Script;
-use of_store::MOST_BLOCKS;
 
 // The greatest number of a cell that a line may name, whatever the plan.
 pub(crate) const GREATEST_CELL: u32 = 4_294_967_295;
@@ -109,10 +108,10 @@ fn first_most(form: LineForm) -> u32
     ensures { result ≡ table.line_first_most form }
 {
     match form {
-        LineForm::Callers => MOST_CALLERS,
-        LineForm::Blocks => MOST_BLOCKS,
+        LineForm::Callers => MOST_PLAN_CALLERS,
+        LineForm::Blocks => MOST_PLAN_BLOCKS,
         LineForm::Limit => GREATEST_LIMIT,
-        LineForm::Stop | LineForm::Turns => MOST_CALLERS - 1,
+        LineForm::Stop | LineForm::Turns => MOST_PLAN_CALLERS - 1,
         LineForm::Evict => GREATEST_CELL,
         LineForm::End => 0,
     }

@@ -1,14 +1,12 @@
 //! The plan of a load.
 
 ghost use Rattle.std.specs.Prelude.{◌≡◌, ◌≤◌, ◌<◌, ◌*◌, IfOk};
-ghost use Rattle.of_cell.specs.declared.shape.TheConstants.{MOST_CALLERS};
-ghost use Rattle.of_plan.specs.declared.plan.TheConstants.{MOST_SCRIPTS};
+ghost use Rattle.of_plan.specs.declared.plan.TheConstants.{MOST_PLAN_CALLERS, MOST_SCRIPTS};
 ghost use Rattle.of_plan.specs.Generated.{load_script, load_scripts, generated_plan};
 
-use crate::plan::Plan;
+use crate::plan::{MOST_PLAN_BLOCKS, Plan};
 use of_cell::GREATEST_LIMIT;
 use of_script::{Instr, REGISTERS, Script};
-use of_store::MOST_BLOCKS;
 use std::alloc::{AllocError, Global};
 
 // How many keys a caller has for its own.
@@ -16,7 +14,7 @@ const OWN_KEYS: u32 = 31;
 
 // A script of a caller: it adds to a register, and puts its index at a key of the caller's own.
 fn load_script(caller: u32, index: u32) -> Script
-    requires caller { caller < MOST_CALLERS }
+    requires caller { caller < MOST_PLAN_CALLERS }
     requires index { index < MOST_SCRIPTS }
     ensures { result ≡ load_script caller index }
 {
@@ -34,7 +32,7 @@ fn load_script(caller: u32, index: u32) -> Script
 
 // The scripts of a caller.
 fn load_scripts(alloc: Global, caller: u32, count: u32) -> Result<Vec<Script>, AllocError>
-    requires caller { caller < MOST_CALLERS }
+    requires caller { caller < MOST_PLAN_CALLERS }
     requires count { count ≤ MOST_SCRIPTS }
     ensures { IfOk result (λ scripts. scripts.items ≡ load_scripts count caller) }
 {
@@ -45,12 +43,12 @@ fn load_scripts(alloc: Global, caller: u32, count: u32) -> Result<Vec<Script>, A
     Ok(scripts)
 }
 
-/// The plan of a load: 1 to `MOST_CALLERS` callers with so many scripts each, at most
-/// `MOST_SCRIPTS` together, on `MOST_BLOCKS` blocks, without a stop and a schedule. All callers add
-/// to the same registers, and each puts at keys of its own.
+/// The plan of a load: 1 to `MOST_PLAN_CALLERS` callers with so many scripts each, at most
+/// `MOST_SCRIPTS` together, on `MOST_PLAN_BLOCKS` blocks, without a stop and a schedule. All
+/// callers add to the same registers, and each puts at keys of its own.
 pub fn generate(alloc: Global, callers: u32, scripts: u32) -> Result<Plan, AllocError>
     requires some { 1 ≤ callers }
-    requires few { callers ≤ MOST_CALLERS }
+    requires few { callers ≤ MOST_PLAN_CALLERS }
     requires scripts { callers * scripts ≤ MOST_SCRIPTS }
     ensures { IfOk result (λ plan. plan ≡ generated_plan callers scripts) }
 {
@@ -62,7 +60,7 @@ pub fn generate(alloc: Global, callers: u32, scripts: u32) -> Result<Plan, Alloc
     }
     Ok(Plan {
         callers,
-        blocks: MOST_BLOCKS,
+        blocks: MOST_PLAN_BLOCKS,
         limit: GREATEST_LIMIT,
         scripts: all,
         stops,

@@ -11,9 +11,9 @@ use Rattle.of_image.proofs.PrintedImages.{printed_again}
 use Rattle.of_image.proofs.printing.image_print.Goals as goal
 
 pub returns-clause-again : goal.returns-clause-again
-returns-clause-again c =
+returns-clause-again c few_callers few_blocks =
     let p = c.args.plot.now in
     let D = durable_cells p.callers (data_cell_count p) in
     let r = row_in p (slice_range c.args.words.now D (D + D)) in
-    let row = table_is_row p c.args.words.now c.requires.instrs c.requires.size (λ k. (c.type_inv.words k).fits) in
+    let row = table_is_row p c.args.words.now c.requires.instrs c.requires.size (λ k. (c.type_inv.words k).fits) few_callers few_blocks in
     IfOk-weaker c.print_row.result (λ text. text.items ≡ image_text Two r) _ (λ text is. subst (λ (t : List ℕ). SpellsImage Two t r) (sym is) (printed_again Two r row)) (rw (c.durable_cells-cells.ensures.value, c.table_shape.ensures.callers, c.table_shape.ensures.cells) at c.print_row.ensures)

@@ -1,5 +1,6 @@
-use Rattle.std.proofs.Common.{◌≡◌, ℕ, List, false, get_or, sym, ap, subst, ◌∙◌}
+use Rattle.std.proofs.Common.{◌≡◌, ℕ, List, false, get_or, sym, ap, subst, ◌∙◌, arith}
 use Rattle.std.proofs.lemmas.Result.{IfOk-weaker}
+use Rattle.of_mem.proofs.BucketPlaces.{few_behind}
 use Rattle.of_recover.specs.Row.{is_open}
 use Rattle.of_recover.specs.Recovered.{recovered_words}
 use Rattle.of_recover.specs.Renumbered.{renumbered_words, BeginsAnew}
@@ -10,6 +11,11 @@ use Rattle.of_image.specs.ImageText.{image_text}
 use Rattle.of_image.specs.RenumberedImage.{Renumbers}
 use Rattle.of_image.proofs.RenumberedImages.{closed, renumbers}
 use Rattle.of_image.proofs.renumber.renumbered_print.Goals as goal
+
+pub invariant_of-shape-clause-few_cells : goal.invariant_of-shape-clause-few_cells
+invariant_of-shape-clause-few_cells c =
+    let held = subst (IsImage MOST_INSTRS) (sym c.image.view_is) c.requires in
+    omega (arith, c.cells.ensures, held.row.few_callers, few_behind c.image.inside.blocks held.row.few_blocks, held.row.few_blocks)
 
 pub renumbered-requires-clause-closed : goal.renumbered-requires-clause-closed
 renumbered-requires-clause-closed c =

@@ -1,4 +1,4 @@
-use Rattle.std.proofs.Common.{ℕ, ◌+◌, ◌∙◌, length, Option, Some, sym, ap, subst, arith}
+use Rattle.std.proofs.Common.{ℕ, ◌∙◌, length, Option, Some, sym, ap, subst, arith}
 use Rattle.std.proofs.lemmas.Result.{err_from_is_err_and}
 use Rattle.of_mem.specs.Plots.{base}
 use Rattle.of_mem.specs.Stores.{queue_chain, last_pointer}

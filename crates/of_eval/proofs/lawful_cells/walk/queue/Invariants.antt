@@ -1,4 +1,4 @@
-use Rattle.std.proofs.Common.{◌≡◌, ℕ, ◌+◌, List}
+use Rattle.std.proofs.Common.{◌≡◌, ℕ, List}
 use Rattle.of_mem.specs.Plots.{base}
 use Rattle.of_mem.specs.Stores.{queue_chain, last_pointer}
 use Rattle.of_eval.specs.Faults.{pointer_cell}

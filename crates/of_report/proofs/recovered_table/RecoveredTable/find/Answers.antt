@@ -2,6 +2,7 @@ use Rattle.std.proofs.Common.{◌≡◌, ℕ, ◌+◌, ◌<◌, List, length, ge
 use Rattle.std.specs.Prelude.{slice_range}
 use Rattle.of_cell.specs.Words.{seq_of}
 use Rattle.of_cell.specs.Cells.{data_cell, durable_cells, durable_place, table_words}
+use Rattle.of_mem.proofs.BucketPlaces.{few_behind}
 use Rattle.of_script.specs.declared.instr.TheConstants.{MOST_INSTRS}
 use Rattle.of_plan.specs.Ended.{Ended}
 use Rattle.of_eval.specs.Record.{plan_data_cells}
@@ -19,6 +20,7 @@ returns c =
     let N = c.shape-shape.result.callers in
     let M = c.shape-shape.result.cells in
     let callers : N ≡ p.callers = c.shape-shape.ensures.callers in
+    let plan = c.plot-plot.ensures.plan in
     let cells : M ≡ plan_data_cells p = c.shape-shape.ensures.cells in
     let long : length ws ≡ table_words N MOST_INSTRS M = c.requires ∙ (λ i. table_words (sym callers i) MOST_INSTRS (sym cells i)) in
     let row : c.in_ok-durable.durable.items ≡ slice_range ws (durable_cells N M) (durable_cells N M + durable_cells N M) =
@@ -36,6 +38,6 @@ returns c =
       blocks = c.plot-plot.ensures.blocks;
       seq = c.recover-seq.ensures.seq ∙ ap (λ (l : List ℕ). seq_of (get_or l 0 0)) c.deref_mut.ensures.value ∙ found_seq N M ws c.in_ok-durable.durable.items row ∙ (λ i. seq_of (get_or ws (durable_place (callers i) (cells i) 0) 0));
       words = λ a l.
-          found_word N M ws c.in_ok-durable.durable.items c.in_ok-words.words.items (omega arith) long row part a (subst (λ (n : ℕ). a < n) (sym cells) l)
+          found_word N M ws c.in_ok-durable.durable.items c.in_ok-words.words.items (omega (arith, cells, plan.few_callers, plan.few_blocks, few_behind p.blocks plan.few_blocks)) long row part a (subst (λ (n : ℕ). a < n) (sym cells) l)
           ∙ (λ i. recovered_data (callers i) (cells i) (λ d. get_or ws (durable_place (callers i) (cells i) d) 0) a);
     }

@@ -31,4 +31,4 @@ returns-clause-effect c =
     let new = len_is c.in_ok-self-inside.field-0.entries c.len.ensures.ordered in
     let left = entries_left c.args.key c.self.inside.keys.entries c.in_ok-self-inside.field-0.entries c.in_ok-self-inside.ensures.from in
     ap (λ (s : Store). instr_effect s (DropBelow c.args.key)) (sym c.self.view_is)
-    ∙ drop_effect (store_value c.self.inside) _ c.args.key (c.len-before.result - c.len.result) left (omega (arith, old, new, c.len-before.ensures.len, c.len.ensures.len))
+    ∙ drop_effect (store_value c.self.inside) _ c.args.key (c.len-before.result - c.len.result) (omega (arith, c.if-self-gt-MOST_ORDERED_BLOCKS.false)) left (omega (arith, old, new, c.len-before.ensures.len, c.len.ensures.len))

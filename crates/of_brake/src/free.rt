@@ -2,12 +2,12 @@
 
 ghost use Rattle.std.specs.Prelude.{◌≡◌, true, None};
 
-use of_brake::Brake;
+use crate::brake::Brake;
 
 /// A brake that allows each ask, and counts nothing: to ask it costs nothing. It tells no steps
 /// left, whatever it is armed with.
 #[derive(Drop)]
-pub(crate) struct Free;
+pub struct Free;
 
 impl Brake for Free {
     ghost denials = { λ _. 0 };
