@@ -37,7 +37,8 @@ impl Saved {
     ghost use Rattle.std.specs.Prelude.{MatchResult};
     ghost use Rattle.of_memory.specs.declared.saved.Saved.{Saved as AnySaved};
     ghost use Rattle.of_memory.specs.declared.error.ImageTextError.TheVariants.{OutOfMemory};
-    ghost use Rattle.of_memory.specs.Texts.{IsOfPlanSize, IsTextOfSaved, TextHolds, IsReadBack, IsTextCause};
+    ghost use Rattle.of_memory.specs.Texts.{IsOfPlanSize, IsTextOfSaved, TextHolds};
+    ghost use Rattle.of_memory.specs.Texts.{IsReadBack, IsTextCause};
 
     /// The text of it, an image as the command line reads and writes them: the store, and the last
     /// ticket and reply of each caller. The limit is not in it. No text is read again that has more
@@ -46,7 +47,8 @@ impl Saved {
         requires { IsSaved self.now }
         ensures printed { IfOk result (λ text. IsTextOfSaved self.now text.items) }
         // A text of as many callers and blocks as a plan may have is read again.
-        ensures holds { IsOfPlanSize self.now → IfOk result (λ text. TextHolds text.items self.now) }
+        ensures holds { IsOfPlanSize self.now →
+            IfOk result (λ text. TextHolds text.items self.now) }
     {
         let scripts = self.scripts();
         let words = table_of(alloc, &shape_of(scripts), self.cells.words())?;
