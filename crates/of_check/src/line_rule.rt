@@ -46,7 +46,7 @@ impl LineRule {
     }
 }
 
-// The piece of a line with so many before it.
+// The piece of a line with this many before it.
 fn piece(line: &[u8], before: usize) -> Option<&[u8]>
     ensures { MatchOption result (length (line_pieces line.now) ≤ before)
         (λ p. IsPiece line.now before p.now) }
