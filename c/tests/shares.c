@@ -210,6 +210,25 @@ static void kinds(void) {
   EXPECT(onefile_free(&memory), ONEFILE_DONE);
 }
 
+/* As many callers as there may be: a number above 31 is kept as any other. */
+static void many(void) {
+  char all[240];
+  snprintf(all, sizeof all, "%s/all", folder);
+  EXPECT(onefile_share_file(&memory, all, ONEFILE_MOST_CALLERS, 0, LIMIT), ONEFILE_DONE);
+  EXPECT(onefile_share_file(&other, all, ONEFILE_MOST_CALLERS, 0, LIMIT), ONEFILE_DONE);
+  EXPECT(onefile_enrol(&memory, 32), ONEFILE_DONE);
+  EXPECT(onefile_enrol(&other, 32), ONEFILE_TAKEN);
+  EXPECT(onefile_enrol(&other, 0), ONEFILE_DONE); /* no number shares a bit */
+  EXPECT(onefile_enrol(&other, ONEFILE_MOST_CALLERS - 1), ONEFILE_DONE);
+  EXPECT(onefile_enrol(&memory, ONEFILE_MOST_CALLERS - 1), ONEFILE_TAKEN);
+  EXPECT(text(&memory, 32, "add 0 1"), ONEFILE_DONE);
+  EXPECT(text(&other, ONEFILE_MOST_CALLERS - 1, "add 0 2"), ONEFILE_DONE);
+  HOLDS(reply.values[0] == 3);
+  EXPECT(onefile_free(&memory), ONEFILE_DONE);
+  EXPECT(onefile_free(&other), ONEFILE_DONE);
+  HOLDS(unlink(all) == 0);
+}
+
 /* A process that may have no file of this size is told so. */
 static void limited(void) {
   struct rlimit before, small;
@@ -565,6 +584,7 @@ int main(int argc, char **argv) {
   closes();
   lives();
   kinds();
+  many();
   limited();
   spoilt();
   versions();
