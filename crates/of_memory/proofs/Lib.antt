@@ -14,3 +14,4 @@ pub mod Alone
 pub mod Reading
 pub mod Texts
 pub mod StartWords
+pub mod Looking
