@@ -5,7 +5,7 @@ use Rattle.of_memory.specs.declared.saved.Saved.{Saved}
 use Rattle.of_memory.specs.declared.error.ImageTextError.{ImageTextError}
 use Rattle.of_memory.specs.declared.error.ImageTextError.TheVariants.{OutOfMemory, Bad, Unlawful, PastLimits}
 use Rattle.of_memory.specs.Saving.{IsSaved, saved_limit}
-use Rattle.of_memory.specs.Texts.{IsTextOfSaved, TextHolds, IsReadBack}
+use Rattle.of_memory.specs.Texts.{IsOfPlanSize, IsTextOfSaved, TextHolds, IsReadBack}
 use Rattle.of_c.specs.declared.codes.TheConstants.{DONE, NO_IMAGE, NO_MEMORY, NO_ROOM}
 use Rattle.of_c.specs.declared.held.Held.{Held}
 use Rattle.of_c.specs.Slots.{HoldsSaved}
@@ -24,7 +24,7 @@ pub record HasText (held : Option Held) (P : List ℕ → Type 0) : Type 0 where
   pub is : HoldsSaved held left
   pub text : List ℕ
   pub printed : IsTextOfSaved left text
-  pub holds : TextHolds text left
+  pub holds : IsOfPlanSize left → TextHolds text left
   pub so : P text
 
 -- what a text holds is held: the words that something had which was written so
