@@ -4,6 +4,7 @@ use Rattle.std.proofs.lemmas.Bool.Decides.{nat_tests}
 use Rattle.of_cell.specs.Words.{pack, seq_of, payload_of}
 use Rattle.of_cell.specs.Cells.{log_room}
 use Rattle.of_cell.proofs.Order.{seq_zero}
+use Rattle.of_mem.specs.Places.{buckets_behind}
 use Rattle.of_mem.proofs.Lists.{zero_at}
 use Rattle.of_recover.specs.Recovered.{recovered_words}
 use Rattle.of_script.specs.Table.{form_at}
@@ -33,7 +34,7 @@ store_3_7 = 75161927687 ∷ []
 -- what the script leaves of zeros stands for a store, and so do cells that are the same behind the
 -- caller's own
 lawful : (xs : List ℕ) → length xs ≡ 81 → drop 18 xs ≡ 0 ∷ 0 ∷ 0 ∷ 7 ∷ replicate 59 0 → LawfulCells alone xs
-unfolding instr_at form_at
+unfolding instr_at form_at buckets_behind
 lawful xs l e =
     let sound = scripts_sound alone in
     let zeros = sound.zeros (replicate 81 0) refl (zero_at 81) in
@@ -42,7 +43,7 @@ lawful xs l e =
     sound.lawful_from left xs (sound.keeps_length (replicate 81 0) store_3_7 refl) l (same ∙ sym e) (sound.leads (replicate 81 0) store_3_7 refl zeros)
 
 pub starts_at_zero : (limit : ℕ) → MayStartFrom alone limit (stored_row 0 0)
-unfolding recovered_words pack seq_of payload_of log_room
+unfolding recovered_words pack seq_of payload_of log_room buckets_behind
 starts_at_zero limit = record {
   long = refl;
   recovered = refl;
