@@ -51,7 +51,7 @@ fn work_with<W: Work, J: CellTask<CellHandle<W>> + Drop>(slot: &mut Option<(Cell
     }
 }
 
-// Each task with its handle, all at once: each in a thread of its own where one can be made.
+// Each task with its handle, all at once: each in a thread of its own if one can be made.
 fn work_all<W: Work, J: CellTask<CellHandle<W>> + Send + Drop, R: Threads + Sync>(
     rt: &R,
     slots: &mut [Option<(CellHandle<W>, J)>],
@@ -81,7 +81,7 @@ impl<W: Work> CellMemory<W> {
     ghost use Rattle.of_cells.specs.Tasks.{HaveWorked, KnowsRest, RestKnowsOrder, IsTaskCause};
 
     /// Works at all tasks at once: each with the handle of the number that is its place, in a
-    /// thread of its own where one can be made. Then the handles leave. If one can't be enrolled,
+    /// thread of its own if one can be made. Then the handles leave. If one can't be enrolled,
     /// no task is begun, and no number stays taken. A task takes any handle of a memory, and gives
     /// back one of the same memory and number.
     pub fn at_once<J: CellTask<CellHandle<W>> + Send + Drop, R: Threads + Sync>(

@@ -32,7 +32,7 @@ pub enum EnrolError {
 /// Why a call has no answer.
 #[derive(Clone, Copy, Debug, PartialEq, Eq, Error)]
 pub enum RunError {
-    /// The call has asked for so many steps, and the last one was denied. It stays open, for
+    /// The call has asked for this many steps, and the last one was denied. It stays open, for
     /// `go_on`.
     #[error("stopped at step {asked}")]
     Stopped { asked: u64 },

@@ -1,5 +1,5 @@
--- What every moment claims: its history is legal, each round uses one state, and what recovery
--- reads off the durable words.
+-- What holds at every moment: the history is legal, each round uses one state, and recovery of the
+-- durable words finds a state of the history.
 use Rattle.std.specs.Prelude.{ℕ, ◌+◌, ◌*◌, ◌-◌, List, length, Option, Some, None, Bool, true, false, ◌≡◌, ◌≤◌, ◌<◌, map}
 use Rattle.std.proofs.Common.{get_or, take}
 use Rattle.of_cell.specs.Words.{seq_of, payload_of}
@@ -21,7 +21,7 @@ use Rattle.of_core.specs.History.{state_after, batch_at, EachBatch, EachCall, Is
 use Rattle.of_core.specs.Bound.{bound}
 use Rattle.of_core.specs.Events.{machine_in}
 
--- the places of a round or a try at which what is known of cells is of its state
+-- the places of a round or a try at which the known cells are those of its state
 abbrev pub knows_state : Place → Bool
 knows_state (TryCell a) = true
 knows_state LoadOwnTicket = true
@@ -39,7 +39,7 @@ knows_state RaiseRequest = true
 knows_state ExchangeCurrent = true
 knows_state p = false
 
--- what was loaded of the own cells of caller i, of which its answer is read, is of the state
+-- what was loaded of the own cells of caller i, for its answer, is of this state
 abbrev pub OwnCellsAreOfState : Setup → (state_after : List ℕ) → (i : ℕ) → CallState → Place
     → Type 0
 OwnCellsAreOfState S st i m LoadShape = FindsOwnTicket S st i m
@@ -89,7 +89,7 @@ OutcomeIsInHistory S B w i m (Some (Spent s)) =
     × ((k : ℕ) → B.seq < k → k ≤ s → All (IsOlderCall i m.made) (batch_at B w.batches k).calls)
     × (s ≤ durable_seq S w.words)
 
--- a call in a batch is one that its caller has begun; where it is the caller's open call, it is
+-- a call in a batch is one that its caller has begun; if it is the caller's open call, it is
 -- there with that call's words
 abbrev pub WasBegunByCaller : Setup → TableStart → Moment → Call → Type 0
 WasBegunByCaller S B w c =
@@ -107,8 +107,7 @@ pub record IsSound (S : Setup) (B : TableStart) (w : Moment) : Type 0 where
   -- the reads theirs
   pub legal : IsLegalHistory S.meaning (map payload_of B.cells) w.batches
   pub reads : All (ReadIsLegal S B w.batches) w.reads
-  -- apart from the callers' own cells the state behind each batch is what the calls up to it lead
-  -- to
+  -- apart from the callers' own cells the state after each batch is what the calls up to it lead to
   pub state : (k : ℕ) → k ≤ length w.batches
       → SameFrom (first_operation_cell S) (numbers_after B w.batches (B.seq + k))
       (numbers_by_replay S B w.batches k)

@@ -17,7 +17,7 @@ pub record Setup : Type 0 where
   pub cells : ℕ
   -- the last sequence that may be committed
   pub limit : ℕ
-  -- the entry with which a helper of this number begins to apply so many entries
+  -- the entry of a log of this many entries at which a helper of this number begins to apply
   pub begins : ℕ → ℕ → ℕ
   -- what operations do
   pub meaning : Meaning
@@ -56,7 +56,7 @@ most_entries S = log_room S.callers S.cells
 abbrev pub cell_count : Setup → ℕ
 cell_count S = durable_cells S.callers S.cells
 
--- each has a durable word behind them all
+-- each has a durable word, after all of them
 abbrev pub durable_at : Setup → ℕ → ℕ
 durable_at S c = durable_place S.callers S.cells c
 
