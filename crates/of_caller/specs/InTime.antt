@@ -81,7 +81,7 @@ course_of p B items = marks_in (plan_setup p) (opening_at p B) (events_of_items 
 
 -- ---- what holds of all schedules and teams
 
--- the report of what a schedule of the plan leaves, from whatever start, respects its real time
+-- the report of what a schedule of the plan leaves, from any start, respects its real time
 abbrev pub SchedulesRespectTime : Plan → Type 0
 SchedulesRespectTime p =
     (s : Start) (B : TableStart) → MayStart (plan_setup p) (IsLawfulFor p) B

@@ -38,7 +38,7 @@ made_with op (Err InCall) es = es
 made_with op (Err NoCall) es = es
 made_with op (Err NoTicket) es = es
 
--- a call of the caller is open, of whatever operation
+-- a call of the caller is open, of any operation
 abbrev pub IsInCall : {W : Type 0} → Caller W → Type 0
 IsInCall c = IsOpen (caller_call c).place
 
@@ -89,7 +89,7 @@ abbrev pub BeginsAsNext : {W : Type 0} → (number : ℕ) → Result RawAnswer R
 BeginsAsNext n result c =
     HasStarted result → calls_begun_in (events_known_to c) n ≤ length (ended_of c)
 
--- so it is whatever its number
+-- the same for the caller's own number
 abbrev pub BeginsItsNext : {W : Type 0} → Result RawAnswer RunError → Caller W → Type 0
 BeginsItsNext result c = BeginsAsNext (caller_call c).caller result c
 

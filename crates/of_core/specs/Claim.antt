@@ -46,16 +46,16 @@ OwnCellsAreOfState S st i m LoadShape = FindsOwnTicket S st i m
 OwnCellsAreOfState S st i m (LoadReply j) = FindsOwnTicket S st i m × HasReadReplyUpTo S st i m j
 OwnCellsAreOfState S st i m p = Unit {0}
 
--- a round or a try has used the cells of one state alone: what is known of cells, and what was
--- loaded of the own ones
+-- a round or a try has used the cells of only one state: the known cells, and what was loaded of
+-- the caller's own ones
 pub record UsesOneState (S : Setup) (B : TableStart) (w : Moment) (i : ℕ) (m : CallState)
     : Type 0 where
   pub known : knows_state m.place ≡ true → Agrees m.known (numbers_after B w.batches m.seq)
   pub own : OwnCellsAreOfState S (state_after B w.batches m.seq) i m m.place
 
--- A word that the cell c has held, as the history tells it: the current-transaction word names a
--- batch and its owner, a request is open or closes a batch of its caller, a data word is of some
--- state, and a log word of a batch's sequence is of that batch's log.
+-- The cell c may have held this word, by the history: the current-transaction word names a batch
+-- and its owner, a request is open or closes a batch of its caller, a data word is of some state,
+-- and a log word of a batch's sequence is of that batch's log.
 pub record HasHeld (S : Setup) (B : TableStart) (ws : List ℕ) (bs : List Batch) (c v : ℕ)
     : Type 0 where
   pub current : c ≡ 0 → WasHeldByCurrent B ws bs v
@@ -113,12 +113,12 @@ pub record IsSound (S : Setup) (B : TableStart) (w : Moment) : Type 0 where
       (numbers_by_replay S B w.batches k)
   -- each call in a batch was begun by its caller
   pub begun : EachCall B w.batches (WasBegunByCaller S B w)
-  -- no batch is empty, a batch's calls stand by caller, and each caller's tickets rise
+  -- no batch is empty, a batch's calls are ordered by caller, and each caller's tickets rise
   pub some : EachBatch B w.batches (λ cs. 0 < length cs)
   pub rising : EachBatch B w.batches CallersRise
   pub tickets : (j k : ℕ) → B.seq < j → j < k → k ≤ B.seq + length w.batches
       → All (λ c. All (IsNewerCall c) (batch_at B w.batches k).calls) (batch_at B w.batches j).calls
-  -- each caller's calls, in batches and read, stand in the order in which it made them, and no read
+  -- each caller's calls, in batches and read, are in the order in which it made them, and no read
   -- is newer than the durable sequence
   pub order : AreInCallOrder S B w.words w.batches w.reads
   -- recovery of the durable words gives the state after the batches up to the durable sequence
@@ -152,7 +152,7 @@ pub record IsSound (S : Setup) (B : TableStart) (w : Moment) : Type 0 where
   -- no durable word is above its cell's, and each is one that its cell has held
   pub low : (c : ℕ) → c < cell_count S → durable_word S w.words c ≤ get_or w.words c 0
   pub held : (c : ℕ) → c < cell_count S → HasHeld S B w.words w.batches c (durable_word S w.words c)
-  -- each round and each try has used the cells of one state alone
+  -- each round and each try has used the cells of only one state
   pub one : (i : ℕ) → i < S.callers → UsesOneState S B w i (machine_in w i)
   -- each caller has a machine, and no call makes more steps than the bound
   pub members : length w.machines ≡ S.callers

@@ -115,11 +115,11 @@ abbrev pub first_place : (reads : Bool) → Place
 first_place true = TryCurrent
 first_place false = StoreScript 0
 
--- of the calls before it the machine keeps their number alone, and it has the new call's words
+-- of the calls before it the machine keeps only their number, and it has the new call's words
 abbrev pub fresh_call : Setup → CallState → CallState
 fresh_call S m = record (idle_machine S m.caller m.made) { op = m.op }
 
--- it begins anew: of the calls before it the machine keeps their number alone
+-- it begins anew: of the calls before it the machine keeps only their number
 abbrev pub begin_call : Setup → CallState → List ℕ → CallState
 begin_call S m op = record (idle_machine S m.caller m.made) {
   made = m.made + 1;
@@ -135,7 +135,7 @@ flat_entries (e ∷ es) = e.0 ∷ e.1 ∷ flat_entries es
 abbrev pub log_words : List (ℕ × ℕ) → List ℕ
 log_words es = length es ∷ flat_entries es
 
--- the log that such words are
+-- the entries that the words of a log have
 abbrev pub entries_of_words : List ℕ → List (ℕ × ℕ)
 entries_of_words [] = []
 entries_of_words (a ∷ []) = []

@@ -1,4 +1,4 @@
--- The words of the shared table: which stand where, and what they are called.
+-- The words of the shared table: the place of each, and its name.
 use Rattle.std.specs.Prelude.{ℕ, List, [], ◌∷◌, ◌++◌, ◌%◌}
 use Rattle.std.proofs.Common.{get_or, zero, suc}
 use Rattle.of_cell.specs.declared.shape.Shape.{Shape}
@@ -78,7 +78,7 @@ shape_cell S i = shape_at S.instrs i
 abbrev pub reply_cell : Setup → ℕ → ℕ → ℕ
 reply_cell S i j = reply_at S.instrs i j
 
--- where they stand on the table
+-- the places of these cells' words in the table
 abbrev pub ticket_word_at : Setup → ℕ → ℕ
 ticket_word_at S i = data_at S (ticket_cell S i)
 

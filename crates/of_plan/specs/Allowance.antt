@@ -1,4 +1,4 @@
--- How many steps a caller may make, and what a report tells of keeping to it.
+-- How many steps a caller may make, and what a report shows of it.
 use Rattle.std.specs.Prelude.{◌≡◌, ℕ, ◌+◌, ◌*◌, ◌≤◌, ◌<◌, List, length, take, sum_by, IfSome, Option, Some, All, ◌==◌, if◌then◌else◌}
 use Rattle.of_plan.specs.declared.plan.Item.{Item}
 use Rattle.of_plan.specs.declared.plan.Item.TheVariants.{Turns, Evict}

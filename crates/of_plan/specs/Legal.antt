@@ -89,7 +89,7 @@ HasEndState spent answered scripts_left seq limit = (answered < scripts_left) ×
 abbrev pub LineIsWithinBound : Plan → Line → Type 0
 LineIsWithinBound p l = (l.longest ≤ bound_of p) × (l.answered ≡ 0 → l.longest ≡ 0)
 
--- one history of the plan's scripts from the start, as the report tells it
+-- the report is one history of the plan's scripts from the start
 pub record IsLegal (p : Plan) (s : Start) (r : Report) : Type 0 where
   pub in_order : StandInOrder p s r
   pub open_calls : CountOpenCalls p r
