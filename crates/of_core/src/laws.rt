@@ -16,6 +16,8 @@ ghost use Rattle.of_core.specs.Written.{LogsAreWrites, OwnersTakePart, CellsRise
 ghost use Rattle.of_core.specs.Needed.{LoadsNeeded, CopiesOpenLogs};
 ghost use Rattle.of_core.specs.SpentRound.{SpentInRounds};
 ghost use Rattle.of_core.specs.Grounds.{GoodGrounds};
+ghost use Rattle.of_core.specs.Losses.{LossesKeepInvariant, LossesLeaveSound, LostCallsNeverRun};
+ghost use Rattle.of_core.specs.Revived.{RevivalsKeepCore, RevivalsKeepInvariant, OpenCallsCountReads, RevivalsMissNoCall, RevivalsKeepOthers, StepsLeaveRevivable, RaisesLeaveRevivable};
 ghost use Rattle.of_core.specs.Raised.{RaisesHeld, RaisesAreShort, EvictionsAreShort, CellsLevel};
 ghost use Rattle.of_core.specs.Raised.{RaisesUndisturbed, EvictionsUndisturbed, RaisesStand};
 ghost use Rattle.of_core.specs.Laws.{FirstWordsHoldStart, FirstMachinesAreIdle, ZerosMayStart};
@@ -59,6 +61,43 @@ pub fn step_kept<W: Work>(limit: u32, work: W)
     ensures sound { InvariantIsSound
         (setup_for W.many W.size W.meaning limit work) (W.lawful work) }
     ensures grounds { GoodGrounds (setup_for W.many W.size W.meaning limit work) (W.lawful work) }
+{}
+
+/// A caller's machine may be lost, with the process or the thread that had it. A new one takes its
+/// place, if the words say that the caller has nothing under way: no log and no request of a
+/// transaction that isn't committed, no open transaction, and a request that is durable. Words,
+/// history and machines then stand in the invariant, if the new machine counts on behind the reads
+/// that its caller was answered; below the limit an announced call that is open does so by itself.
+/// What lets a machine be replaced stays so until its caller makes a step.
+pub fn taken_over_stands<W: Work>(limit: u32, work: W)
+    ensures core { RevivalsKeepCore
+        (setup_for W.many W.size W.meaning limit work) (W.lawful work) }
+    ensures kept { RevivalsKeepInvariant
+        (setup_for W.many W.size W.meaning limit work) (W.lawful work) }
+    ensures newest { OpenCallsCountReads
+        (setup_for W.many W.size W.meaning limit work) (W.lawful work) }
+    ensures ran { RevivalsMissNoCall
+        (setup_for W.many W.size W.meaning limit work) (W.lawful work) }
+    ensures others { RevivalsKeepOthers
+        (setup_for W.many W.size W.meaning limit work) (W.lawful work) }
+    ensures steps { StepsLeaveRevivable
+        (setup_for W.many W.size W.meaning limit work) (W.lawful work) }
+    ensures raises { RaisesLeaveRevivable
+        (setup_for W.many W.size W.meaning limit work) (W.lawful work) }
+{}
+
+/// Schedules in which machines are lost and replaced, each at any moment at which the words let
+/// another take its place, any number of times. Each keeps the invariant. From every start each
+/// leaves a moment with a legal history, of which recovery gives the state that its durable words
+/// name. A batch has only calls that its callers' present machines have open: what a lost machine
+/// had begun and not announced is never run.
+pub fn taken_over_moments<W: Work>(limit: u32, work: W)
+    ensures kept { LossesKeepInvariant
+        (setup_for W.many W.size W.meaning limit work) (W.lawful work) }
+    ensures sound { LossesLeaveSound
+        (setup_for W.many W.size W.meaning limit work) (W.lawful work) }
+    ensures never { LostCallsNeverRun
+        (setup_for W.many W.size W.meaning limit work) (W.lawful work) }
 {}
 
 /// The calls of one caller, from a start on: a step ends its caller's open call or none, a begin
