@@ -199,7 +199,7 @@ module _ {S : Setup} {Lawful : List ℕ → Type 0} {B : TableStart} where
     in_row : ticket_cell S i < S.cells
     in_row = row_in g h (ticket_cell S i) (omega arith, omega arith)
 
-    -- the ticket cell is of the state of the last batch, or it is behind an open one
+    -- the ticket cell is of the state of the last batch, or of the one before an open batch that has not reached it
     shown : (cell ≡ data_word_after B w.batches n (ticket_cell S i)) ⊎ (IsLastOpen B w.words × (payload_of cell ≡ last (n - 1)) × (seq_of cell < n))
     shown = go (g.shared.data_cells.each (ticket_cell S i) in_row)
       where
@@ -225,7 +225,7 @@ module _ {S : Setup} {Lawful : List ℕ → Type 0} {B : TableStart} where
     reached : last n ≤ max (last B.seq) a
     reached = g.shared.heard.reached i h
 
-    -- where the open transaction has a call of the caller that its ticket cell doesn't show, the lost machine has announced that call, and has not ended it
+    -- if the open transaction has a call of the caller that its ticket cell doesn't show, the lost machine has announced that call, and has not ended it
     module _ (o : IsLastOpen B w.words) (missed : last (n - 1) < last n) (stale : seq_of cell < n) where
       unsettled : HasSettledCells S B w.words w.batches i → ⊥
       unsettled s = go (s o)
@@ -328,7 +328,7 @@ module _ {S : Setup} {Lawful : List ℕ → Type 0} {B : TableStart} where
           let e : k ≡ length m.op = ap payload_of p.says ∙ pay_word m.made (length m.op) (omega (arith, p.words, g.shared.narrow)) in
           sym p.script ∙ ap (script_words_of S w.words i) (sym e) ∙ sym op_is
 
-      -- a batch that has the call has it with the words that stand there
+      -- a batch that has the call has it with the words that are announced
       one_op : (s : ℕ) → B.seq < s → s ≤ n → All (λ (c : Call). c.caller ≡ i → c.ticket ≡ a → c.op ≡ d.op) (batch_at B w.batches s).calls
       one_op s l u y e z q t =
           let c : Call = get_or (batch_at B w.batches s).calls y e in
@@ -373,7 +373,7 @@ module _ {S : Setup} {Lawful : List ℕ → Type 0} {B : TableStart} where
       top : last n ≤ payload_of cell
       top = omega (arith, reached, low)
 
-      -- the last call, where it is in the last batch, stands in its cell
+      -- if the last call is in the last batch, its cell shows it
       newest : last (n - 1) < last n → B.seq < n → IsNewestCall S B w.batches n i → n ≤ seq_of (data_word_after B w.batches n (ticket_cell S i))
       newest l after c = go (cases_lt c.number n)
         where
@@ -437,7 +437,7 @@ module _ {S : Setup} {Lawful : List ℕ → Type 0} {B : TableStart} where
     late_if made true e = open_late made (is_newer (payload_of cell) a e)
     late_if made false e = idle_late S i (max made (payload_of cell))
 
-    -- what is announced has run where the machine is idle, and no open transaction hides that it has
+    -- what is announced has run if the new machine is idle, and has not run if it isn't and no transaction is open
     pub has_run : announces_open_call (remains_of S w.words i) ≡ false → a ≤ last n
     has_run e = omega (arith, high, not_newer (payload_of cell) a e)
 

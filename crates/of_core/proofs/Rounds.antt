@@ -78,7 +78,7 @@ module _ {S : Setup} {Lawful : List ℕ → Type 0} {B : TableStart} where
     pub grows_to : (s : ℕ) → B.seq ≤ s → s ≤ committed_seq w.words → last_ticket_by S B w.batches s i ≤ last_ticket_by S B w.batches (committed_seq w.words) i
     grows_to s l u = tickets_grow S Lawful B w.batches g.shared.stands s (committed_seq w.words) i l u (omega (arith, n_is)) h
 
-    -- a caller without a call behind s, whose transaction isn't open, has none that is being applied
+    -- if the caller has no call after s, and s isn't the open transaction, none of its calls is being applied
     pub settled_by : (s : ℕ) → B.seq ≤ s → s ≤ committed_seq w.words → last_ticket_by S B w.batches (committed_seq w.words) i ≤ last_ticket_by S B w.batches s i → (s ≡ committed_seq w.words → IsLastOpen B w.words → ⊥) → HasSettledCells S B w.words w.batches i
     settled_by s l u t closed o = go (cases_lt s (committed_seq w.words))
       where
@@ -86,7 +86,7 @@ module _ {S : Setup} {Lawful : List ℕ → Type 0} {B : TableStart} where
         go (inl v) = inl (omega (arith, t, tickets_grow S Lawful B w.batches g.shared.stands s (committed_seq w.words - 1) i l (omega arith) (omega (arith, n_is)) h))
         go (inr v) = absurd (closed (omega arith) o)
 
-    -- what a round knows past its look at the request
+    -- what a round knows after its look at the request
     pub not_open_at : (s : ℕ) → (s ≡ committed_seq w.words → B.seq < s → pack s 0 < request_of w.words (committed_owner w.words)) → s ≡ committed_seq w.words → IsLastOpen B w.words → ⊥
     not_open_at s quiet e o = omega (arith, quiet e (omega (arith, o.any)), o.asks, ap (λ (k : ℕ). pack k 0) e)
 

@@ -11,8 +11,8 @@ use Rattle.of_core.specs.Laws.{EachStart, IsOpenCall}
 use Rattle.of_core.specs.Remains.{remains_of, MayRevive, after_revival}
 use Rattle.of_core.specs.Revived.{CountsReads}
 
--- what may happen to a table: an event, or that a new machine takes the place of caller i's, with
--- so many calls begun before
+-- what may happen to a table: an event, or a new machine takes the place of caller i's and is given
+-- the number of calls that it has begun
 pub data Occurrence : Type 0 where
   Happens : Event → Occurrence
   Revives : ℕ → (made : ℕ) → Occurrence
@@ -22,8 +22,8 @@ abbrev pub after_occurrence : Setup → Moment → Occurrence → Moment
 after_occurrence S w (Happens e) = after_event S w e
 after_occurrence S w (Revives i made) = after_revival S i made w
 
--- when it may happen: a machine may be replaced wherever it is, if the words let another take its
--- place, and if the new one's count has its caller's reads behind it
+-- when it may happen: a machine may be replaced wherever it is, if its caller has nothing under way
+-- and the number is large enough for its answered reads
 abbrev pub MayOccur : Setup → Moment → Occurrence → Type 0
 MayOccur S w (Happens e) = MayHappen S w e
 MayOccur S w (Revives i made) =
@@ -53,14 +53,14 @@ LossesKeepInvariant S Lawful =
     → (cs : List Occurrence) → IsScheduleWithLosses S w cs
     → MeetsInvariant S Lawful B (after_occurrences S w cs)
 
--- every moment that one leaves has what each moment claims
+-- from each start it leaves a moment that meets the invariant and is sound
 abbrev pub LossesLeaveSound : Setup → (List ℕ → Type 0) → Type 0
 LossesLeaveSound S Lawful = EachScheduleWithLosses S Lawful (λ B n cs.
     MeetsInvariant S Lawful B (after_occurrences S (opening_moment S B n) cs)
     × IsSound S B (after_occurrences S (opening_moment S B n) cs))
 
--- and a call that is committed next is the open one of its caller's present machine: what a lost
--- one had begun and not announced is never run
+-- and each call that the next event commits is the open call of its caller's present machine: a
+-- call that a lost machine had begun and not announced is never run
 abbrev pub LostCallsNeverRun : Setup → (List ℕ → Type 0) → Type 0
 LostCallsNeverRun S Lawful = EachScheduleWithLosses S Lawful (λ B n cs.
     let w : Moment = after_occurrences S (opening_moment S B n) cs in

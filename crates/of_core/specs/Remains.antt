@@ -1,5 +1,5 @@
--- What the words of a table tell of a caller whose machine is lost: when a new machine may take its
--- place, and which one.
+-- What a table's words say about a caller whose machine is lost: when a new machine may take its
+-- place, and how that one begins.
 use Rattle.std.specs.Prelude.{ℕ, ◌+◌, max, nat_lt, List, Bool, true, false, ◌≡◌, ◌≤◌, ◌<◌}
 use Rattle.std.proofs.Common.{set, take}
 use Rattle.of_cell.specs.Words.{pack, seq_of, payload_of}
@@ -9,7 +9,7 @@ use Rattle.of_core.specs.Table.{Setup, ticket_cell, current_word, request_of, du
 use Rattle.of_core.specs.Machine.{CallState, idle_machine}
 use Rattle.of_core.specs.TableMoment.{Moment}
 
--- the words of a table that tell of caller i
+-- the words from which a new machine for caller i is made
 abbrev pub remains_of : Setup → List ℕ → ℕ → Remains
 remains_of S ws i = record {
   current = current_word ws;
@@ -26,24 +26,24 @@ abbrev pub IsOwnOpen : Remains → ℕ → Type 0
 IsOwnOpen r i = (payload_of r.current ≡ i) × (0 < seq_of r.current)
     × (r.request ≡ pack (seq_of r.current) 0)
 
--- a new machine may take the place of caller i's: it has nothing under way
+-- caller i has nothing under way, so a new machine may take the place of its lost one
 pub record MayRevive (r : Remains) (i : ℕ) : Type 0 where
-  -- no log of a transaction that isn't committed, not even a part of one
+  -- its log, whole or in part, is not of a transaction that isn't committed
   pub log : seq_of r.log ≤ seq_of r.current
-  -- no request for one
+  -- nor is its request
   pub request : seq_of r.request ≤ seq_of r.current
-  -- no open transaction
+  -- it has no open transaction
   pub closed : IsOwnOpen r i → ⊥
   -- and its request is durable
   pub durable : r.durable ≡ r.request
 
--- whether the announced call has not run, as far as the ticket cell tells
+-- whether the announced call is newer than the one in the ticket cell, so that it may not have run
 abbrev pub announces_open_call : Remains → Bool
 announces_open_call r = nat_lt (payload_of r.ticket) (seq_of r.announcement)
 
--- The new machine of caller i, for one that has begun `made` calls or more. An announced call that
--- has not run is open, between two rounds, of which it has made none; it has made the stores of its
--- words and of its announcement. Else the machine is idle.
+-- The new machine of caller i. If the announced call is open, it goes on with that: it is about to
+-- begin the first round, and has made a step for each script word and one for the announcement.
+-- Otherwise it is idle, and has begun `made` calls, or those of the ticket cell if these are more.
 abbrev pub revived_if : Setup → Remains → (i made : ℕ) → (announced : Bool) → CallState
 revived_if S r i made true = record (idle_machine S i (seq_of r.announcement)) {
   op = take (payload_of r.announcement) r.script;
@@ -52,6 +52,7 @@ revived_if S r i made true = record (idle_machine S i (seq_of r.announcement)) {
 }
 revived_if S r i made false = idle_machine S i (max made (payload_of r.ticket))
 
+-- the new machine, by what the words say
 abbrev pub revived_machine : Setup → Remains → (i made : ℕ) → CallState
 revived_machine S r i made = revived_if S r i made (announces_open_call r)
 

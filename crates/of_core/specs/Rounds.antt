@@ -50,8 +50,8 @@ module _ (S : Setup) (B : TableStart) (ws : List ℕ) (bs : List Batch) where
       (seq_of (announcement_of S ws i) ≤ last_ticket_by S B bs (committed_seq ws) i)
       ⊎ (committed_seq ws ≡ S.limit)
 
-  -- caller i's ticket cell shows its last call: while the last transaction is open, it has no call
-  -- of the caller, or has reached that cell
+  -- if the last transaction is open, it has no call of caller i, or the ticket cell of the caller
+  -- shows its call already
   abbrev pub HasSettledCells : ℕ → Type 0
   HasSettledCells i = IsLastOpen B ws
       → (last_ticket_by S B bs (committed_seq ws) i
@@ -69,7 +69,7 @@ module _ (S : Setup) (B : TableStart) (ws : List ℕ) (bs : List Batch) where
     pub above : last_ticket_by S B bs (committed_seq ws) i < m.made
     -- nothing of the caller that is announced is to be run
     pub quieted : AnnouncesNothingNew i
-    -- and its last call has been applied
+    -- and its ticket cell shows its last call
     pub settled : HasSettledCells i
     -- and what is announced is older
     pub newer : seq_of (announcement_of S ws i) < m.made

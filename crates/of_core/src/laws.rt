@@ -63,12 +63,13 @@ pub fn step_kept<W: Work>(limit: u32, work: W)
     ensures grounds { GoodGrounds (setup_for W.many W.size W.meaning limit work) (W.lawful work) }
 {}
 
-/// A caller's machine may be lost, with the process or the thread that had it. A new one takes its
-/// place, if the words say that the caller has nothing under way: no log and no request of a
-/// transaction that isn't committed, no open transaction, and a request that is durable. Words,
-/// history and machines then stand in the invariant, if the new machine counts on behind the reads
-/// that its caller was answered; below the limit an announced call that is open does so by itself.
-/// What lets a machine be replaced stays so until its caller makes a step.
+/// A caller's machine may be lost, with the thread or the process that had it. A new machine may
+/// take its place if the words say that the caller has nothing under way: no log and no request of
+/// a transaction that isn't committed, no open transaction, and a durable request. This keeps the
+/// invariant, if the new machine's number of calls is large enough for the reads that its caller
+/// was answered; below the limit it is, if the new machine goes on with the announced call. No
+/// other caller's calls change. A machine that may be replaced still may be until its caller makes
+/// a step.
 pub fn taken_over_stands<W: Work>(limit: u32, work: W)
     ensures core { RevivalsKeepCore
         (setup_for W.many W.size W.meaning limit work) (W.lawful work) }
@@ -86,10 +87,10 @@ pub fn taken_over_stands<W: Work>(limit: u32, work: W)
         (setup_for W.many W.size W.meaning limit work) (W.lawful work) }
 {}
 
-/// Schedules in which machines are lost and replaced, each at any moment at which the words let
-/// another take its place, any number of times. Each keeps the invariant. From every start each
-/// leaves a moment with a legal history, of which recovery gives the state that its durable words
-/// name. A batch has only calls that its callers' present machines have open: what a lost machine
+/// Schedules in which machines are lost and replaced, any number of times, each at any moment at
+/// which its words allow it. Each such schedule keeps the invariant. From every start it leaves a
+/// moment with a legal history, of which recovery gives the state that its durable words name. A
+/// batch has only calls that its callers' present machines have open: a call that a lost machine
 /// had begun and not announced is never run.
 pub fn taken_over_moments<W: Work>(limit: u32, work: W)
     ensures kept { LossesKeepInvariant

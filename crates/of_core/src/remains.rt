@@ -1,4 +1,4 @@
-//! What is left on a table of a caller whose machine is lost.
+//! What a table's words say about a caller whose machine is lost.
 
 ghost use Rattle.std.specs.Prelude.{◌≡◌, ◌≢◌, ◌<◌, None, Some};
 ghost use Rattle.of_cell.specs.Words.{seq_of};
@@ -8,41 +8,43 @@ ghost use Rattle.of_core.specs.declared.remains.NotYet.TheVariants.{LogAhead, Re
 use of_cell::{pack, payload_of, seq_of};
 use of_mem::MOST_INSTRS;
 
-/// The words of a table that tell of one caller. A caller that makes no step changes none of them
-/// but its request, which others close, and its ticket cell, which others write.
+/// The words of a table from which a new machine for one caller is made.
 #[derive(Clone, Copy)]
 pub struct Remains {
     /// The current-transaction word.
     pub current: u64,
-    /// The caller's request, and the durable word of it.
+    /// The caller's request.
     pub request: u64,
+    /// The durable word of its request.
     pub durable: u64,
     /// The first word of its log, which is stored before the others.
     pub log: u64,
+    /// Its announcement.
     pub announcement: u64,
     /// Its ticket cell.
     pub ticket: u64,
+    /// Its script words.
     pub script: [u64; MOST_INSTRS],
 }
 
-/// Why no machine can take the place of a caller's yet.
+/// Why no new machine may take a caller's place yet.
 #[derive(Clone, Copy)]
 pub enum NotYet {
-    /// Its log is of a transaction that isn't committed, and perhaps not whole. The next commit of
-    /// any caller changes that.
+    /// Its log is of a transaction that isn't committed, and may be half written. The next commit
+    /// of any caller ends this.
     LogAhead,
-    /// Its request is for a transaction that isn't committed. An exchange of the
-    /// current-transaction word changes that, won or lost.
+    /// Its request is for a transaction that isn't committed. The next commit of any caller ends
+    /// this, and so does the exchange that the lost machine was about to make.
     RequestAhead,
-    /// Its transaction is open. A caller that begins a round helps with it.
+    /// Its transaction is open. The next caller that begins a round finishes it first.
     TransactionOpen,
-    /// The durable word of its request is behind. An eviction of the request changes that.
+    /// Its request is not durable. An eviction of the request makes it so.
     RequestNotDurable,
 }
 
 impl Remains {
-    /// Why no machine can take the place of the caller's yet; none, if one can. What it looks at
-    /// stays so while the caller makes no step, so the words may be loaded one after the other.
+    /// Why no new machine may take the caller's place yet; none, if one may. Once one may, that
+    /// stays so until the caller makes a step.
     pub fn hindrance(&self, caller: u32) -> Option<NotYet>
         ensures may { result ≡ None → MayRevive self.now caller }
         ensures must { MayRevive self.now caller → result ≡ None }

@@ -1,4 +1,4 @@
-//! How a machine is made in the place of one that is lost.
+//! How a new machine takes the place of a lost one.
 
 ghost use Rattle.std.specs.Prelude.{◌≡◌, ◌<◌, ◌≤◌, ◌+◌, IfOk};
 ghost use Rattle.std.proofs.Common.{take};
@@ -16,10 +16,10 @@ use of_mem::{MOST_INSTRS, Work};
 use std::alloc::{AllocError, Global};
 
 impl<W: Work> Machine<W> {
-    /// The machine that takes the place of a caller's lost one, from the words that are left of it.
-    /// If its announced call has not run, that call is open, at the beginning of a round; the steps
-    /// by which it was announced count. Else the machine is idle, with `made` calls begun before,
-    /// or as many as the ticket cell tells if these are more. The error is that there is no memory.
+    /// A new machine for a caller whose machine is lost, from what the table's words say about it.
+    /// An announced call that has not run goes on: it is open, at the beginning of a round, and the
+    /// stores that announced it count as its steps. Otherwise the machine is idle, and has begun
+    /// `made` calls, or the number in its ticket cell if that is greater.
     pub fn revive(
         alloc: Global,
         shape: Shape,
@@ -53,7 +53,7 @@ impl<W: Work> Machine<W> {
         Machine::new(alloc, shape, limit, caller, made.max(last), work)
     }
 
-    /// Opens the announced call, at the beginning of a round.
+    /// Goes on with the announced call, at the beginning of a round.
     fn go_on(&mut self, remains: &Remains)
         requires idle { self.old.call.place ≡ Place.Idle }
         requires words { payload_of remains.now.announcement ≤ MOST_INSTRS }
