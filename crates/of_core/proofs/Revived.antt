@@ -1,18 +1,16 @@
 -- A new machine takes the place of one that is lost: what it relies on holds of the words, and of what the lost one relied on.
-use Rattle.std.proofs.Common.{◌≡◌, ℕ, zero, suc, ◌+◌, ◌-◌, ◌*◌, ◌<◌, ◌≤◌, ◌⊎◌, inl, inr, List, [], ◌∷◌, ◌++◌, length, get_or, set, take, max, refl, sym, ◌∙◌, ap, subst, arith, length-append, Bool, true, false, nat_lt}
+use Rattle.std.proofs.Common.{◌≡◌, ℕ, zero, suc, ◌+◌, ◌-◌, ◌*◌, ◌<◌, ◌≤◌, ◌⊎◌, inl, inr, List, [], ◌∷◌, length, get_or, set, take, max, refl, sym, ◌∙◌, ap, subst, arith, length-append, Bool, true, false, nat_lt}
 use Rattle.std.specs.List.{All}
 use Rattle.std.proofs.lemmas.Bool.{cases_eq, cases_lt, cases_order}
-use Rattle.std.proofs.lemmas.Bool.Decides.{nat_tests}
 use Rattle.std.proofs.lemmas.List.{get_or-set_same, get_or-set_other, get_or_default, take-append-le, take_all}
 use Rattle.std.proofs.Math.Nat.{mul_comm}
 use Rattle.of_cell.specs.Words.{pack, seq_of, payload_of}
 use Rattle.of_cell.proofs.Order.{seq_word, pay_word, pay_small, seq_mono, seq_from, seq_zero, word_eta}
-use Rattle.of_cell.proofs.Places.{row_within}
 use Rattle.of_core.specs.declared.place.Place.{Place}
 use Rattle.of_core.specs.declared.place.Place.TheVariants.{Idle, TryCurrent, TryRequest, TryCell, StoreScript, StoreAnnouncement, LoadCurrent, LoadRequest, CopyLog, LookAgain, LoadOwnTicket, LoadShape, LoadReply, LoadAnnouncement, LoadTicket, LoadScript, LoadCell, RaiseOld, StoreLog, RaiseLog, StoreRequest, RaiseRequest, ExchangeCurrent, RaiseCurrent, LoadTarget, ExchangeTarget, ReloadTarget, RaiseTarget, CloseRequest, RaiseClosed}
-use Rattle.of_core.specs.Table.{most_entries, Setup, ticket_cell, request_at, log_at, current_word, request_of, data_word, log_word_of, durable_word, durable_request, script_word, script_words_of, announcement_of, committed_seq, committed_owner}
-use Rattle.of_core.specs.Machine.{Call, no_call, CallState, IsOpen, is_idle, no_machine, log_words}
-use Rattle.of_core.specs.TableMoment.{Moment, TableStart, Batch, Read}
+use Rattle.of_core.specs.Table.{most_entries, Setup, ticket_cell, request_at, current_word, request_of, data_word, log_word_of, durable_request, script_word, script_words_of, announcement_of, committed_seq, committed_owner}
+use Rattle.of_core.specs.Machine.{Call, no_call, CallState, IsOpen, no_machine, log_words}
+use Rattle.of_core.specs.TableMoment.{Moment, TableStart, Batch}
 use Rattle.of_core.specs.History.{batch_at, data_word_after, last_ticket_by, HasNoCallBetween, IsCellOfCaller, IsNewestCall}
 use Rattle.of_core.specs.WordsMatch.{WordsMatchHistory, IsLastOpen}
 use Rattle.of_core.specs.Rounds.{IsAnnounced, MayHelp, HasSettledCells, HasNothingUnderWay}
@@ -41,11 +39,11 @@ said_length S ws i (suc n) = length-append (script_words_of S ws i n) (script_wo
 -- the first words of a script that is read as far as n
 said_front : (S : Setup) (ws : List ℕ) (i k n : ℕ) → k ≤ n → take k (script_words_of S ws i n) ≡ script_words_of S ws i k
 said_front S ws i k zero l = let e : k ≡ 0 = omega arith in rw e refl
-said_front S ws i k (suc n) l = go (cases_lt n k)
+said_front S ws i k (suc n) l = go (cases_lt n k) (said_front S ws i k n)
   where
-    go : (n < k) ⊎ (k ≤ n) → take k (script_words_of S ws i (suc n)) ≡ script_words_of S ws i k
-    go (inl u) = let e : k ≡ suc n = omega arith in rw e (take_all (suc n) (script_words_of S ws i (suc n)) (omega (arith, said_length S ws i (suc n))))
-    go (inr u) = take-append-le k (script_words_of S ws i n) (script_word S ws i n ∷ []) (omega (arith, said_length S ws i n)) ∙ said_front S ws i k n u
+    go : (n < k) ⊎ (k ≤ n) → (k ≤ n → take k (script_words_of S ws i n) ≡ script_words_of S ws i k) → take k (script_words_of S ws i (suc n)) ≡ script_words_of S ws i k
+    go (inl u) front = let e : k ≡ suc n = omega arith in rw e (take_all (suc n) (script_words_of S ws i (suc n)) (omega (arith, said_length S ws i (suc n))))
+    go (inr u) front = take-append-le k (script_words_of S ws i n) (script_word S ws i n ∷ []) (omega (arith, said_length S ws i n)) ∙ front u
 
 -- the steps that its announcement has taken, and all that are left in three rounds
 rounds_within : (k i m p : ℕ) → k ≤ i → k + 1 + ((3 - 0) * (11 * m + p + 13) + (4 * m + 3)) ≤ i + 1 + 3 * (15 * m + p + 15) + 4 * (7 * m + 7)
@@ -60,8 +58,8 @@ module _ {S : Setup} {Lawful : List ℕ → Type 0} {B : TableStart} where
     asked : seq_of (request_of ws j) ≤ committed_seq ws
     asked = may.request
 
-    logged : seq_of (log_word_of S ws j 0) ≤ committed_seq ws
-    logged = may.log
+    was_logged : seq_of (log_word_of S ws j 0) ≤ committed_seq ws
+    was_logged = may.log
 
     level : durable_request S ws j ≡ request_of ws j
     level = may.durable
@@ -73,9 +71,9 @@ module _ {S : Setup} {Lawful : List ℕ → Type 0} {B : TableStart} where
         go (inl q) = q
         go (inr q) = absurd (may.closed (shared.counted.owner q.0 ∙ q.1, omega (arith, q.0), q.2))
 
-    shut : (committed_seq ws < committed_seq vs) ⊎ (committed_seq vs ≤ committed_seq ws) → IsOwnOpen (remains_of S vs j) j → ⊥
-    shut (inl new) o = omega (arith, asked, ap seq_of stays, ap seq_of o.2, seq_word (committed_seq vs) 0 (omega arith))
-    shut (inr past) o =
+    still_shut : (committed_seq ws < committed_seq vs) ⊎ (committed_seq vs ≤ committed_seq ws) → IsOwnOpen (remains_of S vs j) j → ⊥
+    still_shut (inl new) o = omega (arith, asked, ap seq_of stays, ap seq_of o.2, seq_word (committed_seq vs) 0 (omega arith))
+    still_shut (inr past) o =
         let e : committed_seq vs ≡ committed_seq ws = omega (arith, grows) in
         may.closed (sym (v.same e) ∙ o.0, omega (arith, o.1, e), sym stays ∙ o.2 ∙ ap (λ (s : ℕ). pack s 0) e)
 
@@ -83,13 +81,13 @@ module _ {S : Setup} {Lawful : List ℕ → Type 0} {B : TableStart} where
     risen = omega (arith, stays, level, v.durs (request_at j) (omega arith), v.low (request_at j) (omega arith))
 
     old_log : seq_of (log_word_of S vs j 0) ≤ committed_seq vs
-    old_log = omega (arith, logged, grows, ap seq_of (v.logs j member other 0 (omega arith)))
+    old_log = omega (arith, was_logged, grows, ap seq_of (v.logs j member other 0 (omega arith)))
 
     old_request : seq_of (request_of vs j) ≤ committed_seq vs
     old_request = omega (arith, asked, grows, ap seq_of stays)
 
     pub leaves : MayRevive (remains_of S vs j) j
-    leaves = record { log = old_log; request = old_request; closed = shut (cases_lt (committed_seq ws) (committed_seq vs)); durable = risen }
+    leaves = record { log = old_log; request = old_request; closed = still_shut (cases_lt (committed_seq ws) (committed_seq vs)); durable = risen }
 
   -- the machine of caller i is lost, and its words let another take its place
   module _ {w : Moment} (g : MeetsCore S Lawful B w) (i : ℕ) (h : i < S.callers) (may : MayRevive (remains_of S w.words i) i) where

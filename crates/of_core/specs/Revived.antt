@@ -1,5 +1,5 @@
 -- The laws of new machines that take the places of lost ones.
-use Rattle.std.specs.Prelude.{ℕ, List, Bool, true, false, ◌≡◌, ◌≤◌, ◌<◌}
+use Rattle.std.specs.Prelude.{ℕ, List, true, false, ◌≡◌, ◌≤◌, ◌<◌}
 use Rattle.std.specs.List.{All}
 use Rattle.of_cell.specs.Words.{seq_of}
 use Rattle.of_core.specs.Table.{Setup, announcement_of, committed_seq}

@@ -1,4 +1,4 @@
-use Rattle.std.proofs.Common.{arith, refl, sym}
+use Rattle.std.proofs.Common.{◌+◌, arith, refl, sym}
 use Rattle.std.proofs.lemmas.List.{get_or-set_other}
 use Rattle.of_core.proofs.laws.taken_over_stands.Goals as goal
 use Rattle.of_core.specs.Machine.{no_machine}
