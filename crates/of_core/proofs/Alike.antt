@@ -66,7 +66,7 @@ module _ {S : Setup} {B : TableStart} {ws : List ℕ} {bs : List Batch} {i : ℕ
     scanning_as p past b o c r cs l s = record { past = past; calm = rw c p.calm; scan = rw (c, b, o, r, cs, l, s) p.scan; in_range = rw s p.in_range }
 
     pub fresh_as : IsUnannounced S B ws bs i n → q.caller ≡ n.caller → q.made ≡ n.made → q.op ≡ n.op → q.kept ≡ n.kept → q.rounds ≡ n.rounds → IsUnannounced S B ws bs i q
-    fresh_as p a b o x r = record { caller = a ∙ p.caller; ticket = rw b p.ticket; words = rw o p.words; some = rw o p.some; kept = rw x p.kept; above = rw b p.above; quieted = p.quieted; newer = rw b p.newer; rounds = r ∙ p.rounds }
+    fresh_as p a b o x r = record { caller = a ∙ p.caller; ticket = rw b p.ticket; words = rw o p.words; some = rw o p.some; kept = rw x p.kept; above = rw b p.above; quieted = p.quieted; settled = p.settled; newer = rw b p.newer; rounds = r ∙ p.rounds }
 
     pub trying_as : IsInTry S B ws bs i n → q.caller ≡ n.caller → q.made ≡ n.made → q.op ≡ n.op → q.kept ≡ n.kept → q.rounds ≡ n.rounds → q.tries ≡ n.tries → IsInTry S B ws bs i q
     trying_as p a b o x r t = record { fresh = fresh_as p.fresh a b o x r; reads = rw o p.reads; few = rw t p.few }

@@ -1,12 +1,12 @@
 -- What the invariant says of the word that a wanted step finds, as far as the code needs it.
 use Rattle.std.proofs.Common.{◌≡◌, ℕ, suc, ◌+◌, ◌<◌, ◌≤◌, ◌==◌, inl, inr, List, [], ◌∷◌, length, None, Bool, true, false, get_or, refl, sym, ◌∙◌, subst, arith}
-use Rattle.std.proofs.lemmas.List.{length-map, take_all}
+use Rattle.std.proofs.lemmas.List.{take_all}
 use Rattle.std.proofs.lemmas.Bool.Decides.{nat_tests}
 use Rattle.of_cell.specs.declared.shape.TheConstants.{MOST_CALLERS, MOST_DATA_CELLS}
 use Rattle.of_core.specs.declared.machine.trying.TheConstants.{MOST_TRIES}
 use Rattle.of_cell.specs.Words.{pack, seq_of, payload_of}
 use Rattle.of_cell.proofs.Places.{row_within}
-use Rattle.of_mem.specs.Meaning.{Meaning, IsSoundMeaning, Agrees, with_writes_in}
+use Rattle.of_mem.specs.Meaning.{Meaning, IsSoundMeaning, Agrees}
 use Rattle.of_mem.specs.CellMap.{value_for}
 use Rattle.of_mem.specs.Part.{overlaid}
 use Rattle.of_core.specs.declared.place.Place.{Place}
@@ -14,17 +14,14 @@ use Rattle.of_core.specs.declared.place.Place.TheVariants.{RaiseLog, TryCurrent,
 use Rattle.of_core.specs.Table.{most_entries, Setup, setup_of, first_operation_cell, ticket_cell, data_word}
 use Rattle.of_core.specs.Machine.{CallState, no_call, log_words, with_cell_known}
 use Rattle.of_core.specs.Steps.{want, want_at, with_log_word_copied, IsFoundBy}
-use Rattle.of_core.specs.History.{state_after, batch_at, numbers_after}
+use Rattle.of_core.specs.History.{batch_at}
 use Rattle.of_core.specs.WordsMatch.{IsLog}
-use Rattle.of_core.specs.Rounds.{MayHelp, IsPastOwnTicket}
+use Rattle.of_core.specs.Rounds.{MayHelp}
 use Rattle.of_core.specs.Scan.{IsInScan}
 use Rattle.of_core.specs.Transaction.{AppliesAs}
 use Rattle.of_core.specs.Invariant.{HoldsAtPlace}
 use Rattle.of_core.specs.Meets.{MayTake}
-use Rattle.of_core.proofs.States.{state_length}
-use Rattle.of_core.proofs.Assembling.{logs_of}
-use Rattle.of_core.proofs.Overlays.{left_lawful, left_agrees, left_length}
-use Rattle.of_core.proofs.Rounds.{at_risen, learn_past, watch_more}
+use Rattle.of_core.proofs.Rounds.{learn_past, watch_more}
 use Rattle.of_core.proofs.Helping.{copied_count}
 use Rattle.of_core.proofs.KnownStates.{try_state, scan_state}
 

@@ -8,7 +8,7 @@ use Rattle.of_cell.specs.Words.{pack, seq_of, payload_of}
 use Rattle.of_cell.proofs.Order.{seq_word, pay_word}
 use Rattle.of_cell.proofs.Places.{row_within}
 use Rattle.of_core.specs.declared.place.Place.TheVariants.{StoreScript, StoreAnnouncement}
-use Rattle.of_core.specs.Table.{most_entries, Setup, cell_count, durable_at, request_at, log_at, script_word_at, script_words_of, script_word, announcement_of, current_word, request_of, data_word, log_word_of, durable_word, committed_seq}
+use Rattle.of_core.specs.Table.{most_entries, Setup, ticket_cell, cell_count, durable_at, request_at, log_at, script_word_at, script_words_of, script_word, announcement_of, current_word, request_of, data_word, log_word_of, durable_word, committed_seq, committed_owner}
 use Rattle.of_core.specs.Machine.{CallState, Call}
 use Rattle.of_core.specs.Steps.{after_store_script, take_word_at}
 use Rattle.of_core.specs.TableMoment.{Read, Moment, TableStart, after_counted_step}
@@ -147,6 +147,7 @@ module _ {S : Setup} {Lawful : List ℕ → Type 0} {B : TableStart} {w : Moment
         kept = rw k1 (keeps ci j v j_in f.quieted m.kept f.kept);
         above = rw (b1, last_same) f.above;
         quieted = quiet f.quieted;
+        settled = λ o. rw (last_same, cell_same ci j v j_in f.quieted (ticket_cell S i) (omega (arith, row_within i S.callers (S.instrs + 2) h, g.shared.own_in))) (f.settled (open_before o));
         newer = rw (b1, ann_same i) f.newer;
         rounds = r1 ∙ f.rounds;
       }
@@ -154,6 +155,12 @@ module _ {S : Setup} {Lawful : List ℕ → Type 0} {B : TableStart} {w : Moment
           quiet : AnnouncesNothingNew S B w.words w.batches i → AnnouncesNothingNew S B us w.batches i
           quiet (inl q) = inl (rw (ann_same i, last_same) q)
           quiet (inr q) = inr (last_same ∙ q)
+
+          open_before : IsLastOpen B us → IsLastOpen B w.words
+          open_before o = record {
+            any = rw (← last_same) o.any;
+            asks = sym (req_same ci j v j_in f.quieted (committed_owner w.words) g.shared.counted.owner_in) ∙ ap (λ (k : ℕ). request_of us (payload_of k)) (sym (current_same ci j v j_in f.quieted)) ∙ o.asks ∙ ap (λ (s : ℕ). pack s 0) last_same;
+          }
 
       said_now : script_words_of S us i (j + 1) ≡ take (j + 1) m.op
       said_now =

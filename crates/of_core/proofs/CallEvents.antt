@@ -41,7 +41,7 @@ module _ (S : Setup) (Lawful : List ℕ → Type 0) (B : TableStart) (w : Moment
   }
 
   -- where a machine of nobody but i changes the calls of i stay
-  quiet : (v : Moment) → MeetsInvariant S Lawful B v → durable_seq S w.words ≤ durable_seq S v.words → v.batches ≡ w.batches → v.reads ≡ w.reads → (i : ℕ) → machine_in v i ≡ machine_in w i → KeepsCalls S B i w v
+  pub quiet : (v : Moment) → MeetsInvariant S Lawful B v → durable_seq S w.words ≤ durable_seq S v.words → v.batches ≡ w.batches → v.reads ≡ w.reads → (i : ℕ) → machine_in v i ≡ machine_in w i → KeepsCalls S B i w v
   quiet v q l e f i same before ops outs c =
       stays S B before w i ops outs c v (grows_same v q l e f) [] (f ∙ sym (append-nil w.reads)) (λ k r l. absurd (omega arith)) (λ k l u. absurd (omega (arith, ap length e))) (machine_in w i) same refl (λ r. (r, refl)) (λ o. (o, refl, refl)) (λ low l r. r)
 

@@ -1,14 +1,13 @@
 -- If operations touch few cells, so does each machine: its log has room for what each caller's
 -- operation writes, and it knows of each caller what its operation reads.
-use Rattle.std.proofs.Common.{◌≡◌, ◌⊎◌, inl, inr, ℕ, zero, suc, ◌+◌, ◌*◌, ◌-◌, ◌<◌, ◌≤◌, ◌==◌, List, [], ◌∷◌, ◌++◌, length, get_or, set, take, replicate, refl, sym, ◌∙◌, ap, subst, arith, length-append, Option, Some, None, Bool, true, false, nat_lt, if◌then◌else◌}
+use Rattle.std.proofs.Common.{◌≡◌, ◌⊎◌, inl, inr, ℕ, ◌+◌, ◌*◌, ◌-◌, ◌<◌, ◌≤◌, ◌==◌, List, [], ◌∷◌, ◌++◌, length, get_or, take, refl, sym, ◌∙◌, ap, subst, arith, length-append, Option, Some, None, Bool, true, false, nat_lt, if◌then◌else◌}
 use Rattle.std.proofs.lemmas.Bool.{cases_eq}
 use Rattle.std.proofs.lemmas.Bool.Decides.{nat_tests}
 use Rattle.std.proofs.lemmas.List.{take_all, length-take, get_or_push, get_or_append_left}
-use Rattle.std.specs.List.{Contains}
 use Rattle.of_core.specs.declared.machine.trying.TheConstants.{MOST_TRIES}
 use Rattle.of_cell.specs.Words.{pack, seq_of, payload_of}
 use Rattle.of_cell.proofs.Places.{row_within}
-use Rattle.of_mem.specs.declared.work.TheConstants.{MOST_INSTRS, LEAST_ABORT}
+use Rattle.of_mem.specs.declared.work.TheConstants.{LEAST_ABORT}
 use Rattle.of_mem.specs.declared.work.RawReply.{RawReply}
 use Rattle.of_mem.specs.CellMap.{put_all}
 use Rattle.of_mem.specs.Meaning.{WalkEnd, Needs, Gives, Agrees, IsSoundMeaning}
@@ -19,17 +18,17 @@ use Rattle.of_mem.proofs.Writes.{put_all_few}
 use Rattle.of_core.specs.declared.place.Place.{Place}
 use Rattle.of_core.specs.declared.place.Place.TheVariants.{Idle, TryCurrent, TryRequest, TryCell, StoreScript, StoreAnnouncement, LoadCurrent, LoadRequest, CopyLog, LookAgain, LoadOwnTicket, LoadShape, LoadReply, LoadAnnouncement, LoadTicket, LoadScript, LoadCell, RaiseOld, StoreLog, RaiseLog, StoreRequest, RaiseRequest, ExchangeCurrent, RaiseCurrent, LoadTarget, ExchangeTarget, ReloadTarget, RaiseTarget, CloseRequest, RaiseClosed}
 use Rattle.of_core.specs.Table.{Setup, first_operation_cell, ticket_cell, log_word_of, request_of, data_word}
-use Rattle.of_core.specs.Machine.{CallState, IsOpen, no_cell_known, with_cell_known, log_words, log_of, entries_going_round, cells_from, reply_cell_pairs, own_cells, begin_call, first_place}
+use Rattle.of_core.specs.Machine.{CallState, no_cell_known, with_cell_known, log_words, log_of, entries_going_round, cells_from, own_cells, begin_call, first_place}
 use Rattle.of_core.specs.Steps.{read_on, after_read_run, begin_reading, resume, after_try_request, end_try, after_try_cell, want_at, word_of, take_word_at, with_step_counted, after_store_script, after_load_request, after_copy_log, after_look_again, after_own_ticket, after_load_shape, with_shape, after_load_reply, with_reply, next_reply_place, first_marked_place, after_announcement, weigh, after_load_ticket, after_load_script, with_script_word, after_script_run, next_scanned_caller, with_call_run, after_load_cell, after_raise_log, after_commit_exchange, after_raise_current, after_load_target, next_entry, after_raise_closed, is_request_open, with_log_word_copied}
-use Rattle.of_core.specs.TableMoment.{Moment, TableStart, Batch}
+use Rattle.of_core.specs.TableMoment.{Moment, TableStart}
 use Rattle.of_core.specs.History.{batch_at}
 use Rattle.of_core.specs.Invariant.{HoldsAtPlace, MeetsCore}
 use Rattle.of_core.specs.Footprint.{knowns, next_load, Touches}
 use Rattle.of_core.specs.Touched.{longest_log, most_loads}
 use Rattle.of_core.proofs.Logs.{length-listed, turned_is}
 use Rattle.of_core.proofs.Puts.{log_of_words}
-use Rattle.of_core.proofs.Tests.{is_newer, not_newer}
-use Rattle.of_core.proofs.Rounds.{learn_past, watch_more}
+use Rattle.of_core.proofs.Tests.{not_newer}
+use Rattle.of_core.proofs.Rounds.{learn_past}
 use Rattle.of_core.proofs.Scans.{ticket_in_cells}
 use Rattle.of_core.proofs.KnownCells.{knowns_none, knowns_set, lacking, lacking_upto, lacking_some, lacking_less, agrees_before}
 use Rattle.of_core.proofs.KnownStates.{try_state, scan_state}

@@ -52,7 +52,7 @@ module _ (S : Setup) (Lawful : List ℕ → Type 0) (B : TableStart) (w : Moment
     fresh p =
         let r = at_rest in
         let a = alike takes in
-        record { caller = a.caller; ticket = ticket; words = few; some = some; kept = record { low = omega arith; held = λ l. absurd (omega (arith, l, seq_zero)) }; above = omega (arith, r.upto, a.made); quieted = r.quieted; newer = omega (arith, r.older, a.made); rounds = refl }
+        record { caller = a.caller; ticket = ticket; words = few; some = some; kept = record { low = omega arith; held = λ l. absurd (omega (arith, l, seq_zero)) }; above = omega (arith, r.upto, a.made); quieted = r.quieted; settled = r.settled; newer = omega (arith, r.older, a.made); rounds = refl }
 
     at_first : (b : Bool) → S.meaning.reads_only op ≡ b → HoldsAtPlace S B w.words w.batches i (record (begin_call S d op) { place = first_place b }) (first_place b)
     at_first true e = record { fresh = fresh TryCurrent; calm = at_rest.calm; reads = e; few = omega arith }

@@ -1,5 +1,5 @@
 -- What is known in a try or a scan agrees with a lawful list.
-use Rattle.std.proofs.Common.{◌≡◌, ℕ, ◌+◌, ◌<◌, ◌≤◌, List, length, Option, refl, sym, ◌∙◌, arith}
+use Rattle.std.proofs.Common.{◌≡◌, ℕ, ◌+◌, ◌<◌, ◌≤◌, List, length, Option, ◌∙◌, arith}
 use Rattle.std.proofs.lemmas.List.{length-map}
 use Rattle.of_cell.specs.Words.{payload_of}
 use Rattle.of_mem.specs.Meaning.{IsSoundMeaning, Agrees, with_writes_in}

@@ -168,6 +168,7 @@ module _ (S : Setup) (Lawful : List ℕ → Type 0) (sound : IsSoundMeaning S.me
         logs = λ y u. rw (log_zero i y h u, seq_zero) (omega arith);
       };
       quieted = inl (omega (arith, seq_said i));
+      settled = λ o. absurd (omega (arith, o.any, last_is));
       upto = omega (arith, ticket_is i);
       older = omega (arith, seq_said i);
       told = tt;

@@ -131,7 +131,7 @@ module _ (S : Setup) (Lawful : List ℕ → Type 0) (B : TableStart) (ws : List 
     mode_says true n a = helper_says n a.helper
     mode_says false n a = a.says
 
-    announces_at : (p : Place) → HoldsAtPlace S B ws bs j m p → (AnnouncesNothingNew S B ws bs j → ⊥) → IsOpen p × (seq_of (announcement_of S ws j) ≡ m.made)
+    pub announces_at : (p : Place) → HoldsAtPlace S B ws bs j m p → (AnnouncesNothingNew S B ws bs j → ⊥) → IsOpen p × (seq_of (announcement_of S ws j) ≡ m.made)
     announces_at Idle a n = absurd (n a.quieted)
     announces_at TryCurrent a n = absurd (n a.fresh.quieted)
     announces_at TryRequest a n = absurd (n a.trying.fresh.quieted)

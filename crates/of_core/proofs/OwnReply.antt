@@ -20,7 +20,7 @@ use Rattle.of_core.specs.Invariant.{HoldsAtPlace, MeetsCore}
 use Rattle.of_core.specs.Guarantees.{KeepsGuarantee}
 use Rattle.of_core.proofs.Alike.{calm_more, looks_as}
 use Rattle.of_core.proofs.Assembling.{assemble_read, same_batches, same_words}
-use Rattle.of_core.proofs.Rounds.{again, at_risen, cell_of, grows_to, learn, own_row_old, own_seq, round_risen, row_in, third_done}
+use Rattle.of_core.proofs.Rounds.{again, at_risen, cell_of, grows_to, learn, own_row_old, own_seq, round_risen, row_in, settled_by, not_open_at, third_done}
 use Rattle.of_core.proofs.Tests.{differ, mark_none, mark_some, not_newer}
 
 module _ {S : Setup} {Lawful : List ℕ → Type 0} {B : TableStart} where
@@ -49,6 +49,7 @@ module _ {S : Setup} {Lawful : List ℕ → Type 0} {B : TableStart} where
       calm = calm_more p.round.current_word.upto o;
       kept = p.round.begun.kept;
       quieted = inl (omega (arith, own_seq g h n p.round.begun, done_now n f, grows_to g h n.seq p.round.current_word.from p.round.current_word.upto));
+      settled = settled_by g h n.seq p.round.current_word.from p.round.current_word.upto (omega (arith, p.round.begun.upto, done_now n f)) (not_open_at g h n.seq p.state.quiet);
       upto = p.round.begun.upto;
       older = omega (arith, own_seq g h n p.round.begun);
       told = record {
@@ -226,6 +227,7 @@ module _ {S : Setup} {Lawful : List ℕ → Type 0} {B : TableStart} where
           calm = calm_more a.looks.round.current_word.upto a.calm;
           kept = a.looks.round.begun.kept;
           quieted = inr (omega (arith, at_limit, a.looks.round.current_word.upto, g.shared.counted.limit));
+          settled = settled_by g h m.seq a.looks.round.current_word.from a.looks.round.current_word.upto (omega (arith, ap (λ (k : ℕ). last_ticket_by S B w.batches k i) at_last)) (not_open_at g h m.seq a.looks.state.quiet);
           upto = a.looks.round.begun.upto;
           older = omega (arith, own_seq g h m a.looks.round.begun);
           told = record {

@@ -9,11 +9,11 @@ use Rattle.of_mem.specs.Meaning.{IsSoundMeaning}
 use Rattle.of_core.specs.declared.place.Place.{Place}
 use Rattle.of_core.specs.declared.place.Place.TheVariants.{RaiseOld, StoreLog, RaiseLog, RaiseRequest, ExchangeCurrent, RaiseCurrent, RaiseTarget, RaiseClosed}
 use Rattle.of_core.specs.Table.{most_entries, Setup, request_at, data_at, log_at, first_operation_cell, durable_at, current_word, request_of, data_word, log_word_of, durable_word, durable_request, durable_cell, durable_log, committed_seq, committed_owner, durable_seq}
-use Rattle.of_core.specs.Machine.{CallState, log_entry, log_words}
+use Rattle.of_core.specs.Machine.{Call, no_call, CallState, log_entry, log_words}
 use Rattle.of_core.specs.Steps.{after_raise_log, next_entry, after_raise_current, after_raise_closed, take_word_at}
 use Rattle.of_core.specs.TableMoment.{Read, Moment, Batch, TableStart, after_counted_step}
-use Rattle.of_core.specs.History.{batch_at}
-use Rattle.of_core.specs.WordsMatch.{IsRequest, IsLogWord, WordsMatchHistory, WasHeldByCell}
+use Rattle.of_core.specs.History.{batch_at, last_ticket_by}
+use Rattle.of_core.specs.WordsMatch.{IsRequest, IsLogWord, WordsMatchHistory, WasHeldByCell, IsLastOpen}
 use Rattle.of_core.specs.Rounds.{KnowsOwnRequest, HasNothingUnderWay}
 use Rattle.of_core.specs.Transaction.{IsApplied, IsApplying, AppliesAs, IsStoringLog}
 use Rattle.of_core.specs.Invariant.{HoldsAtPlace, MeetsCore, IsLoaded}
@@ -23,7 +23,8 @@ use Rattle.of_core.proofs.Raises.{vs, behind, table, here, rises, low, current_s
 use Rattle.of_core.proofs.Alike.{applies_as, past_to}
 use Rattle.of_core.proofs.Assembling.{assemble_read}
 use Rattle.of_core.proofs.Tries.{resumed_at}
-use Rattle.of_core.proofs.Rounds.{quiet_from}
+use Rattle.of_core.proofs.Rounds.{quiet_from, settled_by}
+use Rattle.of_core.proofs.Tickets.{ticket_upto}
 use Rattle.of_core.proofs.Stability.{entry_in, owner_in as owner_of, at_stable, loaded_stable, log_in, same_row}
 
 -- what a raise to a word that the cell has held leaves
@@ -32,7 +33,7 @@ raised S w c v = record { words = set w.words (durable_at S c) (max (durable_wor
 
 module _ {S : Setup} {Lawful : List ℕ → Type 0} {B : TableStart} where
   -- a raise is no machine's, so it leaves what is true of each
-  moves_raise : (ws : List ℕ) (bs : List Batch) (g : WordsMatchHistory S Lawful B ws bs) (c v : ℕ) (e : IsLoaded S B ws bs (c, v)) (i : ℕ) → Guarantees S B i ws bs (vs S Lawful B ws bs g c v e) bs
+  pub moves_raise : (ws : List ℕ) (bs : List Batch) (g : WordsMatchHistory S Lawful B ws bs) (c v : ℕ) (e : IsLoaded S B ws bs (c, v)) (i : ℕ) → Guarantees S B i ws bs (vs S Lawful B ws bs g c v e) bs
   moves_raise ws bs g c v e i = record {
     same = λ q. ap payload_of (current_same S Lawful B ws bs g c v e);
     states = λ k l m. refl;
@@ -297,11 +298,22 @@ module _ {S : Setup} {Lawful : List ℕ → Type 0} {B : TableStart} where
         calm = calm;
         kept = record { low = omega (arith, closed); held = λ l. inr (pay_word m.seq 1 (omega arith), rw (seq_word m.seq 1 (omega arith)) a.upto, rw (seq_word m.seq 1 (omega arith)) (a.committed ∙ q.owner)) };
         quieted = inl (omega (arith, q.says, q.reached));
+        settled = settled_by g h m.seq (omega (arith, a.after)) a.upto (omega (arith, q.upto, has)) (λ z o. omega (arith, above, o.asks, ap (λ (k : ℕ). pack k 0) z, ap (request_of w.words) (owner z o)));
         upto = q.upto;
         older = omega (arith, q.says);
         told = record { from = a.after; durable = top; upto = a.upto; call = q.call };
       }
         where
+          -- its call is in the batch
+          has : m.made ≤ last_ticket_by S B w.batches m.seq i
+          has =
+              let c : Call = get_or (batch_at B w.batches m.seq).calls q.call.place no_call in
+              let t : c.ticket ≤ last_ticket_by S B w.batches m.seq c.caller = ticket_upto S Lawful B w.batches g.shared.stands m.seq m.seq a.after (omega arith) (omega (arith, a.upto, g.shared.counted.count)) q.call.place no_call q.call.among in
+              omega (arith, t, q.call.ticket, ap (last_ticket_by S B w.batches m.seq) q.call.caller)
+
+          owner : m.seq ≡ committed_seq w.words → IsLastOpen B w.words → committed_owner w.words ≡ m.owner
+          owner z o = g.shared.counted.owner o.any ∙ ap (λ (k : ℕ). (batch_at B w.batches k).owner) (sym z) ∙ a.committed
+
           above' : pack m.seq 0 < request_of w.words i
           above' = rw q.owner at above
 

@@ -1,19 +1,19 @@
 -- A round begins: the current-transaction word and its request are loaded. What a round may rest on: a third one meets its call, no cell of a call that is done is newer, and cells that are not newer are those of its state.
 use Rattle.std.proofs.Common.{Option, ◌≡◌, ℕ, ◌+◌, ◌-◌, ◌<◌, ◌≤◌, ◌⊎◌, ◌==◌, inl, inr, List, length, get_or, refl, sym, ◌∙◌, ap, arith, length-set, Some, None, Bool, true, false}
-use Rattle.std.proofs.lemmas.Bool.{cases_eq}
+use Rattle.std.proofs.lemmas.Bool.{cases_eq, cases_lt}
 use Rattle.std.proofs.lemmas.Bool.Decides.{nat_tests}
 use Rattle.std.proofs.lemmas.List.{length-replicate, get_or-set_same, get_or-set_other}
 use Rattle.of_cell.specs.Words.{pack, seq_of, payload_of}
 use Rattle.of_cell.proofs.Order.{seq_word}
 use Rattle.of_cell.proofs.Places.{row_within}
 use Rattle.of_core.specs.declared.place.Place.TheVariants.{Idle, LoadCurrent, LoadRequest, LoadOwnTicket}
-use Rattle.of_core.specs.Table.{Setup, announcement_of, current_word, request_of, data_word, committed_seq, committed_owner, durable_seq}
+use Rattle.of_core.specs.Table.{Setup, ticket_cell, announcement_of, current_word, request_of, data_word, committed_seq, committed_owner, durable_seq}
 use Rattle.of_core.specs.Machine.{CallState, with_cell_known}
 use Rattle.of_core.specs.Steps.{after_load_request, enter, is_request_open, take_word_at, next_round, first_round_seq}
 use Rattle.of_core.specs.TableMoment.{Moment, TableStart, after_counted_step}
 use Rattle.of_core.specs.History.{batch_at, data_word_after, IsCellOfCaller, last_ticket_by, numbers_after}
 use Rattle.of_core.specs.WordsMatch.{IsLastOpen}
-use Rattle.of_core.specs.Rounds.{KnowsClosedState, WasCurrent, IsAnnounced, IsInRound, IsPastRequest, IsPastOwnTicket, HasNothingUnderWay}
+use Rattle.of_core.specs.Rounds.{KnowsClosedState, WasCurrent, IsAnnounced, IsInRound, IsPastRequest, IsPastOwnTicket, HasNothingUnderWay, HasSettledCells}
 use Rattle.of_core.specs.Invariant.{HoldsAtPlace, MeetsCore}
 use Rattle.of_core.specs.Guarantees.{KeepsGuarantee}
 use Rattle.of_core.proofs.States.{later, old}
@@ -77,6 +77,18 @@ module _ {S : Setup} {Lawful : List ℕ → Type 0} {B : TableStart} where
 
     pub grows_to : (s : ℕ) → B.seq ≤ s → s ≤ committed_seq w.words → last_ticket_by S B w.batches s i ≤ last_ticket_by S B w.batches (committed_seq w.words) i
     grows_to s l u = tickets_grow S Lawful B w.batches g.shared.stands s (committed_seq w.words) i l u (omega (arith, n_is)) h
+
+    -- if the caller has no call after s, and s isn't the open transaction, none of its calls is being applied
+    pub settled_by : (s : ℕ) → B.seq ≤ s → s ≤ committed_seq w.words → last_ticket_by S B w.batches (committed_seq w.words) i ≤ last_ticket_by S B w.batches s i → (s ≡ committed_seq w.words → IsLastOpen B w.words → ⊥) → HasSettledCells S B w.words w.batches i
+    settled_by s l u t closed o = go (cases_lt s (committed_seq w.words))
+      where
+        go : (s < committed_seq w.words) ⊎ (committed_seq w.words ≤ s) → (last_ticket_by S B w.batches (committed_seq w.words) i ≤ last_ticket_by S B w.batches (committed_seq w.words - 1) i) ⊎ (committed_seq w.words ≤ seq_of (data_word S w.words (ticket_cell S i)))
+        go (inl v) = inl (omega (arith, t, tickets_grow S Lawful B w.batches g.shared.stands s (committed_seq w.words - 1) i l (omega arith) (omega (arith, n_is)) h))
+        go (inr v) = absurd (closed (omega arith) o)
+
+    -- what a round knows after its look at the request
+    pub not_open_at : (s : ℕ) → (s ≡ committed_seq w.words → B.seq < s → pack s 0 < request_of w.words (committed_owner w.words)) → s ≡ committed_seq w.words → IsLastOpen B w.words → ⊥
+    not_open_at s quiet e o = omega (arith, quiet e (omega (arith, o.any)), o.asks, ap (λ (k : ℕ). pack k 0) e)
 
     -- a third round meets the call in the history
     pub third_done : (n : CallState) → IsInRound S B w.words w.batches i n → n.rounds ≡ 3 → n.made ≤ last_ticket_by S B w.batches n.seq i

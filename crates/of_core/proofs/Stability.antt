@@ -10,12 +10,12 @@ use Rattle.of_core.specs.declared.place.Place.{Place}
 use Rattle.of_core.specs.declared.place.Place.TheVariants.{Idle, TryCurrent, TryRequest, TryCell, StoreScript, StoreAnnouncement, LoadCurrent, LoadRequest, CopyLog, LookAgain, LoadOwnTicket, LoadShape, LoadReply, LoadAnnouncement, LoadTicket, LoadScript, LoadCell, RaiseOld, StoreLog, RaiseLog, StoreRequest, RaiseRequest, ExchangeCurrent, RaiseCurrent, LoadTarget, ExchangeTarget, ReloadTarget, RaiseTarget, CloseRequest, RaiseClosed}
 use Rattle.of_core.specs.declared.place.Outcome.{Outcome}
 use Rattle.of_core.specs.declared.place.Outcome.TheVariants.{Answered, Spent}
-use Rattle.of_core.specs.Table.{most_entries, Setup, cell_count, request_at, data_at, log_at, script_words_of, script_word, announcement_of, current_word, request_of, data_word, log_word_of, durable_word, durable_request, durable_cell, committed_seq, committed_owner, durable_seq}
+use Rattle.of_core.specs.Table.{most_entries, Setup, ticket_cell, cell_count, request_at, data_at, log_at, script_words_of, script_word, announcement_of, current_word, request_of, data_word, log_word_of, durable_word, durable_request, durable_cell, committed_seq, committed_owner, durable_seq}
 use Rattle.of_core.specs.Machine.{CallState, Call, log_entry, log_words}
 use Rattle.of_core.specs.TableMoment.{Batch, TableStart}
 use Rattle.of_core.specs.History.{state_after, batch_at, last_ticket_by, ticket_in_state}
-use Rattle.of_core.specs.WordsMatch.{IsEntry, AnnouncementsAreServed, WordsHaveTheirKind, IsRequest, IsLogWord, WordsMatchHistory, WasHeldByCell}
-use Rattle.of_core.specs.Rounds.{KnowsOwnRequest, WasCurrent, IsInTry, MayHelp, KnowsClosedState, IsAnnounced, IsUnannounced, IsInRound, IsPastRequest, IsPastOwnTicket, HasOneOperation, AnnouncesNothingNew, HasNothingUnderWay}
+use Rattle.of_core.specs.WordsMatch.{IsEntry, AnnouncementsAreServed, WordsHaveTheirKind, IsRequest, IsLogWord, WordsMatchHistory, WasHeldByCell, IsLastOpen}
+use Rattle.of_core.specs.Rounds.{KnowsOwnRequest, WasCurrent, IsInTry, MayHelp, KnowsClosedState, IsAnnounced, IsUnannounced, IsInRound, IsPastRequest, IsPastOwnTicket, HasOneOperation, AnnouncesNothingNew, HasSettledCells, HasNothingUnderWay}
 use Rattle.of_core.specs.Scan.{HasScannedUpTo, HasLoadedAnnouncement, HasLoadedScript, WasTakenByScan, IsAnnouncedCall}
 use Rattle.of_core.specs.Transaction.{IsHelping, IsApplying, AppliesAs, OwnsTransaction, IsStoringLog, IsCopyingLog, HasStoredLog, HasClosedDurably}
 use Rattle.of_core.specs.Places.{LastOutcomeStands, IsAtCaller, IsAtEntry}
@@ -256,6 +256,46 @@ module _ (S : Setup) (Lawful : List ℕ → Type 0) (B : TableStart) (i : ℕ) (
     quieted_stable (inl q) = inl (omega (arith, q, ann_seq, tick_up j member))
     quieted_stable (inr q) = inr (omega (arith, q, grows, v.limit))
 
+    -- a batch that comes has no call of a caller that announces nothing to be run
+    settled_stable : AnnouncesNothingNew S B ws bs j → HasSettledCells S B ws bs j → HasSettledCells S B vs cs j
+    settled_stable quiet h pending = go (cases_lt (committed_seq ws) (committed_seq vs))
+      where
+        -- the ticket cell after each batch that has come
+        unmoved : (k : ℕ) → committed_seq ws ≤ k → k ≤ committed_seq vs → (committed_seq ws < k) ⊎ (k ≤ committed_seq ws) → last_ticket_by S B cs k j ≡ last_ticket_by S B bs (committed_seq ws) j
+        unmoved k l u (inl new) = pick (v.tickets k j new u member) quiet
+          where
+            pick : (last_ticket_by S B cs k j ≡ last_ticket_by S B bs (committed_seq ws) j) ⊎ ((last_ticket_by S B cs k j ≡ seq_of (announcement_of S ws j)) × (last_ticket_by S B bs (committed_seq ws) j < seq_of (announcement_of S ws j)) × (committed_seq ws < S.limit))
+                → AnnouncesNothingNew S B ws bs j → last_ticket_by S B cs k j ≡ last_ticket_by S B bs (committed_seq ws) j
+            pick (inl e) q = e
+            pick (inr e) (inl z) = absurd (omega (arith, e.1))
+            pick (inr e) (inr z) = absurd (omega (arith, e.2))
+        unmoved k l u (inr past) =
+            let e : k ≡ committed_seq ws = omega arith in
+            ap (λ (s : ℕ). last_ticket_by S B cs s j) e ∙ tick_same (committed_seq ws) j from_start (omega arith)
+
+        row : j * (S.instrs + 2) + (S.instrs + 2) ≤ S.callers * (S.instrs + 2)
+        row = row_within j S.callers (S.instrs + 2) member
+
+        go : (committed_seq ws < committed_seq vs) ⊎ (committed_seq vs ≤ committed_seq ws) → (last_ticket_by S B cs (committed_seq vs) j ≤ last_ticket_by S B cs (committed_seq vs - 1) j) ⊎ (committed_seq vs ≤ seq_of (data_word S vs (ticket_cell S j)))
+        go (inl new) =
+            let a = unmoved (committed_seq vs) (omega arith) (omega arith) (inl new) in
+            let b = unmoved (committed_seq vs - 1) (omega arith) (omega arith) (cases_lt (committed_seq ws) (committed_seq vs - 1)) in
+            inl (omega (arith, a, b))
+        go (inr past) =
+            let e : committed_seq vs ≡ committed_seq ws = omega (arith, grows) in
+            let a : last_ticket_by S B cs (committed_seq vs) j ≡ last_ticket_by S B bs (committed_seq ws) j = ap (λ (s : ℕ). last_ticket_by S B cs s j) e ∙ tick_same (committed_seq ws) j from_start (omega arith) in
+            let after : B.seq < committed_seq ws = omega (arith, pending.any, e) in
+            let b : last_ticket_by S B cs (committed_seq vs - 1) j ≡ last_ticket_by S B bs (committed_seq ws - 1) j = ap (λ (s : ℕ). last_ticket_by S B cs (s - 1) j) e ∙ tick_same (committed_seq ws - 1) j (omega arith) (omega arith) in
+            let asks : request_of vs (committed_owner ws) ≡ pack (committed_seq ws) 0 = ap (request_of vs) (sym (v.same e)) ∙ pending.asks ∙ ap (λ (s : ℕ). pack s 0) e in
+            let was : IsLastOpen B ws = record { any = after; asks = omega (arith, asks, req_up (committed_owner ws) shared.counted.owner_in, shared.requests.latest after) } in
+            as_before e a b (h was)
+          where
+            as_before : committed_seq vs ≡ committed_seq ws → last_ticket_by S B cs (committed_seq vs) j ≡ last_ticket_by S B bs (committed_seq ws) j → last_ticket_by S B cs (committed_seq vs - 1) j ≡ last_ticket_by S B bs (committed_seq ws - 1) j
+                → (last_ticket_by S B bs (committed_seq ws) j ≤ last_ticket_by S B bs (committed_seq ws - 1) j) ⊎ (committed_seq ws ≤ seq_of (data_word S ws (ticket_cell S j)))
+                → (last_ticket_by S B cs (committed_seq vs) j ≤ last_ticket_by S B cs (committed_seq vs - 1) j) ⊎ (committed_seq vs ≤ seq_of (data_word S vs (ticket_cell S j)))
+            as_before e a b (inl q) = inl (omega (arith, a, b, q))
+            as_before e a b (inr q) = inr (omega (arith, e, q, seq_mono (data_word S ws (ticket_cell S j)) (data_word S vs (ticket_cell S j)) (cell_up (ticket_cell S j) (omega (arith, row, shared.own_in)))))
+
     -- a ticket cell that isn't above t, where t is at least what is announced
     under_stable : (t : ℕ) → seq_of (announcement_of S ws j) ≤ t → last_ticket_by S B bs (committed_seq ws) j ≤ t → last_ticket_by S B cs (committed_seq vs) j ≤ t
     under_stable t a l = go (tick_how j member)
@@ -277,6 +317,7 @@ module _ (S : Setup) (Lawful : List ℕ → Type 0) (B : TableStart) (i : ℕ) (
       rounds = h.rounds;
       above = let z : last_ticket_by S B cs (committed_seq vs) j ≤ m.made - 1 = under_stable (m.made - 1) (omega (arith, h.newer)) (omega (arith, h.above)) in omega (arith, h.above);
       quieted = quieted_stable h.quieted;
+      settled = settled_stable h.quieted h.settled;
       newer = omega (arith, h.newer, ann_seq);
     }
 
@@ -524,6 +565,7 @@ module _ (S : Setup) (Lawful : List ℕ → Type 0) (B : TableStart) (i : ℕ) (
       calm = calm_now h.calm;
       kept = kept_stable m.kept h.kept;
       quieted = quieted_stable h.quieted;
+      settled = settled_stable h.quieted h.settled;
       upto = under_stable m.made h.older h.upto;
       older = omega (arith, h.older, ann_seq);
       told = told_stable m m.answer h.older h.told;

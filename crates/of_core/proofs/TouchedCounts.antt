@@ -1,9 +1,9 @@
 -- The count in front of each log stays within the longest log: only a machine that stores its own
 -- log changes it.
-use Rattle.std.proofs.Common.{◌≡◌, ◌⊎◌, inl, inr, ℕ, ◌+◌, ◌*◌, ◌<◌, ◌≤◌, ◌==◌, List, length, get_or, set, refl, sym, ◌∙◌, ap, arith, max, if◌then◌else◌}
+use Rattle.std.proofs.Common.{◌≡◌, ◌⊎◌, inl, inr, ℕ, ◌+◌, ◌*◌, ◌<◌, ◌≤◌, List, length, get_or, set, ◌∙◌, ap, arith}
 use Rattle.std.proofs.lemmas.Bool.{cases_eq}
 use Rattle.std.proofs.lemmas.List.{get_or-set_same, get_or-set_other}
-use Rattle.of_cell.specs.Words.{pack, seq_of, payload_of}
+use Rattle.of_cell.specs.Words.{pack, payload_of}
 use Rattle.of_cell.proofs.Order.{pay_word}
 use Rattle.of_cell.proofs.Rooms.{room_upto}
 use Rattle.of_core.specs.declared.place.Place.{Place}

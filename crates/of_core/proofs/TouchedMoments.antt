@@ -1,6 +1,6 @@
 -- If operations touch few cells, no call makes more steps than the bound by that, in each schedule
 -- from a start.
-use Rattle.std.proofs.Common.{◌≡◌, ◌⊎◌, inl, inr, ℕ, ◌+◌, ◌*◌, ◌-◌, ◌<◌, ◌≤◌, List, [], ◌∷◌, length, get_or, set, max, refl, sym, ◌∙◌, ap, subst, arith, Bool, true, false}
+use Rattle.std.proofs.Common.{◌≡◌, ◌⊎◌, inl, inr, ℕ, ◌+◌, ◌*◌, ◌-◌, ◌<◌, ◌≤◌, List, [], ◌∷◌, length, get_or, max, refl, sym, ◌∙◌, ap, subst, arith, Bool, true, false}
 use Rattle.std.proofs.lemmas.Bool.{cases_eq}
 use Rattle.std.proofs.lemmas.List.{get_or-set_same, get_or-set_other}
 use Rattle.of_cell.specs.declared.word.TheConstants.{PAYLOADS}
@@ -8,17 +8,16 @@ use Rattle.of_cell.specs.Words.{payload_of}
 use Rattle.of_mem.specs.declared.work.TheConstants.{MOST_INSTRS}
 use Rattle.of_mem.specs.Meaning.{IsSoundMeaning}
 use Rattle.of_mem.specs.Touching.{TouchesFew}
-use Rattle.of_core.specs.declared.machine.trying.TheConstants.{MOST_TRIES}
 use Rattle.of_core.specs.declared.place.Place.{Place}
 use Rattle.of_core.specs.declared.place.Place.TheVariants.{Idle}
 use Rattle.of_core.specs.Table.{Setup, first_operation_cell, cell_count, durable_at, log_at, log_word_of}
 use Rattle.of_core.specs.Machine.{CallState, IsOpen, is_idle, no_machine, idle_machine, begin_call}
-use Rattle.of_core.specs.Steps.{take_word, take_word_at, with_step_counted, word_found}
+use Rattle.of_core.specs.Steps.{take_word_at, with_step_counted, word_found}
 use Rattle.of_core.specs.TableMoment.{Moment, TableStart, after_step_at}
 use Rattle.of_core.specs.WordsMatch.{MayStart}
 use Rattle.of_core.specs.Invariant.{MeetsInvariant}
 use Rattle.of_core.specs.Events.{Event, Begins, Turns, Loads, Evicts, Raises, after_event, after_raise, MayHappen, machine_in, after_events, IsSchedule, opening_moment, start_ticket}
-use Rattle.of_core.specs.Footprint.{Touches, HasFootprint, footprint, try_steps, round_steps, apply_steps}
+use Rattle.of_core.specs.Footprint.{Touches, HasFootprint, try_steps, round_steps, apply_steps}
 use Rattle.of_core.specs.Touched.{longest_log, most_loads, most_tries, IsWithinTouched, TouchedBoundOfWrites, TouchedBoundOfTransfers}
 use Rattle.of_core.proofs.Stability.{log_in}
 use Rattle.of_core.proofs.Found.{found_now, stepped_is}

@@ -45,6 +45,7 @@ module _ {S : Setup} {Lawful : List ℕ → Type 0} {B : TableStart} where
           calm = calm_more c.upto o;
           kept = p.fresh.kept;
           quieted = p.fresh.quieted;
+          settled = p.fresh.settled;
           upto = omega (arith, p.fresh.above);
           older = omega (arith, p.fresh.newer);
           told = record { from = c.from; durable = seen_risen g h n.seq n.owner n.known c k; upto = c.upto; reply = (rw e at f).reply; reads = p.reads };

@@ -13,7 +13,7 @@ use Rattle.of_core.specs.Machine.{CallState, log_entry, log_words, no_cell_known
 use Rattle.of_core.specs.TableMoment.{Batch, TableStart}
 use Rattle.of_core.specs.History.{state_after, batch_at, numbers_after, last_ticket_by, HasCall}
 use Rattle.of_core.specs.WordsMatch.{WasHeldByCell}
-use Rattle.of_core.specs.Rounds.{KnowsOwnRequest, AnnouncesNothingNew, IsUnannounced, IsAnnounced, IsInRound, WasCurrent, IsInTry, KnowsClosedState, IsBetweenRounds, IsPastRequest, IsPastOwnTicket, HasNothingUnderWay, FindsOwnTicket, HasReadReplyUpTo}
+use Rattle.of_core.specs.Rounds.{KnowsOwnRequest, AnnouncesNothingNew, IsUnannounced, IsAnnounced, IsInRound, WasCurrent, IsInTry, KnowsClosedState, IsBetweenRounds, IsPastRequest, IsPastOwnTicket, HasNothingUnderWay, HasSettledCells, FindsOwnTicket, HasReadReplyUpTo}
 use Rattle.of_core.specs.Scan.{HasScannedUpTo, HasLoadedAnnouncement, HasLoadedScript, IsInScan}
 use Rattle.of_core.specs.Transaction.{IsApplying, IsCopyingLog, HasStoredLog, HasClosedDurably, IsStoringLog}
 
@@ -53,6 +53,7 @@ module _ (S : Setup) (B : TableStart) (ws : List ℕ) (bs : List Batch) (i : ℕ
     pub calm : HasNothingUnderWay S B ws bs i (committed_seq ws)
     pub kept : KnowsOwnRequest B ws bs i m.kept
     pub quieted : AnnouncesNothingNew S B ws bs i
+    pub settled : HasSettledCells S B ws bs i
     pub upto : last_ticket_by S B bs (committed_seq ws) i ≤ m.made
     pub older : seq_of (announcement_of S ws i) ≤ m.made
     pub told : LastOutcomeStands m.answer

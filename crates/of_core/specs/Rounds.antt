@@ -1,17 +1,17 @@
 -- What the invariant says of a call that is announced, tried or in a round. The words are ws, the
 -- history is bs, from the start B, and m is the machine of caller i.
-use Rattle.std.specs.Prelude.{ℕ, ◌+◌, ◌*◌, List, length, Option, true, false, ◌≡◌, ◌≤◌, ◌<◌, ◌⊎◌}
+use Rattle.std.specs.Prelude.{ℕ, ◌+◌, ◌-◌, ◌*◌, List, length, Option, true, false, ◌≡◌, ◌≤◌, ◌<◌, ◌⊎◌}
 use Rattle.std.proofs.Common.{get_or}
 use Rattle.of_cell.specs.declared.word.TheConstants.{PAYLOADS}
 use Rattle.of_core.specs.declared.machine.trying.TheConstants.{MOST_TRIES}
 use Rattle.of_cell.specs.Words.{pack, seq_of, payload_of}
 use Rattle.of_mem.specs.Meaning.{is_marked, Agrees}
 use Rattle.std.specs.List.{All}
-use Rattle.of_core.specs.Table.{most_entries, Setup, ticket_cell, shape_cell, reply_cell, request_of, log_word_of, durable_request, announcement_of, script_words_of, committed_seq, committed_owner}
+use Rattle.of_core.specs.Table.{most_entries, Setup, ticket_cell, shape_cell, reply_cell, request_of, data_word, log_word_of, durable_request, announcement_of, script_words_of, committed_seq, committed_owner}
 use Rattle.of_core.specs.Machine.{Call, CallState}
 use Rattle.of_core.specs.TableMoment.{Batch, TableStart}
 use Rattle.of_core.specs.History.{batch_at, numbers_after, last_ticket_by}
-use Rattle.of_core.specs.WordsMatch.{IsRequest}
+use Rattle.of_core.specs.WordsMatch.{IsRequest, IsLastOpen}
 
 -- the word that a machine knows its own durable request to have is one that its request has held
 pub record KnowsOwnRequest (B : TableStart) (ws : List ℕ) (bs : List Batch) (i v : ℕ) : Type 0 where
@@ -50,6 +50,14 @@ module _ (S : Setup) (B : TableStart) (ws : List ℕ) (bs : List Batch) where
       (seq_of (announcement_of S ws i) ≤ last_ticket_by S B bs (committed_seq ws) i)
       ⊎ (committed_seq ws ≡ S.limit)
 
+  -- if the last transaction is open, it has no call of caller i, or the ticket cell of the caller
+  -- shows its call already
+  abbrev pub HasSettledCells : ℕ → Type 0
+  HasSettledCells i = IsLastOpen B ws
+      → (last_ticket_by S B bs (committed_seq ws) i
+      ≤ last_ticket_by S B bs (committed_seq ws - 1) i)
+      ⊎ (committed_seq ws ≤ seq_of (data_word S ws (ticket_cell S i)))
+
   -- a call that isn't announced yet
   pub record IsUnannounced (i : ℕ) (m : CallState) : Type 0 where
     pub caller : m.caller ≡ i
@@ -61,6 +69,8 @@ module _ (S : Setup) (B : TableStart) (ws : List ℕ) (bs : List Batch) where
     pub above : last_ticket_by S B bs (committed_seq ws) i < m.made
     -- nothing of the caller that is announced is to be run
     pub quieted : AnnouncesNothingNew i
+    -- and its ticket cell shows its last call
+    pub settled : HasSettledCells i
     -- and what is announced is older
     pub newer : seq_of (announcement_of S ws i) < m.made
     pub rounds : m.rounds ≡ 0

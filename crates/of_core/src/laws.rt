@@ -16,6 +16,8 @@ ghost use Rattle.of_core.specs.Written.{LogsAreWrites, OwnersTakePart, CellsRise
 ghost use Rattle.of_core.specs.Needed.{LoadsNeeded, CopiesOpenLogs};
 ghost use Rattle.of_core.specs.SpentRound.{SpentInRounds};
 ghost use Rattle.of_core.specs.Grounds.{GoodGrounds};
+ghost use Rattle.of_core.specs.Losses.{LossesKeepInvariant, LossesLeaveSound, LostCallsNeverRun};
+ghost use Rattle.of_core.specs.Revived.{RevivalsKeepCore, RevivalsKeepInvariant, OpenCallsCountReads, RevivalsMissNoCall, RevivalsKeepOthers, StepsLeaveRevivable, RaisesLeaveRevivable};
 ghost use Rattle.of_core.specs.Raised.{RaisesHeld, RaisesAreShort, EvictionsAreShort, CellsLevel};
 ghost use Rattle.of_core.specs.Raised.{RaisesUndisturbed, EvictionsUndisturbed, RaisesStand};
 ghost use Rattle.of_core.specs.Laws.{FirstWordsHoldStart, FirstMachinesAreIdle, ZerosMayStart};
@@ -59,6 +61,44 @@ pub fn step_kept<W: Work>(limit: u32, work: W)
     ensures sound { InvariantIsSound
         (setup_for W.many W.size W.meaning limit work) (W.lawful work) }
     ensures grounds { GoodGrounds (setup_for W.many W.size W.meaning limit work) (W.lawful work) }
+{}
+
+/// A caller's machine may be lost, with the thread or the process that had it. A new machine may
+/// take its place if the words say that the caller has nothing under way: no log and no request of
+/// a transaction that isn't committed, no open transaction, and a durable request. This keeps the
+/// invariant, if the new machine's number of calls is large enough for the reads that its caller
+/// was answered; below the limit it is, if the new machine goes on with the announced call. No
+/// other caller's calls change. A machine that may be replaced still may be until its caller makes
+/// a step.
+pub fn taken_over_stands<W: Work>(limit: u32, work: W)
+    ensures core { RevivalsKeepCore
+        (setup_for W.many W.size W.meaning limit work) (W.lawful work) }
+    ensures kept { RevivalsKeepInvariant
+        (setup_for W.many W.size W.meaning limit work) (W.lawful work) }
+    ensures newest { OpenCallsCountReads
+        (setup_for W.many W.size W.meaning limit work) (W.lawful work) }
+    ensures ran { RevivalsMissNoCall
+        (setup_for W.many W.size W.meaning limit work) (W.lawful work) }
+    ensures others { RevivalsKeepOthers
+        (setup_for W.many W.size W.meaning limit work) (W.lawful work) }
+    ensures steps { StepsLeaveRevivable
+        (setup_for W.many W.size W.meaning limit work) (W.lawful work) }
+    ensures raises { RaisesLeaveRevivable
+        (setup_for W.many W.size W.meaning limit work) (W.lawful work) }
+{}
+
+/// Schedules in which machines are lost and replaced, any number of times, each at any moment at
+/// which its words allow it. Each such schedule keeps the invariant. From every start it leaves a
+/// moment with a legal history, of which recovery gives the state that its durable words name. A
+/// batch has only calls that its callers' present machines have open: a call that a lost machine
+/// had begun and not announced is never run.
+pub fn taken_over_moments<W: Work>(limit: u32, work: W)
+    ensures kept { LossesKeepInvariant
+        (setup_for W.many W.size W.meaning limit work) (W.lawful work) }
+    ensures sound { LossesLeaveSound
+        (setup_for W.many W.size W.meaning limit work) (W.lawful work) }
+    ensures never { LostCallsNeverRun
+        (setup_for W.many W.size W.meaning limit work) (W.lawful work) }
 {}
 
 /// The calls of one caller, from a start on: a step ends its caller's open call or none, a begin

@@ -1,0 +1,73 @@
+-- The laws of new machines that take the places of lost ones.
+use Rattle.std.specs.Prelude.{ℕ, List, true, false, ◌≡◌, ◌≤◌, ◌<◌}
+use Rattle.std.specs.List.{All}
+use Rattle.of_cell.specs.Words.{seq_of}
+use Rattle.of_core.specs.Table.{Setup, announcement_of, committed_seq}
+use Rattle.of_core.specs.Machine.{CallState}
+use Rattle.of_core.specs.TableMoment.{Moment, TableStart, Read, after_step}
+use Rattle.of_core.specs.History.{last_ticket_by}
+use Rattle.of_core.specs.WordsMatch.{IsLastOpen}
+use Rattle.of_core.specs.Order.{IsOlder}
+use Rattle.of_core.specs.Invariant.{MeetsInvariant, MeetsCore}
+use Rattle.of_core.specs.Events.{after_raise}
+use Rattle.of_core.specs.Laws.{EachStep, EachLoaded, KeepsOthersCalls}
+use Rattle.of_core.specs.Remains.{remains_of, MayRevive, announces_open_call, revived_machine, after_revival}
+
+-- at each caller whose machine may be replaced, and each number of calls that the new one is given
+abbrev pub EachRevival : Setup → (List ℕ → Type 0)
+    → (TableStart → Moment → (i made : ℕ) → Type 0) → Type 0
+EachRevival S Lawful Law =
+    (B : TableStart) (w : Moment) → MeetsInvariant S Lawful B w
+    → (i made : ℕ) → i < S.callers → MayRevive (remains_of S w.words i) i → Law B w i made
+
+-- the answered reads of caller i are older than its machine's open call, or no newer than the last
+-- call of an idle machine
+abbrev pub HasOlderReads : Moment → ℕ → CallState → Type 0
+HasOlderReads w i d = All (λ (r : Read). r.caller ≡ i → IsOlder d d.place r) w.reads
+
+-- the new machine's number of calls is large enough for the caller's answered reads
+abbrev pub CountsReads : Setup → Moment → (i made : ℕ) → Type 0
+CountsReads S w i made = HasOlderReads w i (revived_machine S (remains_of S w.words i) i made)
+
+-- a new machine keeps what the invariant says of words, history and machines, whatever that number
+abbrev pub RevivalsKeepCore : Setup → (List ℕ → Type 0) → Type 0
+RevivalsKeepCore S Lawful =
+    EachRevival S Lawful (λ B w i made. MeetsCore S Lawful B (after_revival S i made w))
+
+-- and it keeps the whole invariant if the number is large enough for the answered reads
+abbrev pub RevivalsKeepInvariant : Setup → (List ℕ → Type 0) → Type 0
+RevivalsKeepInvariant S Lawful = EachRevival S Lawful (λ B w i made.
+    CountsReads S w i made → MeetsInvariant S Lawful B (after_revival S i made w))
+
+-- below the limit it is, if the call is open: its ticket is the announced one
+abbrev pub OpenCallsCountReads : Setup → (List ℕ → Type 0) → Type 0
+OpenCallsCountReads S Lawful = EachRevival S Lawful (λ B w i made.
+    announces_open_call (remains_of S w.words i) ≡ true → committed_seq w.words < S.limit
+    → CountsReads S w i made)
+
+-- a new machine is idle only if the announced call has run; and if no transaction is open, the call
+-- that it goes on with has not run
+abbrev pub RevivalsMissNoCall : Setup → (List ℕ → Type 0) → Type 0
+RevivalsMissNoCall S Lawful = EachRevival S Lawful (λ B w i made.
+    let ticket : ℕ = seq_of (announcement_of S w.words i) in
+    let ran : ℕ = last_ticket_by S B w.batches (committed_seq w.words) i in
+    (announces_open_call (remains_of S w.words i) ≡ false → ticket ≤ ran)
+    × (announces_open_call (remains_of S w.words i) ≡ true
+    → (IsLastOpen B w.words → ⊥) → ran < ticket))
+
+-- a new machine changes no other caller's calls
+abbrev pub RevivalsKeepOthers : Setup → (List ℕ → Type 0) → Type 0
+RevivalsKeepOthers S Lawful = EachRevival S Lawful (λ B w i made.
+    CountsReads S w i made → KeepsOthersCalls S B i w (after_revival S i made w))
+
+-- a machine that may be replaced still may be after each step of another caller
+abbrev pub StepsLeaveRevivable : Setup → (List ℕ → Type 0) → Type 0
+StepsLeaveRevivable S Lawful = EachStep S Lawful (λ B w j m n.
+    (i : ℕ) → i < S.callers → (i ≡ j → ⊥) → MayRevive (remains_of S w.words i) i
+    → MayRevive (remains_of S (after_step S j m n w).words i) i)
+
+-- and after each raise of a loaded word
+abbrev pub RaisesLeaveRevivable : Setup → (List ℕ → Type 0) → Type 0
+RaisesLeaveRevivable S Lawful = EachLoaded S Lawful (λ B w e.
+    (i : ℕ) → i < S.callers → MayRevive (remains_of S w.words i) i
+    → MayRevive (remains_of S (after_raise S w e).words i) i)
