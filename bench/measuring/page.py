@@ -80,14 +80,14 @@ def about(results):
 
 def runs_table(results, wanted):
     """The runs whose names begin so, but for those that a picture shows."""
-    head = ["What", "Instructions", "Each", "Processor time", "Memory"]
+    head = ["What", "Instructions", "Processor time", "Memory"]
     shown = {it for name, drawn in IN_PICTURES.items() if has(results, name) for it in drawn}
     rows = []
     for name, run in results["runs"].items():
         if name.startswith(wanted) and name not in shown:
             name = f"{name}, {run['read']:,} bytes" if name.startswith("recover") else name
             took = f"{1e3 * run['seconds'][0]:,.1f} ms"
-            rows.append([name, short(run["instructions"]), each_text(run), took, memory(run)])
+            rows.append([name, each_text(run), took, memory(run)])
     return table(head, rows)
 
 
