@@ -35,7 +35,7 @@ abbrev pub TakesBlock : ℕ → ℕ → (ℕ → ℕ) → List ℕ → Option �
 TakesBlock o blocks m free None n = (free ≡ []) × (m (fresh_at o) ≡ blocks) × (n ≡ m)
 TakesBlock o blocks m free (Some b) n = IsBlockTaken o blocks m free b n
 
--- block b, which was out, stands in front of the free list
+-- block b, which was out, is now the front of the free list
 pub record IsGiven (o blocks : ℕ) (m : ℕ → ℕ) (free : List ℕ) (b : ℕ) (n : ℕ → ℕ) : Type 0 where
   pub list : IsFreeList o blocks n (b ∷ free)
   pub others : (x : ℕ) → x ≢ b → IsOut o m free x ↔ IsOut o n (b ∷ free) x

@@ -1,4 +1,4 @@
--- What a call tells its caller: how it has ended, or that it is still open.
+-- What a call's answer lets its caller know: how it has ended, or that it is still open.
 use Rattle.std.specs.Prelude.{◌≡◌, ℕ, ◌+◌, ◌<◌, ◌≤◌, List, [], ◌∷◌, ◌++◌, length, Some, Result, Ok, Err}
 use mathlib.Core.List.{IsPrefix}
 use Rattle.of_mem.specs.Meaning.{Meaning}
@@ -41,7 +41,7 @@ pub record HasEndedWith (S : Setup) (Lawful : List ℕ → Type 0) (B : TableSta
   pub stands : CallHasEnded S B (seen_history w.seen) (seen_seq B w.seen) m.caller m.made m.op o
   -- a read's reply is its operation's meaning after the batches that were seen up to its sequence
   pub meant : IsMeantReply S B (seen_history w.seen) m.op o
-  -- an answer tells the steps of the whole call
+  -- an answer counts the steps of the whole call
   pub steps : TellsSteps (m.steps + n) o
   -- and those of no call, a spent one neither, are more than the bound
   pub within : m.steps + n ≤ bound S
@@ -49,7 +49,7 @@ pub record HasEndedWith (S : Setup) (Lawful : List ℕ → Type 0) (B : TableSta
   pub touched : IsWithinTouched S Lawful m.op (m.steps + n)
   -- an announced call is above all that was seen when it began, and no read is below
   pub beyond : IsNotBefore (since_after B v x) o
-  -- it is spent exactly if a round that began at the limit looked for it in vain
+  -- it is spent exactly if a round that began at the limit did not find its ticket
   pub last : IsLastStep S Lawful d o
 
 -- it is open still, and has a step left
@@ -110,8 +110,8 @@ pub record TellsCall (S : Setup) (Lawful : List ℕ → Type 0) (B : TableStart)
   pub turns : kept.turns ≡ before.turns + steps
   -- and the member keeps what was seen when the call began, also if it was stopped
   pub since : 0 < steps → kept.since ≡ since_after B v before
-  -- however it went on, also if it was stopped: with its steps before this call it has made no
-  -- more than what operations of the work touch allows
+  -- also if the call was stopped: with its steps before, it has made no more than what operations
+  -- of the work touch allows
   pub touched : 0 < steps → IsWithinTouched S Lawful m.op (m.steps + steps)
   pub result : TellsResult S Lawful B m v before steps d w kept r
 

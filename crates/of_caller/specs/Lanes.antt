@@ -46,7 +46,7 @@ pub record HasAnsweredScripts (p : Plan) (behind c : ℕ) (x : KnownCaller) (ans
   pub answered : AreAnswered p behind c x.ended answers
   pub count : length answers ≡ i
 
--- so it is of a caller between two calls, whose member shows its machine
+-- the same of a caller between two calls, whose member shows its machine
 pub record CallerHasAnswered (p : Plan) (behind c : ℕ) (r : Row Scripts) (caller : Caller Scripts)
     (answers : List Answer) (i : ℕ) : Type 0 where
   pub is_caller : IsCaller scripts_meaning r caller

@@ -18,7 +18,8 @@ pub record HasTableLaws (S : Setup) (Lawful : List ℕ → Type 0) : Type 0 wher
   -- a step of an open call finds a word, and is a step whatever its kind
   pub finds : StepsFindTheirWord
   pub steps : OpenStepsAreSteps S Lawful
-  -- every schedule leaves a sound moment, and each caller's calls and turns as its events tell
+  -- every schedule leaves a sound moment, and the calls and turns of each caller are those of its
+  -- events
   pub moments : EveryMomentIsSound S Lawful
   pub calls : EveryCallStands S Lawful
   pub more_calls : EventsLeadCalls S Lawful

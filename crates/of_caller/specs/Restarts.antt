@@ -54,7 +54,7 @@ MayRestartAfter p s e r =
     IsStartRow (plan_setup p) (IsLawfulFor p) found
     × StartsAfterReport p s r (start_from_durable p.callers (plan_data_cells p) found)
 
--- so it is of each run
+-- this holds of each run of a plan
 abbrev pub RunsRestart : Type 0
 RunsRestart =
     (p : Plan) (s : Start) (B : TableStart) (w : Moment) (e : Ended) → IsRunOfPlan p s B w e

@@ -118,12 +118,12 @@ RunsAreReported =
     (p : Plan) (s : Start) (B : TableStart) (w : Moment) (e : Ended) → IsRunOfPlan p s B w e
     → (r : Report) → IsLawfulRecord p s e r → ReportsRun p s e r
 
--- the steps that the outcomes of caller c tell, and those of its open call
+-- the steps of the outcomes of caller c, and those of its open call
 abbrev pub steps_made : Moment → (c : ℕ) → List Outcome → ℕ
 steps_made w c outs = total_steps outs + (machine_in w c).steps
 
--- in it a caller that has made at most n steps, and just n if it is stopped with no call spent,
--- keeps them as its allowance, if its open call has a step left
+-- in the report of a run, a caller that has made at most n steps, and exactly n if it is stopped
+-- with no call spent, keeps them as its allowance, if its open call has a step left
 abbrev pub RunsKeepAllowances : Type 0
 RunsKeepAllowances =
     (p : Plan) (s : Start) (B : TableStart) (w : Moment) (e : Ended) (run : IsRunOfPlan p s B w e)

@@ -101,7 +101,7 @@ pub record IsTeamOf (p : Plan) (s : Start) (B : TableStart) (e : Ended) (v : Vie
       → KeepsCallerWith c (KeepsCaller p (finished_of s c) c (answers_of e c) (ending_of e c))
       v.kept
 
--- the entry and the call are of one script
+-- the entry is of the same caller as the call, and its script is the one of the call's ticket
 abbrev pub IsEntryOf : Entry → Call → Type 0
 IsEntryOf f k = (k.caller ≡ f.caller) × (k.ticket ≡ f.index + 1)
 
@@ -129,7 +129,7 @@ pub record IsHandedBack (p : Plan) (s : Start) (B : TableStart) (e : Ended) (w :
   -- and it is what some turns and the plan's evictions leave, one after the other
   pub scheduled : (items : List Item) × IsScheduled p s B items e
 
--- from whatever start of the plan that is the row's
+-- for each start of the plan that is the row's
 abbrev pub HandsBack : Plan → Row Scripts → Ended → View → Type 0
 HandsBack p r e w =
     (s : Start) → StartsAtPlan p s (start_of_row r) → IsHandedBack p s (start_of_row r) e w

@@ -34,7 +34,7 @@ IsCellHandle meaning h = Serves meaning (home_of h) (number_of_handle h) (caller
 abbrev pub made_by : {W : Type 0} → CellHandle W → List EndedCall
 made_by h = ended_of (caller_of h)
 
--- a call of it is open, of whatever operation
+-- a call of it is open, of any operation
 abbrev pub HasCallOpen : {W : Type 0} → CellHandle W → Type 0
 HasCallOpen h = IsInCall (caller_of h)
 
@@ -109,8 +109,8 @@ tickets_behind meaning h = made_before meaning (home_of h) (number_of_handle h)
 abbrev pub HasNoTicketLeft : {W : Type 0} → CellHandle W → Type 0
 HasNoTicketLeft h = calls_begun h + 1 < 4294967296 → ⊥
 
--- the calls of a handle that has none open are those with which its memory was opened, and those
--- that it has made since
+-- if a handle has no open call, its number has begun the calls from before its memory was opened
+-- and those that the handle has made since, and no others
 abbrev pub CallsAreCounted : {W : Type 0} → (W → Meaning) → Type 0
 CallsAreCounted {W} meaning =
     (h : CellHandle W) → IsCellHandle meaning h → (HasCallOpen h → ⊥)

@@ -26,7 +26,7 @@ pub record KnowsSame {W : Type 0} (n : ℕ) (m k : CellMemory W) : Type 0 where
   pub open_call : (op : List ℕ) → HasOpenOf m n op → HasOpenOf k n op
   pub only_open : (op : List ℕ) → HasOpenOf k n op → HasOpenOf m n op
 
--- so it is of each number from this one on
+-- the same of each number from this one on
 abbrev pub KnowsRest : {W : Type 0} → (from : ℕ) → (before now : CellMemory W) → Type 0
 KnowsRest from m k = (n : ℕ) → from ≤ n → KnowsSame n m k
 
@@ -100,7 +100,7 @@ IsTaskCause m count (Enrolled n) = (n < count) × (get_or m.callers.items n None
 abbrev pub MayWork : {W J : Type 0} → (W → Meaning) → Slot W J → Type 0
 MayWork {W} {J} meaning s = (p : CellHandle W × J) → s ≡ Some p → IsCellHandle meaning p.0
 
--- so is each
+-- each of the handles is one of some memory
 abbrev pub MayAllWork : {W J : Type 0} → (W → Meaning) → List (Slot W J) → Type 0
 MayAllWork {W} {J} meaning ss =
     (i : ℕ) (s : Slot W J) → i < length ss → s ≡ get_or ss i s → MayWork meaning s
@@ -112,7 +112,7 @@ WorksOn {W} {J} meaning Does s t =
     (p : CellHandle W × J) → s ≡ Some p
     → (q : CellHandle W × J) × (t ≡ Some q) × HasWorked meaning Does p q
 
--- so has each
+-- each task has worked with its handle
 abbrev pub AllWorkOn : {W J : Type 0} → (W → Meaning) → TaskWork W J
     → (before now : List (Slot W J)) → Type 0
 AllWorkOn {W} {J} meaning Does ss ts =

@@ -44,7 +44,7 @@ CallsStay h k = KnowsMore (caller_of h) (caller_of k)
 
 -- ---- news
 
--- the events that it tells of
+-- the events that are in the news
 abbrev pub events_told : CellNews → List Event
 events_told a = (view_of_pass a.pass).past
 
@@ -53,21 +53,21 @@ pub record IsNews {W : Type 0} (r : Row W) (a : CellNews) : Type 0 where
   pub row : IsRowPass r a.pass
   pub nobody : KeepsNobody a.pass
 
--- it tells that the first `count` calls of a number have ended
+-- the news says that the first `count` calls of a number have ended
 abbrev pub TellsOf : {W : Type 0} → (W → Meaning) → Row W → CellNews → (number count : ℕ) → Type 0
 TellsOf meaning r a n count =
     count ≤ calls_ended_in (setup_at meaning r) (row_start meaning r) (events_told a) n
 
--- it tells of all calls of the handle that have ended
+-- the news has all calls of the handle that have ended
 abbrev pub TellsOwn : {W : Type 0} → (W → Meaning) → CellHandle W → CellNews → Type 0
 TellsOwn meaning h a = TellsOf meaning (home_of h) a (number_of_handle h) (length (made_by h))
 
--- it tells of all that the handle has heard of
+-- the news has all that the handle has heard of
 abbrev pub TellsHeard : {W : Type 0} → (W → Meaning) → CellHandle W → CellNews → Type 0
 TellsHeard meaning h a =
     (n count : ℕ) → HasHeardOf meaning h n count → TellsOf meaning (home_of h) a n count
 
--- the handle has heard of all that the news tells of
+-- the handle has heard of all that is in the news
 abbrev pub HearsAll : {W : Type 0} → (W → Meaning) → CellNews → CellHandle W → Type 0
 HearsAll meaning a h =
     (n count : ℕ) → TellsOf meaning (home_of h) a n count → HasHeardOf meaning h n count

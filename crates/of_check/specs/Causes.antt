@@ -92,7 +92,7 @@ BreaksClaim Missing p done seq counts ends caller = length ends ≤ caller
 BreaksClaim rule p done seq counts ends caller =
     BreaksEnd rule p (left_of p done caller) seq (claimed_line_at done counts ends caller)
 
--- so does this caller, and those before it may end as they claim
+-- this caller's line breaks a rule, and those before it may end as they claim
 pub record BreaksFirst (p : Plan) (done : List ℕ) (seq : ℕ) (counts : List ℕ) (ends : List EndClaim)
     (caller : ℕ) (rule : EndRule) : Type 0 where
   pub there : caller < p.callers
@@ -170,7 +170,7 @@ IsJudgement p s text (Legal report) = IsTextOf p s text (report_value report)
 IsJudgement p s text (Illegal cause) =
     IsCauseFrom p s text cause × (IsLegalFrom p s text → ⊥)
 
--- so it is from the empty start
+-- the same from the empty start
 abbrev pub IsReportJudgement : Plan → (text : List ℕ) → Judgement → Type 0
 IsReportJudgement p text (Legal report) = IsLegalText p text
 IsReportJudgement p text (Illegal cause) =

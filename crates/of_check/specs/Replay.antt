@@ -56,7 +56,7 @@ abbrev pub entries_from : Plan → Replay → List CallClaim → List Entry
 entries_from p c [] = []
 entries_from p c (q ∷ qs) = entry_for p c q ∷ entries_from p (after_claimed_call p c q) qs
 
--- how things stand once they have run
+-- what is left of the store and the callers once the claims have run
 abbrev pub course_end : Plan → Replay → List CallClaim → Replay
 course_end p c [] = c
 course_end p c (q ∷ qs) = course_end p (after_claimed_call p c q) qs

@@ -27,8 +27,8 @@ rests_on_seq_at m StoreAnnouncement = 0
 rests_on_seq_at m LoadCurrent = 0
 rests_on_seq_at m p = m.seq
 
--- what a call's last step answers: it counts each of its steps, and rests on no newer state than
--- the machine did. An unannounced answer comes from a try
+-- what a call's last step answers: it counts each of its steps, and names no newer state than the
+-- machine depended on. An unannounced answer comes from a try
 abbrev pub LastStepTells : Setup → CallState → Place → Option Outcome → Type 0
 LastStepTells S m p None = ⊥
 LastStepTells S m p (Some (Answered s false raw steps)) =

@@ -120,7 +120,7 @@ GoesBlindly S m =
     IsRaise (want S m) × ((n k : ℕ) → take_word S m n ≡ take_word S m k)
     × ((ws : List ℕ) (n : ℕ) → step_batches S ws m n ≡ [])
 
--- so is each step on a durable word: no machine goes on otherwise for what it finds there
+-- no step on a durable word makes a machine go on in another way, whatever it finds there
 abbrev pub StepBlind : Setup → (List ℕ → Type 0) → Type 0
 StepBlind S Lawful = EachMachine S Lawful (λ B w i m.
     ((c : ℕ) → c < cell_count S → word_of (want S m) ≡ durable_at S c → ⊥) ⊎ GoesBlindly S m)
@@ -287,7 +287,7 @@ abbrev pub EveryOrder : Setup → (List ℕ → Type 0) → Type 0
 EveryOrder S Lawful =
     EachSchedule S Lawful (λ B n es. IsDurablyLinearizable S B (opening_moment S B n) es)
 
--- and detectable: what recovery finds tells each caller whether its last call took effect, by each
+-- and detectable: what recovery finds shows each caller whether its last call took effect, by each
 -- order that linearizes the schedule and that recovery finds
 abbrev pub Detectable : Setup → (List ℕ → Type 0) → Type 0
 Detectable S Lawful = EachSchedule S Lawful (λ B n es.
@@ -411,7 +411,7 @@ RenumbersMidway S Lawful = (row : List ℕ) → IsStartRow S Lawful row → (mad
 abbrev pub IsIdleOrOpen : Type 0
 IsIdleOrOpen = (p : Place) → (p ≡ Idle) ⊎ IsOpen p
 
--- the test tells which
+-- the test `is_idle` is true only at Idle
 abbrev pub IdleTestIsExact : Type 0
 IdleTestIsExact = (p : Place) → is_idle p ≡ true → p ≡ Idle
 
@@ -426,7 +426,7 @@ abbrev pub IdleRestsOnNothing : Type 0
 IdleRestsOnNothing =
     (m : CallState) → m.place ≡ Idle → (rests_on_seq m ≡ 0) × ((low : ℕ) → ReadsFrom low m)
 
--- a step finds the word that stands there
+-- a step finds the word that is there
 abbrev pub StepsFindTheirWord : Type 0
 StepsFindTheirWord =
     (S : Setup) (ws : List ℕ) (m : CallState) → IsFoundBy (want S m) ws (word_found S ws m)
@@ -462,7 +462,7 @@ abbrev pub LongerKeepsStates : Type 0
 LongerKeepsStates = (B : TableStart) (bs cs : List Batch) (k : ℕ)
     → k ≤ B.seq + length bs → state_after B (bs ++ cs) k ≡ state_after B bs k
 
--- so has the beginning of a history
+-- the beginning of a history keeps its batches
 abbrev pub PrefixKeepsBatches : Type 0
 PrefixKeepsBatches = (B : TableStart) (bs : List Batch) (n k : ℕ)
     → B.seq < k → k ≤ B.seq + n → batch_at B (take n bs) k ≡ batch_at B bs k

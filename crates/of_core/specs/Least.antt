@@ -1,4 +1,4 @@
--- How many steps a call has made at least, by the place at which it stands.
+-- How many steps a call has made at least, by its place.
 use Rattle.std.specs.Prelude.{ℕ, ◌+◌, ◌==◌, List, length, Option, Some, None, Bool, true, false, ◌≡◌, ◌≤◌}
 use Rattle.of_mem.specs.Meaning.{WalkEnd, Needs, Gives}
 use Rattle.of_core.specs.declared.place.Place.{Place}
@@ -72,8 +72,8 @@ TellsLeastSteps S op (Some (Answered s true raw steps)) = least_call op ≤ step
 TellsLeastSteps S op (Some (Answered s false raw steps)) = least_read S op ≤ steps
 TellsLeastSteps S op (Some (Spent s)) = Unit {0}
 
--- the steps made are as many at least; an idle machine has none of an open call, and its last
--- answer tells as many as its call needed
+-- the steps made are at least those; an idle machine has none of an open call, and its last answer
+-- has at least the steps that its call must make
 pub record HasMadeLeastSteps (S : Setup) (m : CallState) (p : Place) : Type 0 where
   pub steps : least_steps_at m p ≤ m.steps
   pub rests : p ≡ Idle → m.steps ≡ 0

@@ -69,7 +69,7 @@ pub record HasScannedUpTo (S : Setup) (B : TableStart) (ws : List ℕ) (bs : Lis
   pub own : s ≡ committed_seq ws → i < n
       → (y : ℕ) × (y < length cs)
       × (get_or cs y no_call ≡ record { caller = i; ticket = made; op = op; raw = raw })
-  -- an announcement that stood before batch s is run, or was run before
+  -- an announcement that was there before batch s is run, or was run before
   pub met : B.seq < s → (c : ℕ) → c < n → c < S.callers
       → (batch_at B bs s).announcements c ≡ announcement_of S ws c
       → (seq_of (announcement_of S ws c) ≤ last_ticket_by S B bs s c)

@@ -18,7 +18,7 @@ pub record Batch : Type 0 where
   pub log : List (ℕ × ℕ)
   -- the calls that it runs, by caller
   pub calls : List Call
-  -- the announcements that stood when it was committed
+  -- the announcements at the moment when it was committed
   pub announcements : ℕ → ℕ
 
 -- a call that was answered without being announced: it read the state at this sequence

@@ -1,4 +1,4 @@
--- What the invariant says of words and history alone, in groups.
+-- What the invariant says of words and history, and of no machine, in groups.
 use Rattle.std.specs.Prelude.{ℕ, ◌+◌, ◌*◌, ◌-◌, List, length, ◌≡◌, ◌≤◌, ◌<◌, ◌⊎◌, max, map}
 use Rattle.std.proofs.Common.{get_or}
 use Rattle.of_mem.specs.declared.work.TheConstants.{MOST_INSTRS}
@@ -149,7 +149,7 @@ pub record StatesFollowBatches (S : Setup) (Lawful : List ℕ → Type 0) (B : T
   -- no ticket falls
   pub grow : (k i : ℕ) → B.seq ≤ k → k < B.seq + length bs → i < S.callers
       → last_ticket_by S B bs k i ≤ last_ticket_by S B bs (k + 1) i
-  -- a batch's calls stand by caller
+  -- a batch's calls are ordered by caller
   pub ordered : (k : ℕ) → B.seq < k → k ≤ B.seq + length bs → CallersRise (batch_at B bs k).calls
   -- and it has one at least
   pub some : (k : ℕ) → B.seq < k → k ≤ B.seq + length bs → 0 < length (batch_at B bs k).calls
@@ -168,7 +168,7 @@ pub record AnnouncementsAreServed (S : Setup) (B : TableStart) (ws : List ℕ) (
   -- announcements only rise
   pub before : (k i : ℕ) → B.seq < k → k ≤ committed_seq ws → i < S.callers
       → seq_of ((batch_at B bs k).announcements i) ≤ seq_of (announcement_of S ws i)
-  -- one that stood when a batch was committed is run by the next batch at the latest
+  -- one that was there when a batch was committed is run by the next batch at the latest
   pub met : (k i : ℕ) → B.seq < k → k < committed_seq ws → i < S.callers
       → (batch_at B bs k).announcements i ≡ announcement_of S ws i
       → seq_of (announcement_of S ws i) ≤ last_ticket_by S B bs (k + 1) i

@@ -103,7 +103,7 @@ abbrev pub read_and_store : List Event
 read_and_store =
     Begins 0 (0 ∷ []) ∷ replicate 3 (Turns 0) ++ Begins 0 (7 ∷ []) ∷ replicate 48 (Turns 0)
 
--- and how its calls end, from zeros
+-- how these two calls end, from zeros
 abbrev pub two_calls : List Outcome
 two_calls =
     outcomes (table_with 1 register_meaning)

@@ -1,4 +1,4 @@
--- The rule of a door: its word says what stands in the slot.
+-- The rule of a door: its word says what is in the slot.
 use Rattle.std.specs.Prelude.{◌≡◌, ◌≢◌, ℕ, ◌⊎◌, List, [], ◌∷◌, true, false, Option, Some, None}
 use mathlib.Core.Option as maybe
 use lib.ListN.{get_elem?}
@@ -12,7 +12,7 @@ use Rattle.of_door.specs.Hands.{HandLog, log_after_exchange, after_store}
 abbrev pub IsMemberAtDoor : {W : Type 0} → Row W → ℕ → Member → Type 0
 IsMemberAtDoor r number m = IsRowMember r m × (number_of_member m ≡ number) × HasNoCall m
 
--- so it is where the row is told
+-- the same, if the row is known
 abbrev pub IsMemberAtToldDoor : {W : Type 0} → Option (Row W) → ℕ → Member → Type 0
 IsMemberAtToldDoor None number m = Unit {0}
 IsMemberAtToldDoor (Some r) number m = IsMemberAtDoor r number m

@@ -76,8 +76,8 @@ ContainsNumber [] x = ⊥
 ContainsNumber (a ∷ l) x = (x ≡ a) ⊎ ContainsNumber l x
 
 -- The blocks that were met: all of the chains before chain n, and those of chain n from its front
--- up to here. Each is below fresh and stands in one chain, and once in it, and what stands in the
--- blocks is sound.
+-- up to here. Each is below fresh and is in one chain, and once in it, and what the blocks hold is
+-- sound.
 pub record HasPassed (o blocks : ℕ) (m : ℕ → ℕ) (n : ℕ) (chains : ℕ → List ℕ) : Type 0 where
   pub linked : (c : ℕ) → c < n → IsChain o m (front_at o blocks c) (chains c)
   pub path : IsPath o m (front_at o blocks n) (chains n)
@@ -173,7 +173,7 @@ pub data IsFirstFault (callers instrs blocks : ℕ) (m : ℕ → ℕ) (cell : �
   Fresh : AllOwnCellsAreSound instrs m callers → AreNumbers (base_of callers instrs) m REGISTERS
       → blocks < m (fresh_at (base_of callers instrs))
       → cell ≡ fresh_at (base_of callers instrs) → IsFirstFault callers instrs blocks m cell
-  -- a pointer of a chain, or what stands in a block
+  -- a pointer of a chain, or what a block holds
   Chain : HasSoundHead callers instrs blocks m → (n : ℕ) (chains : ℕ → List ℕ)
       → HasPassed (base_of callers instrs) blocks m n chains
       → HasRightCounts (base_of callers instrs) blocks m n chains

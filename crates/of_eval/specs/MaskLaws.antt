@@ -1,5 +1,5 @@
 -- The reply of words is a reply of a work: it is made of words, and it marks numbers of its own
--- instructions alone. These lemmas stand in specs/ since SoundScripts, the law of an impl, is
+-- instructions alone. These lemmas are in specs/ since SoundScripts, the law of an impl, is
 -- proved with them.
 use Rattle.std.proofs.Common.{◌≡◌, ℕ, zero, suc, ◌+◌, ◌-◌, ◌*◌, ◌<◌, ◌≤◌, ◌/◌, ◌%◌, ◌^◌, ◌==◌, true, false, refl, sym, ◌∙◌, ap, subst, arith, Option, Some, None, Ok, Err, List, [], ◌∷◌, ◌++◌, length, get_or, map, replicate, length-append}
 use Rattle.std.specs.List.{AllByRecursion as Each}

@@ -90,7 +90,7 @@ pub record IsBeforeChain (p : Plot) (cells : List ℕ) (n k : ℕ) (owners : Lis
   pub kept : HoldsWhatWasMet p cells chains s
   pub start : chains n ≡ []
 
--- the walk stands before the buckets, and no store has been made yet
+-- the walk is before the buckets, and no store has been made yet
 pub record HasWalkedFreeList (p : Plot) (cells : List ℕ) (owners : List ℕ) : Type 0 where
   pub chains : ℕ → List ℕ
   pub walked : HasWalked p cells 1 1 chains owners

@@ -63,7 +63,7 @@ abbrev pub UnannouncedOnlyReads : Life → Entry → Type 0
 UnannouncedOnlyReads l e =
     e.announced ≡ false → All (λ i. IsTrue (reads_only i)) (script_of_entry l.plan e)
 
--- so it is with each entry of a life
+-- this holds of each entry of a life
 abbrev pub HasReads : Start → Life → Type 0
 HasReads s l = All (UnannouncedOnlyReads l) l.report.entries
 
@@ -78,16 +78,16 @@ pub record AreOneHistory (s : Start) (ls : List Life) : Type 0 where
   -- serial replay of all lives in order gives all replies, each at its place, and the last store
   pub replies : map (λ e. e.reply) (entries_in ls) ≡ replies_in_order s.store (life_scripts ls)
   pub final_store : (start_behind_all s ls).store ≡ last_store s.store (life_scripts ls)
-  -- entries stand by sequence; each one above the start's, up to the last, has an announced entry
+  -- entries are by sequence; each one above the start's, up to the last, has an announced entry
   pub order : AllPairs ComesBefore (entries_in ls)
   pub sequences : All (IsBetween s (start_behind_all s ls)) (entries_in ls)
   pub from_start : s.seq ≤ (start_behind_all s ls).seq
   pub none_left_out :
       (k : ℕ) → s.seq < k → k ≤ (start_behind_all s ls).seq
       → Any (IsAnnouncedAt k) (entries_in ls)
-  -- each announced call stands once, in its caller's order
+  -- each announced call is there once, in its caller's order
   pub once : AllPairs ComesLater (entries_in ls)
-  -- none stands there that was done at the start, and each from there to the last that is done does
+  -- no call is there that was done at the start, and each from there to the last that is done is
   pub behind_start : All (IsBehind s) (entries_in ls)
   pub all_done :
       (c x : ℕ) → finished_of s c ≤ x → x < finished_of (start_behind_all s ls) c
@@ -127,9 +127,9 @@ pub record AreOneHistoryInSpans (s : Start) (spans : List (List Life)) : Type 0 
       ≡ replies_in_order s.store (scripts_of_spans spans)
   pub final_store : (start_behind_spans s spans).store
       ≡ last_store s.store (scripts_of_spans spans)
-  -- each announced call stands once, in its caller's order
+  -- each announced call is there once, in its caller's order
   pub once : AllPairs ComesLater (entries_of_spans spans)
-  -- none stands there that was done at the start, and each from there to the last that is done does
+  -- no call is there that was done at the start, and each from there to the last that is done is
   pub behind_start : All (IsBehind s) (entries_of_spans spans)
   pub all_done :
       (c x : ℕ) → finished_of s c ≤ x → x < finished_of (start_behind_spans s spans) c
@@ -149,11 +149,11 @@ pub record AreOneHistoryInSpans (s : Start) (spans : List (List Life)) : Type 0 
   -- and the lives of each span are one history by their sequences too
   pub each : EachSpan AreOneHistory s spans
 
--- so it is for every list of spans, from every start
+-- this holds for every list of spans, from every start
 abbrev pub SpansAreOneHistory : Type 0
 SpansAreOneHistory =
     (s : Start) (spans : List (List Life)) → AreSpans s spans → AreOneHistoryInSpans s spans
 
--- so it is for every list of lives, from every start
+-- this holds for every list of lives, from every start
 abbrev pub LivesAreOneHistory : Type 0
 LivesAreOneHistory = (s : Start) (ls : List Life) → AreLives s ls → AreOneHistory s ls

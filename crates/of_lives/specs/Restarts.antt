@@ -24,12 +24,12 @@ pub record LeavesRow (p : Plan) (s : Start) (r : Report) (found : List ℕ) : Ty
   pub row : IsStartRow (plan_setup p) (IsLawfulFor p) found
   pub start : StartsAtPlan p (start_behind s (record { plan = p; report = r }))
       (start_from_row p found)
-  -- and each caller's own cells hold its last announced call, with the reply that the report tells
+  -- and each caller's own cells hold its last announced call, with the reply that is in the report
   pub last_calls : (c : ℕ) → c < p.callers
       → HoldsLastAnnounced (start_number (start_from_row p found)) c (finished_of s c)
       (entries_of r c)
 
--- so it is of what recovery makes of the durable words of each run of a plan from a start
+-- this holds of what recovery makes of the durable words of each run of a plan from a start
 abbrev pub LivesRestart : Type 0
 LivesRestart =
     (p : Plan) (s : Start) (B : TableStart) (w : Moment) (e : Ended) → IsRunOfPlan p s B w e

@@ -6,8 +6,8 @@ use Rattle.of_mem.specs.declared.work.RawReply.{RawReply}
 use Rattle.of_mem.specs.Meaning.{Meaning, Needs, Gives, Agrees}
 use Rattle.of_mem.specs.Programs.{Program, Done, Read, Write, with_value}
 
--- On this list the operation needs none but these cells, whatever else is known, and it writes so
--- many cells at most.
+-- On this list the operation needs only these cells, whatever else is known, and it writes at most
+-- `writes` cells.
 pub record StaysWithin (M : Meaning) (xs op cells : List ℕ) (writes : ℕ) : Type 0 where
   pub needs : (known : List (Option ℕ)) (a : ℕ) → Agrees known xs → M.walk known op ≡ Needs a
       → Contains cells a

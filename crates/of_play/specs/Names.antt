@@ -92,7 +92,7 @@ word_at_place n m w =
     ((w - script_place n MOST_INSTRS m 0 0) % (MOST_INSTRS + 1))
     else Members
 
--- Each data cell, each cell and each word has the name of what stands there.
+-- Each data cell, each cell and each word has the name of what it holds.
 abbrev pub CellUsesAreNamed : Type 0
 CellUsesAreNamed = (n a : ℕ) → address_of n (cell_use_at n a) ≡ a
 

@@ -18,14 +18,14 @@ use Rattle.of_report.specs.Found.{HasFound, AreOwn}
 
 -- ---- the entries of one caller
 
--- what recovery has found tells this open call of a caller, or that it has none
+-- this open call of a caller, or that it has none, is what recovery has found
 abbrev pub TellsOpenCall : RecoveredTable → (caller index : ℕ) → Option Entry → Type 0
 TellsOpenCall f c x told =
     (p : Plan) (e : Ended) (extra : List plain.Entry) → HasFound p e f
     → OpenCall p e c x (record_number p e (ticket_cell_at MOST_INSTRS c) == x + 1) extra
     → map entry_value (option_to_list told) ≡ extra
 
--- it tells this as what a caller with this ending has beyond its answers
+-- recovery has found this of a caller with this ending beyond its answers
 abbrev pub TellsBeyondAnswers : RecoveredTable → (caller index : ℕ) → Ending → Option Entry → Type 0
 TellsBeyondAnswers f c x ending told =
     (p : Plan) (e : Ended) (extra : List plain.Entry) → HasFound p e f

@@ -1,5 +1,4 @@
--- What passes are told: of a number that they asked for, of a cell that they evicted, and at the
--- end.
+-- What passes learn: of a number that they asked for, of a cell that they evicted, and at the end.
 use Rattle.std.specs.Prelude.{◌≡◌, ℕ, List}
 use Rattle.std.specs.Int.{bit_at}
 use Rattle.of_mem.specs.Meaning.{Meaning}

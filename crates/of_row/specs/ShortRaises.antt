@@ -48,7 +48,7 @@ pub record HasShortRaises (S : Setup) (B : TableStart) (es : List Event) : Type 
   pub at_once : (k c : ℕ) → c < cell_count S
       → IsShort S B es k c (get_or (moment_at S B es k).words c 0)
 
--- so are the raises of each schedule that leads to a moment that meets the row's rule
+-- the raises are short of each schedule that leads to a moment that meets the row's rule
 abbrev pub MomentsHaveShortRaises : (List ℕ → Type 0) → Setup → Type 0
 MomentsHaveShortRaises Lawful S =
     (B : TableStart) (s : State (Unit {0}) View) → MeetsRule S Lawful B s
