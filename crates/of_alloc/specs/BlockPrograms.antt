@@ -17,7 +17,7 @@ with_fresh o blocks n = take_fresh o n (ltb n blocks)
 abbrev pub with_free_link : ℕ → ℕ → ℕ → Program (Option ℕ)
 with_free_link o b link = Write (free_at o) link (Done (Some b))
 
--- by the pointer that free holds
+-- takes a block, by the pointer of the free list
 abbrev pub with_free : ℕ → ℕ → ℕ → Program (Option ℕ)
 with_free o blocks zero = Read (fresh_at o) (with_fresh o blocks)
 with_free o blocks (suc b) = Read (link_at o b) (with_free_link o b)

@@ -52,7 +52,7 @@ pub record HasEndedWith (S : Setup) (Lawful : List ℕ → Type 0) (B : TableSta
   -- it is spent exactly if a round that began at the limit did not find its ticket
   pub last : IsLastStep S Lawful d o
 
--- it is open still, and has a step left
+-- the call is still open, and has a step left
 pub record IsStillOpen (S : Setup) (m : CallState) (x : KnownCaller) (n : ℕ) (d : CallState)
     (y : KnownCaller) : Type 0 where
   pub open_call : IsOpen d.place

@@ -33,7 +33,7 @@ pub record HoldsLastAnnounced (m : ℕ → ℕ) (caller n : ℕ) (es : List Entr
   pub from : n ≤ m (ticket_cell_at MOST_INSTRS caller)
   -- no announced entry has a higher ticket
   pub last : All (λ e. IsTrue e.announced → e.index < m (ticket_cell_at MOST_INSTRS caller)) es
-  -- and they hold one, if the ticket isn't n
+  -- and they hold an announced entry, if the ticket isn't n
   pub has : (m (ticket_cell_at MOST_INSTRS caller) ≡ n) ⊎ Any (IsHeldIn m caller) es
 
 -- a table starts where the report of a run ends: at its sequence and its store, and each caller's

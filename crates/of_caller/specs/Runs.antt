@@ -112,7 +112,7 @@ RunsAreLawful =
     (p : Plan) (s : Start) (B : TableStart) (w : Moment) (e : Ended) → IsRunOfPlan p s B w e
     → (r : Report) × IsLawfulRecord p s e r
 
--- and of its report all holds that holds of every run
+-- what holds of the report of every run holds of its report
 abbrev pub RunsAreReported : Type 0
 RunsAreReported =
     (p : Plan) (s : Start) (B : TableStart) (w : Moment) (e : Ended) → IsRunOfPlan p s B w e

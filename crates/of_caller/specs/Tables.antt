@@ -31,7 +31,7 @@ IsLawfulFor p xs = StandsForSome (base_of p.callers MOST_INSTRS) p.blocks (memor
 abbrev pub opening_at : Plan → TableStart → Moment
 opening_at p B = opening_moment (plan_setup p) B (table_word_count (plan_setup p))
 
--- the same of zeros
+-- the table of a plan of zeros, before anything has happened
 abbrev pub opening_for : Plan → Moment
 opening_for p = opening_at p (zero_start (plan_setup p))
 

@@ -220,7 +220,7 @@ IsEnrolCause m n (OutOfMemory e) = Unit {0}
 IsEnrolCause m n (NoCaller k) = (k ≡ n) × (callers_of m ≤ n)
 IsEnrolCause m n (Enrolled k) = (k ≡ n) × (get_or m.callers.items n None ≡ None)
 
--- and why no memory is opened
+-- why no memory is opened
 abbrev pub IsOpenCause : (limit : ℕ) → OpenError → Type 0
 IsOpenCause limit (NoRoom e) = Unit {0}
 IsOpenCause limit (Limit k) = (k ≡ limit) × ((limit ≡ 0) ⊎ (GREATEST_LIMIT < limit))

@@ -95,7 +95,7 @@ KnowsOrdersOf meaning m h =
     (n x k y : ℕ) → HasOrderOf meaning m (number_of_handle h) n x k y
     → KnowsOrder meaning h n x k y
 
--- its number knows each order that the handle knew when it left
+-- the memory knows of the handle's number each order that the handle knew when it left
 abbrev pub LeavesOrder : {W : Type 0} → (W → Meaning) → CellHandle W → CellMemory W → Type 0
 LeavesOrder meaning h m =
     (n x k y : ℕ) → KnowsOrder meaning h n x k y
@@ -116,8 +116,8 @@ pub record TellsMemory {W : Type 0} (meaning : W → Meaning) (h : CellHandle W)
 -- ---- the whole
 
 -- Handle a tells when it has made its calls. Handle b hears of it, and its next call leaves it as
--- c. It leaves its memory m as e, with all that c knew, and what is saved at the close is d. So each
--- call that a had made comes before that call, and before each later one of b's number, in the
+-- c. It leaves its memory m as e, with all that c knew, and what is saved at the close is d. So
+-- each call that a had made comes before that call, and before each later one of b's number, in the
 -- history.
 abbrev pub ToldCallsComeFirst : {W : Type 0} → (W → Meaning) → Type 0
 ToldCallsComeFirst {W} meaning =

@@ -64,7 +64,7 @@ pub record IsSavedRow {W : Type 0} (many size : W → ℕ) (work : W) (row : Lis
   pub cells : saved_cells d ≡ map payload_of (start_in many size work row).cells
   pub seq : saved_seq d ≡ (start_in many size work row).seq
 
--- it has those that recovery finds in the words
+-- what is saved has the words that recovery finds in these
 abbrev pub WordsHold : {W : Type 0} → (many size : W → ℕ) → W → (words : List ℕ) → SavedCells W
     → Type 0
 WordsHold many size work words d =

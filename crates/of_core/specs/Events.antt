@@ -106,7 +106,7 @@ turns_in_event i (Loads c) = 0
 turns_in_event i (Evicts k) = 0
 turns_in_event i (Raises c) = 0
 
--- and how many of the events
+-- how many turns of caller i these events are
 abbrev pub turn_count : ℕ → List Event → ℕ
 turn_count i [] = 0
 turn_count i (e ∷ es) = turns_in_event i e + turn_count i es

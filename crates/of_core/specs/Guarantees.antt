@@ -12,7 +12,7 @@ use Rattle.of_core.specs.Scan.{IsAnnouncedCall}
 use Rattle.of_core.specs.Invariant.{MeetsCore}
 
 -- What others may rely on after a step of machine i led from these words and batches to those: what
--- stood stays, a new batch is i's and of calls that are announced, and a word of another machine
+-- was there stays, a new batch is i's and of calls that are announced, and a word of another machine
 -- changes only by closing the last batch's request.
 pub record Guarantees (S : Setup) (B : TableStart) (i : ℕ) (ws : List ℕ) (bs : List Batch)
     (vs : List ℕ) (cs : List Batch) : Type 0 where

@@ -132,7 +132,7 @@ SameWhereMarked S r q = (r.shape ≡ q.shape)
     × ((y : ℕ) → y < S.instrs → is_marked r.shape y ≡ true
     → get_or r.values y 0 ≡ get_or q.values y 0)
 
--- they have one shape, and the same numbers
+-- the two replies have one shape, and the same numbers
 abbrev pub SameReply : Setup → RawReply → RawReply → Type 0
 SameReply S r q = (r.shape ≡ q.shape)
     × ((y : ℕ) → y < S.instrs → get_or r.values y 0 ≡ get_or q.values y 0)

@@ -90,7 +90,7 @@ abbrev pub StepsKeepInvariant : Setup → (List ℕ → Type 0) → Type 0
 StepsKeepInvariant S Lawful =
     EachStep S Lawful (λ B w i m n. MeetsInvariant S Lawful B (after_step S i m n w))
 
--- it does to words and history what a step may do to what other machines rely on
+-- each step guarantees to the other machines what they rely on
 abbrev pub StepsGuarantee : Setup → (List ℕ → Type 0) → Type 0
 StepsGuarantee S Lawful = EachStep S Lawful (λ B w i m n.
     Guarantees S B i w.words w.batches (after_step S i m n w).words (after_step S i m n w).batches)
@@ -203,7 +203,7 @@ KeepsCalls S B i w v =
     (before : ℕ) (ops : List (List ℕ)) (outs : List Outcome)
     → HasCalls S B before w i ops outs → HasCalls S B before v i ops outs
 
--- and so do those of all callers but i
+-- from w to v the calls of all callers but i stay as they are
 abbrev pub KeepsOthersCalls : Setup → TableStart → (i : ℕ) → (w v : Moment) → Type 0
 KeepsOthersCalls S B i w v = (j : ℕ) → j < S.callers → (i ≡ j → ⊥) → KeepsCalls S B j w v
 
@@ -242,7 +242,7 @@ EventsKeepInvariant S Lawful =
     (B : TableStart) (w : Moment) → MeetsInvariant S Lawful B w
     → (e : Event) → MayHappen S w e → MeetsInvariant S Lawful B (after_event S w e)
 
--- and so does each schedule
+-- each schedule keeps the invariant
 abbrev pub SchedulesKeepInvariant : Setup → (List ℕ → Type 0) → Type 0
 SchedulesKeepInvariant S Lawful =
     (B : TableStart) (w : Moment) → MeetsInvariant S Lawful B w
@@ -395,7 +395,7 @@ RestartsMidway S Lawful =
     (words_after_writes (take made writes) row) in
     IsStartRow S Lawful found × (start_from_durable S.callers S.cells found ≡ recovered_start S B w)
 
--- and what a renumbering of such a row leaves, stopped between two of its writes, is a row from
+-- what a renumbering of such a row leaves, stopped between two of its writes, is a row from
 -- which a table may start with the same numbers
 abbrev pub RenumbersMidway : Setup → (List ℕ → Type 0) → Type 0
 RenumbersMidway S Lawful = (row : List ℕ) → IsStartRow S Lawful row → (made : ℕ) →
@@ -457,7 +457,7 @@ abbrev pub LongerKeepsBatches : Type 0
 LongerKeepsBatches = (B : TableStart) (bs cs : List Batch) (k : ℕ)
     → B.seq < k → k ≤ B.seq + length bs → batch_at B (bs ++ cs) k ≡ batch_at B bs k
 
--- and the same states
+-- a longer history has the same states
 abbrev pub LongerKeepsStates : Type 0
 LongerKeepsStates = (B : TableStart) (bs cs : List Batch) (k : ℕ)
     → k ≤ B.seq + length bs → state_after B (bs ++ cs) k ≡ state_after B bs k

@@ -45,7 +45,7 @@ RaisesAreShort S Lawful =
     → want S (machine_in w i) ≡ Raise (durable_at S c) v
     → (es : List Event) → IsSchedule S w es → lower_changes S w es c v ≤ pending S w c v
 
--- and the same of the raise of an eviction
+-- the same of the raise of an eviction
 abbrev pub EvictionsAreShort : Setup → (List ℕ → Type 0) → Type 0
 EvictionsAreShort S Lawful =
     (B : TableStart) (w : Moment) → MeetsInvariant S Lawful B w

@@ -83,7 +83,7 @@ step_reads_at d p = step_reads_if d (is_idle p) (is_idle d.place)
 unfoldable pub step_batches : Setup → List ℕ → CallState → ℕ → List Batch
 step_batches S ws m found = step_batches_at S ws m found m.place
 
--- and what it has answered, where it led from m to d
+-- the reads that the machine's step from m to d has answered
 unfoldable pub step_reads : CallState → CallState → List Read
 step_reads m d = step_reads_at d m.place
 
@@ -97,7 +97,7 @@ after_step S i m n w = record {
   loaded = w.loaded;
 }
 
--- the same at the place p, as far as it computes
+-- the same with the place p as an argument of its own
 abbrev pub after_step_at : Setup → ℕ → CallState → Place → Moment → Moment
 after_step_at S i m p w =
     let c = word_of (want_at S m p) in
@@ -110,7 +110,7 @@ after_step_at S i m p w =
       loaded = w.loaded;
     }
 
--- and of a machine that has counted its step
+-- the same of a machine that has counted its step
 abbrev pub after_counted_step : Setup → ℕ → CallState → Place → Moment → Moment
 after_counted_step S i m p w =
     let c = word_of (want_at S m p) in

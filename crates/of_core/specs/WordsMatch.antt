@@ -100,7 +100,7 @@ pub record DurableWordsMatch (S : Setup) (B : TableStart) (ws : List ℕ) (bs : 
       → payload_of (durable_word S ws 0) ≡ (batch_at B bs (durable_seq S ws)).owner
   -- or the start's
   pub first : durable_seq S ws ≡ B.seq → payload_of (durable_word S ws 0) ≡ B.owner
-  -- it is the last one, or one below it if the last transaction is open
+  -- the durable sequence is the last one, or one below it if the last transaction is open
   pub step : (committed_seq ws ≡ durable_seq S ws)
       ⊎ ((committed_seq ws ≡ durable_seq S ws + 1) × IsLastOpen B ws)
   -- no cell is newer than it
@@ -132,7 +132,7 @@ pub record StatesFollowBatches (S : Setup) (Lawful : List ℕ → Type 0) (B : T
   pub leads : (k : ℕ) → B.seq ≤ k → k < B.seq + length bs
       → SameFrom (first_operation_cell S) (numbers_after B bs (k + 1))
       (numbers_after_calls S.meaning (numbers_after B bs k) (batch_at B bs (k + 1)).calls)
-  -- and have the replies that they meet there
+  -- and, run on the state before it, give the replies that they have
   pub replies : (k : ℕ) → B.seq ≤ k → k < B.seq + length bs
       → CallsHaveReplies S.meaning (numbers_after B bs k) (batch_at B bs (k + 1)).calls
   -- each caller's own cells show its last call
@@ -151,7 +151,7 @@ pub record StatesFollowBatches (S : Setup) (Lawful : List ℕ → Type 0) (B : T
       → last_ticket_by S B bs k i ≤ last_ticket_by S B bs (k + 1) i
   -- a batch's calls are ordered by caller
   pub ordered : (k : ℕ) → B.seq < k → k ≤ B.seq + length bs → CallersRise (batch_at B bs k).calls
-  -- and it has one at least
+  -- and each batch has at least one call
   pub some : (k : ℕ) → B.seq < k → k ≤ B.seq + length bs → 0 < length (batch_at B bs k).calls
 
 -- announcements are of 1 to K words, rise, and are in the history at most two batches after the

@@ -102,7 +102,7 @@ module _ (o blocks : ℕ) (many : MOST_ORDERED_BLOCKS < blocks) where
       (word_few (instr_at w))
       (next_few rest n done further (λ v. words_few n ws (done ++ v ∷ []))))
 
-  -- and a script is no longer than sixteen of them
+  -- a script of at most sixteen instructions writes at most MOST_WRITES cells
   pub script_few : (op : List ℕ) → WritesAtMost MOST_WRITES (script_program o blocks op)
   script_few op =
       let ws = take MOST_INSTRS op in

@@ -144,7 +144,7 @@ fn run_words(
     unreachable!()
 }
 
-/// Keeps the key that the next of these words looks for, if it does so before all else.
+/// Keeps the key that the next of these words looks for, if that comes first.
 fn keep_sought(kept: &mut SuspendedRun, op: &[u64])
     requires { kept.old.words ≡ op.now }
     ensures holds { (p : Part) → HoldsScript kept.old p → HoldsScript kept.new p }

@@ -45,7 +45,7 @@ abbrev pub EachLife : (Start → Life → Type 0) → Start → List Life → Ty
 EachLife P s [] = Unit {0}
 EachLife P s (l ∷ ls) = P s l × EachLife P (start_behind s l) ls
 
--- its report is legal from there
+-- the life's report is legal from this start
 abbrev pub IsLifeFrom : Start → Life → Type 0
 IsLifeFrom s l = IsLegal l.plan s l.report
 

@@ -77,11 +77,11 @@ one_number_reply v = Answered (v ∷ [])
 abbrev pub runs_again : Life
 runs_again = adds_and_reads 1 2 7
 
--- it begins at sequence 0 again
+-- a life that begins at sequence 0 again
 abbrev pub begins_anew : Life
 begins_anew = adds_and_reads 2 1 7
 
--- it begins with an empty store
+-- a life that begins with an empty store
 abbrev pub forgets_store : Life
 forgets_store = adds_and_reads 2 2 1
 

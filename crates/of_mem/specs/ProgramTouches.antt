@@ -33,7 +33,7 @@ few_reads (suc n) (Read a k) m h =
     omega (arith, rest)
 few_reads n (Write a v f) m h = few_reads n f (with_value m a v) h
 
--- and so of writes
+-- a program that makes at most n writes on every memory does so on this one
 pub few_writes : {A : Type 0} (n : ℕ) (f : Program A) (m : ℕ → ℕ) → WritesAtMost n f
     → length (program_writes f m) ≤ n
 few_writes n (Done r) m h = omega arith

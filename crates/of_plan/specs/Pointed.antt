@@ -14,7 +14,7 @@ sign b = if nat_lt b 32 then 63 else if nat_lt 126 b then 63 else b
 abbrev pub first_shown_byte : (size start : ℕ) → ℕ
 first_shown_byte size start = if nat_le size 100 then 0 else start - 60
 
--- and the end of what is shown, at most 100 bytes on
+-- the end of what is shown, at most 100 bytes after its begin
 abbrev pub last : (start size : ℕ) → ℕ
 last start size = min size (first_shown_byte size start + 100)
 

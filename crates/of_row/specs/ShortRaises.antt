@@ -54,7 +54,7 @@ MomentsHaveShortRaises Lawful S =
     (B : TableStart) (s : State (Unit {0}) View) → MeetsRule S Lawful B s
     → (es : List Event) → IsReachedBy S B s es → HasShortRaises S B es
 
--- and those of the run of a closed row
+-- the raises of the run of a closed row are short
 abbrev pub RunsHaveShortRaises : (List ℕ → Type 0) → Setup → Type 0
 RunsHaveShortRaises Lawful S =
     (B : TableStart) (ws : List ℕ) (v : View) (es : List Event) → HasRun S Lawful B ws v es

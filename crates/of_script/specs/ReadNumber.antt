@@ -9,7 +9,7 @@ abbrev pub HasReadNumber : Option (ℕ × List (List ℕ)) → Option (ℕ × Bo
 HasReadNumber wanted answer =
     MatchOption answer (wanted ≡ None) (λ x. wanted ≡ Some (x.0, text_words x.1.now))
 
--- the same of an instruction
+-- the answer is the instruction that is read and the bytes of the other words, or none
 abbrev pub HasReadFront : Option (Instr × List (List ℕ)) → Option (Instr × Bor (List ℕ)) → Type 0
 HasReadFront wanted answer =
     MatchOption answer (wanted ≡ None) (λ x. wanted ≡ Some (x.0, text_words x.1.now))
