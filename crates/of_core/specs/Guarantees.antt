@@ -12,8 +12,8 @@ use Rattle.of_core.specs.Scan.{IsAnnouncedCall}
 use Rattle.of_core.specs.Invariant.{MeetsCore}
 
 -- What others may rely on after a step of machine i led from these words and batches to those: what
--- was there stays, a new batch is i's and of calls that are announced, and a word of another machine
--- changes only by closing the last batch's request.
+-- was there stays, a new batch is i's and of calls that are announced, and a word of another
+-- machine changes only by closing the last batch's request.
 pub record Guarantees (S : Setup) (B : TableStart) (i : ℕ) (ws : List ℕ) (bs : List Batch)
     (vs : List ℕ) (cs : List Batch) : Type 0 where
   -- while the last sequence stays so does its owner
