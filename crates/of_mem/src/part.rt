@@ -214,16 +214,18 @@ impl Part {
     }
 
     /// How far the walk to this came that was kept; if none was, it is at the front.
+    #[inline(always)]
     pub fn walk(&self, plot: &Plot, sought: Sought) -> Walk
         ensures { HasCome plot.now sought self.now result }
     {
-        match self.last {
+        match &self.last {
             Some(last) if !self.undone && last.is_of(plot, sought) => last.walk,
             _ => front(plot, sought),
         }
     }
 
     /// Keeps how far the walk to this came, until the script writes or a cell changes.
+    #[inline(always)]
     pub fn keep_walk(&mut self, plot: &Plot, sought: Sought, walk: Walk)
         requires { HasCome plot.now sought self.old walk }
         ensures { self.new ≡ self.old }

@@ -27,6 +27,7 @@ pub struct Walk {
 
 impl Walk {
     /// The walk at the front of a bucket, with the best key of those before.
+    #[inline(always)]
     pub fn at_front(plot: &Plot, bucket: u32, best: Option<u32>) -> Walk
         requires { bucket < bucket_count plot.now.blocks }
         ensures bucket { result.bucket ≡ bucket }
@@ -54,6 +55,7 @@ pub(crate) struct KeptWalk {
 
 impl KeptWalk {
     // On the cells of this plot.
+    #[inline(always)]
     pub fn new(plot: &Plot, sought: Sought, walk: Walk) -> KeptWalk
         ensures base { result.base ≡ base plot.now }
         ensures blocks { result.blocks ≡ plot.now.blocks }
@@ -69,6 +71,7 @@ impl KeptWalk {
     }
 
     // Whether this was sought on the cells of this plot.
+    #[inline(always)]
     pub fn is_of(&self, plot: &Plot, sought: Sought) -> bool
         ensures { IsTrue result → IsWalkOf self.now plot.now sought }
     {
@@ -77,6 +80,7 @@ impl KeptWalk {
 }
 
 // The walk to this that hasn't read anything.
+#[inline(always)]
 pub(crate) fn front(plot: &Plot, sought: Sought) -> Walk
     ensures { (p : Part) → HasCome plot.now sought p result }
 {
