@@ -1,6 +1,5 @@
 -- Walks: one block more, and what they passed where more is known.
 use Rattle.std.proofs.Common.{◌≡◌, ◌≢◌, ℕ, zero, suc, ◌+◌, Option, Some, None, get_or, set, refl, sym, ap, subst, arith}
-use Rattle.std.specs.Prelude.{IfSome}
 use Rattle.of_mem.specs.declared.walk.KeptWalk.{KeptWalk}
 use Rattle.of_mem.specs.declared.walk.Sought.{Sought}
 use Rattle.of_mem.specs.declared.walk.Sought.TheVariants.{Key, LeastFrom}
@@ -8,7 +7,7 @@ use Rattle.of_mem.specs.declared.walk.Walk.{Walk}
 use Rattle.of_mem.specs.Part.{Part, newest_at, learn}
 use Rattle.of_mem.specs.Places.{bucket_at}
 use Rattle.of_mem.specs.Stores.{first_at, link_at}
-use Rattle.of_mem.specs.Walks.{Passes, Weighs, WeighsBucket, WeighsBuckets, better_of, CameTo}
+use Rattle.of_mem.specs.Walks.{Passes, Weighs, WeighsBucket, WeighsBuckets, better_of, CameTo, IsSoundWalk}
 use Rattle.of_mem.proofs.Extended.{extends_learnt, newest_more}
 
 -- a cell of which the one memory has a number has the same number in the other
@@ -56,11 +55,10 @@ came_more o blocks (Key key) p q w h c = (c.0, passes_more o key p q w.passed _ 
 came_more o blocks (LeastFrom low) p q w h (few, bucket, best, before, here) =
     (few, bucket, best, buckets_more o blocks low p q h w.bucket best before, weighs_more o blocks low p q h w.passed _ best w.cell w.best here)
 
--- a walk that was kept is kept where a cell that wasn't known is learnt
-pub kept_learnt : (k : Option KeptWalk) (p : Part) (a v : ℕ) → get_or p.known a None ≡ None → IfSome k (λ l. CameTo l.base l.blocks l.sought p l.walk) → IfSome k (λ l. CameTo l.base l.blocks l.sought (learn p a v) l.walk)
-kept_learnt None p a v none h = tt
-kept_learnt (Some l) p a v none h =
-    came_more l.base l.blocks l.sought p (learn p a v) l.walk (λ x w e. newest_more (set p.known a (Some v)) p x w (extends_learnt (set p.known a (Some v)) p.known a v none (λ y u k. k)) e) h
+-- a walk that was kept is so where a cell that wasn't known is learnt
+pub kept_learnt : (k : KeptWalk) (p : Part) (a v : ℕ) → get_or p.known a None ≡ None → IsSoundWalk k p → IsSoundWalk k (learn p a v)
+kept_learnt k p a v none h kept =
+    came_more k.base k.blocks k.sought p (learn p a v) k.walk (λ x w e. newest_more (set p.known a (Some v)) p x w (extends_learnt (set p.known a (Some v)) p.known a v none (λ y u q. q)) e) (h kept)
 
 -- past one block more
 pub weighs_on : (o low : ℕ) (p : Part) (n from : ℕ) (best : Option ℕ) (to : ℕ) (result : Option ℕ) (b k : ℕ) → newest_at p to ≡ Some (suc b) → newest_at p (first_at o b) ≡ Some k → Weighs o low p n from best to result → Weighs o low p (n + 1) from best (link_at o b) (better_of low k result)

@@ -1,6 +1,6 @@
 -- How far a walk through the buckets came: that of a key through its bucket, or that of the least
 -- key from one on through all of them.
-use Rattle.std.specs.Prelude.{◌≡◌, ◌≢◌, ◌≤◌, ◌<◌, ◌⊎◌, ◌%◌, ℕ, zero, suc, nat_lt, if◌then◌else◌, Option, Some, None}
+use Rattle.std.specs.Prelude.{◌≡◌, ◌≢◌, ◌≤◌, ◌<◌, ◌⊎◌, ◌%◌, ℕ, zero, suc, nat_lt, if◌then◌else◌, true, Option, Some, None}
 use Rattle.of_mem.specs.declared.plot.Plot.{Plot}
 use Rattle.of_mem.specs.declared.walk.Sought.{Sought}
 use Rattle.of_mem.specs.declared.walk.Sought.TheVariants.{Key, LeastFrom}
@@ -71,6 +71,11 @@ CameTo o blocks (LeastFrom low) p w =
 abbrev pub HasCome : Plot → Sought → Part → Walk → Type 0
 HasCome plot s p w = CameTo (base plot) plot.blocks s p w
 
--- this was sought on the cells of this plot
+-- if a walk is kept, it came so far
+abbrev pub IsSoundWalk : KeptWalk → Part → Type 0
+IsSoundWalk k p = k.is_kept ≡ true → CameTo k.base k.blocks k.sought p k.walk
+
+-- one is kept of this, on the cells of this plot
 abbrev pub IsWalkOf : KeptWalk → Plot → Sought → Type 0
-IsWalkOf k plot s = (k.base ≡ base plot) × (k.blocks ≡ plot.blocks) × (k.sought ≡ s)
+IsWalkOf k plot s =
+    (k.is_kept ≡ true) × (k.base ≡ base plot) × (k.blocks ≡ plot.blocks) × (k.sought ≡ s)

@@ -35,7 +35,7 @@ pub struct Part {
     undone: bool,
     // The last walk that was kept, so that a run that lacked a cell goes on in the middle of a
     // bucket.
-    last: Option<KeptWalk>,
+    last: KeptWalk,
 }
 
 impl Model for Part {
@@ -43,16 +43,14 @@ impl Model for Part {
 
     ghost Value = { Part };
 
-    ghost use Rattle.std.specs.Prelude.{IfSome};
     ghost use Rattle.of_mem.specs.Newest.{part_of, HoldsNewest};
     ghost use Rattle.of_mem.specs.Part.{visible};
-    ghost use Rattle.of_mem.specs.Walks.{CameTo};
+    ghost use Rattle.of_mem.specs.Walks.{IsSoundWalk};
 
     ghost view = { λ p. visible p.undone (part_of p.cells p.batch p.script) };
 
     ghost invariant = { λ p. HoldsNewest p.cells p.batch p.script
-        × IfSome p.last (λ l. CameTo l.base l.blocks l.sought (part_of p.cells p.batch p.script)
-        l.walk) };
+        × IsSoundWalk p.last (part_of p.cells p.batch p.script) };
 }
 
 #[tactic(auto, unfolding(crate::specs::Part::newest_at, crate::specs::Part::write))]
@@ -70,7 +68,7 @@ impl Part {
             batch,
             script,
             undone: false,
-            last: None,
+            last: KeptWalk::none(),
         })
     }
 
@@ -106,7 +104,7 @@ impl Part {
         let over = self.script.get(addr).or(self.batch.get(addr));
         self.cells.set(addr, Some(value), over.or(Some(value)));
         if before {
-            self.last = None;
+            self.last.is_kept = false;
         }
         before
     }
@@ -152,7 +150,7 @@ impl Part {
             take_back(&mut self.cells, &self.batch, &mut self.script);
             self.undone = false;
         }
-        self.last = None;
+        self.last.is_kept = false;
         self.script.put(addr, value);
         self.cells.hold(addr, Some(value));
     }
@@ -181,7 +179,7 @@ impl Part {
         if self.undone {
             return;
         }
-        self.last = None;
+        self.last.is_kept = false;
         let count = self.script.len();
         // over an empty batch the script's writes are the batch's
         if self.batch.is_empty() {
@@ -210,7 +208,7 @@ impl Part {
         self.batch.clear();
         self.script.clear();
         self.undone = false;
-        self.last = None;
+        self.last.is_kept = false;
     }
 
     /// How far the walk to this came that was kept; if none was, it is at the front.
@@ -218,10 +216,10 @@ impl Part {
     pub fn walk(&self, plot: &Plot, sought: Sought) -> Walk
         ensures { HasCome plot.now sought self.now result }
     {
-        match &self.last {
-            Some(last) if !self.undone && last.is_of(plot, sought) => last.walk,
-            _ => front(plot, sought),
+        if !self.undone && self.last.is_of(plot, sought) {
+            return self.last.walk;
         }
+        front(plot, sought)
     }
 
     /// Keeps how far the walk to this came, until the script writes or a cell changes.
@@ -230,11 +228,11 @@ impl Part {
         requires { HasCome plot.now sought self.old walk }
         ensures { self.new ≡ self.old }
     {
-        self.last = if self.undone {
-            None
+        if self.undone {
+            self.last.is_kept = false;
         } else {
-            Some(KeptWalk::new(plot, sought, walk))
-        };
+            self.last = KeptWalk::new(plot, sought, walk);
+        }
     }
 
     // Copies what the script wrote.
@@ -273,7 +271,7 @@ impl Part {
     {
         take_back(&mut self.cells, &self.batch, &mut self.script);
         self.undone = false;
-        self.last = None;
+        self.last.is_kept = false;
         for i in 0..writes.len() {
             let (addr, value) = writes.entry(i);
             self.write(addr, value);

@@ -1,6 +1,6 @@
 //! Walks through the buckets.
 
-ghost use Rattle.std.specs.Prelude.{◌≡◌, ◌<◌, IsTrue};
+ghost use Rattle.std.specs.Prelude.{◌≡◌, ◌<◌, IsTrue, false};
 ghost use Rattle.of_mem.specs.Part.{Part};
 ghost use Rattle.of_mem.specs.Places.{bucket_at, bucket_count};
 ghost use Rattle.of_mem.specs.Plots.{base};
@@ -44,9 +44,11 @@ impl Walk {
     }
 }
 
-// What was sought, over cells of a store that begin at which one, and how far the walk came.
+// What was sought, over cells of a store that begin at which one, and how far the walk came, if one
+// is kept.
 #[derive(Clone, Copy, Debug, PartialEq, Eq)]
 pub(crate) struct KeptWalk {
+    pub is_kept: bool,
     pub base: u32,
     pub blocks: u32,
     pub sought: Sought,
@@ -54,6 +56,23 @@ pub(crate) struct KeptWalk {
 }
 
 impl KeptWalk {
+    pub fn none() -> KeptWalk
+        ensures { result.is_kept ≡ false }
+    {
+        KeptWalk {
+            is_kept: false,
+            base: 0,
+            blocks: 0,
+            sought: Sought::Key(0),
+            walk: Walk {
+                bucket: 0,
+                passed: 0,
+                cell: 0,
+                best: None,
+            },
+        }
+    }
+
     // On the cells of this plot.
     #[inline(always)]
     pub fn new(plot: &Plot, sought: Sought, walk: Walk) -> KeptWalk
@@ -63,6 +82,7 @@ impl KeptWalk {
         ensures walk { result.walk ≡ walk }
     {
         KeptWalk {
+            is_kept: true,
             base: plot.base(),
             blocks: plot.blocks,
             sought,
@@ -70,12 +90,15 @@ impl KeptWalk {
         }
     }
 
-    // Whether this was sought on the cells of this plot.
+    // Whether one is kept of this, on the cells of this plot.
     #[inline(always)]
     pub fn is_of(&self, plot: &Plot, sought: Sought) -> bool
         ensures { IsTrue result → IsWalkOf self.now plot.now sought }
     {
-        self.base == plot.base() && self.blocks == plot.blocks && self.sought == sought
+        self.is_kept
+            && self.base == plot.base()
+            && self.blocks == plot.blocks
+            && self.sought == sought
     }
 }
 

@@ -52,12 +52,8 @@ fn least(plot: &Plot, part: &mut Part, low: u64) -> Result<Option<u32>, Need>
 
 // Walks to the end of a bucket, and answers the best key of it and of the buckets before. The walk
 // to a cell that isn't known is kept.
-fn pass_bucket(
-    plot: &Plot,
-    part: &mut Part,
-    low: u64,
-    start: Walk,
-) -> Result<Option<u32>, Need>
+#[inline(always)]
+fn pass_bucket(plot: &Plot, part: &mut Part, low: u64, start: Walk) -> Result<Option<u32>, Need>
     requires stands { HasStore plot.now part.old }
     requires came { HasCome plot.now (LeastFrom low) part.old start }
     ensures part { part.new ≡ part.old }
@@ -79,6 +75,7 @@ fn pass_bucket(
 }
 
 // The walk past the next block, None where the bucket ends.
+#[inline(always)]
 fn pass_block(plot: &Plot, part: &Part, low: u64, here: Walk) -> Result<Option<Walk>, Need>
     requires stands { HasStore plot.now part.now }
     requires came { HasCome plot.now (LeastFrom low) part.now here }

@@ -8,7 +8,7 @@ pub invariant_of-self : goal.invariant_of-self
 invariant_of-self c =
     let below : c.args.addr < length c.self.inside.cells.known = search rules in (
       rw (c.set.ensures, c.or.ensures, c.or-over.ensures, c.get.ensures, c.get-2.ensures) (cells_learnt c.self.inside.cells c.self.inside.batch c.self.inside.script c.args.addr c.args.value below c.self.invariant.0),
-      tt,
+      λ kept. absurd cc,
     )
 
 pub invariant_of-self-else-before : goal.invariant_of-self-else-before

@@ -19,5 +19,5 @@ invariant_of-self c =
         script = holds.script;
         newest = newest_wrote p _ c.args.addr c.args.value below holds.newest;
       }),
-      tt,
+      λ kept. absurd cc,
     )
