@@ -242,9 +242,9 @@ fn is_large(plot: &Plot) -> bool
 
 /// Answers the least key.
 #[tactic(auto, using(of_mem::proofs::Runs::run_then_gives, of_mem::proofs::Runs::run_then_needs))]
-fn first(plot: &Plot, part: &Part) -> Result<InstrResult, Need>
-    requires { HasStore plot.now part.now }
-    ensures { RunsProgram (step plot.now First) part.now part.now result }
+fn first(plot: &Plot, part: &mut Part) -> Result<InstrResult, Need>
+    requires { HasStore plot.now part.old }
+    ensures { RunsProgram (step plot.now First) part.old part.new result }
 {
     if is_large(plot) {
         return Ok(Err(Cause::BadOp));
@@ -255,9 +255,9 @@ fn first(plot: &Plot, part: &Part) -> Result<InstrResult, Need>
 
 /// Answers the least key above one.
 #[tactic(auto, using(of_mem::proofs::Runs::run_then_gives, of_mem::proofs::Runs::run_then_needs))]
-fn next(plot: &Plot, part: &Part, key: u32) -> Result<InstrResult, Need>
-    requires { HasStore plot.now part.now }
-    ensures { RunsProgram (step plot.now (Next key)) part.now part.now result }
+fn next(plot: &Plot, part: &mut Part, key: u32) -> Result<InstrResult, Need>
+    requires { HasStore plot.now part.old }
+    ensures { RunsProgram (step plot.now (Next key)) part.old part.new result }
 {
     if is_large(plot) {
         return Ok(Err(Cause::BadOp));

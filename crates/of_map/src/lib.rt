@@ -17,7 +17,7 @@ mod answers;
 
 use crate::answers::{Look, Position};
 pub use answers::Put;
-use of_mem::{Need, Part, Plot, Walk};
+use of_mem::{Need, Part, Plot, Sought, Walk};
 
 // Where the block of a key stands, None if the key is absent.
 fn seek(plot: &Plot, part: &mut Part, key: u32) -> Result<Option<Position>, Need>
@@ -25,20 +25,26 @@ fn seek(plot: &Plot, part: &mut Part, key: u32) -> Result<Option<Position>, Need
     ensures part { part.new ≡ part.old }
     ensures runs { RunsProgram (seek plot.now key) part.old part.new result }
 {
-    let start = part.walk(plot, key);
+    let sought = Sought::Key(key);
+    let start = part.walk(plot, sought);
     let mut cell = start.cell;
     for passed in start.passed..plot.blocks + 1 {
+        let here = Walk {
+            passed,
+            cell,
+            ..start
+        };
         match look(plot, part, key, cell) {
             Err(need) => {
-                part.keep_walk(plot, key, Walk { cell, passed });
+                part.keep_walk(plot, sought, here);
                 return Err(need);
             }
             Ok(Look::End) => {
-                part.keep_walk(plot, key, Walk { cell, passed });
+                part.keep_walk(plot, sought, here);
                 return Ok(None);
             }
             Ok(Look::Here(block)) => {
-                part.keep_walk(plot, key, Walk { cell, passed });
+                part.keep_walk(plot, sought, here);
                 return Ok(Some(Position { cell, block }));
             }
             Ok(Look::Past(link)) => cell = link,

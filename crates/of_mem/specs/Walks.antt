@@ -1,6 +1,14 @@
--- How far the walk of a key came through its bucket.
-use Rattle.std.specs.Prelude.{◌≡◌, ◌≢◌, ℕ, zero, suc, Some}
+-- How far a walk through the buckets came: that of a key through its bucket, or that of the least
+-- key from one on through all of them.
+use Rattle.std.specs.Prelude.{◌≡◌, ◌≢◌, ◌≤◌, ◌<◌, ◌⊎◌, ◌%◌, ℕ, zero, suc, nat_lt, if◌then◌else◌, true, Option, Some, None}
+use Rattle.of_mem.specs.declared.plot.Plot.{Plot}
+use Rattle.of_mem.specs.declared.walk.Sought.{Sought}
+use Rattle.of_mem.specs.declared.walk.Sought.TheVariants.{Key, LeastFrom}
+use Rattle.of_mem.specs.declared.walk.Walk.{Walk}
+use Rattle.of_mem.specs.declared.walk.KeptWalk.{KeptWalk}
 use Rattle.of_mem.specs.Part.{Part, newest_at}
+use Rattle.of_mem.specs.Places.{bucket_count, bucket_at}
+use Rattle.of_mem.specs.Plots.{base}
 use Rattle.of_mem.specs.Stores.{first_at, link_at}
 
 -- from this cell so many blocks with other keys lead to that cell, and what leads there is known; o
@@ -11,3 +19,63 @@ Passes o key p (suc n) from to =
     (b : ℕ) × (k : ℕ)
     × (newest_at p from ≡ Some (suc b)) × (newest_at p (first_at o b) ≡ Some k) × (k ≢ key)
     × Passes o key p n (link_at o b) to
+
+-- the less of a key and the best so far
+abbrev pub lesser_of : ℕ → Option ℕ → Option ℕ
+lesser_of k None = Some k
+lesser_of k (Some b) = if nat_lt b k then Some b else Some k
+
+-- if the key is not below the lowest that is sought
+abbrev pub better_of : ℕ → ℕ → Option ℕ → Option ℕ
+better_of low k best = if nat_lt k low then best else lesser_of k best
+
+-- from this cell so many blocks lead to that cell, their keys make this of the best so far, and
+-- what leads there is known
+abbrev pub Weighs : ℕ → ℕ → Part → ℕ → ℕ → Option ℕ → ℕ → Option ℕ → Type 0
+Weighs o low p zero from best to result = (from ≡ to) × (best ≡ result)
+Weighs o low p (suc n) from best to result =
+    (b : ℕ) × (k : ℕ)
+    × (newest_at p from ≡ Some (suc b)) × (newest_at p (first_at o b) ≡ Some k)
+    × Weighs o low p n (link_at o b) (better_of low k best) to result
+
+-- the bucket is known, and its keys make this of the best so far; no more blocks are passed than
+-- there are
+pub record WeighsBucket (o blocks low : ℕ) (p : Part) (i : ℕ) (best result : Option ℕ)
+    : Type 0 where
+  pub passed : ℕ
+  pub to : ℕ
+  pub last : ℕ
+  pub weighs : Weighs o low p passed (bucket_at o blocks i) best to result
+  pub known : newest_at p to ≡ Some last
+  pub few : passed ≤ blocks
+  pub ends : (last ≡ 0) ⊎ (passed ≡ blocks)
+
+-- this is the best key of the first so many buckets
+abbrev pub WeighsBuckets : ℕ → ℕ → ℕ → Part → ℕ → Option ℕ → Type 0
+WeighsBuckets o blocks low p zero result = result ≡ None
+WeighsBuckets o blocks low p (suc i) result =
+    (best : Option ℕ)
+    × WeighsBuckets o blocks low p i best × WeighsBucket o blocks low p i best result
+
+-- the walk from the front came so far
+abbrev pub CameTo : ℕ → ℕ → Sought → Part → Walk → Type 0
+CameTo o blocks (Key key) p w =
+    (w.passed ≤ blocks)
+    × Passes o key p w.passed (bucket_at o blocks (key % bucket_count blocks)) w.cell
+CameTo o blocks (LeastFrom low) p w =
+    (w.passed ≤ blocks) × (w.bucket < bucket_count blocks)
+    × (best : Option ℕ) × WeighsBuckets o blocks low p w.bucket best
+    × Weighs o low p w.passed (bucket_at o blocks w.bucket) best w.cell w.best
+
+-- on the cells of a plot
+abbrev pub HasCome : Plot → Sought → Part → Walk → Type 0
+HasCome plot s p w = CameTo (base plot) plot.blocks s p w
+
+-- if a walk is kept, it came so far
+abbrev pub IsSoundWalk : KeptWalk → Part → Type 0
+IsSoundWalk k p = k.is_kept ≡ true → CameTo k.base k.blocks k.sought p k.walk
+
+-- one is kept of this, on the cells of this plot
+abbrev pub IsWalkOf : KeptWalk → Plot → Sought → Type 0
+IsWalkOf k plot s =
+    (k.is_kept ≡ true) × (k.base ≡ base plot) × (k.blocks ≡ plot.blocks) × (k.sought ≡ s)

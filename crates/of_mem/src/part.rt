@@ -1,15 +1,14 @@
 //! Partial memory.
 
-ghost use Rattle.std.specs.Prelude.{◌≡◌, ◌<◌, ◌≤◌, ◌%◌, [], length, slice_index_or, IfOk, None};
+ghost use Rattle.std.specs.Prelude.{◌≡◌, ◌<◌, ◌≤◌, [], length, slice_index_or, IfOk, None};
 ghost use Rattle.std.proofs.Common.{get_or, is_some};
 ghost use Rattle.of_mem.specs.Part.{empty_part, learn, write, keep, ReadsAt};
 ghost use Rattle.of_mem.specs.Newest.{HoldsNewest};
-ghost use Rattle.of_mem.specs.Places.{bucket_at, bucket_count};
-ghost use Rattle.of_mem.specs.Plots.{base};
-ghost use Rattle.of_mem.specs.Walks.{Passes};
+ghost use Rattle.of_mem.specs.Walks.{HasCome};
 
 use crate::plot::Plot;
 use crate::touched_cells::TouchedCells;
+use crate::walk::{KeptWalk, Sought, Walk, front};
 use crate::write_set::WriteSet;
 use std::alloc::{AllocError, Global};
 use std::marker::Model;
@@ -19,23 +18,6 @@ use std::mem;
 #[derive(Clone, Copy, Debug, PartialEq, Eq)]
 pub struct Need {
     pub addr: u32,
-}
-
-/// How far the walk of a key came through its bucket: past so many blocks with other keys, to this
-/// cell, which points to the next one.
-#[derive(Clone, Copy, Debug, PartialEq, Eq)]
-pub struct Walk {
-    pub cell: u32,
-    pub passed: u32,
-}
-
-// The walk of which key, over cells of a store that begin at which one.
-#[derive(Clone, Copy, Debug, PartialEq, Eq)]
-struct KeyWalk {
-    base: u32,
-    blocks: u32,
-    key: u32,
-    walk: Walk,
 }
 
 /// Partial memory: the cells that are known, what a batch of scripts wrote over them, and what a
@@ -51,9 +33,9 @@ pub struct Part {
     // Whether the script's writes are undone, though they are still there: a script that goes on
     // where it stopped has written the same.
     undone: bool,
-    // The last walk of a key that was kept, so that a run that lacked a cell goes on in the middle
-    // of a bucket. None is kept where it passed no block.
-    last: KeyWalk,
+    // The last walk that was kept, so that a run that lacked a cell goes on in the middle of a
+    // bucket.
+    last: KeptWalk,
 }
 
 impl Model for Part {
@@ -61,19 +43,14 @@ impl Model for Part {
 
     ghost Value = { Part };
 
-    ghost use Rattle.std.specs.Prelude.{◌≤◌, ◌%◌};
     ghost use Rattle.of_mem.specs.Newest.{part_of, HoldsNewest};
     ghost use Rattle.of_mem.specs.Part.{visible};
-    ghost use Rattle.of_mem.specs.Places.{bucket_at, bucket_count};
-    ghost use Rattle.of_mem.specs.Walks.{Passes};
+    ghost use Rattle.of_mem.specs.Walks.{IsSoundWalk};
 
     ghost view = { λ p. visible p.undone (part_of p.cells p.batch p.script) };
 
     ghost invariant = { λ p. HoldsNewest p.cells p.batch p.script
-        × (1 ≤ p.last.walk.passed
-        → Passes p.last.base p.last.key (part_of p.cells p.batch p.script) p.last.walk.passed
-        (bucket_at p.last.base p.last.blocks (p.last.key % bucket_count p.last.blocks))
-        p.last.walk.cell) };
+        × IsSoundWalk p.last (part_of p.cells p.batch p.script) };
 }
 
 #[tactic(auto, unfolding(crate::specs::Part::newest_at, crate::specs::Part::write))]
@@ -91,12 +68,7 @@ impl Part {
             batch,
             script,
             undone: false,
-            last: KeyWalk {
-                base: 0,
-                blocks: 0,
-                key: 0,
-                walk: Walk { cell: 0, passed: 0 },
-            },
+            last: KeptWalk::none(),
         })
     }
 
@@ -132,7 +104,7 @@ impl Part {
         let over = self.script.get(addr).or(self.batch.get(addr));
         self.cells.set(addr, Some(value), over.or(Some(value)));
         if before {
-            self.last.walk.passed = 0;
+            self.last.is_kept = false;
         }
         before
     }
@@ -178,7 +150,7 @@ impl Part {
             take_back(&mut self.cells, &self.batch, &mut self.script);
             self.undone = false;
         }
-        self.last.walk.passed = 0;
+        self.last.is_kept = false;
         self.script.put(addr, value);
         self.cells.hold(addr, Some(value));
     }
@@ -207,7 +179,7 @@ impl Part {
         if self.undone {
             return;
         }
-        self.last.walk.passed = 0;
+        self.last.is_kept = false;
         let count = self.script.len();
         // over an empty batch the script's writes are the batch's
         if self.batch.is_empty() {
@@ -236,44 +208,30 @@ impl Part {
         self.batch.clear();
         self.script.clear();
         self.undone = false;
-        self.last.walk.passed = 0;
+        self.last.is_kept = false;
     }
 
-    /// How far the walk of a key came that was kept; if none was, it is at the front of the bucket.
-    pub fn walk(&self, plot: &Plot, key: u32) -> Walk
-        ensures passes { Passes (base plot.now) key self.now result.passed
-            (bucket_at (base plot.now) plot.now.blocks (key % bucket_count plot.now.blocks))
-            result.cell }
-        ensures few { result.passed ≤ plot.now.blocks }
+    /// How far the walk to this came that was kept; if none was, it is at the front.
+    #[inline(always)]
+    pub fn walk(&self, plot: &Plot, sought: Sought) -> Walk
+        ensures { HasCome plot.now sought self.now result }
     {
-        let last = self.last;
-        let is_of_plot = last.base == plot.base() && last.blocks == plot.blocks;
-        let is_of_key = is_of_plot && last.key == key;
-        if is_of_key && !self.undone && last.walk.passed > 0 && last.walk.passed <= plot.blocks {
-            return last.walk;
+        if !self.undone && self.last.is_of(plot, sought) {
+            return self.last.walk;
         }
-        Walk {
-            cell: plot.bucket(key % plot.buckets()),
-            passed: 0,
-        }
+        front(plot, sought)
     }
 
-    /// Keeps how far the walk of a key came, until the script writes or a cell changes.
-    pub fn keep_walk(&mut self, plot: &Plot, key: u32, walk: Walk)
-        requires { Passes (base plot.now) key self.old walk.passed
-            (bucket_at (base plot.now) plot.now.blocks (key % bucket_count plot.now.blocks))
-            walk.cell }
+    /// Keeps how far the walk to this came, until the script writes or a cell changes.
+    #[inline(always)]
+    pub fn keep_walk(&mut self, plot: &Plot, sought: Sought, walk: Walk)
+        requires { HasCome plot.now sought self.old walk }
         ensures { self.new ≡ self.old }
     {
         if self.undone {
-            self.last.walk.passed = 0;
+            self.last.is_kept = false;
         } else {
-            self.last = KeyWalk {
-                base: plot.base(),
-                blocks: plot.blocks,
-                key,
-                walk,
-            };
+            self.last = KeptWalk::new(plot, sought, walk);
         }
     }
 
@@ -313,7 +271,7 @@ impl Part {
     {
         take_back(&mut self.cells, &self.batch, &mut self.script);
         self.undone = false;
-        self.last.walk.passed = 0;
+        self.last.is_kept = false;
         for i in 0..writes.len() {
             let (addr, value) = writes.entry(i);
             self.write(addr, value);

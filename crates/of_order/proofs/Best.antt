@@ -9,7 +9,8 @@ use Rattle.std.specs.FinMap.{contains_key-keys, entries_sorted}
 use Rattle.std.specs.FinMap.Entries.{below_all}
 use Rattle.std.proofs.lemmas.Bool.{eqb-true, eq-eqb, or_right}
 use Rattle.std.proofs.lemmas.Bool.Decides.{nat_tests}
-use Rattle.of_order.specs.Means.{least_from, better_of, lesser_of}
+use Rattle.of_mem.specs.Walks.{better_of, lesser_of}
+use Rattle.of_order.specs.Means.{least_from}
 
 abbrev pub IsBest : ℕ → (ℕ → Type 0) → Option ℕ → Type 0
 IsBest low P None = (k : ℕ) → P k → low ≤ k → ⊥

@@ -19,7 +19,8 @@ use Rattle.of_mem.proofs.Calls.{answered}
 use Rattle.of_mem.proofs.Counts.{blocks_below, few_blocks}
 use Rattle.of_mem.proofs.Heaps.{front_bucket}
 use Rattle.of_mem.proofs.Runs.{answer_then, after_then, inside_then, stays_then, reads_then}
-use Rattle.of_order.specs.Means.{least_from, better_of}
+use Rattle.of_mem.specs.Walks.{better_of}
+use Rattle.of_order.specs.Means.{least_from}
 use Rattle.of_order.specs.OrderPrograms.{least_walk, at_pointer, least_in_program, least_buckets, least_program, least}
 use Rattle.of_order.proofs.Best.{IsBest, same_best, one_best, Has, has_either, tie, best_of, list_best, Holds, least_best}
 

@@ -5,3 +5,4 @@ pub mod Walking
 pub mod Dropping
 pub mod Drops
 pub mod DropWalks
+pub mod LeastWalk

@@ -1,5 +1,5 @@
 -- The walks on partial memory.
-use Rattle.std.proofs.Common.{◌≡◌, ℕ, suc, ◌+◌, ◌-◌, ◌<◌, ◌≤◌, ◌≢◌, sym, ◌∙◌, ap, subst, arith, refl, Option, Some, None, List, [], ◌∷◌, length}
+use Rattle.std.proofs.Common.{◌≡◌, ℕ, suc, ◌+◌, ◌-◌, ◌<◌, ◌≤◌, ◌≢◌, sym, ◌∙◌, ap, subst, arith, refl, Option, Some, List, [], ◌∷◌, length}
 use Rattle.std.specs.List.{AllByRecursion as Each}
 use Rattle.std.specs.Prelude.{Result}
 use Rattle.std.proofs.lemmas.Result.{MatchResult-weaker}
@@ -8,14 +8,12 @@ use Rattle.of_mem.specs.declared.plot.Plot.{Plot}
 use Rattle.of_mem.specs.Plots.{base, data_cell_count}
 use Rattle.of_mem.specs.Places.{bucket_count, bucket_at}
 use Rattle.of_mem.specs.Part.{Part, newest_at}
-use Rattle.of_mem.specs.Programs.{Program, then_do, Read, Lacks, Ends, run_program, IsPartOf}
-use Rattle.of_mem.specs.Stores.{IsChain, link_at, first_at}
+use Rattle.of_mem.specs.Programs.{Program, then_do, Ends, run_program, IsPartOf}
+use Rattle.of_mem.specs.Stores.{IsChain, link_at}
 use Rattle.of_mem.specs.Calls.{HasStore, RunsProgram}
 use Rattle.of_mem.proofs.Counts.{blocks_below}
 use Rattle.of_mem.proofs.Heaps.{front_bucket}
-use Rattle.of_mem.proofs.Runs.{run_read, run_unknown}
-use Rattle.of_order.specs.Means.{better_of}
-use Rattle.of_order.specs.OrderPrograms.{least_walk, at_pointer, weigh_key, weigh_link, least_in_program, least_buckets}
+use Rattle.of_order.specs.OrderPrograms.{least_in_program, least_buckets}
 use Rattle.of_order.proofs.Rests.{turn, none_left}
 
 -- this pointer leads through a chain of blocks of the plot
@@ -72,28 +70,6 @@ points_on plot p f a g h n too e = go h.chain h.linked h.below
 -- a call that ran as a program which a run comes to
 pub comes_to : {A : Type 0} (f g : Program A) (p n q : Part) (result : Result A Need) → run_program f p ≡ run_program g n → n.known ≡ p.known → n.batch ≡ p.batch → RunsProgram g n q result → RunsProgram f p q result
 comes_to f g p n q result e known batch h = record { walk = MatchResult-weaker result h.walk (λ b k. e ∙ k) (λ need k. e ∙ k); known = h.known ∙ known; batch = h.batch ∙ batch }
-
--- one turn of the walk to the least key
-module _ (o low n : ℕ) (p : Part) (best : Option ℕ) where
-  pub least_end : (f : ℕ) → f ≡ 0 → run_program (least_walk o low (suc n) f best) p ≡ Ends best p
-  least_end f z = ap (λ x. run_program (at_pointer o low (least_walk o low n) best x) p) z
-
-  least_block : (f : ℕ) → f ≢ 0 → run_program (least_walk o low (suc n) f best) p ≡ run_program (Read (first_at o (f - 1)) (weigh_key o low (least_walk o low n) (f - 1) best)) p
-  least_block f z = ap (λ x. run_program (at_pointer o low (least_walk o low n) best x) p) (is_suc f z)
-
-  pub least_needs_key : (f a b : ℕ) → f ≢ 0 → a ≡ first_at o (f - 1) → (newest_at p a ≡ None) × (b ≡ a) → run_program (least_walk o low (suc n) f best) p ≡ Lacks b
-  least_needs_key f a b z is k = rw (k.1, is) (least_block f z ∙ run_unknown (first_at o (f - 1)) (weigh_key o low (least_walk o low n) (f - 1) best) p (rw is at k.0))
-
-  least_key : (f a k : ℕ) → f ≢ 0 → a ≡ first_at o (f - 1) → newest_at p a ≡ Some k → run_program (least_walk o low (suc n) f best) p ≡ run_program (Read (link_at o (f - 1)) (weigh_link low (least_walk o low n) best k)) p
-  least_key f a k z is h = least_block f z ∙ run_read (first_at o (f - 1)) (weigh_key o low (least_walk o low n) (f - 1) best) p k (rw is at h)
-
-  pub least_needs_link : (f a k c b : ℕ) → f ≢ 0 → a ≡ first_at o (f - 1) → newest_at p a ≡ Some k → c ≡ link_at o (f - 1) → (newest_at p c ≡ None) × (b ≡ c) → run_program (least_walk o low (suc n) f best) p ≡ Lacks b
-  least_needs_link f a k c b z is h too g = rw (g.1, too) (least_key f a k z is h ∙ run_unknown (link_at o (f - 1)) (weigh_link low (least_walk o low n) best k) p (rw too at g.0))
-
-  pub least_on : (f a k c g : ℕ) (r : Option ℕ) → f ≢ 0 → a ≡ first_at o (f - 1) → newest_at p a ≡ Some k → c ≡ link_at o (f - 1) → newest_at p c ≡ Some g → r ≡ better_of low k best → run_program (least_walk o low (suc n) f best) p ≡ run_program (least_walk o low n g r) p
-  least_on f a k c g r z is h too e same =
-      least_key f a k z is h ∙ run_read (link_at o (f - 1)) (weigh_link low (least_walk o low n) best k) p g (rw too at e)
-      ∙ ap (λ (x : Option ℕ). run_program (least_walk o low n g x) p) (sym same)
 
 -- one bucket of so many
 one_more : (o blocks low j i : ℕ) (best : Option ℕ) → least_buckets o blocks low (suc j) i best ≡ then_do (least_in_program o blocks i low best) (least_buckets o blocks low j (i + 1))

@@ -1,3 +1,4 @@
 pub mod Means
 pub mod OrderPrograms
 pub mod Dropping
+pub mod Passing

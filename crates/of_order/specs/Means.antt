@@ -1,5 +1,5 @@
 -- Keys in their order: which is the least, and what dropping those below one does to a store.
-use Rattle.std.specs.Prelude.{ℕ, ◌-◌, nat_lt, nat_le, find, if◌then◌else◌, Option, Some, None}
+use Rattle.std.specs.Prelude.{ℕ, ◌-◌, nat_le, find, Option}
 use Rattle.std.specs.Ordering.{nat_cmp}
 use Rattle.std.specs.FinMap as fin
 use Rattle.of_mem.specs.Stores.{CellStore}
@@ -19,12 +19,3 @@ after_drop low s = record s { map = keys_from s.map low }
 -- how many keys are below this one
 abbrev pub dropped_count : ℕ → CellStore → ℕ
 dropped_count low s = fin.len s.map - fin.len (keys_from s.map low)
-
--- the less of a key and the best so far
-abbrev pub lesser_of : ℕ → Option ℕ → Option ℕ
-lesser_of k None = Some k
-lesser_of k (Some b) = if nat_lt b k then Some b else Some k
-
--- where the key is not below the lowest that is sought
-abbrev pub better_of : ℕ → ℕ → Option ℕ → Option ℕ
-better_of low k best = if nat_lt k low then best else lesser_of k best

@@ -6,7 +6,7 @@ use Rattle.of_mem.specs.Places.{bucket_count, bucket_at, keys_at}
 use Rattle.of_mem.specs.Stores.{first_at, link_at}
 use Rattle.of_mem.specs.Programs.{Program, Done, Read, Write, then_do}
 use Rattle.of_alloc.specs.BlockPrograms.{give_program}
-use Rattle.of_order.specs.Means.{better_of}
+use Rattle.of_mem.specs.Walks.{better_of}
 
 -- The least key from one on: the front of each bucket, and of each block its key and its link.
 

@@ -6,66 +6,93 @@ ghost use Rattle.std.specs.Prelude.{◌≡◌, ◌+◌, ◌<◌, length};
 ghost use Rattle.of_mem.specs.Places.{bucket_count};
 ghost use Rattle.of_mem.specs.Calls.{RunsProgram, HasStore, AnswersOfStore, ActsOnStore};
 ghost use Rattle.of_order.specs.OrderPrograms as program;
-ghost use Rattle.of_order.specs.Means.{least_from, better_of, dropped_count, after_drop};
+ghost use Rattle.of_mem.specs.Walks.{HasCome, better_of};
+ghost use Rattle.of_mem.specs.declared.walk.Sought.TheVariants.{LeastFrom};
+ghost use Rattle.of_order.specs.Means.{least_from, dropped_count, after_drop};
+ghost use Rattle.of_order.specs.Passing.{PassesBlock, PassesBucket};
 ghost use Rattle.of_order.specs.Dropping.{IsDropping, IsDropped};
 
-use of_mem::{Need, Part, Plot};
+use of_mem::{Need, Part, Plot, Sought, Walk};
 
 /// The least key, None where there is none. The error names a cell that is read and isn't known.
-pub fn first(plot: &Plot, part: &Part) -> Result<Option<u32>, Need>
-    requires { HasStore plot.now part.now }
-    ensures runs { RunsProgram (program.first_program plot.now) part.now part.now result }
-    ensures answers { AnswersOfStore plot.now part.now result (λ s. least_from s.map 0) }
+pub fn first(plot: &Plot, part: &mut Part) -> Result<Option<u32>, Need>
+    requires { HasStore plot.now part.old }
+    ensures part { part.new ≡ part.old }
+    ensures runs { RunsProgram (program.first_program plot.now) part.old part.new result }
+    ensures answers { AnswersOfStore plot.now part.old result (λ s. least_from s.map 0) }
 {
     least(plot, part, 0)
 }
 
 /// The least key above this one, None where there is none. The error names a cell that is read and
 /// isn't known.
-pub fn next(plot: &Plot, part: &Part, key: u32) -> Result<Option<u32>, Need>
-    requires { HasStore plot.now part.now }
-    ensures runs { RunsProgram (program.next plot.now key) part.now part.now result }
-    ensures answers { AnswersOfStore plot.now part.now result (λ s. least_from s.map (key + 1)) }
+pub fn next(plot: &Plot, part: &mut Part, key: u32) -> Result<Option<u32>, Need>
+    requires { HasStore plot.now part.old }
+    ensures part { part.new ≡ part.old }
+    ensures runs { RunsProgram (program.next plot.now key) part.old part.new result }
+    ensures answers { AnswersOfStore plot.now part.old result (λ s. least_from s.map (key + 1)) }
 {
     least(plot, part, u64::from(key) + 1)
 }
 
-// The least key from this one on, None where there is none.
-fn least(plot: &Plot, part: &Part, low: u64) -> Result<Option<u32>, Need>
-    requires { HasStore plot.now part.now }
-    ensures { RunsProgram (program.least plot.now low) part.now part.now result }
+// The least key from this one on, None where there is none. It goes on where a run before lacked a
+// cell.
+fn least(plot: &Plot, part: &mut Part, low: u64) -> Result<Option<u32>, Need>
+    requires { HasStore plot.now part.old }
+    ensures part { part.new ≡ part.old }
+    ensures runs { RunsProgram (program.least plot.now low) part.old part.new result }
 {
-    let mut best = None;
-    for bucket in 0..plot.buckets() {
-        best = least_in(plot, part, bucket, low, best)?;
+    let start = part.walk(plot, Sought::LeastFrom(low));
+    let mut best = pass_bucket(plot, part, low, start)?;
+    for bucket in start.bucket + 1..plot.buckets() {
+        best = pass_bucket(plot, part, low, Walk::at_front(plot, bucket, best))?;
     }
     Ok(best)
 }
 
-// The least of the best key so far and of a bucket's keys from this one on.
-fn least_in(
-    plot: &Plot,
-    part: &Part,
-    bucket: u32,
-    low: u64,
-    best: Option<u32>,
-) -> Result<Option<u32>, Need>
-    requires stands { HasStore plot.now part.now }
-    requires bucket { bucket < bucket_count plot.now.blocks }
-    ensures { RunsProgram (program.least_in plot.now bucket low best) part.now part.now result }
+// Walks to the end of a bucket, and answers the best key of it and of the buckets before. The walk
+// to a cell that isn't known is kept.
+#[inline(always)]
+fn pass_bucket(plot: &Plot, part: &mut Part, low: u64, start: Walk) -> Result<Option<u32>, Need>
+    requires stands { HasStore plot.now part.old }
+    requires came { HasCome plot.now (LeastFrom low) part.old start }
+    ensures part { part.new ≡ part.old }
+    ensures passes { PassesBucket plot.now low part.old start result }
 {
-    let mut best = best;
-    let mut pointer = part.read(plot.bucket(bucket))?;
-    for step in 0..plot.blocks {
-        if pointer == 0 {
-            return Ok(best);
+    let mut here = start;
+    for step in start.passed..plot.blocks + 1 {
+        match pass_block(plot, part, low, here) {
+            Err(need) => {
+                part.keep_walk(plot, Sought::LeastFrom(low), here);
+                return Err(need);
+            }
+            Ok(None) => return Ok(here.best),
+            Ok(Some(next)) => here = next,
         }
-        let block = pointer - 1;
-        let key = part.read(plot.block(block, 0))?;
-        pointer = part.read(plot.block(block, 2))?;
-        best = better(low, key, best);
     }
-    Ok(best)
+    // no bucket has more blocks than there are
+    unreachable!()
+}
+
+// The walk past the next block, None where the bucket ends.
+#[inline(always)]
+fn pass_block(plot: &Plot, part: &Part, low: u64, here: Walk) -> Result<Option<Walk>, Need>
+    requires stands { HasStore plot.now part.now }
+    requires came { HasCome plot.now (LeastFrom low) part.now here }
+    ensures { PassesBlock plot.now low part.now here result }
+{
+    let pointer = part.read(here.cell)?;
+    if pointer == 0 || here.passed == plot.blocks {
+        return Ok(None);
+    }
+    let block = pointer - 1;
+    let key = part.read(plot.block(block, 0))?;
+    Ok(Some(Walk {
+        passed: here.passed + 1,
+        cell: plot.block(block, 2),
+        best: better(low, key, here.best),
+        ..here
+    }))
 }
 
 // The less of a key and the best so far, where the key is not below the lowest that is sought.

@@ -12,9 +12,9 @@ use Rattle.of_map.proofs.seek.Goals as goal
 pub loop-passed-init : goal.loop-passed-init
 loop-passed-init c = record {
   same = refl;
-  few = omega (arith, c.walk-start.ensures.few);
-  passes = c.walk-start.ensures.passes;
-  leads = passes_lead c.args.plot.now c.args.key c.args.part.now c.walk-start.result.passed _ c.walk-start.result.cell c.walk-start.ensures.passes c.requires;
+  few = omega (arith, c.walk-start.ensures.0);
+  passes = c.walk-start.ensures.1;
+  leads = passes_lead c.args.plot.now c.args.key c.args.part.now c.walk-start.result.passed _ c.walk-start.result.cell c.walk-start.ensures.1 c.requires;
 }
 
 pub returns-in-Err-clause-runs : goal.returns-in-Err-clause-runs

@@ -39,7 +39,7 @@ invariant_of-self-2 c =
         script = rw (c.clear.ensures, c.loop-i.invariant.script, c.loop-i.invariant.cells) c.self.invariant.0.script;
         newest = rw (empty, batch, c.loop-i.invariant.cells) (newest_kept p c.self.inside.script.room _ c.len-count.ensures.map c.self.invariant.0.newest);
       },
-      rw c.loop-i.invariant.last (λ some. absurd (omega (arith, some))),
+      rw c.loop-i.invariant.last (λ kept. absurd cc),
     )
 
 -- over an empty batch the script's entries are all
@@ -62,7 +62,7 @@ invariant_of-self c =
         script = c.self.invariant.0.batch;
         newest = subst (λ (es : List (ℕ × ℕ)). HasNewest (record p { batch = p.script; script = es }) c.self.inside.cells.newest) (sym none) held;
       },
-      λ some. absurd (omega (arith, some)),
+      λ kept. absurd cc,
     )
 
 pub returns-then-is_empty : goal.returns-then-is_empty

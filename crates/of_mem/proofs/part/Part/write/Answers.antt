@@ -1,4 +1,4 @@
-use Rattle.std.proofs.Common.{◌≡◌, ◌<◌, length, ap, arith, rules}
+use Rattle.std.proofs.Common.{◌≡◌, ◌<◌, length, ap, rules}
 use Rattle.of_mem.specs.CellMap.{put_pair}
 use Rattle.of_mem.specs.WriteSet.{WriteSet}
 use Rattle.of_mem.specs.Newest.{HoldsNewest, part_of}
@@ -19,5 +19,5 @@ invariant_of-self c =
         script = holds.script;
         newest = newest_wrote p _ c.args.addr c.args.value below holds.newest;
       }),
-      λ some. absurd (omega (arith, some)),
+      λ kept. absurd cc,
     )

@@ -1,0 +1,31 @@
+-- What the walk to the least key from one on comes to.
+use Rattle.std.specs.Prelude.{◌≡◌, ◌+◌, ℕ, Option, Some, None, Result, MatchResult}
+use Rattle.of_mem.specs.declared.part.Need.{Need}
+use Rattle.of_mem.specs.declared.plot.Plot.{Plot}
+use Rattle.of_mem.specs.declared.walk.Sought.TheVariants.{LeastFrom}
+use Rattle.of_mem.specs.declared.walk.Walk.{Walk}
+use Rattle.of_mem.specs.Part.{Part}
+use Rattle.of_mem.specs.Plots.{base}
+use Rattle.of_mem.specs.Programs.{NeedsAt}
+use Rattle.of_mem.specs.Walks.{WeighsBuckets, HasCome}
+use Rattle.of_order.specs.OrderPrograms.{least}
+
+-- this is the best key of the walk's bucket and of those before
+abbrev pub HasPassed : Plot → ℕ → Part → Walk → Option ℕ → Type 0
+HasPassed plot low p start best = WeighsBuckets (base plot) plot.blocks low p (start.bucket + 1) best
+
+-- the bucket ended with the best key so far, or the walk is one block further
+abbrev pub IsPast : Plot → ℕ → Part → Walk → Option Walk → Type 0
+IsPast plot low p here None = HasPassed plot low p here here.best
+IsPast plot low p here (Some next) =
+    HasCome plot (LeastFrom low) p next
+    × (next.bucket ≡ here.bucket) × (next.passed ≡ here.passed + 1)
+
+-- or the error names the cell that the program lacks
+abbrev pub PassesBlock : Plot → ℕ → Part → Walk → Result (Option Walk) Need → Type 0
+PassesBlock plot low p here result =
+    MatchResult result (IsPast plot low p here) (λ need. NeedsAt (least plot low) p need.addr)
+
+abbrev pub PassesBucket : Plot → ℕ → Part → Walk → Result (Option ℕ) Need → Type 0
+PassesBucket plot low p start result =
+    MatchResult result (HasPassed plot low p start) (λ need. NeedsAt (least plot low) p need.addr)
