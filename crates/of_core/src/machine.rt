@@ -26,6 +26,7 @@ mod trying;
 
 use crate::call::Call;
 use crate::machine::lists::Lists;
+use crate::machine::logs::set_words;
 use crate::performer::{NameStep, Performer};
 use crate::place::{Op, Outcome, Place};
 use of_cell::{GREATEST_LIMIT, Shape, pack};
@@ -165,12 +166,8 @@ impl<W: Work> Machine<W> {
         requires made { self.old.call.made + 1 < PAYLOADS }
         ensures { self.new ≡ machine_after W.meaning (λ S m. begin_call S m op.now) self.old }
     {
-        self.op.clear();
-        match self.op.extend_from_slice(op) {
-            Ok(()) => {}
-            // there is room for the words of every operation
-            Err(_) => unreachable!(),
-        }
+        // there is room for the words of every operation
+        set_words(&mut self.op, op);
         self.made += 1;
         self.forget();
         self.place = if self.work.reads_only(op) {

@@ -22,11 +22,11 @@ use Rattle.of_mem.proofs.Heaps.{front_below, chain_copy}
 use Rattle.of_mem.proofs.Overlaid.{over_at, RunsAlike, run_alike}
 use Rattle.of_mem.proofs.Sounds.{part_fresh}
 use Rattle.of_script.specs.declared.instr.TheConstants.{MOST_INSTRS}
-use Rattle.of_script.specs.declared.instr.Reply.{Reply}
-use Rattle.of_script.specs.declared.instr.Abort.{Abort}
-use Rattle.of_store.specs.Store.{Store}
+use Rattle.of_script.specs.declared.instr.Cause.{Cause}
+use Rattle.of_store.specs.Store.{Store, Aborted}
 use Rattle.of_eval.specs.declared.scripts.Scripts.{Scripts}
-use Rattle.of_eval.specs.Shapes.{IsWhole, reply_cells, mask_of, abort_part}
+use Rattle.of_eval.specs.Shapes.{reply_cells, mask_of}
+use Rattle.of_eval.specs.Words.{reply_to}
 use Rattle.of_eval.specs.ShapeLaws.{code_some, mask_width}
 use Rattle.of_eval.specs.Stored.{cell_store, IsStored, HasState}
 use Rattle.of_eval.specs.Calls.{script}
@@ -75,33 +75,24 @@ module _ (o blocks : ℕ) (m n : ℕ → ℕ) (same : (a : ℕ) → o ≤ a → 
         };
       }
 
-abbrev pub is_none_of : Option Abort → Bool
-is_none_of None = true
-is_none_of (Some a) = false
+-- a reply with values is a success
+pub answered_succeeds : (n : ℕ) (vs : List (Option ℕ)) → n ≤ MOST_INSTRS → length vs ≡ MOST_INSTRS → is_success (reply_cells (record { len = n; values = vs; abort = None })) ≡ true
+answered_succeeds n vs few width =
+    let k : mask_of vs < 2 ^ length vs = mask_width vs in
+    let small : mask_of vs < 2 ^ MOST_INSTRS = subst (λ (m : ℕ). mask_of vs < 2 ^ m) width k in
+    lt-ltb _ _ (omega (arith, small, few))
 
--- a success is a reply with no abort
-pub whole_success : (r : Reply) → IsWhole r → (o : Option Abort) → r.abort ≡ o → is_success (reply_cells r) ≡ is_none_of o
-whole_success r h None e =
-    let k : mask_of r.values < 2 ^ length r.values = mask_width r.values in
-    let small : mask_of r.values < 2 ^ MOST_INSTRS = subst (λ (n : ℕ). mask_of r.values < 2 ^ n) h.width k in
-    lt-ltb _ _ (omega (arith, small, h.few, ap abort_part e))
-whole_success r h (Some a) e = let c = code_some a.cause in le-ltb _ _ (omega (arith, c.0, ap abort_part e))
+-- an abort is none
+pub aborted_fails : (n place : ℕ) (cause : Cause) → is_success (reply_cells (reply_to n (Aborted place cause))) ≡ false
+aborted_fails n place cause = let c = code_some cause in le-ltb _ _ (omega (arith, c.0))
 
-no_abort : (o : Option Abort) → is_some o ≡ false → is_none_of o ≡ true
-no_abort None e = refl
-no_abort (Some a) e = absurd (false≢true (sym e))
-
-an_abort : (o : Option Abort) → is_some o ≡ true → is_none_of o ≡ false
-an_abort None e = absurd (false≢true e)
-an_abort (Some a) e = refl
-
--- the writes of a reply with no abort are kept
-pub kept_when : (r : Reply) (x : RawReply) (q p : Part) → IsWhole r → is_some r.abort ≡ false → p ≡ q → x ≡ reply_cells r → Gives (cond (is_success (reply_cells r)) q.script []) (reply_cells r) ≡ Gives p.script x
-kept_when r x q p h e same is = rw (whole_success r h r.abort refl ∙ no_abort r.abort e) (λ i. Gives (sym same i).script (sym is i))
+-- the writes of a success are kept
+pub kept_when : (x : RawReply) (q p : Part) → is_success x ≡ true → p ≡ q → Gives (cond (is_success x) q.script []) x ≡ Gives p.script x
+kept_when x q p e same = rw e (λ i. Gives (sym same i).script x)
 
 -- those of an abort are dropped
-pub dropped_when : (r : Reply) (x : RawReply) (q p : Part) → IsWhole r → is_some r.abort ≡ true → p.script ≡ [] → x ≡ reply_cells r → Gives (cond (is_success (reply_cells r)) q.script []) (reply_cells r) ≡ Gives p.script x
-dropped_when r x q p h e none is = rw (whole_success r h r.abort refl ∙ an_abort r.abort e) (λ i. Gives (sym none i) (sym is i))
+pub dropped_when : (x : RawReply) (q p : Part) → is_success x ≡ false → p.script ≡ [] → Gives (cond (is_success x) q.script []) x ≡ Gives p.script x
+dropped_when x q p e none = rw e (λ i. Gives (sym none i) x)
 
 -- runs that end alike walk alike
 alike_walks : (keeps : RawReply → Bool) (x y : RunEnd RawReply) → RunsAlike x y → walk_of_run keeps x ≡ walk_of_run keeps y

@@ -1,13 +1,11 @@
 -- The programs of the calls that run scripts on a plot.
-use Rattle.std.specs.Prelude.{ℕ, List, Result, Ok, Err}
+use Rattle.std.specs.Prelude.{ℕ, Bool, List, Result, Ok, Err}
 use Rattle.of_mem.specs.declared.part.Need.{Need}
 use Rattle.of_mem.specs.declared.plot.Plot.{Plot}
 use Rattle.of_mem.specs.declared.work.RawReply.{RawReply}
 use Rattle.of_mem.specs.Plots.{base}
 use Rattle.of_mem.specs.Programs.{Program}
 use Rattle.of_script.specs.declared.instr.Instr.{Instr}
-use Rattle.of_script.specs.declared.instr.Reply.{Reply}
-use Rattle.of_eval.specs.Shapes.{reply_cells}
 use Rattle.of_eval.specs.ScriptPrograms.{InstrResult, instr_program, word_program, script_program}
 
 abbrev pub step : Plot → Instr → Program InstrResult
@@ -19,7 +17,7 @@ run_word plot w = word_program (base plot) plot.blocks w
 abbrev pub script : Plot → List ℕ → Program RawReply
 script plot op = script_program (base plot) plot.blocks op
 
--- the same result, with the reply as cells hold it
-abbrev pub in_cells : Result Reply Need → Result RawReply Need
-in_cells (Ok r) = Ok (reply_cells r)
-in_cells (Err need) = Err need
+-- the same result, with the reply that cells hold in the place of Ok's word
+abbrev pub with_reply : RawReply → Result Bool Need → Result RawReply Need
+with_reply raw (Ok ended) = Ok raw
+with_reply raw (Err need) = Err need

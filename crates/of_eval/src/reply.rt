@@ -1,13 +1,16 @@
 //! Replies as cells hold them.
 
-ghost use Rattle.std.specs.Prelude.{◌≡◌, ◌≢◌, ◌≤◌, ◌<◌, ◌+◌, ◌*◌, ◌/◌, ◌%◌, IfSome, MatchOption, Some, All, ◌^◌};
+ghost use Rattle.std.specs.Prelude.{◌≡◌, ◌≢◌, ◌≤◌, ◌<◌, ◌+◌, ◌*◌, ◌/◌, ◌%◌, IfSome, MatchOption, Some, None, All, ◌^◌, ℕ, length};
 ghost use Rattle.of_script.specs.declared.instr.Reply.{Reply as TheReply};
 ghost use Rattle.of_script.specs.declared.instr.Cause.{Cause as TheCause};
 ghost use Rattle.of_store.specs.Replies.{IsSmall};
 ghost use Rattle.of_eval.specs.Shapes.{IsWhole, IsHeldBy, reply_cells, code_of, abort_part as the_abort_part};
 ghost use Rattle.of_eval.specs.Reading.{marked_in};
+ghost use Rattle.of_eval.specs.Words.{reply_to};
+ghost use Rattle.of_store.specs.Store.{Aborted};
+ghost use Rattle.std.proofs.Common.{get_or, set};
 
-use of_mem::RawReply;
+use of_mem::{RawReply, SuspendedRun};
 use of_script::{Abort, Cause, GREATEST, MOST_INSTRS, Reply};
 
 /// The number of a cause in a shape.
@@ -64,6 +67,61 @@ pub fn reply_cells(reply: &Reply) -> RawReply
         }
     }
     RawReply { shape, values }
+}
+
+// What the word at a place answered: `last` that of the first which `kept` hasn't.
+fn answer_at(kept: &SuspendedRun, last: Option<u32>, place: usize) -> Option<u32>
+    requires place { place ≤ kept.now.done }
+    requires width { kept.now.done < length kept.now.values }
+    ensures { result ≡ get_or (set kept.now.values kept.now.done last) place None }
+{
+    if place < kept.done() {
+        kept.value(place)
+    } else {
+        last
+    }
+}
+
+/// Writes the reply of a script that ran to its end: what `kept` has of the words before the last
+/// one, and `last` of this.
+// out of line, so that a run that lacks a cell doesn't clear this frame
+#[inline(never)]
+pub(crate) fn answers_in_cells(kept: &SuspendedRun, last: Option<u32>, out: &mut RawReply)
+    requires few { kept.now.done < MOST_INSTRS }
+    requires width { length kept.now.values ≡ MOST_INSTRS }
+    requires past { (i : ℕ) → kept.now.done ≤ i → get_or kept.now.values i None ≡ None }
+    ensures { out.new ≡ reply_cells (record {
+      len = kept.now.done + 1;
+      values = set kept.now.values kept.now.done last;
+      abort = None;
+    }) }
+{
+    let len = kept.done() + 1;
+    out.shape = len as u32 * (1 << 16);
+    out.values = [0; MOST_INSTRS];
+    for i in 0..len {
+        if let Some(value) = answer_at(kept, last, i) {
+            out.shape += 1 << i;
+            out.values[i] = value;
+        }
+    }
+}
+
+/// Writes the reply of a script of `len` words that aborted at a place.
+#[inline(never)]
+pub(crate) fn abort_in_cells(len: usize, place: usize, cause: Cause, out: &mut RawReply)
+    requires few { len ≤ MOST_INSTRS }
+    requires place { place < len }
+    ensures { out.new ≡ reply_cells (reply_to len (Aborted place cause)) }
+{
+    *out = reply_cells(&Reply {
+        len: len as u8,
+        values: [None; MOST_INSTRS],
+        abort: Some(Abort {
+            place: place as u8,
+            cause,
+        }),
+    });
 }
 
 /// The reply that these cells hold. None comes exactly if they hold none: their shape is that of no

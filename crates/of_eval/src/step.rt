@@ -17,6 +17,9 @@ use of_mem::{Need, Part, Plot};
 use of_script::{Cause, GREATEST, Instr, from_word};
 use of_store::MOST_ORDERED_BLOCKS;
 
+/// The word of a `get` of key 0. The words below it are those of instructions on registers.
+const FIRST_ON_KEYS: u64 = 80 << 31;
+
 /// A number or none, or the cause for which the script aborts.
 pub(crate) type InstrResult = Result<Option<u32>, Cause>;
 
@@ -46,6 +49,9 @@ pub(crate) fn word_reads(word: u64) -> bool
 pub(crate) fn word_seeks(word: u64) -> Option<u32>
     ensures { IfSome result (λ key. (o blocks : ℕ) → LooksFor o blocks word key) }
 {
+    if word < FIRST_ON_KEYS {
+        return None;
+    }
     match from_word(word)? {
         Instr::Get { key } => Some(key),
         Instr::Put { key, .. } => Some(key),

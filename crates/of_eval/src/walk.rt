@@ -1,6 +1,5 @@
 //! The words of an operation in order.
 
-ghost use Rattle.std.proofs.Common.{set};
 ghost use Rattle.std.specs.Prelude.{◌-◌, ◌≡◌, ◌≤◌, ◌<◌, [], length, None};
 ghost use Rattle.std.specs.Prelude.{IfErr, IfOk, MatchResult, OnErr, OnOk};
 ghost use Rattle.of_mem.specs.Meaning.{Gives};
@@ -11,18 +10,15 @@ ghost use Rattle.of_mem.specs.Programs.{NeedsAt, run_program};
 ghost use Rattle.of_mem.specs.SuspendedRun.{IsSuspensionOf};
 ghost use Rattle.of_mem.specs.declared.work.TheConstants.{MOST_INSTRS};
 ghost use Rattle.of_mem.specs.Calls.{RunsProgram};
-ghost use Rattle.of_eval.specs.Calls.{script, in_cells};
-ghost use Rattle.of_eval.specs.Shapes.{IsWhole};
+ghost use Rattle.of_eval.specs.Calls.{script, with_reply};
 ghost use Rattle.of_eval.specs.Resuming.{HoldsScript, MayResume};
 ghost use Rattle.of_eval.specs.Scripts.{is_success};
 ghost use Rattle.of_eval.specs.Stored.{HasState};
-ghost use Rattle.of_eval.specs.Words.{IsOperation, reply_to};
-ghost use Rattle.of_store.specs.Store.{Aborted};
+ghost use Rattle.of_eval.specs.Words.{IsOperation};
 
-use crate::reply::reply_cells;
+use crate::reply::{abort_in_cells, answers_in_cells};
 use crate::step::{run_word, word_seeks};
 use of_mem::{Need, Part, Plot, RawReply, SuspendedRun};
-use of_script::{Abort, Cause, MOST_INSTRS, Reply};
 
 /// Goes back to where `kept` stopped if it is of these words, and else begins them there.
 pub(crate) fn resume(plot: &Plot, part: &mut Part, kept: &mut SuspendedRun, op: &[u64])
@@ -92,12 +88,11 @@ pub(crate) fn run_to_reply(
     ensures holds { HoldsScript kept.new (record part.old { script = [] }) }
     ensures room { kept.new.room ≡ kept.old.room }
 {
-    match run_words(plot, part, kept, op) {
-        Ok(reply) => {
-            if reply.abort.is_some() {
+    match run_words(plot, part, kept, op, out) {
+        Ok(ended) => {
+            if !ended {
                 part.undo();
             }
-            *out = reply_cells(&reply);
             Ok(())
         }
         Err(need) => {
@@ -108,14 +103,16 @@ pub(crate) fn run_to_reply(
     }
 }
 
-/// Runs the words in order, to their end or to the first abort, from the first that hasn't run. The
-/// error names a cell that is read and isn't known.
+/// Runs the words in order, to their end or to the first abort, from the first that hasn't run.
+/// Ok leaves the reply in `out`, and says whether they ran to their end. The error names a cell that
+/// is read and isn't known; then `out` is as before.
 fn run_words(
     plot: &Plot,
     part: &mut Part,
     kept: &mut SuspendedRun,
     op: &[u64],
-) -> Result<Reply, Need>
+    out: &mut RawReply,
+) -> Result<bool, Need>
     requires stands { HasState plot.now (record part.old { script = [] }) }
     requires instrs { plot.now.instrs ≡ MOST_INSTRS }
     requires words { IsOperation op.now }
@@ -125,8 +122,9 @@ fn run_words(
     requires written { part.old.script ≡ kept.old.writes }
     requires room { kept.old.room ≡ length part.old.known }
     ensures runs { RunsProgram (script plot.now op.now) (record part.old { script = [] }) part.new
-        (in_cells result) }
-    ensures whole { IfOk result IsWhole }
+        (with_reply out.new result) }
+    ensures ended { IfOk result (λ ended. is_success out.new ≡ ended) }
+    ensures out { OnErr result (out.new ≡ out.old) }
     ensures of { IsSuspensionOf kept.new plot.now.callers plot.now.blocks op.now }
     ensures holds { HoldsScript kept.new (record part.old { script = [] }) }
     ensures room { kept.new.room ≡ kept.old.room }
@@ -134,9 +132,15 @@ fn run_words(
     let last = op.len() - 1;
     for i in kept.done()..op.len() {
         match run_word(plot, part, op[i])? {
-            Err(cause) => return Ok(aborted_reply(op.len(), i, cause)),
+            Err(cause) => {
+                abort_in_cells(op.len(), i, cause, out);
+                return Ok(false);
+            }
             // no word comes after the last one, so what it answers and writes need not be kept
-            Ok(value) if i == last => return Ok(answered_reply(op.len(), kept.values(), value)),
+            Ok(value) if i == last => {
+                answers_in_cells(kept, value, out);
+                return Ok(true);
+            }
             Ok(value) => kept.advance(value, part),
         }
     }
@@ -153,36 +157,5 @@ fn keep_sought(kept: &mut SuspendedRun, op: &[u64])
     let next = kept.done();
     if next < op.len() {
         kept.seek(word_seeks(op[next]));
-    }
-}
-
-/// The reply of a script of `len` words that answers these values, and this one for its last word.
-fn answered_reply(len: usize, values: [Option<u32>; MOST_INSTRS], last: Option<u32>) -> Reply
-    requires some { 1 ≤ len }
-    requires few { len ≤ MOST_INSTRS }
-    ensures { result ≡ record { len = len; values = set values (len - 1) last; abort = None } }
-{
-    let mut values = values;
-    values[len - 1] = last;
-    Reply {
-        len: len as u8,
-        values,
-        abort: None,
-    }
-}
-
-/// The reply of a script of `len` words that aborts at a place.
-fn aborted_reply(len: usize, place: usize, cause: Cause) -> Reply
-    requires few { len ≤ MOST_INSTRS }
-    requires place { place < len }
-    ensures { result ≡ reply_to len (Aborted place cause) }
-{
-    Reply {
-        len: len as u8,
-        values: [None; MOST_INSTRS],
-        abort: Some(Abort {
-            place: place as u8,
-            cause,
-        }),
     }
 }

@@ -1,7 +1,7 @@
 //! What a work keeps between two runs.
 
 ghost use Rattle.std.specs.Prelude.{◌≡◌, ◌≤◌, ◌<◌, ◌+◌, ◌↔◌, IsTrue, length, IfOk, None};
-ghost use Rattle.std.proofs.Common.{set};
+ghost use Rattle.std.proofs.Common.{get_or, set};
 ghost use Rattle.of_mem.specs.declared.work.TheConstants.{MOST_INSTRS};
 ghost use Rattle.of_mem.specs.SuspendedRun.{nothing_suspended, begin_run, IsSuspensionOf};
 
@@ -114,15 +114,13 @@ impl SuspendedRun {
         self.done as usize
     }
 
-    /// What the words answered that have run, each at its place, and none past them.
-    pub fn values(&self) -> [Option<u32>; MOST_INSTRS]
-        ensures { result ≡ self.now.values }
+    /// What the word at a place answered, of those that have run.
+    pub fn value(&self, place: usize) -> Option<u32>
+        requires ran { place < self.now.done }
+        requires few { place < MOST_INSTRS }
+        ensures { result ≡ get_or self.now.values place None }
     {
-        let mut values = [None; MOST_INSTRS];
-        for i in 0..self.done as usize {
-            values[i] = self.values[i];
-        }
-        values
+        self.values[place]
     }
 
     /// One word more has run: it answered `value`, and the script has written what `part` says.

@@ -1,6 +1,6 @@
 //! Filling a log and what lies over the known cells.
 
-ghost use Rattle.std.specs.Prelude.{◌≡◌, ◌<◌, ◌≤◌, ◌+◌, ◌-◌, ◌%◌, length, ℕ, List, IfSome};
+ghost use Rattle.std.specs.Prelude.{◌≡◌, ◌<◌, ◌≤◌, ◌+◌, ◌-◌, ◌%◌, length, ℕ, List, IfSome, vec_capacity};
 ghost use Rattle.std.specs.List.{All};
 ghost use Rattle.std.proofs.Common.{take, drop};
 ghost use Rattle.of_cell.specs.declared.shape.TheConstants.{MOST_DATA_CELLS};
@@ -111,6 +111,18 @@ pub fn first_mark(shape: u32, from: u32, many: u32) -> Option<u32>
         }
     }
     None
+}
+
+/// Makes these the words of a list that has room for them.
+pub fn set_words(list: &mut Vec<u64>, words: &[u64])
+    requires { length words.now ≤ vec_capacity list.old }
+    ensures words { list.new.items ≡ words.now }
+    ensures room { vec_capacity list.new ≡ vec_capacity list.old }
+{
+    list.clear();
+    for i in 0..words.len() {
+        list.push_reserved(words[i]);
+    }
 }
 
 /// A script's words in room for the most.

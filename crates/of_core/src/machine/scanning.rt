@@ -121,11 +121,8 @@ impl<W: Work> Machine<W> {
             KnowsState W.lawful self.old (overlaid m.known m.log) }
         ensures { self.new ≡ step_from W.meaning (LoadScript at) found self.old }
     {
-        match self.script.push(found) {
-            Ok(()) => {}
-            // there is room for the words of every script
-            Err(_) => unreachable!(),
-        }
+        // there is room for the words of every script
+        self.script.push_reserved(found);
         if at + 1 < payload_of(self.heard) {
             self.place = Place::LoadScript(at + 1);
         } else {

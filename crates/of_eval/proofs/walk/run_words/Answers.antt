@@ -5,12 +5,14 @@ use Rattle.of_mem.specs.Plots.{base}
 use Rattle.of_mem.specs.Programs.{Ends, run_program}
 use Rattle.of_mem.specs.Calls.{RunsProgram}
 use Rattle.of_script.specs.declared.instr.TheConstants.{MOST_INSTRS}
-use Rattle.of_store.proofs.Values.{small_values, none_left}
+use Rattle.of_store.proofs.Values.{none_left}
 use Rattle.of_eval.specs.ScriptPrograms.{InstrResult}
 use Rattle.of_eval.specs.Calls.{run_word}
 use Rattle.of_eval.specs.Resuming.{part_with}
 use Rattle.of_eval.proofs.Walks.{ran_aborts, ran_lacks, ran_more, ran_ends}
-use Rattle.of_eval.proofs.Resumed.{after_word, goes_more, ran_so, of_store, has_store, holds_so}
+use Rattle.of_eval.specs.Scripts.{is_success}
+use Rattle.of_eval.proofs.Overlay.{answered_succeeds, aborted_fails}
+use Rattle.of_eval.proofs.Resumed.{goes_more, ran_so, of_store, has_store, holds_so}
 use Rattle.of_eval.proofs.walk.run_words.Goals as goal
 
 pub loop-i-init : goal.loop-i-init
@@ -21,6 +23,7 @@ loop-i-init c = record {
   goes = c.requires.goes;
   part = λ i. record c.args.part.now { script = c.requires.written i };
   room = refl;
+  out = refl;
 }
 
 pub run_word-requires : goal.run_word-requires
@@ -39,8 +42,11 @@ returns-in_err-cause-clause-runs c =
 pub returns-in_err-cause-clause-holds : goal.returns-in_err-cause-clause-holds
 returns-in_err-cause-clause-holds c = holds_so c.args.plot.now c.loop-i.kept (record c.args.part.now { script = [] }) c.args.op.now c.loop-i.invariant.of c.requires.instrs c.loop-i.invariant.goes
 
+pub returns-in_err-cause-clause-out : goal.returns-in_err-cause-clause-out
+returns-in_err-cause-clause-out c = let p = err_from_is_err_and c.from_residual.result c.from_residual.ensures.1 in rw p.1 c.loop-i.invariant.out
+
 pub returns-in-Err-clause-runs : goal.returns-in-Err-clause-runs
-returns-in-Err-clause-runs c = rw c.aborted_reply.ensures (record {
+returns-in-Err-clause-runs c = rw c.abort_in_cells.ensures (record {
   walk = ran_so (base c.args.plot.now) c.args.plot.now.blocks c.args.plot.now.few_blocks c.loop-i.kept (record c.args.part.now { script = [] }) c.loop-i.invariant.goes refl c.args.op.now c.loop-i.invariant.of.words c.requires.words.few c.loop-i.i c.loop-i.invariant.done c.loop-i.part c.loop-i.invariant.part
       ∙ ran_aborts (base c.args.plot.now) c.args.plot.now.blocks (length c.args.op.now) c.args.op.now c.loop-i.i c.loop-i-test.true c.loop-i.kept.values c.loop-i.part c.run_word.new.part c.in-Err.cause
       (omega (arith, c.loop-i.invariant.goes.width, c.requires.words.few, c.loop-i-test.true)) (c.in_ok-cause.ensures.walk ∙ ap (λ (x : InstrResult). Ends x c.run_word.new.part) c.in-Err.is);
@@ -71,6 +77,7 @@ loop-i-preserved c =
       goes = rw c.advance.ensures (goes_more (base c.args.plot.now) c.args.plot.now.blocks c.args.plot.now.few_blocks c.loop-i.kept (record c.args.part.now { script = [] }) h.goes c.run_word.new.part c.in-Ok.value walk batch (of_store c.args.plot.now (record c.args.part.now { script = [] }) c.requires.stands refl) less few);
       part = rw c.advance.ensures (λ i. part_with (known i) (batch i) c.run_word.new.part.script);
       room = rw c.advance.ensures h.room;
+      out = h.out;
     }
 
 pub returns-in-Ok-clause-runs : goal.returns-in-Ok-clause-runs
@@ -79,7 +86,7 @@ returns-in-Ok-clause-runs c =
     let end : length c.args.op.now ≡ c.loop-i.i + 1 = omega (arith, h.below, c.if-i-last.true) in
     let room : c.loop-i.i < length c.loop-i.kept.values = omega (arith, h.goes.width, h.below, c.requires.words.few) in
     let runs : RunsProgram (run_word c.args.plot.now (get_or c.args.op.now c.loop-i.i 0)) c.loop-i.part c.run_word.new.part (Ok (Ok c.in-Ok.value)) = rw (← c.in-Ok.is) c.in_ok-cause.ensures in
-    rw (c.answered_reply.ensures, c.values.ensures, ← c.if-i-last.true) (record {
+    rw (c.answers_in_cells.ensures, h.done, ← end) (record {
       walk = ran_so (base c.args.plot.now) c.args.plot.now.blocks c.args.plot.now.few_blocks c.loop-i.kept (record c.args.part.now { script = [] }) h.goes refl c.args.op.now h.of.words c.requires.words.few c.loop-i.i h.done c.loop-i.part h.part
           ∙ ran_more (base c.args.plot.now) c.args.plot.now.blocks (length c.args.op.now) c.args.op.now c.loop-i.i h.below c.loop-i.kept.values c.loop-i.part c.run_word.new.part c.in-Ok.value room runs.walk
           ∙ ran_ends (base c.args.plot.now) c.args.plot.now.blocks (length c.args.op.now) c.args.op.now (c.loop-i.i + 1) (set c.loop-i.kept.values c.loop-i.i c.in-Ok.value) c.run_word.new.part
@@ -89,28 +96,14 @@ returns-in-Ok-clause-runs c =
       batch = runs.batch ∙ ap (λ (x : Part). x.batch) h.part;
     })
 
-pub returns-in-Ok-clause-whole : goal.returns-in-Ok-clause-whole
-returns-in-Ok-clause-whole c =
+pub returns-in-Ok-clause-ended : goal.returns-in-Ok-clause-ended
+returns-in-Ok-clause-ended c =
     let h = c.loop-i.invariant in
-    let end : length c.args.op.now ≡ c.loop-i.i + 1 = omega (arith, h.below, c.if-i-last.true) in
-    let words : c.loop-i.kept.words ≡ c.args.op.now = h.of.words in
-    let done : c.loop-i.kept.done ≡ c.loop-i.i = h.done in
-    let here : c.loop-i.part ≡ part_with c.args.part.now.known c.args.part.now.batch c.loop-i.kept.writes = h.part in
-    let runs : RunsProgram (run_word c.args.plot.now (get_or c.args.op.now c.loop-i.i 0)) c.loop-i.part c.run_word.new.part (Ok (Ok c.in-Ok.value)) = rw (← c.in-Ok.is) c.in_ok-cause.ensures in
-    let batch : c.run_word.new.part.batch ≡ c.args.part.now.batch = runs.batch ∙ ap (λ (x : Part). x.batch) here in
-    let walk : run_program (run_word c.args.plot.now (get_or c.loop-i.kept.words c.loop-i.kept.done 0)) (part_with c.args.part.now.known c.args.part.now.batch c.loop-i.kept.writes) ≡ Ends (Ok c.in-Ok.value) c.run_word.new.part = rw (words, done, ← here) runs.walk in
-    let small = after_word (base c.args.plot.now) c.args.plot.now.blocks c.args.plot.now.few_blocks c.loop-i.kept (record c.args.part.now { script = [] }) h.goes c.run_word.new.part c.in-Ok.value walk batch c.args.part.now.known (λ a w x. x) (of_store c.args.plot.now (record c.args.part.now { script = [] }) c.requires.stands refl) in
-    rw (c.answered_reply.ensures, c.values.ensures, ← c.if-i-last.true) (record {
-      some = c.requires.words.some;
-      few = c.requires.words.few;
-      width = length-set c.loop-i.kept.values c.loop-i.i c.in-Ok.value ∙ h.goes.width;
-      fits = record {
-        len = refl;
-        small = small_values c.loop-i.kept.values c.loop-i.i c.in-Ok.value h.goes.small small.1;
-        past = λ k l. none_left c.loop-i.kept.values c.loop-i.i c.in-Ok.value (λ j m. h.goes.past j (omega (arith, m, h.done))) k (omega (arith, l, end));
-        aborted = tt;
-      };
-    })
+    ap is_success c.answers_in_cells.ensures
+    ∙ answered_succeeds (c.loop-i.kept.done + 1) (set c.loop-i.kept.values c.loop-i.kept.done c.in-Ok.value) (omega (arith, h.below, h.done, c.requires.words.few)) (length-set c.loop-i.kept.values c.loop-i.kept.done c.in-Ok.value ∙ h.goes.width)
+
+pub returns-in-Err-clause-ended : goal.returns-in-Err-clause-ended
+returns-in-Err-clause-ended c = ap is_success c.abort_in_cells.ensures ∙ aborted_fails (length c.args.op.now) c.loop-i.i c.in-Err.cause
 
 pub returns-in-Ok-clause-holds : goal.returns-in-Ok-clause-holds
 returns-in-Ok-clause-holds c = holds_so c.args.plot.now c.loop-i.kept (record c.args.part.now { script = [] }) c.args.op.now c.loop-i.invariant.of c.requires.instrs c.loop-i.invariant.goes

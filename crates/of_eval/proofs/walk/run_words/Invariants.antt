@@ -12,4 +12,5 @@ invariant-loop-i l = record {
   goes : MayResume (base l.fn.plot) l.fn.plot.blocks l.kept (record l.fn.part { script = [] });
   part : l.part ≡ part_with l.fn.part.known l.fn.part.batch l.kept.writes;
   room : l.kept.room ≡ l.fn.kept.room;
+  out : l.out ≡ l.fn.out;
 }
