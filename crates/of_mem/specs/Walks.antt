@@ -11,8 +11,8 @@ use Rattle.of_mem.specs.Places.{bucket_count, bucket_at}
 use Rattle.of_mem.specs.Plots.{base}
 use Rattle.of_mem.specs.Stores.{first_at, link_at}
 
--- from this cell so many blocks with other keys lead to that cell, and what leads there is known; o
--- is the first cell of the store
+-- from this cell n blocks with other keys lead to that cell, and what leads there is known; o is
+-- the first cell of the store
 abbrev pub Passes : ℕ → ℕ → Part → ℕ → ℕ → ℕ → Type 0
 Passes o key p zero from to = from ≡ to
 Passes o key p (suc n) from to =
@@ -29,8 +29,8 @@ lesser_of k (Some b) = if nat_lt b k then Some b else Some k
 abbrev pub better_of : ℕ → ℕ → Option ℕ → Option ℕ
 better_of low k best = if nat_lt k low then best else lesser_of k best
 
--- from this cell so many blocks lead to that cell, their keys make this of the best so far, and
--- what leads there is known
+-- from this cell n blocks lead to that cell, their keys make this of the best so far, and what
+-- leads there is known
 abbrev pub Weighs : ℕ → ℕ → Part → ℕ → ℕ → Option ℕ → ℕ → Option ℕ → Type 0
 Weighs o low p zero from best to result = (from ≡ to) × (best ≡ result)
 Weighs o low p (suc n) from best to result =
@@ -50,7 +50,7 @@ pub record WeighsBucket (o blocks low : ℕ) (p : Part) (i : ℕ) (best result :
   pub few : passed ≤ blocks
   pub ends : (last ≡ 0) ⊎ (passed ≡ blocks)
 
--- this is the best key of the first so many buckets
+-- this is the best key of the first n buckets
 abbrev pub WeighsBuckets : ℕ → ℕ → ℕ → Part → ℕ → Option ℕ → Type 0
 WeighsBuckets o blocks low p zero result = result ≡ None
 WeighsBuckets o blocks low p (suc i) result =

@@ -15,7 +15,7 @@ pub enum Sought {
     LeastFrom(u64),
 }
 
-/// How far a walk came: past so many blocks of a bucket, to this cell, which points to the next
+/// How far a walk came: how many blocks of a bucket it passed, and the cell that points to the next
 /// one. A walk to the least key has passed the buckets before, and keeps the best key so far.
 #[derive(Clone, Copy, Debug, PartialEq, Eq)]
 pub struct Walk {

@@ -105,9 +105,6 @@ first_program plot = least plot 0
 abbrev pub next : Plot → ℕ → Program (Option ℕ)
 next plot key = least plot (key + 1)
 
-abbrev pub least_in : Plot → ℕ → ℕ → Option ℕ → Program (Option ℕ)
-least_in plot i low best = least_in_program (base plot) plot.blocks i low best
-
 abbrev pub drop_below : Plot → ℕ → Program ℕ
 drop_below plot low = drop_program (base plot) plot.blocks low
 

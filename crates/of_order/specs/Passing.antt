@@ -11,12 +11,13 @@ use Rattle.of_mem.specs.Walks.{WeighsBuckets, HasCome}
 use Rattle.of_order.specs.OrderPrograms.{least}
 
 -- this is the best key of the walk's bucket and of those before
-abbrev pub HasPassed : Plot → ℕ → Part → Walk → Option ℕ → Type 0
-HasPassed plot low p start best = WeighsBuckets (base plot) plot.blocks low p (start.bucket + 1) best
+abbrev pub HasWeighed : Plot → ℕ → Part → Walk → Option ℕ → Type 0
+HasWeighed plot low p start best =
+    WeighsBuckets (base plot) plot.blocks low p (start.bucket + 1) best
 
 -- the bucket ended with the best key so far, or the walk is one block further
 abbrev pub IsPast : Plot → ℕ → Part → Walk → Option Walk → Type 0
-IsPast plot low p here None = HasPassed plot low p here here.best
+IsPast plot low p here None = HasWeighed plot low p here here.best
 IsPast plot low p here (Some next) =
     HasCome plot (LeastFrom low) p next
     × (next.bucket ≡ here.bucket) × (next.passed ≡ here.passed + 1)
@@ -28,4 +29,4 @@ PassesBlock plot low p here result =
 
 abbrev pub PassesBucket : Plot → ℕ → Part → Walk → Result (Option ℕ) Need → Type 0
 PassesBucket plot low p start result =
-    MatchResult result (HasPassed plot low p start) (λ need. NeedsAt (least plot low) p need.addr)
+    MatchResult result (HasWeighed plot low p start) (λ need. NeedsAt (least plot low) p need.addr)
