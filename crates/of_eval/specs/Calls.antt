@@ -18,6 +18,6 @@ abbrev pub script : Plot → List ℕ → Program RawReply
 script plot op = script_program (base plot) plot.blocks op
 
 -- the same result, with the reply that cells hold in the place of Ok's word
-abbrev pub with_reply : RawReply → Result Bool Need → Result RawReply Need
-with_reply raw (Ok ended) = Ok raw
-with_reply raw (Err need) = Err need
+abbrev pub in_cells : RawReply → Result Bool Need → Result RawReply Need
+in_cells raw (Ok ended) = Ok raw
+in_cells raw (Err need) = Err need

@@ -10,7 +10,7 @@ ghost use Rattle.of_mem.specs.Programs.{NeedsAt, run_program};
 ghost use Rattle.of_mem.specs.SuspendedRun.{IsSuspensionOf};
 ghost use Rattle.of_mem.specs.declared.work.TheConstants.{MOST_INSTRS};
 ghost use Rattle.of_mem.specs.Calls.{RunsProgram};
-ghost use Rattle.of_eval.specs.Calls.{script, with_reply};
+ghost use Rattle.of_eval.specs.Calls.{script, in_cells};
 ghost use Rattle.of_eval.specs.Resuming.{HoldsScript, MayResume};
 ghost use Rattle.of_eval.specs.Scripts.{is_success};
 ghost use Rattle.of_eval.specs.Stored.{HasState};
@@ -122,7 +122,7 @@ fn run_words(
     requires written { part.old.script ≡ kept.old.writes }
     requires room { kept.old.room ≡ length part.old.known }
     ensures runs { RunsProgram (script plot.now op.now) (record part.old { script = [] }) part.new
-        (with_reply out.new result) }
+        (in_cells out.new result) }
     ensures ended { IfOk result (λ ended. is_success out.new ≡ ended) }
     ensures out { OnErr result (out.new ≡ out.old) }
     ensures of { IsSuspensionOf kept.new plot.now.callers plot.now.blocks op.now }
