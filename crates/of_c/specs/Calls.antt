@@ -11,6 +11,7 @@ use Rattle.of_memory.specs.Called.{LeavesAsItWas}
 use Rattle.of_memory.specs.Handles.{IsSame, MakesCall, StaysOpenOnlyIfStopped, RefusesCall, OpensOnly}
 use Rattle.of_memory.specs.Handles.{ResumesCall, OpenCallStays, RefusesToGoOn, OpensNone}
 use Rattle.of_memory.specs.Handles.{steps_so_far, step_bound_of, MakesAtMost, GoesOnWithin}
+use Rattle.of_memory.specs.Handles.{MakesStepsAlone}
 use Rattle.of_memory.specs.Telling.{BeginsAfterHeard, ResumesAfterHeard, KeepsKnown}
 use Rattle.of_memory.specs.Within.{EndsWithin, KeepsToStop}
 use Rattle.of_c.specs.declared.codes.TheConstants.{DONE, EMPTY, NO_TICKET, SPENT, STOPPED, CALL_OPEN}
@@ -65,6 +66,7 @@ pub record CallsScript (script : List Instr) (stop : Option ℕ) (h : Handle)
   pub only : OpensOnly script h k
   pub behind : BeginsAfterHeard a h k
   pub knows : KeepsKnown h k
+  pub alone : MakesStepsAlone h k
 
 -- so has the call that was open
 pub record GoesOn (stop : Option ℕ) (h : Handle) (a : Result Answer RunError) (k : Handle)
@@ -81,6 +83,7 @@ pub record GoesOn (stop : Option ℕ) (h : Handle) (a : Result Answer RunError) 
   pub only : OpensNone h k
   pub behind : ResumesAfterHeard a h k
   pub knows : KeepsKnown h k
+  pub alone : MakesStepsAlone h k
 
 -- what a call does with a handle
 abbrev pub CallWork : Type 1

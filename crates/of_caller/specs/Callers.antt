@@ -20,6 +20,10 @@ member_of c = c.member
 abbrev pub sight_of : {W : Type 0} → Caller W → View
 sight_of c = view_of_member (member_of c)
 
+-- how many loads it has made that are no step of a call
+abbrev pub looks_made_by : {W : Type 0} → Caller W → ℕ
+looks_made_by c = (sight_of c).looks
+
 -- its call, as its machine holds it: the open one, or the last one
 abbrev pub caller_call : {W : Type 0} → Caller W → CallState
 caller_call c = c.machine.call

@@ -108,7 +108,9 @@ pub record TellsCall (S : Setup) (Lawful : List ℕ → Type 0) (B : TableStart)
       → length (operations_begun v.past m.caller) ≤ length (operations_known before)
   -- each step that is counted was made on the table
   pub turns : kept.turns ≡ before.turns + steps
-  -- and the member keeps what was seen when the call began, also if it was stopped
+  -- and nothing else was loaded
+  pub looks : w.looks ≡ v.looks
+  -- the member keeps what was seen when the call began, also if it was stopped
   pub since : 0 < steps → kept.since ≡ since_after B v before
   -- also if the call was stopped: with its steps before, it has made no more than what operations
   -- of the work touch allows

@@ -1,23 +1,24 @@
 //! What one caller knows goes to another while both stay: as a pass.
 
-ghost use Rattle.std.specs.Prelude.{◌≡◌};
+ghost use Rattle.std.specs.Prelude.{◌≡◌, ◌+◌};
 ghost use Rattle.of_row.specs.Rows.{view_of_pass, IsRowPass, KeepsNobody, KnowsBoth};
-ghost use Rattle.of_row.specs.Turned.{view_of_nobody};
+ghost use Rattle.of_row.specs.Turned.{after_tell, view_of_nobody};
 
 use crate::caller::Caller;
 use of_mem::Work;
 use of_row::{Pass, Row};
 
 impl<W: Work> Caller<W> {
-    ghost use Rattle.of_caller.specs.Callers.{IsCaller, caller_call, sight_of};
+    ghost use Rattle.of_caller.specs.Callers.{IsCaller, caller_call, sight_of, looks_made_by};
 
     /// A pass that knows all that the caller has seen, for another caller to hear. The caller stays
-    /// as it is.
+    /// as it is, but for the two loads that it makes.
     pub fn tell(&mut self, row: &Row<W>) -> Pass
         requires { IsCaller W.meaning row.now self.old }
         ensures caller { IsCaller W.meaning row.now self.new }
         ensures call { caller_call self.new ≡ caller_call self.old }
-        ensures sight { sight_of self.new ≡ sight_of self.old }
+        ensures sight { sight_of self.new ≡ after_tell (sight_of self.old) }
+        ensures looks { looks_made_by self.new ≡ looks_made_by self.old + 2 }
         ensures pass { IsRowPass row.now result }
         ensures tells { view_of_pass result ≡ view_of_nobody (sight_of self.old) }
     {
@@ -34,6 +35,7 @@ impl<W: Work> Caller<W> {
         ensures call { caller_call self.new ≡ caller_call self.old }
         ensures kept { (sight_of self.new).kept ≡ (sight_of self.old).kept }
         ensures heard { KnowsBoth (sight_of self.old) (view_of_pass pass) (sight_of self.new) }
+        ensures looks { looks_made_by self.new ≡ looks_made_by self.old + 2 }
     {
         row.hear(&mut self.member, pass);
     }

@@ -7,6 +7,7 @@ use Rattle.of_core.specs.Events.{Event}
 use Rattle.of_row.specs.declared.row.Row.{Row}
 use Rattle.of_row.specs.Rows.{setup_at, row_start}
 use Rattle.of_row.specs.Views.{View}
+use Rattle.of_row.specs.Turned.{after_tell}
 use Rattle.of_caller.specs.declared.caller.Caller.{Caller}
 use Rattle.of_caller.specs.Callers.{caller_call, sight_of}
 use Rattle.of_cells.specs.declared.answer.RawAnswer.{RawAnswer}
@@ -24,8 +25,8 @@ use Rattle.of_cells.proofs.Seats.{later_ended}
 
 -- ---- a caller that knows more
 
--- with the same view it knows as much
-pub same_sight : {W : Type 0} (c k : Caller W) → caller_call k ≡ caller_call c → sight_of k ≡ sight_of c → KnowsMore c k
+-- when it has told, it knows as much
+pub same_sight : {W : Type 0} (c k : Caller W) → caller_call k ≡ caller_call c → sight_of k ≡ after_tell (sight_of c) → KnowsMore c k
 same_sight c k call sight = record {
   call = call;
   kept = ap (λ (v : View). v.kept) sight;

@@ -9,7 +9,7 @@ use Rattle.of_row.specs.declared.row.Row.{Row}
 use Rattle.of_row.specs.Rows.{key_of}
 use Rattle.of_row.specs.Views.{EndedCall, last_caller}
 use Rattle.of_caller.specs.declared.caller.Caller.{Caller}
-use Rattle.of_caller.specs.Callers.{caller_call, sight_of}
+use Rattle.of_caller.specs.Callers.{caller_call, looks_made_by, sight_of}
 use Rattle.of_cells.specs.declared.answer.RawAnswer.{RawAnswer}
 use Rattle.of_cells.specs.declared.error.RunError.{RunError}
 use Rattle.of_cells.specs.declared.error.RunError.TheVariants.{Stopped, Spent as NoneLeft, InCall, NoCall, NoTicket}
@@ -98,6 +98,10 @@ abbrev pub ResumesItsNext : {W : Type 0} → Result RawAnswer RunError → Calle
 ResumesItsNext result c =
     HasStartedIfOpen (last_caller (sight_of c).kept) → (caller_call c).steps ≡ 0
     → BeginsItsNext result c
+
+-- all that the caller has done on its row are steps of its calls
+abbrev pub StepsAlone : {W : Type 0} → (before now : Caller W) → Type 0
+StepsAlone c d = looks_made_by d ≡ looks_made_by c
 
 -- the events that the caller knows go on
 abbrev pub LearnsMore : {W : Type 0} → (before now : Caller W) → Type 0

@@ -6,12 +6,12 @@ use Rattle.of_row.specs.declared.row.Row.{Row}
 use Rattle.of_row.specs.Rows.{key_of}
 use Rattle.of_row.specs.Views.{EndedCall}
 use Rattle.of_caller.specs.declared.caller.Caller.{Caller}
-use Rattle.of_caller.specs.Callers.{caller_call, calls_begun_by}
+use Rattle.of_caller.specs.Callers.{caller_call, calls_begun_by, looks_made_by}
 use Rattle.of_cells.specs.declared.answer.RawAnswer.{RawAnswer}
 use Rattle.of_cells.specs.declared.error.RunError.{RunError}
 use Rattle.of_cells.specs.declared.error.RunError.TheVariants.{Stopped, Spent, InCall, NoCall, NoTicket}
 use Rattle.of_cells.specs.declared.handle.CellHandle.{CellHandle}
-use Rattle.of_cells.specs.Called.{AnswersAsMeant, IsInCall, IsOpenAt, LeavesOpen, CallerOpensOnly, CallerOpensNone}
+use Rattle.of_cells.specs.Called.{AnswersAsMeant, IsInCall, IsOpenAt, LeavesOpen, CallerOpensOnly, CallerOpensNone, StepsAlone}
 use Rattle.of_cells.specs.Serving.{Serves, RisesByTouch, ended_of, made_before, row_step_bound, steps_made_by}
 
 -- the memory that it is a handle of
@@ -65,6 +65,14 @@ steps_so_far h = (caller_call (caller_of h)).steps
 -- were spent and its open one with them
 abbrev pub steps_of_calls : {W : Type 0} → CellHandle W → ℕ
 steps_of_calls h = steps_made_by (caller_of h)
+
+-- how many loads it has made that are no step of a call: two each time that it tells or hears
+abbrev pub looks_of : {W : Type 0} → CellHandle W → ℕ
+looks_of h = looks_made_by (caller_of h)
+
+-- all that it has done on the words of its memory are steps of its calls
+abbrev pub MakesStepsAlone : {W : Type 0} → (before now : CellHandle W) → Type 0
+MakesStepsAlone h k = StepsAlone (caller_of h) (caller_of k)
 
 -- its calls have made at most this many steps more
 abbrev pub MakesAtMost : {W : Type 0} → (most : ℕ) → (before now : CellHandle W) → Type 0

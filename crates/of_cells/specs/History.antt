@@ -73,8 +73,7 @@ IsOneOf n es IsOpenCall e =
     ⊎ ((e.ticket ≡ n + length es + 1) × IsOpenCall e.op)
 
 -- each entry of the caller is one of these ended calls or its open call
-abbrev pub HasOnly : List Call → (caller n : ℕ) → List EndedCall → (IsOpenCall : List ℕ → Type 0)
-    → Type 0
+abbrev pub HasOnly : List Call → (caller n : ℕ) → List EndedCall → (List ℕ → Type 0) → Type 0
 HasOnly h c n es IsOpenCall = All (λ (e : Call). e.caller ≡ c → IsOneOf n es IsOpenCall e) h
 
 -- no call of the caller that may write is later than the one with this ticket

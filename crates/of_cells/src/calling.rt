@@ -11,7 +11,7 @@ ghost use Rattle.of_cells.specs.Serving.{KeepsServing, ended_of, row_step_bound,
 ghost use Rattle.of_cells.specs.Serving.{RisesByTouch};
 ghost use Rattle.of_cells.specs.Called.{outcome_of, made_with, AnswersAsMeant, LeavesOpen, WasTried};
 ghost use Rattle.of_cells.specs.Called.{BeginsItsNext, ResumesItsNext, LearnsMore};
-ghost use Rattle.of_cells.specs.Called.{CallerOpensOnly, CallerOpensNone};
+ghost use Rattle.of_cells.specs.Called.{CallerOpensOnly, CallerOpensNone, StepsAlone};
 ghost use Rattle.of_cells.specs.Within.{EndsWithin, KeepsToStop, IsSpentAtLimit, RisesWithin};
 ghost use Rattle.of_cells.specs.Within.{EndsUnlessDenied, KeepsToStepsLeft, RisesByBrake};
 
@@ -90,6 +90,7 @@ fn call_counted<W: Work, L: Ledger, B: Brake>(
     ensures only { CallerOpensOnly op.now caller.old caller.new }
     ensures next { BeginsItsNext result caller.old }
     ensures more { LearnsMore caller.old caller.new }
+    ensures alone { StepsAlone caller.old caller.new }
 {
     let mut steps: Steps<L> = Steps::new(blank);
     match caller.call(row, op, brake, &mut steps) {
@@ -130,6 +131,7 @@ fn go_on_counted<W: Work, L: Ledger, B: Brake>(
     ensures only { CallerOpensNone caller.old caller.new }
     ensures next { ResumesItsNext result caller.old }
     ensures more { LearnsMore caller.old caller.new }
+    ensures alone { StepsAlone caller.old caller.new }
 {
     let mut steps: Steps<L> = Steps::new(blank);
     match caller.go_on(row, brake, &mut steps) {
@@ -167,6 +169,7 @@ pub(crate) fn call_with<W: Work>(
     ensures only { CallerOpensOnly op.now caller.old caller.new }
     ensures next { BeginsItsNext result caller.old }
     ensures more { LearnsMore caller.old caller.new }
+    ensures alone { StepsAlone caller.old caller.new }
 {
     match stop {
         None => call_counted::<W, Brand, Free>(row, caller, op, &mut Free, Blank::new(1)),
@@ -203,6 +206,7 @@ pub(crate) fn go_on_with<W: Work>(
     ensures only { CallerOpensNone caller.old caller.new }
     ensures next { ResumesItsNext result caller.old }
     ensures more { LearnsMore caller.old caller.new }
+    ensures alone { StepsAlone caller.old caller.new }
 {
     match stop {
         None => go_on_counted::<W, Brand, Free>(row, caller, &mut Free, Blank::new(1)),

@@ -37,7 +37,7 @@ impl<W: Work> CellHandle<W> {
     ghost use Rattle.of_cells.specs.Memories.{IsCellMemory, IsFrom, IsStill, HasMadeOf, HasOpenOf};
     ghost use Rattle.of_cells.specs.Handles.{OpensOnly, OpensNone, MakesAtMost, GoesOnWithin};
     ghost use Rattle.of_cells.specs.Handles.{MakesByTouch, GoesOnByTouch};
-    ghost use Rattle.of_cells.specs.Handles.{steps_of_calls, RepliesAsMeant};
+    ghost use Rattle.of_cells.specs.Handles.{steps_of_calls, RepliesAsMeant, MakesStepsAlone};
     ghost use Rattle.of_cells.specs.Within.{RisesWithin};
     ghost use Rattle.of_cells.specs.Telling.{BeginsAfterHeard, ResumesAfterHeard, KeepsKnown};
     ghost use Rattle.of_cells.specs.Telling.{LeavesOrder, TellsMemory};
@@ -70,6 +70,7 @@ impl<W: Work> CellHandle<W> {
         ensures touched { MakesByTouch W.meaning W.lawful op.now self.old self.new }
         ensures behind { BeginsAfterHeard W.meaning result self.old self.new }
         ensures knows { KeepsKnown W.meaning self.old self.new }
+        ensures alone { MakesStepsAlone self.old self.new }
     {
         self.begin(op, None)
     }
@@ -93,6 +94,7 @@ impl<W: Work> CellHandle<W> {
         ensures touched { MakesByTouch W.meaning W.lawful op.now self.old self.new }
         ensures behind { BeginsAfterHeard W.meaning result self.old self.new }
         ensures knows { KeepsKnown W.meaning self.old self.new }
+        ensures alone { MakesStepsAlone self.old self.new }
         ensures given { MakesAtMost steps self.old self.new }
     {
         self.begin(op, Some(steps))
@@ -116,6 +118,7 @@ impl<W: Work> CellHandle<W> {
         ensures touched { MakesByTouch W.meaning W.lawful op.now self.old self.new }
         ensures behind { BeginsAfterHeard W.meaning result self.old self.new }
         ensures knows { KeepsKnown W.meaning self.old self.new }
+        ensures alone { MakesStepsAlone self.old self.new }
         ensures given { RisesWithin stop (steps_of_calls self.old) (steps_of_calls self.new) }
     {
         if !self.caller.is_idle() {
@@ -145,6 +148,7 @@ impl<W: Work> CellHandle<W> {
         ensures touched { GoesOnByTouch W.meaning W.lawful self.old self.new }
         ensures behind { ResumesAfterHeard W.meaning result self.old self.new }
         ensures knows { KeepsKnown W.meaning self.old self.new }
+        ensures alone { MakesStepsAlone self.old self.new }
     {
         self.resume(None)
     }
@@ -168,6 +172,7 @@ impl<W: Work> CellHandle<W> {
         ensures touched { GoesOnByTouch W.meaning W.lawful self.old self.new }
         ensures behind { ResumesAfterHeard W.meaning result self.old self.new }
         ensures knows { KeepsKnown W.meaning self.old self.new }
+        ensures alone { MakesStepsAlone self.old self.new }
         ensures given { MakesAtMost steps self.old self.new }
     {
         self.resume(Some(steps))
@@ -191,6 +196,7 @@ impl<W: Work> CellHandle<W> {
         ensures touched { GoesOnByTouch W.meaning W.lawful self.old self.new }
         ensures behind { ResumesAfterHeard W.meaning result self.old self.new }
         ensures knows { KeepsKnown W.meaning self.old self.new }
+        ensures alone { MakesStepsAlone self.old self.new }
         ensures given { RisesWithin stop (steps_of_calls self.old) (steps_of_calls self.new) }
     {
         if self.caller.is_idle() {

@@ -1,7 +1,7 @@
 //! What a handle knows goes to another, for another thread, while both stay; and what a caller
 //! knows goes to its memory when it leaves, and the other way when it comes.
 
-ghost use Rattle.std.specs.Prelude.{◌≡◌};
+ghost use Rattle.std.specs.Prelude.{◌≡◌, ◌+◌};
 ghost use mathlib.Core.List.{IsPrefix};
 ghost use Rattle.of_caller.specs.Callers.{IsCaller};
 ghost use Rattle.of_cells.specs.Serving.{IsKnowledge, KnowsMore, events_in, events_known_to};
@@ -36,7 +36,7 @@ pub(crate) fn exchange<W: Work>(row: &Row<W>, caller: &mut Caller<W>, known: &mu
 }
 
 impl<W: Work> CellHandle<W> {
-    ghost use Rattle.of_cells.specs.Handles.{IsCellHandle, IsSame, home_of};
+    ghost use Rattle.of_cells.specs.Handles.{IsCellHandle, IsSame, home_of, looks_of};
     ghost use Rattle.of_cells.specs.Telling.{KeepsKnown, CallsStay, IsNews, TellsOwn, TellsHeard};
     ghost use Rattle.of_cells.specs.Telling.{HearsAll};
 
@@ -49,6 +49,7 @@ impl<W: Work> CellHandle<W> {
         ensures same { IsSame self.old self.new }
         ensures calls { CallsStay self.old self.new }
         ensures knows { KeepsKnown W.meaning self.old self.new }
+        ensures looks { looks_of self.new ≡ looks_of self.old + 2 }
         ensures news { IsNews (home_of self.old) result }
         ensures own { TellsOwn W.meaning self.old result }
         ensures heard { TellsHeard W.meaning self.old result }
@@ -67,6 +68,7 @@ impl<W: Work> CellHandle<W> {
         ensures same { IsSame self.old self.new }
         ensures calls { CallsStay self.old self.new }
         ensures knows { KeepsKnown W.meaning self.old self.new }
+        ensures looks { looks_of self.new ≡ looks_of self.old + 2 }
         ensures heard { HearsAll W.meaning news self.new }
     {
         let CellNews { pass } = news;

@@ -11,6 +11,7 @@ use Rattle.of_row.specs.declared.member.Member.{Member}
 use Rattle.of_row.specs.declared.row.Row.{Row}
 use Rattle.of_row.specs.Views.{last_caller}
 use Rattle.of_row.specs.Rows.{IsSeatOf, HasNoCall}
+use Rattle.of_row.specs.Turned.{after_tell}
 use Rattle.of_door.specs.Hands.{HandLog, log_after_exchange, after_store}
 use Rattle.of_door.specs.Rule.{SlotHolds, SlotMatchesWord, IsMemberAtDoor, IsMemberAtToldDoor, DoorMeetsRule, TakesSlot, GivesSlotBack}
 
@@ -154,7 +155,7 @@ puts_for May slots one id n found me taken now was x free took put low stands =
     subst (λ (k : ℕ). Allows (DoorMeetsRule May) k id now 0 (λ _. n) (λ _ after. GivesSlotBack n now after)) (sym one) (puts_slot May id n now x carried mine low stands)
 
 -- a member that parted may stand here, as it might before
-pub parted_rests : {W : Type 0} (r here : Row W) (number : ℕ) (m now : Member) → r ≡ here → m.number ≡ number → HasNoCall m → IsSeatOf here now.seat → now.seat.me.0 ≡ m.seat.me.0 → now.number ≡ m.number → SlotHolds (IsMemberAtDoor r number) 1 (Some now)
+pub parted_rests : {W : Type 0} (r here : Row W) (number : ℕ) (m now : Member) → r ≡ here → m.number ≡ number → HasNoCall m → IsSeatOf here now.seat → now.seat.me.0 ≡ after_tell m.seat.me.0 → now.number ≡ m.number → SlotHolds (IsMemberAtDoor r number) 1 (Some now)
 parted_rests {W} r here number m now same is rest at view number_is = (
   λ z. cc,
   λ _. (now, refl, (subst (λ (x : Row W). IsSeatOf x now.seat) (sym same) at, number_is ∙ is, ap (λ v. (last_caller v.kept).machine.place) view ∙ rest)),

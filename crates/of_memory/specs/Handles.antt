@@ -86,6 +86,14 @@ calls_begun h = generic.calls_begun h.cells
 abbrev pub tickets_behind : Handle → ℕ
 tickets_behind h = generic.tickets_behind scripts_meaning h.cells
 
+-- how many loads it has made that are no step of a call: two each time that it tells or hears
+abbrev pub looks_of : Handle → ℕ
+looks_of h = generic.looks_of h.cells
+
+-- all that it has done on the words of its memory are steps of its calls
+abbrev pub MakesStepsAlone : (before now : Handle) → Type 0
+MakesStepsAlone h k = generic.MakesStepsAlone h.cells k.cells
+
 -- its calls have made at most so many steps more, those that were spent with them
 abbrev pub MakesAtMost : (most : ℕ) → (before now : Handle) → Type 0
 MakesAtMost most h k = generic.MakesAtMost most h.cells k.cells

@@ -31,7 +31,7 @@ pub struct Handle {
 }
 
 impl Handle {
-    ghost use Rattle.std.specs.Prelude.{◌≡◌, List, ℕ};
+    ghost use Rattle.std.specs.Prelude.{◌≡◌, ◌+◌, List, ℕ};
     ghost use Rattle.of_script.specs.declared.instr.Instr.{Instr as TheInstr};
     ghost use Rattle.of_memory.specs.History.{Made};
     ghost use Rattle.of_memory.specs.Called.{LeavesAsItWas};
@@ -42,6 +42,7 @@ impl Handle {
     ghost use Rattle.of_memory.specs.Handles.{RefusesCall, RefusesToGoOn, number_of_handle};
     ghost use Rattle.of_memory.specs.Handles.{steps_so_far, step_bound_of};
     ghost use Rattle.of_memory.specs.Handles.{MakesAtMost, GoesOnWithin};
+    ghost use Rattle.of_memory.specs.Handles.{MakesStepsAlone, looks_of};
     ghost use Rattle.of_memory.specs.Memories.{IsMemory, IsFrom, IsStill, HasMadeOf, HasOpenOf};
     ghost use Rattle.of_memory.specs.Memories.{KnowsOthers, OthersStayOpen, OthersKnowOrder};
     ghost use Rattle.of_memory.specs.Memories.{PutsBack, RemembersAll};
@@ -71,6 +72,7 @@ impl Handle {
         ensures only { OpensOnly script.now self.old self.new }
         ensures behind { BeginsAfterHeard result self.old self.new }
         ensures knows { KeepsKnown self.old self.new }
+        ensures alone { MakesStepsAlone self.old self.new }
     {
         let len = script.len() as usize;
         let mut words = [0; MOST_INSTRS];
@@ -97,6 +99,7 @@ impl Handle {
         ensures only { OpensOnly script.now self.old self.new }
         ensures behind { BeginsAfterHeard result self.old self.new }
         ensures knows { KeepsKnown self.old self.new }
+        ensures alone { MakesStepsAlone self.old self.new }
     {
         let len = script.len() as usize;
         let mut words = [0; MOST_INSTRS];
@@ -122,6 +125,7 @@ impl Handle {
         ensures only { OpensNone self.old self.new }
         ensures behind { ResumesAfterHeard result self.old self.new }
         ensures knows { KeepsKnown self.old self.new }
+        ensures alone { MakesStepsAlone self.old self.new }
     {
         match self.cells.go_on() {
             Ok(answer) => Ok(typed(answer)),
@@ -146,6 +150,7 @@ impl Handle {
         ensures only { OpensNone self.old self.new }
         ensures behind { ResumesAfterHeard result self.old self.new }
         ensures knows { KeepsKnown self.old self.new }
+        ensures alone { MakesStepsAlone self.old self.new }
     {
         match self.cells.go_on_within(steps) {
             Ok(answer) => Ok(typed(answer)),
@@ -162,6 +167,7 @@ impl Handle {
         ensures same { IsSame self.old self.new }
         ensures calls { CallsStay self.old self.new }
         ensures knows { KeepsKnown self.old self.new }
+        ensures looks { looks_of self.new ≡ looks_of self.old + 2 }
         ensures news { IsNews (home_of self.old) result }
         ensures own { TellsOwn self.old result }
         ensures heard { TellsHeard self.old result }
@@ -178,6 +184,7 @@ impl Handle {
         ensures same { IsSame self.old self.new }
         ensures calls { CallsStay self.old self.new }
         ensures knows { KeepsKnown self.old self.new }
+        ensures looks { looks_of self.new ≡ looks_of self.old + 2 }
         ensures heard { HearsAll news self.new }
     {
         self.cells.hear(news);

@@ -16,6 +16,7 @@ use Rattle.of_core.specs.Events.{Event}
 use Rattle.of_row.specs.Views.{KnownCaller, View, IsSeenPrefix, seen_seq}
 use Rattle.of_row.specs.Trail.{IsRunBy}
 use Rattle.of_row.specs.Rule.{members_of, IsAsked, IsFirstPassView, IsRaised, IsAtHome, KnowsCallsOf, ViewFits}
+use Rattle.of_row.specs.Turned.{after_look}
 use Rattle.of_row.proofs.Pasts.{prefix_more}
 use Rattle.of_row.proofs.Fronts.{each_map}
 use Rattle.of_row.proofs.Events.{OfEviction, eviction_batches, eviction_runs}
@@ -124,6 +125,20 @@ fits_home S B ws es home home2 chief j u f same = record {
   knows = f.knows;
   raised = f.raised;
   first = f.first;
+}
+
+-- its seat has made one load more
+pub fits_look : (S : Setup) (B : TableStart) (ws : List ℕ) (es : List Event) (home : ℕ → ℕ) (chief j : ℕ) (u : View) → ViewFits S B ws es home chief j u → ViewFits S B ws es home chief j (after_look u)
+fits_look S B ws es home chief j u f = record {
+  seen = f.seen;
+  past = f.past;
+  met = f.met;
+  kept = f.kept;
+  apart = f.apart;
+  runs = f.runs;
+  knows = f.knows;
+  raised = f.raised;
+  first = λ t. chief_as (members_of S ws) (members_of S ws) _ _ chief j u (after_look u) refl refl refl refl refl (f.first t);
 }
 
 -- an event of an eviction has come, and its view isn't the first pass's

@@ -22,6 +22,7 @@ fresh_member_view S B n = record {
   evicted = [];
   past = [];
   met = [];
+  looks = 0;
 }
 
 -- if a number is taken and has done nothing, that view fits at its home, whatever the others have
