@@ -6,7 +6,7 @@ use Rattle.of_mem.specs.Places.{fresh_at, free_at}
 use Rattle.of_mem.specs.Programs.{Program, Done, Read, Write}
 use Rattle.of_mem.specs.Stores.{link_at}
 
--- the next block that was never taken, where there is one
+-- the next block that was never taken, if there is one
 abbrev pub take_fresh : ℕ → ℕ → Bool → Program (Option ℕ)
 take_fresh o n true = Write (fresh_at o) (n + 1) (Done (Some n))
 take_fresh o n false = Done None

@@ -10,13 +10,13 @@ saturating_next n = min (n + 1) (2 ^ 64 - 1)
 abbrev pub HasRisen : (before now : ℕ) → Type 0
 HasRisen before now = saturating_next before ≤ now
 
--- the steps left after a brake was armed with a stop, where they are told
+-- the steps left after a brake was armed with a stop, if they are told
 abbrev pub IsArmedWith : (before : Option (Option ℕ)) → (stop : Option ℕ)
     → (after : Option (Option ℕ)) → Type 0
 IsArmedWith None stop after = after ≡ None
 IsArmedWith (Some left) stop after = after ≡ Some stop
 
--- an ask is denied exactly where no step is left, and a granted one takes a step off
+-- an ask is denied exactly if no step is left, and a granted one takes a step off
 abbrev pub ChargesAskFrom : (before after : Option ℕ) → (granted : Bool) → Type 0
 ChargesAskFrom None after granted = (after ≡ None) × (granted ≡ true)
 ChargesAskFrom (Some left) after true = (n : ℕ) × (left ≡ n + 1) × (after ≡ Some n)
@@ -32,12 +32,12 @@ ChargesAsk (Some left) (Some rest) granted = ChargesAskFrom left rest granted
 abbrev pub is_listed : ℕ → List ℕ → Bool
 is_listed n xs = list_any (λ m. m == n) xs
 
--- one answered call more was told of, where they are counted
+-- one answered call more was told of, if they are counted
 abbrev pub HasHeardAnswer : (before after : Option ℕ) → Type 0
 HasHeardAnswer None after = after ≡ None
 HasHeardAnswer (Some n) after = after ≡ Some (saturating_next n)
 
--- it was asked once more, where asks are counted
+-- it was asked once more, if asks are counted
 abbrev pub Asked : (before after : Option ℕ) → Type 0
 Asked None after = after ≡ None
 Asked (Some n) after = after ≡ Some (saturating_next n)

@@ -12,7 +12,7 @@ pub record HasTableLaws (S : Setup) (Lawful : List ℕ → Type 0) : Type 0 wher
   pub events : EventsKeepInvariant S Lawful
   pub schedules : SchedulesKeepInvariant S Lawful
   pub sound : InvariantIsSound S Lawful
-  -- words behind the table's own may be anything
+  -- words after the table's own may be anything
   pub beside : WordsBehindAreFree S Lawful
   pub beside_calls : WordsBehindKeepCalls S Lawful
   -- a step of an open call finds a word, and is a step whatever its kind

@@ -23,7 +23,7 @@ meaning_for p =
 abbrev pub plan_setup : Plan → Setup
 plan_setup p = setup_of p.callers (data_cells p.callers p.blocks) p.limit (meaning_for p)
 
--- data cells of a plan are lawful where they stand for some store
+-- data cells of a plan are lawful if they stand for some store
 abbrev pub IsLawfulFor : Plan → List ℕ → Type 0
 IsLawfulFor p xs = StandsForSome (base_of p.callers MOST_INSTRS) p.blocks (memory_of xs)
 

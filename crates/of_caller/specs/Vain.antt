@@ -20,7 +20,7 @@ abbrev pub IsSpent : Outcome → Type 0
 IsSpent (Answered s announced raw steps) = ⊥
 IsSpent (Spent s) = Unit {0}
 
--- the call's last step led to the machine d with this outcome, which is spent exactly where the
+-- the call's last step led to the machine d with this outcome, which is spent exactly if the
 -- step looked in vain
 pub record IsLastStep (S : Setup) (Lawful : List ℕ → Type 0) (d : CallState) (o : Outcome)
     : Type 0 where

@@ -51,8 +51,8 @@ abbrev pub StaysOpenOnlyIfStopped : {W : Type 0} → (op : List ℕ) → Result 
     → CellHandle W → Type 0
 StaysOpenOnlyIfStopped op result h = LeavesOpen op result (caller_of h)
 
--- an answer's reply is what the operation means on cells that operations lead to, one after the
--- other, from those with which the handle's memory was opened
+-- an answer's reply is what its operation gives on some cells that operations, run one after the
+-- other, make of the cells with which the handle's memory was opened
 abbrev pub RepliesAsMeant : {W : Type 0} → (W → Meaning) → (op : List ℕ) → CellHandle W
     → Result RawAnswer RunError → Type 0
 RepliesAsMeant meaning op h result = AnswersAsMeant meaning (home_of h) op result
@@ -66,11 +66,11 @@ steps_so_far h = (caller_call (caller_of h)).steps
 abbrev pub steps_of_calls : {W : Type 0} → CellHandle W → ℕ
 steps_of_calls h = steps_made_by (caller_of h)
 
--- its calls have made at most so many steps more
+-- its calls have made at most this many steps more
 abbrev pub MakesAtMost : {W : Type 0} → (most : ℕ) → (before now : CellHandle W) → Type 0
 MakesAtMost most h k = steps_of_calls k ≤ steps_of_calls h + most
 
--- so it is if its open call goes on: with the steps that the call has made already
+-- the same if its open call goes on: the steps that the call has made already count too
 abbrev pub GoesOnWithin : {W : Type 0} → (most : ℕ) → (before now : CellHandle W) → Type 0
 GoesOnWithin most h k = HasCallOpen h → steps_so_far h + steps_of_calls k ≤ steps_of_calls h + most
 
@@ -129,7 +129,7 @@ pub record MayCall {W : Type 0} (h : CellHandle W) : Type 0 where
   pub none : HasCallOpen h → ⊥
   pub left : HasNoTicketLeft h → ⊥
 
--- A call is made exactly if none is open and the number may make one more. It is spent only where
+-- A call is made exactly if none is open and the number may make one more. It is spent only if
 -- the sequence has come to the limit.
 abbrev pub RefusesCall : {W : Type 0} → CellHandle W → Result RawAnswer RunError → Type 0
 RefusesCall h (Ok a) = MayCall h

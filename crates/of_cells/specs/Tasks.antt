@@ -37,7 +37,7 @@ RestKnowsOrder meaning from m l =
     (j : ℕ) → from ≤ j → (n x k y : ℕ) → HasOrderOf meaning m j n x k y
     → HasOrderOf meaning l j n x k y
 
--- what a task says of its work: the task and its handle before it and after it
+-- what a task promises of its work: the task and its handle before it and after it
 abbrev pub TaskWork : Type 0 → Type 0 → Type 1
 TaskWork W J = J → CellHandle W → J → CellHandle W → Type 0
 
@@ -162,7 +162,7 @@ pub record MayLeave {W J : Type 0} (meaning : W → Meaning) (m : CellMemory W) 
   pub handle : IsCellHandle meaning p.0
   pub from : IsFrom m p.0
 
--- each pair may, behind so many tasks
+-- each pair may, and the tasks of these come after this many others
 abbrev pub MayAllLeave : {W J : Type 0} → (W → Meaning) → CellMemory W → (first : ℕ)
     → List (Slot W J) → Type 0
 MayAllLeave {W} {J} meaning m first ss =
@@ -177,7 +177,7 @@ pub record HasLeft {W J : Type 0} (meaning : W → Meaning) (k : CellMemory W) (
   pub known : IsBackIn k p.0
   pub told : TellsMemory meaning p.0 k
 
--- each handle from this place on has left, and its task is back behind these
+-- each handle from this place on has left, and its task is back, after the tasks xs
 pub record HasTakenBack {W J : Type 0} (meaning : W → Meaning) (m k : CellMemory W) (xs zs : List J)
     (from : ℕ) (ss : List (Slot W J)) : Type 0 where
   pub count : length zs + from ≡ length xs + length ss

@@ -74,7 +74,7 @@ pub record IsReplayEnd (p : Plan) (s : Start) (calls : List CallClaim) (e : Repl
 
 -- ---- the line of a caller
 
--- the line of a caller that had so many scripts to do breaks this rule, and none before it
+-- the line of a caller that had this many scripts to do breaks this rule, and none before it
 abbrev pub BreaksEnd : EndRule → Plan → (scripts seq : ℕ) → Line → Type 0
 BreaksEnd Missing p scripts seq l = ⊥
 BreaksEnd Answered p scripts seq l = HasOpenCall l.state l.answered l.entries → ⊥
@@ -127,7 +127,7 @@ made_text p s count text =
 abbrev pub SameAbove : (one other : List ℕ) → (above : ℕ) → Type 0
 SameAbove one other above = take above (text_lines one) ≡ take above (text_lines other)
 
--- the first line at which two texts differ is the one with so many lines above it
+-- the first line at which two texts differ is the one with this many lines above it
 pub record DifferFirst (one other : List ℕ) (above : ℕ) : Type 0 where
   pub same : SameAbove one other above
   pub differ : SameAbove one other (above + 1) → ⊥

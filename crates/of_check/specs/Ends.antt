@@ -30,7 +30,7 @@ abbrev pub entry_in : Option TheEntry → Option Entry
 entry_in None = None
 entry_in (Some e) = Some (entry_value e)
 
--- the ticket after this last call, where so many were done before. A read that wasn't announced
+-- the ticket after this last call, if `before` calls were made before. A read that wasn't announced
 -- leaves no ticket
 abbrev pub ticket_after : (before : ℕ) → Option Entry → ℕ
 ticket_after before None = before

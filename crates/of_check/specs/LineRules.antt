@@ -9,7 +9,7 @@ use Rattle.of_check.specs.declared.line_rule.LineRule.TheVariants.{AfterEnd, Sto
 abbrev pub line_pieces : List ℕ → List (List ℕ)
 line_pieces line = slice_split (λ b. b == 32) line
 
--- the piece with this many before it, and nothing where there is none
+-- the piece with this many before it, and nothing if there is none
 abbrev pub piece_at : List ℕ → (before : ℕ) → List ℕ
 piece_at line before = slice_index_or (line_pieces line) before []
 
@@ -24,7 +24,8 @@ pub record SharePieces (count : ℕ) (one other : List ℕ) : Type 0 where
   pub second : count ≤ length (line_pieces other)
   pub same : take count (line_pieces one) ≡ take count (line_pieces other)
 
--- both lines have this many pieces before this one, and it is a word that the other doesn't have there
+-- both lines have this many pieces before this one, and it is a word that the other doesn't have
+-- there
 pub record HasOtherPiece (found wanted : List ℕ) (before : ℕ) : Type 0 where
   pub there : before < length (line_pieces found)
   pub wants : before < length (line_pieces wanted)
@@ -46,8 +47,8 @@ pub record IsOtherIn (kind : List ℕ) (before : ℕ) (found wanted : List ℕ) 
 abbrev pub GoesOn : List ℕ → Type 0
 GoesOn line = 1 < length (line_pieces line)
 
--- what each reason says of a line, but for the coarse one, which says nothing. An entry is the wanted
--- one up to its reply, which is its sixth piece and those after it
+-- What each reason but the coarse one says of a line. An entry is the wanted one up to its reply,
+-- which is its sixth piece and those after it.
 abbrev pub SaysOfLine : LineRule → (found wanted : List ℕ) → Type 0
 SaysOfLine AfterEnd found wanted = wanted ≡ []
 SaysOfLine Store found wanted =

@@ -18,7 +18,7 @@ loads_current_at TryCurrent = true
 loads_current_at LoadCurrent = true
 loads_current_at p = false
 
--- the sequence that the machine's round, try or apply rests on; 0 where it has none
+-- the sequence that the machine's round, try or apply rests on; 0 if it has none
 abbrev pub rests_on_seq_at : CallState → Place → ℕ
 rests_on_seq_at m Idle = 0
 rests_on_seq_at m TryCurrent = 0
@@ -80,7 +80,7 @@ ReadsFrom low m = HasBegunTry m m.place → low ≤ m.seq
 abbrev pub read_of_call : CallState → RawReply → (s : ℕ) → Read
 read_of_call m raw s = record { caller = m.caller; ticket = m.made; op = m.op; raw = raw; seq = s }
 
--- what a call's last step answers, where it leads from m to d: no newer state than the machine
+-- what a call's last step answers, if it leads from m to d: no newer state than the machine
 -- rested on, and the number of its steps. An unannounced answer is a read of the history, of no
 -- older state than the try reads from
 abbrev pub TellsOutcome : Setup → CallState → CallState → Outcome → Type 0
@@ -91,7 +91,7 @@ TellsOutcome S m d (Answered s false raw steps) =
     × (step_reads m d ≡ read_of_call m raw s ∷ []) × ((low : ℕ) → ReadsFrom low m → low ≤ s)
 TellsOutcome S m d (Spent s) = (s ≤ rests_on_seq m) × (s ≡ S.limit) × (step_reads m d ≡ [])
 
--- the step of an open call, in a world that meets the invariant, found n, led from m to d and
+-- the step of an open call, at a moment that meets the invariant: it found n, led from m to d and
 -- committed these batches
 pub record IsStep (S : Setup) (B : TableStart) (w : Moment) (m : CallState) (n : ℕ) (d : CallState)
     (bs : List Batch) : Type 0 where
@@ -107,7 +107,7 @@ pub record IsStep (S : Setup) (B : TableStart) (w : Moment) (m : CallState) (n :
   pub rests_on : loads_current m ≡ false → rests_on_seq d ≤ rests_on_seq m + length bs
   -- a try goes on at the state that it reads, or begins at the last one
   pub reads_from : (low : ℕ) → low ≤ B.seq + length w.batches → ReadsFrom low m → ReadsFrom low d
-  -- a step commits at most one batch, which is the caller's, and only behind the last one
+  -- a step commits at most one batch, which is the caller's, and only right after the last one
   pub few : length bs ≤ 1
   pub owner : All (λ (b : Batch). b.owner ≡ m.caller) bs
   pub commits : 0 < length bs → rests_on_seq m ≡ B.seq + length w.batches

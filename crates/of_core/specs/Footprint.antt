@@ -17,7 +17,7 @@ knowns [] = 0
 knowns (None ∷ ks) = knowns ks
 knowns (Some v ∷ ks) = suc (knowns ks)
 
--- 1 where the next step loads a data cell that the try or the round is to know, and 0 elsewhere.
+-- 1 if the next step loads a data cell that the try or the round is to know, and 0 otherwise.
 -- The loads of one's own shape and reply are not among them: they come in place of a scan, and are
 -- no more than the words that it loads of one caller.
 abbrev pub next_load : Place → ℕ
@@ -69,8 +69,8 @@ abbrev pub round_steps : Setup → (longest most : ℕ) → ℕ
 round_steps S longest most =
     2 + help_steps longest + most + S.callers * (S.instrs + 1) + store_steps longest
 
--- a call with these words that has begun so many tries and rounds: these, its announcement, and the
--- apply of its own log
+-- a call with these words that has begun these tries and rounds: the steps of them, of its
+-- announcement, and of the apply of its own log
 abbrev pub footprint : Setup → List ℕ → (longest most tries rounds : ℕ) → ℕ
 footprint S op longest most tries rounds =
     tries * try_steps longest most + (length op + 1)

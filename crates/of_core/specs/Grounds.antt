@@ -13,7 +13,7 @@ pub record HasGrounds (S : Setup) (Lawful : List ℕ → Type 0) (B : TableStart
     : Type 0 where
   -- it has begun at a start that a table may have
   pub may_start : MayStart S Lawful B
-  -- the state behind each batch is lawful
+  -- the state after each batch is lawful
   pub states : (k : ℕ) → B.seq ≤ k → k ≤ B.seq + length w.batches
       → Lawful (numbers_after B w.batches k)
   -- and each batch's log has entries of data cells, none twice

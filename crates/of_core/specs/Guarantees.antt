@@ -11,7 +11,7 @@ use Rattle.of_core.specs.Rounds.{AnnouncesNothingNew}
 use Rattle.of_core.specs.Scan.{IsAnnouncedCall}
 use Rattle.of_core.specs.Invariant.{MeetsCore}
 
--- What others may rely on where a step of machine i led from these words and batches to those: what
+-- What others may rely on after a step of machine i led from these words and batches to those: what
 -- stood stays, a new batch is i's and of calls that are announced, and a word of another machine
 -- changes only by closing the last batch's request.
 pub record Guarantees (S : Setup) (B : TableStart) (i : ℕ) (ws : List ℕ) (bs : List Batch)
@@ -35,7 +35,7 @@ pub record Guarantees (S : Setup) (B : TableStart) (i : ℕ) (ws : List ℕ) (bs
   -- a new batch remembers the announcements that stood
   pub snapshot : (k j : ℕ) → committed_seq ws < k → k ≤ committed_seq vs → j < S.callers
       → (batch_at B cs k).announcements j ≡ announcement_of S ws j
-  -- script words and announcements are i's to store, where what it announced is done
+  -- script words and announcements are i's to store, if what it announced is done
   pub script_of : (j x : ℕ) → j < S.callers → x < S.instrs + 1
       → (script_word S vs j x ≡ script_word S ws j x) ⊎ ((j ≡ i) × AnnouncesNothingNew S B ws bs j)
   -- and one that it changes has not stood at any batch

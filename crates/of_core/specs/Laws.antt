@@ -38,7 +38,7 @@ setup_for many cell_count meaning limit work =
 
 -- The forms that laws have.
 
--- at each machine, in each world that meets the invariant
+-- the law holds of each machine at each moment that meets the invariant
 abbrev pub EachMachine : Setup → (List ℕ → Type 0) → (TableStart → Moment → ℕ → CallState → Type 0)
     → Type 0
 EachMachine S Lawful Law =
@@ -64,7 +64,7 @@ EachLoaded S Lawful Law =
     (B : TableStart) (w : Moment) → MeetsInvariant S Lawful B w
     → (e : ℕ × ℕ) → IsLoaded S B w.words w.batches e → Law B w e
 
--- at each number that is put behind the table's own words
+-- the law holds of each number that is stored after the table's own words
 abbrev pub EachBeside : Setup → (List ℕ → Type 0) → (TableStart → Moment → (c v : ℕ) → Type 0)
     → Type 0
 EachBeside S Lawful Law =
@@ -168,7 +168,7 @@ abbrev pub RaisesNeverLower : Setup → (List ℕ → Type 0) → Type 0
 RaisesNeverLower S Lawful = EachLoaded S Lawful (λ B w e.
     (c : ℕ) → durable_word S w.words c ≤ durable_word S (after_raise S w e).words c)
 
--- words behind the table's own may be anything
+-- words after the table's own may be anything
 abbrev pub WordsBehindAreFree : Setup → (List ℕ → Type 0) → Type 0
 WordsBehindAreFree S Lawful = EachBeside S Lawful (λ B w c v.
     MeetsInvariant S Lawful B (record w { words = set w.words c v })
@@ -207,29 +207,29 @@ KeepsCalls S B i w v =
 abbrev pub KeepsOthersCalls : Setup → TableStart → (i : ℕ) → (w v : Moment) → Type 0
 KeepsOthersCalls S B i w v = (j : ℕ) → j < S.callers → (i ≡ j → ⊥) → KeepsCalls S B j w v
 
--- at a start each caller has the calls behind it that its ticket counts, and no others
+-- at a start each caller has made the calls that its ticket counts, and no others
 abbrev pub StartsHaveNoCalls : Setup → (List ℕ → Type 0) → Type 0
 StartsHaveNoCalls S Lawful = EachStart S Lawful (λ B n.
     (i : ℕ) → i < S.callers → HasCalls S B (start_ticket S B i) (opening_moment S B n) i [] [])
 
--- a step ends its caller's open call or none, and changes the calls of nobody else
+-- a step ends its caller's open call or none, and changes the calls of no other caller
 abbrev pub StepsEndOwnCall : Setup → (List ℕ → Type 0) → Type 0
 StepsEndOwnCall S Lawful = EachStep S Lawful (λ B w i m n.
     GainsCalls S B i [] (outcome_of_step m (take_word S m n)) w (after_step S i m n w)
     × KeepsOthersCalls S B i w (after_step S i m n w))
 
--- to begin a call gives its caller one call more, and changes the calls of nobody else
+-- to begin a call gives its caller one call more, and changes the calls of no other caller
 abbrev pub BeginsAddOneCall : Setup → (List ℕ → Type 0) → Type 0
 BeginsAddOneCall S Lawful = EachBegin S Lawful (λ B w i d op.
     GainsCalls S B i (op ∷ []) [] w (after_begin S i d op w)
     × KeepsOthersCalls S B i w (after_begin S i d op w))
 
--- to raise a word that was loaded changes nobody's calls
+-- to raise a word that was loaded changes no caller's calls
 abbrev pub RaisesKeepCalls : Setup → (List ℕ → Type 0) → Type 0
 RaisesKeepCalls S Lawful = EachLoaded S Lawful (λ B w e.
     (i : ℕ) → i < S.callers → KeepsCalls S B i w (after_raise S w e))
 
--- nor do words behind the table's own
+-- nor do words after the table's own
 abbrev pub WordsBehindKeepCalls : Setup → (List ℕ → Type 0) → Type 0
 WordsBehindKeepCalls S Lawful = EachBeside S Lawful (λ B w c v.
     (i : ℕ) → i < S.callers → KeepsCalls S B i w (record w { words = set w.words c v }))
@@ -338,8 +338,8 @@ CallsEndInTime S Lawful =
 
 -- Starts.
 
--- the n words hold a start: its current-transaction word and its data words, the same durably,
--- and 0 behind the durable words
+-- the n words hold a start: its current-transaction word and its data words, the same durably, and
+-- 0 after the durable words
 pub record HoldsStart (S : Setup) (B : TableStart) (ws : List ℕ) (n : ℕ) : Type 0 where
   pub long : length ws ≡ n
   pub current : get_or ws 0 0 ≡ pack B.seq B.owner
@@ -352,7 +352,7 @@ abbrev pub FirstWordsHoldStart : Setup → Type 0
 FirstWordsHoldStart S = (B : TableStart) → IsStart S B → (n : ℕ) → words_before_members S ≤ n
     → HoldsStart S B (first_words S.callers S.cells B n) n
 
--- its machines are idle, one for each caller, with as many calls behind it as its ticket counts
+-- its machines are idle, one for each caller, which has made the calls that its ticket counts
 abbrev pub FirstMachinesAreIdle : Setup → Type 0
 FirstMachinesAreIdle S = (B : TableStart) (n : ℕ) →
     let ms : List CallState = (opening_moment S B n).machines in
@@ -370,7 +370,7 @@ ZeroTablesAreZeros S =
     (n : ℕ) → words_before_members S ≤ n
     → first_words S.callers S.cells (zero_start S) n ≡ replicate n 0
 
--- and no call stands behind it
+-- and at such a start no caller has made a call
 abbrev pub ZeroTablesHaveNoCalls : Setup → Type 0
 ZeroTablesHaveNoCalls S = (i : ℕ) → start_ticket S (zero_start S) i ≡ 0
 

@@ -69,8 +69,8 @@ WasMadeBefore m r false = r.ticket < m.made
 abbrev pub IsOlder : CallState → Place → Read → Type 0
 IsOlder m p r = WasMadeBefore m r (is_idle p)
 
--- what a machine has behind it: its caller's reads are older, and in a try none of them, and no
--- call of its caller in a batch, is newer than the state that is read
+-- the reads of the machine's caller are older than its open call. Nothing that the caller has made,
+-- a read or a call in a batch, is newer than the state that a try of it reads
 pub record HasOnlyOlderCalls (S : Setup) (B : TableStart) (ws : List ℕ) (bs : List Batch)
     (rs : List Read) (i : ℕ) (m : CallState) (p : Place) : Type 0 where
   pub older : All (λ (r : Read). r.caller ≡ i → IsOlder m p r) rs
@@ -78,7 +78,7 @@ pub record HasOnlyOlderCalls (S : Setup) (B : TableStart) (ws : List ℕ) (bs : 
   pub still : HasBegunTry m p
       → last_ticket_by S B bs m.seq i ≡ last_ticket_by S B bs (committed_seq ws) i
 
--- the order of calls in a world, and what each machine needs to keep it
+-- the order of calls at a moment, and what each machine needs to keep it
 pub record KeepsCallOrder (S : Setup) (B : TableStart) (w : Moment) : Type 0 where
   pub ordered : AreInCallOrder S B w.words w.batches w.reads
   pub behind : (i : ℕ) (m : CallState) → i < S.callers → get_or w.machines i m ≡ m

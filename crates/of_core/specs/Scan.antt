@@ -27,7 +27,7 @@ pub record LogsOwnCells (S : Setup) (es : List (ℕ × ℕ)) (c : Call) : Type 0
   pub shape : LogsCell es (shape_cell S c.caller) c.raw.shape
   pub replies : (y : ℕ) → y < S.instrs → is_marked c.raw.shape y ≡ true
       → LogsCell es (reply_cell S c.caller y) (get_or c.raw.values y 0)
-  -- 0 stands where none is marked
+  -- the places that are not marked have 0
   pub rest : (y : ℕ) → y < S.instrs → is_marked c.raw.shape y ≡ false
       → get_or c.raw.values y 0 ≡ 0
 

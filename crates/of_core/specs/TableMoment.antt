@@ -45,7 +45,7 @@ pub record TableStart : Type 0 where
   pub owner : ℕ
   pub cells : List ℕ
 
--- what an exchange commits, where it wins
+-- what an exchange commits, if it wins
 abbrev pub one_batch : Setup → List ℕ → CallState → Bool → List Batch
 one_batch S ws m true = record {
   owner = m.caller;
@@ -75,7 +75,7 @@ step_reads_if d true now_idle = []
 step_reads_if d false true = read_of d d.answer
 step_reads_if d false false = []
 
--- the reads that the step from the place p has answered, where the machine is d after it
+-- the reads that the step from the place p has answered, if the machine is d after it
 abbrev pub step_reads_at : CallState → Place → List Read
 step_reads_at d p = step_reads_if d (is_idle p) (is_idle d.place)
 

@@ -1,5 +1,5 @@
--- Scripts write few cells, where there are so many blocks that no instruction on keys in their order
--- is run. These lemmas stand in specs/ since SoundScripts, the law of an impl, is proved with them.
+-- Scripts write few cells, if there are more blocks than instructions on keys in their order run
+-- with. These lemmas are in specs/ since SoundScripts, the law of an impl, is proved with them.
 use Rattle.std.proofs.Common.{◌≡◌, ℕ, ◌+◌, ◌-◌, ◌*◌, ◌<◌, true, false, Bool, Option, Some, None, Ok, Err, List, [], ◌∷◌, ◌++◌, length, take, length-take, arith}
 use Rattle.std.specs.Prelude.{nat_lt}
 use Rattle.std.proofs.lemmas.Bool.{lt-ltb}

@@ -114,7 +114,7 @@ mask_all vs e =
     let q : mask_of vs < 2 ^ MOST_INSTRS = subst (λ (n : ℕ). mask_of vs < 2 ^ n) e k in
     omega (arith, q)
 
--- so many words, the first of an operation
+-- a reply to the words ws fits an operation that has at least as many
 pub reply_fits : (op ws : List ℕ) (x : ScriptOutcome) → length ws ≤ MOST_INSTRS
     → length ws ≤ length op → AnswerInRange ws x
     → IsReplyTo op (reply_cells (reply_to (length ws) (reply_behind [] x)))

@@ -31,7 +31,7 @@ abbrev pub LeadsToOutcome : ℕ → ℕ → ScriptOutcome → (ℕ → ℕ) → 
 LeadsToOutcome o blocks (Ok e) n = IsStored o blocks n e.0
 LeadsToOutcome o blocks (Err p) n = Unit {0}
 
--- a program does this outcome behind these values
+-- after these values, a program does what this outcome says
 pub record DoesOutcome (o blocks n : ℕ) (f : Program RawReply) (m : ℕ → ℕ) (done : List (Option ℕ))
     (x : ScriptOutcome) : Type 0 where
   pub inside : StaysBetween o (cells_at o blocks) f m

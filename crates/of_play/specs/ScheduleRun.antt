@@ -56,18 +56,18 @@ MakesMoves p moves before now =
     (es : List Event) → StandsAfter p es before
     → StandsAfter p (es ++ events_from p (moment_after p es) moves) now
 
--- it has gone on by turns of the caller in a row, at most so many
+-- it has gone on by `made` turns of the caller in a row, at most `most`
 pub record MakesTurnsInRow (p : Plan) (c most made : ℕ) (before now : ScheduleRun) : Type 0 where
   pub few : made ≤ most
   pub moves : MakesMoves p (turns_by c made) before now
 
--- it has begun the caller's next call, where that begins one
+-- it has begun the caller's next call, if the caller begins one
 abbrev pub BeginsNext : Plan → ℕ → (before now : ScheduleRun) → Type 0
 BeginsNext p c before now =
     (es : List Event) → StandsAfter p es before
     → StandsAfter p (es ++ next_begin p c (machine_left p es c)) now
 
--- where a turn has ended a call, its reply is one
+-- if a turn has ended a call, its reply is one
 abbrev pub IsReplied : Turn → Type 0
 IsReplied Idle = Unit {0}
 IsReplied Open = Unit {0}

@@ -32,7 +32,7 @@ abbrev pub line_as : Form → Plan → (k : ℕ) → Moment → Event → List �
 line_as Events p = event_line_at p
 line_as Commits p = committed_at p
 
--- behind a text this was written of an event, with which the run went on from there
+-- at the end of a text, the line of an event was written, with which the run went on from there
 abbrev pub WritesLine : {Z : Type 0} → Form → Plan → (k : ℕ) → Event → (before : ScheduleRun)
     → (old new : String Z) → Type 0
 WritesLine f p k e before old new =

@@ -24,8 +24,8 @@ SeesWholeHistory Lawful S =
     (B : TableStart) (ws : List ℕ) (v : View) (m : ViewMeetsRule S Lawful B ws v)
     → v.spent ≡ false → KeepsAll S ws v → v.seen ≡ map seen_batch (moment S B m.rule.events).batches
 
--- of each caller that a view keeps, its calls as far as was seen are just those that it made, and
--- they have ended as their outcomes say
+-- of each caller that a view keeps, its calls as far as was seen are exactly those that it made,
+-- and they have ended as their outcomes say
 abbrev pub SeesOwnCalls : (List ℕ → Type 0) → Setup → Type 0
 SeesOwnCalls Lawful S =
     (B : TableStart) (ws : List ℕ) (v : View) → ViewMeetsRule S Lawful B ws v
@@ -44,8 +44,8 @@ EvictionsAreRaised Lawful =
     (S : Setup) (B : TableStart) (ws : List ℕ) (v : View) → ViewMeetsRule S Lawful B ws v
     → v.spent ≡ false → Each (IsRaised S ws) v.evicted
 
--- a member that has no open call stands for a fresh machine of its number, with as many calls
--- behind it
+-- a member that has no open call stands for a fresh machine of its number, which has begun as many
+-- calls
 abbrev pub MembersStandForFresh : {X : Type 0} → (X → Meaning) → Type 0
 MembersStandForFresh {X} meaning =
     (member : Member) (m : Machine X) → HasNoCall member

@@ -54,7 +54,7 @@ HaveOwnSequence S B order s x =
 abbrev pub HasNoneOf : List Call → (caller : ℕ) → Type 0
 HasNoneOf order i = All (λ (c : Call). c.caller ≢ i) order
 
--- a world with these words, and nothing else
+-- a moment with these words, and nothing else
 abbrev pub words_alone : List ℕ → Moment
 words_alone ws = record { words = ws; machines = []; batches = []; reads = []; loaded = [] }
 

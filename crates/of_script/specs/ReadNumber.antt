@@ -4,7 +4,7 @@ use denote.Ref.{Bor}
 use Rattle.of_script.specs.declared.instr.Instr.{Instr}
 use Rattle.of_script.specs.Text.{text_words}
 
--- the answer is the number that is read and the bytes of the other words, or none where none is
+-- the answer is the number that is read and the bytes of the other words, or none if none is
 abbrev pub HasReadNumber : Option (ℕ × List (List ℕ)) → Option (ℕ × Bor (List ℕ)) → Type 0
 HasReadNumber wanted answer =
     MatchOption answer (wanted ≡ None) (λ x. wanted ≡ Some (x.0, text_words x.1.now))
