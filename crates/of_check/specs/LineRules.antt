@@ -36,11 +36,11 @@ pub record HasOtherPiece (found wanted : List ℕ) (before : ℕ) : Type 0 where
 abbrev pub IsStoreName : List ℕ → Type 0
 IsStoreName name = (name ≡ codes "register") ⊎ (name ≡ codes "key") ⊎ (name ≡ codes "queue")
 
--- the wanted line begins with this word, and the lines have the same pieces before this one, which
--- is another
+-- the wanted line begins with this word, and the lines share the pieces before this one, which is
+-- another
 pub record IsOtherIn (kind : List ℕ) (before : ℕ) (found wanted : List ℕ) : Type 0 where
   pub name : piece_at wanted 0 ≡ kind
-  pub same : take before (line_pieces found) ≡ take before (line_pieces wanted)
+  pub same : SharePieces before found wanted
   pub other : HasOtherPiece found wanted before
 
 -- the line goes on after its name

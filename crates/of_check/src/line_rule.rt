@@ -92,12 +92,27 @@ fn same_pieces(one: &[u8], other: &[u8]) -> usize
     }
 }
 
+// Whether two lines begin with this many pieces that are the same.
+#[tactic(auto, using(crate::proofs::Pieces::share_fewer))]
+fn share_pieces(count: usize, one: &[u8], other: &[u8]) -> bool
+    ensures { IsTrue result ↔ SharePieces count one.now other.now }
+{
+    same_pieces(one, other) >= count
+}
+
 // The first piece of a line.
 fn name(line: &[u8]) -> &[u8]
     ensures { result.now ≡ piece_at line.now 0 }
 {
     let (first, _) = cut(line, b' ');
     first
+}
+
+// Whether this is the first piece of a line.
+fn has_name(line: &[u8], word: &[u8]) -> bool
+    ensures { IsTrue result ↔ (piece_at line.now 0 ≡ word.now) }
+{
+    name(line) == word
 }
 
 // Whether this piece of a line is another than that of the wanted one. A line that ends before it
@@ -119,7 +134,9 @@ fn has_other(found: &[u8], wanted: &[u8], before: usize) -> bool
 fn is_other_in(kind: &[u8], before: usize, found: &[u8], wanted: &[u8]) -> bool
     ensures { IsTrue result ↔ IsOtherIn kind.now before found.now wanted.now }
 {
-    name(wanted) == kind && same_pieces(found, wanted) == before && has_other(found, wanted, before)
+    has_name(wanted, kind)
+        && share_pieces(before, found, wanted)
+        && has_other(found, wanted, before)
 }
 
 // Whether this is the name of a line of a store.
@@ -159,14 +176,14 @@ impl LineRule {
                     || goes_on(found) && is_of_store(name(found)) && wanted == b"end".as_slice()
             }
             LineRule::Reply => {
-                name(wanted) == b"entry".as_slice() && same_pieces(found, wanted) >= 5
+                has_name(wanted, b"entry".as_slice()) && share_pieces(5, found, wanted)
             }
             LineRule::Caller => is_other_in(b"caller".as_slice(), 1, found, wanted),
             LineRule::Entries => is_other_in(b"caller".as_slice(), 4, found, wanted),
             LineRule::Sequence => is_other_in(b"seq".as_slice(), 1, found, wanted),
             LineRule::TooMany => {
-                name(wanted) == b"seq".as_slice()
-                    && name(found) == b"caller".as_slice()
+                has_name(wanted, b"seq".as_slice())
+                    && has_name(found, b"caller".as_slice())
                     && goes_on(found)
             }
             LineRule::Spelling => false,
