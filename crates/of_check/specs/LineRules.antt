@@ -18,6 +18,12 @@ pub record IsPiece (line : List ℕ) (before : ℕ) (piece : List ℕ) : Type 0 
   pub there : before < length (line_pieces line)
   pub is : piece ≡ piece_at line before
 
+-- both lines have this many pieces, and these are the same
+pub record SharePieces (count : ℕ) (one other : List ℕ) : Type 0 where
+  pub first : count ≤ length (line_pieces one)
+  pub second : count ≤ length (line_pieces other)
+  pub same : take count (line_pieces one) ≡ take count (line_pieces other)
+
 -- both lines have this many pieces before this one, and it is a word that the other doesn't have
 -- there
 pub record HasOtherPiece (found wanted : List ℕ) (before : ℕ) : Type 0 where
@@ -30,25 +36,33 @@ pub record HasOtherPiece (found wanted : List ℕ) (before : ℕ) : Type 0 where
 abbrev pub IsStoreName : List ℕ → Type 0
 IsStoreName name = (name ≡ codes "register") ⊎ (name ≡ codes "key") ⊎ (name ≡ codes "queue")
 
--- the wanted line begins with this word, and the lines have the same pieces before this one, which
--- is another
+-- the wanted line begins with this word, and the lines share the pieces before this one, which is
+-- another
 pub record IsOtherIn (kind : List ℕ) (before : ℕ) (found wanted : List ℕ) : Type 0 where
   pub name : piece_at wanted 0 ≡ kind
-  pub same : take before (line_pieces found) ≡ take before (line_pieces wanted)
+  pub same : SharePieces before found wanted
   pub other : HasOtherPiece found wanted before
 
--- what is said of a line is true. An entry is the wanted one up to its reply, which is its sixth
--- piece and those after it
+-- the line goes on after its name
+abbrev pub GoesOn : List ℕ → Type 0
+GoesOn line = 1 < length (line_pieces line)
+
+-- What each reason but the coarse one says of a line. An entry is the wanted one up to its reply,
+-- which is its sixth piece and those after it.
+abbrev pub SaysOfLine : LineRule → (found wanted : List ℕ) → Type 0
+SaysOfLine AfterEnd found wanted = wanted ≡ []
+SaysOfLine Store found wanted =
+    IsStoreName (piece_at wanted 0)
+    ⊎ (GoesOn found × IsStoreName (piece_at found 0) × (wanted ≡ codes "end"))
+SaysOfLine Reply found wanted = (piece_at wanted 0 ≡ codes "entry") × SharePieces 5 found wanted
+SaysOfLine Caller found wanted = IsOtherIn (codes "caller") 1 found wanted
+SaysOfLine Entries found wanted = IsOtherIn (codes "caller") 4 found wanted
+SaysOfLine Sequence found wanted = IsOtherIn (codes "seq") 1 found wanted
+SaysOfLine TooMany found wanted =
+    (piece_at wanted 0 ≡ codes "seq") × (piece_at found 0 ≡ codes "caller") × GoesOn found
+SaysOfLine Spelling found wanted = ⊥
+
+-- the reason is true of the line; the coarse one is given only if no other is true
 abbrev pub IsTrueOfLine : LineRule → (found wanted : List ℕ) → Type 0
-IsTrueOfLine AfterEnd found wanted = wanted ≡ []
-IsTrueOfLine Store found wanted =
-    IsStoreName (piece_at wanted 0) ⊎ (IsStoreName (piece_at found 0) × (wanted ≡ codes "end"))
-IsTrueOfLine Reply found wanted =
-    (piece_at wanted 0 ≡ codes "entry")
-    × (take 5 (line_pieces found) ≡ take 5 (line_pieces wanted))
-IsTrueOfLine Caller found wanted = IsOtherIn (codes "caller") 1 found wanted
-IsTrueOfLine Entries found wanted = IsOtherIn (codes "caller") 4 found wanted
-IsTrueOfLine Sequence found wanted = IsOtherIn (codes "seq") 1 found wanted
-IsTrueOfLine TooMany found wanted =
-    (piece_at wanted 0 ≡ codes "seq") × (piece_at found 0 ≡ codes "caller")
-IsTrueOfLine Spelling found wanted = Unit {0}
+IsTrueOfLine Spelling found wanted = (r : LineRule) → SaysOfLine r found wanted → ⊥
+IsTrueOfLine r found wanted = SaysOfLine r found wanted

@@ -1,7 +1,7 @@
 //! What is wrong with a line of a report that is another than the one that has to be there.
 
-ghost use Rattle.std.specs.Prelude.{◌≡◌, ◌≤◌, length, take, IsTrue, MatchOption};
-ghost use Rattle.of_check.specs.LineRules.{line_pieces, piece_at, IsPiece, HasOtherPiece, IsStoreName, IsTrueOfLine};
+ghost use Rattle.std.specs.Prelude.{◌≡◌, ◌≤◌, ◌↔◌, ℕ, length, IsTrue, MatchOption};
+ghost use Rattle.of_check.specs.LineRules.{line_pieces, piece_at, IsPiece, SharePieces, HasOtherPiece, IsStoreName, IsOtherIn, GoesOn, SaysOfLine, IsTrueOfLine};
 
 use of_script::text::cut;
 
@@ -68,7 +68,8 @@ fn piece(line: &[u8], before: usize) -> Option<&[u8]>
 
 // How many pieces two lines begin with that are the same.
 fn same_pieces(one: &[u8], other: &[u8]) -> usize
-    ensures { take result (line_pieces one.now) ≡ take result (line_pieces other.now) }
+    ensures same { SharePieces result one.now other.now }
+    ensures most { (count : ℕ) → SharePieces count one.now other.now → count ≤ result }
 {
     let mut left = one;
     let mut right = other;
@@ -91,6 +92,14 @@ fn same_pieces(one: &[u8], other: &[u8]) -> usize
     }
 }
 
+// Whether two lines begin with this many pieces that are the same.
+#[tactic(auto, using(crate::proofs::Pieces::share_fewer))]
+fn share_pieces(count: usize, one: &[u8], other: &[u8]) -> bool
+    ensures { IsTrue result ↔ SharePieces count one.now other.now }
+{
+    same_pieces(one, other) >= count
+}
+
 // The first piece of a line.
 fn name(line: &[u8]) -> &[u8]
     ensures { result.now ≡ piece_at line.now 0 }
@@ -99,10 +108,17 @@ fn name(line: &[u8]) -> &[u8]
     first
 }
 
+// Whether this is the first piece of a line.
+fn has_name(line: &[u8], word: &[u8]) -> bool
+    ensures { IsTrue result ↔ (piece_at line.now 0 ≡ word.now) }
+{
+    name(line) == word
+}
+
 // Whether this piece of a line is another than that of the wanted one. A line that ends before it
 // has none, and so has one with two spaces there.
 fn has_other(found: &[u8], wanted: &[u8], before: usize) -> bool
-    ensures { IsTrue result → HasOtherPiece found.now wanted.now before }
+    ensures { IsTrue result ↔ HasOtherPiece found.now wanted.now before }
 {
     let Some(one) = piece(found, before) else {
         return false;
@@ -113,50 +129,76 @@ fn has_other(found: &[u8], wanted: &[u8], before: usize) -> bool
     }
 }
 
+// Whether the wanted line begins with this word, and the lines have the same pieces before this
+// one, which is another.
+fn is_other_in(kind: &[u8], before: usize, found: &[u8], wanted: &[u8]) -> bool
+    ensures { IsTrue result ↔ IsOtherIn kind.now before found.now wanted.now }
+{
+    has_name(wanted, kind)
+        && share_pieces(before, found, wanted)
+        && has_other(found, wanted, before)
+}
+
 // Whether this is the name of a line of a store.
 fn is_of_store(name: &[u8]) -> bool
-    ensures { IsTrue result → IsStoreName name.now }
+    ensures { IsTrue result ↔ IsStoreName name.now }
 {
     name == b"register".as_slice() || name == b"key".as_slice() || name == b"queue".as_slice()
 }
 
-// What is wrong with a line that has the name of the wanted one, as far as these lines say it.
-fn by_piece(found: &[u8], wanted: &[u8]) -> LineRule
-    ensures { IsTrueOfLine result found.now wanted.now }
+// Whether a line goes on after its name.
+fn goes_on(line: &[u8]) -> bool
+    ensures { IsTrue result ↔ GoesOn line.now }
 {
-    let kind = name(wanted);
-    let same = same_pieces(found, wanted);
-    if kind == b"entry".as_slice() && same >= 5 {
-        return LineRule::Reply;
+    piece(line, 1).is_some()
+}
+
+impl LineRule {
+    // The reasons but for the coarse one, in the order in which they are looked for.
+    const EXACT: [LineRule; 7] = [
+        LineRule::AfterEnd,
+        LineRule::Store,
+        LineRule::TooMany,
+        LineRule::Reply,
+        LineRule::Caller,
+        LineRule::Entries,
+        LineRule::Sequence,
+    ];
+
+    // Whether it says the truth of a line that is another than the wanted one.
+    fn says(self, found: &[u8], wanted: &[u8]) -> bool
+        ensures { IsTrue result ↔ SaysOfLine self found.now wanted.now }
+    {
+        match self {
+            LineRule::AfterEnd => wanted.is_empty(),
+            LineRule::Store => {
+                is_of_store(name(wanted))
+                    || goes_on(found) && is_of_store(name(found)) && wanted == b"end".as_slice()
+            }
+            LineRule::Reply => {
+                has_name(wanted, b"entry".as_slice()) && share_pieces(5, found, wanted)
+            }
+            LineRule::Caller => is_other_in(b"caller".as_slice(), 1, found, wanted),
+            LineRule::Entries => is_other_in(b"caller".as_slice(), 4, found, wanted),
+            LineRule::Sequence => is_other_in(b"seq".as_slice(), 1, found, wanted),
+            LineRule::TooMany => {
+                has_name(wanted, b"seq".as_slice())
+                    && has_name(found, b"caller".as_slice())
+                    && goes_on(found)
+            }
+            LineRule::Spelling => false,
+        }
     }
-    if kind == b"caller".as_slice() && same == 1 && has_other(found, wanted, 1) {
-        return LineRule::Caller;
-    }
-    if kind == b"caller".as_slice() && same == 4 && has_other(found, wanted, 4) {
-        return LineRule::Entries;
-    }
-    if kind == b"seq".as_slice() && same == 1 && has_other(found, wanted, 1) {
-        return LineRule::Sequence;
-    }
-    LineRule::Spelling
 }
 
 /// What is wrong with a line that is another than the wanted one.
 pub(crate) fn line_rule(found: &[u8], wanted: &[u8]) -> LineRule
     ensures { IsTrueOfLine result found.now wanted.now }
 {
-    if wanted.is_empty() {
-        return LineRule::AfterEnd;
+    for rule in LineRule::EXACT {
+        if rule.says(found, wanted) {
+            return rule;
+        }
     }
-    if is_of_store(name(wanted)) {
-        return LineRule::Store;
-    }
-    let is_longer = piece(found, 1).is_some();
-    if is_longer && is_of_store(name(found)) && wanted == b"end".as_slice() {
-        return LineRule::Store;
-    }
-    if is_longer && name(wanted) == b"seq".as_slice() && name(found) == b"caller".as_slice() {
-        return LineRule::TooMany;
-    }
-    by_piece(found, wanted)
+    LineRule::Spelling
 }
