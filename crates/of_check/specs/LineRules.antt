@@ -43,9 +43,9 @@ pub record IsOtherIn (kind : List ℕ) (before : ℕ) (found wanted : List ℕ) 
   pub same : SharePieces before found wanted
   pub other : HasOtherPiece found wanted before
 
--- the line goes on after its name
-abbrev pub GoesOn : List ℕ → Type 0
-GoesOn line = 1 < length (line_pieces line)
+-- the line has more pieces than its name
+abbrev pub HasMorePieces : List ℕ → Type 0
+HasMorePieces line = 1 < length (line_pieces line)
 
 -- What each reason but the coarse one says of a line. An entry is the wanted one up to its reply,
 -- which is its sixth piece and those after it.
@@ -53,13 +53,13 @@ abbrev pub SaysOfLine : LineRule → (found wanted : List ℕ) → Type 0
 SaysOfLine AfterEnd found wanted = wanted ≡ []
 SaysOfLine Store found wanted =
     IsStoreName (piece_at wanted 0)
-    ⊎ (GoesOn found × IsStoreName (piece_at found 0) × (wanted ≡ codes "end"))
+    ⊎ (HasMorePieces found × IsStoreName (piece_at found 0) × (wanted ≡ codes "end"))
 SaysOfLine Reply found wanted = (piece_at wanted 0 ≡ codes "entry") × SharePieces 5 found wanted
 SaysOfLine Caller found wanted = IsOtherIn (codes "caller") 1 found wanted
 SaysOfLine Entries found wanted = IsOtherIn (codes "caller") 4 found wanted
 SaysOfLine Sequence found wanted = IsOtherIn (codes "seq") 1 found wanted
 SaysOfLine TooMany found wanted =
-    (piece_at wanted 0 ≡ codes "seq") × (piece_at found 0 ≡ codes "caller") × GoesOn found
+    (piece_at wanted 0 ≡ codes "seq") × (piece_at found 0 ≡ codes "caller") × HasMorePieces found
 SaysOfLine Spelling found wanted = ⊥
 
 -- the reason is true of the line; the coarse one is given only if no other is true

@@ -1,7 +1,7 @@
 //! What is wrong with a line of a report that is another than the one that has to be there.
 
 ghost use Rattle.std.specs.Prelude.{◌≡◌, ◌≤◌, ◌↔◌, ℕ, length, IsTrue, MatchOption};
-ghost use Rattle.of_check.specs.LineRules.{line_pieces, piece_at, IsPiece, SharePieces, HasOtherPiece, IsStoreName, IsOtherIn, GoesOn, SaysOfLine, IsTrueOfLine};
+ghost use Rattle.of_check.specs.LineRules.{line_pieces, piece_at, IsPiece, SharePieces, HasOtherPiece, IsStoreName, IsOtherIn, HasMorePieces, SaysOfLine, IsTrueOfLine};
 
 use of_script::text::cut;
 
@@ -146,9 +146,9 @@ fn is_of_store(name: &[u8]) -> bool
     name == b"register".as_slice() || name == b"key".as_slice() || name == b"queue".as_slice()
 }
 
-// Whether a line goes on after its name.
-fn goes_on(line: &[u8]) -> bool
-    ensures { IsTrue result ↔ GoesOn line.now }
+// Whether a line has more pieces than its name.
+fn has_more_pieces(line: &[u8]) -> bool
+    ensures { IsTrue result ↔ HasMorePieces line.now }
 {
     piece(line, 1).is_some()
 }
@@ -173,7 +173,9 @@ impl LineRule {
             LineRule::AfterEnd => wanted.is_empty(),
             LineRule::Store => {
                 is_of_store(name(wanted))
-                    || goes_on(found) && is_of_store(name(found)) && wanted == b"end".as_slice()
+                    || has_more_pieces(found)
+                        && is_of_store(name(found))
+                        && wanted == b"end".as_slice()
             }
             LineRule::Reply => {
                 has_name(wanted, b"entry".as_slice()) && share_pieces(5, found, wanted)
@@ -184,7 +186,7 @@ impl LineRule {
             LineRule::TooMany => {
                 has_name(wanted, b"seq".as_slice())
                     && has_name(found, b"caller".as_slice())
-                    && goes_on(found)
+                    && has_more_pieces(found)
             }
             LineRule::Spelling => false,
         }
