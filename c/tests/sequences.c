@@ -1,7 +1,7 @@
 /* sequences.c: memories whose sequences come to their end: sequences [FOLDER]. Each reply tells the
- * last one, and spent calls change nothing. Then the sequences begin anew and the memory goes on: in
- * the process, in a file, and in a file that two processes share. Four threads do so again and again
- * while they work, and none of their calls is spent. */
+ * last one, and spent calls change nothing. Then the sequences begin anew and the memory goes on:
+ * in the process, in a file, and in a file that two processes share. Four threads do so again and
+ * again while they work, and none of their calls is spent. */
 #define _GNU_SOURCE
 #include "onefile.h"
 
