@@ -62,6 +62,14 @@ class memory {
   // Lets a shared file go, which all callers of this process have left.
   void detach() { expect(onefile_close(&held, nullptr)); }
 
+  // Has the sequences of a memory begin anew that all callers have left.
+  void renumber() {
+    onefile_saved left = ONEFILE_NONE;
+    int answer = onefile_renumber(&held, &left);
+    onefile_free_saved(&left);
+    expect(answer);
+  }
+
   onefile_memory held = ONEFILE_NONE;
 
  private:

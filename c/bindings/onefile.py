@@ -47,6 +47,7 @@ OF = {
     "enrol_any": [POINTER(RawMemory), POINTER(c_uint32)],
     "leave": [POINTER(RawMemory), c_uint32],
     "close": [POINTER(RawMemory), POINTER(Guarded)],
+    "renumber": [POINTER(RawMemory), POINTER(Guarded)],
     "free": [POINTER(RawMemory)],
     "call_text_within": [
         POINTER(RawMemory), c_uint32, c_char_p, c_size_t, c_uint64, POINTER(Reply)],
@@ -108,6 +109,13 @@ class Memory:
         """What is left of a memory that all callers have left."""
         saved = Saved()
         make("close", self.held, saved.held)
+        return saved
+
+    def renumber(self):
+        """Has the sequences of a memory begin anew that all callers have left, and gives what it
+        has left."""
+        saved = Saved()
+        make("renumber", self.held, saved.held)
         return saved
 
     def detach(self):

@@ -82,6 +82,7 @@ extern "C" {
     fn onefile_enrol_any(memory: *mut RawMemory, number: *mut u32) -> c_int;
     fn onefile_leave(memory: *mut RawMemory, number: u32) -> c_int;
     fn onefile_close(memory: *mut RawMemory, saved: *mut Guarded) -> c_int;
+    fn onefile_renumber(memory: *mut RawMemory, saved: *mut Guarded) -> c_int;
     fn onefile_free(memory: *mut RawMemory) -> c_int;
     fn onefile_call_text_within(
         memory: *mut RawMemory,
@@ -195,6 +196,14 @@ impl Memory {
     pub fn close(self) -> Result<Saved, Refusal> {
         let saved = Saved::none();
         wanted(unsafe { onefile_close(self.0.get(), saved.0.get()) }, DONE)?;
+        Ok(saved)
+    }
+
+    /// Has the sequences of the memory begin anew, which all callers have left, and gives what it
+    /// has left.
+    pub fn renumber(&self) -> Result<Saved, Refusal> {
+        let saved = Saved::none();
+        wanted(unsafe { onefile_renumber(self.0.get(), saved.0.get()) }, DONE)?;
         Ok(saved)
     }
 

@@ -122,6 +122,27 @@ int onefile_close(onefile_memory *memory, onefile_saved *saved) {
   return (int)answer;
 }
 
+/* Has the sequences of a memory begin anew that is taken with all its callers. */
+static uint32_t renumber_taken(onefile_memory *memory, onefile_saved *saved) {
+  if (mapped_is_inherited(memory) || shared_has(memory)) return ONEFILE_FILE_IN_USE;
+  if (mapped_has(memory)) return mapped_renumber(memory, &saved->saved.slot);
+  uint32_t answer = of_c_close(&memory->memory.slot, &saved->saved.slot);
+  if (answer == ONEFILE_DONE) answer = of_c_renumber(&saved->saved.slot);
+  return answer == ONEFILE_DONE ? of_c_reopen(&saved->saved.slot, &memory->memory.slot) : answer;
+}
+
+int onefile_renumber(onefile_memory *memory, onefile_saved *saved) {
+  if (!memory || !saved) return ONEFILE_NULL;
+  if (!claim(&saved->saved)) return ONEFILE_BUSY;
+  uint32_t answer = ONEFILE_BUSY;
+  if (claim_all(memory)) {
+    answer = renumber_taken(memory, saved);
+    release_all(memory);
+  }
+  release(&saved->saved);
+  return (int)answer;
+}
+
 int onefile_free(onefile_memory *memory) {
   if (!memory) return ONEFILE_NULL;
   if (!claim_all(memory)) return ONEFILE_BUSY;

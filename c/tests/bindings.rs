@@ -47,6 +47,20 @@ fn shares_again(path: &str) -> u32 {
     sum
 }
 
+/// A sum and its sequence, before the sequences begin anew and after that.
+fn renumbers() -> [u32; 4] {
+    let of = Memory::open(1, 0, 3).expect("a memory");
+    let mut told = [0; 4];
+    for life in 0..2 {
+        let own = of.enrol(0).expect("a caller");
+        let reply = own.call("add 3 5").expect("a call");
+        (told[2 * life], told[2 * life + 1]) = (reply.values[0], reply.seq);
+        drop(own);
+        of.renumber().expect("other sequences");
+    }
+    told
+}
+
 fn main() {
     let of = Memory::open(2, 0, GREATEST_LIMIT).expect("a memory");
     let (met, end) = (AtomicU32::new(0), Instant::now() + Duration::from_secs(10));
@@ -67,6 +81,8 @@ fn main() {
         "a path with a zero byte: {}",
         if is_taken { "taken" } else { "refused" }
     );
+    let [sum, seq, later, again] = renumbers();
+    println!("sums and sequences: {sum} {seq} {later} {again}");
     let folder = std::env::args().nth(1).unwrap_or("/tmp".to_string());
     let path = format!("{folder}/onefile-bindings.rs");
     let _ = std::fs::remove_file(&path);
