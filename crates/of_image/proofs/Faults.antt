@@ -19,13 +19,13 @@ use Rattle.of_image.specs.declared.version.Version.{Version}
 use Rattle.of_image.specs.ImageText.{IsImageText}
 use Rattle.of_image.specs.ImageReading.{RowReading, no_row_read, image_language, image_reader}
 use Rattle.of_image.specs.Fed.{IsBodyRow}
-use Rattle.of_image.specs.Reasons.{LinesLeadTo, IsUnended, IsTrueIn, IsLineFault}
+use Rattle.of_image.specs.Reasons.{ImageLinesLeadTo, IsUnendedImage, IsTrueInImage, IsLineFault}
 use Rattle.of_image.proofs.ImageProgress.{said}
 
 abbrev pub IsImageReading : Version → (text : List ℕ) → List (List ℕ) → ℕ → RowReading → Type 0
 IsImageReading v = IsReading image_language (image_reader v) no_row_read
 
-pub word_fault : (v : Version) (text : List ℕ) (number : ℕ) (b : Piece) (r : Reason) (start end : ℕ) (Is : List (List ℕ) → List ℕ → Type 0) → HasBadLine (IsImageText v) text number → IsBad (line_at (text_lines text) (number - 1)) b Is → ((before : List (List ℕ)) (piece : List ℕ) → Is before piece → IsTrueIn v r text (number - 1) before piece) → end ≡ length (line_at (text_lines text) (number - 1)) - b.left → start ≡ end - b.size → IsLineFault v text (record { line = number; start = start; end = end; reason = r })
+pub word_fault : (v : Version) (text : List ℕ) (number : ℕ) (b : Piece) (r : Reason) (start end : ℕ) (Is : List (List ℕ) → List ℕ → Type 0) → HasBadLine (IsImageText v) text number → IsBad (line_at (text_lines text) (number - 1)) b Is → ((before : List (List ℕ)) (piece : List ℕ) → Is before piece → IsTrueInImage v r text (number - 1) before piece) → end ≡ length (line_at (text_lines text) (number - 1)) - b.left → start ≡ end - b.size → IsLineFault v text (record { line = number; start = start; end = end; reason = r })
 word_fault v text number b r start end Is bad h true_in to at =
     let line = line_at (text_lines text) (number - 1) in
     let long : length line ≡ length h.parts.0 + (length h.piece + length h.after) = ap length h.parts.1 ∙ length-append h.parts.0 (h.piece ++ h.after) ∙ ap (λ (n : ℕ). length h.parts.0 + n) (length-append h.piece h.after) in
@@ -39,11 +39,11 @@ word_fault v text number b r start end Is bad h true_in to at =
       is = inl (record {
         before = h.before;
         whole = subst (λ (v : List ℕ). IsWholePiece (text_words line) h.before v (drop end line)) (sym place.0) (subst (IsWholePiece (text_words line) h.before h.piece) (sym place.1) h.whole);
-        is = subst (IsTrueIn v r text (number - 1) h.before) (sym place.0) (true_in h.before h.piece h.is);
+        is = subst (IsTrueInImage v r text (number - 1) h.before) (sym place.0) (true_in h.before h.piece h.is);
       });
     }
 
-pub end_fault : (v : Version) (text line : List ℕ) (number : ℕ) → line ≡ line_at (text_lines text) (number - 1) → HasBadLine (IsImageText v) text number → IsUnended v text (number - 1) → IsLineFault v text (record { line = number; start = length line; end = length line; reason = EndMissing })
+pub end_fault : (v : Version) (text line : List ℕ) (number : ℕ) → line ≡ line_at (text_lines text) (number - 1) → HasBadLine (IsImageText v) text number → IsUnendedImage v text (number - 1) → IsLineFault v text (record { line = number; start = length line; end = length line; reason = EndMissing })
 end_fault v text line number is bad none =
     let last = line_at (text_lines text) (number - 1) in
     let same : length line ≡ length last = ap length is in
@@ -57,14 +57,14 @@ pub line_here : (v : Version) (text : List ℕ) (rest others : List (List ℕ)) 
 line_here v text rest others number above p l r e is =
     sym (get_or-append_seam r.done l others []) ∙ ap (λ (ls : List (List ℕ)). get_or ls (length r.done) []) (sym (r.parts ∙ ap (λ (v : List (List ℕ)). r.done ++ v) e)) ∙ ap (λ (n : ℕ). get_or (text_lines text) n []) (r.count ∙ sym is)
 
-pub lead_here : (v : Version) (text : List ℕ) (rest : List (List ℕ)) (number above : ℕ) (p : RowReading) → IsImageReading v text rest number p → above ≡ number → LinesLeadTo v text above p
+pub lead_here : (v : Version) (text : List ℕ) (rest : List (List ℕ)) (number above : ℕ) (p : RowReading) → IsImageReading v text rest number p → above ≡ number → ImageLinesLeadTo v text above p
 lead_here v text rest number above p r is = record {
   said = r.said;
   says = ap unskipped_words (ap (take above) r.parts ∙ take_at r.done rest above (r.count ∙ sym is)) ∙ r.says;
   leads = r.leads;
 }
 
-pub no_end_here : (v : Version) (text : List ℕ) (number above : ℕ) (p : RowReading) → IsImageReading v text [] number p → above + 1 ≡ number → (p.stage ≡ Ended → ⊥) → IsUnended v text above
+pub no_end_here : (v : Version) (text : List ℕ) (number above : ℕ) (p : RowReading) → IsImageReading v text [] number p → above + 1 ≡ number → (p.stage ≡ Ended → ⊥) → IsUnendedImage v text above
 no_end_here v text number above p r is unended = record {
   last = ap length (r.parts ∙ append-nil r.done) ∙ r.count ∙ sym is;
   reading = p;

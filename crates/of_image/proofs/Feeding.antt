@@ -28,8 +28,8 @@ use Rattle.of_image.specs.declared.version.Version.{Version}
 use Rattle.of_image.specs.Version.{version_number}
 use Rattle.of_image.specs.ImageText.{image_line_words}
 use Rattle.of_image.specs.ImageReading.{RowReading, IsImageLineInRange, after_line_at, image_language, image_reader}
-use Rattle.of_image.specs.Reasons.{WantsNumber, IsPlaceOf, IsTrueOfImage}
-use Rattle.of_image.specs.Fed.{TooMany, IsNumberFault, IsBodyRow, IsBadLine}
+use Rattle.of_image.specs.Reasons.{WantsImageNumber, IsPlaceInImage, IsTrueOfImage}
+use Rattle.of_image.specs.Fed.{TooManyWords, IsImageNumberFault, IsBodyRow, RefusesImageLine}
 
 -- what a call has thrown
 pub thrown : {A : Type 0} → (r : Result A Bad) (b : Bad) (P : A → Type 0) (Q : Bad → Type 0) → IsErrAnd r (λ e. e ≡ b) → Q b → MatchResult r P Q
@@ -94,7 +94,7 @@ cell_number (a ∷ b ∷ []) ws (Cell c s x) few r e = record { number = x; othe
 cell_number (a ∷ b ∷ d ∷ more) ws l few r e = absurd (omega (arith, few))
 cell_number numbers ws l few r e = absurd (other_kind (codes "cell" ∷ (map decimal numbers ++ ws)) (image_line_words l) e (λ k. omega (arith, k)))
 
-wanted_number : (opening : List (List ℕ)) (most : ℕ) (ws : List (List ℕ)) (l : ImageLine) → WantsNumber opening most → IsImageLineInRange l → opening ++ ws ≡ image_line_words l → HasNumber most ws
+wanted_number : (opening : List (List ℕ)) (most : ℕ) (ws : List (List ℕ)) (l : ImageLine) → WantsImageNumber opening most → IsImageLineInRange l → opening ++ ws ≡ image_line_words l → HasNumber most ws
 wanted_number opening most ws l wants r e = elim wants [
   | inl h ↦ subst (λ (m : ℕ). HasNumber m ws) (sym h.1) (title_number ws l r (sym (ap (λ (o : List (List ℕ)). o ++ ws) h.0) ∙ e))
   | inr h ↦ elim h [
@@ -106,7 +106,7 @@ wanted_number opening most ws l wants r e = elim wants [
   ]
 ]
 
-most_small : (opening : List (List ℕ)) (most : ℕ) → WantsNumber opening most → most ≤ 4294967295
+most_small : (opening : List (List ℕ)) (most : ℕ) → WantsImageNumber opening most → most ≤ 4294967295
 most_small opening most wants = elim wants [
   | inl h ↦ subst (λ (n : ℕ). n ≤ 4294967295) (sym h.1) (lit≤ tt)
   | inr h ↦ elim h [
@@ -119,22 +119,22 @@ most_small opening most wants = elim wants [
 ]
 
 -- a piece that is no number, where one comes next
-flaw_true : (flaw : Flaw) (before : List (List ℕ)) (piece : List ℕ) (most : ℕ) → WantsNumber before most → IsNumberFlaw flaw most piece → HasFlaw flaw piece × IsPlaceOf flaw before
+flaw_true : (flaw : Flaw) (before : List (List ℕ)) (piece : List ℕ) (most : ℕ) → WantsImageNumber before most → IsNumberFlaw flaw most piece → HasFlaw flaw piece × IsPlaceInImage flaw before
 flaw_true NumberMissing before piece most wants h = (h, (most, wants))
 flaw_true NoNumber before piece most wants h = (h, (most, wants))
 flaw_true (TooGreat n) before piece most wants h =
     let same : most ≡ n = sym h.0 in
-    ((h.1, subst (λ (m : ℕ). parsed_number m piece ≡ None) same h.2), subst (WantsNumber before) same wants)
+    ((h.1, subst (λ (m : ℕ). parsed_number m piece ≡ None) same h.2), subst (WantsImageNumber before) same wants)
 flaw_true flaw before piece most wants h = absurd h
 
-number_true : (v : Version) (r : Reason) (p : RowReading) (before : List (List ℕ)) (piece : List ℕ) (most : ℕ) → WantsNumber before most → IsNumberFault r most piece → IsTrueOfImage v r p before piece
+number_true : (v : Version) (r : Reason) (p : RowReading) (before : List (List ℕ)) (piece : List ℕ) (most : ℕ) → WantsImageNumber before most → IsImageNumberFault r most piece → IsTrueOfImage v r p before piece
 number_true v (Flawed flaw) p before piece most wants h = flaw_true flaw before piece most wants h
 number_true v r p before piece most wants h = absurd h
 
 -- ---- any line
 
 -- the next word of the end of a line that may not come next is at fault
-bad_at : (v : Version) (p : RowReading) (line bytes : List ℕ) (bad : Bad) (r : Reason) (opening : List (List ℕ)) → RefusesLine image_language (image_reader v) (text_words line) p → IsNextWord bytes bad.piece → EndsWith line bytes → text_words line ≡ opening ++ text_words bytes → bad.reason ≡ r → IsTrueOfImage v r p opening (first_word (text_words bytes)) → IsBadLine v p line bad
+bad_at : (v : Version) (p : RowReading) (line bytes : List ℕ) (bad : Bad) (r : Reason) (opening : List (List ℕ)) → RefusesLine image_language (image_reader v) (text_words line) p → IsNextWord bytes bad.piece → EndsWith line bytes → text_words line ≡ opening ++ text_words bytes → bad.reason ≡ r → IsTrueOfImage v r p opening (first_word (text_words bytes)) → RefusesImageLine v p line bad
 bad_at v p line bytes bad r opening refused next ends words is holds = (
   refused,
   lift_next bytes line bad.piece (IsTrueOfImage v bad.reason p) opening next ends words
@@ -142,7 +142,7 @@ bad_at v p line bytes bad r opening refused next ends words is holds = (
 )
 
 -- no number comes next
-pub no_number : (v : Version) (p : RowReading) (line bytes : List ℕ) (bad : Bad) (most : ℕ) (opening : List (List ℕ)) → is_skipped (text_words line) ≡ false → WantsNumber opening most → text_words line ≡ opening ++ text_words bytes → EndsWith line bytes → next_number most (text_words bytes) ≡ None → IsNextWord bytes bad.piece → IsNumberFault bad.reason most (first_word (text_words bytes)) → IsBadLine v p line bad
+pub no_number : (v : Version) (p : RowReading) (line bytes : List ℕ) (bad : Bad) (most : ℕ) (opening : List (List ℕ)) → is_skipped (text_words line) ≡ false → WantsImageNumber opening most → text_words line ≡ opening ++ text_words bytes → EndsWith line bytes → next_number most (text_words bytes) ≡ None → IsNextWord bytes bad.piece → IsImageNumberFault bad.reason most (first_word (text_words bytes)) → RefusesImageLine v p line bad
 no_number v p line bytes bad most opening kept wants words ends none next fault =
     bad_at v p line bytes bad bad.reason opening (record { kept = kept; none = λ l range e. absurd (unread (next_number most (text_words bytes)) _ none (again (wanted_number opening most (text_words bytes) l wants range (sym words ∙ e)))) }) next ends words refl
     (number_true v bad.reason p opening (first_word (text_words bytes)) most wants fault)
@@ -160,9 +160,9 @@ longer End End ws e = cc
 longer l m ws e = absurd (other_kind (image_line_words l ++ ws) (image_line_words m) e (λ k. omega (arith, k)))
 
 -- a word comes after a line
-pub too_many : (v : Version) (p : RowReading) (line bytes : List ℕ) (bad : Bad) (l : ImageLine) → is_skipped (text_words line) ≡ false → IsImageLineInRange l → text_words line ≡ image_line_words l ++ text_words bytes → EndsWith line bytes → (first_word (text_words bytes) ≡ [] → ⊥) → IsNextWord bytes bad.piece → bad.reason ≡ TooMany → IsBadLine v p line bad
+pub too_many : (v : Version) (p : RowReading) (line bytes : List ℕ) (bad : Bad) (l : ImageLine) → is_skipped (text_words line) ≡ false → IsImageLineInRange l → text_words line ≡ image_line_words l ++ text_words bytes → EndsWith line bytes → (first_word (text_words bytes) ≡ [] → ⊥) → IsNextWord bytes bad.piece → bad.reason ≡ TooManyWords → RefusesImageLine v p line bad
 too_many v p line bytes bad l kept range words ends some next is =
-    bad_at v p line bytes bad TooMany (image_line_words l) (record { kept = kept; none = λ m r e. absurd (some (ap first_word (longer l m (text_words bytes) (sym words ∙ e)))) }) next ends words is
+    bad_at v p line bytes bad TooManyWords (image_line_words l) (record { kept = kept; none = λ m r e. absurd (some (ap first_word (longer l m (text_words bytes) (sym words ∙ e)))) }) next ends words is
     (some, record { line = l; range = range; words = refl })
 
 -- at a stage, where no line with these words may come next
@@ -179,12 +179,12 @@ no_title : (v : Version) (p : RowReading) (ws : List (List ℕ)) → ((x : ℕ) 
 no_title v p ws none (Title x) r e = elim (eqb_tells x (version_number v)) [ inl own ↦ absurd (none x r own.1 e) | inr other ↦ rw other.0 refl ]
 no_title v p ws none l r e = refl
 
-pub not_image : (v : Version) (p : RowReading) (line kind : List ℕ) (bad : Bad) (n : ℕ) → p.stage ≡ Start → is_skipped (text_words line) ≡ false → n ≡ version_number v → text_words line ≡ codes "onefile" ∷ text_words kind → EndsWith line kind → ((others : List (List ℕ)) → text_words kind ≡ codes "image" ∷ others → ⊥) → IsNextWord kind bad.piece → bad.reason ≡ TitleExpected n → IsBadLine v p line bad
+pub not_image : (v : Version) (p : RowReading) (line kind : List ℕ) (bad : Bad) (n : ℕ) → p.stage ≡ Start → is_skipped (text_words line) ≡ false → n ≡ version_number v → text_words line ≡ codes "onefile" ∷ text_words kind → EndsWith line kind → ((others : List (List ℕ)) → text_words kind ≡ codes "image" ∷ others → ⊥) → IsNextWord kind bad.piece → bad.reason ≡ TitleExpected n → RefusesImageLine v p line bad
 not_image v p line kind bad n at kept own words ends other next is =
     bad_at v p line kind bad (TitleExpected n) (codes "onefile" ∷ []) (refuses v Start p (text_words line) at kept (no_title v p (text_words line) (λ x le same e. other (decimal x ∷ []) (tail _ _ _ _ (sym words ∙ e))))) next ends words is
     (at, own, inr (refl, not_first (text_words kind) (codes "image") other (λ e. cc)))
 
-pub other_version : (v : Version) (p : RowReading) (line bytes rest : List ℕ) (bad : Bad) (found read : ℕ) → p.stage ≡ Start → is_skipped (text_words line) ≡ false → read ≡ version_number v → text_words line ≡ codes "onefile" ∷ codes "image" ∷ text_words bytes → EndsWith line bytes → next_number 4294967295 (text_words bytes) ≡ Some (found, text_words rest) → (found ≡ read → ⊥) → IsNextWord bytes bad.piece → bad.reason ≡ OtherVersion found read → IsBadLine v p line bad
+pub other_version : (v : Version) (p : RowReading) (line bytes rest : List ℕ) (bad : Bad) (found read : ℕ) → p.stage ≡ Start → is_skipped (text_words line) ≡ false → read ≡ version_number v → text_words line ≡ codes "onefile" ∷ codes "image" ∷ text_words bytes → EndsWith line bytes → next_number 4294967295 (text_words bytes) ≡ Some (found, text_words rest) → (found ≡ read → ⊥) → IsNextWord bytes bad.piece → bad.reason ≡ OtherVersion found read → RefusesImageLine v p line bad
 other_version v p line bytes rest bad found read at kept own words ends e other next is =
     bad_at v p line bytes bad (OtherVersion found read) (codes "onefile" ∷ codes "image" ∷ []) (refuses v Start p (text_words line) at kept (no_title v p (text_words line) (λ x le same k. other ((known 4294967295 (text_words bytes) found x (text_words rest) [] (lit≤ tt) e le (tail _ _ _ _ (tail _ _ _ _ (sym words ∙ k)))).0 ∙ same ∙ sym own)))) next ends words is
     (at, refl, (numbered 4294967295 (text_words bytes) found (text_words rest) (lit≤ tt) e).piece, own, other)
@@ -202,7 +202,7 @@ no_callers : (v : Version) (p : RowReading) (ws : List (List ℕ)) → ((n : ℕ
 no_callers v p ws none (Callers n) r e = elim (eqb_tells n 0) [ inl zero ↦ rw zero.0 refl | inr some ↦ absurd (none n r some.1 e) ]
 no_callers v p ws none l r e = refl
 
-pub zero_callers : (v : Version) (p : RowReading) (line bytes rest : List ℕ) (bad : Bad) (n : ℕ) → p.stage ≡ Named → is_skipped (text_words line) ≡ false → text_words line ≡ codes "callers" ∷ text_words bytes → EndsWith line bytes → next_number 16 (text_words bytes) ≡ Some (n, text_words rest) → n ≡ 0 → IsNextWord bytes bad.piece → bad.reason ≡ Flawed Zero → IsBadLine v p line bad
+pub zero_callers : (v : Version) (p : RowReading) (line bytes rest : List ℕ) (bad : Bad) (n : ℕ) → p.stage ≡ Named → is_skipped (text_words line) ≡ false → text_words line ≡ codes "callers" ∷ text_words bytes → EndsWith line bytes → next_number 16 (text_words bytes) ≡ Some (n, text_words rest) → n ≡ 0 → IsNextWord bytes bad.piece → bad.reason ≡ Flawed Zero → RefusesImageLine v p line bad
 zero_callers v p line bytes rest bad n at kept words ends e zero next is =
     bad_at v p line bytes bad (Flawed Zero) (codes "callers" ∷ []) (refuses v Named p (text_words line) at kept (no_callers v p (text_words line) (λ m le some k. some (sym (known 16 (text_words bytes) n m (text_words rest) [] (lit≤ tt) e le (tail _ _ _ _ (sym words ∙ k))).0 ∙ zero)))) next ends words is
     (subst (PieceIsNumber (first_word (text_words bytes))) zero (numbered 16 (text_words bytes) n (text_words rest) (lit≤ tt) e).piece, refl)
@@ -246,18 +246,18 @@ module _ (v : Version) (p : RowReading) (line rest : List ℕ) (at : p.stage ≡
   no_end : text_words line ≡ image_line_words End → ⊥
   no_end e = other_kind (codes "cell" ∷ text_words rest) (codes "end" ∷ []) (sym words ∙ e) (λ k. omega (arith, k))
 
-  bad_cell : (bytes : List ℕ) (bad : Bad) (r : Reason) (opening : List (List ℕ)) → ((c s x : ℕ) → c ≤ 4294967295 → s ≤ 4294967295 → x ≤ 4294967295 → p.from ≤ c → c < length p.words → (pack s x ≡ 0 → ⊥) → text_words rest ≡ decimal c ∷ decimal s ∷ decimal x ∷ [] → ⊥) → IsNextWord bytes bad.piece → EndsWith line bytes → text_words line ≡ opening ++ text_words bytes → bad.reason ≡ r → IsTrueOfImage v r p opening (first_word (text_words bytes)) → IsBadLine v p line bad
+  bad_cell : (bytes : List ℕ) (bad : Bad) (r : Reason) (opening : List (List ℕ)) → ((c s x : ℕ) → c ≤ 4294967295 → s ≤ 4294967295 → x ≤ 4294967295 → p.from ≤ c → c < length p.words → (pack s x ≡ 0 → ⊥) → text_words rest ≡ decimal c ∷ decimal s ∷ decimal x ∷ [] → ⊥) → IsNextWord bytes bad.piece → EndsWith line bytes → text_words line ≡ opening ++ text_words bytes → bad.reason ≡ r → IsTrueOfImage v r p opening (first_word (text_words bytes)) → RefusesImageLine v p line bad
   bad_cell bytes bad r opening none next ends says is holds =
       bad_at v p line bytes bad r opening (refuses v Body p (text_words line) at cell_kept (no_body v p (text_words line) (λ c s x low middle high from within some e. none c s x low middle high from within some (tail _ _ _ _ (sym words ∙ e))) no_end)) next ends says is holds
 
-  pub no_cell : (after : List (List ℕ)) (bad : Bad) (cell cells : ℕ) → EndsWith line rest → next_number 4294967295 (text_words rest) ≡ Some (cell, after) → IsBodyRow v p → cells ≡ length p.words → cells ≤ cell → IsNextWord rest bad.piece → bad.reason ≡ NoCell cell cells → IsBadLine v p line bad
+  pub no_cell : (after : List (List ℕ)) (bad : Bad) (cell cells : ℕ) → EndsWith line rest → next_number 4294967295 (text_words rest) ≡ Some (cell, after) → IsBodyRow v p → cells ≡ length p.words → cells ≤ cell → IsNextWord rest bad.piece → bad.reason ≡ NoCell cell cells → RefusesImageLine v p line bad
   no_cell after bad cell cells ends e row is past next reason =
       bad_cell rest bad (NoCell cell cells) (codes "cell" ∷ []) (λ c s x low middle high from within some k.
       let same = (known 4294967295 (text_words rest) cell c after (decimal s ∷ decimal x ∷ []) (lit≤ tt) e low k).0 in
       omega (arith, same, is, past, within)) next ends words reason
       (refl, (numbered 4294967295 (text_words rest) cell after (lit≤ tt) e).piece, is ∙ (row at).size, past)
 
-  pub cell_passed : (after : List (List ℕ)) (bad : Bad) (cell : ℕ) → EndsWith line rest → next_number 4294967295 (text_words rest) ≡ Some (cell, after) → cell < p.from → IsNextWord rest bad.piece → bad.reason ≡ CellPassed cell → IsBadLine v p line bad
+  pub cell_passed : (after : List (List ℕ)) (bad : Bad) (cell : ℕ) → EndsWith line rest → next_number 4294967295 (text_words rest) ≡ Some (cell, after) → cell < p.from → IsNextWord rest bad.piece → bad.reason ≡ CellPassed cell → RefusesImageLine v p line bad
   cell_passed after bad cell ends e passed next reason =
       bad_cell rest bad (CellPassed cell) (codes "cell" ∷ []) (λ c s x low middle high from within some k.
       let same = (known 4294967295 (text_words rest) cell c after (decimal s ∷ decimal x ∷ []) (lit≤ tt) e low k).0 in
@@ -276,7 +276,7 @@ module _ (v : Version) (p : RowReading) (line rest : List ℕ) (at : p.stage ≡
       pub words_three : (payload : ℕ) (ends : List (List ℕ)) → next_number 4294967295 (text_words more) ≡ Some (payload, ends) → text_words line ≡ image_line_words (Cell cell seq payload) ++ ends
       words_three payload ends third = words_two ∙ ap (λ (w : List (List ℕ)). codes "cell" ∷ decimal cell ∷ decimal seq ∷ w) (numbered 4294967295 (text_words more) payload ends (lit≤ tt) third).words
 
-      pub empty_cell : (bad : Bad) (payload : ℕ) (ends : List (List ℕ)) → EndsWith line more → next_number 4294967295 (text_words more) ≡ Some (payload, ends) → pack seq payload ≡ 0 → IsNextWord more bad.piece → bad.reason ≡ EmptyCell → IsBadLine v p line bad
+      pub empty_cell : (bad : Bad) (payload : ℕ) (ends : List (List ℕ)) → EndsWith line more → next_number 4294967295 (text_words more) ≡ Some (payload, ends) → pack seq payload ≡ 0 → IsNextWord more bad.piece → bad.reason ≡ EmptyCell → RefusesImageLine v p line bad
       empty_cell bad payload ends tail_of third empty next reason =
           let zero = word_zero seq payload empty in
           bad_cell more bad EmptyCell (codes "cell" ∷ decimal cell ∷ decimal 0 ∷ []) (λ c s x low middle high from within some k.

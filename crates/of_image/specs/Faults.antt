@@ -30,13 +30,13 @@ abbrev pub IsImageFaultOf : Version → List ℕ → ImageFault → Type 0
 IsImageFaultOf v text (Line p) = IsLineFault v text p
 IsImageFaultOf v text (Cell cell law) = IsCellFault v text cell law
 
--- why a text has no row; want of memory says nothing
+-- why a text has no row; after a lack of memory nothing is said
 abbrev pub HasLineFault : Version → List ℕ → Refusal → Type 0
 HasLineFault v text Memory = Unit {0}
 HasLineFault v text (Fault (Line piece)) = IsLineFault v text piece
 HasLineFault v text (Fault (Cell cell law)) = ⊥
 
--- why a text has no image; want of memory says nothing
+-- why a text has no image; after a lack of memory nothing is said
 abbrev pub HasImageFault : Version → List ℕ → Refusal → Type 0
 HasImageFault v text Memory = Unit {0}
 HasImageFault v text (Fault fault) = IsImageFaultOf v text fault

@@ -20,36 +20,36 @@ use Rattle.of_image.specs.ImageReading.{RowReading, row_read, row_reading_value,
 use Rattle.of_image.specs.Reasons.{IsTrueOfImage}
 
 -- a word where the line should end
-abbrev pub TooMany : Reason
-TooMany = Flawed WordTooMany
+abbrev pub TooManyWords : Reason
+TooManyWords = Flawed WordTooMany
 
 -- the piece is no number up to the most
-abbrev pub IsNumberFault : Reason → (most : ℕ) (piece : List ℕ) → Type 0
-IsNumberFault (Flawed flaw) most piece = IsNumberFlaw flaw most piece
-IsNumberFault _ most piece = ⊥
+abbrev pub IsImageNumberFault : Reason → (most : ℕ) (piece : List ℕ) → Type 0
+IsImageNumberFault (Flawed flaw) most piece = IsNumberFlaw flaw most piece
+IsImageNumberFault _ most piece = ⊥
 
 -- below the heading the words are as many as a row of these sizes has
 abbrev pub IsBodyRow : Version → RowReading → Type 0
 IsBodyRow v p = p.stage ≡ Body → IsRow (instrs_of v) (row_read p)
 
 -- the line may not come next, and this is the piece of it at fault
-abbrev pub IsBadLine : Version → RowReading → (line : List ℕ) → Bad → Type 0
-IsBadLine v p line bad =
+abbrev pub RefusesImageLine : Version → RowReading → (line : List ℕ) → Bad → Type 0
+RefusesImageLine v p line bad =
     RefusesLine image_language (image_reader v) (text_words line) p
     × IsBad line bad.piece (IsTrueOfImage v bad.reason p)
 
 -- a line was skipped, or read and taken; or it may not come next
-abbrev pub HasFed : Version → (line : List ℕ) → (old new : RustReading) → Result (Unit {0}) Bad
-    → Type 0
-HasFed v line old new result =
+abbrev pub HasReadImageLine : Version → (line : List ℕ) → (old new : RustReading)
+    → Result (Unit {0}) Bad → Type 0
+HasReadImageLine v line old new result =
     MatchResult result
     (λ taken. ReadsLine image_language (image_reader v) (text_words line) (row_reading_value old)
     (row_reading_value new))
-    (IsBadLine v (row_reading_value old) line)
+    (RefusesImageLine v (row_reading_value old) line)
 
 -- the line says this number of blocks, or none that may come next
-abbrev pub HasReadBlocks : (line : List ℕ) → Result ℕ Bad → Type 0
-HasReadBlocks line result =
+abbrev pub HasReadBlocksLine : (line : List ℕ) → Result ℕ Bad → Type 0
+HasReadBlocksLine line result =
     MatchResult result
     (λ n. (n ≤ MOST_PLAN_BLOCKS) × (text_words line ≡ image_line_words (Blocks n)))
-    (λ bad. (v : Version) (p : RowReading) → p.stage ≡ Counted → IsBadLine v p line bad)
+    (λ bad. (v : Version) (p : RowReading) → p.stage ≡ Counted → RefusesImageLine v p line bad)

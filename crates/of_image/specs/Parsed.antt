@@ -26,7 +26,7 @@ pub record IsUnlawful (v : Version) (text : List ℕ) (cell : ℕ) : Type 0 wher
   pub spelled : SpellsImage v text raw
   pub fault : IsRowFault (instrs_of v) (recovered_row (instrs_of v) raw) cell
 
--- why a text is refused; want of memory says nothing
+-- why a text is refused; after a lack of memory nothing is said
 abbrev pub ImageIsRefused : Version → List ℕ → ImageErr → Type 0
 ImageIsRefused v text Memory = Unit {0}
 ImageIsRefused v text (Bad line) = HasBadLine (IsImageText v) text line
@@ -38,13 +38,13 @@ IsNoImage v text Memory = Unit {0}
 IsNoImage v text (Bad line) = HasBadLine (IsImageText v) text line
 IsNoImage v text (Unlawful cell) = ⊥
 
--- why durable words have no image; want of memory says nothing
+-- why durable words have no image; after a lack of memory nothing is said
 abbrev pub WordsAreRefused : DurableRow → ImageErr → Type 0
 WordsAreRefused r Memory = Unit {0}
 WordsAreRefused r (Bad line) = ⊥
 WordsAreRefused r (Unlawful cell) = IsRowFault MOST_INSTRS (recovered_row MOST_INSTRS r) cell
 
--- why no store is found in a row; want of memory says nothing
+-- why no store is found in a row; after a lack of memory nothing is said
 abbrev pub NamesRowFault : (instrs : ℕ) → DurableRow → Refusal → Type 0
 NamesRowFault instrs r NoMemory = Unit {0}
 NamesRowFault instrs r (Fault (Line piece)) = ⊥

@@ -26,8 +26,8 @@ use Rattle.of_image.specs.Version.{version_number, instrs_of}
 -- ---- what comes next after the words of a line
 
 -- a number up to the most: the version, a count of the heading, or one of a cell's three numbers
-abbrev pub WantsNumber : (before : List (List ℕ)) (most : ℕ) → Type 0
-WantsNumber before most =
+abbrev pub WantsImageNumber : (before : List (List ℕ)) (most : ℕ) → Type 0
+WantsImageNumber before most =
     ((before ≡ codes "onefile" ∷ codes "image" ∷ []) × (most ≡ 4294967295))
     ⊎ (((before ≡ codes "callers" ∷ []) × (most ≡ MOST_PLAN_CALLERS))
     ⊎ (((before ≡ codes "blocks" ∷ []) × (most ≡ MOST_PLAN_BLOCKS))
@@ -41,13 +41,13 @@ pub record IsWholeLine (before : List (List ℕ)) : Type 0 where
   pub words : before ≡ image_line_words line
 
 -- what comes next there is what the flaw of the piece speaks of
-abbrev pub IsPlaceOf : Flaw → (before : List (List ℕ)) → Type 0
-IsPlaceOf NumberMissing before = (most : ℕ) × WantsNumber before most
-IsPlaceOf NoNumber before = (most : ℕ) × WantsNumber before most
-IsPlaceOf (TooGreat most) before = WantsNumber before most
-IsPlaceOf Zero before = before ≡ codes "callers" ∷ []
-IsPlaceOf WordTooMany before = IsWholeLine before
-IsPlaceOf _ before = ⊥
+abbrev pub IsPlaceInImage : Flaw → (before : List (List ℕ)) → Type 0
+IsPlaceInImage NumberMissing before = (most : ℕ) × WantsImageNumber before most
+IsPlaceInImage NoNumber before = (most : ℕ) × WantsImageNumber before most
+IsPlaceInImage (TooGreat most) before = WantsImageNumber before most
+IsPlaceInImage Zero before = before ≡ codes "callers" ∷ []
+IsPlaceInImage WordTooMany before = IsWholeLine before
+IsPlaceInImage _ before = ⊥
 
 -- ---- reasons
 
@@ -63,8 +63,8 @@ pub record IsNoName (piece : List ℕ) : Type 0 where
   pub «end» : piece ≡ codes "end" → ⊥
 
 -- the words before the piece begin a title, and it does not go on with the piece
-abbrev pub IsNoTitleWord : (before : List (List ℕ)) (piece : List ℕ) → Type 0
-IsNoTitleWord before piece =
+abbrev pub IsNoImageTitleWord : (before : List (List ℕ)) (piece : List ℕ) → Type 0
+IsNoImageTitleWord before piece =
     ((before ≡ []) × (piece ≡ codes "onefile" → ⊥))
     ⊎ ((before ≡ codes "onefile" ∷ []) × (piece ≡ codes "image" → ⊥))
 
@@ -72,9 +72,9 @@ IsNoTitleWord before piece =
 -- to
 abbrev pub IsTrueOfImage : Version → Reason → RowReading → (before : List (List ℕ))
     (piece : List ℕ) → Type 0
-IsTrueOfImage v (Flawed flaw) p before piece = HasFlaw flaw piece × IsPlaceOf flaw before
+IsTrueOfImage v (Flawed flaw) p before piece = HasFlaw flaw piece × IsPlaceInImage flaw before
 IsTrueOfImage v (TitleExpected version) p before piece =
-    (p.stage ≡ Start) × (version ≡ version_number v) × IsNoTitleWord before piece
+    (p.stage ≡ Start) × (version ≡ version_number v) × IsNoImageTitleWord before piece
 IsTrueOfImage v (OtherVersion found read) p before piece =
     (p.stage ≡ Start) × (before ≡ codes "onefile" ∷ codes "image" ∷ []) × PieceIsNumber piece found
     × (read ≡ version_number v) × (found ≡ read → ⊥)
@@ -99,16 +99,17 @@ IsTrueOfImage v EndMissing p before piece = ⊥
 -- ---- the fault of a text
 
 -- what the first lines of a text say leads to this reading
-pub record LinesLeadTo (v : Version) (text : List ℕ) (count : ℕ) (p : RowReading) : Type 0 where
+pub record ImageLinesLeadTo (v : Version) (text : List ℕ) (count : ℕ) (p : RowReading)
+    : Type 0 where
   pub said : List ImageLine
   pub says : unskipped_words (take count (text_lines text)) ≡ map image_line_words said
   pub leads : after_lines image_language (image_reader v) no_row_read said ≡ Some p
 
 -- the text is at its end, and has no end line yet
-pub record IsUnended (v : Version) (text : List ℕ) (above : ℕ) : Type 0 where
+pub record IsUnendedImage (v : Version) (text : List ℕ) (above : ℕ) : Type 0 where
   pub last : length (text_lines text) ≡ above + 1
   pub reading : RowReading
-  pub leads : LinesLeadTo v text (above + 1) reading
+  pub leads : ImageLinesLeadTo v text (above + 1) reading
   pub unended : reading.stage ≡ Ended → ⊥
 
 -- the line above of this number has the cell that the piece names or a later one
@@ -122,26 +123,27 @@ pub record IsOutOfOrder (text : List ℕ) (above : ℕ) (before : List (List ℕ
   pub says : Says (text_lines text) above (Cell cell) at other
   pub is : number ≡ at + 1
 
--- what a reason says of a piece of a text with so many lines above it
-abbrev pub IsTrueIn : Version → Reason → (text : List ℕ) (above : ℕ) (before : List (List ℕ))
+-- what a reason says of a piece of a text with this many lines above its line
+abbrev pub IsTrueInImage : Version → Reason → (text : List ℕ) (above : ℕ) (before : List (List ℕ))
     (piece : List ℕ) → Type 0
-IsTrueIn v EndMissing text above before piece = IsUnended v text above × (piece ≡ [])
-IsTrueIn v (OutOfOrder number) text above before piece = IsOutOfOrder text above before piece number
-IsTrueIn v reason text above before piece =
-    (p : RowReading) × LinesLeadTo v text above p × IsTrueOfImage v reason p before piece
+IsTrueInImage v EndMissing text above before piece = IsUnendedImage v text above × (piece ≡ [])
+IsTrueInImage v (OutOfOrder number) text above before piece =
+    IsOutOfOrder text above before piece number
+IsTrueInImage v reason text above before piece =
+    (p : RowReading) × ImageLinesLeadTo v text above p × IsTrueOfImage v reason p before piece
 
 -- the piece is a whole word, or the end of the line
-pub record IsWordFault (v : Version) (text : List ℕ) (f : BadPiece) : Type 0 where
+pub record IsImageWordFault (v : Version) (text : List ℕ) (f : BadPiece) : Type 0 where
   pub before : List (List ℕ)
   pub whole :
       let line = line_at (text_lines text) (f.line - 1) in
       IsWholePiece (text_words line) before (slice_range line f.start f.end) (drop f.end line)
   pub is :
       let line = line_at (text_lines text) (f.line - 1) in
-      IsTrueIn v f.reason text (f.line - 1) before (slice_range line f.start f.end)
+      IsTrueInImage v f.reason text (f.line - 1) before (slice_range line f.start f.end)
 
 -- the piece is a byte that looks like nothing, in a line that isn't skipped
-pub record IsHiddenFault (text : List ℕ) (f : BadPiece) : Type 0 where
+pub record IsHiddenImageFault (text : List ℕ) (f : BadPiece) : Type 0 where
   pub flaw : Flaw
   pub reason : f.reason ≡ Flawed flaw
   pub kept : is_skipped (text_words (line_at (text_lines text) (f.line - 1))) ≡ false
@@ -153,4 +155,4 @@ pub record IsLineFault (v : Version) (text : List ℕ) (f : BadPiece) : Type 0 w
   pub bad : HasBadLine (IsImageText v) text f.line
   pub order : f.start ≤ f.end
   pub within : f.end ≤ length (line_at (text_lines text) (f.line - 1))
-  pub is : IsWordFault v text f ⊎ IsHiddenFault text f
+  pub is : IsImageWordFault v text f ⊎ IsHiddenImageFault text f

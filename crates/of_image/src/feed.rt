@@ -12,7 +12,7 @@ ghost use Rattle.of_image.specs.declared.reading.Stage.TheVariants.{Start, Named
 ghost use Rattle.of_image.specs.Version.{instrs_of};
 ghost use Rattle.of_image.specs.ImageReading.{row_reading_value, no_row_read};
 ghost use Rattle.of_image.specs.Reasons.{IsHeadingName};
-ghost use Rattle.of_image.specs.Fed.{TooMany, IsNumberFault, IsBodyRow, HasFed, HasReadBlocks};
+ghost use Rattle.of_image.specs.Fed.{TooManyWords, IsImageNumberFault, IsBodyRow, HasReadImageLine, HasReadBlocksLine};
 
 use crate::reading::{Reading, Stage};
 use crate::reason::Reason;
@@ -66,7 +66,7 @@ fn read_number(bytes: &[u8], most: u32) -> Result<(u32, &[u8]), Bad>
     ensures err { IfErr result (λ bad. slot_and_rest most (text_words bytes.now) ≡ None) }
     ensures piece { IfErr result (λ bad. IsNextWord bytes.now bad.piece) }
     ensures reason { IfErr result
-        (λ bad. IsNumberFault bad.reason most (first_word (text_words bytes.now))) }
+        (λ bad. IsImageNumberFault bad.reason most (first_word (text_words bytes.now))) }
 {
     match read_slot(bytes, most) {
         Ok(read) => Ok(read),
@@ -82,7 +82,7 @@ fn expect_end(bytes: &[u8]) -> Result<(), Bad>
     ensures ends { MatchResult result (λ done. text_words bytes.now ≡ [])
         (λ bad. first_word (text_words bytes.now) ≡ [] → ⊥) }
     ensures piece { IfErr result (λ bad. IsNextWord bytes.now bad.piece) }
-    ensures reason { IfErr result (λ bad. bad.reason ≡ TooMany) }
+    ensures reason { IfErr result (λ bad. bad.reason ≡ TooManyWords) }
 {
     match word_too_many(bytes) {
         None => Ok(()),
@@ -136,7 +136,7 @@ fn cells(version: Version, callers: u32, blocks: u32) -> u32
 // The number of blocks that a line says.
 fn read_blocks(line: &[u8]) -> Result<u32, Bad>
     requires { is_skipped (text_words line.now) ≡ false }
-    ensures { HasReadBlocks line.now result }
+    ensures { HasReadBlocksLine line.now result }
 {
     let rest = expect(line, b"blocks".as_slice(), Reason::BlocksExpected)?;
     let (count, end) = read_number(rest, MOST_PLAN_BLOCKS)?;
@@ -162,7 +162,7 @@ impl Reading {
     fn feed_title(&mut self, version: Version, line: &[u8]) -> Result<(), Bad>
         requires stage { self.old.stage ≡ Start }
         requires kept { is_skipped (text_words line.now) ≡ false }
-        ensures { HasFed version line.now self.old self.new result }
+        ensures { HasReadImageLine version line.now self.old self.new result }
     {
         let read = version.number();
         let expected = Reason::TitleExpected { version: read };
@@ -181,7 +181,7 @@ impl Reading {
     fn feed_callers(&mut self, version: Version, line: &[u8]) -> Result<(), Bad>
         requires stage { self.old.stage ≡ Named }
         requires kept { is_skipped (text_words line.now) ≡ false }
-        ensures { HasFed version line.now self.old self.new result }
+        ensures { HasReadImageLine version line.now self.old self.new result }
     {
         let rest = expect(line, b"callers".as_slice(), Reason::CallersExpected)?;
         let (count, end) = read_number(rest, MOST_PLAN_CALLERS)?;
@@ -201,7 +201,7 @@ impl Reading {
         requires row { IsBodyRow version (row_reading_value self.old) }
         requires words { text_words line.now ≡ codes "cell" ∷ text_words rest.now }
         requires rest { EndsWith line.now rest.now }
-        ensures { HasFed version line.now self.old self.new result }
+        ensures { HasReadImageLine version line.now self.old self.new result }
     {
         let (cell, after) = read_number(rest, u32::MAX)?;
         let (place, cells) = (cell as usize, self.words.len());
@@ -229,7 +229,7 @@ impl Reading {
         requires stage { self.old.stage ≡ Body }
         requires row { IsBodyRow version (row_reading_value self.old) }
         requires kept { is_skipped (text_words line.now) ≡ false }
-        ensures { HasFed version line.now self.old self.new result }
+        ensures { HasReadImageLine version line.now self.old self.new result }
     {
         let Some((name, rest)) = word(line) else {
             unreachable!()
@@ -257,7 +257,7 @@ impl Reading {
     ) -> Result<Result<(), Bad>, AllocError>
         requires stage { self.old.stage ≡ Counted }
         requires kept { is_skipped (text_words line.now) ≡ false }
-        ensures { IfOk result (HasFed version line.now self.old self.new) }
+        ensures { IfOk result (HasReadImageLine version line.now self.old self.new) }
     {
         let count = match read_blocks(line) {
             Ok(count) => count,
@@ -281,7 +281,7 @@ impl Reading {
         line: &[u8],
     ) -> Result<Result<(), Bad>, AllocError>
         requires { IsBodyRow version (row_reading_value self.old) }
-        ensures { IfOk result (HasFed version line.now self.old self.new) }
+        ensures { IfOk result (HasReadImageLine version line.now self.old self.new) }
     {
         let Some((name, _)) = word(line) else {
             return Ok(Ok(()));
@@ -308,7 +308,7 @@ impl Reading {
         line: &[u8],
     ) -> Result<Result<(), Bad>, AllocError>
         requires { IsBodyRow version (row_reading_value self.old) }
-        ensures { IfOk result (HasFed version line.now self.old self.new) }
+        ensures { IfOk result (HasReadImageLine version line.now self.old self.new) }
     {
         if self.stage == Stage::Body {
             if let Some(rest) = after_cell(line) {

@@ -7,8 +7,8 @@ ghost use Rattle.of_plan.specs.BadLine.{HasBadLine};
 ghost use Rattle.of_image.specs.declared.version.Version.{Version as TheVersion};
 ghost use Rattle.of_image.specs.ImageText.{IsImageText};
 ghost use Rattle.of_image.specs.ImageReading.{RowReading};
-ghost use Rattle.of_image.specs.Reasons.{LinesLeadTo, IsUnended, IsTrueOfImage, IsTrueIn, IsLineFault};
-ghost use Rattle.of_image.specs.Fed.{IsBadLine};
+ghost use Rattle.of_image.specs.Reasons.{ImageLinesLeadTo, IsUnendedImage, IsTrueOfImage, IsTrueInImage, IsLineFault};
+ghost use Rattle.of_image.specs.Fed.{RefusesImageLine};
 ghost use Rattle.of_image.specs.Faults.{HasImage, IsImageFaultOf};
 ghost use Rattle.of_image.specs.Messages.{piece_message};
 
@@ -79,8 +79,8 @@ pub fn fault(alloc: Global, version: Version, text: &[u8]) -> Result<Option<Imag
 // The reason, with the line above that has the cell or a later one.
 fn with_line(text: &[u8], above: u64, reason: Reason) -> Reason
     ensures { (v : TheVersion) (p : RowReading) (before : List (List ℕ)) (piece : List ℕ)
-        → LinesLeadTo v text.now above p → IsTrueOfImage v reason p before piece
-        → IsTrueIn v result text.now above before piece }
+        → ImageLinesLeadTo v text.now above p → IsTrueOfImage v reason p before piece
+        → IsTrueInImage v result text.now above before piece }
 {
     let Reason::CellPassed { cell } = reason else {
         return reason;
@@ -96,8 +96,8 @@ pub(crate) fn in_text(version: Version, text: &[u8], number: u64, line: &[u8], b
     requires first { 1 ≤ number }
     requires line { line.now ≡ the_line (text_lines text.now) (number - 1) }
     requires bad { HasBadLine (IsImageText version) text.now number }
-    requires is { (p : RowReading) × LinesLeadTo version text.now (number - 1) p
-        × IsBadLine version p line.now bad }
+    requires is { (p : RowReading) × ImageLinesLeadTo version text.now (number - 1) p
+        × RefusesImageLine version p line.now bad }
     ensures { IsLineFault version text.now result }
 {
     let end = line.len() - bad.piece.left;
@@ -124,7 +124,7 @@ pub(crate) fn at_end(version: Version, text: &[u8], number: u64, line: &[u8]) ->
     requires first { 1 ≤ number }
     requires line { line.now ≡ the_line (text_lines text.now) (number - 1) }
     requires bad { HasBadLine (IsImageText version) text.now number }
-    requires none { IsUnended version text.now (number - 1) }
+    requires none { IsUnendedImage version text.now (number - 1) }
     ensures { IsLineFault version text.now result }
 {
     BadPiece {
