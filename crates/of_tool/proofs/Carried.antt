@@ -1,5 +1,5 @@
--- What stands beside an answer: the record of a run with the words that run callers at once, and none with any others.
-use Rattle.std.proofs.Common.{◌≡◌, inl, inr, ℕ, ◌+◌, ◌<◌, ◌≤◌, List, [], ◌∷◌, length, Option, None, Some, refl, sym, subst, ◌∙◌, arith}
+-- What a command makes with what a run has left: what it tells once it is written.
+use Rattle.std.proofs.Common.{◌≡◌, inl, inr, ℕ, ◌+◌, ◌<◌, ◌≤◌, List, [], ◌∷◌, length, Option, None, Some, refl, subst, ◌∙◌, arith}
 use Rattle.of_plan.specs.Plan.{Plan, stop_of}
 use Rattle.std.proofs.lemmas.Bool.Decides.{eqb_tells}
 use Rattle.std.proofs.lemmas.List.{get_or-replicate}
@@ -10,105 +10,19 @@ use Rattle.of_plan.specs.Allowance.{KeepsAllowance}
 use Rattle.of_plan.specs.Generated.{generated_plan}
 use Rattle.of_row.specs.declared.member.Pass.{Pass}
 use Rattle.of_tool.specs.declared.command.Command.{Command}
-use Rattle.of_tool.specs.declared.command.Command.TheVariants.{Serial, Play, Trace, Commits, Run, Load, Check, CheckLife, Part, Image, Recover, Renumber, Migrate, Continue, Help, Version}
+use Rattle.of_tool.specs.declared.command.Command.TheVariants.{Run, Load, Continue}
 use Rattle.of_tool.specs.declared.status.TheConstants.{DONE}
-use Rattle.of_tool.specs.declared.commands.Output.{Output}
-use Rattle.of_tool.specs.Commands.{command_words, IsLoad, IsPlain, AreWordsOf, IsNoCommand, AreWordsOfTeam}
+use Rattle.of_tool.specs.Commands.{IsLoad, IsPlain, AreWordsOf, AreWordsOfTeam}
 use Rattle.of_caller.specs.Allowances.{KeepsStopAsAllowance, KeepAllowances}
 use Rattle.of_tool.specs.Ran.{AllBrakesTell, IsRunReport, IsSomeRuns}
 use Rattle.of_report.specs.LoadText.{load_text}
 use Rattle.of_row.specs.Views.{View}
 use Rattle.of_tool.specs.Seen.{Change, Seen, RecordHolds, IsWritten, view_of}
-use Rattle.of_tool.specs.Statuses.{IsAnswer, To, Done}
-use Rattle.of_tool.specs.Headline.{RunsPlan, LoadsPlan, ContinuesImage, RunsOnTable, LoadsOnTable, ContinuesOnTable, LeavesTable, AllDone, IsWholeLoad}
-use Rattle.of_tool.specs.Answer.{Found, HoldsRun, HoldsLoad, HoldsLife, CarriesRun, CarriesLoad, CarriesLife, Carries}
-use Rattle.of_tool.proofs.CommandLemmas.{words_of_injective, same_command}
+use Rattle.of_tool.specs.Makes.{Makes}
+use Rattle.of_tool.specs.Headline.{RunsPlan, LoadsPlan, ContinuesImage, LeavesTable, AllDone, IsWholeLoad}
+use Rattle.of_tool.specs.Answer.{HoldsRun, HoldsLoad, HoldsLife, MakesWith, Carries}
+use Rattle.of_tool.proofs.CommandLemmas.{same_command}
 use Rattle.of_tool.proofs.LoadReports.{done_if, one_text}
-
--- ---- which words
-
-plain_is_not_run : (c : Command) → IsPlain c → c ≡ Run → ⊥
-plain_is_not_run c plain e = subst IsPlain e plain
-
-plain_is_not_continue : (c : Command) → IsPlain c → c ≡ Continue → ⊥
-plain_is_not_continue c plain e = subst IsPlain e plain
-
-plain_is_not_load : (c : Command) (n m : ℕ) → IsPlain c → c ≡ Load n m → ⊥
-plain_is_not_load c n m plain e = subst IsPlain e plain
-
-module _ {A : Type 0} (left : A → Option (Option ℕ)) (brakes : List A) (words : List (List ℕ)) (source : Change) (answer : Output) where
-  pub carries_none : (c : Command) → IsPlain c → AreWordsOf words c → Carries left brakes words source (answer, None)
-  carries_none c plain is = record {
-    run = λ h. absurd (plain_is_not_run c plain (words_of_injective c Run is.0 tt (sym is.1 ∙ h)));
-    load = λ n m h. absurd (plain_is_not_load c n m plain (words_of_injective c (Load n m) is.0 h.0 (sym is.1 ∙ h.1)));
-    continued = λ h. absurd (plain_is_not_continue c plain (words_of_injective c Continue is.0 tt (sym is.1 ∙ h)));
-    none = λ h. refl;
-  }
-
-  pub carries_nothing : IsNoCommand words → Carries left brakes words source (answer, None)
-  carries_nothing nothing = record {
-    run = λ h. absurd (nothing Run (tt, h));
-    load = λ n m h. absurd (nothing (Load n m) h);
-    continued = λ h. absurd (nothing Continue (tt, h));
-    none = λ h. refl;
-  }
-
-  -- a record with another status belongs to none of them
-  undone_run : (ran : Option (Ended × Pass)) → CarriesRun left brakes source (answer, ran) → (answer.status ≡ DONE → ⊥) → ran ≡ None
-  undone_run None h failed = refl
-  undone_run (Some r) h failed = absurd (failed h.0)
-
-  undone_life : (ran : Option (Ended × Pass)) → CarriesLife left brakes source (answer, ran) → (answer.status ≡ DONE → ⊥) → ran ≡ None
-  undone_life None h failed = refl
-  undone_life (Some r) h failed = absurd (failed h.0)
-
-  undone_load : (n m : ℕ) (ran : Option (Ended × Pass)) → CarriesLoad left brakes n m (answer, ran) → (answer.status ≡ DONE → ⊥) → ran ≡ None
-  undone_load n m None h failed = absurd h
-  undone_load n m (Some r) h failed = absurd (failed h.0)
-
-  module _ (ran : Option (Ended × Pass)) where
-    -- what an answer to this load carries
-    abbrev LoadOf : Command → Type 0
-    LoadOf (Load k l) = CarriesLoad left brakes k l (answer, ran)
-    LoadOf Serial = Unit {0}
-    LoadOf Play = Unit {0}
-    LoadOf Run = Unit {0}
-    LoadOf (Trace f c) = Unit {0}
-    LoadOf Commits = Unit {0}
-    LoadOf Check = Unit {0}
-    LoadOf CheckLife = Unit {0}
-    LoadOf (Part n) = Unit {0}
-    LoadOf Image = Unit {0}
-    LoadOf Recover = Unit {0}
-    LoadOf Renumber = Unit {0}
-    LoadOf Migrate = Unit {0}
-    LoadOf Continue = Unit {0}
-    LoadOf (Help word) = Unit {0}
-    LoadOf Version = Unit {0}
-
-    pub carries_run : words ≡ command_words Run → CarriesRun left brakes source (answer, ran) → Carries left brakes words source (answer, ran)
-    carries_run is h = record {
-      run = λ k. h;
-      load = λ n m k. absurd (let e = words_of_injective Run (Load n m) tt k.0 (sym is ∙ k.1) in cc);
-      continued = λ k. absurd (let e = words_of_injective Run Continue tt tt (sym is ∙ k) in cc);
-      none = λ k. absurd (k (record { command = Run; are = (tt, is); team = λ p. p }));
-    }
-
-    pub carries_life : words ≡ command_words Continue → CarriesLife left brakes source (answer, ran) → Carries left brakes words source (answer, ran)
-    carries_life is h = record {
-      run = λ k. absurd (let e = words_of_injective Continue Run tt tt (sym is ∙ k) in cc);
-      load = λ n m k. absurd (let e = words_of_injective Continue (Load n m) tt k.0 (sym is ∙ k.1) in cc);
-      continued = λ k. h;
-      none = λ k. absurd (k (record { command = Continue; are = (tt, is); team = λ p. p }));
-    }
-
-    pub carries_load : (n m : ℕ) → AreWordsOf words (Load n m) → CarriesLoad left brakes n m (answer, ran) → Carries left brakes words source (answer, ran)
-    carries_load n m is h = record {
-      run = λ k. absurd (let e = words_of_injective (Load n m) Run is.0 tt (sym is.1 ∙ k) in cc);
-      load = λ k l there. subst LoadOf (words_of_injective (Load n m) (Load k l) is.0 there.0 (sym is.1 ∙ there.1)) h;
-      continued = λ k. absurd (let e = words_of_injective (Load n m) Continue is.0 tt (sym is.1 ∙ k) in cc);
-      none = λ k. absurd (k (record { command = Load n m; are = is; team = λ p. p }));
-    }
 
 -- ---- what the brakes tell of a load
 
@@ -147,48 +61,50 @@ holds_load left brakes n m p r text e w is load enough run text_is =
 pub some_run : {A : Type 0} {left : A → Option (Option ℕ)} {brakes : List A} (p : Plan) (r : Report) (e : Ended) (w : View) → IsRunReport left brakes p r e w → IsSomeRuns p r
 some_run p r e w h = record { left = e; seen = w; course = h.course; history = h.promises.history; real = h.real; table = h.table }
 
-pub load_answers : {A : Type 0} (left : A → Option (Option ℕ)) (brakes : List A) (words : List (List ℕ)) (source : Change) (n m : ℕ) (found : Found) → AreWordsOf words (Load n m) → CarriesLoad left brakes n m found
-    → IsAnswer words source found.0.status found.0.text.items
-load_answers left brakes words source n m (answer, None) is h = absurd h
-load_answers left brakes words source n m (answer, Some r) is h =
-    To (Load n m) is (Done h.0 (record { report = h.1.report; run = some_run (generated_plan n m) h.1.report r.0 (view_of r.1) h.1.run; text_is = h.1.text_is }))
+-- ---- beside an answer
 
--- ---- where there is a record
+module _ {A : Type 0} (left : A → Option (Option ℕ)) (brakes : List A) (source : Change) (text : List ℕ) where
+  -- a command that runs no callers at once leaves nothing
+  pub plain_makes : (c : Command) → IsPlain c → Makes c source text → MakesWith left brakes c source text None
+  plain_makes Run plain m = absurd plain
+  plain_makes (Load n k) plain m = absurd plain
+  plain_makes Continue plain m = absurd plain
+  plain_makes c plain m = (m, refl)
 
-module _ {A : Type 0} (left : A → Option (Option ℕ)) (brakes : List A) (source : Change) (answer : Output) where
-  module _ (words : List (List ℕ)) (ran : Option (Ended × Pass)) (h : Carries left brakes words source (answer, ran)) where
-    plain_none : (c : Command) → AreWordsOf words c → IsPlain c → ran ≡ None
-    plain_none c is plain = h.none (λ team. team.team (subst IsPlain (same_command words c team.command is team.are) plain))
+  -- what is made beside a record
+  pub makes : (c : Command) (ran : Option (Ended × Pass)) → MakesWith left brakes c source text ran → Makes c source text
+  makes Run None h = absurd h
+  makes Run (Some r) h = record { plan = h.plan; read = h.read; report = h.report; run = some_run h.plan h.report r.0 (view_of r.1) h.run; text_is = h.text_is }
+  makes (Load n k) None h = absurd h
+  makes (Load n k) (Some r) h = record { report = h.report; run = some_run (generated_plan n k) h.report r.0 (view_of r.1) h.run; text_is = h.text_is }
+  makes Continue None h = absurd h
+  makes Continue (Some r) h = let life = h.writes.life in record {
+    image = h.image;
+    plan = h.plan;
+    read = h.read;
+    life = record { report = h.writes.report; left = r.0; seen = view_of r.1; course = life.course; history = life.promises.history; goes_on = life.goes_on; real = life.real; table = life.table; text_is = h.writes.text_is };
+  }
+  makes c ran h = h.0
 
-    -- a record without status 0, of a command that runs callers at once
-    undone : (c : Command) → AreWordsOf words c → (answer.status ≡ DONE → ⊥) → ran ≡ None
-    undone Run is failed = undone_run left brakes words source answer ran (h.run is.1) failed
-    undone (Load n m) is failed = undone_load left brakes words source answer n m ran (h.load n m is) failed
-    undone Continue is failed = undone_life left brakes words source answer ran (h.continued is.1) failed
-    undone Serial is failed = plain_none Serial is tt
-    undone Play is failed = plain_none Play is tt
-    undone (Trace f k) is failed = plain_none (Trace f k) is tt
-    undone Commits is failed = plain_none Commits is tt
-    undone Check is failed = plain_none Check is tt
-    undone CheckLife is failed = plain_none CheckLife is tt
-    undone (Part n) is failed = plain_none (Part n) is tt
-    undone Image is failed = plain_none Image is tt
-    undone Recover is failed = plain_none Recover is tt
-    undone Renumber is failed = plain_none Renumber is tt
-    undone Migrate is failed = plain_none Migrate is tt
-    undone (Help word) is failed = plain_none (Help word) is tt
-    undone Version is failed = plain_none Version is tt
+  module _ (words : List (List ℕ)) (ran : Option (Ended × Pass)) where
+    none_but_teams : (c : Command) → AreWordsOf words c → MakesWith left brakes c source text ran → (AreWordsOfTeam words → ⊥) → ran ≡ None
+    none_but_teams Run is h none_of = absurd (none_of (record { command = Run; are = is; team = λ p. p }))
+    none_but_teams (Load n k) is h none_of = absurd (none_of (record { command = Load n k; are = is; team = λ p. p }))
+    none_but_teams Continue is h none_of = absurd (none_of (record { command = Continue; are = is; team = λ p. p }))
+    none_but_teams c is h none_of = h.1
 
-  -- there is a record only of such a command, and only with status 0
-  failed_none : (words : List (List ℕ)) (ran : Option (Ended × Pass)) → Carries left brakes words source (answer, ran) → (answer.status ≡ DONE → ⊥) → ran ≡ None
-  failed_none words None h failed = refl
-  failed_none words (Some r) h failed = h.none (λ team. let e = undone words (Some r) h team.command team.are failed in cc)
+    pub carries : (c : Command) → AreWordsOf words c → MakesWith left brakes c source text ran → Carries left brakes words source DONE text ran
+    carries c is h = record {
+      made = λ d other done. subst (λ (k : Command). MakesWith left brakes k source text ran) (same_command words c d is other) h;
+      none = λ neither. none_but_teams c is h (λ team. neither (team, refl));
+    }
 
-  pub no_record : (words : List (List ℕ)) (ran : Option (Ended × Pass)) → Carries left brakes words source (answer, ran) → (AreWordsOfTeam words × (answer.status ≡ DONE) → ⊥) → ran ≡ None
-  no_record words ran h neither = elim (eqb_tells answer.status DONE) [
-    | inl done ↦ h.none (λ team. neither (team, done.1))
-    | inr failed ↦ failed_none words ran h failed.1
-  ]
+  pub carries_nothing : (words : List (List ℕ)) (status : ℕ) → (status ≡ DONE → ⊥) → Carries left brakes words source status text None
+  carries_nothing words status failed = record { made = λ c is done. absurd (failed done); none = λ neither. refl }
+
+record_weaker : (ran : Option (Ended × Pass)) {P Q : Ended → View → Type 0} → ((e : Ended) (w : View) → P e w → Q e w) → RecordHolds ran P → RecordHolds ran Q
+record_weaker None f h = h
+record_weaker (Some r) f h = f r.0 (view_of r.1) h
 
 -- ---- once the text is written
 
@@ -225,56 +141,19 @@ module _ {A : Type 0} (left : A → Option (Option ℕ)) (brakes : List A) (seen
     real = h.writes.life.real;
   }
 
-  module _ (answer : Output) where
-    pub load_told : (n m : ℕ) (ran : Option (Ended × Pass)) → CarriesLoad left brakes n m (answer, ran) → IsWritten seen answer.text.items
-        → RecordHolds ran (λ e w. LoadsPlan left brakes n m seen e)
-    load_told n m None h w = h
-    load_told n m (Some r) h w = loads_plan n m answer.text.items r.0 (view_of r.1) h.1 w
+  module _ (text : List ℕ) (ran : Option (Ended × Pass)) (w : IsWritten seen text) where
+    pub run_told : MakesWith left brakes Run seen.source text ran → RecordHolds ran (λ e w. RunsPlan left brakes seen e)
+    run_told h = record_weaker ran (λ e v k. runs_plan text e v k w) h
 
-    pub run_told : (ran : Option (Ended × Pass)) → CarriesRun left brakes seen.source (answer, ran) → answer.status ≡ DONE → IsWritten seen answer.text.items
-        → RecordHolds ran (λ e w. RunsPlan left brakes seen e)
-    run_told None h done w = h done
-    run_told (Some r) h done w = runs_plan answer.text.items r.0 (view_of r.1) h.1 w
+    pub load_told : (n m : ℕ) → MakesWith left brakes (Load n m) seen.source text ran → RecordHolds ran (λ e w. LoadsPlan left brakes n m seen e)
+    load_told n m h = record_weaker ran (λ e v k. loads_plan n m text e v k w) h
 
-    pub life_told : (ran : Option (Ended × Pass)) → CarriesLife left brakes seen.source (answer, ran) → answer.status ≡ DONE → IsWritten seen answer.text.items
-        → RecordHolds ran (λ e w. ContinuesImage left brakes seen e)
-    life_told None h done w = h done
-    life_told (Some r) h done w = continues_image answer.text.items r.0 (view_of r.1) h.1 w
+    pub life_told : MakesWith left brakes Continue seen.source text ran → RecordHolds ran (λ e w. ContinuesImage left brakes seen e)
+    life_told h = record_weaker ran (λ e v k. continues_image text e v k w) h
 
     -- and what the table and the pass have
-    run_table : (ran : Option (Ended × Pass)) → CarriesRun left brakes seen.source (answer, ran) → answer.status ≡ DONE → IsWritten seen answer.text.items
-        → RecordHolds ran (λ e w. RunsOnTable left brakes seen e w)
-    run_table None h done w = h done
-    run_table (Some r) h done w = record { runs = runs_plan answer.text.items r.0 (view_of r.1) h.1 w; table = h.1.run.table }
-
-    load_table : (n m : ℕ) (ran : Option (Ended × Pass)) → CarriesLoad left brakes n m (answer, ran) → IsWritten seen answer.text.items
-        → RecordHolds ran (λ e w. LoadsOnTable left brakes n m seen e w)
-    load_table n m None h w = h
-    load_table n m (Some r) h w = record { loads = loads_plan n m answer.text.items r.0 (view_of r.1) h.1 w; table = h.1.run.table }
-
-    life_table : (ran : Option (Ended × Pass)) → CarriesLife left brakes seen.source (answer, ran) → answer.status ≡ DONE → IsWritten seen answer.text.items
-        → RecordHolds ran (λ e w. ContinuesOnTable left brakes seen e w)
-    life_table None h done w = h done
-    life_table (Some r) h done w = record { continues = continues_image answer.text.items r.0 (view_of r.1) h.1 w; table = h.1.writes.life.table }
-
-    module _ (words : List (List ℕ)) (ran : Option (Ended × Pass)) (h : Carries left brakes words seen.source (answer, ran)) where
-      none_here : (c : Command) → AreWordsOf words c → IsPlain c → ran ≡ None
-      none_here = plain_none left brakes seen.source answer words ran h
-
-      pub table_told : (c : Command) → AreWordsOf words c → answer.status ≡ DONE → IsWritten seen answer.text.items → LeavesTable left brakes c seen ran
-      table_told Run is done w = run_table ran (h.run is.1) done w
-      table_told (Load n m) is done w = load_table n m ran (h.load n m is) w
-      table_told Continue is done w = life_table ran (h.continued is.1) done w
-      table_told Serial is done w = none_here Serial is tt
-      table_told Play is done w = none_here Play is tt
-      table_told (Trace f k) is done w = none_here (Trace f k) is tt
-      table_told Commits is done w = none_here Commits is tt
-      table_told Check is done w = none_here Check is tt
-      table_told CheckLife is done w = none_here CheckLife is tt
-      table_told (Part n) is done w = none_here (Part n) is tt
-      table_told Image is done w = none_here Image is tt
-      table_told Recover is done w = none_here Recover is tt
-      table_told Renumber is done w = none_here Renumber is tt
-      table_told Migrate is done w = none_here Migrate is tt
-      table_told (Help word) is done w = none_here (Help word) is tt
-      table_told Version is done w = none_here Version is tt
+    pub table_told : (c : Command) → MakesWith left brakes c seen.source text ran → LeavesTable left brakes c seen ran
+    table_told Run h = record_weaker ran (λ e v k. record { runs = runs_plan text e v k w; table = k.run.table }) h
+    table_told (Load n m) h = record_weaker ran (λ e v k. record { loads = loads_plan n m text e v k w; table = k.run.table }) h
+    table_told Continue h = record_weaker ran (λ e v k. record { continues = continues_image text e v k w; table = k.writes.life.table }) h
+    table_told c h = h.1

@@ -15,7 +15,9 @@ use Rattle.of_tool.specs.declared.command.Command.TheVariants.{Check, CheckLife,
 use Rattle.of_tool.specs.Commands.{AreWordsOf}
 use Rattle.of_tool.specs.Seen.{Change, ReadsAll}
 use Rattle.of_tool.specs.Inputs.{Input, PlanAlone, PlanAndReport, ImageAlone, ImageAndPlan, WholeLife, AnyTexts, input_of, most_of, AreLeft, IsInputOf, IsValidInput}
-use Rattle.of_tool.specs.Refusals.{Refusal, ReadFault, TooLong, BadPlan, BadImage, UnlawfulImage, DoesNotFit, Illegal, status_of, HasBadPlan, HasBadImage, HasMisfit, IsIllegal, IsRefused}
+use Rattle.of_tool.specs.declared.refusal.Refusal.{Refusal}
+use Rattle.of_tool.specs.declared.refusal.Refusal.TheVariants.{ReadFault, TooLong, BadPlan, BadImage, UnlawfulImage, DoesNotFit, Illegal}
+use Rattle.of_tool.specs.Refusals.{status_of, HasBadPlan, HasBadImage, HasMisfit, IsIllegal, IsRefused}
 use Rattle.of_tool.specs.Statuses.{IsAnswerTo, Done, Refused, IsAnswer, Ends, IsDone, FindsReportIllegal, FindsLifeIllegal, FindsMisfit, FindsLifeMisfit}
 use Rattle.of_tool.proofs.Telling.{answer_to}
 use Rattle.of_tool.proofs.Readings.{read_is, more_bytes, no_plan, no_first, no_second, cut_same, no_fewer}
@@ -123,9 +125,10 @@ refused_ends one_cut none c input source status reads valid calm Illegal h e = i
 
 ends : HasOneCut → UnlawfulHaveNone → (c : Command) (source : Change) (status : ℕ) (text : List ℕ) → IsValidInput c source.before → ¬ (HasRisen source.faults source.faults_after) → IsAnswerTo c source status text → Ends c status
 ends one_cut none c source status text valid calm (Done is makes) = IsDone is
-ends one_cut none c source status text valid calm (Refused input reads refusal) =
+ends one_cut none c source status text valid calm (Refused refusal) =
+    let r = refusal.refused in
     let P : Option Input → Type 0 = λ o. IsInputOf o source.before in
-    refused_ends one_cut none c input source status reads (subst P reads valid) calm refusal.why refusal.cause refusal.status_is
+    refused_ends one_cut none c r.input source status r.reads (subst P r.reads valid) calm refusal.why r.cause refusal.status_is
 
 -- a command with a valid input is done, or its report or its life is found illegal, or its plan not
 -- to fit

@@ -1,10 +1,9 @@
 pub mod CommandLemmas
 pub mod Readings
 pub mod Telling
+pub mod Refused
 pub mod Completeness
 pub mod OneStatus
-pub mod ImageAnswers
-pub mod Judged
 pub mod WithSchedule
 pub mod Promises
 pub mod RanReports
@@ -14,4 +13,3 @@ pub mod Carried
 pub mod PlayedImages
 pub mod Lives
 pub mod PartNumbers
-pub mod LifeAnswers

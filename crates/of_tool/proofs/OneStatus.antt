@@ -23,7 +23,9 @@ use Rattle.of_tool.specs.declared.status.TheConstants.{DONE, READ_FAULT, BAD_PLA
 use Rattle.of_tool.specs.Lives.{IsLegalLife}
 use Rattle.of_tool.specs.Seen.{Change, ReadsAll, CanRise}
 use Rattle.of_tool.specs.Inputs.{Input, PlanAlone, PlanAndReport, ImageAlone, ImageAndPlan, WholeLife, AnyTexts, input_of, most_of, ReadsPlan, ReadsBoth, ReadsLegal, ReadsOne, ReadsBehind, ReadsLife, ReadsFour, ReadsLived, ReadsLegalLife, ReadsPart}
-use Rattle.of_tool.specs.Refusals.{Refusal, ReadFault, TooLong, BadPlan, BadImage, UnlawfulImage, DoesNotFit, Illegal, status_of, ReadFails, HasBadPlan, HasBadImage, HasMisfit, IsIllegal, IsRefused, text_of}
+use Rattle.of_tool.specs.declared.refusal.Refusal.{Refusal}
+use Rattle.of_tool.specs.declared.refusal.Refusal.TheVariants.{ReadFault, TooLong, BadPlan, BadImage, UnlawfulImage, DoesNotFit, Illegal}
+use Rattle.of_tool.specs.Refusals.{status_of, ReadFails, HasBadPlan, HasBadImage, HasMisfit, IsIllegal, IsRefused, text_of}
 use Rattle.of_tool.specs.Makes.{Makes}
 use Rattle.of_tool.specs.Statuses.{IsAnswerTo, Done, Refused, IsAnswer, To, NoCommand, Told, WriteFault, OutOfMemory, OneStatus, OneError}
 use Rattle.of_tool.proofs.Telling.{answer_to}
@@ -297,15 +299,16 @@ module _ (one_cut : HasOneCut) (one_plan : (text : List ℕ) (plan other : Plan)
 
   ranked : (c : Command) (i : Input) (status : ℕ) (text : List ℕ) → input_of c ≡ Some i → IsAnswerTo c s status text → Ranked i s status
   ranked c i status text reads (Done is m) = done_rank c i status text reads is m
-  ranked c i status text reads (Refused j is refusal) =
-      let same : j ≡ i = (let e : ◌≡◌ {A = Option Input} (Some j) (Some i) = sym is ∙ reads in cc) in
+  ranked c i status text reads (Refused refusal) =
+      let r = refusal.refused in
+      let same : r.input ≡ i = (let e : ◌≡◌ {A = Option Input} (Some r.input) (Some i) = sym r.reads ∙ reads in cc) in
       let P : Input → Type 0 = λ k. IsRefused k s refusal.why in
-      refused_rank i status refusal.why (subst P same refusal.cause) refusal.status_is
+      refused_rank i status refusal.why (subst P same r.cause) refusal.status_is
 
   one_answer : (c : Command) (a b : ℕ) (x y : List ℕ) → IsAnswerTo c s a x → IsAnswerTo c s b y → a ≡ b
   one_answer c a b x y (Done is m) (Done is_too n) = is ∙ sym is_too
-  one_answer c a b x y (Done is m) (Refused i reads refusal) = one_rank i s a b (ranked c i a x reads (Done is m)) (ranked c i b y reads (Refused i reads refusal))
-  one_answer c a b x y (Refused i reads refusal) q = one_rank i s a b (ranked c i a x reads (Refused i reads refusal)) (ranked c i b y reads q)
+  one_answer c a b x y (Done is m) (Refused r) = one_rank r.refused.input s a b (ranked c r.refused.input a x r.refused.reads (Done is m)) (ranked c r.refused.input b y r.refused.reads (Refused r))
+  one_answer c a b x y (Refused r) q = one_rank r.refused.input s a b (ranked c r.refused.input a x r.refused.reads (Refused r)) (ranked c r.refused.input b y r.refused.reads q)
 
   pub one_told : (words : List (List ℕ)) (a b : ℕ) (x y : List ℕ) → IsAnswer words s a x → IsAnswer words s b y → a ≡ b
   one_told words a b x y (NoCommand none e t) (NoCommand none_too f u) = e ∙ sym f
@@ -348,36 +351,35 @@ module _ (one_cut : HasOneCut) (one_plan : (text : List ℕ) (plan other : Plan)
   no_both line cell edition text bad fault = bad.none (fault.raw, fault.spelled)
 
   module _ (one_fault : HasOneFault) where
-    error_text : (i : Input) (x y : Refusal) → IsRefused i s x → IsRefused i s y → status_of x ≡ status_of y → text_of i x ≡ text_of i y
-    error_text i ReadFault ReadFault h k e = refl
-    error_text i ReadFault y h k e = absurd (omega (arith, e))
-    error_text i TooLong TooLong h k e = refl
-    error_text i TooLong y h k e = absurd (omega (arith, e))
-    error_text i (BadPlan a) (BadPlan b) h k e = ap (λ (n : ℕ). text_of i (BadPlan n)) (plan_line i a b h k)
-    error_text i (BadPlan a) y h k e = absurd (omega (arith, e))
-    error_text i (BadImage a) (BadImage b) h k e =
-        ap (λ (n : ℕ). text_of i (BadImage n)) (image_text_same _ _ (a ≡ b) (λ edition text. one_bad_line (IsImageText edition) text a b) i h k)
-    error_text i (BadImage a) (UnlawfulImage b) h k e = absurd (image_text_same _ _ ⊥ (no_both a b) i h k)
-    error_text i (BadImage a) y h k e = absurd (omega (arith, e))
-    error_text i (UnlawfulImage a) (UnlawfulImage b) h k e =
-        ap (λ (n : ℕ). text_of i (UnlawfulImage n)) (image_text_same _ _ (a ≡ b) (λ edition text. one_fault edition text a b) i h k)
-    error_text i (UnlawfulImage a) (BadImage b) h k e = absurd (image_text_same _ _ ⊥ (no_both b a) i k h)
-    error_text i (UnlawfulImage a) y h k e = absurd (omega (arith, e))
-    error_text i DoesNotFit DoesNotFit h k e = refl
-    error_text i DoesNotFit y h k e = absurd (omega (arith, e))
-    error_text i Illegal Illegal h k e = refl
-    error_text i Illegal y h k e = absurd (omega (arith, e))
+    error_text : (c : Command) (i : Input) (x y : Refusal) → IsRefused i s x → IsRefused i s y → status_of x ≡ status_of y → text_of c x ≡ text_of c y
+    error_text c i ReadFault ReadFault h k e = refl
+    error_text c i ReadFault y h k e = absurd (omega (arith, e))
+    error_text c i TooLong TooLong h k e = refl
+    error_text c i TooLong y h k e = absurd (omega (arith, e))
+    error_text c i (BadPlan a) (BadPlan b) h k e = ap (λ (n : ℕ). text_of c (BadPlan n)) (plan_line i a b h k)
+    error_text c i (BadPlan a) y h k e = absurd (omega (arith, e))
+    error_text c i (BadImage a) (BadImage b) h k e =
+        ap (λ (n : ℕ). text_of c (BadImage n)) (image_text_same _ _ (a ≡ b) (λ edition text. one_bad_line (IsImageText edition) text a b) i h k)
+    error_text c i (BadImage a) (UnlawfulImage b) h k e = absurd (image_text_same _ _ ⊥ (no_both a b) i h k)
+    error_text c i (BadImage a) y h k e = absurd (omega (arith, e))
+    error_text c i (UnlawfulImage a) (UnlawfulImage b) h k e =
+        ap (λ (n : ℕ). text_of c (UnlawfulImage n)) (image_text_same _ _ (a ≡ b) (λ edition text. one_fault edition text a b) i h k)
+    error_text c i (UnlawfulImage a) (BadImage b) h k e = absurd (image_text_same _ _ ⊥ (no_both b a) i k h)
+    error_text c i (UnlawfulImage a) y h k e = absurd (omega (arith, e))
+    error_text c i DoesNotFit DoesNotFit h k e = refl
+    error_text c i DoesNotFit y h k e = absurd (omega (arith, e))
+    error_text c i Illegal Illegal h k e = refl
+    error_text c i Illegal y h k e = absurd (omega (arith, e))
 
     -- the status is not 0, so both refuse
     refused_text : (c : Command) (a b : ℕ) (x y : List ℕ) → IsAnswerTo c s a x → IsAnswerTo c s b y → a ≡ b → (a ≡ DONE → ⊥) → x ≡ y
     refused_text c a b x y (Done is m) q e failed = absurd (failed is)
-    refused_text c a b x y (Refused i reads r) (Done is m) e failed = absurd (failed (e ∙ is))
-    refused_text c a b x y (Refused i reads r) (Refused j also t) e failed =
-        let same : i ≡ j = (let both : ◌≡◌ {A = Option Input} (Some i) (Some j) = sym reads ∙ also in cc) in
+    refused_text c a b x y (Refused r) (Done is m) e failed = absurd (failed (e ∙ is))
+    refused_text c a b x y (Refused r) (Refused t) e failed =
+        let i = t.refused.input in
+        let same : r.refused.input ≡ i = (let both : ◌≡◌ {A = Option Input} (Some r.refused.input) (Some i) = sym r.refused.reads ∙ t.refused.reads in cc) in
         let P : Input → Type 0 = λ k. IsRefused k s r.why in
-        let Q : Input → Type 0 = λ k. text_of i r.why ≡ text_of k r.why in
-        let here : text_of i r.why ≡ text_of j r.why = subst Q same refl in
-        r.text_is ∙ here ∙ error_text j r.why t.why (subst P same r.cause) t.cause (sym r.status_is ∙ e ∙ t.status_is) ∙ sym t.text_is
+        r.text_is ∙ error_text c i r.why t.why (subst P same r.refused.cause) t.refused.cause (sym r.status_is ∙ e ∙ t.status_is) ∙ sym t.text_is
 
     pub one_said : (words : List (List ℕ)) (a b : ℕ) (x y : List ℕ) → IsAnswer words s a x → IsAnswer words s b y → (a ≡ DONE → ⊥) → x ≡ y
     one_said words a b x y (NoCommand none e t) (NoCommand none_too f u) failed = t ∙ sym u

@@ -1,14 +1,17 @@
 -- What the answer to a command tells: with status 0 what the command did, and with 8 and 9 what is
 -- wrong with its input.
-use Rattle.std.proofs.Common.{◌≡◌, ℕ, List, Option, Some, refl, sym, subst, ◌∙◌, arith}
-use Rattle.std.specs.Prelude.{codes}
+use Rattle.std.proofs.Common.{◌≡◌, ℕ, List, Option, Some, Result, Ok, Err, sym, ap, subst, ◌∙◌, arith}
 use Rattle.of_io.specs.Faults.{HasRisen, TakesMoreThan, TakesAtMost}
+use Rattle.of_io.specs.declared.source.ReadErr.{ReadErr}
+use Rattle.of_io.specs.declared.source.ReadErr.TheVariants.{Fault, TooLong as Long}
 use Rattle.of_tool.specs.declared.command.Command.{Command}
-use Rattle.of_tool.specs.declared.status.TheConstants.{DONE, READ_FAULT, TOO_LONG, ILLEGAL, DOES_NOT_FIT}
+use Rattle.of_tool.specs.declared.status.TheConstants.{DONE, ILLEGAL, DOES_NOT_FIT}
 use Rattle.of_tool.specs.Commands.{AreWordsOf}
 use Rattle.of_tool.specs.Seen.{Change, Seen, IsWritten}
 use Rattle.of_tool.specs.Inputs.{Input, input_of, most_of}
-use Rattle.of_tool.specs.Refusals.{Refusal, ReadFault, TooLong, BadPlan, BadImage, UnlawfulImage, DoesNotFit, Illegal, status_of, IsRefused, IsRefusal, IsIllegal, HasMisfit, FindsWrong}
+use Rattle.of_tool.specs.declared.refusal.Refusal.{Refusal}
+use Rattle.of_tool.specs.declared.refusal.Refusal.TheVariants.{ReadFault, TooLong, BadPlan, BadImage, UnlawfulImage, DoesNotFit, Illegal}
+use Rattle.of_tool.specs.Refusals.{status_of, ReadFails, IsRefused, IsRefusal, IsIllegal, HasMisfit, FindsWrong}
 use Rattle.of_tool.specs.Makes.{Makes, Did}
 use Rattle.of_tool.specs.Statuses.{IsAnswerTo, Done, Refused, IsAnswer, To, NoCommand}
 use Rattle.of_tool.proofs.CommandLemmas.{same_command}
@@ -28,21 +31,29 @@ not_done (UnlawfulImage cell) e = omega arith
 not_done DoesNotFit e = omega arith
 not_done Illegal e = omega arith
 
-pub refusal_undone : (input : Input) (source : Change) (status : ℕ) (text : List ℕ) → IsRefusal input source status text → status ≡ DONE → ⊥
-refusal_undone input source status text h done = not_done h.why (sym h.status_is ∙ done)
+pub refusal_undone : (c : Command) (source : Change) (status : ℕ) (text : List ℕ) → IsRefusal c source status text → status ≡ DONE → ⊥
+refusal_undone c source status text h done = not_done h.why (sym h.status_is ∙ done)
 
--- an input of at most so many bytes that could not be read
-pub fault_refused : (most : ℕ) (source : Change) (text : List ℕ) → HasRisen source.faults source.faults_after → TakesAtMost most source.before source.after → text ≡ codes "error: read fault\n" → (input : Input) → most_of input ≡ most → IsRefusal input source READ_FAULT text
-fault_refused most source text rose few text_is input is = record { why = ReadFault; cause = record { fault = rose; few = subst (λ (n : ℕ). TakesAtMost n source.before source.after) (sym is) few }; status_is = refl; text_is = text_is }
+-- a fault is not that the input is too long
+pub fault_is_not_long : {T : Type 0} (e : ReadErr) → e ≡ Fault → ◌≡◌ {A = Result T ReadErr} (Err e) (Err Long) → ⊥
+fault_is_not_long e fault long = absurd (let same : ◌≡◌ {A = ReadErr} Fault Long = sym fault ∙ ap err_of long in cc)
+  where
+    err_of : {T : Type 0} → Result T ReadErr → ReadErr
+    err_of (Ok x) = Fault
+    err_of (Err e) = e
 
--- or that is longer
-pub long_refused : (most : ℕ) (source : Change) (text : List ℕ) → TakesMoreThan most source.before source.after → text ≡ codes "error: input too long\n" → (input : Input) → most_of input ≡ most → IsRefusal input source TOO_LONG text
-long_refused most source text more text_is input is = record { why = TooLong; cause = subst (λ (n : ℕ). TakesMoreThan n source.before source.after) (sym is) more; status_is = refl; text_is = text_is }
+-- an input of at most so many bytes that could not be read, or that is longer
+pub fault_refused : (most : ℕ) (before after : Option (List ℕ)) (faults now : ℕ) → HasRisen faults now → TakesAtMost most before after → (input : Input) → most ≡ most_of input
+    → ReadFails (most_of input) (record { before = before; after = after; faults = faults; faults_after = now })
+fault_refused most before after faults now rose few input is = record { fault = rose; few = subst (λ (n : ℕ). TakesAtMost n before after) is few }
+
+pub long_refused : (most : ℕ) (before after : Option (List ℕ)) → TakesMoreThan most before after → (input : Input) → most ≡ most_of input → TakesMoreThan (most_of input) before after
+long_refused most before after more input is = subst (λ (n : ℕ). TakesMoreThan n before after) is more
 
 -- what a command that is done has made
 pub made_of : (c : Command) (source : Change) (status : ℕ) (text : List ℕ) → status ≡ DONE → IsAnswerTo c source status text → Makes c source text
 made_of c source status text done (Done is makes) = makes
-made_of c source status text done (Refused input reads refusal) = absurd (not_done refusal.why (sym refusal.status_is ∙ done))
+made_of c source status text done (Refused refusal) = absurd (not_done refusal.why (sym refusal.status_is ∙ done))
 
 -- what it did, once that is written
 pub did : (words : List (List ℕ)) (c : Command) (seen : Seen) (status : ℕ) (text : List ℕ) → AreWordsOf words c → status ≡ DONE → IsAnswer words seen.source status text → IsWritten seen text → Did c seen
@@ -69,10 +80,10 @@ misfit_of input source Illegal h e = absurd (omega arith)
 -- what statuses 8 and 9 say
 judged_to : (c : Command) (source : Change) (status : ℕ) (text : List ℕ) → IsAnswerTo c source status text → FindsWrong (input_of c) source status
 judged_to c source status text (Done is makes) input reads = ((λ e. absurd (omega (arith, is, e))), (λ e. absurd (omega (arith, is, e))))
-judged_to c source status text (Refused other is refusal) input reads =
-    let same : other ≡ input = (let e : ◌≡◌ {A = Option Input} (Some other) (Some input) = sym is ∙ reads in cc) in
+judged_to c source status text (Refused refusal) input reads =
+    let same : refusal.refused.input ≡ input = (let e : ◌≡◌ {A = Option Input} (Some refusal.refused.input) (Some input) = sym refusal.refused.reads ∙ reads in cc) in
     let P : Input → Type 0 = λ i. IsRefused i source refusal.why in
-    let cause = subst P same refusal.cause in
+    let cause = subst P same refusal.refused.cause in
     ((λ e. illegal_of input source refusal.why cause (sym refusal.status_is ∙ e)), (λ e. misfit_of input source refusal.why cause (sym refusal.status_is ∙ e)))
 
 pub judges : (words : List (List ℕ)) (c : Command) (source : Change) (status : ℕ) (text : List ℕ) → AreWordsOf words c → IsAnswer words source status text → FindsWrong (input_of c) source status

@@ -1,7 +1,8 @@
--- How an answer that is made before it is written stands for what a command does, and what the
--- record of a run is beside it.
-use Rattle.std.specs.Prelude.{◌≡◌, ℕ, List, Option, Some, None, MatchOption, ◌++◌, codes, decimal}
+-- What a command makes of its input before anything is written, and why it makes nothing.
+use Rattle.std.specs.Prelude.{◌≡◌, ◌≤◌, ℕ, List, Option, Some, None}
 use Rattle.of_plan.specs.Plan.{Plan}
+use Rattle.of_plan.specs.Grammar.{SpellsPlan, IsPlanText}
+use Rattle.of_plan.specs.BadLine.{HasBadLine}
 use Rattle.of_plan.specs.Report.{Report}
 use Rattle.of_plan.specs.Ended.{Ended}
 use Rattle.of_plan.specs.Generated.{generated_plan}
@@ -10,85 +11,91 @@ use Rattle.of_report.specs.LoadText.{load_text}
 use Rattle.of_report.specs.Image.{Image}
 use Rattle.of_row.specs.Views.{View}
 use Rattle.of_row.specs.declared.member.Pass.{Pass}
-use Rattle.of_image.specs.declared.error.ImageErr.{ImageErr}
-use Rattle.of_image.specs.declared.error.ImageErr.TheVariants.{Memory, Bad, Unlawful}
-use Rattle.of_check.specs.declared.cause.Judgement.{Judgement}
-use Rattle.of_check.specs.declared.cause.Judgement.TheVariants.{Legal, Illegal}
-use Rattle.of_tool.specs.declared.status.TheConstants.{DONE, BAD_PLAN, BAD_IMAGE, ILLEGAL, DOES_NOT_FIT}
-use Rattle.of_tool.specs.declared.legal_life.LifeCause.{LifeCause}
-use Rattle.of_tool.specs.declared.commands.Output.{Output}
-use Rattle.of_tool.specs.declared.commands.ReadInput.{ReadInput}
-use Rattle.of_tool.specs.declared.commands.ReadInput.TheVariants.{Read, Refused}
+use Rattle.of_image.specs.declared.version.Version.{Version as Edition}
+use Rattle.of_image.specs.declared.version.Version.TheVariants.{Two}
+use Rattle.of_image.specs.ImageText.{IsImageText}
+use Rattle.of_image.specs.Parsed.{ReadsImage, IsUnlawful}
+use Rattle.of_lives.specs.Images.{PlanFitsImage}
+use Rattle.of_tool.specs.declared.status.TheConstants.{DONE}
+use Rattle.of_tool.specs.declared.refusal.Refusal.{Refusal}
+use Rattle.of_tool.specs.declared.refusal.Refusal.TheVariants.{BadPlan, BadImage, UnlawfulImage, DoesNotFit}
+use Rattle.of_tool.specs.declared.refusal.Failure.{Failure}
+use Rattle.of_tool.specs.declared.refusal.Failure.TheVariants.{Memory, Refused}
+use Rattle.of_tool.specs.declared.refusal.Output.{Output}
+use Rattle.of_tool.specs.declared.commands.TheConstants.{MOST_WITH_REPORT}
 use Rattle.of_tool.specs.declared.command.Command.{Command}
 use Rattle.of_tool.specs.declared.command.Command.TheVariants.{Run, Load, Continue}
-use Rattle.of_tool.specs.Commands.{command_words, AreWordsOf, AreWordsOfTeam}
+use Rattle.of_tool.specs.Commands.{AreWordsOf, AreWordsOfTeam}
 use Rattle.of_tool.specs.Ran.{IsRunReport}
 use Rattle.of_tool.specs.Continued.{WritesLife}
-use Rattle.of_tool.specs.Seen.{Change, view_of}
-use Rattle.of_tool.specs.Inputs.{Input, most_of, ReadsPlan, ReadsLife}
-use Rattle.of_tool.specs.Refusals.{IsRefusal}
-use Rattle.of_tool.specs.Statuses.{IsAnswerTo}
+use Rattle.of_tool.specs.Seen.{Change, ReadsAll, RecordHolds}
+use Rattle.of_tool.specs.Inputs.{Input, input_of, most_of, ReadsPlan, ReadsLife}
+use Rattle.of_tool.specs.Refusals.{IsRefused, status_of, text_of}
+use Rattle.of_tool.specs.Makes.{Makes}
 use Rattle.of_tool.specs.Headline.{IsWholeLoad}
 
--- it is one of the command
-abbrev pub IsOutputFor : Command → Change → Output → Type 0
-IsOutputFor command source answer = IsAnswerTo command source answer.status answer.text.items
+-- ---- the input
 
--- what an input has meets a fact, or else the output that refuses it another one
-abbrev pub MatchInput : {T : Type 0} → ReadInput T → (T → Type 0) → (Output → Type 0) → Type 0
-MatchInput (Read x) Has Refuse = Has x
-MatchInput (Refused output) Has Refuse = Refuse output
+-- a command that reads this many bytes at most
+pub record IsMostOf (command : Command) (most : ℕ) : Type 0 where
+  pub input : Input
+  pub reads : input_of command ≡ Some input
+  pub is : most ≡ most_of input
+  pub few : most ≤ MOST_WITH_REPORT
 
--- what it has, if it isn't refused
-abbrev pub IfRead : {T : Type 0} → ReadInput T → (T → Type 0) → Type 0
-IfRead (Read x) Has = Has x
-IfRead (Refused output) Has = Unit {0}
+-- the bytes are the whole input of the command, if it reads one
+abbrev pub IsInputFor : Command → Change → List ℕ → Type 0
+IsInputFor command source bytes =
+    (input : Input) → input_of command ≡ Some input → ReadsAll (most_of input) source bytes
 
--- it refuses an input of this kind
-abbrev pub Refuses : Input → Change → Output → Type 0
-Refuses input source answer = IsRefusal input source answer.status answer.text.items
+-- ---- failures
 
--- it refuses an input of each kind that has so many bytes at most
-abbrev pub RefusesUpTo : (most : ℕ) → Change → Output → Type 0
-RefusesUpTo most source answer =
-    (input : Input) → most_of input ≡ most → Refuses input source answer
+-- memory ran out, or this holds of why the input is refused
+abbrev pub FailsBy : (Refusal → Type 0) → Failure → Type 0
+FailsBy Is Memory = Unit {0}
+FailsBy Is (Refused why reason) = Is why
 
--- it tells why a text has no image
-abbrev pub TellsRefusal : ImageErr → Output → Type 0
-TellsRefusal Memory answer = ⊥
-TellsRefusal (Bad line) answer =
-    (answer.status ≡ BAD_IMAGE)
-    × (answer.text.items ≡ codes "error: bad image, line " ++ decimal line ++ codes "\n")
-TellsRefusal (Unlawful cell) answer =
-    (answer.status ≡ BAD_IMAGE)
-    × (answer.text.items ≡ codes "error: unlawful image, cell " ++ decimal cell ++ codes "\n")
+-- the output of a command tells why it failed, which is not for want of memory
+abbrev pub TellsFailure : Command → Output → Failure → Type 0
+TellsFailure command output Memory = ⊥
+TellsFailure command output (Refused why reason) =
+    (output.status ≡ status_of why) × (output.text.items ≡ text_of command why)
 
--- it tells the bad line of a plan
-abbrev pub TellsBadPlan : (line : ℕ) → Output → Type 0
-TellsBadPlan line answer =
-    (answer.status ≡ BAD_PLAN)
-    × (answer.text.items ≡ codes "error: bad plan, line " ++ decimal line ++ codes "\n")
+-- why any input of at most this many bytes is refused
+abbrev pub RefusesUpTo : (most : ℕ) → Change → Refusal → Type 0
+RefusesUpTo most source why = (input : Input) → most ≡ most_of input → IsRefused input source why
 
--- it tells that a plan does not fit an image
-abbrev pub TellsMisfit : Output → Type 0
-TellsMisfit answer =
-    (answer.status ≡ DOES_NOT_FIT)
-    × (answer.text.items ≡ codes "error: plan does not fit image\n")
+-- why a text spells no plan
+abbrev pub HasNoPlan : List ℕ → Refusal → Type 0
+HasNoPlan text (BadPlan line) = HasBadLine IsPlanText text line
+HasNoPlan text why = ⊥
 
--- the answer of `check`
-abbrev pub TellsVerdict : Judgement → Output → Type 0
-TellsVerdict (Legal report) answer =
-    (answer.status ≡ DONE) × (answer.text.items ≡ codes "legal report\n")
-TellsVerdict (Illegal cause) answer =
-    (answer.status ≡ ILLEGAL) × (answer.text.items ≡ codes "error: not a legal report\n")
+-- why a text has no image
+abbrev pub HasNoImage : Edition → List ℕ → Refusal → Type 0
+HasNoImage edition text (BadImage line) = HasBadLine (IsImageText edition) text line
+HasNoImage edition text (UnlawfulImage cell) = IsUnlawful edition text cell
+HasNoImage edition text why = ⊥
 
--- the answer of `check-life`, where this is wrong
-abbrev pub JudgesLife : Option LifeCause → Output → Type 0
-JudgesLife None answer = (answer.status ≡ DONE) × (answer.text.items ≡ codes "legal life\n")
-JudgesLife (Some cause) answer =
-    (answer.status ≡ ILLEGAL) × (answer.text.items ≡ codes "error: not a legal life\n")
+-- the first text has this image, and the second spells this plan
+pub record AreOf (first second : List ℕ) (image : Image) (plan : Plan) : Type 0 where
+  pub reads : ReadsImage Two first image
+  pub spelled : SpellsPlan second plan
 
--- ---- the record of a run beside an answer
+-- and the plan fits the image
+pub record IsLife (first second : List ℕ) (image : Image) (plan : Plan) : Type 0 where
+  pub are : AreOf first second image plan
+  pub fits : PlanFitsImage image plan
+
+-- why two texts have no such image and plan: the second spells no plan; or it does, and the first
+-- has no image; or it has, and the plan doesn't fit it
+abbrev pub HaveNoLife : (first second : List ℕ) → Refusal → Type 0
+HaveNoLife first second (BadPlan line) = HasBadLine IsPlanText second line
+HaveNoLife first second DoesNotFit =
+    (image : Image) × (plan : Plan) × AreOf first second image plan
+    × (PlanFitsImage image plan → ⊥)
+HaveNoLife first second why = (plan : Plan) × SpellsPlan second plan × HasNoImage Two first why
+
+-- ---- what a command makes, and what a run has left
 
 -- the text is that of the report of the record, which is of the plan that was read
 pub record HoldsRun {A : Type 0} (left : A → Option (Option ℕ)) (brakes : List A) (source : Change)
@@ -116,36 +123,21 @@ pub record HoldsLife {A : Type 0} (left : A → Option (Option ℕ)) (brakes : L
   pub read : ReadsLife source image plan
   pub writes : WritesLife left brakes image plan e w text
 
--- an answer with the record and the pass that a run has left, if it has
-abbrev pub Found : Type 0
-Found = Output × Option (Ended × Pass)
+-- what a command makes of its input, and what a run has left beside it
+abbrev pub MakesWith : {A : Type 0} → (A → Option (Option ℕ)) → List A → Command → Change
+    → List ℕ → Option (Ended × Pass) → Type 0
+MakesWith left brakes Run source text ran = RecordHolds ran (HoldsRun left brakes source text)
+MakesWith left brakes (Load callers scripts) source text ran =
+    RecordHolds ran (HoldsLoad left brakes callers scripts text)
+MakesWith left brakes Continue source text ran =
+    RecordHolds ran (HoldsLife left brakes source text)
+MakesWith left brakes command source text ran = Makes command source text × (ran ≡ None)
 
--- beside an answer that is done stands a record of which this holds, and beside no other one
-abbrev pub HasBeside : (List ℕ → Ended → View → Type 0) → Found → Type 0
-HasBeside Is found =
-    MatchOption found.1 (found.0.status ≡ DONE → ⊥)
-    (λ ran. (found.0.status ≡ DONE) × Is found.0.text.items ran.0 (view_of ran.1))
-
--- so it is with an answer to `run`
-abbrev pub CarriesRun : {A : Type 0} → (A → Option (Option ℕ)) → List A → Change → Found → Type 0
-CarriesRun left brakes source found = HasBeside (HoldsRun left brakes source) found
-
--- with an answer to `continue`
-abbrev pub CarriesLife : {A : Type 0} → (A → Option (Option ℕ)) → List A → Change → Found → Type 0
-CarriesLife left brakes source found = HasBeside (HoldsLife left brakes source) found
-
--- and with one to `load`, which is done
-abbrev pub CarriesLoad : {A : Type 0} → (A → Option (Option ℕ)) → List A → (callers scripts : ℕ)
-    → Found → Type 0
-CarriesLoad left brakes callers scripts found =
-    MatchOption found.1 ⊥ (λ ran. (found.0.status ≡ DONE)
-    × HoldsLoad left brakes callers scripts found.0.text.items ran.0 (view_of ran.1))
-
--- what stands beside an answer to these words
+-- what stands beside the answer to the words: with status 0 what their command makes, and no record
+-- but with a command that runs callers at once
 pub record Carries {A : Type 0} (left : A → Option (Option ℕ)) (brakes : List A)
-    (words : List (List ℕ)) (source : Change) (found : Found) : Type 0 where
-  pub run : words ≡ command_words Run → CarriesRun left brakes source found
-  pub load : (callers scripts : ℕ) → AreWordsOf words (Load callers scripts)
-      → CarriesLoad left brakes callers scripts found
-  pub continued : words ≡ command_words Continue → CarriesLife left brakes source found
-  pub none : (AreWordsOfTeam words → ⊥) → found.1 ≡ None
+    (words : List (List ℕ)) (source : Change) (status : ℕ) (text : List ℕ)
+    (ran : Option (Ended × Pass)) : Type 0 where
+  pub made : (command : Command) → AreWordsOf words command → status ≡ DONE
+      → MakesWith left brakes command source text ran
+  pub none : (AreWordsOfTeam words × (status ≡ DONE) → ⊥) → ran ≡ None

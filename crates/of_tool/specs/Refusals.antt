@@ -8,20 +8,14 @@ use Rattle.of_image.specs.declared.version.Version.TheVariants.{Two}
 use Rattle.of_image.specs.ImageText.{IsImageText}
 use Rattle.of_image.specs.Parsed.{IsUnlawful}
 use Rattle.of_tool.specs.declared.status.TheConstants.{READ_FAULT, BAD_PLAN, TOO_LONG, BAD_IMAGE, ILLEGAL, DOES_NOT_FIT}
+use Rattle.of_tool.specs.declared.refusal.Refusal.{Refusal}
+use Rattle.of_tool.specs.declared.refusal.Refusal.TheVariants.{ReadFault, TooLong, BadPlan, BadImage, UnlawfulImage, DoesNotFit, Illegal}
+use Rattle.of_tool.specs.declared.command.Command.{Command}
+use Rattle.of_tool.specs.declared.command.Command.TheVariants.{CheckLife, Part}
 use Rattle.of_tool.specs.Seen.{Change}
-use Rattle.of_tool.specs.Inputs.{Input, PlanAlone, PlanAndReport, ImageAlone, ImageAndPlan, WholeLife, AnyTexts, most_of, ReadsNoPlan, ReadsNoFirst, ReadsIllegal, ReadsOne, ReadsBehind, ReadsNoSecond, ReadsMisfit, ReadsNoLifePlan, ReadsFirstOfFour, ReadsLifeMisfit, ReadsIllegalLife, ReadsFewer}
+use Rattle.of_tool.specs.Inputs.{Input, input_of, PlanAlone, PlanAndReport, ImageAlone, ImageAndPlan, WholeLife, AnyTexts, most_of, ReadsNoPlan, ReadsNoFirst, ReadsIllegal, ReadsOne, ReadsBehind, ReadsNoSecond, ReadsMisfit, ReadsNoLifePlan, ReadsFirstOfFour, ReadsLifeMisfit, ReadsIllegalLife, ReadsFewer}
 
--- why an input is refused
-pub data Refusal : Type 0 where
-  ReadFault : Refusal
-  TooLong : Refusal
-  BadPlan : (line : ℕ) → Refusal
-  BadImage : (line : ℕ) → Refusal
-  UnlawfulImage : (cell : ℕ) → Refusal
-  DoesNotFit : Refusal
-  Illegal : Refusal
-
--- its status
+-- the status of a refusal
 abbrev pub status_of : Refusal → ℕ
 status_of ReadFault = READ_FAULT
 status_of TooLong = TOO_LONG
@@ -31,26 +25,26 @@ status_of (UnlawfulImage cell) = BAD_IMAGE
 status_of DoesNotFit = DOES_NOT_FIT
 status_of Illegal = ILLEGAL
 
--- what is written of an input in which something is illegal: a life, or else a report
-abbrev pub illegal_text : Input → List ℕ
-illegal_text WholeLife = codes "error: not a legal life\n"
-illegal_text input = codes "error: not a legal report\n"
+-- what a command prints if the input doesn't fit: there is no such part, or else a plan doesn't fit
+abbrev pub misfit_text : Command → List ℕ
+misfit_text (Part number) = codes "error: no such part\n"
+misfit_text command = codes "error: plan does not fit image\n"
 
--- what is written of an input that doesn't fit: there is no such part, or else a plan doesn't fit
-abbrev pub misfit_text : Input → List ℕ
-misfit_text (AnyTexts number) = codes "error: no such part\n"
-misfit_text input = codes "error: plan does not fit image\n"
+-- and if something in it is illegal: a life, or else a report
+abbrev pub illegal_text : Command → List ℕ
+illegal_text CheckLife = codes "error: not a legal life\n"
+illegal_text command = codes "error: not a legal report\n"
 
--- what is written
-abbrev pub text_of : Input → Refusal → List ℕ
-text_of input ReadFault = codes "error: read fault\n"
-text_of input TooLong = codes "error: input too long\n"
-text_of input (BadPlan line) = codes "error: bad plan, line " ++ decimal line ++ codes "\n"
-text_of input (BadImage line) = codes "error: bad image, line " ++ decimal line ++ codes "\n"
-text_of input (UnlawfulImage cell) =
+-- what it prints of a refusal
+abbrev pub text_of : Command → Refusal → List ℕ
+text_of command ReadFault = codes "error: read fault\n"
+text_of command TooLong = codes "error: input too long\n"
+text_of command (BadPlan line) = codes "error: bad plan, line " ++ decimal line ++ codes "\n"
+text_of command (BadImage line) = codes "error: bad image, line " ++ decimal line ++ codes "\n"
+text_of command (UnlawfulImage cell) =
     codes "error: unlawful image, cell " ++ decimal cell ++ codes "\n"
-text_of input DoesNotFit = misfit_text input
-text_of input Illegal = illegal_text input
+text_of command DoesNotFit = misfit_text command
+text_of command Illegal = illegal_text command
 
 -- ---- the causes
 
@@ -107,12 +101,19 @@ IsRefused input source (UnlawfulImage cell) =
 IsRefused input source DoesNotFit = HasMisfit input source
 IsRefused input source Illegal = IsIllegal input source
 
--- an input of this kind was refused, with this status and this text
-pub record IsRefusal (input : Input) (source : Change) (status : ℕ) (text : List ℕ) : Type 0 where
-  pub why : Refusal
+-- why the input of a command is refused
+pub record IsRefusedFor (command : Command) (source : Change) (why : Refusal) : Type 0 where
+  pub input : Input
+  pub reads : input_of command ≡ Some input
   pub cause : IsRefused input source why
+
+-- the input of a command was refused, with this status and this text
+pub record IsRefusal (command : Command) (source : Change) (status : ℕ) (text : List ℕ)
+    : Type 0 where
+  pub why : Refusal
+  pub refused : IsRefusedFor command source why
   pub status_is : status ≡ status_of why
-  pub text_is : text ≡ text_of input why
+  pub text_is : text ≡ text_of command why
 
 -- what statuses 8 and 9 say of an input, where a command reads one
 abbrev pub FindsWrong : Option Input → Change → (status : ℕ) → Type 0

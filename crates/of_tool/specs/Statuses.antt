@@ -1,12 +1,11 @@
 -- How a call of `tool` ends: each status comes for its cause, and there is no other.
-use Rattle.std.specs.Prelude.{◌≡◌, ℕ, List, codes, Some}
+use Rattle.std.specs.Prelude.{◌≡◌, ℕ, List, codes}
 use Rattle.of_io.specs.Faults.{HasRisen, AppendsFront}
 use Rattle.of_tool.specs.declared.command.Command.{Command}
 use Rattle.of_tool.specs.declared.command.Command.TheVariants.{Check, CheckLife, Continue}
 use Rattle.of_tool.specs.declared.status.TheConstants.{DONE, OUT_OF_MEMORY, USAGE, WRITE_FAULT, ILLEGAL, DOES_NOT_FIT}
 use Rattle.of_tool.specs.Commands.{AreWordsOf, IsNoCommand}
 use Rattle.of_tool.specs.Seen.{Change, Seen, IsWritten, IsUntouched, IsFresh}
-use Rattle.of_tool.specs.Inputs.{Input, input_of}
 use Rattle.of_tool.specs.Refusals.{IsRefusal}
 use Rattle.of_tool.specs.Makes.{Makes}
 
@@ -14,8 +13,7 @@ use Rattle.of_tool.specs.Makes.{Makes}
 pub data IsAnswerTo (command : Command) (source : Change) (status : ℕ) (text : List ℕ)
     : Type 0 where
   Done : status ≡ DONE → Makes command source text → IsAnswerTo command source status text
-  Refused : (input : Input) → input_of command ≡ Some input → IsRefusal input source status text
-      → IsAnswerTo command source status text
+  Refused : IsRefusal command source status text → IsAnswerTo command source status text
 
 -- the answer to the words of a command line
 pub data IsAnswer (words : List (List ℕ)) (source : Change) (status : ℕ) (text : List ℕ)

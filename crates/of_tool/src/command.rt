@@ -1,9 +1,11 @@
 //! The commands and their words.
 
-ghost use Rattle.std.specs.Prelude.{◌≡◌, ◌∷◌, [], ℕ, IsTrue, MatchOption, codes, string_bytes};
+ghost use Rattle.std.specs.Prelude.{◌≡◌, ◌∷◌, [], ℕ, None, IsTrue, MatchOption, codes, string_bytes};
 ghost use Rattle.of_tool.specs.Commands.{word_bytes, AreWordsOf, IsNoCommand, SpellsUpTo};
 ghost use Rattle.of_tool.specs.Inputs.{input_of};
+ghost use Rattle.of_tool.specs.Answer.{IsMostOf};
 
+use crate::commands::{MOST_IMAGE, MOST_INPUT, MOST_WITH_REPORT};
 use of_plan::{MOST_PLAN_CALLERS, MOST_SCRIPTS};
 
 /// What `--help` prints.
@@ -194,6 +196,25 @@ impl Command {
             return None;
         }
         Some(Command::Part { number })
+    }
+
+    // How many bytes the command reads at most, if it reads its input.
+    pub(crate) fn most(self) -> Option<usize>
+        ensures { MatchOption result (input_of self ≡ None) (IsMostOf self) }
+    {
+        match self {
+            Command::Load { .. } => None,
+            Command::Help { .. } => None,
+            Command::Version => None,
+            Command::Recover => Some(MOST_IMAGE),
+            Command::Renumber => Some(MOST_IMAGE),
+            Command::Migrate => Some(MOST_IMAGE),
+            Command::Check => Some(MOST_WITH_REPORT),
+            Command::CheckLife => Some(MOST_WITH_REPORT),
+            Command::Part { .. } => Some(MOST_WITH_REPORT),
+            Command::Continue => Some(MOST_WITH_REPORT),
+            _ => Some(MOST_INPUT),
+        }
     }
 
     /// Whether the command reads its input.

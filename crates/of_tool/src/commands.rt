@@ -1,38 +1,36 @@
 //! The top call.
 
-ghost use Rattle.std.specs.Prelude.{◌≡◌, ◌≤◌, ⊤, ℕ, IfOk, None, vec_len};
+ghost use Rattle.std.specs.Prelude.{◌≡◌, ◌≤◌, ⊤, ℕ, IfOk, MatchResult, None, Some, vec_len};
 ghost use Rattle.of_io.specs.Faults.{HasRisen};
-ghost use Rattle.of_mem.specs.declared.work.TheConstants.{MOST_INSTRS};
-ghost use Rattle.of_report.specs.Image.{IsImage};
 ghost use Rattle.of_tool.specs.declared.command.Command.{Command};
-ghost use Rattle.of_tool.specs.declared.command.Command.TheVariants.{Serial, Play, Trace, Commits, Run, Load, Check, Continue};
+ghost use Rattle.of_tool.specs.declared.command.Command.TheVariants.{Run, Load, Check, Continue};
 ghost use Rattle.of_tool.specs.declared.status.TheConstants.{DONE};
-ghost use Rattle.of_tool.specs.Commands.{word_bytes, command_words, IsTrace, IsLoad, IsInRange, IsPlain, AreWordsOf, AreWordsOfTeam};
-ghost use Rattle.of_tool.specs.Seen.{bytes_change, seen_by, RecordHolds, ReadsAll};
+ghost use Rattle.of_tool.specs.Commands.{word_bytes, command_words, IsLoad, IsInRange, IsPlain, AreWordsOf, AreWordsOfTeam};
+ghost use Rattle.of_tool.specs.Seen.{Change, bytes_change, seen_by, RecordHolds};
 ghost use Rattle.of_tool.specs.Inputs.{PlanAlone, input_of, AskForInput, ReadsPlan, IsValidInput};
-ghost use Rattle.of_tool.specs.Refusals.{FindsWrong};
-ghost use Rattle.of_tool.specs.Makes.{Did};
+ghost use Rattle.of_tool.specs.Refusals.{IsRefusedFor, FindsWrong};
+ghost use Rattle.of_tool.specs.Makes.{Makes, Did};
 ghost use Rattle.of_tool.specs.Statuses.{IsAnswer, AnswersWords, Ends};
 ghost use Rattle.of_tool.specs.Headline.{RunsPlan, LoadsPlan, ContinuesImage, LeavesTable};
-ghost use Rattle.of_tool.specs.Answer.{MatchInput, IsOutputFor, Refuses, RefusesUpTo, TellsBadPlan, TellsMisfit, TellsVerdict, CarriesRun, CarriesLoad, Carries};
+ghost use Rattle.of_tool.specs.Answer.{FailsBy, IsInputFor, MakesWith, Carries};
 
 use crate::command::{Command, HELP, VERSION};
-use crate::continue_life::continue_answer;
-use crate::cutting::part_answer;
-use crate::images::{image_answer, migrate_answer, recover_answer, renumber_answer};
-use crate::life_check::life_answer;
-use crate::reasons::{misfit_reason, plan_reason};
+use crate::continue_life::continue_text;
+use crate::cutting::part_text;
+use crate::images::{migrated_text, play_image, recovered_text, renumbered_text};
+use crate::input::{input_for, plan_in};
+use crate::life_check::life_text;
+use crate::refusal::{Failure, Output, Refusal};
 use crate::run::run_report;
 use crate::status;
 use crate::usage::usage;
 use of_brake::Brake;
 use of_check::{Judgement, judge};
 use of_image::laws::unlawful_have_none;
-use of_io::{ReadErr, Sink, Source, read_all, write_all};
+use of_io::{Sink, Source, write_all};
 use of_plan::texts::one_cut;
-use of_plan::{Ended, Plan, PlanErr, generate, parse, parts};
+use of_plan::{Ended, Plan, generate, parts};
 use of_play::{ALL_EVENTS, commits, play_report, trace};
-use of_report::Image;
 use of_row::Pass;
 use of_serial::serial;
 use std::alloc::{AllocError, Global};
@@ -54,265 +52,159 @@ pub const MOST_IMAGE: usize = 1 << 22;
 /// that has seen it.
 pub type TeamRecord = Option<(Ended, Pass)>;
 
-/// A status, the text that is to be written with it, and why, for standard error. If there is no
-/// memory for the reason it is empty.
-#[derive(Drop)]
-pub(crate) struct Output {
-    pub(crate) status: u8,
-    pub(crate) text: Vec<u8>,
-    pub(crate) reason: Vec<u8>,
-}
-
-/// What the reading of an input gives.
-#[derive(Drop)]
-pub(crate) enum ReadInput<T> {
-    /// What the input has.
-    Read(T),
-    /// The output that says why it has none.
-    Refused(Output),
-}
-
-/// The text of a command that is done.
-pub(crate) fn done(alloc: Global, text: Vec<u8>) -> Output
-    ensures status { result.status ≡ DONE }
-    ensures text { result.text.items ≡ text.items }
+// The text that a command makes of a plan alone.
+fn of_plan(alloc: Global, command: Command, plan: &Plan) -> Result<Vec<u8>, AllocError>
+    requires plain { IsPlain command }
+    requires range { IsInRange command }
+    requires plan { input_of command ≡ Some PlanAlone }
+    ensures { (source : Change) → ReadsPlan source plan.now
+        → IfOk result (λ text. Makes command source text.items) }
 {
-    Output {
-        status: status::DONE,
-        text,
-        reason: Vec::new(alloc),
+    match command {
+        Command::Serial => serial(alloc, plan)?.print(alloc),
+        Command::Play => play_report(alloc, plan)?.print(alloc),
+        Command::Trace { first, count } => trace(alloc, plan, first, count),
+        Command::Commits => commits(alloc, plan, ALL_EVENTS),
+        Command::Image => play_image(alloc, plan),
+        _ => unreachable!(),
     }
 }
 
-/// The answer to a text that is no plan's, whose bad line this is.
-pub(crate) fn plan_refusal(alloc: Global, input: &[u8], line: u64) -> Result<Output, AllocError>
-    ensures { IfOk result (TellsBadPlan line) }
+// The text of a command that reads a plan alone and runs no callers at once.
+fn plan_text(alloc: Global, command: Command, input: &[u8]) -> Result<Vec<u8>, Failure>
+    requires plain { IsPlain command }
+    requires range { IsInRange command }
+    requires plan { input_of command ≡ Some PlanAlone }
+    ensures { (source : Change) → IsInputFor command source input.now
+        → MatchResult result (λ text. Makes command source text.items)
+        (FailsBy (IsRefusedFor command source)) }
 {
-    let text = format!(in alloc; "error: bad plan, line {line}\n")?;
-    Ok(Output {
-        status: status::BAD_PLAN,
-        text: text.into_bytes(),
-        reason: plan_reason(alloc, input).unwrap_or(Vec::new(alloc)),
-    })
+    let plan = plan_in(alloc, input)?;
+    Ok(of_plan(alloc, command, &plan)?)
 }
 
-/// The answer to a plan that does not fit an image.
-pub(crate) fn misfit_refusal(
-    alloc: Global,
-    image: &Image,
-    plan: &Plan,
-) -> Result<Output, AllocError>
-    requires { IsImage MOST_INSTRS image.now }
-    ensures { IfOk result TellsMisfit }
+// The text of `check`.
+fn check_text(alloc: Global, input: &[u8]) -> Result<Vec<u8>, Failure>
+    ensures { (source : Change) → IsInputFor Check source input.now
+        → MatchResult result (λ text. Makes Check source text.items)
+        (FailsBy (IsRefusedFor Check source)) }
 {
-    Ok(Output {
-        status: status::DOES_NOT_FIT,
-        text: Vec::from_slice(alloc, b"error: plan does not fit image\n")?,
-        reason: misfit_reason(alloc, image, plan).unwrap_or(Vec::new(alloc)),
-    })
-}
-
-/// The whole input of at most so many bytes, or the answer that says why there is none.
-pub(crate) fn read_input<S: Source>(
-    alloc: Global,
-    source: &mut S,
-    most: usize,
-) -> Result<ReadInput<Vec<u8>>, AllocError>
-    requires { most ≤ MOST_WITH_REPORT }
-    ensures { IfOk result (λ read. MatchInput read
-        (λ bytes. ReadsAll most (bytes_change S.remaining S.faults source.old source.new)
-        bytes.items)
-        (RefusesUpTo most (bytes_change S.remaining S.faults source.old source.new))) }
-{
-    match read_all(alloc, source, most) {
-        Ok(bytes) => Ok(ReadInput::Read(bytes)),
-        Err(ReadErr::Memory) => Err(AllocError),
-        Err(ReadErr::Fault) => Ok(ReadInput::Refused(Output {
-            status: status::READ_FAULT,
-            text: Vec::from_slice(alloc, b"error: read fault\n")?,
-            reason: Vec::new(alloc),
-        })),
-        Err(ReadErr::TooLong) => Ok(ReadInput::Refused(Output {
-            status: status::TOO_LONG,
-            text: Vec::from_slice(alloc, b"error: input too long\n")?,
-            reason: Vec::new(alloc),
-        })),
+    let (first, second) = parts(input);
+    let plan = plan_in(alloc, first)?;
+    match judge(alloc, &plan, second)? {
+        Judgement::Legal(_) => Ok(Vec::from_slice(alloc, b"legal report\n")?),
+        Judgement::Illegal(cause) => Err(Failure::Refused {
+            refusal: Refusal::Illegal,
+            reason: cause.print(alloc, second).ok(),
+        }),
     }
 }
 
-/// The plan that the whole input spells, or the answer that says why there is none.
-pub(crate) fn read_plan<S: Source>(
-    alloc: Global,
-    source: &mut S,
-) -> Result<ReadInput<Plan>, AllocError>
-    ensures { IfOk result (λ read. MatchInput read
-        (ReadsPlan (bytes_change S.remaining S.faults source.old source.new))
-        (Refuses PlanAlone (bytes_change S.remaining S.faults source.old source.new))) }
+// The text of a command that runs no callers at once.
+fn plain_text(alloc: Global, command: Command, input: &[u8]) -> Result<Vec<u8>, Failure>
+    requires plain { IsPlain command }
+    requires range { IsInRange command }
+    ensures plain { IsPlain command }
+    ensures made { (source : Change) → IsInputFor command source input.now
+        → MatchResult result (λ text. Makes command source text.items)
+        (FailsBy (IsRefusedFor command source)) }
 {
-    let bytes = match read_input(alloc, source, MOST_INPUT)? {
-        ReadInput::Read(bytes) => bytes,
-        ReadInput::Refused(answer) => return Ok(ReadInput::Refused(answer)),
-    };
-    match parse(alloc, &bytes) {
-        Ok(plan) => Ok(ReadInput::Read(plan)),
-        Err(PlanErr::Memory) => Err(AllocError),
-        Err(PlanErr::Bad { line }) => { Ok(ReadInput::Refused(plan_refusal(alloc, &bytes, line)?)) }
+    match command {
+        Command::Check => check_text(alloc, input),
+        Command::CheckLife => life_text(alloc, input),
+        Command::Part { number } => part_text(alloc, input, number),
+        Command::Recover => recovered_text(alloc, input),
+        Command::Renumber => renumbered_text(alloc, input),
+        Command::Migrate => migrated_text(alloc, input),
+        Command::Help { .. } => Ok(Vec::from_slice(alloc, HELP.as_bytes())?),
+        Command::Version => Ok(Vec::from_slice(alloc, VERSION.as_bytes())?),
+        _ => plan_text(alloc, command, input),
     }
 }
 
-// What `serial` answers.
-fn serial_answer<S: Source>(alloc: Global, source: &mut S) -> Result<Output, AllocError>
-    ensures { IfOk result (IsOutputFor Serial
-        (bytes_change S.remaining S.faults source.old source.new)) }
-{
-    match read_plan(alloc, source)? {
-        ReadInput::Read(plan) => Ok(done(alloc, serial(alloc, &plan)?.print(alloc)?)),
-        ReadInput::Refused(answer) => Ok(answer),
-    }
-}
-
-// What `play` answers.
-fn play_answer<S: Source>(alloc: Global, source: &mut S) -> Result<Output, AllocError>
-    ensures { IfOk result (IsOutputFor Play
-        (bytes_change S.remaining S.faults source.old source.new)) }
-{
-    match read_plan(alloc, source)? {
-        ReadInput::Read(plan) => Ok(done(alloc, play_report(alloc, &plan)?.print(alloc)?)),
-        ReadInput::Refused(answer) => Ok(answer),
-    }
-}
-
-// What `run` answers, and beside it what the run has left.
-fn run_answer<R: Threads + Sync, S: Source>(
+// The text of `run`, and what the run has left.
+fn run_text<R: Threads + Sync>(
     rt: &R,
     alloc: Global,
-    source: &mut S,
+    input: &[u8],
     brakes: Vec<Box<dyn Brake + Send>>,
-) -> Result<(Output, TeamRecord), AllocError>
+) -> Result<(Vec<u8>, TeamRecord), Failure>
     requires { vec_len brakes ≡ 16 }
-    ensures answered { IfOk result (λ found. IsOutputFor Run
-        (bytes_change S.remaining S.faults source.old source.new) found.0) }
-    ensures carries { IfOk result (CarriesRun (λ b. left b) brakes.items
-        (bytes_change S.remaining S.faults source.old source.new)) }
+    ensures { (source : Change) → IsInputFor Run source input.now
+        → MatchResult result
+        (λ made. MakesWith (λ b. left b) brakes.items Run source made.0.items made.1)
+        (FailsBy (IsRefusedFor Run source)) }
 {
-    let plan = match read_plan(alloc, source)? {
-        ReadInput::Read(plan) => plan,
-        ReadInput::Refused(answer) => return Ok((answer, None)),
-    };
+    let plan = plan_in(alloc, input)?;
     let (report, ran) = run_report(rt, alloc, &plan, brakes)?;
     let text = report.print(alloc)?;
-    Ok((done(alloc, text), Some(ran)))
+    Ok((text, Some(ran)))
 }
 
-// What `load` answers, and beside it what the run has left.
-fn load_answer<R: Threads + Sync>(
+// The text of `load`, and what the run has left.
+fn load_text<R: Threads + Sync>(
     rt: &R,
     alloc: Global,
     callers: u32,
     scripts: u32,
     brakes: Vec<Box<dyn Brake + Send>>,
-) -> Result<(Output, TeamRecord), AllocError>
+) -> Result<(Vec<u8>, TeamRecord), AllocError>
     requires load { IsLoad callers scripts }
     requires brakes { vec_len brakes ≡ 16 }
-    ensures { IfOk result (CarriesLoad (λ b. left b) brakes.items callers scripts) }
+    ensures { (source : Change) → IfOk result
+        (λ made. MakesWith (λ b. left b) brakes.items (Load callers scripts) source made.0.items
+        made.1) }
 {
     let plan = generate(alloc, callers, scripts)?;
     let (report, ran) = run_report(rt, alloc, &plan, brakes)?;
     let text = report.load_print(alloc)?;
-    Ok((done(alloc, text), Some(ran)))
+    Ok((text, Some(ran)))
 }
 
-// What `trace` answers.
-fn trace_answer<S: Source>(
+// The text of a command, and what a run has left.
+fn text_for<R: Threads + Sync>(
+    rt: &R,
     alloc: Global,
-    source: &mut S,
-    first: u32,
-    count: u32,
-) -> Result<Output, AllocError>
-    requires { IsTrace first count }
-    ensures { IfOk result (IsOutputFor (Trace first count)
-        (bytes_change S.remaining S.faults source.old source.new)) }
+    command: Command,
+    input: &[u8],
+    brakes: Vec<Box<dyn Brake + Send>>,
+) -> Result<(Vec<u8>, TeamRecord), Failure>
+    requires brakes { vec_len brakes ≡ 16 }
+    requires range { IsInRange command }
+    ensures { (source : Change) → IsInputFor command source input.now
+        → MatchResult result
+        (λ made. MakesWith (λ b. left b) brakes.items command source made.0.items made.1)
+        (FailsBy (IsRefusedFor command source)) }
 {
-    match read_plan(alloc, source)? {
-        ReadInput::Read(plan) => Ok(done(alloc, trace(alloc, &plan, first, count)?)),
-        ReadInput::Refused(answer) => Ok(answer),
-    }
-}
-
-// What `commits` answers.
-fn commits_answer<S: Source>(alloc: Global, source: &mut S) -> Result<Output, AllocError>
-    ensures { IfOk result (IsOutputFor Commits
-        (bytes_change S.remaining S.faults source.old source.new)) }
-{
-    match read_plan(alloc, source)? {
-        ReadInput::Read(plan) => Ok(done(alloc, commits(alloc, &plan, ALL_EVENTS)?)),
-        ReadInput::Refused(answer) => Ok(answer),
-    }
-}
-
-// What `check` says of a report.
-fn check_output(alloc: Global, judgement: &Judgement, report: &[u8]) -> Result<Output, AllocError>
-    ensures { IfOk result (TellsVerdict judgement.now) }
-{
-    match judgement {
-        Judgement::Legal(_) => Ok(done(alloc, Vec::from_slice(alloc, b"legal report\n")?)),
-        Judgement::Illegal(cause) => Ok(Output {
-            status: status::ILLEGAL,
-            text: Vec::from_slice(alloc, b"error: not a legal report\n")?,
-            reason: cause.print(alloc, report).unwrap_or(Vec::new(alloc)),
-        }),
-    }
-}
-
-// What `check` answers.
-fn check_answer<S: Source>(alloc: Global, source: &mut S) -> Result<Output, AllocError>
-    ensures { IfOk result (IsOutputFor Check
-        (bytes_change S.remaining S.faults source.old source.new)) }
-{
-    let bytes = match read_input(alloc, source, MOST_WITH_REPORT)? {
-        ReadInput::Read(bytes) => bytes,
-        ReadInput::Refused(answer) => return Ok(answer),
-    };
-    let (first, second) = parts(&bytes);
-    match parse(alloc, first) {
-        Ok(plan) => {
-            let judgement = judge(alloc, &plan, second)?;
-            check_output(alloc, &judgement, second)
+    match command {
+        Command::Run => run_text(rt, alloc, input, brakes),
+        Command::Continue => continue_text(rt, alloc, input, brakes),
+        Command::Load { callers, scripts } => {
+            Ok(load_text(rt, alloc, callers, scripts, brakes)?)
         }
-        Err(PlanErr::Memory) => Err(AllocError),
-        Err(PlanErr::Bad { line }) => Ok(plan_refusal(alloc, first, line)?),
+        _ => Ok((plain_text(alloc, command, input)?, None)),
     }
 }
 
-// The answer of a command that runs no callers at once.
-fn plain_answer<S: Source>(
+// What a command makes of what it reads, and what a run has left.
+fn made_by<R: Threads + Sync, S: Source>(
+    rt: &R,
     alloc: Global,
     command: Command,
     source: &mut S,
-) -> Result<Output, AllocError>
-    requires plain { IsPlain command }
+    brakes: Vec<Box<dyn Brake + Send>>,
+) -> Result<(Vec<u8>, TeamRecord), Failure>
+    requires brakes { vec_len brakes ≡ 16 }
     requires range { IsInRange command }
-    ensures plain { IsPlain command }
-    ensures answered { IfOk result (IsOutputFor command
-        (bytes_change S.remaining S.faults source.old source.new)) }
+    ensures made { MatchResult result
+        (λ made. MakesWith (λ b. left b) brakes.items command
+        (bytes_change S.remaining S.faults source.old source.new) made.0.items made.1)
+        (FailsBy (IsRefusedFor command
+        (bytes_change S.remaining S.faults source.old source.new))) }
     ensures unread { input_of command ≡ None → source.new ≡ source.old }
 {
-    match command {
-        Command::Serial => serial_answer(alloc, source),
-        Command::Play => play_answer(alloc, source),
-        Command::Trace { first, count } => trace_answer(alloc, source, first, count),
-        Command::Commits => commits_answer(alloc, source),
-        Command::Check => check_answer(alloc, source),
-        Command::CheckLife => life_answer(alloc, source),
-        Command::Part { number } => part_answer(alloc, source, number),
-        Command::Image => image_answer(alloc, source),
-        Command::Recover => recover_answer(alloc, source),
-        Command::Renumber => renumber_answer(alloc, source),
-        Command::Migrate => migrate_answer(alloc, source),
-        Command::Help { .. } => Ok(done(alloc, Vec::from_slice(alloc, HELP.as_bytes())?)),
-        Command::Version => Ok(done(alloc, Vec::from_slice(alloc, VERSION.as_bytes())?)),
-        Command::Run | Command::Continue | Command::Load { .. } => unreachable!(),
-    }
+    let input = input_for(alloc, command, source)?;
+    text_for(rt, alloc, command, &input, brakes)
 }
 
 // The status and the text, and what a run has left, before anything is written.
@@ -327,25 +219,29 @@ fn output_for<R: Threads + Sync, S: Source>(
     ensures answered { IfOk result (λ found. IsAnswer (word_bytes words.now)
         (bytes_change S.remaining S.faults source.old source.new)
         found.0.status found.0.text.items) }
-    ensures carries { IfOk result (Carries (λ b. left b) brakes.items (word_bytes words.now)
-        (bytes_change S.remaining S.faults source.old source.new)) }
+    ensures carries { IfOk result (λ found. Carries (λ b. left b) brakes.items
+        (word_bytes words.now) (bytes_change S.remaining S.faults source.old source.new)
+        found.0.status found.0.text.items found.1) }
     ensures unread { ¬ (AskForInput (word_bytes words.now)) → source.new ≡ source.old }
 {
-    match Command::from_words(words) {
-        Some(Command::Run) => run_answer(rt, alloc, source, brakes),
-        Some(Command::Continue) => continue_answer(rt, alloc, source, brakes),
-        Some(Command::Load { callers, scripts }) => load_answer(
-            rt, alloc, callers, scripts, brakes,
-        ),
-        Some(command) => Ok((plain_answer(alloc, command, source)?, None)),
-        None => Ok((
-            Output {
-                status: status::USAGE,
-                text: Vec::from_slice(alloc, b"error: usage\n")?,
-                reason: usage(alloc, words).unwrap_or(Vec::new(alloc)),
-            },
-            None,
-        )),
+    let Some(command) = Command::from_words(words) else {
+        let usage = Output {
+            status: status::USAGE,
+            text: Vec::from_slice(alloc, b"error: usage\n")?,
+            reason: usage(alloc, words).ok(),
+        };
+        return Ok((usage, None));
+    };
+    match made_by(rt, alloc, command, source, brakes) {
+        Ok((text, ran)) => {
+            let done = Output {
+                status: status::DONE,
+                text,
+                reason: None,
+            };
+            Ok((done, ran))
+        }
+        Err(failure) => Ok((failure.answer(alloc, command)?, None)),
     }
 }
 
@@ -412,7 +308,7 @@ pub fn tool_with_reason<R: Threads + Sync, S: Source, K: Sink>(
         Ok((answer, found)) => match write_all(sink, &answer.text) {
             Ok(()) => {
                 *ran = found;
-                *reason = answer.reason;
+                *reason = answer.reason.unwrap_or(Vec::new(alloc));
                 answer.status
             }
             Err(_) => status::WRITE_FAULT,

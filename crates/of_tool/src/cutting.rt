@@ -1,18 +1,18 @@
-//! Texts one after another, and what `part` answers.
+//! Texts one after another, and what `part` prints.
 
-ghost use Rattle.std.specs.Prelude.{◌≡◌, ◌≤◌, IfOk};
+ghost use Rattle.std.specs.Prelude.{◌≤◌, MatchResult};
 ghost use Rattle.of_tool.specs.declared.command.Command.TheVariants.{Part};
 ghost use Rattle.of_tool.specs.Commands.{IsPartNumber};
 ghost use Rattle.of_tool.specs.Cutting.{IsPart};
-ghost use Rattle.of_tool.specs.Seen.{bytes_change};
-ghost use Rattle.of_tool.specs.Answer.{IsOutputFor};
+ghost use Rattle.of_tool.specs.Seen.{Change};
+ghost use Rattle.of_tool.specs.Refusals.{IsRefusedFor};
+ghost use Rattle.of_tool.specs.Makes.{Makes};
+ghost use Rattle.of_tool.specs.Answer.{FailsBy, IsInputFor};
 
-use crate::commands::{MOST_WITH_REPORT, Output, ReadInput, done, read_input};
 use crate::reasons::part_reason;
-use crate::status;
-use of_io::Source;
+use crate::refusal::{Failure, Refusal};
 use of_plan::parts;
-use std::alloc::{AllocError, Global};
+use std::alloc::Global;
 
 /// The part of a text with this number: 1 for the first, up to the first line `end`; empty where
 /// the text has fewer.
@@ -27,27 +27,19 @@ pub fn part(text: &[u8], number: u32) -> &[u8]
     parts(rest).0
 }
 
-/// What `part` answers.
-pub(crate) fn part_answer<S: Source>(
-    alloc: Global,
-    source: &mut S,
-    number: u32,
-) -> Result<Output, AllocError>
+/// The text of `part`.
+pub(crate) fn part_text(alloc: Global, input: &[u8], number: u32) -> Result<Vec<u8>, Failure>
     requires { IsPartNumber number }
-    ensures { IfOk result (IsOutputFor (Part number)
-        (bytes_change S.remaining S.faults source.old source.new)) }
+    ensures { (source : Change) → IsInputFor (Part number) source input.now
+        → MatchResult result (λ text. Makes (Part number) source text.items)
+        (FailsBy (IsRefusedFor (Part number) source)) }
 {
-    let bytes = match read_input(alloc, source, MOST_WITH_REPORT)? {
-        ReadInput::Read(bytes) => bytes,
-        ReadInput::Refused(answer) => return Ok(answer),
-    };
-    let found = part(&bytes, number);
+    let found = part(input, number);
     if found.is_empty() {
-        return Ok(Output {
-            status: status::DOES_NOT_FIT,
-            text: Vec::from_slice(alloc, b"error: no such part\n")?,
-            reason: part_reason(alloc, &bytes, number).unwrap_or(Vec::new(alloc)),
+        return Err(Failure::Refused {
+            refusal: Refusal::DoesNotFit,
+            reason: part_reason(alloc, input, number).ok(),
         });
     }
-    Ok(done(alloc, Vec::from_slice(alloc, found)?))
+    Ok(Vec::from_slice(alloc, found)?)
 }

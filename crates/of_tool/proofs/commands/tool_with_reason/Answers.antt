@@ -1,32 +1,37 @@
 use Rattle.std.proofs.Common.{subst}
 use Rattle.std.specs.Io.KnownBytes.{Appends}
+use Rattle.of_tool.specs.declared.command.Command.TheVariants.{Run, Load, Continue}
 use Rattle.of_tool.proofs.Telling.{did, judges}
 use Rattle.of_tool.proofs.Completeness.{ends_where_valid}
-use Rattle.of_tool.proofs.Carried.{run_told, life_told, load_told, table_told, no_record}
+use Rattle.of_tool.proofs.Carried.{run_told, life_told, load_told, table_told}
 use Rattle.of_tool.proofs.commands.tool_with_reason.Goals as goal
 
 pub returns-in-Ok-write_all-clause-run : goal.returns-in-Ok-write_all-clause-run
 returns-in-Ok-write_all-clause-run g c = λ is done.
-    run_told _ _ _ c.in-Ok.answer _ (c.in-Ok.ensures.carries.run is) done
+    run_told _ _ _ c.in-Ok.answer.text.items _
     (record { bytes = subst (Appends _ _) c.deref.ensures.value c.in-Ok-write_all.ensures.ok; finished = c.in-Ok-write_all.ensures.finished })
+    (c.in-Ok.ensures.carries.made Run (tt, is) done)
 
 pub returns-in-Ok-write_all-clause-continued : goal.returns-in-Ok-write_all-clause-continued
 returns-in-Ok-write_all-clause-continued g c = λ is done.
-    life_told _ _ _ c.in-Ok.answer _ (c.in-Ok.ensures.carries.continued is) done
+    life_told _ _ _ c.in-Ok.answer.text.items _
     (record { bytes = subst (Appends _ _) c.deref.ensures.value c.in-Ok-write_all.ensures.ok; finished = c.in-Ok-write_all.ensures.finished })
+    (c.in-Ok.ensures.carries.made Continue (tt, is) done)
 
 pub returns-in-Ok-write_all-clause-load : goal.returns-in-Ok-write_all-clause-load
 returns-in-Ok-write_all-clause-load g c = λ callers scripts is done.
-    load_told _ _ _ c.in-Ok.answer callers scripts _ (c.in-Ok.ensures.carries.load callers scripts is)
+    load_told _ _ _ c.in-Ok.answer.text.items _
     (record { bytes = subst (Appends _ _) c.deref.ensures.value c.in-Ok-write_all.ensures.ok; finished = c.in-Ok-write_all.ensures.finished })
+    callers scripts (c.in-Ok.ensures.carries.made (Load callers scripts) is done)
 
 pub returns-in-Ok-write_all-clause-table : goal.returns-in-Ok-write_all-clause-table
 returns-in-Ok-write_all-clause-table g c = λ command is done.
-    table_told _ _ _ c.in-Ok.answer _ _ c.in-Ok.ensures.carries command is done
+    table_told _ _ _ c.in-Ok.answer.text.items _
     (record { bytes = subst (Appends _ _) c.deref.ensures.value c.in-Ok-write_all.ensures.ok; finished = c.in-Ok-write_all.ensures.finished })
+    command (c.in-Ok.ensures.carries.made command is done)
 
 pub returns-in-Ok-write_all-clause-no_record : goal.returns-in-Ok-write_all-clause-no_record
-returns-in-Ok-write_all-clause-no_record g c = no_record _ _ _ c.in-Ok.answer _ _ c.in-Ok.ensures.carries
+returns-in-Ok-write_all-clause-no_record g c = c.in-Ok.ensures.carries.none
 
 pub returns-in-Ok-write_all-clause-done : goal.returns-in-Ok-write_all-clause-done
 returns-in-Ok-write_all-clause-done g c = λ command is done.
