@@ -301,11 +301,10 @@ class ImageReader:
         if above:
             told = f"cells ascend, and line {above[0]} has this one or a later one"
             line.refuse(told, back=1)
-        is_empty = line.number(WORD) == line.number(WORD) == 0
+        seq = line.number(WORD)
+        if seq == line.number(WORD) == 0:
+            line.refuse("a cell of sequence 0 and payload 0 has no line", back=1)
         line.end()
-        if is_empty:
-            (start, _), (_, end) = line.pieces[-2:]
-            raise Wrong(start, end, "a cell of sequence 0 and payload 0 has no line")
         self.cells.append((self.number, cell))
 
     def in_end(self, line):

@@ -19,7 +19,7 @@ use Rattle.of_mem.proofs.Lists.{part_at, part_long}
 use Rattle.of_script.specs.declared.instr.TheConstants.{MOST_INSTRS}
 use Rattle.of_plan.specs.declared.plan.TheConstants.{MOST_PLAN_CALLERS, MOST_PLAN_BLOCKS}
 use Rattle.of_image.specs.declared.error.ImageErr.{ImageErr}
-use Rattle.of_image.specs.declared.error.ImageErr.TheVariants.{Memory, Bad, Unlawful}
+use Rattle.of_image.specs.declared.error.ImageErr.TheVariants.{Memory}
 use Rattle.of_image.specs.declared.version.Version.{Version}
 use Rattle.of_report.specs.ImageRow.{DurableRow, IsRow, IsRowWithin, IsTableRow, row_cell_count, row_in}
 use Rattle.of_image.specs.Version.{instrs_of}
@@ -28,9 +28,11 @@ use Rattle.of_image.specs.ImageText.{SpellsImage}
 use Rattle.of_report.specs.ImageLaw.{IsLawfulRow}
 use Rattle.of_image.specs.RowFault.{IsRowFault}
 use Rattle.of_report.specs.Image.{Image, IsImage, IsImageWithin, IsRestored}
-use Rattle.of_image.specs.declared.law.RowErr.{RowErr}
-use Rattle.of_image.specs.declared.law.RowErr.TheVariants.{Memory as NoMemory, Unlawful as UnlawfulRow}
-use Rattle.of_image.specs.Parsed.{ReadsImage, ImageIsRefused, IsUnlawful, NamesRowFault, image_err}
+use Rattle.of_image.specs.declared.refusal.ImageFault.TheVariants.{Line, Cell}
+use Rattle.of_image.specs.declared.refusal.Refusal.{Refusal}
+use Rattle.of_image.specs.declared.refusal.Refusal.TheVariants.{Memory as NoMemory, Fault}
+use Rattle.of_image.specs.Faults.{HasImageFault, HasLineFault}
+use Rattle.of_image.specs.Parsed.{ReadsImage, ImageIsRefused, IsNoImage, IsUnlawful, NamesRowFault, refusal_err}
 use Rattle.of_report.specs.ImageRow.{recovered_row}
 use Rattle.of_image.proofs.ImageTexts.{one_row}
 use Rattle.of_image.proofs.RowLaw.{fault_excludes, one_lawful, one_row_fault}
@@ -127,15 +129,35 @@ one_unlawful v text c d h k =
     one_row_fault (instrs_of v) (recovered_row (instrs_of v) k.raw) c d (subst (λ (q : DurableRow). IsRowFault (instrs_of v) (recovered_row (instrs_of v) q) c) same h.fault) k.fault
 
 -- a text with an image is answered by it
-pub only_image : (v : Version) (text : List ℕ) (r : Result Image ImageErr) → IfOk r (λ i. ReadsImage v text i) → IfErr r (ImageIsRefused v text) → (image : Image) → ReadsImage v text image → MatchResult r (λ i. i ≡ image) (λ e. e ≡ Memory)
+pub only_image : (v : Version) (text : List ℕ) (r : Result Image Refusal) → IfOk r (λ i. ReadsImage v text i) → IfErr r (HasImageFault v text) → (image : Image) → ReadsImage v text image → MatchResult r (λ i. i ≡ image) (λ e. e ≡ NoMemory)
 only_image v text (Ok i) ok err image h = one_image v text i image ok h
-only_image v text (Err Memory) ok err image h = refl
-only_image v text (Err (Bad line)) ok err image h = absurd (err.none (h.raw, h.spelled))
-only_image v text (Err (Unlawful cell)) ok err image h = absurd (unlawful_excludes v text cell image err h)
+only_image v text (Err NoMemory) ok err image h = refl
+only_image v text (Err (Fault (Line piece))) ok err image h = absurd (err.bad.none (h.raw, h.spelled))
+only_image v text (Err (Fault (Cell cell law))) ok err image h = absurd (unlawful_excludes v text cell image (record { raw = err.raw; spelled = err.spelled; fault = record { law = law; breaks = err.breaks } }) h)
+
+-- a fault by the line or the cell that it names
+pub image_refused : (v : Version) (text : List ℕ) (e : Refusal) → HasImageFault v text e → ImageIsRefused v text (refusal_err e)
+image_refused v text NoMemory h = tt
+image_refused v text (Fault (Line piece)) h = h.bad
+image_refused v text (Fault (Cell cell law)) h = record { raw = h.raw; spelled = h.spelled; fault = record { law = law; breaks = h.breaks } }
+
+pub no_image : (v : Version) (text : List ℕ) (e : Refusal) → HasLineFault v text e → IsNoImage v text (refusal_err e)
+no_image v text NoMemory h = tt
+no_image v text (Fault (Line piece)) h = h.bad
+no_image v text (Fault (Cell cell law)) h = absurd h
 
 -- the same where the row's data cells stand as a plot says
-pub plot_faulty : (v : Version) (p : Plot) (r : DurableRow) → p.instrs ≡ instrs_of v → row_in p r.words ≡ r → (e : RowErr) → NamesRowFault p.instrs (recovered_row p.instrs (row_in p r.words)) e → NamesRowFault (instrs_of v) (recovered_row (instrs_of v) r) e
+plot_faulty : (v : Version) (p : Plot) (r : DurableRow) → p.instrs ≡ instrs_of v → row_in p r.words ≡ r → (e : Refusal) → NamesRowFault p.instrs (recovered_row p.instrs (row_in p r.words)) e → NamesRowFault (instrs_of v) (recovered_row (instrs_of v) r) e
 plot_faulty v p r instrs is e h = subst (λ (n : ℕ). NamesRowFault n (recovered_row n r) e) instrs (subst (λ (q : DurableRow). NamesRowFault p.instrs (recovered_row p.instrs q) e) is h)
+
+-- so the cell that is named is at fault in the text
+pub plot_faults : (v : Version) (text : List ℕ) (p : Plot) (r : DurableRow) (e : Refusal) → p.instrs ≡ instrs_of v → row_in p r.words ≡ r → SpellsImage v text r → NamesRowFault p.instrs (recovered_row p.instrs (row_in p r.words)) e → HasImageFault v text e
+plot_faults v text p r e instrs is s h = go e (plot_faulty v p r instrs is e h)
+  where
+    go : (e : Refusal) → NamesRowFault (instrs_of v) (recovered_row (instrs_of v) r) e → HasImageFault v text e
+    go NoMemory k = tt
+    go (Fault (Line piece)) k = absurd k
+    go (Fault (Cell cell law)) k = record { raw = r; spelled = s; breaks = k }
 
 -- what recovery finds in it is the text's image
 pub plot_read : (v : Version) (text : List ℕ) (p : Plot) (r : DurableRow) (i : Image) → p.instrs ≡ instrs_of v → row_in p r.words ≡ r → SpellsImage v text r → IsRestored p.instrs (row_in p r.words) i → ReadsImage v text i
@@ -164,10 +186,11 @@ module _ (p : Plot) (instrs : p.instrs ≡ MOST_INSTRS) (words copy : List ℕ) 
   only_restored i j h k = one_restored MOST_INSTRS (row_in p words) i j (words_restored i h) k
 
   -- words with a cell at fault have no image
-  pub none_restored : (e : RowErr) → NamesRowFault p.instrs (recovered_row p.instrs (row_in p copy)) e → (j : Image) → IsRestored MOST_INSTRS (row_in p words) j → image_err e ≡ Memory
+  pub none_restored : (e : Refusal) → NamesRowFault p.instrs (recovered_row p.instrs (row_in p copy)) e → (j : Image) → IsRestored MOST_INSTRS (row_in p words) j → refusal_err e ≡ Memory
   none_restored NoMemory h j k = refl
-  none_restored (UnlawfulRow cell law) h j k =
-      let there = subst (λ (n : ℕ). NamesRowFault n (recovered_row n (row_in p words)) (UnlawfulRow cell law)) instrs (subst (λ (ws : List ℕ). NamesRowFault p.instrs (recovered_row p.instrs (row_in p ws)) (UnlawfulRow cell law)) same h) in
+  none_restored (Fault (Line piece)) h j k = absurd h
+  none_restored (Fault (Cell cell law)) h j k =
+      let there = subst (λ (n : ℕ). NamesRowFault n (recovered_row n (row_in p words)) (Fault (Cell cell law))) instrs (subst (λ (ws : List ℕ). NamesRowFault p.instrs (recovered_row p.instrs (row_in p ws)) (Fault (Cell cell law))) same h) in
       absurd (fault_excludes MOST_INSTRS (recovered_row MOST_INSTRS (row_in p words)) j.store cell (subst (λ (q : DurableRow). IsLawfulRow MOST_INSTRS q j.store) k.row k.lawful) (record { law = law; breaks = there }))
 
 -- an error that says so

@@ -9,4 +9,5 @@ pub mod RenumberedImages
 pub mod Shifted
 pub mod MovedRows
 pub mod RunImages
-pub mod FirstWords
+pub mod Feeding
+pub mod Faults

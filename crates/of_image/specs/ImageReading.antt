@@ -1,24 +1,18 @@
--- How the code reads an image: a line from its words, and what a line leads to.
-use Rattle.std.specs.Prelude.{◌≡◌, ℕ, ◌+◌, Bool, true, ◌==◌, nat_lt, nat_le, List, [], ◌∷◌, length, replicate, slice_set, if◌then◌else◌, codes, Option, Some, None, ◌≤◌}
-use Rattle.std.specs.Bool.{MatchBool}
-use Rattle.std.specs.Str.{bytes_eq}
+-- How the code reads an image: the lines, and what each leads to.
+use Rattle.std.specs.Prelude.{ℕ, ◌+◌, ◌≤◌, ◌==◌, nat_lt, nat_le, List, [], length, replicate, slice_set, if◌then◌else◌, Option, Some, None}
 use Rattle.of_cell.specs.Words.{pack}
 use Rattle.of_cell.specs.Cells.{durable_cells}
 use Rattle.of_plan.specs.declared.plan.TheConstants.{MOST_PLAN_CALLERS, MOST_PLAN_BLOCKS}
-use Rattle.of_script.specs.Reading.{◌>>=◌, next_number, at_end_of_words}
 use Rattle.of_image.specs.declared.version.Version.{Version}
 use Rattle.of_image.specs.declared.line.ImageLine.{ImageLine}
 use Rattle.of_image.specs.declared.line.ImageLine.TheVariants.{Title, Callers, Blocks, Cell, End}
-use Rattle.of_image.specs.declared.line.ReadLine.{ReadLine}
-use Rattle.of_image.specs.declared.line.ReadLine.TheVariants.{Skipped, Line, Bad}
 use Rattle.of_image.specs.declared.reading.Stage.{Stage}
 use Rattle.of_image.specs.declared.reading.Stage.TheVariants.{Start, Named, Counted, Body, Ended}
 use Rattle.of_image.specs.declared.reading.Reading.{Reading as RustReading}
 use Rattle.of_report.specs.ImageRow.{DurableRow, data_cell_count_for}
 use Rattle.of_image.specs.Version.{version_number, instrs_of}
 use Rattle.of_image.specs.ImageText.{image_line_words}
-use Rattle.of_plan.specs.Lines.{is_skipped}
-use Rattle.of_plan.specs.Reader.{Language, Reader, SpellsLine, SpellsNoLine, ReadsLine, RefusesLine}
+use Rattle.of_plan.specs.Reader.{Language, Reader}
 
 -- ---- a line
 
@@ -30,34 +24,6 @@ IsImageLineInRange (Blocks n) = n ≤ MOST_PLAN_BLOCKS
 IsImageLineInRange (Cell c s p) = (c ≤ 4294967295) × (s ≤ 4294967295) × (p ≤ 4294967295)
 IsImageLineInRange End = Unit {0}
 
--- a line with one number
-abbrev pub line_with_count : (ℕ → ImageLine) → (most : ℕ) → List (List ℕ) → Option ImageLine
-line_with_count f most ws = do
-  n ← next_number most ws
-  at_end_of_words (f n.0) n.1
-
-abbrev pub image_title_line : List (List ℕ) → Option ImageLine
-image_title_line [] = None
-image_title_line (kind ∷ ws) =
-    if bytes_eq kind (codes "image") then line_with_count Title 4294967295 ws else None
-
-abbrev pub cell_line_of : List (List ℕ) → Option ImageLine
-cell_line_of ws = do
-  c ← next_number 4294967295 ws
-  s ← next_number 4294967295 c.1
-  p ← next_number 4294967295 s.1
-  at_end_of_words (Cell c.0 s.0 p.0) p.1
-
--- the line whose first word is the name
-unfoldable pub line_named : (name : List ℕ) → List (List ℕ) → Option ImageLine
-line_named name ws =
-    if bytes_eq name (codes "onefile") then image_title_line ws
-    else if bytes_eq name (codes "callers") then line_with_count Callers MOST_PLAN_CALLERS ws
-    else if bytes_eq name (codes "blocks") then line_with_count Blocks MOST_PLAN_BLOCKS ws
-    else if bytes_eq name (codes "cell") then cell_line_of ws
-    else if bytes_eq name (codes "end") then at_end_of_words End ws
-    else None
-
 -- images, as they are read
 abbrev pub image_language : Language
 image_language = record {
@@ -65,12 +31,6 @@ image_language = record {
   words_of = image_line_words;
   InRange = IsImageLineInRange;
 }
-
--- a line with these words is skipped, or is this line of an image, or is none
-abbrev pub IsReadAs : List (List ℕ) → ReadLine → Type 0
-IsReadAs ws Skipped = is_skipped ws ≡ true
-IsReadAs ws (Line l) = SpellsLine image_language ws l
-IsReadAs ws Bad = SpellsNoLine image_language ws
 
 -- ---- what a line leads to
 
@@ -122,15 +82,3 @@ after_line_at v _ p l = None
 
 abbrev pub image_reader : Version → Reader image_language
 image_reader v = record { Progress = RowReading; next = λ p l. after_line_at v p.stage p l }
-
--- what was answered is true and there is a reading that comes next, which is this one; or it is
--- false and there is none
-abbrev pub AnswersNext : Option RowReading → (taken : Bool) → RowReading → Type 0
-AnswersNext next taken after = MatchBool taken (next ≡ Some after) (next ≡ None)
-
--- a line with these words was taken, and led to this reading; or it may not come next
-abbrev pub TakesImageLine : Version → List (List ℕ) → (taken : Bool) → (before after : RowReading)
-    → Type 0
-TakesImageLine v ws taken before after =
-    MatchBool taken (ReadsLine image_language (image_reader v) ws before after)
-    (RefusesLine image_language (image_reader v) ws before)

@@ -5,7 +5,7 @@ pub mod RowFault
 pub mod Parsed
 pub mod ReasonText
 pub mod Reasons
-pub mod Heading
+pub mod Fed
 pub mod Faults
 pub mod ImageReading
 pub mod RecoveredText
@@ -13,4 +13,3 @@ pub mod RenumberedImage
 pub mod MovedRow
 pub mod RunImage
 pub mod PrintedAgain
-pub mod Flawed

@@ -9,8 +9,9 @@ use Rattle.of_image.specs.declared.error.ImageErr.TheVariants.{Memory, Bad, Unla
 use Rattle.of_image.specs.declared.version.Version.{Version}
 use Rattle.of_image.specs.Version.{instrs_of}
 use Rattle.of_image.specs.ImageText.{SpellsImage, IsImageText}
-use Rattle.of_image.specs.declared.law.RowErr.{RowErr}
-use Rattle.of_image.specs.declared.law.RowErr.TheVariants.{Memory as NoMemory, Unlawful as UnlawfulRow}
+use Rattle.of_image.specs.declared.refusal.ImageFault.TheVariants.{Line, Cell}
+use Rattle.of_image.specs.declared.refusal.Refusal.{Refusal}
+use Rattle.of_image.specs.declared.refusal.Refusal.TheVariants.{Memory as NoMemory, Fault}
 use Rattle.of_image.specs.RowFault.{Breaks, IsRowFault}
 
 -- the text is in the grammar, and what recovery finds in its row is the image
@@ -25,7 +26,7 @@ pub record IsUnlawful (v : Version) (text : List ℕ) (cell : ℕ) : Type 0 wher
   pub spelled : SpellsImage v text raw
   pub fault : IsRowFault (instrs_of v) (recovered_row (instrs_of v) raw) cell
 
--- why a text is refused; want of memory says nothing
+-- why a text is refused; after a lack of memory nothing is said
 abbrev pub ImageIsRefused : Version → List ℕ → ImageErr → Type 0
 ImageIsRefused v text Memory = Unit {0}
 ImageIsRefused v text (Bad line) = HasBadLine (IsImageText v) text line
@@ -37,21 +38,23 @@ IsNoImage v text Memory = Unit {0}
 IsNoImage v text (Bad line) = HasBadLine (IsImageText v) text line
 IsNoImage v text (Unlawful cell) = ⊥
 
--- why durable words have no image; want of memory says nothing
+-- why durable words have no image; after a lack of memory nothing is said
 abbrev pub WordsAreRefused : DurableRow → ImageErr → Type 0
 WordsAreRefused r Memory = Unit {0}
 WordsAreRefused r (Bad line) = ⊥
 WordsAreRefused r (Unlawful cell) = IsRowFault MOST_INSTRS (recovered_row MOST_INSTRS r) cell
 
--- why no store is found in a row
-abbrev pub NamesRowFault : (instrs : ℕ) → DurableRow → RowErr → Type 0
+-- why no store is found in a row; after a lack of memory nothing is said
+abbrev pub NamesRowFault : (instrs : ℕ) → DurableRow → Refusal → Type 0
 NamesRowFault instrs r NoMemory = Unit {0}
-NamesRowFault instrs r (UnlawfulRow cell law) = Breaks law instrs r cell
+NamesRowFault instrs r (Fault (Line piece)) = ⊥
+NamesRowFault instrs r (Fault (Cell cell law)) = Breaks law instrs r cell
 
--- the same as it is answered of a text
-abbrev pub image_err : RowErr → ImageErr
-image_err NoMemory = Memory
-image_err (UnlawfulRow cell law) = Unlawful cell
+-- the same as an error that names a line or a cell
+abbrev pub refusal_err : Refusal → ImageErr
+refusal_err NoMemory = Memory
+refusal_err (Fault (Line piece)) = Bad piece.line
+refusal_err (Fault (Cell cell law)) = Unlawful cell
 
 -- an unlawful text has no image
 abbrev pub UnlawfulHaveNone : Type 0

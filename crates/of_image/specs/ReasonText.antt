@@ -2,7 +2,7 @@
 use Rattle.std.specs.Prelude.{ℕ, List, ◌++◌, codes, decimal}
 use Rattle.of_plan.specs.FlawText.{flaw_text}
 use Rattle.of_image.specs.declared.reason.Reason.{Reason}
-use Rattle.of_image.specs.declared.reason.Reason.TheVariants.{Flawed, TitleExpected, OtherVersion, CallersExpected, BlocksExpected, AfterEnd, UnknownLine, NoCell, OutOfOrder, EmptyCell, HeadingOver, EndMissing, NotHere}
+use Rattle.of_image.specs.declared.reason.Reason.TheVariants.{Flawed, TitleExpected, OtherVersion, CallersExpected, BlocksExpected, AfterEnd, UnknownLine, NoCell, CellPassed, OutOfOrder, EmptyCell, HeadingOver, EndMissing}
 
 -- what is printed of a reason
 abbrev pub image_reason_text : Reason → List ℕ
@@ -19,9 +19,10 @@ image_reason_text AfterEnd = codes "a line after `end`"
 image_reason_text UnknownLine = codes "no line of an image begins with this word"
 image_reason_text (NoCell cell cells) =
     codes "this image has " ++ (decimal cells ++ codes " cells, from cell 0 on")
+image_reason_text (CellPassed cell) =
+    codes "cells ascend, and a line above has this one or a later one"
 image_reason_text (OutOfOrder line) =
     codes "cells ascend, and line " ++ (decimal line ++ codes " has this one or a later one")
 image_reason_text EmptyCell = codes "a cell of sequence 0 and payload 0 has no line"
 image_reason_text HeadingOver = codes "this line comes once, in the heading of an image"
 image_reason_text EndMissing = codes "the text ends before `end`"
-image_reason_text NotHere = codes "no image goes on with this line"

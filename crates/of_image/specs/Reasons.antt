@@ -1,51 +1,55 @@
--- When a reason is true of a line of an image's text.
-use Rattle.std.specs.Prelude.{◌≡◌, ◌⊎◌, ℕ, ◌+◌, ◌≤◌, false, List, [], ◌∷◌, length, slice_range, codes}
+-- When a reason is true of a piece of a line, and what a fault of an image's text is.
+use Rattle.std.specs.Prelude.{◌≡◌, ◌⊎◌, ℕ, ◌+◌, ◌-◌, ◌≤◌, ◌<◌, false, Some, List, [], ◌∷◌, length, take, drop, map, slice_range, codes, decimal}
 use Rattle.of_cell.specs.Cells.{durable_cells}
 use Rattle.of_script.specs.Text.{text_words}
-use Rattle.of_plan.specs.declared.above.Wanted.TheVariants.{Kept, Callers, Blocks, End, Cell}
-use Rattle.of_plan.specs.Above.{Says, NoneSays}
-use Rattle.of_plan.specs.declared.above.Wanted.{Wanted}
-use Rattle.of_plan.specs.Lines.{is_skipped}
-use Rattle.of_plan.specs.Pieces.{first_word}
-use Rattle.of_plan.specs.Flaws.{PieceIsNumber}
-use Rattle.of_image.specs.Flawed.{HasFlawAt}
 use Rattle.of_report.specs.ImageRow.{data_cell_count_for}
-use Rattle.of_image.specs.declared.explaining.Finding.{Finding}
+use Rattle.of_plan.specs.declared.above.Wanted.TheVariants.{Cell}
+use Rattle.of_plan.specs.declared.flaw.Flaw.{Flaw}
+use Rattle.of_plan.specs.declared.flaw.Flaw.TheVariants.{NumberMissing, NoNumber, TooGreat, Zero, WordTooMany}
+use Rattle.of_plan.specs.declared.plan.TheConstants.{MOST_PLAN_CALLERS, MOST_PLAN_BLOCKS}
+use Rattle.of_plan.specs.Above.{Says, line_at}
+use Rattle.of_plan.specs.BadLine.{HasBadLine}
+use Rattle.of_plan.specs.Flaws.{PieceIsNumber, HasFlaw, IsHiddenByte}
+use Rattle.of_plan.specs.Lines.{text_lines, unskipped_words, is_skipped}
+use Rattle.of_plan.specs.Pieces.{IsWholePiece}
+use Rattle.of_plan.specs.Reader.{after_lines}
+use Rattle.of_image.specs.declared.line.ImageLine.{ImageLine}
+use Rattle.of_image.specs.declared.reading.Stage.TheVariants.{Start, Named, Counted, Body, Ended}
 use Rattle.of_image.specs.declared.reason.Reason.{Reason}
-use Rattle.of_image.specs.declared.reason.Reason.TheVariants.{Flawed, TitleExpected, OtherVersion, CallersExpected, BlocksExpected, AfterEnd, UnknownLine, NoCell, OutOfOrder, EmptyCell, HeadingOver, EndMissing, NotHere}
+use Rattle.of_image.specs.declared.reason.Reason.TheVariants.{Flawed, TitleExpected, OtherVersion, CallersExpected, BlocksExpected, AfterEnd, UnknownLine, NoCell, CellPassed, OutOfOrder, EmptyCell, HeadingOver, EndMissing}
+use Rattle.of_image.specs.declared.refusal.BadPiece.{BadPiece}
 use Rattle.of_image.specs.declared.version.Version.{Version}
-use Rattle.of_image.specs.declared.line.ImageLine.TheVariants.{Cell as CellLine}
-use Rattle.of_image.specs.ImageText.{image_line_words}
+use Rattle.of_image.specs.ImageText.{IsImageText, image_line_words}
+use Rattle.of_image.specs.ImageReading.{RowReading, no_row_read, IsImageLineInRange, image_language, image_reader}
 use Rattle.of_image.specs.Version.{version_number, instrs_of}
 
--- a line above says it
-abbrev pub SaidAbove : List (List ℕ) → ℕ → Wanted → ℕ → Type 0
-SaidAbove ls above wanted number = (at : ℕ) × Says ls above wanted at number
+-- ---- what comes next after the words of a line
 
--- the text is at its end, and none of its lines is an end line
-pub record HasNoEnd (ls : List (List ℕ)) (above : ℕ) : Type 0 where
-  pub last : length ls ≡ above + 1
-  pub none : NoneSays ls (above + 1) End
+-- a number up to the most: the version, a count of the heading, or one of a cell's three numbers
+abbrev pub WantsImageNumber : (before : List (List ℕ)) (most : ℕ) → Type 0
+WantsImageNumber before most =
+    ((before ≡ codes "onefile" ∷ codes "image" ∷ []) × (most ≡ 4294967295))
+    ⊎ (((before ≡ codes "callers" ∷ []) × (most ≡ MOST_PLAN_CALLERS))
+    ⊎ (((before ≡ codes "blocks" ∷ []) × (most ≡ MOST_PLAN_BLOCKS))
+    ⊎ ((numbers : List ℕ) × (length numbers ≤ 2)
+    × (before ≡ codes "cell" ∷ map decimal numbers) × (most ≡ 4294967295))))
 
--- the piece is the first word of a line that isn't skipped
-pub record IsFirstWord (line piece : List ℕ) : Type 0 where
-  pub word : piece ≡ first_word (text_words line)
-  pub kept : is_skipped (text_words line) ≡ false
+-- nothing: the words before are a whole line
+pub record IsWholeLine (before : List (List ℕ)) : Type 0 where
+  pub line : ImageLine
+  pub range : IsImageLineInRange line
+  pub words : before ≡ image_line_words line
 
--- no line above is kept, and this one does not begin with the two words of a title
-pub record IsNoTitle (v : Version) (ls : List (List ℕ)) (above : ℕ) (line : List ℕ) (version : ℕ)
-    : Type 0 where
-  pub first : NoneSays ls above Kept
-  pub read : version ≡ version_number v
-  pub other : (ws : List (List ℕ)) → text_words line ≡ codes "onefile" ∷ codes "image" ∷ ws → ⊥
+-- what comes next there is what the flaw of the piece speaks of
+abbrev pub IsPlaceInImage : Flaw → (before : List (List ℕ)) → Type 0
+IsPlaceInImage NumberMissing before = (most : ℕ) × WantsImageNumber before most
+IsPlaceInImage NoNumber before = (most : ℕ) × WantsImageNumber before most
+IsPlaceInImage (TooGreat most) before = WantsImageNumber before most
+IsPlaceInImage Zero before = before ≡ codes "callers" ∷ []
+IsPlaceInImage WordTooMany before = IsWholeLine before
+IsPlaceInImage _ before = ⊥
 
--- no line above is kept, and the number in this one is of another version than is read
-pub record IsOtherVersion (v : Version) (ls : List (List ℕ)) (above : ℕ) (piece : List ℕ)
-    (found read : ℕ) : Type 0 where
-  pub first : NoneSays ls above Kept
-  pub is : PieceIsNumber piece found
-  pub read_is : read ≡ version_number v
-  pub other : found ≡ read → ⊥
+-- ---- reasons
 
 -- the piece begins a line of the heading
 abbrev pub IsHeadingName : List ℕ → Type 0
@@ -58,56 +62,97 @@ pub record IsNoName (piece : List ℕ) : Type 0 where
   pub cell : piece ≡ codes "cell" → ⊥
   pub «end» : piece ≡ codes "end" → ⊥
 
--- the cell that the piece names is none of the image's
-pub record IsNoImageCell (v : Version) (ls : List (List ℕ)) (above : ℕ) (piece : List ℕ)
-    (cell cells : ℕ) : Type 0 where
-  pub named : PieceIsNumber piece cell
-  pub callers : ℕ
-  pub blocks : ℕ
-  pub said_callers : SaidAbove ls above Callers callers
-  pub said_blocks : SaidAbove ls above Blocks blocks
-  pub count : cells ≡ durable_cells callers (data_cell_count_for (instrs_of v) callers blocks)
-  pub past : cells ≤ cell
+-- the words before the piece begin a title, and it does not go on with the piece
+abbrev pub IsNoImageTitleWord : (before : List (List ℕ)) (piece : List ℕ) → Type 0
+IsNoImageTitleWord before piece =
+    ((before ≡ []) × (piece ≡ codes "onefile" → ⊥))
+    ⊎ ((before ≡ codes "onefile" ∷ []) × (piece ≡ codes "image" → ⊥))
 
--- the line of this number, which stands above, has the cell that the piece names or a later one
-pub record IsOutOfOrder (ls : List (List ℕ)) (above : ℕ) (piece : List ℕ) (number : ℕ)
+-- what a reason says of a piece of a line, of the words before it, and of what the lines above lead
+-- to
+abbrev pub IsTrueOfImage : Version → Reason → RowReading → (before : List (List ℕ))
+    (piece : List ℕ) → Type 0
+IsTrueOfImage v (Flawed flaw) p before piece = HasFlaw flaw piece × IsPlaceInImage flaw before
+IsTrueOfImage v (TitleExpected version) p before piece =
+    (p.stage ≡ Start) × (version ≡ version_number v) × IsNoImageTitleWord before piece
+IsTrueOfImage v (OtherVersion found read) p before piece =
+    (p.stage ≡ Start) × (before ≡ codes "onefile" ∷ codes "image" ∷ []) × PieceIsNumber piece found
+    × (read ≡ version_number v) × (found ≡ read → ⊥)
+IsTrueOfImage v CallersExpected p before piece =
+    (p.stage ≡ Named) × (before ≡ []) × (piece ≡ codes "callers" → ⊥)
+IsTrueOfImage v BlocksExpected p before piece =
+    (p.stage ≡ Counted) × (before ≡ []) × (piece ≡ codes "blocks" → ⊥)
+IsTrueOfImage v AfterEnd p before piece = (p.stage ≡ Ended) × (before ≡ [])
+IsTrueOfImage v UnknownLine p before piece = (p.stage ≡ Body) × (before ≡ []) × IsNoName piece
+IsTrueOfImage v HeadingOver p before piece = (p.stage ≡ Body) × (before ≡ []) × IsHeadingName piece
+IsTrueOfImage v (NoCell cell cells) p before piece =
+    (before ≡ codes "cell" ∷ []) × PieceIsNumber piece cell
+    × (cells ≡ durable_cells p.callers (data_cell_count_for (instrs_of v) p.callers p.blocks))
+    × (cells ≤ cell)
+IsTrueOfImage v (CellPassed cell) p before piece =
+    (before ≡ codes "cell" ∷ []) × PieceIsNumber piece cell × (cell < p.from)
+IsTrueOfImage v EmptyCell p before piece =
+    (cell : ℕ) × (before ≡ codes "cell" ∷ decimal cell ∷ decimal 0 ∷ []) × PieceIsNumber piece 0
+IsTrueOfImage v (OutOfOrder line) p before piece = ⊥
+IsTrueOfImage v EndMissing p before piece = ⊥
+
+-- ---- the fault of a text
+
+-- what the first lines of a text say leads to this reading
+pub record ImageLinesLeadTo (v : Version) (text : List ℕ) (count : ℕ) (p : RowReading)
     : Type 0 where
+  pub said : List ImageLine
+  pub says : unskipped_words (take count (text_lines text)) ≡ map image_line_words said
+  pub leads : after_lines image_language (image_reader v) no_row_read said ≡ Some p
+
+-- the text is at its end, and has no end line yet
+pub record IsUnendedImage (v : Version) (text : List ℕ) (above : ℕ) : Type 0 where
+  pub last : length (text_lines text) ≡ above + 1
+  pub reading : RowReading
+  pub leads : ImageLinesLeadTo v text (above + 1) reading
+  pub unended : reading.stage ≡ Ended → ⊥
+
+-- the line above of this number has the cell that the piece names or a later one
+pub record IsOutOfOrder (text : List ℕ) (above : ℕ) (before : List (List ℕ)) (piece : List ℕ)
+    (number : ℕ) : Type 0 where
+  pub place : before ≡ codes "cell" ∷ []
   pub cell : ℕ
   pub named : PieceIsNumber piece cell
   pub at : ℕ
   pub other : ℕ
-  pub says : Says ls above (Cell cell) at other
+  pub says : Says (text_lines text) above (Cell cell) at other
   pub is : number ≡ at + 1
 
--- the line is that of a cell whose word is 0
-abbrev pub IsEmptyCell : List ℕ → Type 0
-IsEmptyCell line = (cell : ℕ) × (text_words line ≡ image_line_words (CellLine cell 0 0))
+-- what a reason says of a piece of a text with this many lines above its line
+abbrev pub IsTrueInImage : Version → Reason → (text : List ℕ) (above : ℕ) (before : List (List ℕ))
+    (piece : List ℕ) → Type 0
+IsTrueInImage v EndMissing text above before piece = IsUnendedImage v text above × (piece ≡ [])
+IsTrueInImage v (OutOfOrder number) text above before piece =
+    IsOutOfOrder text above before piece number
+IsTrueInImage v reason text above before piece =
+    (p : RowReading) × ImageLinesLeadTo v text above p × IsTrueOfImage v reason p before piece
 
--- what a reason says of a line of a text, of the lines above it, and of the piece at fault
-abbrev pub IsTrueOfImage : Version → Reason → (ls : List (List ℕ)) (above : ℕ) (line piece : List ℕ)
-    → Type 0
-IsTrueOfImage v (Flawed flaw) ls above line piece = HasFlawAt flaw above piece
-IsTrueOfImage v (TitleExpected version) ls above line piece = IsNoTitle v ls above line version
-IsTrueOfImage v (OtherVersion found read) ls above line piece =
-    IsOtherVersion v ls above piece found read
-IsTrueOfImage v CallersExpected ls above line piece =
-    NoneSays ls above Callers × (piece ≡ codes "callers" → ⊥) × IsFirstWord line piece
-IsTrueOfImage v BlocksExpected ls above line piece =
-    NoneSays ls above Blocks × (piece ≡ codes "blocks" → ⊥) × IsFirstWord line piece
-IsTrueOfImage v AfterEnd ls above line piece =
-    IsFirstWord line piece × (number : ℕ) × SaidAbove ls above End number
-IsTrueOfImage v UnknownLine ls above line piece = IsFirstWord line piece × IsNoName piece
-IsTrueOfImage v (NoCell cell cells) ls above line piece = IsNoImageCell v ls above piece cell cells
-IsTrueOfImage v (OutOfOrder number) ls above line piece = IsOutOfOrder ls above piece number
-IsTrueOfImage v EmptyCell ls above line piece = IsEmptyCell line
-IsTrueOfImage v HeadingOver ls above line piece =
-    IsFirstWord line piece × IsHeadingName piece × ((number : ℕ) × SaidAbove ls above Blocks number)
-IsTrueOfImage v EndMissing ls above line piece = HasNoEnd ls above × (piece ≡ [])
-IsTrueOfImage v NotHere ls above line piece = Unit {0}
+-- the piece is a whole word, or the end of the line
+pub record IsImageWordFault (v : Version) (text : List ℕ) (f : BadPiece) : Type 0 where
+  pub before : List (List ℕ)
+  pub whole :
+      let line = line_at (text_lines text) (f.line - 1) in
+      IsWholePiece (text_words line) before (slice_range line f.start f.end) (drop f.end line)
+  pub is :
+      let line = line_at (text_lines text) (f.line - 1) in
+      IsTrueInImage v f.reason text (f.line - 1) before (slice_range line f.start f.end)
 
--- a piece of a line, and a reason that is true of it
-pub record IsImageFinding (v : Version) (ls : List (List ℕ)) (above : ℕ) (line : List ℕ)
-    (f : Finding) : Type 0 where
+-- the piece is a byte that looks like nothing, in a line that isn't skipped
+pub record IsHiddenImageFault (text : List ℕ) (f : BadPiece) : Type 0 where
+  pub flaw : Flaw
+  pub reason : f.reason ≡ Flawed flaw
+  pub kept : is_skipped (text_words (line_at (text_lines text) (f.line - 1))) ≡ false
+  pub is : IsHiddenByte (f.line - 1) (line_at (text_lines text) (f.line - 1))
+      (record { start = f.start; end = f.end; flaw = flaw })
+
+-- the bad line of a text, the piece of it at fault, and a reason that is true of it
+pub record IsLineFault (v : Version) (text : List ℕ) (f : BadPiece) : Type 0 where
+  pub bad : HasBadLine (IsImageText v) text f.line
   pub order : f.start ≤ f.end
-  pub within : f.end ≤ length line
-  pub is : IsTrueOfImage v f.reason ls above line (slice_range line f.start f.end)
+  pub within : f.end ≤ length (line_at (text_lines text) (f.line - 1))
+  pub is : IsImageWordFault v text f ⊎ IsHiddenImageFault text f

@@ -9,7 +9,8 @@ abbrev pub version_number : Version → ℕ
 version_number One = 1
 version_number Two = 2
 
--- the most instructions of a script: a caller's own cells have room for so many numbers of a reply
+-- the most instructions of a script: a caller's own cells have room for this many numbers of a
+-- reply
 abbrev pub instrs_of : Version → ℕ
 instrs_of One = 8
 instrs_of Two = MOST_INSTRS

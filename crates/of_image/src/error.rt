@@ -1,6 +1,6 @@
 //! Why a text is no image.
 
-use crate::law::RowErr;
+use crate::refusal::{ImageFault, Refusal};
 use std::alloc::AllocError;
 use std::fmt;
 
@@ -28,16 +28,19 @@ impl From<AllocError> for ImageErr {
     }
 }
 
-impl From<RowErr> for ImageErr {
+impl From<Refusal> for ImageErr {
     ghost use Rattle.std.specs.Prelude.{◌≡◌};
-    ghost use Rattle.of_image.specs.Parsed.{image_err};
+    ghost use Rattle.of_image.specs.Parsed.{refusal_err};
 
-    ghost from_gives = { λ r e. e ≡ image_err r };
+    ghost from_gives = { λ r e. e ≡ refusal_err r };
 
-    fn from(e: RowErr) -> ImageErr {
+    fn from(e: Refusal) -> ImageErr {
         match e {
-            RowErr::Memory => ImageErr::Memory,
-            RowErr::Unlawful { cell, .. } => ImageErr::Unlawful { cell },
+            Refusal::Memory => ImageErr::Memory,
+            Refusal::Fault { fault } => match fault {
+                ImageFault::Line { piece } => ImageErr::Bad { line: piece.line },
+                ImageFault::Cell { cell, .. } => ImageErr::Unlawful { cell },
+            },
         }
     }
 }

@@ -1,6 +1,5 @@
 //! What makes a recovered row lawful, and why one is not.
 
-use std::alloc::AllocError;
 use std::fmt;
 
 /// A law of recovered rows that a cell breaks. What each of them says of its cell is defined in
@@ -29,25 +28,5 @@ impl fmt::Display for Law {
                 "the data cells stand for no store, and this is the first at fault",
             ),
         }
-    }
-}
-
-/// Why no store is found in a recovered row.
-#[derive(Clone, Copy, Debug, PartialEq, Eq)]
-pub(crate) enum RowErr {
-    /// Memory ran out.
-    Memory,
-    /// This is the first cell at fault, and the law that it breaks.
-    Unlawful { cell: u32, law: Law },
-}
-
-impl From<AllocError> for RowErr {
-    ghost use Rattle.std.specs.Prelude.{◌≡◌};
-    ghost use Rattle.of_image.specs.declared.law.RowErr.TheVariants.{Memory};
-
-    ghost from_gives = { λ _ e. e ≡ Memory };
-
-    fn from(_e: AllocError) -> RowErr {
-        RowErr::Memory
     }
 }

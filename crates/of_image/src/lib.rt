@@ -3,14 +3,13 @@
 
 mod again;
 mod error;
-mod explaining;
+mod feed;
 mod law;
 pub mod laws;
 mod line;
 mod migration;
 mod parse;
 mod parse_row;
-mod pieces;
 mod printing;
 mod reading;
 mod reason;
@@ -24,10 +23,10 @@ pub use again::image_again;
 pub use error::ImageErr;
 pub use law::Law;
 pub use migration::migrate;
-pub use parse::image_parse;
+pub use parse::{image_parse, read};
 pub use printing::{image_print, recovered_print};
 pub use reason::Reason;
-pub use refusal::{BadPiece, ImageFault, fault};
+pub use refusal::{BadPiece, ImageFault, Refusal, fault};
 pub use renumber::renumbered_print;
 pub use version::Version;
 pub use words::image_of_words;

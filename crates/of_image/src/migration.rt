@@ -14,7 +14,7 @@ ghost use Rattle.of_image.specs.MovedRow.{earlier_address, moved_word_to, moved_
 ghost use Rattle.of_report.specs.ImageRow.{row_in};
 
 use crate::error::ImageErr;
-use crate::parse::{plot_of, read_image};
+use crate::parse::{plot_of, read};
 use crate::printing::print_row;
 use crate::version::Version;
 use of_mem::Plot;
@@ -104,6 +104,6 @@ pub fn migrate(alloc: Global, text: &[u8]) -> Result<Vec<u8>, ImageErr>
         (λ moved. moved.items ≡ image_text Two (moved_row 8 MOST_INSTRS image.row))
         (λ e. e ≡ Memory) }
 {
-    let image = read_image(alloc, Version::One, text)?;
+    let image = read(alloc, Version::One, text)?;
     Ok(moved_text(alloc, &image)?)
 }

@@ -5,11 +5,14 @@ ghost use Rattle.of_mem.specs.declared.work.TheConstants.{MOST_INSTRS};
 ghost use Rattle.of_image.specs.Version.{instrs_of};
 ghost use Rattle.of_report.specs.Image.{Image as PlainImage, IsImage};
 ghost use Rattle.of_image.specs.Parsed.{ReadsImage, ImageIsRefused};
+ghost use Rattle.of_image.specs.Faults.{HasImageFault};
+ghost use Rattle.of_image.specs.declared.refusal.Refusal.TheVariants.{Memory as Unread};
 ghost use Rattle.of_image.specs.declared.version.Version.TheVariants.{Two};
 ghost use Rattle.of_image.specs.declared.error.ImageErr.TheVariants.{Memory};
 
 use crate::error::ImageErr;
 use crate::parse_row::read_row;
+use crate::refusal::Refusal;
 use crate::restore::restore;
 use crate::version::Version;
 use of_mem::Plot;
@@ -33,14 +36,20 @@ pub(crate) fn plot_of(version: Version, callers: u32, blocks: u32) -> Plot
     }
 }
 
-/// The image that a text of a version has.
-pub(crate) fn read_image(alloc: Global, version: Version, text: &[u8]) -> Result<Image, ImageErr>
+/// The image that a text of a version has, or what is wrong with it.
+pub fn read(alloc: Global, version: Version, text: &[u8]) -> Result<Image, Refusal>
+    // What is answered is what recovery finds in the row that the text spells, and it is lawful.
     ensures ok { IfOk result (λ image. ReadsImage version text.now image) }
-    ensures err { IfErr result (ImageIsRefused version text.now) }
+    // The piece is of the bad line, and the reason is true of it; or the cell is the first at
+    // fault. Then the text has no image.
+    ensures bad { IfErr result (HasImageFault version text.now) }
+    // A text that has an image is answered by it, unless memory runs out.
+    ensures only { (image : PlainImage) → ReadsImage version text.now image →
+        MatchResult result (λ i. i ≡ image) (λ e. e ≡ Unread) }
 {
     let reading = read_row(alloc, version, text)?;
     let plot = plot_of(version, reading.callers, reading.blocks);
-    Ok(restore(alloc, &plot, reading.words)?)
+    restore(alloc, &plot, reading.words)
 }
 
 /// The image that a text has: what recovery finds in its durable words.
@@ -55,5 +64,5 @@ pub fn image_parse(alloc: Global, text: &[u8]) -> Result<Image, ImageErr>
     ensures only { (image : PlainImage) → ReadsImage Two text.now image →
         MatchResult result (λ i. i ≡ image) (λ e. e ≡ Memory) }
 {
-    read_image(alloc, Version::Two, text)
+    Ok(read(alloc, Version::Two, text)?)
 }

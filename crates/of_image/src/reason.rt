@@ -23,6 +23,8 @@ pub enum Reason {
     UnknownLine,
     /// The image has fewer cells.
     NoCell { cell: u32, cells: u32 },
+    /// A line above has this cell or one after it.
+    CellPassed { cell: u32 },
     /// That line above has this cell or one after it.
     OutOfOrder { line: u64 },
     /// The cell's sequence and payload are both 0.
@@ -31,8 +33,6 @@ pub enum Reason {
     HeadingOver,
     /// The text is at its end, and no line of it is `end`.
     EndMissing,
-    /// None of the others.
-    NotHere,
 }
 
 impl fmt::Display for Reason {
@@ -61,6 +61,9 @@ impl fmt::Display for Reason {
             Reason::NoCell { cells, .. } => {
                 write!(f, "this image has {cells} cells, from cell 0 on")
             }
+            Reason::CellPassed { .. } => {
+                f.write_str("cells ascend, and a line above has this one or a later one")
+            }
             Reason::OutOfOrder { line } => {
                 write!(
                     f,
@@ -70,7 +73,6 @@ impl fmt::Display for Reason {
             Reason::EmptyCell => f.write_str("a cell of sequence 0 and payload 0 has no line"),
             Reason::HeadingOver => f.write_str("this line comes once, in the heading of an image"),
             Reason::EndMissing => f.write_str("the text ends before `end`"),
-            Reason::NotHere => f.write_str("no image goes on with this line"),
         }
     }
 }

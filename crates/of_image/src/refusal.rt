@@ -1,22 +1,24 @@
 //! What is wrong with a text that has no image.
 
-ghost use Rattle.std.specs.Prelude.{◌≡◌, ◌≤◌, ◌-◌, length, IfOk, MatchOption};
+ghost use Rattle.std.specs.Prelude.{◌≡◌, ◌≤◌, ◌-◌, ℕ, List, length, IfOk, MatchOption};
 ghost use Rattle.of_plan.specs.Lines.{text_lines};
 ghost use Rattle.of_plan.specs.Above.{line_at as the_line};
 ghost use Rattle.of_plan.specs.BadLine.{HasBadLine};
+ghost use Rattle.of_image.specs.declared.version.Version.{Version as TheVersion};
 ghost use Rattle.of_image.specs.ImageText.{IsImageText};
-ghost use Rattle.of_image.specs.Faults.{HasImage, IsImageFaultOf, IsLineFault};
+ghost use Rattle.of_image.specs.ImageReading.{RowReading};
+ghost use Rattle.of_image.specs.Reasons.{ImageLinesLeadTo, IsUnendedImage, IsTrueOfImage, IsTrueInImage, IsLineFault};
+ghost use Rattle.of_image.specs.Fed.{RefusesImageLine};
+ghost use Rattle.of_image.specs.Faults.{HasImage, IsImageFaultOf};
 ghost use Rattle.of_image.specs.Messages.{piece_message};
 
-use crate::error::ImageErr;
-use crate::explaining::explain;
-use crate::law::{Law, RowErr};
-use crate::parse::plot_of;
-use crate::parse_row::read_row;
+use crate::feed::Bad;
+use crate::law::Law;
+use crate::parse::read;
 use crate::reason::Reason;
-use crate::restore::restore;
 use crate::version::Version;
-use of_plan::above::line_at;
+use of_plan::above::{Wanted, find, line_at};
+use of_plan::pieces::hidden;
 use of_plan::point_out;
 use std::alloc::{AllocError, Global};
 
@@ -40,6 +42,26 @@ pub enum ImageFault {
     Cell { cell: u32, law: Law },
 }
 
+/// Why a text is answered with no image.
+#[derive(Clone, Copy, Debug, PartialEq, Eq)]
+pub enum Refusal {
+    /// Memory ran out.
+    Memory,
+    /// The text has no image, and this is at fault.
+    Fault { fault: ImageFault },
+}
+
+impl From<AllocError> for Refusal {
+    ghost use Rattle.std.specs.Prelude.{◌≡◌};
+    ghost use Rattle.of_image.specs.declared.refusal.Refusal.TheVariants.{Memory};
+
+    ghost from_gives = { λ _ e. e ≡ Memory };
+
+    fn from(_e: AllocError) -> Refusal {
+        Refusal::Memory
+    }
+}
+
 /// What is wrong with a text; nothing exactly where it has an image, so where `image_parse` or
 /// `migrate`, for its version, refuses it. The line or the cell is the one that they name. The
 /// error is want of memory.
@@ -47,33 +69,69 @@ pub fn fault(alloc: Global, version: Version, text: &[u8]) -> Result<Option<Imag
     ensures { IfOk result (λ found.
         MatchOption found (HasImage version text.now) (IsImageFaultOf version text.now)) }
 {
-    let reading = match read_row(alloc, version, text) {
-        Ok(reading) => reading,
-        Err(ImageErr::Bad { line }) => {
-            let piece = bad_piece(version, text, line);
-            return Ok(Some(ImageFault::Line { piece }));
-        }
-        Err(_) => return Err(AllocError),
-    };
-    let plot = plot_of(version, reading.callers, reading.blocks);
-    match restore(alloc, &plot, reading.words) {
+    match read(alloc, version, text) {
         Ok(_) => Ok(None),
-        Err(RowErr::Unlawful { cell, law }) => Ok(Some(ImageFault::Cell { cell, law })),
-        Err(RowErr::Memory) => Err(AllocError),
+        Err(Refusal::Memory) => Err(AllocError),
+        Err(Refusal::Fault { fault }) => Ok(Some(fault)),
     }
 }
 
-// What is wrong with the bad line of a text.
-fn bad_piece(version: Version, text: &[u8], line: u64) -> BadPiece
-    requires { HasBadLine (IsImageText version) text.now line }
+// The reason, with the line above that has the cell or a later one.
+fn with_line(text: &[u8], above: u64, reason: Reason) -> Reason
+    ensures { (v : TheVersion) (p : RowReading) (before : List (List ℕ)) (piece : List ℕ)
+        → ImageLinesLeadTo v text.now above p → IsTrueOfImage v reason p before piece
+        → IsTrueInImage v result text.now above before piece }
+{
+    let Reason::CellPassed { cell } = reason else {
+        return reason;
+    };
+    match find(text, above, Wanted::Cell { least: cell }) {
+        Some((at, _)) => Reason::OutOfOrder { line: at + 1 },
+        None => reason,
+    }
+}
+
+// What is wrong with a text, from what is wrong with its line of this number.
+pub(crate) fn in_text(version: Version, text: &[u8], number: u64, line: &[u8], bad: Bad) -> BadPiece
+    requires first { 1 ≤ number }
+    requires line { line.now ≡ the_line (text_lines text.now) (number - 1) }
+    requires bad { HasBadLine (IsImageText version) text.now number }
+    requires is { (p : RowReading) × ImageLinesLeadTo version text.now (number - 1) p
+        × RefusesImageLine version p line.now bad }
     ensures { IsLineFault version text.now result }
 {
-    let finding = explain(version, text, line);
+    let end = line.len() - bad.piece.left;
+    if let Some(byte) = hidden(line, number - 1) {
+        if byte.start < end {
+            return BadPiece {
+                line: number,
+                start: byte.start,
+                end: byte.end,
+                reason: Reason::Flawed { flaw: byte.flaw },
+            };
+        }
+    }
     BadPiece {
-        line,
-        start: finding.start,
-        end: finding.end,
-        reason: finding.reason,
+        line: number,
+        start: end - bad.piece.size,
+        end,
+        reason: with_line(text, number - 1, bad.reason),
+    }
+}
+
+// The same of a text without an end, whose last line this is.
+pub(crate) fn at_end(version: Version, text: &[u8], number: u64, line: &[u8]) -> BadPiece
+    requires first { 1 ≤ number }
+    requires line { line.now ≡ the_line (text_lines text.now) (number - 1) }
+    requires bad { HasBadLine (IsImageText version) text.now number }
+    requires none { IsUnendedImage version text.now (number - 1) }
+    ensures { IsLineFault version text.now result }
+{
+    BadPiece {
+        line: number,
+        start: line.len(),
+        end: line.len(),
+        reason: Reason::EndMissing,
     }
 }
 

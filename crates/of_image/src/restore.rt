@@ -7,12 +7,15 @@ ghost use Rattle.of_recover.specs.Row.{IsDurableRow};
 ghost use Rattle.of_mem.specs.Plots.{data_cell_count};
 ghost use Rattle.of_report.specs.ImageRow.{IsRow, row_in};
 ghost use Rattle.of_report.specs.ImageLaw.{IsLawfulRow, NoneNewer};
+ghost use Rattle.of_image.specs.declared.refusal.ImageFault.TheVariants.{Cell};
+ghost use Rattle.of_image.specs.declared.refusal.Refusal.TheVariants.{Fault};
 ghost use Rattle.of_image.specs.RowFault.{IsFirstNewer};
 ghost use Rattle.of_image.specs.Parsed.{NamesRowFault};
 ghost use Rattle.of_report.specs.Image.{IsRestored};
 ghost use Rattle.of_report.specs.ImageRow.{recovered_row};
 
-use crate::law::{Law, RowErr};
+use crate::law::Law;
+use crate::refusal::{ImageFault, Refusal};
 use of_cell::{Shape, payload_of, seq_of};
 use of_eval::{LawErr, lawful};
 use of_mem::Plot;
@@ -51,41 +54,40 @@ fn numbers(alloc: Global, shape: &Shape, words: &[u64]) -> Result<Vec<u32>, Allo
         .collect(alloc)
 }
 
+// The refusal that a cell breaks a law.
+fn unlawful(cell: u32, law: Law) -> Refusal
+    ensures { result ≡ Fault (Cell cell law) }
+{
+    let fault = ImageFault::Cell { cell, law };
+    Refusal::Fault { fault }
+}
+
 /// The store for which a recovered row stands.
-fn lawful_store(alloc: Global, plot: &Plot, words: &[u64]) -> Result<Store, RowErr>
+fn lawful_store(alloc: Global, plot: &Plot, words: &[u64]) -> Result<Store, Refusal>
     requires { IsDurableRow plot.now.callers (data_cell_count plot.now) words.now }
     ensures ok { IfOk result (IsLawfulRow plot.now.instrs (row_in plot.now words.now)) }
     ensures err { IfErr result (NamesRowFault plot.now.instrs (row_in plot.now words.now)) }
 {
     let shape = table_shape(plot);
     if payload_of(words[shape.cur() as usize]) >= plot.callers {
-        return Err(RowErr::Unlawful {
-            cell: shape.cur(),
-            law: Law::Owner,
-        });
+        return Err(unlawful(shape.cur(), Law::Owner));
     }
     match first_newer(&shape, words) {
         None => {}
         Some(a) => {
-            return Err(RowErr::Unlawful {
-                cell: shape.data_cell(a),
-                law: Law::Newest,
-            });
+            return Err(unlawful(shape.data_cell(a), Law::Newest));
         }
     }
     let numbers = numbers(alloc, &shape, words)?;
     match lawful(alloc, plot, &numbers) {
         Ok(store) => Ok(store),
-        Err(LawErr::Memory) => Err(RowErr::Memory),
-        Err(LawErr::Unlawful { cell }) => Err(RowErr::Unlawful {
-            cell: shape.data_cell(cell),
-            law: Law::Store,
-        }),
+        Err(LawErr::Memory) => Err(Refusal::Memory),
+        Err(LawErr::Unlawful { cell }) => Err(unlawful(shape.data_cell(cell), Law::Store)),
     }
 }
 
 /// What recovery finds in a row.
-pub(crate) fn restore(alloc: Global, plot: &Plot, words: Vec<u64>) -> Result<Image, RowErr>
+pub(crate) fn restore(alloc: Global, plot: &Plot, words: Vec<u64>) -> Result<Image, Refusal>
     requires { IsDurableRow plot.now.callers (data_cell_count plot.now) words.items }
     ensures ok { IfOk result (λ image.
         IsRestored plot.now.instrs (row_in plot.now words.items) image) }

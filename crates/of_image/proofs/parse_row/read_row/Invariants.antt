@@ -1,12 +1,12 @@
 use Rattle.std.proofs.Common.{◌+◌, ◌≤◌, length}
 use Rattle.of_plan.specs.Lines.{text_lines}
-use Rattle.of_image.specs.ImageReading.{row_reading_value, no_row_read, image_language, image_reader}
-use Rattle.of_plan.proofs.Readings.{IsReading}
+use Rattle.of_image.specs.ImageReading.{row_reading_value}
+use Rattle.of_image.proofs.Faults.{IsImageReading}
 use Rattle.of_image.proofs.parse_row.read_row.Given as goal
 
 abbrev pub invariant-loop-reading : goal.invariant-loop-reading
 invariant-loop-reading l = record {
-  read : IsReading image_language (image_reader l.version) no_row_read l.text (text_lines l.rest) l.number (row_reading_value l.reading);
+  read : IsImageReading l.version l.text (text_lines l.rest) l.number (row_reading_value l.reading);
   count : l.number + length l.rest ≤ length l.text;
 }
 

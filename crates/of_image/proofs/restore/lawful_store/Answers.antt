@@ -14,13 +14,13 @@ returns-in-Some-clause-err c =
     let ws = c.args.words.now in
     let owner : c.payload_of.result ≡ current_owner (λ n. get_or ws n 0) = c.payload_of.ensures ∙ ap (λ (n : ℕ). payload_of (get_or ws n 0)) c.cur.ensures.value in
     let within : c.in-Some.a < data_cell_count p = omega (arith, c.in-Some.ensures.0, c.table_shape-shape.ensures.cells) in
-    record {
+    rw c.unlawful-in-Some.ensures (record {
       owned = omega (arith, owner, c.if-payload_of-plot.false);
       at = c.in-Some.a;
       within = within;
       first = subst (λ (n : ℕ). IsFirstNewer n ws c.in-Some.a) c.table_shape-shape.ensures.callers c.in-Some.ensures.1;
       is = c.data_cell.ensures.value ∙ ap (λ (n : ℕ). data_cell n c.in-Some.a) c.table_shape-shape.ensures.callers;
-    }
+    })
 
 pub returns-in-Ok-clause-ok : goal.returns-in-Ok-clause-ok
 returns-in-Ok-clause-ok c =
@@ -46,10 +46,10 @@ returns-clause-err c =
     let bad = rw c.in-Err-Unlawful.field-0-is at c.in-Err-Unlawful.ensures in
     let owner : c.payload_of.result ≡ current_owner (λ n. get_or ws n 0) = c.payload_of.ensures ∙ ap (λ (n : ℕ). payload_of (get_or ws n 0)) c.cur.ensures.value in
     let numbers = law_numbers c.table_shape-shape.result.callers c.table_shape-shape.result.cells p ws c.deref.result.now c.table_shape-shape.ensures.callers c.table_shape-shape.ensures.cells c.requires (c.deref.ensures.value ∙ c.in_ok-numbers.ensures) in
-    record {
+    rw c.unlawful-in-Err-Unlawful.ensures (record {
       owned = omega (arith, owner, c.if-payload_of-plot.false);
       none_newer = law_newer _ _ p ws c.table_shape-shape.ensures.callers c.table_shape-shape.ensures.cells c.in-None.ensures;
       at = c.in-Err-Unlawful.cell;
       first = law_fault p ws c.deref.result.now numbers c.in-Err-Unlawful.cell bad.unlawful;
       is = c.data_cell-in-Err-Unlawful.ensures.value ∙ ap (λ (n : ℕ). data_cell n c.in-Err-Unlawful.cell) c.table_shape-shape.ensures.callers;
-    }
+    })
