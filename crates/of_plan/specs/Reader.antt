@@ -27,11 +27,6 @@ pub record SpellsLine (L : Language) (ws : List (List ℕ)) (l : L.Line) : Type 
   pub words : ws ≡ L.words_of l
   pub range : L.InRange l
 
--- the words are no line's
-pub record SpellsNoLine (L : Language) (ws : List (List ℕ)) : Type 0 where
-  pub kept : is_skipped ws ≡ false
-  pub none : (l : L.Line) → L.InRange l → ws ≡ L.words_of l → ⊥
-
 -- the words are skipped, or are a line that may come next
 abbrev pub ReadsLine : (L : Language) (R : Reader L) → List (List ℕ) → R.Progress → R.Progress
     → Type 0

@@ -4,22 +4,15 @@ ghost use Rattle.std.specs.Prelude.{◌≡◌, ◌<◌, ◌+◌, ℕ, length, Is
 ghost use Rattle.of_script.specs.Text.{text_words};
 ghost use Rattle.of_plan.specs.Lines.{text_lines};
 ghost use Rattle.of_plan.specs.Above as lines_above;
+ghost use Rattle.of_plan.specs.Above.{NoneSays, Says};
 
 use crate::parser::line::GREATEST_CELL;
-use crate::plan::{MOST_PLAN_BLOCKS, MOST_PLAN_CALLERS};
+use crate::plan::MOST_PLAN_CALLERS;
 use of_script::text::{cut, next_number, word};
 
 /// What a line is asked for.
 #[derive(Clone, Copy, Debug, PartialEq, Eq)]
 pub enum Wanted {
-    /// Any line that isn't skipped.
-    Kept,
-    /// The number of callers.
-    Callers,
-    /// The number of blocks.
-    Blocks,
-    /// The end line.
-    End,
     /// The stop of this caller.
     Stop { caller: u32 },
     /// In the text of an image, the number of a cell from this one on.
@@ -37,24 +30,12 @@ fn number_behind(name: &[u8], wanted: &[u8], rest: &[u8], most: u32) -> Option<u
     Some(number)
 }
 
-// The number that a line says, if it is one that is wanted; 0 if it says none.
+// The number that a line says, if it is one that is wanted.
 pub(crate) fn said(wanted: Wanted, line: &[u8]) -> Option<u32>
     ensures { result ≡ lines_above.said wanted (text_words line.now) }
 {
     let (name, rest) = word(line)?;
     match wanted {
-        Wanted::Kept => match name[0] {
-            b'#' => None,
-            _ => Some(0),
-        },
-        Wanted::Callers => number_behind(name, b"callers".as_slice(), rest, MOST_PLAN_CALLERS),
-        Wanted::Blocks => number_behind(name, b"blocks".as_slice(), rest, MOST_PLAN_BLOCKS),
-        Wanted::End => {
-            if name != b"end".as_slice() || word(rest).is_some() {
-                return None;
-            }
-            Some(0)
-        }
         Wanted::Stop { caller } => {
             let found = number_behind(name, b"stop".as_slice(), rest, MOST_PLAN_CALLERS - 1)?;
             if found != caller {
@@ -95,8 +76,8 @@ pub fn line_at(text: &[u8], above: u64) -> (&[u8], bool)
 /// The first of the lines above that says what is wanted: how many lines are above it, and the
 /// number that it says.
 pub fn find(text: &[u8], above: u64, wanted: Wanted) -> Option<(u64, u32)>
-    ensures { MatchOption result (lines_above.NoneSays (text_lines text.now) above wanted)
-        (λ x. lines_above.Says (text_lines text.now) above wanted x.0 x.1) }
+    ensures { MatchOption result (NoneSays (text_lines text.now) above wanted)
+        (λ x. Says (text_lines text.now) above wanted x.0 x.1) }
 {
     let mut rest = text;
     let mut at: u64 = 0;
