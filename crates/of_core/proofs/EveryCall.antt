@@ -67,7 +67,7 @@ module _ (S : Setup) (Lawful : List ℕ → Type 0) (sound : IsSoundMeaning S.me
       idle = λ q. refl;
       open_call = λ q. let z : true ≡ false = sym (ap (λ (d : CallState). is_idle d.place) here) ∙ q in cc;
       unanswered = λ q. ap (λ (d : CallState). d.answer) here;
-      last = λ q. ap (λ (d : CallState). d.answer) here;
+      last = λ q. inl (ap (λ (d : CallState). d.answer) here);
       each = λ x l. absurd (omega arith);
       reads = λ k r l. absurd (omega arith);
       calls = λ k l u. absurd (omega (arith, l, u));
