@@ -1,5 +1,5 @@
 -- What a step of any machine leaves of the calls of each caller.
-use Rattle.std.proofs.Common.{◌≡◌, ℕ, ◌+◌, ◌<◌, ◌≤◌, ◌⊎◌, inl, inr, List, [], ◌∷◌, ◌++◌, length, get_or, refl, sym, ◌∙◌, ap, subst, arith, Option, Some, None, Bool, true, false}
+use Rattle.std.proofs.Common.{◌≡◌, ℕ, ◌+◌, ◌<◌, ◌≤◌, ◌⊎◌, inl, inr, List, [], ◌∷◌, ◌++◌, length, get_or, refl, sym, ◌∙◌, ap, subst, arith, Option, Some, None, Bool, true, false, ◌-◌}
 use Rattle.std.specs.List.{All}
 use Rattle.std.proofs.lemmas.List.{append-nil, length-append, get_or_push, get_or_append_left, get_or-set_same, get_or-set_other, get_or_default}
 use Rattle.of_cell.proofs.Order.{seq_mono}
@@ -24,7 +24,7 @@ use Rattle.of_core.specs.Facts.{IsStep, TellsOutcome}
 use Rattle.of_core.specs.MachineValue.{ended_outcome, ended_outcome_at}
 use Rattle.of_core.specs.Turn.{turn_of_outcome, turn_at}
 use Rattle.of_core.specs.Events.{machine_in}
-use Rattle.of_core.specs.Calls.{outcome_of_turn, outcome_of_step, no_outcome, outcome_seq, IsNotBefore, OutcomeStands, IsOutcome, WasBegun, HasCalls, NoneSpent, total_steps}
+use Rattle.of_core.specs.Calls.{outcome_of_turn, outcome_of_step, no_outcome, outcome_seq, IsNotBefore, OutcomeStands, IsOutcome, HasCalls, NoneSpent, total_steps}
 use Rattle.of_core.specs.Laws.{IsOpenCall}
 use Rattle.of_core.proofs.Tickets.{ticket_upto}
 use Rattle.of_core.proofs.Idle.{idle_stays}
@@ -105,14 +105,14 @@ module _ (S : Setup) (Lawful : List ℕ → Type 0) (sound : IsSoundMeaning S.me
     new_words : (i : ℕ) → i < S.callers → (before : ℕ) (ops : List (List ℕ)) (outs : List Outcome) (c : HasCalls S B before w i ops outs) → HasNewCalls S B before w i ops outs c v
     new_words i member before ops outs c k l u y e z = (λ q. (is q).0, λ q. (is q).1)
       where
-       is : (get_or (batch_at B v.batches k).calls y e).caller ≡ i → ((before < (get_or (batch_at B v.batches k).calls y e).ticket) × ((get_or (batch_at B v.batches k).calls y e).ticket ≤ before + length ops) × ((get_or (batch_at B v.batches k).calls y e).op ≡ get_or ops ((get_or (batch_at B v.batches k).calls y e).ticket - before - 1) [])) × (before + length outs < (get_or (batch_at B v.batches k).calls y e).ticket)
-       is q =
-        let x : Call = get_or (batch_at B v.batches k).calls y e in
-        let p : IsOpenCall w x = new_calls S Lawful sound B w g j m h (own S Lawful B w g j h) n found k l u y e z in
-        let o = c.open_call (subst (λ (a : ℕ). IsOpen (machine_in w a).place) q p.0) in
-        let made : x.ticket ≡ (machine_in w i).made = p.1 ∙ ap (λ (a : ℕ). (machine_in w a).made) q in
-        let number : x.ticket ≡ before + length outs + 1 = let t = made ∙ c.made in omega (arith, t, o.0) in
-        ((omega (arith, number), omega (arith, number, o.0), p.2 ∙ ap (λ (a : ℕ). (machine_in w a).op) q ∙ o.1 ∙ ap (λ (a : ℕ). get_or ops a []) (omega (arith, number))), omega (arith, number))
+        is : (get_or (batch_at B v.batches k).calls y e).caller ≡ i → ((before < (get_or (batch_at B v.batches k).calls y e).ticket) × ((get_or (batch_at B v.batches k).calls y e).ticket ≤ before + length ops) × ((get_or (batch_at B v.batches k).calls y e).op ≡ get_or ops ((get_or (batch_at B v.batches k).calls y e).ticket - before - 1) [])) × (before + length outs < (get_or (batch_at B v.batches k).calls y e).ticket)
+        is q =
+            let x : Call = get_or (batch_at B v.batches k).calls y e in
+            let p : IsOpenCall w x = new_calls S Lawful sound B w g j m h (own S Lawful B w g j h) n found k l u y e z in
+            let o = c.open_call (subst (λ (a : ℕ). IsOpen (machine_in w a).place) q p.0) in
+            let made : x.ticket ≡ (machine_in w i).made = p.1 ∙ ap (λ (a : ℕ). (machine_in w a).made) q in
+            let number : x.ticket ≡ before + length outs + 1 = let t = made ∙ c.made in omega (arith, t, o.0) in
+            ((omega (arith, number), omega (arith, number, o.0), p.2 ∙ ap (λ (a : ℕ). (machine_in w a).op) q ∙ o.1 ∙ ap (λ (a : ℕ). get_or ops a []) (omega (arith, number))), omega (arith, number))
 
     -- what the step has read is the caller's
     own_reads : All (λ (r : Read). r.caller ≡ j) (step_reads m d)

@@ -74,7 +74,7 @@ module _ (S : Setup) (B : TableStart) where
   split_grows w v f i t s later l h k u n = go (cases_lt (B.seq + length w.batches) k)
     where
       go : (B.seq + length w.batches < k) ⊎ (k ≤ B.seq + length w.batches) → All (λ (c : Call). c.caller ≡ i → (c.ticket ≤ t → k ≤ s) × (k ≤ s → c.ticket ≤ t)) (batch_at B v.batches k).calls
-      go (inl a) y d z q = let p = later k a n y d z q in (λ e. absurd (omega (arith, e, p)), λ e. absurd (omega (arith, e, l, a)))
+      go (inl a) = λ y d z q. let p = later k a n y d z q in (λ e. absurd (omega (arith, e, p)), λ e. absurd (omega (arith, e, l, a)))
       go (inr a) = subst (λ (b : Batch). All (λ (c : Call). c.caller ≡ i → (c.ticket ≤ t → k ≤ s) × (k ≤ s → c.ticket ≤ t)) b.calls) (sym (f.batches k u a)) (h k u a)
 
   pub stood_grows : (w v : Moment) → Grows w v → (i t : ℕ) (op : List ℕ) (o : Outcome) → HasLaterCalls w v i t → OutcomeStands S B w i t op o → OutcomeStands S B v i t op o

@@ -6,7 +6,7 @@ use Rattle.of_mem.specs.declared.work.TheConstants.{MOST_INSTRS}
 use Rattle.of_cell.specs.declared.word.TheConstants.{PAYLOADS}
 use Rattle.of_mem.specs.Meaning.{IsSoundMeaning}
 use Rattle.of_core.specs.Table.{Setup, first_operation_cell, cell_count}
-use Rattle.of_core.specs.Machine.{CallState, no_machine}
+use Rattle.of_core.specs.Machine.{no_machine}
 use Rattle.of_core.specs.Steps.{word_found}
 use Rattle.of_core.specs.TableMoment.{Moment, TableStart}
 use Rattle.of_core.specs.History.{batch_at}

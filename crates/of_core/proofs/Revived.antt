@@ -1,8 +1,7 @@
 -- A new machine takes the place of one that is lost: what it relies on holds of the words, and of what the lost one relied on.
-use Rattle.std.proofs.Common.{◌≡◌, ℕ, zero, suc, ◌+◌, ◌-◌, ◌*◌, ◌<◌, ◌≤◌, ◌⊎◌, inl, inr, List, [], ◌∷◌, ◌++◌, length, get_or, set, take, max, refl, sym, ◌∙◌, ap, subst, arith, length-append, Bool, true, false, nat_lt, ◌==◌, None}
+use Rattle.std.proofs.Common.{◌≡◌, ℕ, zero, suc, ◌+◌, ◌-◌, ◌*◌, ◌<◌, ◌≤◌, ◌⊎◌, inl, inr, List, [], ◌∷◌, length, get_or, set, take, max, refl, sym, ◌∙◌, ap, subst, arith, length-append, Bool, true, false, nat_lt, ◌==◌, None}
 use Rattle.std.specs.List.{All}
 use Rattle.std.proofs.lemmas.Bool.{cases_eq, cases_lt, cases_order, ne_eqb}
-use Rattle.std.proofs.lemmas.Bool.Decides.{nat_tests}
 use Rattle.std.proofs.lemmas.List.{get_or-set_same, get_or-set_other, get_or_default, take-append-le, take_all}
 use Rattle.std.proofs.Math.Nat.{mul_comm}
 use Rattle.of_cell.specs.Words.{pack, seq_of, payload_of}
@@ -10,14 +9,14 @@ use Rattle.of_cell.proofs.Order.{seq_word, pay_word, pay_small, seq_mono, seq_fr
 use Rattle.of_core.specs.declared.place.Place.{Place}
 use Rattle.of_core.specs.declared.place.Place.TheVariants.{Idle, TryCurrent, TryRequest, TryCell, StoreScript, StoreAnnouncement, LoadCurrent, LoadRequest, CopyLog, LookAgain, LoadOwnTicket, LoadShape, LoadReply, LoadAnnouncement, LoadTicket, LoadScript, LoadCell, RaiseOld, StoreLog, RaiseLog, StoreRequest, RaiseRequest, ExchangeCurrent, RaiseCurrent, LoadTarget, ExchangeTarget, ReloadTarget, RaiseTarget, CloseRequest, RaiseClosed}
 use Rattle.of_core.specs.Table.{most_entries, Setup, ticket_cell, request_at, current_word, request_of, data_word, log_word_of, durable_request, script_word, script_words_of, announcement_of, committed_seq, committed_owner}
-use Rattle.of_core.specs.Machine.{Call, no_call, CallState, IsOpen, no_machine, log_words}
+use Rattle.of_core.specs.Machine.{Call, no_call, CallState, IsOpen, no_machine, log_words, is_idle}
 use Rattle.of_core.specs.TableMoment.{Moment, TableStart, Batch}
 use Rattle.of_core.specs.History.{batch_at, data_word_after, last_ticket_by, HasNoCallBetween, IsCellOfCaller, IsNewestCall}
 use Rattle.of_core.specs.WordsMatch.{WordsMatchHistory, IsLastOpen}
 use Rattle.of_core.specs.Rounds.{IsAnnounced, MayHelp, HasSettledCells, HasNothingUnderWay}
 use Rattle.of_core.specs.Transaction.{IsApplying, AppliesAs, OwnsTransaction, HasStoredLog}
 use Rattle.of_core.specs.Invariant.{MeetsInvariant, MeetsCore, HoldsAtPlace}
-use Rattle.of_core.specs.Order.{KeepsCallOrder, HasOnlyOlderCalls, HasBegunTry, WasMadeBefore, IsOlder, no_read}
+use Rattle.of_core.specs.Order.{KeepsCallOrder, HasOnlyOlderCalls, HasBegunTry, WasMadeBefore}
 use Rattle.of_core.specs.Bound.{MachineIsWithinBound}
 use Rattle.of_core.specs.Least.{HasMadeLeastSteps, made_helping, made_applying, least_steps_at}
 use Rattle.of_core.specs.Guarantees.{Guarantees}
@@ -29,7 +28,7 @@ use Rattle.of_core.specs.Revived.{HasOlderReads, CountsReads}
 use Rattle.of_core.proofs.Assembling.{assemble, moves_not, logs_of, small_words}
 use Rattle.of_core.proofs.Idle.{idle_or_open}
 use Rattle.of_core.proofs.Least.{idle_late}
-use Rattle.of_core.proofs.OpenCalls.{Holds, open_holds, upto_at}
+use Rattle.of_core.proofs.OpenCalls.{Holds, open_holds as held_how, upto_at}
 use Rattle.of_core.proofs.Ordering.{announces_at}
 use Rattle.of_core.proofs.Rounds.{own_seq, row_in}
 use Rattle.of_core.proofs.States.{old}
@@ -345,7 +344,7 @@ module _ {S : Setup} {Lawful : List ℕ → Type 0} {B : TableStart} where
       holds_op says (inr (inr q)) = let c = q.0.call in sym c.same ∙ one_op m.seq q.1 q.2 c.place no_call c.among c.caller (c.ticket ∙ sym says)
 
       pub same_op : a ≡ m.made → IsOpen m.place → m.op ≡ d.op
-      same_op says o = holds_op says (open_holds S Lawful B w g i m h m.place o held)
+      same_op says o = holds_op says (held_how S Lawful B w g i m h m.place o held)
 
       begun : IsAnnounced S B w.words w.batches i d
       begun = record {
@@ -488,12 +487,12 @@ module _ {S : Setup} {Lawful : List ℕ → Type 0} {B : TableStart} where
 
     -- the calls of the caller so far are in the batches so far
     pub split_now : (t : ℕ) → t ≡ m.made → IsSplitAt B w i t n
-    split_now t e k l u y z f q = (
+    split_now t e x l u y z f q = (
       λ v. omega (arith, u, n_is),
       λ v. omega (
         arith,
-        ticket_upto S Lawful B w.batches g.shared.stands k n l (omega (arith, u, n_is)) (omega (arith, n_is)) y z f,
-        ap last q,
+        ticket_upto S Lawful B w.batches g.shared.stands x n l (omega (arith, u, n_is)) (omega (arith, n_is)) y z f,
+        ap (λ (j : ℕ). last_ticket_by S B w.batches n j) q,
         upto_at S Lawful B w g i m h m.place held,
         e,
       ),
