@@ -177,8 +177,8 @@ class Change(typing.NamedTuple):
 
 
 class Edit:
-    """An edit. Lines before the first `file:` are for readers: in tests/wrong the first one says what
-    the wrong body does, and the second, which begins with REFUSED, by what it is refused."""
+    """An edit. Lines before the first `file:` are for readers: the first one says what the wrong body
+    does, and the second, which begins with REFUSED, by what it is refused."""
 
     REFUSED = "# refused by "
 

@@ -39,7 +39,7 @@ def run_line(name, run):
 
 def spread(values):
     middle, low, high = (f"{round(it):,}" for it in values)
-    return f"{middle} ({low} to {high})"
+    return f"{middle} ({low}-{high})"
 
 
 def thread_lines(what, names, found):
@@ -79,20 +79,21 @@ def about(results):
 
 
 def runs_table(results, wanted):
-    """The runs whose names begin so."""
-    head = ["What", "Instructions", "Each", "Processor time", "Memory"]
+    """The runs whose names begin so, but for those that a picture shows."""
+    head = ["What", "Instructions", "Processor time", "Memory"]
+    shown = {it for name, drawn in IN_PICTURES.items() if has(results, name) for it in drawn}
     rows = []
     for name, run in results["runs"].items():
-        if name.startswith(wanted):
+        if name.startswith(wanted) and name not in shown:
             name = f"{name}, {run['read']:,} bytes" if name.startswith("recover") else name
             took = f"{1e3 * run['seconds'][0]:,.1f} ms"
-            rows.append([name, short(run["instructions"]), each_text(run), took, memory(run)])
+            rows.append([name, each_text(run), took, memory(run)])
     return table(head, rows)
 
 
-def threads_table(found, names, kind):
+def threads_table(found, names):
     head = ["Callers", *[names[name] for name in found]]
-    rows = [[str(it), *[spread(by[str(it)][kind]) for by in found.values()]] for it in CALLERS]
+    rows = [[str(it), *[spread(by[str(it)]["clock"]) for by in found.values()]] for it in CALLERS]
     return table(head, rows)
 
 
@@ -156,14 +157,19 @@ PICTURES = {
 }
 
 
+# The runs that a picture shows, one by one.
+IN_PICTURES = {
+    "turns": [by_callers(kind, it) for kind in KINDS for it in CALLERS],
+    "check": [by_keys(it) for it in KEYS],
+}
+
+
 def has(results, name):
     """Whether there is what a picture shows."""
     if name in ("threads", "sizes"):
         return bool(results.get(name))
-    wanted = {"turns": [by_callers(kind, it) for kind in KINDS for it in CALLERS],
-              "check": [by_keys(it) for it in KEYS]}[name]
     found = results["runs"]
-    return all(it in found and found[it]["instructions"] is not None for it in wanted)
+    return all(it in found and found[it]["instructions"] is not None for it in IN_PICTURES[name])
 
 
 def draw(results, folder):
@@ -175,15 +181,10 @@ def draw(results, folder):
 
 
 def race_text(found, names, calls):
-    """The tables of a race; none if it was not run."""
+    """The table of a race, by the clock; none if it was not run."""
     if not found:
         return ""
-    return "\n\n".join([
-        f"Processor nanoseconds a call, with the least and the greatest of all rounds, {calls:,} "
-        "calls a burst:",
-        threads_table(found, names, "processor"),
-        "By the clock, nanoseconds a call:",
-        threads_table(found, names, "clock")])
+    return f"Nanoseconds a call, {calls:,} calls a burst:\n\n{threads_table(found, names)}"
 
 
 PARTS = {

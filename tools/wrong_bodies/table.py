@@ -1,11 +1,11 @@
 """The table of wrong bodies: makes docs/REFUSED.md, and compares docs/WRONG.md with what there is.
 
-docs/REFUSED.md has a row for each edit of tests/wrong, made of the edit's first two lines: what the
-wrong body does, and `refused by` with calls and clauses. docs/WRONG.md, written by hand, has the
-edits of crates/*/must-fail and what no clause refuses.
+docs/REFUSED.md has a row for each edit of tests/wrong and of crates/*/must-fail, made of the edit's
+first two lines: what the wrong body does, and `refused by` with calls and clauses. docs/WRONG.md,
+written by hand, has what no clause refuses.
 
-- each edit of tests/wrong has these two lines, each one of must-fail has one row, and each can be
-  applied: what it replaces is there once in the file that it names (`rt ci` passes one that cannot)
+- each edit has these two lines, and can be applied: what it replaces is there once in the file that
+  it names (`rt ci` passes one that cannot)
 - each row has three cells: the body, what refuses it, and what shows that: an edit, a test, a case,
   a script, or the words `by reading`
 - what a row names exists: edits, tests, cases and scripts, and in its second cell the calls,
@@ -23,7 +23,7 @@ PAGE = repository.TOP / "docs/WRONG.md"
 MADE = repository.TOP / "docs/REFUSED.md"
 HEAD = """# Wrong bodies that a check refuses
 
-Each row is an edit of `tests/wrong`, in the folder of its crate: what the changed body does, and the call and clause that refuse it. `tools/wrong --write` makes this page from the first lines of the edits; [WRONG.md](WRONG.md) has the edits that each `rt ci` tries, what no clause refuses, and how edits are tried.
+Each row is an edit: what the changed body does, and the call and clause that refuse it. Edits are in `tests/wrong`, in the folder of their crate; those with a star are in the crate's `must-fail`, and each `rt ci` tries them. `tools/wrong --write` makes this page from the first lines of the edits; [WRONG.md](WRONG.md) has what no clause refuses, and how edits are tried.
 """
 CRATES = {it.name for it in repository.CRATES.iterdir()}
 SHOWN = re.compile(r"\b(edit|test|case|script) `([^`]+)`")
@@ -55,14 +55,13 @@ def rows():
             yield Row(f"docs/WRONG.md, line {number}", line.strip("| ").split(" | "))
         inside = line.startswith("| The body |") or inside and line.startswith("|")
     for name, (file, edit) in edits().items():
-        if is_told(file):
-            where = str(file.relative_to(repository.TOP))
-            yield Row(where, [edit.does, edit.refused, f"edit `{name}`"])
+        where = str(file.relative_to(repository.TOP))
+        yield Row(where, [edit.does, edit.refused, f"edit `{name}`"])
 
 
-def is_told(file):
-    """Whether an edit has its row in its own first lines: those of must-fail have theirs by hand."""
-    return file.parent.name != "must-fail"
+def shown(file, edit):
+    """An edit's name on the page, with a star if each `rt ci` tries it."""
+    return f"`{edit.name}`" + (" *" if file.parent.name == "must-fail" else "")
 
 
 @functools.cache
@@ -82,7 +81,7 @@ def page():
     parts = [HEAD]
     for crate in repository.crates():
         own = [(file, it) for name, (file, it) in edits().items() if name.startswith(f"{crate}::")]
-        lines = [f"| {it.does} | {it.refused} | `{it.name}` |" for file, it in own if is_told(file)]
+        lines = [f"| {it.does} | {it.refused} | {shown(file, it)} |" for file, it in own]
         if lines:
             head = ["| The body | Refused by | Edit |", "|---|---|---|"]
             parts.append("\n".join([f"## {crate}\n", *head, *lines]) + "\n")

@@ -6,7 +6,7 @@ use Rattle.of_mem.specs.Places.{fresh_at, free_at}
 use Rattle.of_mem.specs.Programs.{Program, Done, Read, Write}
 use Rattle.of_mem.specs.Stores.{link_at}
 
--- the next block that was never taken, where there is one
+-- the next block that was never taken, if there is one
 abbrev pub take_fresh : ℕ → ℕ → Bool → Program (Option ℕ)
 take_fresh o n true = Write (fresh_at o) (n + 1) (Done (Some n))
 take_fresh o n false = Done None
@@ -17,7 +17,7 @@ with_fresh o blocks n = take_fresh o n (ltb n blocks)
 abbrev pub with_free_link : ℕ → ℕ → ℕ → Program (Option ℕ)
 with_free_link o b link = Write (free_at o) link (Done (Some b))
 
--- by the pointer that free holds
+-- takes a block, by the pointer of the free list
 abbrev pub with_free : ℕ → ℕ → ℕ → Program (Option ℕ)
 with_free o blocks zero = Read (fresh_at o) (with_fresh o blocks)
 with_free o blocks (suc b) = Read (link_at o b) (with_free_link o b)

@@ -30,12 +30,12 @@ pub record IsBlockTaken (o blocks : ℕ) (m : ℕ → ℕ) (free : List ℕ) (b 
   -- free and fresh are the only cells that changed
   pub cells : (a : ℕ) → a ≢ free_at o → a ≢ fresh_at o → n a ≡ m a
 
--- no block is taken exactly where all of them are out, and then no cell changed
+-- no block is taken exactly if all of them are out, and then no cell changed
 abbrev pub TakesBlock : ℕ → ℕ → (ℕ → ℕ) → List ℕ → Option ℕ → (ℕ → ℕ) → Type 0
 TakesBlock o blocks m free None n = (free ≡ []) × (m (fresh_at o) ≡ blocks) × (n ≡ m)
 TakesBlock o blocks m free (Some b) n = IsBlockTaken o blocks m free b n
 
--- block b, which was out, stands in front of the free list
+-- block b, which was out, is now the front of the free list
 pub record IsGiven (o blocks : ℕ) (m : ℕ → ℕ) (free : List ℕ) (b : ℕ) (n : ℕ → ℕ) : Type 0 where
   pub list : IsFreeList o blocks n (b ∷ free)
   pub others : (x : ℕ) → x ≢ b → IsOut o m free x ↔ IsOut o n (b ∷ free) x

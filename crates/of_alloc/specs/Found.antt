@@ -1,4 +1,4 @@
--- Where a key's block stands in its bucket.
+-- The place of a key's block in its bucket.
 use Rattle.std.specs.Prelude.{◌≡◌, ℕ, List, ◌∷◌, ◌++◌, Some}
 use Rattle.of_mem.specs.Stores.{first_at, second_at, cell_after, value_in}
 

@@ -1,4 +1,4 @@
-//! The allocator of blocks: a free list, and behind it the blocks that were never taken.
+//! The allocator of blocks: a free list, and after it the blocks that were never taken.
 #![tactic(auto)]
 
 ghost use Rattle.of_mem.specs.Calls.{RunsProgram};
@@ -8,7 +8,7 @@ ghost use Rattle.of_alloc.specs.BlockPrograms.{take, give};
 use of_mem::{Need, Part, Plot};
 
 /// Takes a block: the front of the free list, else the next one that was never taken, else none.
-/// None comes exactly where all blocks are out, and then nothing is written. The error names a cell
+/// None comes exactly if all blocks are out, and then nothing is written. The error names a cell
 /// that is read and isn't known.
 pub fn take(plot: &Plot, part: &mut Part) -> Result<Option<u32>, Need>
     requires { HasFreeList plot.now part.old }

@@ -9,13 +9,13 @@ pub trait Brake: Drop {
     /// How often it has denied a step: a count that never falls.
     ghost denials: { Self → ℕ };
 
-    /// Where they are told, the steps left, or none where there is no end.
+    /// The steps left, if the brake reports them; none of them is for no limit.
     ghost left: { Self → Option (Option ℕ) };
 
-    /// Where they are counted, the answered calls that it was told of.
+    /// The answered calls that it has heard of, if it counts them.
     ghost answers: { Self → Option ℕ };
 
-    /// Where they are counted, how often it was asked.
+    /// How often it was asked, if it counts that.
     ghost asks: { Self → Option ℕ };
 
     /// Sets the steps left; None is no end.

@@ -1,10 +1,10 @@
-//! A brake with so many steps.
+//! A brake with a number of steps.
 
 ghost use Rattle.std.specs.Prelude.{◌≡◌, Some, None};
 
 use crate::brake::Brake;
 
-/// A brake that tells its steps left, and denies exactly where none is.
+/// A brake that tells its steps left, and denies exactly if none is.
 #[derive(Drop)]
 pub struct Fuel {
     denials: u64,

@@ -8,13 +8,13 @@ use std::alloc::{AllocError, Global};
 use std::sync::Arc;
 use std::sync::atomic::{AtomicBool, Ordering};
 
-/// A brake that allows each ask but one. In that one it looks for the flag of its teller so many
-/// times, allows the step at the first look that finds it set, and else denies it. It tells no
-/// steps left.
+/// A brake that allows each ask but one. In that one it looks for its teller's flag a given number
+/// of times, allows the step at the first look that finds it set, and otherwise denies it. It does
+/// not report its steps left.
 #[derive(Drop)]
 pub struct Holder {
     told: Arc<AtomicBool, Global>,
-    // How many asks come up to the one that it holds, that one too; 0 where that has come.
+    // How many asks come up to the one that it holds, that one too; 0 if that has come.
     until: u64,
     turns: u64,
     denials: u64,
@@ -50,7 +50,7 @@ pub fn hold_pair(alloc: Global, at: u64, turns: u64) -> Result<(Holder, Teller),
 }
 
 impl Holder {
-    // Whether one of so many looks finds the flag set.
+    // Whether one of `turns` looks finds the flag set.
     fn is_told(&self) -> bool {
         for _ in 0..self.turns {
             if self.told.load(Ordering::SeqCst) {

@@ -1,4 +1,4 @@
--- What a call takes off the steps of its brake, and what it tells it.
+-- What a call takes off the steps that its brake has left, and what the brake hears of it.
 use Rattle.std.specs.Prelude.{◌≡◌, ℕ, ◌+◌, Option, Some, None, Result, Ok, Err}
 use Rattle.std.proofs.Common.{zero, suc}
 use Rattle.of_brake.specs.Stops.{HasHeardAnswer, saturating_next}
@@ -16,7 +16,7 @@ abbrev pub TakesStepsFrom : (before after : Option ℕ) → (n : ℕ) → Type 0
 TakesStepsFrom None after n = after ≡ None
 TakesStepsFrom (Some left) after n = (rest : ℕ) × (left ≡ n + rest) × (after ≡ Some rest)
 
--- the same of a brake, where it tells its steps left; whether it does never changes
+-- the same of a brake that may report its steps left; whether it does never changes
 abbrev pub TakesSteps : (before after : Option (Option ℕ)) → (n : ℕ) → Type 0
 TakesSteps None after n = after ≡ None
 TakesSteps (Some left) None n = ⊥
@@ -26,34 +26,34 @@ TakesSteps (Some left) (Some rest) n = TakesStepsFrom left rest n
 abbrev pub UsesCountedSteps : (before after : Option (Option ℕ)) → (a b : ℕ) → Type 0
 UsesCountedSteps before after a b = (n : ℕ) × (b ≡ a + n) × TakesSteps before after n
 
--- the last of so many asks is denied just where one step fewer was left at first; where there is no
--- end, none is
+-- the last ask of `asked` is denied exactly if only one step fewer was left at first; without a
+-- limit none is
 abbrev pub StopsWhenUsedUp : (left : Option ℕ) → (asked : ℕ) → Type 0
 StopsWhenUsedUp None asked = ⊥
 StopsWhenUsedUp (Some left) asked = asked ≡ left + 1
 
--- the same of a brake, where it tells its steps left
+-- the same of a brake, if it reports its steps left
 abbrev pub StopsWhenToldUsedUp : (left : Option (Option ℕ)) → (asked : ℕ) → Type 0
 StopsWhenToldUsedUp None asked = Unit {0}
 StopsWhenToldUsedUp (Some left) asked = StopsWhenUsedUp left asked
 
--- a stop comes only where the steps left are used up
+-- a stop comes only when the steps left are used up
 abbrev pub StopsAt : (left : Option (Option ℕ)) → Result Outcome CallErr → Type 0
 StopsAt left (Ok o) = Unit {0}
 StopsAt left (Err (Stopped asked)) = StopsWhenToldUsedUp left asked
 StopsAt left (Err (Spent seq)) = Unit {0}
 
--- the brake was told of an answer, once, and else of none, where it counts them
+-- a brake that counts answers has heard of one more if the call was answered, and else of no more
 abbrev pub HearsAnswerOnce : (before after : Option ℕ) → Result Outcome CallErr → Type 0
 HearsAnswerOnce before after (Ok o) = HasHeardAnswer before after
 HearsAnswerOnce before after (Err e) = after ≡ before
 
--- a count that went up so many times; it stops at its type's end
+-- a count that went up this many times; it stays at its type's greatest number
 unfoldable pub later : (more : ℕ) → ℕ → ℕ
 later zero n = n
 later (suc more) n = saturating_next (later more n)
 
--- it was asked so many times, where asks are counted
+-- a brake that counts its asks was asked this many times
 abbrev pub AskedFor : (before after : Option ℕ) → (more : ℕ) → Type 0
 AskedFor None after more = after ≡ None
 AskedFor (Some n) after more = after ≡ Some (later more n)

@@ -37,8 +37,8 @@ pub record IsCaller {W : Type 0} (meaning : W → Meaning) (r : Row W) (c : Call
   pub within : IsOpen (caller_call c).place
       → (caller_call c).steps < bound (machine_setup meaning c.machine)
 
--- a caller of some row that has no open call leaves a member that has none, with as many calls
--- behind it
+-- a caller of some row that has no open call leaves a member that has none, and has made as many
+-- calls
 abbrev pub LeavesIdleMember : {W : Type 0} → (W → Meaning) → Caller W → Member → Type 0
 LeavesIdleMember {W} meaning c m =
     (r : Row W) → IsCaller meaning r c → IsIdle (caller_call c)

@@ -1,4 +1,4 @@
--- What a call tells its caller: how it has ended, or that it is still open.
+-- What a call's answer lets its caller know: how it has ended, or that it is still open.
 use Rattle.std.specs.Prelude.{◌≡◌, ℕ, ◌+◌, ◌<◌, ◌≤◌, List, [], ◌∷◌, ◌++◌, length, Some, Result, Ok, Err}
 use mathlib.Core.List.{IsPrefix}
 use Rattle.of_mem.specs.Meaning.{Meaning}
@@ -39,9 +39,9 @@ pub record HasEndedWith (S : Setup) (Lawful : List ℕ → Type 0) (B : TableSta
   -- a batch that was seen has it with its reply; or it only reads, and the reply is the meaning in
   -- the state at its sequence; or what was seen has come to the limit without it
   pub stands : CallHasEnded S B (seen_history w.seen) (seen_seq B w.seen) m.caller m.made m.op o
-  -- a read's reply is the meaning behind the batches that were seen up to its sequence
+  -- a read's reply is its operation's meaning after the batches that were seen up to its sequence
   pub meant : IsMeantReply S B (seen_history w.seen) m.op o
-  -- an answer tells the steps of the whole call
+  -- an answer counts the steps of the whole call
   pub steps : TellsSteps (m.steps + n) o
   -- and those of no call, a spent one neither, are more than the bound
   pub within : m.steps + n ≤ bound S
@@ -49,10 +49,10 @@ pub record HasEndedWith (S : Setup) (Lawful : List ℕ → Type 0) (B : TableSta
   pub touched : IsWithinTouched S Lawful m.op (m.steps + n)
   -- an announced call is above all that was seen when it began, and no read is below
   pub beyond : IsNotBefore (since_after B v x) o
-  -- it is spent exactly where a round that began at the limit looked for it in vain
+  -- it is spent exactly if a round that began at the limit did not find its ticket
   pub last : IsLastStep S Lawful d o
 
--- it is open still, and has a step left
+-- the call is still open, and has a step left
 pub record IsStillOpen (S : Setup) (m : CallState) (x : KnownCaller) (n : ℕ) (d : CallState)
     (y : KnownCaller) : Type 0 where
   pub open_call : IsOpen d.place
@@ -70,10 +70,10 @@ TellsResult S L B m v x n d w y (Err (Stopped asked)) =
     IsStillOpen S m x n d y × (asked ≡ n + 1) × (m.steps + asked ≤ bound S)
 TellsResult S L B m v x n d w y (Err (Spent seq)) = HasEndedWith S L B m v x n d w y (Over seq)
 
--- what is told of steps that were made: the member keeps the machine; what was seen is a legal
--- history; it has of the caller's calls just those that the caller made, as they have ended,
--- each announced one that was answered in one batch; and in the events of its past the caller's
--- calls began and ended so
+-- What is known of steps that were made. The member keeps the machine. What was seen is a legal
+-- history. Of the caller's calls it has exactly those that the caller made, as they have ended, and
+-- each announced one that was answered in one batch. In the events of its past the caller's calls
+-- began and ended in the same way.
 pub record TellsStepsMade (S : Setup) (B : TableStart) (d : CallState) (w : View) (y : KnownCaller)
     : Type 0 where
   pub machine : y.machine ≡ d
@@ -82,7 +82,7 @@ pub record TellsStepsMade (S : Setup) (B : TableStart) (d : CallState) (w : View
   pub once : HasOwnOnce S B w.seen y
   pub told : IsToldBy S B w.past d.caller y
 
--- what a call tells with this result, where the count of steps went from a to b
+-- what a call tells with this result; the count of steps went from a to b
 pub record TellsCall (S : Setup) (Lawful : List ℕ → Type 0) (B : TableStart)
     (m : CallState) (v : View) (a : ℕ) (d : CallState) (w : View) (b : ℕ)
     (r : Result Outcome CallErr) : Type 0 where
@@ -108,10 +108,10 @@ pub record TellsCall (S : Setup) (Lawful : List ℕ → Type 0) (B : TableStart)
       → length (operations_begun v.past m.caller) ≤ length (operations_known before)
   -- each step that is counted was made on the table
   pub turns : kept.turns ≡ before.turns + steps
-  -- and the member keeps what was seen when the call began, also where it was stopped
+  -- and the member keeps what was seen when the call began, also if it was stopped
   pub since : 0 < steps → kept.since ≡ since_after B v before
-  -- however it went on, also where it was stopped: with its steps before this call it has made no
-  -- more than what operations of the work touch allows
+  -- also if the call was stopped: with its steps before, it has made no more than what operations
+  -- of the work touch allows
   pub touched : 0 < steps → IsWithinTouched S Lawful m.op (m.steps + steps)
   pub result : TellsResult S Lawful B m v before steps d w kept r
 

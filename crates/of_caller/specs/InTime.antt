@@ -24,43 +24,43 @@ pub data Mark : Type 0 where
   BeginsCall : (caller : ℕ) → Mark
   EndsCall : (caller : ℕ) → Mark
 
--- how many calls of a caller have begun in these marks
+-- how many calls of the caller have begun in these marks
 abbrev pub begun_in : (caller : ℕ) → List Mark → ℕ
 begun_in c [] = 0
 begun_in c (BeginsCall d ∷ ms) = (if c == d then 1 else 0) + begun_in c ms
 begun_in c (EndsCall d ∷ ms) = begun_in c ms
 
--- and how many have ended
+-- how many calls of the caller have ended in these marks
 abbrev pub over_in : (caller : ℕ) → List Mark → ℕ
 over_in c [] = 0
 over_in c (BeginsCall d ∷ ms) = over_in c ms
 over_in c (EndsCall d ∷ ms) = (if c == d then 1 else 0) + over_in c ms
 
--- after the first k marks, of a run from this start, the call of the entry has ended
+-- by the first k marks of a run from this start, the call of the entry has ended
 abbrev pub EntryHasEnded : Start → List Mark → (k : ℕ) → Entry → Type 0
 EntryHasEnded s ms k e = e.index < finished_of s e.caller + over_in e.caller (take k ms)
 
--- after the first k marks it has not begun
+-- by the first k marks, the call of the entry has not begun
 abbrev pub NotBegun : Start → List Mark → (k : ℕ) → Entry → Type 0
 NotBegun s ms k e = finished_of s e.caller + begun_in e.caller (take k ms) ≤ e.index
 
--- the first call ends before the second begins: there is a moment between them
+-- the call of e ends before that of f begins: there is a moment between them
 abbrev pub EndsBefore : Start → List Mark → Entry → Entry → Type 0
 EndsBefore s ms e f = (k : ℕ) × EntryHasEnded s ms k e × NotBegun s ms k f
 
--- the second comes after the first in the history: at a higher sequence, or, if it was not
--- announced, at no lower one
+-- f comes no earlier than e in the history: its sequence is not lower, and is higher if f was
+-- announced
 abbrev pub StandsBehind : Entry → Entry → Type 0
 StandsBehind e f = (e.seq ≤ f.seq) × (IsTrue f.announced → e.seq < f.seq)
 
--- each entry comes after those whose calls ended before its own call began
+-- an entry comes no earlier than each entry whose call ended before its own call began
 abbrev pub RespectsTime : Start → List Mark → Report → Type 0
 RespectsTime s ms r =
     All (λ e. All (λ f. EndsBefore s ms e f → StandsBehind e f) r.entries) r.entries
 
 -- ---- the marks of a schedule
 
--- the mark of an event: a begin has one, and a turn that ends a call
+-- an event that begins a call has a mark, and so has a turn that ends one
 abbrev pub marks_of : Setup → Moment → Event → List Mark
 marks_of S w (Begins i op) = BeginsCall i ∷ []
 marks_of S w (Turns i) =
@@ -70,7 +70,7 @@ marks_of S w (Loads c) = []
 marks_of S w (Evicts k) = []
 marks_of S w (Raises c) = []
 
--- the marks of events, from a world on
+-- the marks of these events, the first of which happens at this moment
 abbrev pub marks_in : Setup → Moment → List Event → List Mark
 marks_in S w [] = []
 marks_in S w (e ∷ es) = marks_of S w e ++ marks_in S (after_event S w e) es
@@ -81,7 +81,7 @@ course_of p B items = marks_in (plan_setup p) (opening_at p B) (events_of_items 
 
 -- ---- what holds of all schedules and teams
 
--- the report of what a schedule of the plan leaves, from whatever start, respects its real time
+-- the report of what a schedule of the plan leaves, from any start, respects its real time
 abbrev pub SchedulesRespectTime : Plan → Type 0
 SchedulesRespectTime p =
     (s : Start) (B : TableStart) → MayStart (plan_setup p) (IsLawfulFor p) B
@@ -92,7 +92,7 @@ SchedulesRespectTime p =
     → (r : Report) → IsLawfulRecord p s e r
     → RespectsTime s (marks_in (plan_setup p) (opening_at p B) es) r
 
--- so does the report of what a team leaves, with the schedule that its run is
+-- so does the report of what a team leaves, with the schedule that its run was
 abbrev pub TeamsRespectTime : Plan → Type 0
 TeamsRespectTime p =
     (s : Start) (B : TableStart) (e : Ended) (v : View) → IsTeamOf p s B e v

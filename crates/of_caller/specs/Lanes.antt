@@ -39,14 +39,14 @@ pub record Appends {A : Type 0} (P : A → Type 0) (xs ys : List A) : Type 0 whe
   pub is : ys ≡ xs ++ item ∷ []
   pub holds : P item
 
--- the kept caller has no open call, and i of its scripts behind those that were done are answered
+-- the kept caller has no open call, and i of its scripts after the first `behind` are answered
 pub record HasAnsweredScripts (p : Plan) (behind c : ℕ) (x : KnownCaller) (answers : List Answer)
     (i : ℕ) : Type 0 where
   pub idle : IsIdle x.machine
   pub answered : AreAnswered p behind c x.ended answers
   pub count : length answers ≡ i
 
--- so it is of a caller between two calls, whose member shows its machine
+-- the same of a caller between two calls, whose member shows its machine
 pub record CallerHasAnswered (p : Plan) (behind c : ℕ) (r : Row Scripts) (caller : Caller Scripts)
     (answers : List Answer) (i : ℕ) : Type 0 where
   pub is_caller : IsCaller scripts_meaning r caller
@@ -66,13 +66,14 @@ pub record CallerHasEnded (p : Plan) (behind c : ℕ) (r : Row Scripts) (caller 
   pub number : kept.machine.caller ≡ c
   pub keeps : KeepsCaller p behind c answers ending kept
 
--- a brake that tells its steps left gave just those that the answers behind these tell
+-- a brake that reports its steps left gave the steps of the answers after `these`, and no others
 abbrev pub TakesStepsOfAnswers : (before after : Option (Option ℕ)) → (these all : List Answer)
     → Type 0
 TakesStepsOfAnswers before after xs ys =
     (n : ℕ) × (answer_steps ys ≡ answer_steps xs + n) × TakesSteps before after n
 
--- the steps of the answers behind these, and of the open call, keep to what such a brake had left
+-- the steps of the answers after `these`, and of the open call, are within what such a brake had
+-- left
 abbrev pub KeepsToBrake : (left : Option (Option ℕ)) → (these all : List Answer) → Ending → Type 0
 KeepsToBrake None xs ys ending = Unit {0}
 KeepsToBrake (Some stop) xs ys ending =
@@ -91,7 +92,7 @@ module _ {X : Type 0} {Y : X → Type 0} where
     pub first : a.first ≤ length (scripts_of p a.number)
     pub room : length (scripts_of p a.number) - a.first ≤ vec_capacity a.answers
 
-  -- i of its scripts behind those that were done are answered
+  -- i of its scripts after those that were done before are answered
   pub record LaneAt (p : Plan) (r : Row Scripts) (a : TeamCaller X Y) (i : ℕ) : Type 0 where
     pub lane : IsLane p a
     pub caller : CallerHasAnswered p a.first a.number r a.caller a.answers.items i

@@ -24,7 +24,7 @@ batch_calls B w k = (batch_at B w.batches k).calls
 abbrev pub batch_scripts : Plan → TableStart → Moment → ℕ → List (List Instr)
 batch_scripts p B w k = map (call_script p) (batch_calls B w k)
 
--- the store after so many batches, by serial replay from the start's store
+-- the store after the first k batches, by serial replay from the start's store
 abbrev pub store_after_batches : Plan → TableStart → Store → Moment → ℕ → Store
 store_after_batches p B st w zero = st
 store_after_batches p B st w (suc j) =
@@ -34,6 +34,6 @@ store_after_batches p B st w (suc j) =
 abbrev pub store_at_seq : Plan → TableStart → Store → Moment → ℕ → Store
 store_at_seq p B st w k = store_after_batches p B st w (k - B.seq)
 
--- a reply to so many instructions, as a work gives it
+-- a reply to this many instructions, as a work gives it
 abbrev pub raw_reply_of : ℕ → Reply → RawReply
 raw_reply_of n r = reply_cells (reply_to n r)

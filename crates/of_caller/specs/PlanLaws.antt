@@ -12,13 +12,14 @@ pub record HasTableLaws (S : Setup) (Lawful : List ℕ → Type 0) : Type 0 wher
   pub events : EventsKeepInvariant S Lawful
   pub schedules : SchedulesKeepInvariant S Lawful
   pub sound : InvariantIsSound S Lawful
-  -- words behind the table's own may be anything
+  -- words after the table's own may be anything
   pub beside : WordsBehindAreFree S Lawful
   pub beside_calls : WordsBehindKeepCalls S Lawful
   -- a step of an open call finds a word, and is a step whatever its kind
   pub finds : StepsFindTheirWord
   pub steps : OpenStepsAreSteps S Lawful
-  -- every schedule leaves a sound moment, and each caller's calls and turns as its events tell
+  -- every schedule leaves a sound moment, and the calls and turns of each caller are those of its
+  -- events
   pub moments : EveryMomentIsSound S Lawful
   pub calls : EveryCallStands S Lawful
   pub more_calls : EventsLeadCalls S Lawful

@@ -27,13 +27,13 @@ pub record IsHeldIn (m : ℕ → ℕ) (caller : ℕ) (e : Entry) : Type 0 where
   pub held : IsHeldBy (reply_in MOST_INSTRS m caller) reply
   pub response : e.reply ≡ reply_value_of reply
 
--- a caller's own cells hold the last announced one of its entries, or the ticket n where none is
+-- a caller's own cells hold the last announced one of its entries, or the ticket n if none is
 -- announced
 pub record HoldsLastAnnounced (m : ℕ → ℕ) (caller n : ℕ) (es : List Entry) : Type 0 where
   pub from : n ≤ m (ticket_cell_at MOST_INSTRS caller)
   -- no announced entry has a higher ticket
   pub last : All (λ e. IsTrue e.announced → e.index < m (ticket_cell_at MOST_INSTRS caller)) es
-  -- and they hold one, where the ticket isn't n
+  -- and they hold an announced entry, if the ticket isn't n
   pub has : (m (ticket_cell_at MOST_INSTRS caller) ≡ n) ⊎ Any (IsHeldIn m caller) es
 
 -- a table starts where the report of a run ends: at its sequence and its store, and each caller's
@@ -54,7 +54,7 @@ MayRestartAfter p s e r =
     IsStartRow (plan_setup p) (IsLawfulFor p) found
     × StartsAfterReport p s r (start_from_durable p.callers (plan_data_cells p) found)
 
--- so it is of each run
+-- this holds of each run of a plan
 abbrev pub RunsRestart : Type 0
 RunsRestart =
     (p : Plan) (s : Start) (B : TableStart) (w : Moment) (e : Ended) → IsRunOfPlan p s B w e

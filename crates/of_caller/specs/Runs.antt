@@ -24,20 +24,20 @@ use Rattle.of_caller.specs.Tables.{plan_setup, opening_at, operation_of}
 use Rattle.of_caller.specs.Ends.{OutcomeHoldsReply, AnswersStandBeforeSpent, AreAnswers, ending_if_left}
 use Rattle.of_caller.specs.Starts.{StartsAtPlan}
 
--- these are the first of a caller's scripts behind so many, in their order
+-- these are the first of a caller's scripts after the first `behind`, in their order
 pub record AreNextScripts (p : Plan) (behind c : ℕ) (ops : List (List ℕ)) : Type 0 where
   pub count : ℕ
   pub few : count ≤ length (scripts_of p c) - behind
   pub are : ops ≡ map operation_of (take count (drop behind (scripts_of p c)))
 
--- how a caller ends whose calls have ended so, of which so many are answered: one that has a script
--- left is spent where its last call was, and else stopped, having asked for one step more than its
--- open call has made
+-- How a caller ends whose calls have these outcomes, of which `answered` are answers. If it has a
+-- script left and its last call was spent, it is spent. If it has one left otherwise, it is
+-- stopped, and has asked for one step more than its open call has made.
 abbrev pub ending_of_calls : (outs : List Outcome) → (steps scripts_left answered : ℕ) → Ending
 ending_of_calls outs steps n a = if a == n then Done else ending_if_left (last_outcome outs) steps
 
--- the plan's table has come from the start to this world, where the callers have begun these next
--- scripts of theirs, and they have ended so
+-- the plan's table has come from the start to this moment; each caller has begun these of its
+-- scripts, the next ones, and they have these outcomes
 pub record IsMomentOf (p : Plan) (s : Start) (B : TableStart) (w : Moment) (ops : ℕ → List (List ℕ))
     (outs : ℕ → List Outcome) : Type 0 where
   pub plan : IsPlan p
@@ -47,8 +47,8 @@ pub record IsMomentOf (p : Plan) (s : Start) (B : TableStart) (w : Moment) (ops 
   pub calls : (c : ℕ) → c < p.callers
       → HasCalls (plan_setup p) B (finished_of s c) w c (ops c) (outs c)
 
--- what the run has left of caller c tells how its calls have ended; answers are told by place, so
--- none stands behind a spent call, whose script it would be taken for
+-- What the run has left of caller c says how its calls have ended. Answers are found by their
+-- place, so none comes after a spent call, whose script it would be taken for.
 pub record TellsCalls (p : Plan) (s : Start) (w : Moment) (e : Ended) (c : ℕ) (outs : List Outcome)
     : Type 0 where
   pub answers_first : AnswersStandBeforeSpent outs
@@ -56,7 +56,7 @@ pub record TellsCalls (p : Plan) (s : Start) (w : Moment) (e : Ended) (c : ℕ) 
   pub ended : ending_of e c
       ≡ ending_of_calls outs (machine_in w c).steps (scripts_left p s c) (length (answers_of e c))
 
--- a run of the plan from the start has left this, where its table has come to this world
+-- a run of the plan from the start has left this, and its table has come to this moment
 pub record IsRunOfPlan (p : Plan) (s : Start) (B : TableStart) (w : Moment) (e : Ended)
     : Type 0 where
   pub operations : ℕ → List (List ℕ)
@@ -112,18 +112,18 @@ RunsAreLawful =
     (p : Plan) (s : Start) (B : TableStart) (w : Moment) (e : Ended) → IsRunOfPlan p s B w e
     → (r : Report) × IsLawfulRecord p s e r
 
--- and of its report all holds that holds of every run
+-- what holds of the report of every run holds of its report
 abbrev pub RunsAreReported : Type 0
 RunsAreReported =
     (p : Plan) (s : Start) (B : TableStart) (w : Moment) (e : Ended) → IsRunOfPlan p s B w e
     → (r : Report) → IsLawfulRecord p s e r → ReportsRun p s e r
 
--- the steps that the outcomes of caller c tell, and those of its open call
+-- the steps of the outcomes of caller c, and those of its open call
 abbrev pub steps_made : Moment → (c : ℕ) → List Outcome → ℕ
 steps_made w c outs = total_steps outs + (machine_in w c).steps
 
--- in it a caller that has made at most n steps, and just n where it is stopped with no call spent,
--- keeps them as its allowance, where its open call has a step left
+-- in the report of a run, a caller that has made at most n steps, and exactly n if it is stopped
+-- with no call spent, keeps them as its allowance, if its open call has a step left
 abbrev pub RunsKeepAllowances : Type 0
 RunsKeepAllowances =
     (p : Plan) (s : Start) (B : TableStart) (w : Moment) (e : Ended) (run : IsRunOfPlan p s B w e)

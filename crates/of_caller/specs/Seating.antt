@@ -32,7 +32,7 @@ pub record EvictsCells (cells : List ℕ) (v w : View) : Type 0 where
   pub evicted : map (λ e. e.0) w.evicted ≡ map (λ e. e.0) v.evicted ++ cells
   pub loaded : v.loaded ≡ [] → w.loaded ≡ []
 
--- how many scripts of a caller the row has behind it
+-- how many scripts of a caller were done before the row's start
 abbrev pub done_at : Row Scripts → ℕ → ℕ
 done_at r c = done_before (setup_at scripts_meaning r) (row_start scripts_meaning r) c
 

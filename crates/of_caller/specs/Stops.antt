@@ -1,4 +1,4 @@
--- What the brakes that tell their steps left say of the callers of a run.
+-- What is known of the callers of a run whose brakes report how many steps they have left.
 use Rattle.std.specs.Prelude.{◌≡◌, ℕ, ◌+◌, ◌-◌, ◌≤◌, ◌<◌, List, [], ◌∷◌, Option, Some, None}
 use Rattle.of_eval.specs.Record.{end_state_of}
 use Rattle.of_plan.specs.declared.answer.Answer.{Answer}
@@ -8,39 +8,39 @@ use Rattle.of_plan.specs.Plan.{Plan, stop_of}
 use Rattle.of_plan.specs.Report.{EndState, stopped}
 use Rattle.of_plan.specs.Ended.{Ended, answers_of, ending_of}
 
--- the steps that answers tell, added up
+-- the steps that the answers name, added up
 abbrev pub answer_steps : List Answer → ℕ
 answer_steps [] = 0
 answer_steps (a ∷ others) = a.steps + answer_steps others
 
--- the steps of a caller's open call, of which one ask more was made
+-- the steps of a caller's open call: one less than it has asked for
 abbrev pub open_call_steps : Ending → ℕ
 open_call_steps Done = 0
 open_call_steps (Stopped asked) = asked - 1
 open_call_steps (Spent seq) = 0
 
--- a caller with this stop that has ended so made so many steps: just as many as the stop where it
--- is stopped, and else no more; without a stop it isn't stopped
+-- a caller with this stop that has ended in this state made these steps: as many as the stop if it
+-- was stopped, and otherwise no more; without a stop it isn't stopped
 abbrev pub KeepsStop : (stop : Option ℕ) → (steps : ℕ) → EndState → Type 0
 KeepsStop None steps state = state ≡ stopped → ⊥
 KeepsStop (Some most) steps state = (steps ≤ most) × (state ≡ stopped → steps ≡ most)
 
--- answers and an ending keep to a stop
+-- the answers and the ending keep to a stop
 abbrev pub KeepToStop : (stop : Option ℕ) → List Answer → Ending → Type 0
 KeepToStop stop answers ending =
     KeepsStop stop (answer_steps answers + open_call_steps ending) (end_state_of ending)
 
--- the same, where a brake tells its steps left
+-- the same, if a brake reports its steps left
 abbrev pub KeepToToldStop : (left : Option (Option ℕ)) → (stop : Option ℕ) → List Answer → Ending
     → Type 0
 KeepToToldStop None stop answers ending = Unit {0}
 KeepToToldStop (Some steps) stop answers ending = KeepToStop stop answers ending
 
--- a caller of a run keeps to the plan's stop, where its brake tells its steps left
+-- a caller of a run keeps to the plan's stop, if its brake reports its steps left
 abbrev pub CallerKeepsStop : Plan → Ended → (caller : ℕ) → (left : Option (Option ℕ)) → Type 0
 CallerKeepsStop p e c left = KeepToToldStop left (stop_of p c) (answers_of e c) (ending_of e c)
 
--- so does each caller from c on, by the brake at its place
+-- so does each caller from c on, with the brake at its place
 abbrev pub KeepStops : {A : Type 0} → (A → Option (Option ℕ)) → Plan → Ended → (c : ℕ) → List A
     → Type 0
 KeepStops left p e c [] = Unit {0}

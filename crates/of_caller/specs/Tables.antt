@@ -23,7 +23,7 @@ meaning_for p =
 abbrev pub plan_setup : Plan → Setup
 plan_setup p = setup_of p.callers (data_cells p.callers p.blocks) p.limit (meaning_for p)
 
--- data cells of a plan are lawful where they stand for some store
+-- data cells of a plan are lawful if they stand for some store
 abbrev pub IsLawfulFor : Plan → List ℕ → Type 0
 IsLawfulFor p xs = StandsForSome (base_of p.callers MOST_INSTRS) p.blocks (memory_of xs)
 
@@ -31,7 +31,7 @@ IsLawfulFor p xs = StandsForSome (base_of p.callers MOST_INSTRS) p.blocks (memor
 abbrev pub opening_at : Plan → TableStart → Moment
 opening_at p B = opening_moment (plan_setup p) B (table_word_count (plan_setup p))
 
--- the same of zeros
+-- the table of a plan of zeros, before anything has happened
 abbrev pub opening_for : Plan → Moment
 opening_for p = opening_at p (zero_start (plan_setup p))
 

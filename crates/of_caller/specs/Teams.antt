@@ -35,8 +35,8 @@ use Rattle.of_caller.specs.Scheduled.{IsScheduled}
 abbrev pub script_operation_at : Plan → (caller index : ℕ) → List ℕ
 script_operation_at p c x = operation_of (slice_index_or (scripts_of p c) x [])
 
--- calls that have ended are those of a caller's scripts behind so many, in order, and these are
--- their answers
+-- the calls that have ended are those of a caller's scripts after the first `behind`, in order, and
+-- these are their answers
 pub record AreAnswered (p : Plan) (behind c : ℕ) (calls : List EndedCall) (answers : List Answer)
     : Type 0 where
   pub few : length answers ≤ length (scripts_of p c) - behind
@@ -46,7 +46,7 @@ pub record AreAnswered (p : Plan) (behind c : ℕ) (calls : List EndedCall) (ans
   pub told : AreAnswers (map (λ e. e.outcome) calls) answers
 
 -- the machine of a stopped caller has the operation open, of which one ask more was made than
--- steps, and at most as many as a call may make; it has none open where the first was denied
+-- steps, and at most as many as a call may make; it has none open if the first was denied
 pub record IsStopped (p : Plan) (op : List ℕ) (asked : ℕ) (m : CallState) : Type 0 where
   pub some : 1 ≤ asked
   pub within : asked ≤ bound_of p
@@ -54,8 +54,8 @@ pub record IsStopped (p : Plan) (op : List ℕ) (asked : ℕ) (m : CallState) : 
   pub open_call : 1 < asked → IsOpen m.place × (m.op ≡ op) × (m.steps + 1 ≡ asked)
 
 -- what is kept of a caller that ended so beyond its answered calls, the next script of which is
--- number x, of n in all: nothing where it is done; at most the open call where it is stopped; the
--- spent one where no sequence was left
+-- number x, of n in all: nothing if it is done; at most the open call if it is stopped; the
+-- spent one if no sequence was left
 abbrev pub KeepsLastCall : Plan → (c x n : ℕ) → CallState → List EndedCall → Ending → Type 0
 KeepsLastCall p c x n m beyond Done = (x ≡ n) × IsIdle m × (beyond ≡ [])
 KeepsLastCall p c x n m beyond (Stopped asked) =
@@ -64,8 +64,8 @@ KeepsLastCall p c x n m beyond (Spent seq) =
     (x < n) × IsIdle m
     × (beyond ≡ record { op = script_operation_at p c x; outcome = RanOut seq } ∷ [])
 
--- what is kept of a caller, of whose scripts so many were done before, is what its answers and its
--- ending tell
+-- what is kept of a caller, of whose scripts the first `behind` were done before, agrees with its
+-- answers and its ending
 pub record KeepsCaller (p : Plan) (behind c : ℕ) (answers : List Answer) (ending : Ending)
     (x : KnownCaller) : Type 0 where
   pub calls : List EndedCall
@@ -101,7 +101,7 @@ pub record IsTeamOf (p : Plan) (s : Start) (B : TableStart) (e : Ended) (v : Vie
       → KeepsCallerWith c (KeepsCaller p (finished_of s c) c (answers_of e c) (ending_of e c))
       v.kept
 
--- the entry and the call are of one script
+-- the entry is of the same caller as the call, and its script is the one of the call's ticket
 abbrev pub IsEntryOf : Entry → Call → Type 0
 IsEntryOf f k = (k.caller ≡ f.caller) × (k.ticket ≡ f.index + 1)
 
@@ -129,7 +129,7 @@ pub record IsHandedBack (p : Plan) (s : Start) (B : TableStart) (e : Ended) (w :
   -- and it is what some turns and the plan's evictions leave, one after the other
   pub scheduled : (items : List Item) × IsScheduled p s B items e
 
--- from whatever start of the plan that is the row's
+-- for each start of the plan that is the row's
 abbrev pub HandsBack : Plan → Row Scripts → Ended → View → Type 0
 HandsBack p r e w =
     (s : Start) → StartsAtPlan p s (start_of_row r) → IsHandedBack p s (start_of_row r) e w

@@ -1,4 +1,4 @@
--- When a call is spent: a round that began at the limit looks for it in vain.
+-- When a call is spent: a round that began at the limit does not find its ticket.
 use Rattle.std.specs.Prelude.{◌≡◌, ◌≢◌, ℕ, ◌≤◌, ◌↔◌, List}
 use Rattle.of_cell.specs.Words.{seq_of, payload_of}
 use Rattle.of_core.specs.declared.place.Place.TheVariants.{LoadOwnTicket}
@@ -20,8 +20,8 @@ abbrev pub IsSpent : Outcome → Type 0
 IsSpent (Answered s announced raw steps) = ⊥
 IsSpent (Spent s) = Unit {0}
 
--- the call's last step led to the machine d with this outcome, which is spent exactly where the
--- step looked in vain
+-- the call's last step led to the machine d with this outcome, which is spent exactly if the step
+-- did not find the call's ticket
 pub record IsLastStep (S : Setup) (Lawful : List ℕ → Type 0) (d : CallState) (o : Outcome)
     : Type 0 where
   pub machine : CallState

@@ -19,8 +19,8 @@ use thiserror::Error;
 /// Why a call has no answer.
 #[derive(Clone, Copy, Debug, PartialEq, Eq, Error)]
 pub enum CallErr {
-    /// The brake was asked so many times in this call, and denied the last of them. The call stays
-    /// open.
+    /// The brake was asked for this many steps in the call, and denied the last of them. The call
+    /// stays open.
     #[error("stopped at step {asked}")]
     Stopped { asked: u64 },
     /// The sequence has come to the row's limit `seq` without the call, which is over.

@@ -40,11 +40,11 @@ pub fn plan_keeps_laws(plan: &Plan)
     machines();
 }
 
-/// What a run of a plan leaves is a lawful record from the run's start, where its table has come to
-/// a moment of the plan and what is left of each caller tells how its calls have ended. Its report
-/// says what holds of every run: the sequence is within the limit, an entry beyond a caller's
-/// answers was announced, and each answered call made its least steps. Each caller keeps to the
-/// steps that it has made.
+/// What a run of a plan leaves is a lawful record from the run's start, if its table has come to a
+/// moment of the plan and what is left of each caller agrees with how its calls have ended. Its
+/// report says what holds of every run: the sequence is within the limit, an entry beyond a
+/// caller's answers was announced, and each answered call made its least steps. Each caller keeps
+/// to the steps that it has made.
 pub fn runs_are_lawful()
     ensures replies { RepliesAreHeld }
     ensures lawful { RunsAreLawful }
@@ -70,7 +70,7 @@ pub fn teams_are_lawful(plan: &Plan)
 }
 
 /// From what recovery makes of the durable words that a run leaves a table may start, and it starts
-/// where the run's report ends: at its sequence and its store, each caller behind its last
+/// where the run's report ends: at its sequence and its store, with each caller after its last
 /// announced entry.
 pub fn runs_restart()
     ensures { RunsRestart }

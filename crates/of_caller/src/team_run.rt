@@ -129,7 +129,7 @@ fn gather(
 /// Runs all callers of a plan at once on a row of it, each with its scripts from the first that
 /// isn't done, and one worker beside them that makes the plan's evictions in their order. The brake
 /// of a caller is the one at its place; it is armed with the plan's stop. A caller ends after its
-/// last script, at its first stop, or where no sequence is left. The members are then joined to the
+/// last script, at its first stop, or if no sequence is left. The members are then joined to the
 /// pass, and the row is closed.
 ///
 /// The error is that there is no memory. No caller has made a step then: what follows the taking of

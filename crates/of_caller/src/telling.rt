@@ -24,8 +24,8 @@ impl<W: Work> Caller<W> {
         row.tell(&mut self.member)
     }
 
-    /// Takes in a pass that keeps nobody: the caller then knows all that either had seen. Its calls
-    /// stay as they are, the open one too.
+    /// Takes in a pass that keeps no caller: the caller then knows all that either had seen. Its
+    /// calls stay as they are, the open one too.
     pub fn hear(&mut self, row: &Row<W>, pass: Pass)
         requires caller { IsCaller W.meaning row.now self.old }
         requires pass { IsRowPass row.now pass }

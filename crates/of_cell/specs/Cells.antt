@@ -52,7 +52,7 @@ durable_cells callers cells = 1 + callers + cells + callers * (2 * log_room call
 abbrev pub durable_place : (callers cells cell : ℕ) → ℕ
 durable_place callers cells cell = durable_cells callers cells + cell
 
--- the place of a caller's script word x; behind the last of them is the announcement
+-- the place of a caller's script word x; the announcement comes after the last of them
 abbrev pub script_place : (callers instrs cells caller x : ℕ) → ℕ
 script_place callers instrs cells caller x =
     durable_cells callers cells + durable_cells callers cells + caller * (instrs + 1) + x
@@ -61,7 +61,7 @@ script_place callers instrs cells caller x =
 abbrev pub announce_place : (callers instrs cells caller : ℕ) → ℕ
 announce_place callers instrs cells caller = script_place callers instrs cells caller instrs
 
--- the place of the members word, behind all the others
+-- the place of the members word, after all the others
 abbrev pub members_place : (callers instrs cells : ℕ) → ℕ
 members_place callers instrs cells =
     durable_cells callers cells + durable_cells callers cells + callers * (instrs + 1)

@@ -17,19 +17,19 @@ use Rattle.of_cells.specs.History.{IsMeant}
 use Rattle.of_cells.specs.Times.{calls_begun_in}
 use Rattle.of_cells.specs.Serving.{HasStartedIfOpen, cells_at_start, ended_of, events_known_to}
 
--- the outcome that an answer tells
+-- the outcome that an answer describes
 abbrev pub outcome_of : RawAnswer → Outcome
 outcome_of a = Answered a.seq a.announced a.raw a.steps
 
--- an answer's reply is what the operation means on cells that operations lead to, one after the
--- other, from those with which the row started
+-- an answer's reply is what its operation gives on some cells that operations, run one after the
+-- other, make of the cells with which the row started
 abbrev pub AnswersAsMeant : {W : Type 0} → (W → Meaning) → Row W → (op : List ℕ)
     → Result RawAnswer RunError → Type 0
 AnswersAsMeant meaning r op (Ok a) =
     IsMeant (meaning (key_of r).work) (cells_at_start meaning r) op a.raw
 AnswersAsMeant meaning r op (Err e) = Unit {0}
 
--- the calls that have ended after these, where a call of an operation has come to this
+-- the ended calls, if a call of this operation has had this result after them
 abbrev pub made_with : (op : List ℕ) → Result RawAnswer RunError → List EndedCall → List EndedCall
 made_with op (Ok a) es = es ++ record { op = op; outcome = outcome_of a } ∷ []
 made_with op (Err (Stopped asked)) es = es
@@ -38,7 +38,7 @@ made_with op (Err InCall) es = es
 made_with op (Err NoCall) es = es
 made_with op (Err NoTicket) es = es
 
--- a call of the caller is open, of whatever operation
+-- a call of the caller is open, of any operation
 abbrev pub IsInCall : {W : Type 0} → Caller W → Type 0
 IsInCall c = IsOpen (caller_call c).place
 
@@ -89,7 +89,7 @@ abbrev pub BeginsAsNext : {W : Type 0} → (number : ℕ) → Result RawAnswer R
 BeginsAsNext n result c =
     HasStarted result → calls_begun_in (events_known_to c) n ≤ length (ended_of c)
 
--- so it is whatever its number
+-- the same for the caller's own number
 abbrev pub BeginsItsNext : {W : Type 0} → Result RawAnswer RunError → Caller W → Type 0
 BeginsItsNext result c = BeginsAsNext (caller_call c).caller result c
 

@@ -34,7 +34,7 @@ IsCellHandle meaning h = Serves meaning (home_of h) (number_of_handle h) (caller
 abbrev pub made_by : {W : Type 0} → CellHandle W → List EndedCall
 made_by h = ended_of (caller_of h)
 
--- a call of it is open, of whatever operation
+-- a call of it is open, of any operation
 abbrev pub HasCallOpen : {W : Type 0} → CellHandle W → Type 0
 HasCallOpen h = IsInCall (caller_of h)
 
@@ -51,8 +51,8 @@ abbrev pub StaysOpenOnlyIfStopped : {W : Type 0} → (op : List ℕ) → Result 
     → CellHandle W → Type 0
 StaysOpenOnlyIfStopped op result h = LeavesOpen op result (caller_of h)
 
--- an answer's reply is what the operation means on cells that operations lead to, one after the
--- other, from those with which the handle's memory was opened
+-- an answer's reply is what its operation gives on some cells that operations, run one after the
+-- other, make of the cells with which the handle's memory was opened
 abbrev pub RepliesAsMeant : {W : Type 0} → (W → Meaning) → (op : List ℕ) → CellHandle W
     → Result RawAnswer RunError → Type 0
 RepliesAsMeant meaning op h result = AnswersAsMeant meaning (home_of h) op result
@@ -66,11 +66,11 @@ steps_so_far h = (caller_call (caller_of h)).steps
 abbrev pub steps_of_calls : {W : Type 0} → CellHandle W → ℕ
 steps_of_calls h = steps_made_by (caller_of h)
 
--- its calls have made at most so many steps more
+-- its calls have made at most this many steps more
 abbrev pub MakesAtMost : {W : Type 0} → (most : ℕ) → (before now : CellHandle W) → Type 0
 MakesAtMost most h k = steps_of_calls k ≤ steps_of_calls h + most
 
--- so it is if its open call goes on: with the steps that the call has made already
+-- the same if its open call goes on: the steps that the call has made already count too
 abbrev pub GoesOnWithin : {W : Type 0} → (most : ℕ) → (before now : CellHandle W) → Type 0
 GoesOnWithin most h k = HasCallOpen h → steps_so_far h + steps_of_calls k ≤ steps_of_calls h + most
 
@@ -109,8 +109,8 @@ tickets_behind meaning h = made_before meaning (home_of h) (number_of_handle h)
 abbrev pub HasNoTicketLeft : {W : Type 0} → CellHandle W → Type 0
 HasNoTicketLeft h = calls_begun h + 1 < 4294967296 → ⊥
 
--- the calls of a handle that has none open are those with which its memory was opened, and those
--- that it has made since
+-- if a handle has no open call, its number has begun the calls from before its memory was opened
+-- and those that the handle has made since, and no others
 abbrev pub CallsAreCounted : {W : Type 0} → (W → Meaning) → Type 0
 CallsAreCounted {W} meaning =
     (h : CellHandle W) → IsCellHandle meaning h → (HasCallOpen h → ⊥)
@@ -129,7 +129,7 @@ pub record MayCall {W : Type 0} (h : CellHandle W) : Type 0 where
   pub none : HasCallOpen h → ⊥
   pub left : HasNoTicketLeft h → ⊥
 
--- A call is made exactly if none is open and the number may make one more. It is spent only where
+-- A call is made exactly if none is open and the number may make one more. It is spent only if
 -- the sequence has come to the limit.
 abbrev pub RefusesCall : {W : Type 0} → CellHandle W → Result RawAnswer RunError → Type 0
 RefusesCall h (Ok a) = MayCall h

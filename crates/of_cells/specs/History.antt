@@ -1,5 +1,5 @@
 -- A serial history of operations on a list of cells. An entry is a call as it was run: its caller,
--- the number that it has among its caller's calls, its words and its reply.
+-- its ticket (the number that it has among its caller's calls), its words and its reply.
 use Rattle.std.specs.Prelude.{◌≡◌, ℕ, ◌+◌, ◌<◌, ◌≤◌, ◌⊎◌, false, List, length}
 use Rattle.std.specs.List.{All}
 use Rattle.std.proofs.Common.{get_or}
@@ -14,15 +14,16 @@ use Rattle.of_core.specs.Linear.{Sequences, HasOwnSequence}
 use Rattle.of_core.specs.History.{CallsHaveReplies, numbers_after_calls}
 use Rattle.of_row.specs.Views.{EndedCall, no_ended}
 
--- the operations run one after the other from these cells, and each has the reply that it meets
+-- the operations, run one after the other from these cells, give the replies that the calls have
 abbrev pub IsSerial : Meaning → (cells : List ℕ) → List Call → Type 0
 IsSerial M cells h = CallsHaveReplies M cells h
 
--- the cells after them
+-- the cells after all of these calls
 abbrev pub cells_after : Meaning → (cells : List ℕ) → List Call → List ℕ
 cells_after M cells h = numbers_after_calls M cells h
 
--- each call is there once at most, and the calls of each caller in the order in which it made them
+-- each call is in it at most once, and the calls of each caller are in the order in which it made
+-- them
 abbrev pub StandsInOrder : List Call → Type 0
 StandsInOrder h =
     (p q : ℕ) → p < q → q < length h → IsNewerCall (get_or h p no_call) (get_or h q no_call)
@@ -32,7 +33,7 @@ abbrev pub IsSameReply : RawReply → RawReply → Type 0
 IsSameReply r q =
     (r.shape ≡ q.shape) × ((y : ℕ) → y < MOST_INSTRS → get_or r.values y 0 ≡ get_or q.values y 0)
 
--- the reply is what the operation means on cells that a serial history leads to from these
+-- the reply is what the operation gives on cells to which some serial history leads from these
 pub record IsMeant (M : Meaning) (cells op : List ℕ) (raw : RawReply) : Type 0 where
   pub history : List Call
   pub serial : IsSerial M cells history
@@ -48,40 +49,40 @@ pub record HasEntry (h : List Call) (caller ticket : ℕ) (op : List ℕ) (raw :
   pub words : (get_or h place no_call).op ≡ op
   pub reply : IsSameReply raw (get_or h place no_call).raw
 
--- The history has the call with its reply; it has no call that was spent.
+-- The history has an answered call, with its reply. It does not have a spent one.
 abbrev pub ExplainsEnd : List Call → (caller ticket : ℕ) → (op : List ℕ) → Outcome → Type 0
 ExplainsEnd h c t op (Answered seq announced raw steps) = HasEntry h c t op raw
 ExplainsEnd h c t op (Spent seq) = All (λ (e : Call). e.caller ≡ c → e.ticket ≡ t → ⊥) h
 
--- so it is of each of these calls of a caller, the first of which has the number after n
+-- the history explains how these calls of a caller ended; they have the tickets from n + 1 on
 abbrev pub ExplainsAll : List Call → (caller n : ℕ) → List EndedCall → Type 0
 ExplainsAll h c n es =
     (y : ℕ) → y < length es
     → ExplainsEnd h c (n + y + 1) (get_or es y no_ended).op (get_or es y no_ended).outcome
 
--- and each that was answered has its own sequence in the history
+-- each of these calls that was answered has its own sequence in the history
 abbrev pub HaveOwnSequences : List Call → Sequences → (caller n : ℕ) → List EndedCall → Type 0
 HaveOwnSequences h s c n es =
     (y : ℕ) → y < length es → HasOwnSequence h s c (n + y + 1) (get_or es y no_ended).outcome
 
--- the entry is one of these calls, the first of which has the number after n, or the one after
+-- the entry is one of these calls, of which the first has ticket n + 1, or it is the call after
 -- them, which is open
 abbrev pub IsOneOf : (n : ℕ) → List EndedCall → (IsOpenCall : List ℕ → Type 0) → Call → Type 0
 IsOneOf n es IsOpenCall e =
     ((y : ℕ) × (y < length es) × (e.ticket ≡ n + y + 1) × (e.op ≡ (get_or es y no_ended).op))
     ⊎ ((e.ticket ≡ n + length es + 1) × IsOpenCall e.op)
 
--- so is each entry of the caller
+-- each entry of the caller is one of these ended calls or its open call
 abbrev pub HasOnly : List Call → (caller n : ℕ) → List EndedCall → (IsOpenCall : List ℕ → Type 0)
     → Type 0
 HasOnly h c n es IsOpenCall = All (λ (e : Call). e.caller ≡ c → IsOneOf n es IsOpenCall e) h
 
--- no call of the caller that may write is later than this one
+-- no call of the caller that may write is later than the one with this ticket
 abbrev pub IsUpTo : Meaning → List Call → (caller ticket : ℕ) → Type 0
 IsUpTo M h c t =
     All (λ (e : Call). e.caller ≡ c → M.reads_only e.op ≡ false → e.ticket ≤ t) h
 
--- the call is of this caller, up to this ticket, or above it
+-- the call is one of this caller, up to this ticket, or above it
 abbrev pub IsUpToTicket : (caller ticket : ℕ) → Call → Type 0
 IsUpToTicket n t e = (e.caller ≡ n) × (e.ticket ≤ t)
 

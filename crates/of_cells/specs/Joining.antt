@@ -30,7 +30,7 @@ pub record StaysAsOpened {W : Type 0} (meaning : W → Meaning) (before now : Ce
   pub cells : cells_before meaning now ≡ cells_before meaning before
   pub tickets : (n : ℕ) → tickets_before meaning now n ≡ tickets_before meaning before n
 
--- so it is while handles come and go
+-- this stays so while handles come and go
 abbrev pub MemoriesStay : {W : Type 0} → (W → Meaning) → Type 0
 MemoriesStay {W} meaning = (m k : CellMemory W) → IsStill m k → StaysAsOpened meaning m k
 

@@ -1,4 +1,4 @@
--- A memory of cells that a program has opened, and what its close leaves.
+-- An open memory of cells, and what it leaves when it is closed.
 use Rattle.std.specs.Prelude.{◌≡◌, ◌≢◌, ℕ, ◌+◌, ◌<◌, ◌≤◌, ◌⊎◌, List, [], Some, None, length, slice_set}
 use Rattle.std.specs.Arc.{arc_value}
 use Rattle.std.specs.List.{All}
@@ -30,7 +30,7 @@ use Rattle.of_cells.specs.Handles.{home_of, number_of_handle, caller_of}
 abbrev pub row_of : {W : Type 0} → CellMemory W → Row W
 row_of m = arc_value m.row
 
--- it is open
+-- what holds of an open memory
 pub record IsCellMemory {W : Type 0} (meaning : W → Meaning) (m : CellMemory W) : Type 0 where
   pub pass : IsRowPass (row_of m) m.pass
   pub first : IsFirstPass m.pass
@@ -51,7 +51,7 @@ callers_of m = (key_of (row_of m)).callers
 abbrev pub cell_count_of : {W : Type 0} → CellMemory W → ℕ
 cell_count_of m = (key_of (row_of m)).cells
 
--- the last sequence that may be committed in it
+-- the last sequence that a commit in it may have
 abbrev pub limit_of : {W : Type 0} → CellMemory W → ℕ
 limit_of m = (key_of (row_of m)).limit
 
@@ -59,31 +59,30 @@ limit_of m = (key_of (row_of m)).limit
 abbrev pub cells_before : {W : Type 0} → (W → Meaning) → CellMemory W → List ℕ
 cells_before meaning m = cells_at_start meaning (row_of m)
 
--- it was opened with lawful cells of its work, as many as that has
+-- it was opened with lawful cells of its work, and with as many as that work has
 pub record BeganLawful {W : Type 0} (size : W → ℕ) (meaning : W → Meaning)
     (lawful : W → List ℕ → Type 0) (m : CellMemory W) : Type 0 where
   pub long : length (cells_before meaning m) ≡ size (work_of m)
   pub is_lawful : lawful (work_of m) (cells_before meaning m)
 
--- how many calls of a caller it was opened with
+-- how many calls of a caller were made before it was opened
 abbrev pub tickets_before : {W : Type 0} → (W → Meaning) → CellMemory W → ℕ → ℕ
 tickets_before meaning m n = made_before meaning (row_of m) n
 
--- no handle of this number is out, and since the memory was opened these calls of its number have
--- ended
+-- no handle of number n is out, and these calls of number n have ended since the memory was opened
 pub record HasMadeOf {W : Type 0} (m : CellMemory W) (n : ℕ) (es : List EndedCall) : Type 0 where
   pub caller : Caller W
   pub here : get_or m.callers.items n None ≡ Some caller
   pub made : ended_of caller ≡ es
 
--- and its call of this operation is open
+-- no handle of number n is out, and its call of this operation is open
 pub record HasOpenOf {W : Type 0} (m : CellMemory W) (n : ℕ) (op : List ℕ) : Type 0 where
   pub caller : Caller W
   pub here : get_or m.callers.items n None ≡ Some caller
   pub opened : IsOpenAt op caller
 
--- no handle of number j is out, and it knows that the first x calls of number n had ended before
--- number k began any call but its first y
+-- no handle of number j is out, and number j knows: the first x calls of number n had ended before
+-- number k began its call y + 1
 pub record HasOrderOf {W : Type 0} (meaning : W → Meaning) (m : CellMemory W) (j n x k y : ℕ)
     : Type 0 where
   pub caller : Caller W
@@ -91,17 +90,17 @@ pub record HasOrderOf {W : Type 0} (meaning : W → Meaning) (m : CellMemory W) 
   pub order : EndBefore (setup_at meaning (row_of m)) (row_start meaning (row_of m))
       (events_known_to caller) n x k y
 
--- the events that the memory knows: all that handles have known that have left it
+-- the events that the memory knows: all that was known to handles that have left
 abbrev pub events_heard : {W : Type 0} → CellMemory W → List Event
 events_heard m = events_in m.known
 
--- it knows that the first `count` calls of a number since it was opened have ended
+-- the memory knows that `count` calls of this number, or more, have ended since it was opened
 abbrev pub HasHeardOf : {W : Type 0} → (W → Meaning) → CellMemory W → (number count : ℕ) → Type 0
 HasHeardOf meaning m n count =
     count ≤ calls_ended_in (setup_at meaning (row_of m)) (row_start meaning (row_of m))
     (events_heard m) n
 
--- it knows still what it knew of the calls that have ended
+-- it still knows of each ended call that it knew of
 abbrev pub RemembersAll : {W : Type 0} → (W → Meaning) → (before now : CellMemory W) → Type 0
 RemembersAll meaning m k =
     (n count : ℕ) → HasHeardOf meaning m n count → HasHeardOf meaning k n count
@@ -118,36 +117,36 @@ HasNoneOpen m = (n : ℕ) (op : List ℕ) → HasOpenOf m n op → ⊥
 abbrev pub HasNoHandleOut : {W : Type 0} → CellMemory W → Type 0
 HasNoHandleOut m = AllHere m.callers.items (length m.callers.items)
 
--- one is out
+-- a handle is out
 abbrev pub HasHandleOut : {W : Type 0} → CellMemory W → Type 0
 HasHandleOut m = HasNoHandleOut m → ⊥
 
--- the handle is the memory's
+-- the handle is one of this memory
 abbrev pub IsFrom : {W : Type 0} → CellMemory W → CellHandle W → Type 0
 IsFrom m h = home_of h ≡ row_of m
 
--- it is the same memory still
+-- it is still the same memory
 abbrev pub IsStill : {W : Type 0} → (before now : CellMemory W) → Type 0
 IsStill m k = row_of k ≡ row_of m
 
--- of the numbers other than n it knows what it knew
+-- it knows of the calls of all numbers but n what it knew
 abbrev pub KnowsOthers : {W : Type 0} → ℕ → (before now : CellMemory W) → Type 0
 KnowsOthers n m k =
     (i : ℕ) (es : List EndedCall) → i ≢ n → HasMadeOf m i es → HasMadeOf k i es
 
--- and their open calls stay open
+-- the open calls of all numbers but n stay open
 abbrev pub OthersStayOpen : {W : Type 0} → ℕ → (before now : CellMemory W) → Type 0
 OthersStayOpen n m k =
     (i : ℕ) (op : List ℕ) → i ≢ n → HasOpenOf m i op → HasOpenOf k i op
 
--- they know each order that they knew
+-- all numbers but i still know each order that they knew
 abbrev pub OthersKnowOrder : {W : Type 0} → (W → Meaning) → ℕ → (before now : CellMemory W)
     → Type 0
 OthersKnowOrder meaning i m l =
     (j n x k y : ℕ) → j ≢ i → HasOrderOf meaning m j n x k y → HasOrderOf meaning l j n x k y
 
 -- The caller of the handle's number was in the memory, and is taken out of it. The handle has its
--- calls, and knows what it knew.
+-- calls, and knows what the caller knew.
 pub record TakesOut {W : Type 0} (m k : CellMemory W) (h : CellHandle W) : Type 0 where
   pub caller : Caller W
   pub was : get_or m.callers.items (number_of_handle h) None ≡ Some caller
@@ -158,22 +157,23 @@ pub record TakesOut {W : Type 0} (m k : CellMemory W) (h : CellHandle W) : Type 
 abbrev pub TakesNone : {W : Type 0} → (before now : CellMemory W) → Type 0
 TakesNone m k = k.callers.items ≡ m.callers.items
 
--- a caller with the calls of this one, which knows what it knew, is put into the memory
+-- a caller with the calls of this one, which knows what this one knew, is put into the memory
 pub record PutsCaller {W : Type 0} (n : ℕ) (c : Caller W) (m k : CellMemory W) : Type 0 where
   pub caller : Caller W
   pub same : KnowsMore c caller
   pub now : k.callers.items ≡ slice_set m.callers.items n (Some caller)
 
--- so is the handle's
+-- the handle's caller is put back into the memory
 abbrev pub PutsBack : {W : Type 0} → (before now : CellMemory W) → CellHandle W → Type 0
 PutsBack m k h = PutsCaller (number_of_handle h) (caller_of h) m k
 
 -- The history leads from the cells with which the memory was opened to the saved ones. It is
--- serial, and the calls of each caller are there in the order in which it made them, each once at
--- most. It stands by sequence: sequences do not fall, and of one sequence the announced calls come
--- first, by caller. It has each call that was answered, with its reply and its own sequence, and no
--- call that was spent; beside these it has open calls alone. What is saved tells the last call of
--- each caller, and no call that may write is later.
+-- serial: each call has the reply that it gets when they are run one after the other. It has each
+-- call at most once, and the calls of each caller in the order in which it made them. It is ordered
+-- by sequence: sequences do not fall, and of the calls of one sequence the announced ones come
+-- first, by caller. It has each call that was answered, with its reply and its own sequence. It has
+-- no spent call, and besides the answered ones only open calls. What is saved names the last call
+-- of each caller, and no call of it that may write is later.
 pub record IsOneHistory {W : Type 0} (meaning : W → Meaning) (m : CellMemory W) (d : SavedCells W)
     (h : List Call) : Type 0 where
   pub serial : IsSerial (meaning (work_of m)) (cells_before meaning m) h
@@ -192,25 +192,25 @@ pub record IsOneHistory {W : Type 0} (meaning : W → Meaning) (m : CellMemory W
   pub last : (n : ℕ) → n < callers_of m → TellLast (saved_cells d) h n (tickets_before meaning m n)
   pub upto : (n : ℕ) → n < callers_of m → IsUpTo (meaning (work_of m)) h n (saved_ticket d n)
 
--- The history respects the time between calls, where one of the numbers knows of it: calls that had
--- ended come before those that had not begun.
+-- The history respects real time, as far as one of the numbers knows it: calls that had ended come
+-- before calls that had not begun.
 abbrev pub KeepsTime : {W : Type 0} → (W → Meaning) → CellMemory W → List Call → Type 0
 KeepsTime meaning m h =
     (j n x k y : ℕ) → HasOrderOf meaning m j n x k y
     → ComeInOrder h n (tickets_before meaning m n + x) k (tickets_before meaning m k + y)
 
--- it does both
+-- it is one history of the memory, and respects real time
 pub record LeadsTo {W : Type 0} (meaning : W → Meaning) (m : CellMemory W) (d : SavedCells W)
     (h : List Call) : Type 0 where
   pub one : IsOneHistory meaning m d h
   pub time : KeepsTime meaning m h
 
--- there is one that does
+-- there is such a history
 abbrev pub HasHistory : {W : Type 0} → (W → Meaning) → CellMemory W → SavedCells W → Type 0
 HasHistory meaning m d = (h : List Call) × LeadsTo meaning m d h
 
--- of a caller that is saved with no call since the memory was opened, the own cells are as they
--- were then, and so is its last reply
+-- if a caller is saved with no call since the memory was opened, its own cells are as they were
+-- then, and so is its last reply
 abbrev pub SavesOwnCells : {W : Type 0} → (W → Meaning) → CellMemory W → SavedCells W → Type 0
 SavesOwnCells meaning m d = KeepsOwnCells meaning (row_of m) d
 
@@ -220,7 +220,7 @@ IsEnrolCause m n (OutOfMemory e) = Unit {0}
 IsEnrolCause m n (NoCaller k) = (k ≡ n) × (callers_of m ≤ n)
 IsEnrolCause m n (Enrolled k) = (k ≡ n) × (get_or m.callers.items n None ≡ None)
 
--- and why no memory is opened
+-- why no memory is opened
 abbrev pub IsOpenCause : (limit : ℕ) → OpenError → Type 0
 IsOpenCause limit (NoRoom e) = Unit {0}
 IsOpenCause limit (Limit k) = (k ≡ limit) × ((limit ≡ 0) ⊎ (GREATEST_LIMIT < limit))

@@ -38,8 +38,8 @@ pub record HoldsHistory (S : Setup) (Lawful : List ℕ → Type 0) (B : TableSta
       → own_ticket (numbers_found S.callers S.cells words) n ≡ done_before S B n
       → OwnCellsStay (numbers_of B) (numbers_found S.callers S.cells words) n
 
--- So it is at each moment of a row, as between any two steps on it, of the durable words as they
--- are then.
+-- This holds at each moment of a row, also between two steps on it, for the durable words of that
+-- moment.
 abbrev pub RowsHoldHistory : (List ℕ → Type 0) → Setup → Type 0
 RowsHoldHistory Lawful S =
     (B : TableStart) (s : State (Unit {0}) View) → MeetsRule S Lawful B s

@@ -31,7 +31,7 @@ saved_work d = d.work
 abbrev pub saved_callers : {W : Type 0} → SavedCells W → ℕ
 saved_callers d = d.shape.callers
 
--- the last sequence that may be committed in it
+-- the last sequence that a commit may have, in a memory that goes on from it
 abbrev pub saved_limit : {W : Type 0} → SavedCells W → ℕ
 saved_limit d = d.limit
 
@@ -43,21 +43,21 @@ saved_cells d = map payload_of (start_on d.shape d.row.items).cells
 abbrev pub saved_words : {W : Type 0} → SavedCells W → List ℕ
 saved_words d = d.row.items
 
--- how many calls of caller n data cells with these numbers hold
+-- the ticket of caller n in data cells with these numbers: how many calls they know of it
 abbrev pub own_ticket : (cells : List ℕ) → (n : ℕ) → ℕ
 own_ticket cells n = get_or cells (ticket_cell_at MOST_INSTRS n) 0
 
--- so many does it hold
+-- the ticket of caller n in what is saved
 abbrev pub saved_ticket : {W : Type 0} → SavedCells W → ℕ → ℕ
 saved_ticket d n = own_ticket (saved_cells d) n
 
--- the shape and the numbers of the reply are in the own cells of caller n
+-- the own cells of caller n hold the shape of this reply, and its numbers
 pub record HoldReply (cells : List ℕ) (n : ℕ) (raw : RawReply) : Type 0 where
   pub shape : get_or cells (shape_at MOST_INSTRS n) 0 ≡ raw.shape
   pub numbers : (y : ℕ) → y < MOST_INSTRS → is_marked raw.shape y ≡ true
       → get_or cells (reply_at MOST_INSTRS n y) 0 ≡ get_or raw.values y 0
 
--- the reply in the own cells of caller n
+-- this is the reply in the own cells of caller n
 pub record IsReplyIn {W : Type 0} (d : SavedCells W) (n : ℕ) (raw : RawReply) : Type 0 where
   pub shape : raw.shape ≡ get_or (saved_cells d) (shape_at MOST_INSTRS n) 0
   pub long : length raw.values ≡ MOST_INSTRS
@@ -74,7 +74,7 @@ pub record SavesSame {W : Type 0} (before now : SavedCells W) : Type 0 where
   pub callers : saved_callers now ≡ saved_callers before
   pub cells : saved_cells now ≡ saved_cells before
 
--- the limit is out of its range, or below the last sequence that was committed
+-- the limit is outside its range, or below the last sequence that was committed
 abbrev pub IsNoLimitOf : {W : Type 0} → SavedCells W → (limit : ℕ) → Type 0
 IsNoLimitOf d limit = (limit ≡ 0) ⊎ ((GREATEST_LIMIT < limit) ⊎ (limit < saved_seq d))
 
@@ -91,17 +91,17 @@ pub record IsSavedCells {W : Type 0} (many size : W → ℕ) (meaning : W → Me
 abbrev pub HoldsLawful : {W : Type 0} → (W → List ℕ → Type 0) → SavedCells W → Type 0
 HoldsLawful lawful d = lawful (saved_work d) (saved_cells d)
 
--- of these numbers of data cells, those of cells that are no caller's own are these
+-- these cells have these numbers, apart from the cells that are callers' own
 abbrev pub HoldAfterOwn : (caller_count : ℕ) → (cells numbers : List ℕ) → Type 0
 HoldAfterOwn k cells numbers =
     (a : ℕ) → k * (MOST_INSTRS + 2) ≤ a → a < length cells → get_or cells a 0 ≡ get_or numbers a 0
 
--- so it is of what is saved
+-- so have the saved cells
 abbrev pub SavedHolds : {W : Type 0} → SavedCells W → List ℕ → Type 0
 SavedHolds d numbers = HoldAfterOwn (saved_callers d) (saved_cells d) numbers
 
--- What data cells hold of the last call of caller n, where it had made so many before: there was
--- none since, or it is one of the history, with its reply.
+-- What data cells know of the last call of caller n, which had made `before` calls: there was none
+-- since, or it is a call of the history, and the cells hold its reply.
 abbrev pub TellLast : (cells : List ℕ) → List Call → (n before : ℕ) → Type 0
 TellLast xs h n before =
     (own_ticket xs n ≡ before)
@@ -113,7 +113,7 @@ abbrev pub ExplainsKept : Setup → TableStart → List Call → KnownCaller →
 ExplainsKept S B h x =
     ExplainsAll h x.machine.caller (done_before S B x.machine.caller) x.ended
 
--- and each that was answered has its own sequence
+-- each of them that was answered has its own sequence
 abbrev pub HaveKeptSequences : Setup → TableStart → List Call → Sequences → KnownCaller → Type 0
 HaveKeptSequences S B h q x =
     HaveOwnSequences h q x.machine.caller (done_before S B x.machine.caller) x.ended
@@ -122,21 +122,22 @@ HaveKeptSequences S B h q x =
 abbrev pub HasOpenOperation : KnownCaller → (op : List ℕ) → Type 0
 HasOpenOperation x op = IsOpen x.machine.place × (x.machine.op ≡ op)
 
--- and of its calls the history has no others
+-- of the kept caller's calls the history has only these and its open one
 abbrev pub HasOnlyKept : Setup → TableStart → List Call → KnownCaller → Type 0
 HasOnlyKept S B h x =
     HasOnly h x.machine.caller (done_before S B x.machine.caller) x.ended (HasOpenOperation x)
 
--- the history has calls in the order in which these events have them: those that had ended come
--- before those that had not begun
+-- the history has the calls in the order of these events: calls that had ended come before calls
+-- that had not begun
 abbrev pub RespectsEvents : Setup → TableStart → List Event → List Call → Type 0
 RespectsEvents S B es h =
     (n x k y : ℕ) → EndBefore S B es n x k y
     → ComeInOrder h n (done_before S B n + x) k (done_before S B k + y)
 
--- A serial history leads from these numbers of data cells to those. It has calls that each caller
--- has made after so many, in the order in which it made them, each once at most, and stands by
--- sequence. The cells tell the last call of each caller, and no call that may write is later.
+-- A serial history leads from the numbers of data cells `before` to those `now`. Each of its calls
+-- is above the number of calls that its caller had made. Each is in it at most once, and those of a
+-- caller are in the order in which it made them. It is ordered by sequence. The cells know the last
+-- call of each caller, and no call that may write is later.
 pub record HistoryLeads (M : Meaning) (caller_count : ℕ) (made : ℕ → ℕ) (before now : List ℕ)
     (h : List Call) (q : Sequences) : Type 0 where
   pub serial : IsSerial M before h
@@ -149,7 +150,7 @@ pub record HistoryLeads (M : Meaning) (caller_count : ℕ) (made : ℕ → ℕ) 
   pub upto : (n : ℕ) → n < caller_count → IsUpTo M h n (own_ticket now n)
 
 -- The history has the calls of each caller that the view keeps as they have ended, each with its
--- own sequence, and no others of theirs. It respects what the view knows of real time.
+-- own sequence, and no others of these callers. It respects what the view knows of real time.
 pub record ExplainsView (S : Setup) (B : TableStart) (h : List Call) (q : Sequences) (v : View)
     : Type 0 where
   pub calls : Each (ExplainsKept S B h) v.kept
@@ -158,7 +159,7 @@ pub record ExplainsView (S : Setup) (B : TableStart) (h : List Call) (q : Sequen
   pub time : RespectsEvents S B v.past h
 
 -- A history of what callers have made on a row leads to what is saved of the row. The view is that
--- of the pass with which it was closed.
+-- of the pass with which the row was closed.
 pub record SavesHistory {W : Type 0} (meaning : W → Meaning) (r : Row W) (v : View)
     (d : SavedCells W) : Type 0 where
   pub history : List Call
@@ -167,13 +168,13 @@ pub record SavesHistory {W : Type 0} (meaning : W → Meaning) (r : Row W) (v : 
       (cells_at_start meaning r) (saved_cells d) history sequences
   pub view : ExplainsView (setup_at meaning r) (row_start meaning r) history sequences v
 
--- the own cells of caller n have the numbers that they had
+-- the own cells of caller n have the same numbers as before
 abbrev pub OwnCellsStay : (before now : List ℕ) → (n : ℕ) → Type 0
 OwnCellsStay before now n =
     (a : ℕ) → ticket_cell_at MOST_INSTRS n ≤ a
     → a < ticket_cell_at MOST_INSTRS n + (MOST_INSTRS + 2) → get_or now a 0 ≡ get_or before a 0
 
--- so it is of each caller that is saved with no call since the row's start
+-- they do for each caller that is saved with no call since the row's start
 abbrev pub KeepsOwnCells : {W : Type 0} → (W → Meaning) → Row W → SavedCells W → Type 0
 KeepsOwnCells meaning r d =
     (n : ℕ) → n < (key_of r).callers → saved_ticket d n ≡ made_before meaning r n

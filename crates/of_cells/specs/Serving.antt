@@ -25,7 +25,7 @@ use Rattle.of_cells.specs.Times.{calls_ended_in}
 abbrev pub cells_at_start : {W : Type 0} → (W → Meaning) → Row W → List ℕ
 cells_at_start meaning r = map payload_of (row_start meaning r).cells
 
--- how many calls a caller had made before that: the number in its ticket cell
+-- how many calls a caller had made before the row started: the number in its ticket cell
 abbrev pub made_before : {W : Type 0} → (W → Meaning) → Row W → ℕ → ℕ
 made_before meaning r n =
     payload_of (get_or (row_start meaning r).cells (ticket_cell_at MOST_INSTRS n) 0)
@@ -42,8 +42,8 @@ row_step_bound meaning r = bound (setup_at meaning r)
 abbrev pub ended_of : {W : Type 0} → Caller W → List EndedCall
 ended_of c = (last_caller (sight_of c).kept).ended
 
--- the calls of its number that were begun are those before the row's start, those that have ended
--- since, and the open one
+-- the calls of its number that were begun are those from before the row's start, those that have
+-- ended since, and the open one
 abbrev pub CountsCalls : {W : Type 0} → (W → Meaning) → Row W → ℕ → Caller W → Type 0
 CountsCalls meaning r n c =
     calls_begun_by c
@@ -54,12 +54,13 @@ CountsCalls meaning r n c =
 abbrev pub events_known_to : {W : Type 0} → Caller W → List Event
 events_known_to c = (sight_of c).past
 
--- how many atomic steps the calls of the caller have made on the row, whatever they came to
+-- how many atomic steps the calls of the caller have made on the row, however the calls ended
 abbrev pub steps_made_by : {W : Type 0} → Caller W → ℕ
 steps_made_by c = (last_caller (sight_of c).kept).turns
 
--- Between these two counts the calls of a caller of the row have made no more steps than what
--- operations of its work touch allows, with those that the open call had made before.
+-- From the count `before` to the count `now` the caller's calls have made no more steps than the
+-- bound by touched cells allows to a call of this operation, if `made` steps of it were made
+-- already.
 abbrev pub RisesByTouch : {W : Type 0} → (W → Meaning) → (W → List ℕ → Type 0) → Row W
     → (op : List ℕ) → (made before now : ℕ) → Type 0
 RisesByTouch meaning lawful r op made before now =
@@ -86,7 +87,7 @@ pub record KnowsMore {W : Type 0} (before now : Caller W) : Type 0 where
   pub kept : (sight_of now).kept ≡ (sight_of before).kept
   pub past : IsPrefix (events_known_to before) (events_known_to now)
 
--- whatever number it serves, it serves it still
+-- it still serves the number that it served
 abbrev pub KeepsServing : {W : Type 0} → (W → Meaning) → Row W → (before now : Caller W) → Type 0
 KeepsServing meaning r c d = (n : ℕ) → Serves meaning r n c → Serves meaning r n d
 
@@ -97,48 +98,48 @@ pub record IsNew {W : Type 0} (meaning : W → Meaning) (r : Row W) (n : ℕ) (c
   pub none : ended_of c ≡ []
   pub idle : IsIdle (caller_call c)
 
--- the row's first pass, which has asked for numbers below the next one alone
+-- the row's first pass; it has asked only for numbers below the next one
 pub record Enrols {W : Type 0} (r : Row W) (next : ℕ) (p : Pass) : Type 0 where
   pub row : IsRowPass r p
   pub first : IsFirstPass p
   pub below : (number : ℕ) → IsAsked number (view_of_pass p).asked → number < next
 
--- at each place below the count stands a caller of that number, of which this holds
+-- at each place below the count there is a caller of that number, and P holds of it
 abbrev pub AllStand : {C : Type 0} → (ℕ → C → Type 0) → ℕ → List (Option C) → Type 0
 AllStand {C} P count cs =
     (n : ℕ) → n < count → (c : C) × (get_or cs n None ≡ Some c) × P n c
 
--- at each place below the count stands one
+-- at each place below the count there is a caller
 abbrev pub AllHere : {C : Type 0} → List (Option C) → ℕ → Type 0
 AllHere {C} cs count = (n : ℕ) → n < count → (c : C) × (get_or cs n None ≡ Some c)
 
--- each that stands there is a caller of the row with that number
+-- each caller in the list serves the row with the number that is its place
 abbrev pub ServeAll : {W : Type 0} → (W → Meaning) → Row W → List (Option (Caller W)) → Type 0
 ServeAll {W} meaning r cs =
     (n : ℕ) (c : Caller W) → get_or cs n None ≡ Some c → Serves meaning r n c
 
--- a caller of this number is kept, of which this holds
+-- a caller of this number is kept, and P holds of it
 abbrev pub KeepsSo : (n : ℕ) → (KnownCaller → Type 0) → List KnownCaller → Type 0
 KeepsSo n P [] = ⊥
 KeepsSo n P (x ∷ xs) = ((x.machine.caller ≡ n) × P x) ⊎ KeepsSo n P xs
 
--- the kept caller is this one's
+-- what is kept is this caller
 pub record IsKeptOf {W : Type 0} (c : Caller W) (x : KnownCaller) : Type 0 where
   pub ended : x.ended ≡ ended_of c
   pub open_call : IsOpen x.machine.place → x.machine ≡ caller_call c
 
--- each caller that stands at a place below the count is kept
+-- each caller in a place below the count is kept
 abbrev pub KeepsThose : {W : Type 0} → List (Option (Caller W)) → (count : ℕ) → List KnownCaller
     → Type 0
 KeepsThose {W} cs count xs =
     (n : ℕ) (c : Caller W) → n < count → get_or cs n None ≡ Some c → KeepsSo n (IsKeptOf c) xs
 
--- the events that are known to each caller at a place below the count are how these events begin
+-- the events that each caller in a place below the count knows are the first of these events
 abbrev pub KnowsPasts : {W : Type 0} → List (Option (Caller W)) → (count : ℕ) → List Event → Type 0
 KnowsPasts {W} cs count es =
     (n : ℕ) (c : Caller W) → n < count → get_or cs n None ≡ Some c → IsPrefix (events_known_to c) es
 
--- it is a pass of the row that keeps nobody, or none
+-- it is a pass of the row that keeps no caller, or there is none
 abbrev pub IsKnowledge : {W : Type 0} → Row W → Option Pass → Type 0
 IsKnowledge r None = Unit {0}
 IsKnowledge r (Some p) = IsRowPass r p × KeepsNobody p

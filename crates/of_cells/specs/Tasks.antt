@@ -26,7 +26,7 @@ pub record KnowsSame {W : Type 0} (n : ℕ) (m k : CellMemory W) : Type 0 where
   pub open_call : (op : List ℕ) → HasOpenOf m n op → HasOpenOf k n op
   pub only_open : (op : List ℕ) → HasOpenOf k n op → HasOpenOf m n op
 
--- so it is of each number from this one on
+-- the same of each number from this one on
 abbrev pub KnowsRest : {W : Type 0} → (from : ℕ) → (before now : CellMemory W) → Type 0
 KnowsRest from m k = (n : ℕ) → from ≤ n → KnowsSame n m k
 
@@ -37,7 +37,7 @@ RestKnowsOrder meaning from m l =
     (j : ℕ) → from ≤ j → (n x k y : ℕ) → HasOrderOf meaning m j n x k y
     → HasOrderOf meaning l j n x k y
 
--- what a task says of its work: the task and its handle before it and after it
+-- what a task promises of its work: the task and its handle before it and after it
 abbrev pub TaskWork : Type 0 → Type 0 → Type 1
 TaskWork W J = J → CellHandle W → J → CellHandle W → Type 0
 
@@ -100,7 +100,7 @@ IsTaskCause m count (Enrolled n) = (n < count) × (get_or m.callers.items n None
 abbrev pub MayWork : {W J : Type 0} → (W → Meaning) → Slot W J → Type 0
 MayWork {W} {J} meaning s = (p : CellHandle W × J) → s ≡ Some p → IsCellHandle meaning p.0
 
--- so is each
+-- each of the handles is one of some memory
 abbrev pub MayAllWork : {W J : Type 0} → (W → Meaning) → List (Slot W J) → Type 0
 MayAllWork {W} {J} meaning ss =
     (i : ℕ) (s : Slot W J) → i < length ss → s ≡ get_or ss i s → MayWork meaning s
@@ -112,7 +112,7 @@ WorksOn {W} {J} meaning Does s t =
     (p : CellHandle W × J) → s ≡ Some p
     → (q : CellHandle W × J) × (t ≡ Some q) × HasWorked meaning Does p q
 
--- so has each
+-- each task has worked with its handle
 abbrev pub AllWorkOn : {W J : Type 0} → (W → Meaning) → TaskWork W J
     → (before now : List (Slot W J)) → Type 0
 AllWorkOn {W} {J} meaning Does ss ts =
@@ -162,7 +162,7 @@ pub record MayLeave {W J : Type 0} (meaning : W → Meaning) (m : CellMemory W) 
   pub handle : IsCellHandle meaning p.0
   pub from : IsFrom m p.0
 
--- each pair may, behind so many tasks
+-- each pair may, and the tasks of these come after this many others
 abbrev pub MayAllLeave : {W J : Type 0} → (W → Meaning) → CellMemory W → (first : ℕ)
     → List (Slot W J) → Type 0
 MayAllLeave {W} {J} meaning m first ss =
@@ -177,7 +177,7 @@ pub record HasLeft {W J : Type 0} (meaning : W → Meaning) (k : CellMemory W) (
   pub known : IsBackIn k p.0
   pub told : TellsMemory meaning p.0 k
 
--- each handle from this place on has left, and its task is back behind these
+-- each handle from this place on has left, and its task is back, after the tasks xs
 pub record HasTakenBack {W J : Type 0} (meaning : W → Meaning) (m k : CellMemory W) (xs zs : List J)
     (from : ℕ) (ss : List (Slot W J)) : Type 0 where
   pub count : length zs + from ≡ length xs + length ss

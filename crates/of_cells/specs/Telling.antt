@@ -44,7 +44,7 @@ CallsStay h k = KnowsMore (caller_of h) (caller_of k)
 
 -- ---- news
 
--- the events that it tells of
+-- the events that are in the news
 abbrev pub events_told : CellNews → List Event
 events_told a = (view_of_pass a.pass).past
 
@@ -53,21 +53,21 @@ pub record IsNews {W : Type 0} (r : Row W) (a : CellNews) : Type 0 where
   pub row : IsRowPass r a.pass
   pub nobody : KeepsNobody a.pass
 
--- it tells that the first `count` calls of a number have ended
+-- the news says that the first `count` calls of a number have ended
 abbrev pub TellsOf : {W : Type 0} → (W → Meaning) → Row W → CellNews → (number count : ℕ) → Type 0
 TellsOf meaning r a n count =
     count ≤ calls_ended_in (setup_at meaning r) (row_start meaning r) (events_told a) n
 
--- it tells of all calls of the handle that have ended
+-- the news has all calls of the handle that have ended
 abbrev pub TellsOwn : {W : Type 0} → (W → Meaning) → CellHandle W → CellNews → Type 0
 TellsOwn meaning h a = TellsOf meaning (home_of h) a (number_of_handle h) (length (made_by h))
 
--- it tells of all that the handle has heard of
+-- the news has all that the handle has heard of
 abbrev pub TellsHeard : {W : Type 0} → (W → Meaning) → CellHandle W → CellNews → Type 0
 TellsHeard meaning h a =
     (n count : ℕ) → HasHeardOf meaning h n count → TellsOf meaning (home_of h) a n count
 
--- the handle has heard of all that the news tells of
+-- the handle has heard of all that is in the news
 abbrev pub HearsAll : {W : Type 0} → (W → Meaning) → CellNews → CellHandle W → Type 0
 HearsAll meaning a h =
     (n count : ℕ) → TellsOf meaning (home_of h) a n count → HasHeardOf meaning h n count
@@ -95,7 +95,7 @@ KnowsOrdersOf meaning m h =
     (n x k y : ℕ) → HasOrderOf meaning m (number_of_handle h) n x k y
     → KnowsOrder meaning h n x k y
 
--- its number knows each order that the handle knew when it left
+-- the memory knows of the handle's number each order that the handle knew when it left
 abbrev pub LeavesOrder : {W : Type 0} → (W → Meaning) → CellHandle W → CellMemory W → Type 0
 LeavesOrder meaning h m =
     (n x k y : ℕ) → KnowsOrder meaning h n x k y
@@ -116,8 +116,8 @@ pub record TellsMemory {W : Type 0} (meaning : W → Meaning) (h : CellHandle W)
 -- ---- the whole
 
 -- Handle a tells when it has made its calls. Handle b hears of it, and its next call leaves it as
--- c. It leaves its memory m as e, with all that c knew, and what is saved at the close is d. So each
--- call that a had made comes before that call, and before each later one of b's number, in the
+-- c. It leaves its memory m as e, with all that c knew, and what is saved at the close is d. So
+-- each call that a had made comes before that call, and before each later one of b's number, in the
 -- history.
 abbrev pub ToldCallsComeFirst : {W : Type 0} → (W → Meaning) → Type 0
 ToldCallsComeFirst {W} meaning =

@@ -11,12 +11,12 @@ use Rattle.of_row.specs.Trail.{first_of}
 abbrev pub calls_ended_in : Setup → TableStart → List Event → (n : ℕ) → ℕ
 calls_ended_in S B es n = length (outcomes S (first_of S B) es n)
 
--- and how many have begun
+-- how many calls of caller n have begun in these events
 abbrev pub calls_begun_in : List Event → (n : ℕ) → ℕ
 calls_begun_in es n = length (operations_begun es n)
 
--- the first x calls of caller n have ended before caller k begins any call but its first y: there is
--- a moment between these in the events
+-- the first x calls of caller n have ended before caller k begins its call y + 1: there is a moment
+-- in the events that shows it
 pub record EndBefore (S : Setup) (B : TableStart) (es : List Event) (n x k y : ℕ) : Type 0 where
   pub moment : List Event
   pub early : IsPrefix moment es

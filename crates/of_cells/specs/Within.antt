@@ -14,8 +14,8 @@ IsNeverStopped (Err InCall) = Unit {0}
 IsNeverStopped (Err NoCall) = Unit {0}
 IsNeverStopped (Err NoTicket) = Unit {0}
 
--- A call that had made some steps before is given more, and has made so many by now. An answer
--- tells no more than both together. A call is stopped only if it has made them all, at the next
+-- A call that had made `before` steps is given `more`, and has made `now` in all. An answer has no
+-- more steps than both together. The call is stopped only after it has made them all, at its next
 -- ask.
 abbrev pub KeepsWithin : (before more now : ℕ) → Result RawAnswer RunError → Type 0
 KeepsWithin before more now (Ok a) = a.steps ≤ before + more
@@ -25,13 +25,13 @@ KeepsWithin before more now (Err InCall) = Unit {0}
 KeepsWithin before more now (Err NoCall) = Unit {0}
 KeepsWithin before more now (Err NoTicket) = Unit {0}
 
--- the same of a call that is given so many more steps, or as many as it needs
+-- the same of a call with this stop; without a stop it is never stopped
 abbrev pub KeepsToStop : (before : ℕ) → (stop : Option ℕ) → (now : ℕ)
     → Result RawAnswer RunError → Type 0
 KeepsToStop before None now r = IsNeverStopped r
 KeepsToStop before (Some more) now r = KeepsWithin before more now r
 
--- An answer tells at most so many steps, and a stopped call has asked at most so many times.
+-- The steps of an answer are at most `most`, and a stopped call has asked at most `most` times.
 abbrev pub EndsWithin : (most : ℕ) → Result RawAnswer RunError → Type 0
 EndsWithin most (Ok a) = a.steps ≤ most
 EndsWithin most (Err (Stopped asked)) = asked ≤ most
@@ -40,7 +40,7 @@ EndsWithin most (Err InCall) = Unit {0}
 EndsWithin most (Err NoCall) = Unit {0}
 EndsWithin most (Err NoTicket) = Unit {0}
 
--- a call is spent only where the sequence has come to the limit
+-- a call is spent only if the sequence has come to the limit
 abbrev pub IsSpentAtLimit : (limit : ℕ) → Result RawAnswer RunError → Type 0
 IsSpentAtLimit limit (Ok a) = Unit {0}
 IsSpentAtLimit limit (Err (Stopped asked)) = Unit {0}
@@ -49,18 +49,18 @@ IsSpentAtLimit limit (Err InCall) = Unit {0}
 IsSpentAtLimit limit (Err NoCall) = Unit {0}
 IsSpentAtLimit limit (Err NoTicket) = Unit {0}
 
--- A count of steps has risen by no more than a call was given, if it was given so many.
+-- A count of steps has risen by no more than the call's stop, if it has one.
 abbrev pub RisesWithin : (stop : Option ℕ) → (before now : ℕ) → Type 0
 RisesWithin None before now = Unit {0}
 RisesWithin (Some more) before now = now ≤ before + more
 
--- A call keeps to the steps left of its brake, if the brake tells them.
+-- A call keeps to the steps left of its brake, if the brake reports them.
 abbrev pub KeepsToStepsLeft : (left : Option (Option ℕ)) → (before now : ℕ)
     → Result RawAnswer RunError → Type 0
 KeepsToStepsLeft left before now r = (stop : Option ℕ) → left ≡ Some stop
     → KeepsToStop before stop now r
 
--- A count of steps has risen by no more than the steps left of a brake, if it tells them.
+-- A count of steps has risen by no more than the steps left of a brake, if it reports them.
 abbrev pub RisesByBrake : (left : Option (Option ℕ)) → (before now : ℕ) → Type 0
 RisesByBrake left before now = (stop : Option ℕ) → left ≡ Some stop → RisesWithin stop before now
 

@@ -25,7 +25,7 @@ use Rattle.of_cells.specs.declared.error.WordsError.TheVariants.{OutOfMemory, Li
 use Rattle.of_cells.specs.Memories.{SavesOwnCells, row_of, work_of, callers_of, cells_before, tickets_before}
 use Rattle.of_cells.specs.Saving.{HistoryLeads, ExplainsView, saved_callers, saved_cells, saved_seq, saved_work}
 
--- these are the sizes of a table for so many callers and data cells
+-- these are the sizes of a table for this many callers and data cells
 pub record AreSizesOf (callers cells : ℕ) (s : TableSizes) : Type 0 where
   pub words : s.words ≡ table_words callers MOST_INSTRS cells
   pub first : s.first ≡ durable_place callers cells 0
@@ -33,7 +33,7 @@ pub record AreSizesOf (callers cells : ℕ) (s : TableSizes) : Type 0 where
 
 -- ---- what is found
 
--- a table for the work, with this limit, may start from the row, of which recovery changes nothing
+-- a table for the work, with this limit, may start from the row, which recovery does not change
 abbrev pub IsStartFor : {W : Type 0} → (many size : W → ℕ) → (W → Meaning)
     → (W → List ℕ → Type 0) → W → (limit : ℕ) → (row : List ℕ) → Type 0
 IsStartFor many size meaning lawful work limit row =
@@ -64,7 +64,7 @@ pub record IsSavedRow {W : Type 0} (many size : W → ℕ) (work : W) (row : Lis
   pub cells : saved_cells d ≡ map payload_of (start_in many size work row).cells
   pub seq : saved_seq d ≡ (start_in many size work row).seq
 
--- it has those that recovery finds in the words
+-- what is saved has the words that recovery finds in these
 abbrev pub WordsHold : {W : Type 0} → (many size : W → ℕ) → W → (words : List ℕ) → SavedCells W
     → Type 0
 WordsHold many size work words d =
@@ -86,8 +86,8 @@ IsWordsCause many size work limit words (PastLimit seq) =
 
 -- Recovery finds a start in the durable words, and one serial history leads from the cells with
 -- which the memory was opened to what is saved of them. Each view that is not spent finds in it
--- what it knows: each call that was answered to whomever a pass or a member keeps, with its reply,
--- and beside these open calls alone. A number that is not taken has no call in it.
+-- what it knows: each answered call of a caller that its pass or member keeps, with its reply, and
+-- besides these only open calls. A number that is not taken has no call in it.
 pub record MayGoOnFromWords {W : Type 0} (many size : W → ℕ) (meaning : W → Meaning)
     (lawful : W → List ℕ → Type 0) (m : CellMemory W) (s : State (Unit {0}) View)
     (words : List ℕ) : Type 0 where
@@ -102,8 +102,8 @@ pub record MayGoOnFromWords {W : Type 0} (many size : W → ℕ) (meaning : W �
   pub free : EachFree (setup_at meaning (row_of m)) s.words (HasNoneOf history)
   pub own : (d : SavedCells W) → WordsHold many size (work_of m) words d → SavesOwnCells meaning m d
 
--- So it is at each moment of the memory's row, as between any two steps on it, of the durable words
--- as they are then.
+-- This holds at each moment of the memory's row, also between two steps on it, for the durable
+-- words of that moment.
 abbrev pub HoldsWordsAlways : {W : Type 0} → (many size : W → ℕ) → (W → Meaning)
     → (W → List ℕ → Type 0) → CellMemory W → Type 0
 HoldsWordsAlways many size meaning lawful m =

@@ -13,14 +13,14 @@ pub struct RawAnswer {
     pub seq: u32,
     /// Whether the call was announced; only an operation that writes nothing may be tried first.
     pub announced: bool,
-    /// What its operation answered, as cells hold it.
+    /// The reply of its operation, as cells hold it.
     pub raw: RawReply,
     /// How many atomic steps the call made.
     pub steps: u64,
 }
 
 impl RawAnswer {
-    /// The answer as how a call has ended.
+    /// The outcome that the call has had.
     pub fn outcome(self) -> Outcome
         ensures { result ≡ outcome_of self }
     {

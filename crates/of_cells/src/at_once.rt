@@ -12,12 +12,12 @@ use of_mem::Work;
 use std::alloc::AllocError;
 use std::thread::{Threads, for_each_mut};
 
-/// What is done with a handle of type `H`. It keeps what it comes to.
+/// A task that works with a handle of type `H`, and keeps its results.
 pub trait CellTask<H> {
-    /// With which handles it works.
+    /// The handles that it works with.
     ghost may: { H → Type 0 } = { λ _. Unit {0} };
 
-    /// What its work makes of the task and the handle, as far as its users have to know.
+    /// What its users may know of its work: the task and the handle before it, and both after it.
     ghost does: { Self → H → Self → H → Type 0 } = { λ _ _ _ _. Unit {0} };
 
     /// Works with a handle, and gives it back.
@@ -51,7 +51,7 @@ fn work_with<W: Work, J: CellTask<CellHandle<W>> + Drop>(slot: &mut Option<(Cell
     }
 }
 
-// Each task with its handle, all at once: each in a thread of its own where one can be made.
+// Each task with its handle, all at once: each in a thread of its own if one can be made.
 fn work_all<W: Work, J: CellTask<CellHandle<W>> + Send + Drop, R: Threads + Sync>(
     rt: &R,
     slots: &mut [Option<(CellHandle<W>, J)>],
@@ -81,9 +81,9 @@ impl<W: Work> CellMemory<W> {
     ghost use Rattle.of_cells.specs.Tasks.{HaveWorked, KnowsRest, RestKnowsOrder, IsTaskCause};
 
     /// Works at all tasks at once: each with the handle of the number that is its place, in a
-    /// thread of its own where one can be made. Then the handles leave. If one can't be enrolled,
-    /// no task is begun, and no number stays taken. A task takes any handle of a memory, and gives
-    /// back one of the same memory and number.
+    /// thread of its own if one can be made. Then the handles leave. If one can't be enrolled, no
+    /// task is begun, and no number stays taken. A task must be able to work with each handle of a
+    /// memory, and gives back one of the same memory and number.
     pub fn at_once<J: CellTask<CellHandle<W>> + Send + Drop, R: Threads + Sync>(
         &mut self,
         rt: &R,
@@ -124,7 +124,8 @@ impl<W: Work> CellMemory<W> {
         }
     }
 
-    /// Hands out a handle for each task, the last one first. At an error the first tasks are left.
+    /// Hands out a handle for each task, from the last task to the first. After an error the first
+    /// tasks are left.
     pub fn hand_out<J: Drop>(
         &mut self,
         tasks: &mut Vec<J>,
@@ -155,7 +156,8 @@ impl<W: Work> CellMemory<W> {
         Ok(())
     }
 
-    /// The handles leave, and the tasks come after those that are there, the last one first.
+    /// The handles leave, and their tasks are put after those that are there; the last handle comes
+    /// first.
     pub fn take_back<J: Drop>(
         &mut self,
         mut slots: Vec<Option<(CellHandle<W>, J)>>,

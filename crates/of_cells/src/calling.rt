@@ -47,7 +47,7 @@ fn answer_of(outcome: Outcome) -> RawAnswer
     }
 }
 
-// A brake with so many steps.
+// A brake with this many steps.
 fn fuel_of(steps: u64) -> Fuel
     ensures { ⟦<Fuel as Brake>⟧.left result ≡ Some (Some steps) }
 {
@@ -139,7 +139,7 @@ fn go_on_counted<W: Work, L: Ledger, B: Brake>(
     }
 }
 
-/// Makes a call of an operation, for at most so many steps.
+/// Makes a call of an operation, for at most `stop` steps, if there is a stop.
 pub(crate) fn call_with<W: Work>(
     row: &Row<W>,
     caller: &mut Caller<W>,
@@ -177,7 +177,7 @@ pub(crate) fn call_with<W: Work>(
     }
 }
 
-/// Goes on with the open call, for at most so many steps.
+/// Goes on with the open call, for at most `stop` steps, if there is a stop.
 pub(crate) fn go_on_with<W: Work>(
     row: &Row<W>,
     caller: &mut Caller<W>,

@@ -24,7 +24,7 @@ pub enum EnrolError {
     OutOfMemory(#[from(alloc)] AllocError),
     #[error("there is no caller {number}")]
     NoCaller { number: u32 },
-    /// Its handle has not left.
+    /// The number's handle has not left.
     #[error("caller {number} has a handle already")]
     Enrolled { number: u32 },
 }
@@ -32,17 +32,17 @@ pub enum EnrolError {
 /// Why a call has no answer.
 #[derive(Clone, Copy, Debug, PartialEq, Eq, Error)]
 pub enum RunError {
-    /// The call has asked for so many steps, and the last one was denied. It stays open, for
+    /// The call has asked for this many steps, and the last one was denied. It stays open, for
     /// `go_on`.
     #[error("stopped at step {asked}")]
     Stopped { asked: u64 },
-    /// The sequence has come to the limit without the call, which is over.
+    /// The sequence has come to the limit before the call took effect. The call is over.
     #[error("no sequence is left after {seq}")]
     Spent { seq: u32 },
-    /// A call is open, and `run` begins none beside it.
+    /// `run` was called while a call is open.
     #[error("a call is open")]
     InCall,
-    /// No call is open with which `go_on` could go on.
+    /// `go_on` was called, and no call is open.
     #[error("no call is open")]
     NoCall,
     /// The number has made all calls that it may make.

@@ -18,7 +18,7 @@ pub(crate) const APART: usize = 16;
 /// One caller of a memory of cells, for one thread at a time.
 #[derive(Drop)]
 pub struct CellHandle<W: Work> {
-    /// Unused, as is what is behind: no two handles share a line of the cache.
+    /// Unused, as `behind` is: no two handles share a line of the cache.
     pub(crate) front: [u64; APART],
     pub(crate) row: Arc<Row<W>, Global>,
     pub(crate) number: u32,
@@ -74,7 +74,7 @@ impl<W: Work> CellHandle<W> {
         self.begin(op, None)
     }
 
-    /// Runs an operation for at most so many steps. If they don't do, the call stays open.
+    /// Runs an operation for at most this many steps. If they are too few, the call stays open.
     pub fn run_within(&mut self, op: &[u64], steps: u64) -> Result<RawAnswer, RunError>
         requires handle { IsCellHandle W.meaning self.old }
         requires some { 1 ≤ length op.now }
@@ -149,7 +149,7 @@ impl<W: Work> CellHandle<W> {
         self.resume(None)
     }
 
-    /// Goes on with the open call for at most so many steps.
+    /// Goes on with the open call for at most this many steps.
     pub fn go_on_within(&mut self, steps: u64) -> Result<RawAnswer, RunError>
         requires { IsCellHandle W.meaning self.old }
         ensures handle { IsCellHandle W.meaning self.new }

@@ -14,13 +14,14 @@ use of_core::laws::{every_moment, histories, step_kept};
 use of_mem::Work;
 use of_row::laws::stops_lose_nothing;
 
-/// A handle that has no open call has begun as many calls as its memory was opened with, and those
-/// that it has made since.
+/// A number whose handle has no open call has begun the calls from before its memory was opened,
+/// those that the handle has made since, and no others.
 pub fn calls_are_counted<W: Work>()
     ensures { CallsAreCounted W.meaning }
 {}
 
-/// The history of a memory and that of the one that goes on from what it has left are one history.
+/// The history of a memory, and after it that of the memory that goes on from what the first has
+/// left, are one history.
 pub fn histories_join<W: Work>(work: W)
     ensures { HistoriesJoin (W.meaning work) }
 {}
@@ -42,14 +43,14 @@ pub fn none_stays_open<W: Work>()
     ensures { NoneStaysOpen W }
 {}
 
-/// Calls that a handle tells another of come first in the history: before each call that the other
-/// begins when it has heard of them.
+/// If one handle tells another of its calls, these come first in the history: before each call that
+/// the other begins after it has heard of them.
 pub fn told_calls_come_first<W: Work>()
     ensures { ToldCallsComeFirst W.meaning }
 {}
 
 /// Calls that a program makes one after the other come in that order in the history, whatever their
-/// numbers: those of a handle that has left before those of one that comes then.
+/// numbers: those of a handle that has left come before those of a handle that enrols later.
 pub fn calls_come_in_turn<W: Work>()
     ensures { CallsComeInTurn W.meaning }
 {}

@@ -247,8 +247,8 @@ impl<W: Work> CellMemory<W> {
         }
     }
 
-    // The same, where no handle is out. So nobody makes a step, and the words may be loaded though
-    // the row is shared.
+    // The same, while no handle is out. No caller makes a step then, so the words may be loaded
+    // though the row is shared.
     fn close_at_home(self) -> SavedCells<W>
         requires memory { IsCellMemory W.meaning self }
         requires here { HasNoHandleOut self }

@@ -74,8 +74,8 @@ impl<W: Work> SavedCells<W> {
     ghost use Rattle.of_cells.specs.Saving.{saved_callers, saved_limit, saved_cells, saved_ticket};
     ghost use Rattle.of_cells.specs.Saving.{IsReplyIn, KeepsOwnCells};
 
-    // Loads the durable words of a row on which nobody makes a step any more: they alone are left,
-    // as after a crash. Then it recovers them. `words` is empty and has room for them.
+    // Loads the durable words of a row on which no caller makes a step any more: they alone are
+    // left, as after a crash. Then it recovers them. `words` is empty and has room for them.
     pub(crate) fn close(row: &Row<W>, mut pass: Pass, mut words: Vec<u64>) -> SavedCells<W>
         requires row { IsRowPass row.now pass }
         requires first { IsFirstPass pass }
@@ -154,7 +154,8 @@ impl<W: Work> SavedCells<W> {
         self.word_number(cell)
     }
 
-    /// How many calls of a caller it holds: the number of its last one, whoever finished it.
+    /// How many calls of a caller it holds: the ticket of its last one, also if another caller
+    /// finished it.
     pub fn ticket(&self, number: u32) -> u32
         requires saved { IsSavedCells W.many W.size W.meaning W.lawful self.now }
         requires number { number < saved_callers self.now }

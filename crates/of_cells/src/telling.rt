@@ -11,8 +11,8 @@ use of_caller::Caller;
 use of_mem::Work;
 use of_row::{Pass, Row};
 
-/// What a handle knew when it told: which calls of its memory had ended. It goes to another thread
-/// by value.
+/// What a handle knew when `tell` was called: which calls of its memory had ended. It goes to
+/// another thread by value.
 #[derive(Drop)]
 pub struct CellNews {
     pub(crate) pass: Pass,
@@ -59,7 +59,7 @@ impl<W: Work> CellHandle<W> {
     }
 
     /// Takes in what another handle of its memory knew when it told. Each call that the handle
-    /// begins from now on comes, in the memory's history, after all calls that the news tells of.
+    /// begins from now on comes, in the memory's history, after all calls that the news names.
     pub fn hear(&mut self, news: CellNews)
         requires handle { IsCellHandle W.meaning self.old }
         requires news { IsNews (home_of self.old) news }

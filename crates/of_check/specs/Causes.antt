@@ -74,7 +74,7 @@ pub record IsReplayEnd (p : Plan) (s : Start) (calls : List CallClaim) (e : Repl
 
 -- ---- the line of a caller
 
--- the line of a caller that had so many scripts to do breaks this rule, and none before it
+-- the line of a caller that had this many scripts to do breaks this rule, and none before it
 abbrev pub BreaksEnd : EndRule → Plan → (scripts seq : ℕ) → Line → Type 0
 BreaksEnd Missing p scripts seq l = ⊥
 BreaksEnd Answered p scripts seq l = HasOpenCall l.state l.answered l.entries → ⊥
@@ -92,7 +92,7 @@ BreaksClaim Missing p done seq counts ends caller = length ends ≤ caller
 BreaksClaim rule p done seq counts ends caller =
     BreaksEnd rule p (left_of p done caller) seq (claimed_line_at done counts ends caller)
 
--- so does this caller, and those before it may end as they claim
+-- this caller's line breaks a rule, and those before it may end as they claim
 pub record BreaksFirst (p : Plan) (done : List ℕ) (seq : ℕ) (counts : List ℕ) (ends : List EndClaim)
     (caller : ℕ) (rule : EndRule) : Type 0 where
   pub there : caller < p.callers
@@ -127,7 +127,7 @@ made_text p s count text =
 abbrev pub SameAbove : (one other : List ℕ) → (above : ℕ) → Type 0
 SameAbove one other above = take above (text_lines one) ≡ take above (text_lines other)
 
--- the first line at which two texts differ is the one with so many lines above it
+-- the first line at which two texts differ is the one with this many lines above it
 pub record DifferFirst (one other : List ℕ) (above : ℕ) : Type 0 where
   pub same : SameAbove one other above
   pub differ : SameAbove one other (above + 1) → ⊥
@@ -170,7 +170,7 @@ IsJudgement p s text (Legal report) = IsTextOf p s text (report_value report)
 IsJudgement p s text (Illegal cause) =
     IsCauseFrom p s text cause × (IsLegalFrom p s text → ⊥)
 
--- so it is from the empty start
+-- the same from the empty start
 abbrev pub IsReportJudgement : Plan → (text : List ℕ) → Judgement → Type 0
 IsReportJudgement p text (Legal report) = IsLegalText p text
 IsReportJudgement p text (Illegal cause) =

@@ -53,7 +53,7 @@ state_named name =
     else if bytes_eq name (codes "spent") then Some Spent
     else None
 
--- the words behind `entry`: sequence, caller, index and kind
+-- the words after `entry`: sequence, caller, index and kind
 abbrev pub call_in : List (List ℕ) → Option CallClaim
 call_in ws = do
   seq ← next_number 4294967295 ws
@@ -63,7 +63,7 @@ call_in ws = do
   announced ← kind_named kind.0
   Some (record { seq = seq.0; caller = caller.0; index = index.0; announced = announced })
 
--- the words behind `caller`: its number, its state, its answered calls, its entries, and the steps
+-- the words after `caller`: its number, its state, its answered calls, its entries, and the steps
 -- of its longest call
 abbrev pub end_in : List (List ℕ) → Option EndClaim
 end_in ws = do
@@ -75,13 +75,13 @@ end_in ws = do
   longest ← next_number 4294967295 entries.1
   Some (record { state = named; answered = answered.0; longest = longest.0 })
 
--- what the words of a line claim, where they are an entry's
+-- what the words of a line claim, if they are an entry's
 abbrev pub call_of_line : List (List ℕ) → Option CallClaim
 call_of_line ws = do
   name ← first_and_other_words ws
   if bytes_eq name.0 (codes "entry") then call_in name.1 else None
 
--- what the words of a line claim, where they are a caller's
+-- what the words of a line claim, if they are a caller's
 abbrev pub end_of_line : List (List ℕ) → Option EndClaim
 end_of_line ws = do
   name ← first_and_other_words ws
@@ -96,7 +96,7 @@ abbrev pub read_lines : {X : Type 0} → (List (List ℕ) → Option X) → List
 read_lines read [] = []
 read_lines read (l ∷ ls) = onto_read (read (text_words l)) (read_lines read ls)
 
--- the lines that are left, where a text is
+-- the lines that are left, if a text is
 abbrev pub lines_of : Option (Bor (List ℕ)) → List (List ℕ)
 lines_of None = []
 lines_of (Some rest) = text_lines rest.now

@@ -8,7 +8,7 @@ use Rattle.of_report.specs.declared.report.EndState.TheVariants.{Done}
 use Rattle.of_report.specs.Lines.{end_state_value}
 use Rattle.of_check.specs.declared.claims.EndClaim.{EndClaim}
 
--- the line of a caller with so many entries
+-- the line of a caller with this many entries
 abbrev pub claimed_line : ℕ → EndClaim → Line
 claimed_line entries e = record {
   state = end_state_value e.state;
@@ -17,11 +17,11 @@ claimed_line entries e = record {
   longest = e.longest;
 }
 
--- how many scripts a caller has to do, where so many of each are done
+-- how many scripts a caller has to do, if those in `done` were done before
 abbrev pub left_of : Plan → (done : List ℕ) → ℕ → ℕ
 left_of p done c = length (scripts_of p c) - slice_index done c
 
--- a caller that had so many scripts to do may end so, at the last sequence
+-- a caller that had this many scripts to do may end so, at the last sequence
 pub record IsEnding (p : Plan) (scripts seq : ℕ) (l : Line) : Type 0 where
   pub open_call : HasOpenCall l.state l.answered l.entries
   pub ended : HasEndState l.state l.answered scripts seq p.limit
@@ -31,7 +31,8 @@ pub record IsEnding (p : Plan) (scripts seq : ℕ) (l : Line) : Type 0 where
 abbrev pub end_at : List EndClaim → ℕ → EndClaim
 end_at ends c = slice_index_or ends c (record { state = Done; answered = 0; longest = 0 })
 
--- the line of a caller, of whose scripts so many were done at the start and so many are done now
+-- the line of a caller that had done as many scripts at the start as `done` says, and has done as
+-- many now as `counts` says
 abbrev pub claimed_line_at : (done counts : List ℕ) → List EndClaim → ℕ → Line
 claimed_line_at done counts ends c =
     claimed_line (slice_index counts c - slice_index done c) (end_at ends c)

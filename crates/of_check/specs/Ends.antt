@@ -30,7 +30,7 @@ abbrev pub entry_in : Option TheEntry → Option Entry
 entry_in None = None
 entry_in (Some e) = Some (entry_value e)
 
--- the ticket after this last call, where so many were done before. A read that wasn't announced
+-- the ticket after this last call, if `before` calls were made before. A read that wasn't announced
 -- leaves no ticket
 abbrev pub ticket_after : (before : ℕ) → Option Entry → ℕ
 ticket_after before None = before
@@ -48,7 +48,7 @@ pub record CellsHoldReply (i : Image) (c : ℕ) (response : Reply) : Type 0 wher
   pub held : IsHeldBy (reply_in MOST_INSTRS (image_number i) c) reply
   pub is : reply_value_of reply ≡ response
 
--- they hold the reply of its last announced entry, if the report has one
+-- the caller's own cells hold the reply of its last announced entry, if the report has one
 abbrev pub HasReply : Report → Image → (caller : ℕ) → Type 0
 HasReply r i c = IfSome (last_call r c) (λ e. CellsHoldReply i c e.reply)
 

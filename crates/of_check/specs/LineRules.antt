@@ -9,7 +9,7 @@ use Rattle.of_check.specs.declared.line_rule.LineRule.TheVariants.{AfterEnd, Sto
 abbrev pub line_pieces : List ℕ → List (List ℕ)
 line_pieces line = slice_split (λ b. b == 32) line
 
--- the piece with this many before it, and nothing where there is none
+-- the piece with this many before it, and nothing if there is none
 abbrev pub piece_at : List ℕ → (before : ℕ) → List ℕ
 piece_at line before = slice_index_or (line_pieces line) before []
 
@@ -18,7 +18,8 @@ pub record IsPiece (line : List ℕ) (before : ℕ) (piece : List ℕ) : Type 0 
   pub there : before < length (line_pieces line)
   pub is : piece ≡ piece_at line before
 
--- both lines have this many pieces before this one, and it is a word that the other doesn't have there
+-- both lines have this many pieces before this one, and it is a word that the other doesn't have
+-- there
 pub record HasOtherPiece (found wanted : List ℕ) (before : ℕ) : Type 0 where
   pub there : before < length (line_pieces found)
   pub wants : before < length (line_pieces wanted)

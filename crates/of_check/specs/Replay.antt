@@ -56,14 +56,14 @@ abbrev pub entries_from : Plan → Replay → List CallClaim → List Entry
 entries_from p c [] = []
 entries_from p c (q ∷ qs) = entry_for p c q ∷ entries_from p (after_claimed_call p c q) qs
 
--- how things stand once they have run
+-- what is left of the store and the callers once the claims have run
 abbrev pub course_end : Plan → Replay → List CallClaim → Replay
 course_end p c [] = c
 course_end p c (q ∷ qs) = course_end p (after_claimed_call p c q) qs
 
--- behind the last claim stands an announced call at the next sequence, or at the same one where the
--- last is announced and of a lesser caller; or a read at the same sequence, where the last is
--- announced or a read of no greater caller
+-- After the last claim may come: an announced call at the next sequence, or, if the last is
+-- announced and of a lower caller, at the same one; or a read at the same sequence, if the last is
+-- announced or a read of no higher caller
 abbrev pub MayFollowWithin : (last_announced announced : Bool) → (last next : CallClaim) → Type 0
 MayFollowWithin true true last q =
     (q.seq ≡ last.seq + 1) ⊎ ((q.seq ≡ last.seq) × (last.caller < q.caller))
@@ -71,8 +71,8 @@ MayFollowWithin true false last q = q.seq ≡ last.seq
 MayFollowWithin false true last q = q.seq ≡ last.seq + 1
 MayFollowWithin false false last q = (q.seq ≡ last.seq) × (last.caller ≤ q.caller)
 
--- the claimed call may come next: its caller has a script more, it is of that script, it stands
--- where it may, and the script of a read only reads
+-- the claimed call may come next: its caller has a script more, the call is of that script and at a
+-- place where it may be, and the script of a read only reads
 pub record MayFollow (p : Plan) (c : Replay) (q : CallClaim) : Type 0 where
   pub caller : q.caller < p.callers
   pub script : index_for c q < length (scripts_of p q.caller)

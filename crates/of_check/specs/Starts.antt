@@ -4,7 +4,7 @@ use Rattle.of_store.specs.Store.{Store}
 use Rattle.of_plan.specs.Report.{Start}
 use Rattle.of_check.specs.declared.start.Start.{Start as TheStart}
 
--- the start at this sequence and this store, where so many scripts of each caller are done
+-- the start at this sequence and this store, at which each caller has done these many scripts
 abbrev pub start_where_done : (seq : ℕ) (done : List ℕ) (store : Store) → Start
 start_where_done seq done store = record { store = store; seq = seq; finished = done }
 

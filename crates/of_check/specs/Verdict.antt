@@ -13,7 +13,7 @@ pub record IsLegalText (p : Plan) (text : List ℕ) : Type 0 where
   pub legal : IsLegal p (empty_start p) report
   pub is : text ≡ report_text report
 
--- legal exactly where the text is that of a legal report
+-- legal exactly if the text is that of a legal report
 abbrev pub IsVerdict : Plan → List ℕ → Verdict → Type 0
 IsVerdict p text Legal = IsLegalText p text
 IsVerdict p text Illegal = IsLegalText p text → ⊥

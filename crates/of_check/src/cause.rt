@@ -40,14 +40,14 @@ pub enum Cause {
         index: usize,
         rule: EntryRule,
     },
-    /// The line of this caller, after so many entries.
+    /// The line of this caller, after its entries.
     Caller {
         entries: usize,
         caller: u32,
         rule: EndRule,
     },
-    /// The line with so many lines above it is another than in this text, which is that of the
-    /// report that the entries and the lines of callers claim.
+    /// The line with this many lines above it differs from that of this text, which is the text of
+    /// the report that the entries and the lines of callers claim.
     Line {
         above: u64,
         wanted: Vec<u8>,

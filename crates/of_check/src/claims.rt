@@ -62,7 +62,7 @@ fn state_named(name: &[u8]) -> Option<EndState>
     None
 }
 
-// The claim in the words behind `entry`.
+// The claim in the words after `entry`.
 fn call_in(bytes: &[u8]) -> Option<CallClaim>
     ensures { result ≡ claimed.call_in (text_words bytes.now) }
 {
@@ -79,7 +79,7 @@ fn call_in(bytes: &[u8]) -> Option<CallClaim>
     })
 }
 
-// The claim in the words behind `caller`.
+// The claim in the words after `caller`.
 fn end_in(bytes: &[u8]) -> Option<EndClaim>
     ensures { result ≡ claimed.end_in (text_words bytes.now) }
 {
@@ -96,7 +96,7 @@ fn end_in(bytes: &[u8]) -> Option<EndClaim>
     })
 }
 
-// What a line claims, where it is an entry's.
+// What a line claims, if it is an entry's.
 fn call_of_line(line: &[u8]) -> Option<CallClaim>
     ensures { result ≡ claimed.call_of_line (text_words line.now) }
 {
@@ -107,7 +107,7 @@ fn call_of_line(line: &[u8]) -> Option<CallClaim>
     call_in(rest)
 }
 
-// What a line claims, where it is a caller's.
+// What a line claims, if it is a caller's.
 fn end_of_line(line: &[u8]) -> Option<EndClaim>
     ensures { result ≡ claimed.end_of_line (text_words line.now) }
 {

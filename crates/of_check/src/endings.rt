@@ -29,7 +29,7 @@ pub(crate) fn is_within(bound: u32, end: EndClaim) -> bool
     end.longest <= bound && (end.answered != 0 || end.longest == 0)
 }
 
-// What a caller claims to have ended with; nothing answered, where there is no claim.
+// What a caller claims to have ended with; nothing answered, if there is no claim.
 fn end_at(ends: &[EndClaim], caller: u32) -> EndClaim
     ensures { result ≡ the_end_at ends.now caller }
 {
@@ -43,8 +43,8 @@ fn end_at(ends: &[EndClaim], caller: u32) -> EndClaim
     }
 }
 
-// The lines of callers of whose scripts so many were done at the start and so many are done now, as
-// they claim them. The error is out of memory.
+// The lines of callers as they are claimed, from what each caller had done at the start and has
+// done now. The error is out of memory.
 pub(crate) fn lines(
     alloc: Global,
     plan: &Plan,

@@ -50,7 +50,7 @@ fn last_announced(entries: &[Entry], caller: u32) -> Option<Entry>
     last
 }
 
-// The ticket after this last call, where so many were done before.
+// The ticket after this last call, if `before` calls were made before.
 fn ticket_after(before: u32, last: Option<Entry>) -> u64
     ensures { result ≡ ticket_after before (entry_in last) }
 {
@@ -136,7 +136,7 @@ fn same_store(one: &Store, other: &Store) -> bool
 }
 
 // What is wrong with the own cells of the first caller of which they aren't those of its last
-// announced entry; None where all are.
+// announced entry; None if all are.
 fn wrong_call(plan: &Plan, done: &[u32], report: &Report, image: &Image) -> Option<LeftRule>
     requires done { length done.now ≡ plan.now.callers }
     requires image { IsImage MOST_INSTRS image.now }
@@ -158,8 +158,8 @@ fn wrong_call(plan: &Plan, done: &[u32], report: &Report, image: &Image) -> Opti
     None
 }
 
-/// What is wrong with an image as where a report ends, which is from a start at which so many
-/// scripts of each caller are done; nothing exactly where the image is the report's end.
+/// What is wrong with an image as the end of a report, from a start at which `done` says how many
+/// scripts of each caller are done; nothing exactly if the image is the report's end.
 pub fn why_left(plan: &Plan, done: &[u32], report: &Report, image: &Image) -> Option<LeftRule>
     requires done { length done.now ≡ plan.now.callers }
     requires image { IsImage MOST_INSTRS image.now }

@@ -26,11 +26,11 @@ struct ReplayEnd {
     replay: Replay,
     // How many these are.
     count: usize,
-    // The rule that the next one breaks; None where all have run.
+    // The rule that the next one breaks; None if all have run.
     broken: Option<EntryRule>,
 }
 
-// The rule that a claimed call breaks; None where it may come next.
+// The rule that a claimed call breaks; None if it may come next.
 fn broken_entry(plan: &Plan, replay: &Replay, call: CallClaim) -> Option<EntryRule>
     requires { length replay.now.counts.items ≡ plan.now.callers }
     ensures { MatchOption result (MayFollow plan.now (replay_value replay.now) call)
@@ -94,7 +94,7 @@ fn has_open_call(entries: u32, end: EndClaim) -> bool
     }
 }
 
-// Whether a caller with so many scripts may end so.
+// Whether a caller with this many scripts may end so.
 fn has_ended(scripts: u32, seq: u32, limit: u32, end: EndClaim) -> bool
     ensures { IsTrue result
         ↔ HasEndState (end_state_value end.state) end.answered scripts seq limit }
@@ -106,7 +106,7 @@ fn has_ended(scripts: u32, seq: u32, limit: u32, end: EndClaim) -> bool
     }
 }
 
-// The rule that the line of a caller breaks; None where the caller may end so.
+// The rule that the line of a caller breaks; None if the caller may end so.
 fn broken_end(plan: &Plan, scripts: u32, entries: u32, seq: u32, end: EndClaim) -> Option<EndRule>
     ensures { MatchOption result (IsEnding plan.now scripts seq (claimed_line entries end))
         (λ rule. BreaksEnd rule plan.now scripts seq (claimed_line entries end)) }
@@ -123,7 +123,7 @@ fn broken_end(plan: &Plan, scripts: u32, entries: u32, seq: u32, end: EndClaim) 
     None
 }
 
-// The first caller that has no line, or whose line breaks a rule; None where all may end so.
+// The first caller that has no line, or whose line breaks a rule; None if all may end so.
 fn first_end(
     plan: &Plan,
     done: &[u32],
@@ -151,7 +151,7 @@ fn first_end(
     None
 }
 
-// The first line at which two texts differ, by the number of lines above it; None where they are
+// The first line at which two texts differ, by the number of lines above it; None if they are
 // the same.
 fn first_difference(one: &[u8], other: &[u8]) -> Option<u64>
     ensures { MatchOption result (one.now ≡ other.now) (DifferFirst one.now other.now) }
@@ -180,8 +180,8 @@ fn first_difference(one: &[u8], other: &[u8]) -> Option<u64>
     }
 }
 
-// Of a cause on the line with so many lines above it and the first line at which the text differs
-// from that of the report that it claims, the one that comes first.
+// The one that comes first: the cause, on the line with this many lines above it, or the first line
+// at which the text differs from that of the report that it claims.
 fn first_of(text: &[u8], wanted: Vec<u8>, above: u64, cause: Cause) -> Cause
     ensures { ComesFirst text.now wanted above cause result }
 {

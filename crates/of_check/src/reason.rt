@@ -49,8 +49,8 @@ fn end_reason(rule: EndRule) -> (usize, &'static str) {
     }
 }
 
-// Where the word begins before which so many words come, as claims are read; the end of the line
-// where it has fewer.
+// Where the word begins that has this many words before it, as claims are read; the end of the line
+// if it has fewer.
 fn word_at(line: &[u8], before: usize) -> usize
     ensures { result ≤ length line.now }
 {
@@ -159,7 +159,7 @@ fn print_other(
     Ok(out)
 }
 
-// What is said of a line that is not the wanted one, with so many lines above it.
+// What is said of a line that is not the wanted one and has this many lines above it.
 fn print_line(
     alloc: Global,
     report: &[u8],
@@ -192,7 +192,7 @@ fn print_line(
     print_other(alloc, number, found, wanted)
 }
 
-// What is said of a word of a line that breaks a rule: before it come so many words.
+// What is said of a word of a line that breaks a rule and has this many words before it.
 fn print_word(
     alloc: Global,
     report: &[u8],
@@ -206,7 +206,7 @@ fn print_word(
     point_out(alloc, above.saturating_add(1), line, start, end, reason)
 }
 
-// What is said where the line of a caller is missing: a line that begins as an entry or as a caller
+// What is said if the line of a caller is missing: a line that begins as an entry or as a caller
 // is spelled otherwise.
 fn missing_reason(report: &[u8], above: u64, caller: u32) -> &'static str {
     let (line, _) = line_at(report, above);

@@ -24,7 +24,7 @@ pub(crate) struct Replay {
     pub store: Store,
 }
 
-// Whether a call may stand behind the last one.
+// Whether a call may come after the last one.
 pub(crate) fn follows(last: CallClaim, next: CallClaim) -> bool
     ensures { IsTrue result ↔ MayFollowWithin last.announced next.announced last next }
 {
@@ -90,8 +90,8 @@ impl Replay {
         Ok(())
     }
 
-    // The report of what has run, with the lines of callers that are claimed, where so many scripts
-    // of each were done at the start. The error is out of memory.
+    // The report of what has run, with the lines of callers that are claimed. `done` says how many
+    // scripts of each were done at the start. The error is out of memory.
     pub(crate) fn report(
         self,
         alloc: Global,

@@ -33,8 +33,8 @@ pub fn tickets(alloc: Global, image: &Image) -> Result<Vec<u32>, AllocError>
 }
 
 impl Start {
-    /// Where a plan with so many callers and blocks begins: nothing is stored, and nothing is done.
-    /// The error is out of memory.
+    /// Where a plan with this many callers and blocks begins: nothing is stored, and nothing is
+    /// done. The error is out of memory.
     pub fn empty(alloc: Global, callers: u32, blocks: u32) -> Result<Start, AllocError>
         requires { blocks ≤ MOST_BLOCKS }
         ensures { IfOk result (λ start. start_of start

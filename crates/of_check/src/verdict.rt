@@ -18,7 +18,7 @@ pub enum Verdict {
 }
 
 /// Whether a text is that of a report which is legal for the plan from the empty start: `Legal`
-/// exactly where it is, and `Illegal` exactly where it isn't. The error is out of memory.
+/// exactly if it is, and `Illegal` exactly if it isn't. The error is out of memory.
 pub fn check(alloc: Global, plan: &Plan, text: &[u8]) -> Result<Verdict, AllocError>
     ensures { IfOk result (IsVerdict plan.now text.now) }
 {

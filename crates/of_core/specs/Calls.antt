@@ -20,7 +20,7 @@ use Rattle.of_core.specs.Least.{least_call}
 use Rattle.of_core.specs.Events.{Event, Begins, Turns, Loads, Evicts, Raises, Revives, machine_in, after_event, after_events, turn_count}
 use Rattle.of_core.specs.Turn.{turn_of, IsIdle}
 
--- these where it is so, and else none
+-- the list if the flag is set, and otherwise the empty list
 abbrev pub if_so : {A : Type 0} → Bool → List A → List A
 if_so true xs = xs
 if_so false xs = []
@@ -39,7 +39,7 @@ abbrev pub operations_begun : List Event → ℕ → List (List ℕ)
 operations_begun [] i = []
 operations_begun (e ∷ es) i = operation_begun e i ++ operations_begun es i
 
--- how a turn has ended its call
+-- how a turn has ended its call: a list of one outcome, or of none
 abbrev pub outcome_of_turn : Turn → List Outcome
 outcome_of_turn NoCall = []
 outcome_of_turn Open = []
@@ -87,13 +87,13 @@ TurnsFindOpenCalls S w [] i = Unit {0}
 TurnsFindOpenCalls S w (e ∷ es) i =
     TurnFindsOpenCall w e i × TurnsFindOpenCalls S (after_event S w e) es i
 
--- the steps that an outcome tells; a spent or a lost one tells none
+-- the steps of an answered call; a spent or a lost one has none
 abbrev pub outcome_steps : Outcome → ℕ
 outcome_steps (Answered s announced raw steps) = steps
 outcome_steps (Spent s) = 0
 outcome_steps (Lost s) = 0
 
--- the steps that the outcomes tell, added up
+-- the steps of answered calls, added up
 abbrev pub total_steps : List Outcome → ℕ
 total_steps [] = 0
 total_steps (o ∷ os) = outcome_steps o + total_steps os
@@ -108,24 +108,24 @@ abbrev pub NoneSpent : List Outcome → Type 0
 NoneSpent [] = Unit {0}
 NoneSpent (o ∷ os) = IsAnswered o × NoneSpent os
 
--- the sequence that an outcome tells
+-- the sequence of an outcome
 abbrev pub outcome_seq : Outcome → ℕ
 outcome_seq (Answered s announced raw steps) = s
 outcome_seq (Spent s) = s
 outcome_seq (Lost s) = s
 
--- an outcome stands behind a sequence: an announced call's is above it, and no other is below
+-- an outcome is not before a sequence: an announced call's is above it, and no other is below it
 abbrev pub IsNotBefore : ℕ → Outcome → Type 0
 IsNotBefore low (Answered s true raw steps) = low < s
 IsNotBefore low (Answered s false raw steps) = low ≤ s
 IsNotBefore low (Spent s) = low ≤ s
 IsNotBefore low (Lost s) = low ≤ s
 
--- no call has ended so
+-- an outcome that no call has
 abbrev pub no_outcome : Outcome
 no_outcome = Spent 0
 
--- the last of the outcomes, or this where there is none
+-- the last of the outcomes, or this one if there is none
 abbrev pub last_outcome_or : Option Outcome → List Outcome → Option Outcome
 last_outcome_or before [] = before
 last_outcome_or before (o ∷ os) = last_outcome_or (Some o) os
@@ -148,9 +148,10 @@ abbrev pub HasRead : List Read → (i ticket : ℕ) → (op : List ℕ) → RawR
 HasRead rs i ticket op raw s = (k : ℕ) × (k < length rs)
     × (get_or rs k no_read ≡ record { caller = i; ticket = ticket; op = op; raw = raw; seq = s })
 
--- what a moment says of the outcome of the call of caller i with this ticket and operation: a
--- batch, or a read, has it, and it has made as many steps as such a call makes; or the sequence is
--- spent, and no batch has it; or its machine was lost, and it is in no later batch than the last one then
+-- the history of this moment has the outcome of the call of caller i with this ticket and
+-- operation: a batch, or a read, has the call, with at least the steps that it must make; or the
+-- sequence is spent, and no batch has it; or its machine was lost when the last batch was s, and no
+-- later batch has it
 abbrev pub OutcomeStands : Setup → TableStart → Moment → (i ticket : ℕ) → (op : List ℕ) → Outcome
     → Type 0
 OutcomeStands S B w i ticket op (Answered s true raw steps) =
@@ -171,13 +172,14 @@ IsOutcome before i ops outs r = r.caller ≡ i → (x : ℕ) × (steps : ℕ) ×
     × (r.ticket ≡ before + x + 1) × (r.op ≡ get_or ops x [])
     × (get_or outs x no_outcome ≡ Answered r.seq false r.raw steps)
 
--- a call of caller i is one that it has begun, with its words
+-- if a call is one of caller i, then i has begun it, with these words
 abbrev pub WasBegun : (before i : ℕ) → List (List ℕ) → Call → Type 0
 WasBegun before i ops c = c.caller ≡ i
     → (before < c.ticket) × (c.ticket ≤ before + length ops)
     × (c.op ≡ get_or ops (c.ticket - before - 1) [])
 
--- the calls of caller i, where it has begun these behind so many others, and these have ended
+-- caller i had begun this many calls before; since then it has begun these, and the ended ones have
+-- these outcomes
 pub record HasCalls (S : Setup) (B : TableStart) (before : ℕ) (w : Moment) (i : ℕ)
     (ops : List (List ℕ)) (outs : List Outcome) : Type 0 where
   -- the machine counts what was begun
@@ -187,7 +189,7 @@ pub record HasCalls (S : Setup) (B : TableStart) (before : ℕ) (w : Moment) (i 
   -- an open call is the last one begun
   pub open_call : IsOpen (machine_in w i).place
       → (length ops ≡ length outs + 1) × ((machine_in w i).op ≡ get_or ops (length outs) [])
-  -- which has no answer yet
+  -- and has no answer yet
   pub unanswered : IsOpen (machine_in w i).place → (machine_in w i).answer ≡ None
   -- the machine holds the last outcome, or none if it is new
   pub last : IsIdle (machine_in w i)
@@ -195,11 +197,11 @@ pub record HasCalls (S : Setup) (B : TableStart) (before : ℕ) (w : Moment) (i 
   -- each outcome is in the history
   pub each : (x : ℕ) → x < length outs
       → OutcomeStands S B w i (before + x + 1) (get_or ops x []) (get_or outs x no_outcome)
-  -- none goes back: of two outcomes the later is of no older state, and of a newer one where its
+  -- none goes back: of two outcomes the later is of no older state, and of a newer one if its
   -- call was announced
   pub rising : (x y : ℕ) → x < y → y < length outs
       → IsNotBefore (outcome_seq (get_or outs x no_outcome)) (get_or outs y no_outcome)
-  -- nor does a try of the open call read an older state
+  -- nor does a try of the open call read an older state than an outcome has
   pub reads_from : (x : ℕ) → x < length outs
       → ReadsFrom (outcome_seq (get_or outs x no_outcome)) (machine_in w i)
   -- each of the caller's reads in the history is an outcome
@@ -209,10 +211,10 @@ pub record HasCalls (S : Setup) (B : TableStart) (before : ℕ) (w : Moment) (i 
 
 -- the turns of caller i among the events are the steps of its calls
 pub record TurnsAreTold (S : Setup) (w : Moment) (es : List Event) (i : ℕ) : Type 0 where
-  -- no call tells a step that was no turn
+  -- no call counts a step that was no turn
   pub few : total_steps (outcomes S w es i) + (machine_in (after_events S w es) i).steps
       ≤ turn_count i es
-  -- and each turn of an open call is told
+  -- and each turn of an open call is counted
   pub exact : TurnsFindOpenCalls S w es i → NoneSpent (outcomes S w es i)
       → total_steps (outcomes S w es i) + (machine_in (after_events S w es) i).steps
       ≡ turn_count i es

@@ -1,5 +1,5 @@
--- What every moment claims: its history is legal, each round uses one state, and what recovery
--- reads off the durable words.
+-- What holds at every moment: the history is legal, each round uses one state, and recovery of the
+-- durable words finds a state of the history.
 use Rattle.std.specs.Prelude.{ℕ, ◌+◌, ◌*◌, ◌-◌, List, length, Option, Some, None, Bool, true, false, ◌≡◌, ◌≤◌, ◌<◌, map}
 use Rattle.std.proofs.Common.{get_or, take}
 use Rattle.of_cell.specs.Words.{seq_of, payload_of}
@@ -21,7 +21,7 @@ use Rattle.of_core.specs.History.{state_after, batch_at, EachBatch, EachCall, Is
 use Rattle.of_core.specs.Bound.{bound}
 use Rattle.of_core.specs.Events.{machine_in}
 
--- the places of a round or a try at which what is known of cells is of its state
+-- the places of a round or a try at which the known cells are those of its state
 abbrev pub knows_state : Place → Bool
 knows_state (TryCell a) = true
 knows_state LoadOwnTicket = true
@@ -39,23 +39,23 @@ knows_state RaiseRequest = true
 knows_state ExchangeCurrent = true
 knows_state p = false
 
--- what was loaded of the own cells of caller i, of which its answer is read, is of the state
+-- what was loaded of the own cells of caller i, for its answer, is of this state
 abbrev pub OwnCellsAreOfState : Setup → (state_after : List ℕ) → (i : ℕ) → CallState → Place
     → Type 0
 OwnCellsAreOfState S st i m LoadShape = FindsOwnTicket S st i m
 OwnCellsAreOfState S st i m (LoadReply j) = FindsOwnTicket S st i m × HasReadReplyUpTo S st i m j
 OwnCellsAreOfState S st i m p = Unit {0}
 
--- a round or a try has used the cells of one state alone: what is known of cells, and what was
--- loaded of the own ones
+-- a round or a try has used the cells of only one state: the known cells, and what was loaded of
+-- the caller's own ones
 pub record UsesOneState (S : Setup) (B : TableStart) (w : Moment) (i : ℕ) (m : CallState)
     : Type 0 where
   pub known : knows_state m.place ≡ true → Agrees m.known (numbers_after B w.batches m.seq)
   pub own : OwnCellsAreOfState S (state_after B w.batches m.seq) i m m.place
 
--- A word that the cell c has held, as the history tells it: the current-transaction word names a
--- batch and its owner, a request is open or closes a batch of its caller, a data word is of some
--- state, and a log word of a batch's sequence is of that batch's log.
+-- The cell c may have held this word, by the history: the current-transaction word names a batch
+-- and its owner, a request is open or closes a batch of its caller, a data word is of some state,
+-- and a log word of a batch's sequence is of that batch's log.
 pub record HasHeld (S : Setup) (B : TableStart) (ws : List ℕ) (bs : List Batch) (c v : ℕ)
     : Type 0 where
   pub current : c ≡ 0 → WasHeldByCurrent B ws bs v
@@ -90,7 +90,7 @@ OutcomeIsInHistory S B w i m (Some (Spent s)) =
     × (s ≤ durable_seq S w.words)
 OutcomeIsInHistory S B w i m (Some (Lost s)) = ⊥
 
--- a call in a batch is one that its caller has begun; where it is the caller's open call, it is
+-- a call in a batch is one that its caller has begun; if it is the caller's open call, it is
 -- there with that call's words
 abbrev pub WasBegunByCaller : Setup → TableStart → Moment → Call → Type 0
 WasBegunByCaller S B w c =
@@ -108,19 +108,18 @@ pub record IsSound (S : Setup) (B : TableStart) (w : Moment) : Type 0 where
   -- the reads theirs
   pub legal : IsLegalHistory S.meaning (map payload_of B.cells) w.batches
   pub reads : All (ReadIsLegal S B w.batches) w.reads
-  -- apart from the callers' own cells the state behind each batch is what the calls up to it lead
-  -- to
+  -- apart from the callers' own cells the state after each batch is what the calls up to it lead to
   pub state : (k : ℕ) → k ≤ length w.batches
       → SameFrom (first_operation_cell S) (numbers_after B w.batches (B.seq + k))
       (numbers_by_replay S B w.batches k)
   -- each call in a batch was begun by its caller
   pub begun : EachCall B w.batches (WasBegunByCaller S B w)
-  -- no batch is empty, a batch's calls stand by caller, and each caller's tickets rise
+  -- no batch is empty, a batch's calls are ordered by caller, and each caller's tickets rise
   pub some : EachBatch B w.batches (λ cs. 0 < length cs)
   pub rising : EachBatch B w.batches CallersRise
   pub tickets : (j k : ℕ) → B.seq < j → j < k → k ≤ B.seq + length w.batches
       → All (λ c. All (IsNewerCall c) (batch_at B w.batches k).calls) (batch_at B w.batches j).calls
-  -- each caller's calls, in batches and read, stand in the order in which it made them, and no read
+  -- each caller's calls, in batches and read, are in the order in which it made them, and no read
   -- is newer than the durable sequence
   pub order : AreInCallOrder S B w.words w.batches w.reads
   -- recovery of the durable words gives the state after the batches up to the durable sequence
@@ -154,7 +153,7 @@ pub record IsSound (S : Setup) (B : TableStart) (w : Moment) : Type 0 where
   -- no durable word is above its cell's, and each is one that its cell has held
   pub low : (c : ℕ) → c < cell_count S → durable_word S w.words c ≤ get_or w.words c 0
   pub held : (c : ℕ) → c < cell_count S → HasHeld S B w.words w.batches c (durable_word S w.words c)
-  -- each round and each try has used the cells of one state alone
+  -- each round and each try has used the cells of only one state
   pub one : (i : ℕ) → i < S.callers → UsesOneState S B w i (machine_in w i)
   -- each caller has a machine, and no call makes more steps than the bound
   pub members : length w.machines ≡ S.callers

@@ -79,8 +79,8 @@ pub record HasLost (S : Setup) (m : CallState) (commits : ℕ) : Type 0 where
   pub rounds : m.rounds ≤ commits + 1
   pub tried : S.meaning.reads_only m.op ≡ true → 1 ≤ m.rounds → MOST_TRIES ≤ commits
 
--- so it is of each open call, beside the commits since a moment at which its caller was idle: if
--- there is none, a read ends in its first try, and any other call in its first round
+-- the same of each open call, of the commits since a moment at which its caller was idle: if there
+-- is none, a read ends in its first try, and any other call in its first round
 abbrev pub LostToCommits : Setup → (List ℕ → Type 0) → Type 0
 LostToCommits S Lawful =
     (B : TableStart) (w : Moment) → MeetsInvariant S Lawful B w → (es : List Event)

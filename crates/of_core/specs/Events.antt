@@ -16,10 +16,10 @@ pub data Event : Type 0 where
   -- a caller begins a call, and makes its next step
   Begins : ℕ → List ℕ → Event
   Turns : ℕ → Event
-  -- a cell is loaded for an eviction, and a loaded word is raised
+  -- a cell is loaded for an eviction, and then the loaded word is raised
   Loads : ℕ → Event
   Evicts : ℕ → Event
-  -- both at once: the durable word of a cell is raised to the word that it holds
+  -- both in one step: the durable word of a cell is raised to the word that the cell holds
   Raises : ℕ → Event
   -- a new machine takes the place of a caller's lost one, and is given the number of its calls
   Revives : ℕ → (made : ℕ) → Event
@@ -38,7 +38,7 @@ after_raise S w e = record w {
 abbrev pub after_begin : Setup → ℕ → CallState → List ℕ → Moment → Moment
 after_begin S i m op w = record w { machines = set w.machines i (begin_call S m op) }
 
--- the world after an event
+-- the moment after an event
 abbrev pub after_event : Setup → Moment → Event → Moment
 after_event S w (Begins i op) = after_begin S i (machine_in w i) op w
 after_event S w (Loads c) = record w { loaded = w.loaded ++ (c, get_or w.words c 0) ∷ [] }
@@ -48,9 +48,9 @@ after_event S w (Revives i made) = after_revival S i made w
 after_event S w (Turns i) =
     after_step S i (machine_in w i) (word_found S w.words (machine_in w i)) w
 
--- when an event may happen: a call begins if none of the caller's is open, with 1 to as many words
--- as an operation may have; a machine may be lost at any step, and is replaced when its caller has
--- nothing under way
+-- when an event may happen: a call begins only if none of the caller's is open, with at least one
+-- word and at most as many as an operation may have; a machine may be lost at any step, and is
+-- replaced only when its caller has nothing under way
 abbrev pub MayHappen : Setup → Moment → Event → Type 0
 MayHappen S w (Begins i op) =
     (i < S.callers) × ((machine_in w i).place ≡ Idle) × (1 ≤ length op) × (length op ≤ S.instrs)
@@ -78,11 +78,11 @@ abbrev pub HasStood : Setup → Moment → List Event → (c v : ℕ) → Type 0
 HasStood S w es c v =
     (k : ℕ) × (k ≤ length es) × (get_or (after_events S w (take k es)).words c 0 ≡ v)
 
--- how many calls caller i has behind it at a start: the number of its ticket cell
+-- how many calls caller i has made before a start: the number in its ticket cell
 abbrev pub start_ticket : Setup → TableStart → ℕ → ℕ
 start_ticket S B i = payload_of (get_or B.cells (ticket_cell S i) 0)
 
--- n idle machines from caller i on, each with so many calls behind it
+-- n idle machines from caller i on; each caller has made the calls that `made` counts
 abbrev pub idle_machines : Setup → (made : ℕ → ℕ) → ℕ → ℕ → List CallState
 idle_machines S made i zero = []
 idle_machines S made i (suc n) = idle_machine S i (made i) ∷ idle_machines S made (suc i) n
@@ -101,7 +101,7 @@ opening_moment S B n = record {
 abbrev pub zero_start : Setup → TableStart
 zero_start S = record { seq = 0; owner = 0; cells = replicate S.cells 0 }
 
--- 1 where it is so
+-- 1 if the flag is set, and otherwise 0
 abbrev pub one_if : Bool → ℕ
 one_if true = 1
 one_if false = 0
@@ -115,7 +115,7 @@ turns_in_event i (Evicts k) = 0
 turns_in_event i (Raises c) = 0
 turns_in_event i (Revives j made) = 0
 
--- and how many of the events
+-- how many turns of caller i these events are
 abbrev pub turn_count : ℕ → List Event → ℕ
 turn_count i [] = 0
 turn_count i (e ∷ es) = turns_in_event i e + turn_count i es

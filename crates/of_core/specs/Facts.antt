@@ -18,7 +18,7 @@ loads_current_at TryCurrent = true
 loads_current_at LoadCurrent = true
 loads_current_at p = false
 
--- the sequence that the machine's round, try or apply rests on; 0 where it has none
+-- the sequence that the machine's round, try or apply rests on; 0 if it has none
 abbrev pub rests_on_seq_at : CallState → Place → ℕ
 rests_on_seq_at m Idle = 0
 rests_on_seq_at m TryCurrent = 0
@@ -27,8 +27,8 @@ rests_on_seq_at m StoreAnnouncement = 0
 rests_on_seq_at m LoadCurrent = 0
 rests_on_seq_at m p = m.seq
 
--- what a call's last step answers: it counts each of its steps, and rests on no newer state than
--- the machine did. An unannounced answer comes from a try
+-- what a call's last step answers: it counts each of its steps, and names no newer state than the
+-- machine depended on. An unannounced answer comes from a try
 abbrev pub LastStepTells : Setup → CallState → Place → Option Outcome → Type 0
 LastStepTells S m p None = ⊥
 LastStepTells S m p (Some (Answered s false raw steps)) =
@@ -81,7 +81,7 @@ ReadsFrom low m = HasBegunTry m m.place → low ≤ m.seq
 abbrev pub read_of_call : CallState → RawReply → (s : ℕ) → Read
 read_of_call m raw s = record { caller = m.caller; ticket = m.made; op = m.op; raw = raw; seq = s }
 
--- what a call's last step answers, where it leads from m to d: no newer state than the machine
+-- what a call's last step answers, if it leads from m to d: no newer state than the machine
 -- rested on, and the number of its steps. An unannounced answer is a read of the history, of no
 -- older state than the try reads from
 abbrev pub TellsOutcome : Setup → CallState → CallState → Outcome → Type 0
@@ -93,7 +93,7 @@ TellsOutcome S m d (Answered s false raw steps) =
 TellsOutcome S m d (Spent s) = (s ≤ rests_on_seq m) × (s ≡ S.limit) × (step_reads m d ≡ [])
 TellsOutcome S m d (Lost s) = ⊥
 
--- the step of an open call, in a world that meets the invariant, found n, led from m to d and
+-- the step of an open call, at a moment that meets the invariant: it found n, led from m to d and
 -- committed these batches
 pub record IsStep (S : Setup) (B : TableStart) (w : Moment) (m : CallState) (n : ℕ) (d : CallState)
     (bs : List Batch) : Type 0 where
@@ -109,7 +109,7 @@ pub record IsStep (S : Setup) (B : TableStart) (w : Moment) (m : CallState) (n :
   pub rests_on : loads_current m ≡ false → rests_on_seq d ≤ rests_on_seq m + length bs
   -- a try goes on at the state that it reads, or begins at the last one
   pub reads_from : (low : ℕ) → low ≤ B.seq + length w.batches → ReadsFrom low m → ReadsFrom low d
-  -- a step commits at most one batch, which is the caller's, and only behind the last one
+  -- a step commits at most one batch, which is the caller's, and only right after the last one
   pub few : length bs ≤ 1
   pub owner : All (λ (b : Batch). b.owner ≡ m.caller) bs
   pub commits : 0 < length bs → rests_on_seq m ≡ B.seq + length w.batches

@@ -84,7 +84,7 @@ abbrev pub is_reading : Place → Bool
 is_reading (TryCell a) = true
 is_reading p = false
 
--- the list is empty and has room for so many
+-- the list is empty and has room for this many items
 abbrev pub IsEmptyWithRoom : {A G : Type 0} → ℕ → Vec A G → Type 0
 IsEmptyWithRoom n v = (v.items ≡ []) × (n ≤ vec_capacity v)
 

@@ -17,7 +17,7 @@ knowns [] = 0
 knowns (None ∷ ks) = knowns ks
 knowns (Some v ∷ ks) = suc (knowns ks)
 
--- 1 where the next step loads a data cell that the try or the round is to know, and 0 elsewhere.
+-- 1 if the next step loads a data cell that the try or the round is to know, and 0 otherwise.
 -- The loads of one's own shape and reply are not among them: they come in place of a scan, and are
 -- no more than the words that it loads of one caller.
 abbrev pub next_load : Place → ℕ
@@ -37,7 +37,7 @@ pub record Touches (m : CallState) (longest most : ℕ) : Type 0 where
   -- the cells that are known, and the one that is loaded next
   pub cells : knowns m.known + next_load m.place ≤ most
 
--- so it is of caller i now and after each of the events
+-- this holds of caller i now and after each of the events
 abbrev pub TouchesOnly : Setup → Moment → List Event → (i longest most : ℕ) → Type 0
 TouchesOnly S w [] i longest most = Touches (machine_in w i) longest most
 TouchesOnly S w (e ∷ es) i longest most =
@@ -69,8 +69,8 @@ abbrev pub round_steps : Setup → (longest most : ℕ) → ℕ
 round_steps S longest most =
     2 + help_steps longest + most + S.callers * (S.instrs + 1) + store_steps longest
 
--- a call with these words that has begun so many tries and rounds: these, its announcement, and the
--- apply of its own log
+-- the steps of a call with these words that has begun these tries and rounds: those of the tries
+-- and rounds, of the announcement, and of applying its own log
 abbrev pub footprint : Setup → List ℕ → (longest most tries rounds : ℕ) → ℕ
 footprint S op longest most tries rounds =
     tries * try_steps longest most + (length op + 1)
@@ -84,8 +84,8 @@ pub record HasFootprint (S : Setup) (longest most : ℕ) (m : CallState) (steps 
   pub rounds : m.rounds ≤ 3
   pub untried : S.meaning.reads_only m.op ≡ false → m.tries ≡ 0
 
--- a call that has begun and stays open has made fewer steps than what it touches allows, whatever
--- the size of the memory, so its last one comes in time
+-- a call that has begun and stays open has made fewer steps than what it touches allows, so its
+-- last step comes in time; the size of the memory does not matter
 abbrev pub ByFootprint : Setup → (List ℕ → Type 0) → Type 0
 ByFootprint S Lawful =
     (B : TableStart) (w : Moment) → MeetsInvariant S Lawful B w

@@ -1,4 +1,5 @@
--- What stands under every moment: a start that a table may have, lawful states, and sizes that fit.
+-- What holds at every moment whatever the machines do: a start that a table may have, lawful
+-- states, and sizes that fit.
 use Rattle.std.specs.Prelude.{ℕ, ◌+◌, List, length, ◌≤◌, ◌<◌}
 use Rattle.of_cell.specs.declared.word.TheConstants.{PAYLOADS}
 use Rattle.of_mem.specs.declared.work.TheConstants.{MOST_INSTRS}
@@ -8,12 +9,12 @@ use Rattle.of_core.specs.History.{batch_at, numbers_after}
 use Rattle.of_core.specs.WordsMatch.{MayStart, IsLog}
 use Rattle.of_core.specs.Invariant.{MeetsInvariant}
 
--- what a moment rests on
+-- what holds of the start, the states and the sizes at each moment
 pub record HasGrounds (S : Setup) (Lawful : List ℕ → Type 0) (B : TableStart) (w : Moment)
     : Type 0 where
   -- it has begun at a start that a table may have
   pub may_start : MayStart S Lawful B
-  -- the state behind each batch is lawful
+  -- the state after each batch is lawful
   pub states : (k : ℕ) → B.seq ≤ k → k ≤ B.seq + length w.batches
       → Lawful (numbers_after B w.batches k)
   -- and each batch's log has entries of data cells, none twice

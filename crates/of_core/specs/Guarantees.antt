@@ -11,14 +11,14 @@ use Rattle.of_core.specs.Rounds.{AnnouncesNothingNew}
 use Rattle.of_core.specs.Scan.{IsAnnouncedCall}
 use Rattle.of_core.specs.Invariant.{MeetsCore}
 
--- What others may rely on where a step of machine i led from these words and batches to those: what
--- stood stays, a new batch is i's and of calls that are announced, and a word of another machine
--- changes only by closing the last batch's request.
+-- What others may rely on after a step of machine i led from these words and batches to those: what
+-- was there stays, a new batch is i's and of calls that are announced, and a word of another
+-- machine changes only by closing the last batch's request.
 pub record Guarantees (S : Setup) (B : TableStart) (i : ℕ) (ws : List ℕ) (bs : List Batch)
     (vs : List ℕ) (cs : List Batch) : Type 0 where
   -- while the last sequence stays so does its owner
   pub same : committed_seq vs ≡ committed_seq ws → committed_owner vs ≡ committed_owner ws
-  -- the states and batches that stood stand
+  -- the states and batches stay that were there
   pub states : (k : ℕ) → B.seq ≤ k → k ≤ committed_seq ws → state_after B cs k ≡ state_after B bs k
   pub batches : (k : ℕ) → B.seq < k → k ≤ committed_seq ws → batch_at B cs k ≡ batch_at B bs k
   -- nothing is committed above the limit
@@ -32,13 +32,13 @@ pub record Guarantees (S : Setup) (B : TableStart) (i : ℕ) (ws : List ℕ) (bs
       ⊎ ((last_ticket_by S B cs k j ≡ seq_of (announcement_of S ws j))
       × (last_ticket_by S B bs (committed_seq ws) j < seq_of (announcement_of S ws j))
       × (committed_seq ws < S.limit))
-  -- a new batch remembers the announcements that stood
+  -- a new batch remembers the announcements of its moment
   pub snapshot : (k j : ℕ) → committed_seq ws < k → k ≤ committed_seq vs → j < S.callers
       → (batch_at B cs k).announcements j ≡ announcement_of S ws j
-  -- script words and announcements are i's to store, where what it announced is done
+  -- script words and announcements are i's to store, if what it announced is done
   pub script_of : (j x : ℕ) → j < S.callers → x < S.instrs + 1
       → (script_word S vs j x ≡ script_word S ws j x) ⊎ ((j ≡ i) × AnnouncesNothingNew S B ws bs j)
-  -- and one that it changes has not stood at any batch
+  -- and one that it changes is not among those of any batch
   pub announcements : (j : ℕ) → j < S.callers
       → (announcement_of S vs j ≡ announcement_of S ws j)
       ⊎ ((j ≡ i)

@@ -9,7 +9,7 @@ use Rattle.of_core.specs.Table.{Setup, ticket_cell, shape_cell, reply_cell}
 use Rattle.of_core.specs.Machine.{Call, no_call}
 use Rattle.of_core.specs.TableMoment.{Batch, TableStart}
 
--- the data words with a log's entries at sequence k
+-- the data words after a log's entries are applied at sequence k
 abbrev pub with_log_applied : ℕ → List ℕ → List (ℕ × ℕ) → List ℕ
 with_log_applied k ws [] = ws
 with_log_applied k ws (e ∷ es) = with_log_applied k (set ws e.0 (pack k e.1)) es
@@ -24,19 +24,19 @@ words_after_batches s ws (b ∷ bs) =
 unfoldable pub state_after : TableStart → List Batch → ℕ → List ℕ
 state_after B bs k = words_after_batches B.seq B.cells (take (k - B.seq) bs)
 
--- no batch is so
+-- an empty batch, which no table commits
 abbrev pub no_batch : Batch
 no_batch = record { owner = 0; log = []; calls = []; announcements = λ c. 0 }
 
--- batch k, of those that stand
+-- batch k of these batches
 unfoldable pub batch_at : TableStart → List Batch → ℕ → Batch
 batch_at B bs k = get_or bs (k - B.seq - 1) no_batch
 
--- so it is of the calls of each batch
+-- P holds of the calls of each batch
 abbrev pub EachBatch : TableStart → List Batch → (List Call → Type 0) → Type 0
 EachBatch B bs P = (k : ℕ) → B.seq < k → k ≤ B.seq + length bs → P (batch_at B bs k).calls
 
--- so it is of each call in the batches
+-- P holds of each call in the batches
 abbrev pub EachCall : TableStart → List Batch → (Call → Type 0) → Type 0
 EachCall B bs P = EachBatch B bs (All P)
 
@@ -52,12 +52,12 @@ data_word_after B bs k a = get_or (state_after B bs k) a 0
 abbrev pub numbers_after : TableStart → List Batch → ℕ → List ℕ
 numbers_after B bs k = map payload_of (state_after B bs k)
 
--- the numbers after the calls, in order
+-- the numbers after the calls, run in order
 abbrev pub numbers_after_calls : Meaning → List ℕ → List Call → List ℕ
 numbers_after_calls W xs [] = xs
 numbers_after_calls W xs (c ∷ cs) = numbers_after_calls W (W.cells xs c.op) cs
 
--- the calls, in order, have the replies that they meet
+-- the calls, run in order, give the replies that they have
 abbrev pub CallsHaveReplies : Meaning → List ℕ → List Call → Type 0
 CallsHaveReplies W xs [] = Unit {0}
 CallsHaveReplies W xs (c ∷ cs) = (W.reply xs c.op ≡ c.raw) × CallsHaveReplies W (W.cells xs c.op) cs
@@ -67,7 +67,7 @@ abbrev pub numbers_after_batches : Meaning → List ℕ → List Batch → List 
 numbers_after_batches W xs [] = xs
 numbers_after_batches W xs (b ∷ bs) = numbers_after_batches W (numbers_after_calls W xs b.calls) bs
 
--- in that replay each call has the reply that it meets
+-- in the replay of the batches each call gives the reply that it has
 abbrev pub IsLegalHistory : Meaning → List ℕ → List Batch → Type 0
 IsLegalHistory W xs [] = Unit {0}
 IsLegalHistory W xs (b ∷ bs) =
@@ -77,7 +77,7 @@ IsLegalHistory W xs (b ∷ bs) =
 abbrev pub ticket_in_state : Setup → List ℕ → ℕ → ℕ
 ticket_in_state S st i = payload_of (get_or st (ticket_cell S i) 0)
 
--- the same in state k
+-- the ticket of caller i after batch k
 abbrev pub last_ticket_by : Setup → TableStart → List Batch → ℕ → ℕ → ℕ
 last_ticket_by S B bs k i = payload_of (data_word_after B bs k (ticket_cell S i))
 
@@ -92,7 +92,7 @@ pub record ShowsCall (S : Setup) (B : TableStart) (bs : List Batch) (k j : ℕ) 
   pub shape : payload_of (data_word_after B bs k (shape_cell S c.caller)) ≡ c.raw.shape
   pub replies : (y : ℕ) → y < S.instrs → is_marked c.raw.shape y ≡ true
       → payload_of (data_word_after B bs k (reply_cell S c.caller y)) ≡ get_or c.raw.values y 0
-  -- 0 stands where none is marked
+  -- the numbers that are not marked are 0
   pub rest : (y : ℕ) → y < S.instrs → is_marked c.raw.shape y ≡ false
       → get_or c.raw.values y 0 ≡ 0
 
@@ -101,7 +101,7 @@ abbrev pub HasNoCallBetween : TableStart → List Batch → ℕ → ℕ → ℕ 
 HasNoCallBetween B bs i lo hi = (k : ℕ) → lo < k → k ≤ hi
     → All (λ (c : Call). c.caller ≡ i → ⊥) (batch_at B bs k).calls
 
--- the last call of caller i in the batches up to k, and that its own cells show it
+-- the last call of caller i in the batches up to k, which its own cells show
 pub record IsNewestCall (S : Setup) (B : TableStart) (bs : List Batch) (k i : ℕ) : Type 0 where
   pub number : ℕ
   pub from : B.seq < number
@@ -113,8 +113,8 @@ pub record IsNewestCall (S : Setup) (B : TableStart) (bs : List Batch) (k i : �
   pub absent : HasNoCallBetween B bs i number k
   pub old : (a : ℕ) → IsCellOfCaller S i a → seq_of (data_word_after B bs k a) ≤ number
 
--- the own cells of caller i in state k hold its last call in the batches up to k, or are the
--- start's where it has none
+-- the own cells of caller i in state k hold its last call in the batches up to k; if there is none,
+-- they are those of the start
 abbrev pub OwnCellsShowLast : Setup → TableStart → List Batch → ℕ → ℕ → Type 0
 OwnCellsShowLast S B bs k i =
     (HasNoCallBetween B bs i B.seq k
@@ -126,13 +126,13 @@ abbrev pub CallersRise : List Call → Type 0
 CallersRise cs = (j k : ℕ) → j < k → k < length cs
     → (get_or cs j no_call).caller < (get_or cs k no_call).caller
 
--- the two replies have one shape, and the same numbers where it marks any
+-- the two replies have one shape, and the same number at each place that it marks
 abbrev pub SameWhereMarked : Setup → RawReply → RawReply → Type 0
 SameWhereMarked S r q = (r.shape ≡ q.shape)
     × ((y : ℕ) → y < S.instrs → is_marked r.shape y ≡ true
     → get_or r.values y 0 ≡ get_or q.values y 0)
 
--- they have one shape, and the same numbers
+-- the two replies have one shape, and the same numbers
 abbrev pub SameReply : Setup → RawReply → RawReply → Type 0
 SameReply S r q = (r.shape ≡ q.shape)
     × ((y : ℕ) → y < S.instrs → get_or r.values y 0 ≡ get_or q.values y 0)

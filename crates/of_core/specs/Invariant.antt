@@ -78,8 +78,8 @@ pub record MeetsCore (S : Setup) (Lawful : List ℕ → Type 0) (B : TableStart)
   pub each : (i : ℕ) (m : CallState) → i < S.callers → get_or w.machines i m ≡ m
       → HoldsAtPlace S B w.words w.batches i m m.place
 
--- the invariant: the core, that no call makes more steps than the bound or fewer than its least,
--- and that each caller's calls stand in the order in which it made them
+-- the invariant: its core; that no call makes more steps than the bound or fewer than it must; and
+-- that each caller's calls are in the order in which it made them
 pub record MeetsInvariant (S : Setup) (Lawful : List ℕ → Type 0) (B : TableStart) (w : Moment)
     : Type 0 where
   pub core : MeetsCore S Lawful B w

@@ -38,7 +38,7 @@ setup_for many cell_count meaning limit work =
 
 -- The forms that laws have.
 
--- at each machine, in each world that meets the invariant
+-- the law holds of each machine at each moment that meets the invariant
 abbrev pub EachMachine : Setup → (List ℕ → Type 0) → (TableStart → Moment → ℕ → CallState → Type 0)
     → Type 0
 EachMachine S Lawful Law =
@@ -64,7 +64,7 @@ EachLoaded S Lawful Law =
     (B : TableStart) (w : Moment) → MeetsInvariant S Lawful B w
     → (e : ℕ × ℕ) → IsLoaded S B w.words w.batches e → Law B w e
 
--- at each number that is put behind the table's own words
+-- the law holds of each number that is stored after the table's own words
 abbrev pub EachBeside : Setup → (List ℕ → Type 0) → (TableStart → Moment → (c v : ℕ) → Type 0)
     → Type 0
 EachBeside S Lawful Law =
@@ -90,7 +90,7 @@ abbrev pub StepsKeepInvariant : Setup → (List ℕ → Type 0) → Type 0
 StepsKeepInvariant S Lawful =
     EachStep S Lawful (λ B w i m n. MeetsInvariant S Lawful B (after_step S i m n w))
 
--- it does to words and history what a step may do to what other machines rely on
+-- each step guarantees to the other machines what they rely on
 abbrev pub StepsGuarantee : Setup → (List ℕ → Type 0) → Type 0
 StepsGuarantee S Lawful = EachStep S Lawful (λ B w i m n.
     Guarantees S B i w.words w.batches (after_step S i m n w).words (after_step S i m n w).batches)
@@ -120,7 +120,7 @@ GoesBlindly S m =
     IsRaise (want S m) × ((n k : ℕ) → take_word S m n ≡ take_word S m k)
     × ((ws : List ℕ) (n : ℕ) → step_batches S ws m n ≡ [])
 
--- so is each step on a durable word: no machine goes on otherwise for what it finds there
+-- no step on a durable word makes a machine go on in another way, whatever it finds there
 abbrev pub StepBlind : Setup → (List ℕ → Type 0) → Type 0
 StepBlind S Lawful = EachMachine S Lawful (λ B w i m.
     ((c : ℕ) → c < cell_count S → word_of (want S m) ≡ durable_at S c → ⊥) ⊎ GoesBlindly S m)
@@ -168,7 +168,7 @@ abbrev pub RaisesNeverLower : Setup → (List ℕ → Type 0) → Type 0
 RaisesNeverLower S Lawful = EachLoaded S Lawful (λ B w e.
     (c : ℕ) → durable_word S w.words c ≤ durable_word S (after_raise S w e).words c)
 
--- words behind the table's own may be anything
+-- words after the table's own may be anything
 abbrev pub WordsBehindAreFree : Setup → (List ℕ → Type 0) → Type 0
 WordsBehindAreFree S Lawful = EachBeside S Lawful (λ B w c v.
     MeetsInvariant S Lawful B (record w { words = set w.words c v })
@@ -203,33 +203,33 @@ KeepsCalls S B i w v =
     (before : ℕ) (ops : List (List ℕ)) (outs : List Outcome)
     → HasCalls S B before w i ops outs → HasCalls S B before v i ops outs
 
--- and so do those of all callers but i
+-- from w to v the calls of all callers but i stay as they are
 abbrev pub KeepsOthersCalls : Setup → TableStart → (i : ℕ) → (w v : Moment) → Type 0
 KeepsOthersCalls S B i w v = (j : ℕ) → j < S.callers → (i ≡ j → ⊥) → KeepsCalls S B j w v
 
--- at a start each caller has the calls behind it that its ticket counts, and no others
+-- at a start each caller has made the calls that its ticket counts, and no others
 abbrev pub StartsHaveNoCalls : Setup → (List ℕ → Type 0) → Type 0
 StartsHaveNoCalls S Lawful = EachStart S Lawful (λ B n.
     (i : ℕ) → i < S.callers → HasCalls S B (start_ticket S B i) (opening_moment S B n) i [] [])
 
--- a step ends its caller's open call or none, and changes the calls of nobody else
+-- a step ends its caller's open call or none, and changes the calls of no other caller
 abbrev pub StepsEndOwnCall : Setup → (List ℕ → Type 0) → Type 0
 StepsEndOwnCall S Lawful = EachStep S Lawful (λ B w i m n.
     GainsCalls S B i [] (outcome_of_step m (take_word S m n)) w (after_step S i m n w)
     × KeepsOthersCalls S B i w (after_step S i m n w))
 
--- to begin a call gives its caller one call more, and changes the calls of nobody else
+-- to begin a call gives its caller one call more, and changes the calls of no other caller
 abbrev pub BeginsAddOneCall : Setup → (List ℕ → Type 0) → Type 0
 BeginsAddOneCall S Lawful = EachBegin S Lawful (λ B w i d op.
     GainsCalls S B i (op ∷ []) [] w (after_begin S i d op w)
     × KeepsOthersCalls S B i w (after_begin S i d op w))
 
--- to raise a word that was loaded changes nobody's calls
+-- to raise a word that was loaded changes no caller's calls
 abbrev pub RaisesKeepCalls : Setup → (List ℕ → Type 0) → Type 0
 RaisesKeepCalls S Lawful = EachLoaded S Lawful (λ B w e.
     (i : ℕ) → i < S.callers → KeepsCalls S B i w (after_raise S w e))
 
--- nor do words behind the table's own
+-- nor do words after the table's own
 abbrev pub WordsBehindKeepCalls : Setup → (List ℕ → Type 0) → Type 0
 WordsBehindKeepCalls S Lawful = EachBeside S Lawful (λ B w c v.
     (i : ℕ) → i < S.callers → KeepsCalls S B i w (record w { words = set w.words c v }))
@@ -242,7 +242,7 @@ EventsKeepInvariant S Lawful =
     (B : TableStart) (w : Moment) → MeetsInvariant S Lawful B w
     → (e : Event) → MayHappen S w e → MeetsInvariant S Lawful B (after_event S w e)
 
--- and so does each schedule
+-- each schedule keeps the invariant
 abbrev pub SchedulesKeepInvariant : Setup → (List ℕ → Type 0) → Type 0
 SchedulesKeepInvariant S Lawful =
     (B : TableStart) (w : Moment) → MeetsInvariant S Lawful B w
@@ -296,7 +296,7 @@ abbrev pub EveryOrder : Setup → (List ℕ → Type 0) → Type 0
 EveryOrder S Lawful =
     EachSchedule S Lawful (λ B n es. IsDurablyLinearizable S B (opening_moment S B n) es)
 
--- and detectable: what recovery finds tells each caller whether its last call took effect, by each
+-- and detectable: what recovery finds shows each caller whether its last call took effect, by each
 -- order that linearizes the schedule and that recovery finds
 abbrev pub Detectable : Setup → (List ℕ → Type 0) → Type 0
 Detectable S Lawful = EachSchedule S Lawful (λ B n es.
@@ -347,8 +347,8 @@ CallsEndInTime S Lawful =
 
 -- Starts.
 
--- the n words hold a start: its current-transaction word and its data words, the same durably,
--- and 0 behind the durable words
+-- the n words hold a start: its current-transaction word and its data words, the same durably, and
+-- 0 after the durable words
 pub record HoldsStart (S : Setup) (B : TableStart) (ws : List ℕ) (n : ℕ) : Type 0 where
   pub long : length ws ≡ n
   pub current : get_or ws 0 0 ≡ pack B.seq B.owner
@@ -361,7 +361,7 @@ abbrev pub FirstWordsHoldStart : Setup → Type 0
 FirstWordsHoldStart S = (B : TableStart) → IsStart S B → (n : ℕ) → words_before_members S ≤ n
     → HoldsStart S B (first_words S.callers S.cells B n) n
 
--- its machines are idle, one for each caller, with as many calls behind it as its ticket counts
+-- its machines are idle, one for each caller, which has made the calls that its ticket counts
 abbrev pub FirstMachinesAreIdle : Setup → Type 0
 FirstMachinesAreIdle S = (B : TableStart) (n : ℕ) →
     let ms : List CallState = (opening_moment S B n).machines in
@@ -379,7 +379,7 @@ ZeroTablesAreZeros S =
     (n : ℕ) → words_before_members S ≤ n
     → first_words S.callers S.cells (zero_start S) n ≡ replicate n 0
 
--- and no call stands behind it
+-- and at such a start no caller has made a call
 abbrev pub ZeroTablesHaveNoCalls : Setup → Type 0
 ZeroTablesHaveNoCalls S = (i : ℕ) → start_ticket S (zero_start S) i ≡ 0
 
@@ -404,7 +404,7 @@ RestartsMidway S Lawful =
     (words_after_writes (take made writes) row) in
     IsStartRow S Lawful found × (start_from_durable S.callers S.cells found ≡ recovered_start S B w)
 
--- and what a renumbering of such a row leaves, stopped between two of its writes, is a row from
+-- what a renumbering of such a row leaves, stopped between two of its writes, is a row from
 -- which a table may start with the same numbers
 abbrev pub RenumbersMidway : Setup → (List ℕ → Type 0) → Type 0
 RenumbersMidway S Lawful = (row : List ℕ) → IsStartRow S Lawful row → (made : ℕ) →
@@ -420,7 +420,7 @@ RenumbersMidway S Lawful = (row : List ℕ) → IsStartRow S Lawful row → (mad
 abbrev pub IsIdleOrOpen : Type 0
 IsIdleOrOpen = (p : Place) → (p ≡ Idle) ⊎ IsOpen p
 
--- the test tells which
+-- the test `is_idle` is true only at Idle
 abbrev pub IdleTestIsExact : Type 0
 IdleTestIsExact = (p : Place) → is_idle p ≡ true → p ≡ Idle
 
@@ -435,7 +435,7 @@ abbrev pub IdleRestsOnNothing : Type 0
 IdleRestsOnNothing =
     (m : CallState) → m.place ≡ Idle → (rests_on_seq m ≡ 0) × ((low : ℕ) → ReadsFrom low m)
 
--- a step finds the word that stands there
+-- a step finds the word that is there
 abbrev pub StepsFindTheirWord : Type 0
 StepsFindTheirWord =
     (S : Setup) (ws : List ℕ) (m : CallState) → IsFoundBy (want S m) ws (word_found S ws m)
@@ -466,12 +466,12 @@ abbrev pub LongerKeepsBatches : Type 0
 LongerKeepsBatches = (B : TableStart) (bs cs : List Batch) (k : ℕ)
     → B.seq < k → k ≤ B.seq + length bs → batch_at B (bs ++ cs) k ≡ batch_at B bs k
 
--- and the same states
+-- a longer history has the same states
 abbrev pub LongerKeepsStates : Type 0
 LongerKeepsStates = (B : TableStart) (bs cs : List Batch) (k : ℕ)
     → k ≤ B.seq + length bs → state_after B (bs ++ cs) k ≡ state_after B bs k
 
--- so has the beginning of a history
+-- the beginning of a history keeps its batches
 abbrev pub PrefixKeepsBatches : Type 0
 PrefixKeepsBatches = (B : TableStart) (bs : List Batch) (n k : ℕ)
     → B.seq < k → k ≤ B.seq + n → batch_at B (take n bs) k ≡ batch_at B bs k

@@ -1,4 +1,4 @@
--- How many steps a call has made at least, by the place at which it stands.
+-- How many steps a call has made at least, by its place.
 use Rattle.std.specs.Prelude.{ℕ, ◌+◌, ◌==◌, List, length, Option, Some, None, Bool, true, false, ◌≡◌, ◌≤◌}
 use Rattle.of_mem.specs.Meaning.{WalkEnd, Needs, Gives}
 use Rattle.of_core.specs.declared.place.Place.{Place}
@@ -8,7 +8,7 @@ use Rattle.of_core.specs.declared.place.Outcome.TheVariants.{Answered, Spent, Lo
 use Rattle.of_core.specs.Table.{Setup}
 use Rattle.of_core.specs.Machine.{CallState, no_cell_known}
 
--- the two loads of a try, and one more where its run with nothing known needs a cell
+-- the two loads of a try, and one more if its run with nothing known needs a cell
 abbrev pub least_of : WalkEnd → ℕ
 least_of (Needs a) = 3
 least_of (Gives es r) = 2
@@ -22,12 +22,12 @@ least_read S op = least_of (S.meaning.walk (no_cell_known S) op)
 abbrev pub least_call : List ℕ → ℕ
 least_call op = length op + 5
 
--- the steps behind the two loads of a try or of a round, where it helps
+-- the steps that a try or a round has made when it helps: it has made its two loads
 abbrev pub made_helping : List ℕ → (in_try : Bool) → ℕ
 made_helping op true = 2
 made_helping op false = length op + 3
 
--- the steps at an apply: a helper's, or those behind an exchange of one's own
+-- the steps made at an apply: those of a helper, or all up to the caller's own exchange
 abbrev pub made_applying : List ℕ → (in_try helps : Bool) → ℕ
 made_applying op in_try true = made_helping op in_try
 made_applying op in_try false = length op + 4
@@ -65,7 +65,7 @@ least_steps_at m (RaiseTarget j f) = made_applying m.op (m.rounds == 0) m.helps
 least_steps_at m CloseRequest = made_applying m.op (m.rounds == 0) m.helps
 least_steps_at m RaiseClosed = made_applying m.op (m.rounds == 0) m.helps
 
--- an answer tells at least so many steps
+-- an answer names at least the steps that its call must make
 abbrev pub TellsLeastSteps : Setup → List ℕ → Option Outcome → Type 0
 TellsLeastSteps S op None = Unit {0}
 TellsLeastSteps S op (Some (Answered s true raw steps)) = least_call op ≤ steps
@@ -73,8 +73,8 @@ TellsLeastSteps S op (Some (Answered s false raw steps)) = least_read S op ≤ s
 TellsLeastSteps S op (Some (Spent s)) = Unit {0}
 TellsLeastSteps S op (Some (Lost s)) = Unit {0}
 
--- the steps made are as many at least; an idle machine has none of an open call, and its last
--- answer tells as many as its call needed
+-- the steps made are at least those; an idle machine has none of an open call, and its last answer
+-- has at least the steps that its call must make
 pub record HasMadeLeastSteps (S : Setup) (m : CallState) (p : Place) : Type 0 where
   pub steps : least_steps_at m p ≤ m.steps
   pub rests : p ≡ Idle → m.steps ≡ 0

@@ -30,7 +30,7 @@ AreScheduleLives S n B [] = Unit {0}
 AreScheduleLives S n B (es ∷ lives) =
     IsSchedule S (opening_moment S B n) es × AreScheduleLives S n (start_after S n B es) lives
 
--- each order linearizes its life, stands by sequence, and leads to what recovery finds after it
+-- each order linearizes its life, is by sequence, and leads to what recovery finds after it
 abbrev pub AreLinearized : Setup → (n : ℕ) → TableStart → List (List Event)
     → (orders : List (List Call)) → Type 0
 AreLinearized S n B [] [] = Unit {0}

@@ -40,7 +40,7 @@ pub record CallState : Type 0 where
   -- the reply of one's own call, and how the last call ended
   pub raw : RawReply
   pub answer : Option Outcome
-  -- the last word that one knows the durable word of one's own request to have
+  -- the last word that the durable word of one's own request is known to have
   pub kept : ℕ
   -- the steps that the open call has made
   pub steps : ℕ
@@ -97,7 +97,7 @@ no_machine = record {
 abbrev pub no_cell_known : Setup → List (Option ℕ)
 no_cell_known S = replicate S.cells None
 
--- the machine of caller i that was just made, where so many calls were begun before
+-- a new machine of caller i, which has begun this many calls before
 abbrev pub idle_machine : Setup → ℕ → (made : ℕ) → CallState
 idle_machine S i made = record no_machine {
   caller = i;
@@ -110,16 +110,16 @@ idle_machine S i made = record no_machine {
 abbrev pub MayReplace : Setup → (m d : CallState) → Type 0
 MayReplace S m d = (d ≡ m) ⊎ ((m.place ≡ Idle) × (d ≡ idle_machine S m.caller m.made))
 
--- a call is begun: a read is tried first, any other is announced
+-- the first place of a call: a read is tried first, any other call is announced
 abbrev pub first_place : (reads : Bool) → Place
 first_place true = TryCurrent
 first_place false = StoreScript 0
 
--- of the calls before it the machine keeps their number alone, and it has the new call's words
+-- of the calls before it the machine keeps only their number, and it has the new call's words
 abbrev pub fresh_call : Setup → CallState → CallState
 fresh_call S m = record (idle_machine S m.caller m.made) { op = m.op }
 
--- it begins anew: of the calls before it the machine keeps their number alone
+-- it begins anew: of the calls before it the machine keeps only their number
 abbrev pub begin_call : Setup → CallState → List ℕ → CallState
 begin_call S m op = record (idle_machine S m.caller m.made) {
   made = m.made + 1;
@@ -135,7 +135,7 @@ flat_entries (e ∷ es) = e.0 ∷ e.1 ∷ flat_entries es
 abbrev pub log_words : List (ℕ × ℕ) → List ℕ
 log_words es = length es ∷ flat_entries es
 
--- the log that such words are
+-- the entries that the words of a log have
 abbrev pub entries_of_words : List ℕ → List (ℕ × ℕ)
 entries_of_words [] = []
 entries_of_words (a ∷ []) = []
@@ -158,13 +158,13 @@ abbrev pub cells_from : ℕ → List ℕ → List (ℕ × ℕ)
 cells_from a [] = []
 cells_from a (v ∷ vs) = (a, v) ∷ cells_from (a + 1) vs
 
--- the reply cells of the caller whose ticket cell this is, where the shape isn't that of an abort
+-- the reply cells of the caller whose ticket cell this is, if the shape isn't that of an abort
 abbrev pub reply_cell_pairs : (row count : ℕ) → RawReply → List (ℕ × ℕ)
 reply_cell_pairs row count r =
     if nat_lt r.shape LEAST_ABORT then cells_from (row + 2) (take count r.values) else []
 
--- what a call with so many words writes into its own cells, of which this is the ticket cell: the
--- reply, and then the shape and the ticket
+-- what a call with this many words writes into its caller's own cells, of which the ticket cell is
+-- given: the reply, and then the shape and the ticket
 abbrev pub own_cells : (row ticket count : ℕ) → RawReply → List (ℕ × ℕ)
 own_cells row ticket count r =
     reply_cell_pairs row count r ++ (row + 1, r.shape) ∷ (row, ticket) ∷ []

@@ -19,7 +19,8 @@ pub record Machine (X : Type 0) : Type 0 where
   -- what the machine holds
   pub call : CallState
 
--- what it has in common with all machines of its table, where each work has its meaning
+-- what it has in common with all machines of its table; the first argument gives the meaning of a
+-- work
 abbrev pub machine_setup : {X : Type 0} → (X → Meaning) → Machine X → Setup
 machine_setup meaning m = setup_of m.callers m.cells m.limit (meaning m.work)
 
@@ -42,7 +43,7 @@ abbrev pub KnowsState : {X : Type 0} → (X → List ℕ → Type 0) → Machine
     → (known : List (Option ℕ)) → Type 0
 KnowsState lawful m known = KnowsSome (lawful m.work) m.cells known
 
--- how the last call ended, where none is open
+-- how the last call ended, if none is open
 abbrev pub ended_outcome_at : Place → CallState → Option Outcome
 ended_outcome_at Idle m = m.answer
 ended_outcome_at p m = None

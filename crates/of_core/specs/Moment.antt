@@ -24,7 +24,7 @@ pub record Bank (X : Type 0) : Type 0 where
   pub words : List ℕ
   pub machines : List CallState
 
--- what its machines have in common, where each work has its meaning
+-- what its machines have in common; the first argument gives the meaning of a work
 abbrev pub bank_setup : {X : Type 0} → (X → Meaning) → Bank X → Setup
 bank_setup meaning b = setup_of b.callers b.cells b.limit (meaning b.work)
 
@@ -41,7 +41,7 @@ bank_opening meaning B b =
 abbrev pub machine_of : {X : Type 0} → Bank X → ℕ → CallState
 machine_of b i = get_or b.machines i no_machine
 
--- a world with its words and machines
+-- the moment with a bank's words and machines, and no history
 abbrev pub moment_of_bank : {X : Type 0} → Bank X → Moment
 moment_of_bank b =
     record { words = b.words; machines = b.machines; batches = []; reads = []; loaded = [] }

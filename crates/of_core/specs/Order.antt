@@ -1,4 +1,4 @@
--- The order of one caller's calls: reads that were answered without being announced stand between
+-- The order of one caller's calls: reads that were answered without being announced come between
 -- its calls in the batches.
 use Rattle.std.specs.Prelude.{◌≡◌, ℕ, ◌+◌, ◌<◌, ◌≤◌, ◌⊎◌, List, [], length, Bool, true, false}
 use Rattle.std.specs.List.{All}
@@ -27,18 +27,18 @@ no_read =
 abbrev pub IsLaterRead : (first second : Read) → Type 0
 IsLaterRead r q = r.caller ≡ q.caller → (r.ticket < q.ticket) × (r.seq ≤ q.seq)
 
--- reads stand in the order of their answers
+-- reads are in the order of their answers
 abbrev pub AreInAnswerOrder : List Read → Type 0
 AreInAnswerOrder rs =
     (j k : ℕ) → j < k → k < length rs → IsLaterRead (get_or rs j no_read) (get_or rs k no_read)
 
--- of a call in batch k and a read of one caller the one made first stands first; a batch stands
+-- of a call in batch k and a read of one caller, the one made first comes first; a batch comes
 -- before the reads of its state
 abbrev pub StandInCallOrder : ℕ → Call → Read → Type 0
 StandInCallOrder k c r = c.caller ≡ r.caller
     → ((c.ticket < r.ticket) × (k ≤ r.seq)) ⊎ ((r.ticket < c.ticket) × (r.seq < k))
 
--- each read is lawful, and the calls of each caller stand in the order in which it made them
+-- each read is lawful, and the calls of each caller are in the order in which it made them
 pub record AreInCallOrder (S : Setup) (B : TableStart) (ws : List ℕ) (bs : List Batch)
     (rs : List Read) : Type 0 where
   pub reads : All (IsRead S B bs (durable_seq S ws)) rs
@@ -69,8 +69,8 @@ WasMadeBefore m r false = r.ticket < m.made
 abbrev pub IsOlder : CallState → Place → Read → Type 0
 IsOlder m p r = WasMadeBefore m r (is_idle p)
 
--- what a machine has behind it: its caller's reads are older, and in a try none of them, and no
--- call of its caller in a batch, is newer than the state that is read
+-- the reads of the machine's caller are older than its open call. Nothing that the caller has made,
+-- a read or a call in a batch, is newer than the state that a try of it reads
 pub record HasOnlyOlderCalls (S : Setup) (B : TableStart) (ws : List ℕ) (bs : List Batch)
     (rs : List Read) (i : ℕ) (m : CallState) (p : Place) : Type 0 where
   pub older : All (λ (r : Read). r.caller ≡ i → IsOlder m p r) rs
@@ -78,7 +78,7 @@ pub record HasOnlyOlderCalls (S : Setup) (B : TableStart) (ws : List ℕ) (bs : 
   pub still : HasBegunTry m p
       → last_ticket_by S B bs m.seq i ≡ last_ticket_by S B bs (committed_seq ws) i
 
--- the order of calls in a world, and what each machine needs to keep it
+-- the order of calls at a moment, and what each machine needs to keep it
 pub record KeepsCallOrder (S : Setup) (B : TableStart) (w : Moment) : Type 0 where
   pub ordered : AreInCallOrder S B w.words w.batches w.reads
   pub behind : (i : ℕ) (m : CallState) → i < S.callers → get_or w.machines i m ≡ m

@@ -19,7 +19,7 @@ after_own_step S x = record {
   words = words_after (want S x.call) x.words;
 }
 
--- and after so many of its steps
+-- and after n of its steps
 abbrev pub after_own_steps : Setup → ℕ → CallOnTable → CallOnTable
 after_own_steps S zero x = x
 after_own_steps S (suc n) x = after_own_step S (after_own_steps S n x)
@@ -29,7 +29,7 @@ abbrev pub MayGoOn : Setup → (List ℕ → Type 0) → CallOnTable → Type 0
 MayGoOn S Lawful x =
     (k : ℕ) → let y = after_own_steps S k x in MayTake S Lawful y.call (word_found S y.words y.call)
 
--- the call is open before each of so many of its steps
+-- the call is open before each of its first n steps
 abbrev pub IsOpenBefore : Setup → ℕ → CallOnTable → Type 0
 IsOpenBefore S n x = (k : ℕ) → k < n → IsIdle (after_own_steps S k x).call → ⊥
 

@@ -37,8 +37,7 @@ abbrev pub pending : Setup → Moment → (c v : ℕ) → ℕ
 pending S w c v = pending_among (durable_word S w.words c) c v w.loaded
 
 -- While a caller is about to raise a durable word to v, no call changes that word to one that is
--- still below v, whatever happens. An eviction that has loaded its word before does it at most
--- once.
+-- still below v. An eviction that has loaded its word before does it at most once.
 abbrev pub RaisesAreShort : Setup → (List ℕ → Type 0) → Type 0
 RaisesAreShort S Lawful =
     (B : TableStart) (w : Moment) → MeetsInvariant S Lawful B w
@@ -46,7 +45,7 @@ RaisesAreShort S Lawful =
     → want S (machine_in w i) ≡ Raise (durable_at S c) v
     → (es : List Event) → IsSchedule S w es → lower_changes S w es c v ≤ pending S w c v
 
--- and the same of the raise of an eviction
+-- the same of the raise of an eviction
 abbrev pub EvictionsAreShort : Setup → (List ℕ → Type 0) → Type 0
 EvictionsAreShort S Lawful =
     (B : TableStart) (w : Moment) → MeetsInvariant S Lawful B w

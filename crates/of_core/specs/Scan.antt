@@ -27,7 +27,7 @@ pub record LogsOwnCells (S : Setup) (es : List (ℕ × ℕ)) (c : Call) : Type 0
   pub shape : LogsCell es (shape_cell S c.caller) c.raw.shape
   pub replies : (y : ℕ) → y < S.instrs → is_marked c.raw.shape y ≡ true
       → LogsCell es (reply_cell S c.caller y) (get_or c.raw.values y 0)
-  -- 0 stands where none is marked
+  -- the places that are not marked have 0
   pub rest : (y : ℕ) → y < S.instrs → is_marked c.raw.shape y ≡ false
       → get_or c.raw.values y 0 ≡ 0
 
@@ -69,7 +69,7 @@ pub record HasScannedUpTo (S : Setup) (B : TableStart) (ws : List ℕ) (bs : Lis
   pub own : s ≡ committed_seq ws → i < n
       → (y : ℕ) × (y < length cs)
       × (get_or cs y no_call ≡ record { caller = i; ticket = made; op = op; raw = raw })
-  -- an announcement that stood before batch s is run, or was run before
+  -- an announcement that was there before batch s is run, or was run before
   pub met : B.seq < s → (c : ℕ) → c < n → c < S.callers
       → (batch_at B bs s).announcements c ≡ announcement_of S ws c
       → (seq_of (announcement_of S ws c) ≤ last_ticket_by S B bs s c)

@@ -11,7 +11,7 @@ use Rattle.of_core.specs.TableMoment.{Moment, TableStart}
 use Rattle.of_core.specs.History.{state_after}
 use Rattle.of_core.specs.WordsMatch.{MayStart}
 
--- the request of a start's owner: closed, where there is a transaction behind the start
+-- the request of a start's owner: closed, if any transaction was committed before the start
 abbrev pub closed_request : ℕ → ℕ
 closed_request zero = 0
 closed_request (suc s) = pack (suc s) 1
@@ -23,7 +23,7 @@ first_cells callers cells B =
     (pack B.seq B.owner ∷ set (replicate callers 0) B.owner (closed_request B.seq))
     ++ (B.cells ++ replicate (callers * (2 * log_room callers cells + 1)) 0)
 
--- the words at a start: the cells, their durable words, which are the same, and 0 behind them
+-- the words at a start: the cells, their durable words, which are the same, and 0 after them
 unfoldable pub first_words : (callers cells : ℕ) → TableStart → (words : ℕ) → List ℕ
 first_words callers cells B n =
     first_cells callers cells B
@@ -55,7 +55,7 @@ recovered_start S B w = record {
   cells = state_after B w.batches (durable_seq S w.words);
 }
 
--- a durable row of which recovery changes nothing, and which a table may start from
+-- a durable row which recovery does not change, and from which a table may start
 pub record IsStartRow (S : Setup) (Lawful : List ℕ → Type 0) (row : List ℕ) : Type 0 where
   pub long : length row ≡ durable_cells S.callers S.cells
   pub recovered : recovered_words S.callers S.cells row ≡ row

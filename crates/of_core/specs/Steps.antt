@@ -57,7 +57,7 @@ want_at S m RaiseClosed = Raise (durable_at S (request_at m.owner)) (pack m.seq 
 unfoldable pub want : Setup → CallState → Op
 want S m = want_at S m m.place
 
--- the word that a step is on
+-- the word of the table that a step is on
 abbrev pub word_of : Op → ℕ
 word_of (Load c) = c
 word_of (Store c v) = c
@@ -68,7 +68,7 @@ word_of (Raise c v) = c
 abbrev pub IsOnTable : Setup → Op → Type 0
 IsOnTable S o = word_of o < words_before_members S
 
--- what it leaves there, where it found this
+-- what a step leaves in its word, in which it found this
 abbrev pub word_left : Op → ℕ → ℕ
 word_left (Load c) found = found
 word_left (Store c v) found = v
@@ -78,7 +78,7 @@ word_left (Raise c v) found = max found v
 abbrev pub words_after : Op → List ℕ → List ℕ
 words_after o ws = set ws (word_of o) (word_left o (get_or ws (word_of o) 0))
 
--- the number is what the step finds on these words; a store may be said to find any number
+-- the number is what the step finds in these words; a store may find any number
 abbrev pub IsFoundBy : Op → List ℕ → ℕ → Type 0
 IsFoundBy (Load c) ws n = n ≡ get_or ws c 0
 IsFoundBy (Store c v) ws n = Unit {0}
@@ -103,7 +103,7 @@ after_read_run m (Gives es r) =
 abbrev pub read_on : Setup → CallState → CallState
 read_on S m = after_read_run m (S.meaning.walk m.known m.op)
 
--- behind the look at the request, or the help
+-- after the look at the request, or the help
 abbrev pub begin_reading : Setup → CallState → CallState
 begin_reading S m = read_on S (record m { known = no_cell_known S; helps = false })
 
@@ -116,7 +116,7 @@ abbrev pub after_try_cell : Setup → CallState → (a found : ℕ) → (newer :
 after_try_cell S m a found true = end_try m (nat_lt m.tries MOST_TRIES)
 after_try_cell S m a found false = read_on S (record m { known = with_cell_known S m a found })
 
--- a transaction is open where its owner's request says so
+-- a transaction is open if its owner's request says so
 abbrev pub is_request_open : (s found : ℕ) → Bool
 is_request_open s found = nat_lt 0 s && (found == pack s 0)
 
@@ -132,7 +132,7 @@ abbrev pub first_round_seq : CallState → ℕ → (none_yet : Bool) → ℕ
 first_round_seq m s true = s
 first_round_seq m s false = m.first
 
--- behind the look at the request, or the help: one's own ticket comes next
+-- after the look at the request, or the help: one's own ticket comes next
 abbrev pub enter : Setup → CallState → CallState
 enter S m = record m {
   place = LoadOwnTicket;
@@ -168,8 +168,8 @@ after_look_again S m true in_try = record m {
 }
 after_look_again S m false in_try = resume S m in_try
 
--- One's own ticket: where it is there the call is in the history, and its reply is read; else it is
--- spent at the limit.
+-- One's own ticket: if the ticket cell has it, the call is in the history, and its reply is loaded;
+-- if not, at the limit the call is spent.
 abbrev pub end_spent : CallState → CallState
 end_spent m = record m { place = Idle; answer = Some (Spent m.seq); steps = 0 }
 
@@ -225,7 +225,7 @@ after_load_reply S m j found false =
     next_reply_place (with_reply m j found)
     (first_marked_place m.raw.shape (j + 1) (S.instrs - j - 1))
 
--- The scan: of each caller in turn the announcement, and where it isn't known the ticket cell. A
+-- The scan: the announcement of each caller in turn, and its ticket cell if that isn't known. A
 -- call with a new ticket is run.
 abbrev pub place_behind : (more : Bool) → Place
 place_behind true = LoadAnnouncement
@@ -249,12 +249,12 @@ after_load_ticket S m found false =
     weigh S (record m { known = with_cell_known S m (ticket_cell S m.scan) found })
     (nat_lt (payload_of found) (seq_of m.heard))
 
--- the call that the scan has come to, as it was run: its writes go on top of those of the calls
--- before it, and its own cells behind them
+-- the call that the scan has come to, as it was run: its writes come after those of the calls
+-- before it, and its own cells after its writes
 abbrev pub call_as_run : CallState → RawReply → Call
 call_as_run m r = record { caller = m.scan; ticket = seq_of m.heard; op = m.script; raw = r }
 
--- the reply of one's own call: the new one where the call that was run is one's own
+-- the reply of one's own call: the new one if the call that was run is one's own
 abbrev pub own_reply_or : (new old : RawReply) → (own : Bool) → RawReply
 own_reply_or new old true = new
 own_reply_or new old false = old
@@ -298,7 +298,7 @@ after_commit_exchange m true =
     record m { place = RaiseCurrent; helps = false; seq = m.seq + 1; owner = m.caller }
 after_commit_exchange m false = next_round m
 
--- Applying: the current-transaction word is raised, each entry's cell is exchanged where it is
+-- Applying: the current-transaction word is raised, each entry's cell is exchanged if it is
 -- older, and raised; then the request is closed.
 abbrev pub after_raise_current : CallState → (some : Bool) → CallState
 after_raise_current m true = record m { place = LoadTarget 0 }

@@ -1,4 +1,4 @@
--- The words of the shared table: which stand where, and what they are called.
+-- The words of the shared table: the place of each, and its name.
 use Rattle.std.specs.Prelude.{ℕ, List, [], ◌∷◌, ◌++◌, ◌%◌}
 use Rattle.std.proofs.Common.{get_or, zero, suc}
 use Rattle.of_cell.specs.declared.shape.Shape.{Shape}
@@ -17,7 +17,7 @@ pub record Setup : Type 0 where
   pub cells : ℕ
   -- the last sequence that may be committed
   pub limit : ℕ
-  -- the entry with which a helper of this number begins to apply so many entries
+  -- the entry of a log of this many entries at which a helper of this number begins to apply
   pub begins : ℕ → ℕ → ℕ
   -- what operations do
   pub meaning : Meaning
@@ -56,7 +56,7 @@ most_entries S = log_room S.callers S.cells
 abbrev pub cell_count : Setup → ℕ
 cell_count S = durable_cells S.callers S.cells
 
--- each has a durable word behind them all
+-- each has a durable word, after all of them
 abbrev pub durable_at : Setup → ℕ → ℕ
 durable_at S c = durable_place S.callers S.cells c
 
@@ -78,7 +78,7 @@ shape_cell S i = shape_at S.instrs i
 abbrev pub reply_cell : Setup → ℕ → ℕ → ℕ
 reply_cell S i j = reply_at S.instrs i j
 
--- where they stand on the table
+-- the places of these cells' words in the table
 abbrev pub ticket_word_at : Setup → ℕ → ℕ
 ticket_word_at S i = data_at S (ticket_cell S i)
 

@@ -18,7 +18,7 @@ pub record Batch : Type 0 where
   pub log : List (ℕ × ℕ)
   -- the calls that it runs, by caller
   pub calls : List Call
-  -- the announcements that stood when it was committed
+  -- the announcements at the moment when it was committed
   pub announcements : ℕ → ℕ
 
 -- a call that was answered without being announced: it read the state at this sequence
@@ -45,7 +45,7 @@ pub record TableStart : Type 0 where
   pub owner : ℕ
   pub cells : List ℕ
 
--- what an exchange commits, where it wins
+-- what an exchange commits, if it wins
 abbrev pub one_batch : Setup → List ℕ → CallState → Bool → List Batch
 one_batch S ws m true = record {
   owner = m.caller;
@@ -76,7 +76,7 @@ step_reads_if d true now_idle = []
 step_reads_if d false true = read_of d d.answer
 step_reads_if d false false = []
 
--- the reads that the step from the place p has answered, where the machine is d after it
+-- the reads that the step from the place p has answered, if the machine is d after it
 abbrev pub step_reads_at : CallState → Place → List Read
 step_reads_at d p = step_reads_if d (is_idle p) (is_idle d.place)
 
@@ -84,7 +84,7 @@ step_reads_at d p = step_reads_if d (is_idle p) (is_idle d.place)
 unfoldable pub step_batches : Setup → List ℕ → CallState → ℕ → List Batch
 step_batches S ws m found = step_batches_at S ws m found m.place
 
--- and what it has answered, where it led from m to d
+-- the reads that the machine's step from m to d has answered
 unfoldable pub step_reads : CallState → CallState → List Read
 step_reads m d = step_reads_at d m.place
 
@@ -98,7 +98,7 @@ after_step S i m n w = record {
   loaded = w.loaded;
 }
 
--- the same at the place p, as far as it computes
+-- the same with the place p as an argument of its own
 abbrev pub after_step_at : Setup → ℕ → CallState → Place → Moment → Moment
 after_step_at S i m p w =
     let c = word_of (want_at S m p) in
@@ -111,7 +111,7 @@ after_step_at S i m p w =
       loaded = w.loaded;
     }
 
--- and of a machine that has counted its step
+-- the same of a machine that has counted its step
 abbrev pub after_counted_step : Setup → ℕ → CallState → Place → Moment → Moment
 after_counted_step S i m p w =
     let c = word_of (want_at S m p) in

@@ -23,14 +23,15 @@ abbrev pub most_tries : (reads_only : Bool) → ℕ
 most_tries true = MOST_TRIES
 most_tries false = 0
 
--- the most steps of a call with these words, in three rounds, where no operation reads or writes
+-- the most steps of a call with these words, in three rounds, if no operation reads or writes
 -- more cells than this
 abbrev pub touched_bound : Setup → List ℕ → (reads writes : ℕ) → ℕ
 touched_bound S op reads writes =
     footprint S op (longest_log S writes) (most_loads S reads)
     (most_tries (S.meaning.reads_only op)) 3
 
--- so many steps are within that bound, for whatever operations of the work read and write at most
+-- whatever limits hold for the cells that each operation of the work reads and writes, the steps
+-- are within the bound of these limits
 abbrev pub IsWithinTouched : Setup → (List ℕ → Type 0) → (op : List ℕ) → (steps : ℕ) → Type 0
 IsWithinTouched S Lawful op steps =
     (reads writes : ℕ) → TouchesFew S.meaning Lawful S.cells reads writes

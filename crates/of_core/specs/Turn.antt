@@ -11,12 +11,12 @@ use Rattle.of_core.specs.MachineValue.{ended_outcome}
 use Rattle.of_core.specs.Events.{Turns}
 use Rattle.of_core.specs.Moment.{Bank, bank_after, machine_of}
 
--- the call has ended with an outcome, or it is open
+-- the turn has ended the call with an outcome, or the call is still open
 abbrev pub turn_of_outcome : Option Outcome → Turn
 turn_of_outcome None = Open
 turn_of_outcome (Some o) = Ended o
 
--- what the step from a place says, where it led to this machine
+-- what a step from this place says, if it led to this machine
 abbrev pub turn_at : Place → CallState → Turn
 turn_at Idle m = NoCall
 turn_at p m = turn_of_outcome (ended_outcome m)
@@ -28,7 +28,7 @@ turn_of before now = turn_at before.place now
 abbrev pub IsIdle : CallState → Type 0
 IsIdle m = m.place ≡ Idle
 
--- So many turns of a caller lead from one bank to the other, and its call is open before each.
+-- This many turns of a caller lead from one bank to the other, and its call is open before each.
 pub record MakesTurns {X : Type 0} (meaning : X → Meaning) (c n : ℕ) (before now : Bank X)
     : Type 0 where
   pub after : now ≡ bank_after meaning (replicate n (Turns c)) before

@@ -1,4 +1,4 @@
--- What the invariant says of words and history alone, in groups.
+-- What the invariant says of words and history, and of no machine, in groups.
 use Rattle.std.specs.Prelude.{ℕ, ◌+◌, ◌*◌, ◌-◌, List, length, ◌≡◌, ◌≤◌, ◌<◌, ◌⊎◌, max, map}
 use Rattle.std.proofs.Common.{get_or}
 use Rattle.of_mem.specs.declared.work.TheConstants.{MOST_INSTRS}
@@ -46,7 +46,7 @@ pub record CountsBatches (S : Setup) (B : TableStart) (ws : List ℕ) (bs : List
   -- the current-transaction word names who committed the last batch
   pub owner : B.seq < committed_seq ws
       → committed_owner ws ≡ (batch_at B bs (committed_seq ws)).owner
-  -- or the start's owner where there is none
+  -- or the start's owner if there is none
   pub first : committed_seq ws ≡ B.seq → committed_owner ws ≡ B.owner
   -- owners are callers
   pub owner_in : committed_owner ws < S.callers
@@ -61,7 +61,7 @@ pub record IsLastOpen (B : TableStart) (ws : List ℕ) : Type 0 where
   -- and its owner's request is stored and not closed
   pub asks : request_of ws (committed_owner ws) ≡ pack (committed_seq ws) 0
 
--- the data cells are of the state after the last batch, or, where it is open, of the one before
+-- the data cells are of the state after the last batch, or, if it is open, of the one before
 pub record DataCellsMatchState (S : Setup) (B : TableStart) (ws : List ℕ) (bs : List Batch)
     : Type 0 where
   -- an open transaction may have reached a cell or not
@@ -73,7 +73,7 @@ pub record DataCellsMatchState (S : Setup) (B : TableStart) (ws : List ℕ) (bs 
 -- last one is stored
 pub record RequestsMatchBatches (S : Setup) (B : TableStart) (ws : List ℕ) (bs : List Batch)
     : Type 0 where
-  -- where a later batch stands, the request is above the open one
+  -- if there is a later batch, the request is above the open one
   pub closed : (k : ℕ) → B.seq < k → k < committed_seq ws
       → pack k 0 < request_of ws (batch_at B bs k).owner
   -- the last batch's request is the open one at least
@@ -87,7 +87,7 @@ abbrev pub WasHeldByCell : TableStart → List ℕ → List Batch → ℕ → �
 WasHeldByCell B ws bs a w =
     (k : ℕ) × (B.seq ≤ k) × (k ≤ committed_seq ws) × (w ≡ data_word_after B bs k a)
 
--- the durable words: each is at most its cell's, and names no newer transaction; where the last
+-- the durable words: each is at most its cell's, and names no newer transaction; if the last
 -- transaction is open its log is durable, and where it isn't its cells are
 pub record DurableWordsMatch (S : Setup) (B : TableStart) (ws : List ℕ) (bs : List Batch)
     : Type 0 where
@@ -100,12 +100,12 @@ pub record DurableWordsMatch (S : Setup) (B : TableStart) (ws : List ℕ) (bs : 
       → payload_of (durable_word S ws 0) ≡ (batch_at B bs (durable_seq S ws)).owner
   -- or the start's
   pub first : durable_seq S ws ≡ B.seq → payload_of (durable_word S ws 0) ≡ B.owner
-  -- it is the last one, or one below it where the last transaction is open
+  -- the durable sequence is the last one, or one below it if the last transaction is open
   pub step : (committed_seq ws ≡ durable_seq S ws)
       ⊎ ((committed_seq ws ≡ durable_seq S ws + 1) × IsLastOpen B ws)
   -- no cell is newer than it
   pub fresh : (a : ℕ) → a < S.cells → seq_of (data_word S ws a) ≤ durable_seq S ws
-  -- the durable data cells are of its state, or where that transaction is open of the one before
+  -- the durable data cells are of its state, or, if that transaction is open, of the one before
   pub cells : (a : ℕ) → a < S.cells
       → (durable_cell S ws a ≡ data_word_after B bs (durable_seq S ws) a)
       ⊎ (IsLastOpen B ws × (committed_seq ws ≡ durable_seq S ws)
@@ -132,7 +132,7 @@ pub record StatesFollowBatches (S : Setup) (Lawful : List ℕ → Type 0) (B : T
   pub leads : (k : ℕ) → B.seq ≤ k → k < B.seq + length bs
       → SameFrom (first_operation_cell S) (numbers_after B bs (k + 1))
       (numbers_after_calls S.meaning (numbers_after B bs k) (batch_at B bs (k + 1)).calls)
-  -- and have the replies that they meet there
+  -- and, run on the state before it, give the replies that they have
   pub replies : (k : ℕ) → B.seq ≤ k → k < B.seq + length bs
       → CallsHaveReplies S.meaning (numbers_after B bs k) (batch_at B bs (k + 1)).calls
   -- each caller's own cells show its last call
@@ -142,23 +142,23 @@ pub record StatesFollowBatches (S : Setup) (Lawful : List ℕ → Type 0) (B : T
   pub rises : (k : ℕ) → B.seq ≤ k → k < B.seq + length bs
       → All (λ (c : Call). last_ticket_by S B bs k c.caller < c.ticket)
       (batch_at B bs (k + 1)).calls
-  -- and its caller has that ticket behind it
+  -- and its caller's ticket cell then has that ticket
   pub now : (k : ℕ) → B.seq < k → k ≤ B.seq + length bs
       → All (λ (c : Call). (c.caller < S.callers) × (last_ticket_by S B bs k c.caller ≡ c.ticket))
       (batch_at B bs k).calls
   -- no ticket falls
   pub grow : (k i : ℕ) → B.seq ≤ k → k < B.seq + length bs → i < S.callers
       → last_ticket_by S B bs k i ≤ last_ticket_by S B bs (k + 1) i
-  -- a batch's calls stand by caller
+  -- a batch's calls are ordered by caller
   pub ordered : (k : ℕ) → B.seq < k → k ≤ B.seq + length bs → CallersRise (batch_at B bs k).calls
-  -- and it has one at least
+  -- and each batch has at least one call
   pub some : (k : ℕ) → B.seq < k → k ≤ B.seq + length bs → 0 < length (batch_at B bs k).calls
 
--- announcements are of 1 to K words, rise, and are in the history two batches behind their first at
--- the latest
+-- announcements are of 1 to K words, rise, and are in the history at most two batches after the
+-- first one that saw them
 pub record AnnouncementsAreServed (S : Setup) (B : TableStart) (ws : List ℕ) (bs : List Batch)
     : Type 0 where
-  -- an announcement is of so many words at most
+  -- an announcement is of at most as many words as an operation may have
   pub small : (i : ℕ) → i < S.callers → payload_of (announcement_of S ws i) ≤ S.instrs
   -- its ticket is a word
   pub tickets : (i : ℕ) → i < S.callers → seq_of (announcement_of S ws i) < PAYLOADS
@@ -168,18 +168,18 @@ pub record AnnouncementsAreServed (S : Setup) (B : TableStart) (ws : List ℕ) (
   -- announcements only rise
   pub before : (k i : ℕ) → B.seq < k → k ≤ committed_seq ws → i < S.callers
       → seq_of ((batch_at B bs k).announcements i) ≤ seq_of (announcement_of S ws i)
-  -- one that stood when a batch was committed is run by the next batch at the latest
+  -- one that was there when a batch was committed is run by the next batch at the latest
   pub met : (k i : ℕ) → B.seq < k → k < committed_seq ws → i < S.callers
       → (batch_at B bs k).announcements i ≡ announcement_of S ws i
       → seq_of (announcement_of S ws i) ≤ last_ticket_by S B bs (k + 1) i
-  -- nobody has run a ticket that was not announced, but for those behind the start
+  -- no caller has run a ticket that was not announced, but for those before the start
   pub reached : (i : ℕ) → i < S.callers
       → last_ticket_by S B bs (committed_seq ws) i
       ≤ max (last_ticket_by S B bs B.seq i) (seq_of (announcement_of S ws i))
-  -- a log has no more entries than it has room for, also where its round was lost
+  -- a log has no more entries than it has room for, also if its round was lost
   pub counts : (i : ℕ) → i < S.callers → payload_of (log_word_of S ws i 0) ≤ most_entries S
 
--- a word of caller j's request above the start is open or closed, and closed only where j owned
+-- a word of caller j's request above the start is open or closed, and closed only if j owned
 -- that batch
 abbrev pub IsRequest : TableStart → List ℕ → List Batch → ℕ → ℕ → Type 0
 IsRequest B ws bs j w =
@@ -188,7 +188,7 @@ IsRequest B ws bs j w =
     ⊎ ((payload_of w ≡ 1) × (seq_of w ≤ committed_seq ws)
     × ((batch_at B bs (seq_of w)).owner ≡ j))
 
--- log word x of caller j is that of the batch's log, where j owned the batch of its sequence
+-- log word x of caller j is that of the batch's log, if j owned the batch of its sequence
 abbrev pub IsLogWord : TableStart → List ℕ → List Batch → ℕ → ℕ → ℕ → Type 0
 IsLogWord B ws bs j x w =
     B.seq < seq_of w → seq_of w ≤ committed_seq ws → (batch_at B bs (seq_of w)).owner ≡ j
@@ -208,7 +208,7 @@ pub record WordsHaveTheirKind (S : Setup) (B : TableStart) (ws : List ℕ) (bs :
   -- also durably
   pub dur_logs : (j x : ℕ) → j < S.callers → x < 2 * most_entries S + 1
       → IsLogWord B ws bs j x (durable_log S ws j x)
-  -- and the cell of an entry is one, also where its round was lost
+  -- and the cell of an entry is one, also if its round was lost
   pub sized : (j y : ℕ) → j < S.callers → y < most_entries S
       → payload_of (log_word_of S ws j (2 * y + 1)) < S.cells
 

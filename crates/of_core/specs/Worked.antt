@@ -16,7 +16,7 @@ abbrev pub reply_with : List ℕ → RawReply
 reply_with vs =
     record { shape = 2 ^ length vs - 1; values = vs ++ replicate (MOST_INSTRS - length vs) 0 }
 
--- the walk asks for the cell a where it isn't known, and goes on with its number
+-- the walk asks for the cell a if it isn't known, and goes on with its number
 abbrev pub known_or : ℕ → (ℕ → WalkEnd) → Option ℕ → WalkEnd
 known_or a next None = Needs a
 known_or a next (Some v) = next v
@@ -56,8 +56,8 @@ register_meaning a = record {
   reads_only = is_read;
 }
 
--- An operation that loads four cells from a on, and then writes six behind them, as the first key
--- of an empty map does.
+-- An operation that loads four cells from a on, and then writes the six cells after them, as the
+-- first key of an empty map does.
 abbrev pub six_writes : ℕ → ℕ → List (ℕ × ℕ)
 six_writes a v = (a + 4, v) ∷ (a + 5, v) ∷ (a + 6, v) ∷ (a + 7, v) ∷ (a + 8, v) ∷ (a + 9, v) ∷ []
 
@@ -70,7 +70,7 @@ first_key_meaning a = record {
   reads_only = λ op. false;
 }
 
--- a table for n callers, with ten cells behind their own
+-- a table for n callers, with ten data cells after their own
 abbrev pub table_with : ℕ → (ℕ → Meaning) → Setup
 table_with n meaning = setup_of n (n * (MOST_INSTRS + 2) + 10) 100 (meaning (n * (MOST_INSTRS + 2)))
 
@@ -78,7 +78,7 @@ table_with n meaning = setup_of n (n * (MOST_INSTRS + 2) + 10) 100 (meaning (n *
 abbrev pub opening_of_zeros : Setup → Moment
 opening_of_zeros S = opening_moment S (zero_start S) (words_before_members S)
 
--- from zeros, caller 0 begins the operation and makes so many turns
+-- from zeros, caller 0 begins the operation and makes this many turns
 abbrev pub moment_alone : ℕ → (ℕ → Meaning) → List ℕ → (turns : ℕ) → Moment
 moment_alone n meaning op k =
     after_events (table_with n meaning) (opening_of_zeros (table_with n meaning))
@@ -103,13 +103,13 @@ abbrev pub read_and_store : List Event
 read_and_store =
     Begins 0 (0 ∷ []) ∷ replicate 3 (Turns 0) ++ Begins 0 (7 ∷ []) ∷ replicate 48 (Turns 0)
 
--- and how its calls end, from zeros
+-- how these two calls end, from zeros
 abbrev pub two_calls : List Outcome
 two_calls =
     outcomes (table_with 1 register_meaning)
     (opening_of_zeros (table_with 1 register_meaning)) read_and_store 0
 
--- a start behind one call of caller 0, whose ticket is 1 and which has stored 7 in the second
+-- a start after one call of caller 0, whose ticket is 1 and which has stored 7 in the second
 -- register
 abbrev pub one_done : (seq : ℕ) → TableStart
 one_done s = record {
@@ -118,7 +118,7 @@ one_done s = record {
   cells = pack s 1 ∷ pack s 65536 ∷ (replicate MOST_INSTRS 0 ++ (0 ∷ pack s 7 ∷ replicate 8 0));
 }
 
--- from that start, with this limit, the caller begins to store and makes so many turns
+-- from that start, with this limit, the caller begins to store and makes this many turns
 abbrev pub behind_one : (seq limit turns : ℕ) → Moment
 behind_one s l k =
     let S : Setup = setup_of 1 (MOST_INSTRS + 12) l (register_meaning (MOST_INSTRS + 2)) in

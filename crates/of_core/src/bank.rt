@@ -74,7 +74,7 @@ fn turn_of_answer(answer: Option<Outcome>) -> Turn
     }
 }
 
-/// How many calls a caller has behind it at the start that a row's first words are: the number of
+/// How many calls a caller has made before the start that a row's first words are: the number of
 /// its ticket cell.
 fn start_ticket(shape: &Shape, words: &[u64], caller: u32) -> u32
     requires caller { caller < shape.now.callers }
@@ -87,7 +87,7 @@ fn start_ticket(shape: &Shape, words: &[u64], caller: u32) -> u32
     payload_of(words[shape.data_cell(ticket) as usize])
 }
 
-/// An idle machine for each caller, with the calls behind it that the first words tell. The error
+/// An idle machine for each caller, which has made the calls that the first words count. The error
 /// is that there is no memory.
 fn idle_machines<W: Work>(
     alloc: Global,
@@ -142,8 +142,8 @@ impl<W: Work> Bank<W> {
     }
 
     /// A bank that starts from a durable row of which recovery changes nothing, with an idle
-    /// machine for each caller, which has the row's calls behind it. `limit` is the last sequence
-    /// that may be committed. The error is that there is no memory.
+    /// machine for each caller, which has made the row's calls. `limit` is the last sequence that
+    /// may be committed. The error is that there is no memory.
     pub fn start(
         alloc: Global,
         shape: Shape,
@@ -227,7 +227,7 @@ impl<W: Work> Bank<W> {
         self.machines[caller as usize].made()
     }
 
-    /// How many steps a caller's open call has made; 0 where none is open.
+    /// How many steps a caller's open call has made; 0 if none is open.
     pub fn steps(&self, caller: u32) -> u64
         requires { caller < self.now.callers }
         ensures { result ≡ (machine_of self.now caller).steps }
@@ -248,7 +248,7 @@ impl<W: Work> Bank<W> {
         machine.begin(op);
     }
 
-    /// Makes the next step of a caller's call. Where none is open nothing changes.
+    /// Makes the next step of a caller's call. If none is open nothing changes.
     #[inline(always)]
     pub fn turn(&mut self, caller: u32) -> Turn
         requires { caller < self.old.callers }
@@ -265,8 +265,8 @@ impl<W: Work> Bank<W> {
         turn_of_answer(machine.answer())
     }
 
-    /// Makes turns of a caller while its call is open: `most` of them, or fewer if the call ends. It
-    /// answers how many.
+    /// Makes turns of a caller while its call is open: `most` of them, or fewer if the call ends.
+    /// It answers how many.
     #[inline(always)]
     pub fn turns(&mut self, caller: u32, most: u32) -> u32
         requires { caller < self.old.callers }

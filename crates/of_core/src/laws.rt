@@ -29,10 +29,10 @@ ghost use Rattle.of_core.specs.Laws.{LongerKeepsStates, PrefixKeepsBatches, Pref
 use of_mem::Work;
 
 /// From whatever meets the invariant each step, each begin of a call and each eviction leads to
-/// what meets it. A fresh machine may begin an idle one's next call in its place, with as many
-/// calls behind it: all else that the protocol needs stands on the table. A table at a start meets
-/// the invariant, and whatever meets it has what every moment claims: it has begun at a start that
-/// a table may have, and its states are lawful.
+/// what meets it. A fresh machine may begin an idle one's next call in its place, if it is given as
+/// many calls: all else that the protocol needs is on the table. A table at a start meets the
+/// invariant, and whatever meets it has what every moment claims: it has begun at a start that a
+/// table may have, and its states are lawful.
 pub fn step_kept<W: Work>(limit: u32, work: W)
     ensures kept { StepsKeepInvariant
         (setup_for W.many W.size W.meaning limit work) (W.lawful work) }
@@ -88,8 +88,8 @@ pub fn taken_over_stands<W: Work>(limit: u32, work: W)
         (setup_for W.many W.size W.meaning limit work) (W.lawful work) }
 {}
 
-/// The calls of one caller, from a start on: a step ends its caller's open call or none, a begin
-/// adds one, also where a fresh machine makes it, and nothing else changes anybody's calls.
+/// The calls of one caller, from a start on: a step ends its caller's open call or none, and a
+/// begin adds one, also if a fresh machine makes it. Nothing else changes any caller's calls.
 pub fn calls_kept<W: Work>(limit: u32, work: W)
     ensures start { StartsHaveNoCalls
         (setup_for W.many W.size W.meaning limit work) (W.lawful work) }
@@ -119,9 +119,9 @@ pub fn every_moment<W: Work>(limit: u32, work: W)
         (setup_for W.many W.size W.meaning limit work) (W.lawful work) }
 {}
 
-/// Of every schedule the calls of each caller are those that its events begin. Each ends with an
-/// outcome that is in the history, none goes back behind the one before, and each turn of an open
-/// call is a step of it.
+/// In every schedule the calls of each caller are those that its events begin. Each ends with an
+/// outcome that is in the history, none has an older one than the call before it, and each turn of
+/// an open call is a step of it.
 pub fn every_call<W: Work>(limit: u32, work: W)
     ensures calls { EveryCallStands (setup_for W.many W.size W.meaning limit work) (W.lawful work) }
     ensures turns { TurnsCountSteps (setup_for W.many W.size W.meaning limit work) (W.lawful work) }
@@ -130,9 +130,9 @@ pub fn every_call<W: Work>(limit: u32, work: W)
 
 /// Every schedule is durably linearizable: one serial order of all calls that were answered, and of
 /// some open ones, has all replies, and each call comes after those that had ended when it began.
-/// The order stands by sequence, of one sequence the announced calls first and by caller, and each
+/// The order is by sequence, of one sequence the announced calls first and by caller, and each
 /// answered call has the sequence of its answer. Recovery at any moment finds what that order leads
-/// to. It tells each caller whether its last call took effect, and its reply. Lives that go on one
+/// to, and shows each caller whether its last call took effect, and its reply. Lives that go on one
 /// from the other have such orders, which together are one from the first start. No outcome is
 /// older than its call.
 pub fn every_order<W: Work>(limit: u32, work: W)
@@ -146,13 +146,12 @@ pub fn every_order<W: Work>(limit: u32, work: W)
 {}
 
 /// Every call is answered or spent within the step bound of its own steps, in three rounds at most.
-/// It also ends within a bound that doesn't grow with the memory. That one is by the longest log
+/// It also ends within a bound that doesn't grow with the memory: that one is by the longest log
 /// that the call writes, copies or applies, the most cells that one of its tries or rounds loads,
 /// and the tries and rounds that it has begun. These load a cell only if a run needs it, and copy a
 /// log only if its transaction is open. An announced call is done after at most two commits that
-/// follow its announcement. A try or a round is lost only to a commit: if nobody commits, a read
-/// ends in its first try and any other call in its first round. A call is spent only in one of its
-/// rounds.
+/// follow its announcement. A try or a round is lost only to a commit: without one, a read ends in
+/// its first try and any other call in its first round. A call is spent only in one of its rounds.
 pub fn ends_in_time<W: Work>(limit: u32, work: W)
     ensures in_time { CallsEndInTime
         (setup_for W.many W.size W.meaning limit work) (W.lawful work) }
@@ -200,10 +199,10 @@ pub fn raises_are_short<W: Work>(limit: u32, work: W)
         (setup_for W.many W.size W.meaning limit work) (W.lawful work) }
 {}
 
-/// A table's first words hold its start, and its machines are idle. Zeros are a start that may be,
-/// with no call behind it, and so is what recovery makes of the durable words of any moment. A
-/// recovery that has stopped between two of its writes changes nothing of that, and a renumbering
-/// that has stopped leaves a start with the same numbers.
+/// A table's first words hold its start, and its machines are idle. Zeros are a start that a table
+/// may have, at which no caller has made a call; so is what recovery makes of the durable words of
+/// any moment. A recovery that has stopped between two of its writes changes nothing of that, and a
+/// renumbering that has stopped leaves a start with the same numbers.
 pub fn starts<W: Work>(limit: u32, work: W)
     ensures words { FirstWordsHoldStart (setup_for W.many W.size W.meaning limit work) }
     ensures machines { FirstMachinesAreIdle (setup_for W.many W.size W.meaning limit work) }
@@ -227,7 +226,7 @@ pub fn machines()
     ensures turns { TurnsAreSteps }
 {}
 
-/// What holds of a history by itself: how its batches are numbered, what stands in a longer one,
+/// What holds of a history by itself: how its batches are numbered, that a longer one keeps them,
 /// and that the beginning of a legal history is legal.
 pub fn histories()
     ensures first { FirstStateIsStart }

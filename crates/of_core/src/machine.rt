@@ -43,7 +43,7 @@ const OWN_CELLS: u32 = MOST_INSTRS as u32 + 2;
 pub struct Machine<W: Work> {
     work: W,
     shape: Shape,
-    /// How many cells there are; the durable word of each stands as many words behind it.
+    /// How many cells there are; a cell's durable word comes this many words after the cell.
     durable: u32,
     /// The first word of one's own log.
     own_log: u32,
@@ -215,14 +215,14 @@ impl<W: Work> Machine<W> {
         self.made
     }
 
-    /// How many steps the open call has made; 0 where none is open.
+    /// How many steps the open call has made; 0 if none is open.
     pub fn steps(&self) -> u64
         ensures { result ≡ self.now.call.steps }
     {
         self.steps
     }
 
-    /// How the last call ended. None where a call is open, and where none has ended.
+    /// How the last call ended. None if a call is open, or if none has ended.
     pub fn answer(&self) -> Option<Outcome>
         ensures { result ≡ ended_outcome self.now.call }
     {

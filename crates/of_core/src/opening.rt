@@ -9,7 +9,7 @@ ghost use Rattle.of_core.specs.Starts.{closed_request, first_cells, first_words,
 use of_cell::{Shape, pack, payload_of, seq_of};
 use std::alloc::{AllocError, Global};
 
-// The request of a start's owner: closed, where there is a transaction behind the start.
+// The request of a start's owner: closed, if any transaction was committed before the start.
 fn closed(seq: u32) -> u64
     ensures { result ≡ closed_request seq }
 {
@@ -35,7 +35,7 @@ fn first_cells(alloc: Global, shape: &Shape, durable: &[u64]) -> Result<Vec<u64>
 }
 
 /// The words of a table that starts from a durable row: its cells, with the request of the owner
-/// closed, the cells' durable words, which are the same, and 0 behind them. The row has a word for
+/// closed, the cells' durable words, which are the same, and 0 after them. The row has a word for
 /// each cell, and the owner that its first word names is a caller. The error is that there is no
 /// memory.
 pub fn first_words(alloc: Global, shape: &Shape, durable: &[u64]) -> Result<Vec<u64>, AllocError>

@@ -9,7 +9,8 @@ ghost use Rattle.of_core.specs.Steps.{word_of, words_after};
 
 use crate::place::Op;
 
-/// Performs the steps that a machine wants, so that one table of them serves whoever asks.
+/// Performs the steps that a machine wants. The table of steps is written once, for each way to
+/// perform them.
 pub trait Performer {
     /// What it gives for a step.
     type Given;

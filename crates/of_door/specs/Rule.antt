@@ -1,4 +1,4 @@
--- The rule of a door: its word says what stands in the slot.
+-- The rule of a door: its word says what is in the slot.
 use Rattle.std.specs.Prelude.{◌≡◌, ◌≢◌, ℕ, ◌⊎◌, List, [], ◌∷◌, true, false, Option, Some, None}
 use mathlib.Core.Option as maybe
 use lib.ListN.{get_elem?}
@@ -12,12 +12,12 @@ use Rattle.of_door.specs.Hands.{HandLog, log_after_exchange, after_store}
 abbrev pub IsMemberAtDoor : {W : Type 0} → Row W → ℕ → Member → Type 0
 IsMemberAtDoor r number m = IsRowMember r m × (number_of_member m ≡ number) × HasNoCall m
 
--- so it is where the row is told
+-- the same, if the row is known
 abbrev pub IsMemberAtToldDoor : {W : Type 0} → Option (Row W) → ℕ → Member → Type 0
 IsMemberAtToldDoor None number m = Unit {0}
 IsMemberAtToldDoor (Some r) number m = IsMemberAtDoor r number m
 
--- what a slot holds whose word is w: nobody at 0, and a member that may stand here at 1
+-- what a slot holds whose word is w: no member at 0, and at 1 a member that may be here
 abbrev pub SlotHolds : (Member → Type 0) → (w : ℕ) → Option Member → Type 0
 SlotHolds May w x = (w ≡ 0 → x ≡ None) × (w ≡ 1 → (m : Member) × (x ≡ Some m) × May m)
 
@@ -29,7 +29,7 @@ SlotMatchesWord May w homes =
     ⊎ ((w ≡ 1) × ((m : Member) × May m × (homes ≡ maybe.some (Some m) ∷ [])))
     ⊎ ((w ≡ 2) × (homes ≡ maybe.none ∷ []))
 
--- The rule: one word and one slot, as the word says; where a hand holds the slot the word is 2, and
+-- The rule: one word and one slot, as the word says; if a hand holds the slot the word is 2, and
 -- one hand does.
 pub record DoorMeetsRule (May : Member → Type 0) (s : State (Option Member) HandLog) : Type 0 where
   pub word : ℕ
@@ -40,7 +40,7 @@ pub record DoorMeetsRule (May : Member → Type 0) (s : State (Option Member) Ha
       → get_elem? s.views k ≡ maybe.some w
       → v.holds ≡ true → w.holds ≡ true → j ≡ k
 
--- An exchange from the word old to 2 has found n: where they are the same the hand has got the
+-- An exchange from the word old to 2 has found n: if they are the same the hand has got the
 -- slot, with what the word says, and else nothing has changed.
 abbrev pub TakesSlot : (Member → Type 0) → (old : ℕ) → Me (Option Member) HandLog → (n : ℕ)
     → Me (Option Member) HandLog → Type 0

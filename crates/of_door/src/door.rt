@@ -17,8 +17,7 @@ use std::alloc::{AllocError, Global};
 use std::marker::Brand;
 use std::snapshot::Snapshot;
 
-/// The word of a door where nobody stands in it, where a member does, and while a hand holds the
-/// slot.
+/// The word of a door: no member is in it, a member is, or a hand holds the slot.
 const NOBODY: u64 = 0;
 
 const MEMBER: u64 = 1;
@@ -73,7 +72,7 @@ impl<W: Work> Door<W> {
         Hand { seat }
     }
 
-    // Exchanges the word, once, and takes the slot where it was `old`. Gives the word found.
+    // Exchanges the word, once, and takes the slot if it was `old`. Gives the word found.
     fn take<O: AdmitArgs<W>>(&self, seat: &mut Seat<Option<Member>, HandLog>, old: u64) -> u64
         requires row { O.at_row ≡ Some (row_of_door self.now) }
         requires number { O.number ≡ number_of_door self.now }
@@ -89,9 +88,9 @@ impl<W: Work> Door<W> {
             .compare_exchange::<TakePlay<W, O>>(seat, 0, old, HELD)
     }
 
-    /// Leaves a member in the door, where nobody stands in it, and gives a pass that knows all that
-    /// it had seen. Else the error hands the member back, with the word found. The exchange is
-    /// tried once.
+    /// Leaves a member in the door, if none is in it, and gives a pass that knows all that it had
+    /// seen. Otherwise the error hands the member back, with the word found. The exchange is tried
+    /// once.
     pub fn leave(
         &self,
         row: &Row<W>,
@@ -122,9 +121,9 @@ impl<W: Work> Door<W> {
         Ok(pass)
     }
 
-    /// Takes the member out of the door, where one stands in it, and has it take the pass in: it
-    /// then knows all that the pass had seen, and goes on behind all its calls. Else the error
-    /// hands the pass back, with the word found. The exchange is tried once.
+    /// Takes the member out of the door, if one is in it, and has it take the pass in: it then
+    /// knows all that the pass had seen, and goes on after all its calls. Otherwise the error hands
+    /// the pass back, with the word found. The exchange is tried once.
     pub fn come(&self, row: &Row<W>, hand: &mut Hand, pass: Pass) -> Result<Member, (Pass, u64)>
         requires row { row_of_door self.now ≡ row.now }
         requires hand { IsHandOf self.now hand.old }

@@ -12,7 +12,7 @@ use of_mem::Work;
 use of_row::Member;
 use std::marker::{Brand, PhantomData};
 
-/// The rule: what stands behind the word.
+/// The rule: what a word of the door says of its slot.
 pub struct DoorRule<W> {
     work: PhantomData<W>,
 }

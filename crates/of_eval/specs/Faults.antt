@@ -20,8 +20,8 @@ use Rattle.of_eval.specs.Lawful.{OwnCellsAreSound, DataCellsStandFor}
 abbrev pub shape_alone : ℕ → RawReply
 shape_alone shape = record { shape = shape; values = replicate MOST_INSTRS 0 }
 
--- the shape is that of this reply, to a script of at most so many instructions; which numbers it
--- has is not asked
+-- the shape is that of this reply, to a script of at most this many instructions; the reply's
+-- numbers may be any
 pub record IsShapeOf (instrs shape : ℕ) (r : Reply) : Type 0 where
   pub held : IsHeldBy (shape_alone shape) r
   pub few : r.len ≤ instrs
@@ -49,11 +49,11 @@ pub data OwnFault (instrs : ℕ) (m : ℕ → ℕ) (caller cell : ℕ) : Type 0 
 
 -- ---- what is looked at before the chains
 
--- the own cells of the first so many callers are sound
+-- the own cells of the first n callers are sound
 abbrev pub AllOwnCellsAreSound : ℕ → (ℕ → ℕ) → ℕ → Type 0
 AllOwnCellsAreSound instrs m n = (c : ℕ) → c < n → OwnCellsAreSound instrs m c
 
--- the first so many registers are numbers
+-- the first n registers are numbers
 abbrev pub AreNumbers : ℕ → (ℕ → ℕ) → ℕ → Type 0
 AreNumbers o m n = (r : ℕ) → r < n → IsNumber (m (register_at o r))
 
@@ -76,8 +76,8 @@ ContainsNumber [] x = ⊥
 ContainsNumber (a ∷ l) x = (x ≡ a) ⊎ ContainsNumber l x
 
 -- The blocks that were met: all of the chains before chain n, and those of chain n from its front
--- up to here. Each is below fresh and stands in one chain, and once in it, and what stands in the
--- blocks is sound.
+-- up to here. Each is below fresh and is in one chain, and once in it, and what the blocks hold is
+-- sound.
 pub record HasPassed (o blocks : ℕ) (m : ℕ → ℕ) (n : ℕ) (chains : ℕ → List ℕ) : Type 0 where
   pub linked : (c : ℕ) → c < n → IsChain o m (front_at o blocks c) (chains c)
   pub path : IsPath o m (front_at o blocks n) (chains n)
@@ -89,7 +89,7 @@ pub record HasPassed (o blocks : ℕ) (m : ℕ → ℕ) (n : ℕ) (chains : ℕ 
   pub items : (q : ℕ) → q < 4
       → Each (λ b. IsNumber (m (first_at o b))) (chains (queue_chain blocks q))
 
--- what is counted behind the chains before chain n is right: keys behind the buckets, and behind
+-- what is counted after the chains before chain n is right: the keys after all buckets, and after
 -- each queue its tail and its length
 pub record HasRightCounts (o blocks : ℕ) (m : ℕ → ℕ) (n : ℕ) (chains : ℕ → List ℕ) : Type 0 where
   pub keys : queue_chain blocks 0 ≤ n
@@ -99,7 +99,7 @@ pub record HasRightCounts (o blocks : ℕ) (m : ℕ → ℕ) (n : ℕ) (chains :
   pub lengths : (q : ℕ) → queue_chain blocks q < n
       → m (length_at o q) ≡ length (chains (queue_chain blocks q))
 
--- the pointer cell behind the blocks of chain n that were met
+-- the pointer cell after the blocks of chain n that were met
 abbrev pub pointer_cell : ℕ → ℕ → ℕ → (ℕ → List ℕ) → ℕ
 pointer_cell o blocks n chains = cell_after o (front_at o blocks n) (chains n)
 
@@ -121,7 +121,7 @@ IsNoKey o blocks m k bucket key =
     ⊎ ((key % bucket_count blocks ≢ k)
     ⊎ ((x : ℕ) × ContainsNumber bucket x × (m (first_at o x) ≡ key)))
 
--- the first fault, where these blocks were met
+-- the first fault, if these blocks were met
 pub data ChainFault (o blocks : ℕ) (m : ℕ → ℕ) (n : ℕ) (chains : ℕ → List ℕ) (cell : ℕ)
     : Type 0 where
   -- the pointer leads to a block that is not below fresh or was met
@@ -142,10 +142,10 @@ pub data ChainFault (o blocks : ℕ) (m : ℕ → ℕ) (n : ℕ) (chains : ℕ �
       → (IsNumber (m (first_at o b)) → ⊥) → cell ≡ first_at o b
       → ChainFault o blocks m n chains cell
 
--- the first fault of what is counted behind the chains before chain n
+-- the first fault of what is counted after the chains before chain n
 pub data CountFault (o blocks : ℕ) (m : ℕ → ℕ) (n : ℕ) (chains : ℕ → List ℕ) (cell : ℕ)
     : Type 0 where
-  -- there are not so many keys in the buckets
+  -- the count of keys isn't the number of keys in the buckets
   Keys : n ≡ queue_chain blocks 0
       → m (keys_at o) + length (chains 0) ≢ blocks_in_chains chains (queue_chain blocks 0)
       → cell ≡ keys_at o → CountFault o blocks m n chains cell
@@ -153,7 +153,7 @@ pub data CountFault (o blocks : ℕ) (m : ℕ → ℕ) (n : ℕ) (chains : ℕ �
   Tail : (q : ℕ) → q < 4 → n ≡ queue_chain blocks (1 + q)
       → m (tail_at o q) ≢ last_pointer 0 (chains (queue_chain blocks q))
       → cell ≡ tail_at o q → CountFault o blocks m n chains cell
-  -- there are not so many items
+  -- the queue's length isn't the number of its items
   Length : (q : ℕ) → q < 4 → n ≡ queue_chain blocks (1 + q)
       → m (tail_at o q) ≡ last_pointer 0 (chains (queue_chain blocks q))
       → m (length_at o q) ≢ length (chains (queue_chain blocks q)) → cell ≡ length_at o q
@@ -173,14 +173,14 @@ pub data IsFirstFault (callers instrs blocks : ℕ) (m : ℕ → ℕ) (cell : �
   Fresh : AllOwnCellsAreSound instrs m callers → AreNumbers (base_of callers instrs) m REGISTERS
       → blocks < m (fresh_at (base_of callers instrs))
       → cell ≡ fresh_at (base_of callers instrs) → IsFirstFault callers instrs blocks m cell
-  -- a pointer of a chain, or what stands in a block
+  -- a pointer of a chain, or what a block holds
   Chain : HasSoundHead callers instrs blocks m → (n : ℕ) (chains : ℕ → List ℕ)
       → HasPassed (base_of callers instrs) blocks m n chains
       → HasRightCounts (base_of callers instrs) blocks m n chains
       → ChainFault (base_of callers instrs) blocks m n chains cell
       → IsFirstFault callers instrs blocks m cell
-  -- what is counted behind the chains up to chain n; what is counted behind those before it is
-  -- right
+  -- the first fault is in what is counted after the chains up to chain n; what is counted after
+  -- those before it is right
   Count : HasSoundHead callers instrs blocks m → (n : ℕ) (chains : ℕ → List ℕ)
       → HasPassed (base_of callers instrs) blocks m (1 + n) chains
       → HasRightCounts (base_of callers instrs) blocks m n chains → chains (1 + n) ≡ []

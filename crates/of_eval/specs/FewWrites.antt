@@ -1,5 +1,5 @@
--- Scripts write few cells, where there are so many blocks that no instruction on keys in their order
--- is run. These lemmas stand in specs/ since SoundScripts, the law of an impl, is proved with them.
+-- Scripts write few cells, if there are more blocks than instructions on keys in their order run
+-- with. These lemmas are in specs/ since SoundScripts, the law of an impl, is proved with them.
 use Rattle.std.proofs.Common.{◌≡◌, ℕ, ◌+◌, ◌-◌, ◌*◌, ◌<◌, true, false, Bool, Option, Some, None, Ok, Err, List, [], ◌∷◌, ◌++◌, length, take, length-take, arith}
 use Rattle.std.specs.Prelude.{nat_lt}
 use Rattle.std.proofs.lemmas.Bool.{lt-ltb}
@@ -102,7 +102,7 @@ module _ (o blocks : ℕ) (many : MOST_ORDERED_BLOCKS < blocks) where
       (word_few (instr_at w))
       (next_few rest n done further (λ v. words_few n ws (done ++ v ∷ []))))
 
-  -- and a script is no longer than sixteen of them
+  -- a script of at most sixteen instructions writes at most MOST_WRITES cells
   pub script_few : (op : List ℕ) → WritesAtMost MOST_WRITES (script_program o blocks op)
   script_few op =
       let ws = take MOST_INSTRS op in

@@ -1,5 +1,5 @@
 -- What an instruction does to cells that stand for a store is what it does to the store.
--- These lemmas stand in specs/ since SoundScripts, the law of an impl, is proved with them.
+-- These lemmas are in specs/ since SoundScripts, the law of an impl, is proved with them.
 use Rattle.std.proofs.Common.{◌≡◌, ℕ, ◌+◌, ◌-◌, ◌<◌, ◌≤◌, inl, inr, refl, sym, ap, subst, arith, Bool, true, false, cond, leb, ltb, ◌&&◌, Option, Some, None, Ok, Err, is_none, List, [], ◌∷◌, ◌++◌, length, get_or}
 use Rattle.std.specs.Prelude.{sum_by}
 use Rattle.std.specs.FinMap as fin
@@ -169,7 +169,7 @@ module _ (o blocks : ℕ) (few : blocks ≤ MOST_BLOCKS) (m : ℕ → ℕ) (s : 
       (need_answers v x) (instr_effect s (Need k v))) (sym g.0)
       (need_case v (is_there (fin.get s.keys k) v) (memory_after (get_program o blocks k) m) stay))
 
-  -- there is room exactly where the store is not full
+  -- there is room exactly if the store is not full
   full : ltb (thing_count (cell_store s)) blocks ≡ false → leb s.room (stored_count s) ≡ true
   full e =
       le-leb s.room (stored_count s)

@@ -10,7 +10,7 @@ use Rattle.of_store.specs.Store.{Store}
 use Rattle.of_eval.specs.Shapes.{IsHeldBy}
 use Rattle.of_eval.specs.Stored.{IsStored}
 
--- the number in a caller's reply cell j; where there is no such cell it is 0
+-- the number in a caller's reply cell j, or 0 if there is no such cell
 abbrev pub reply_number : (instrs : ℕ) → (ℕ → ℕ) → (caller j : ℕ) → ℕ
 reply_number instrs m c j = if nat_lt j instrs then m (reply_at instrs c j) else 0
 
@@ -21,7 +21,7 @@ reply_in instrs m c = record {
   values = map (reply_number instrs m c) (range_with_len 0 MOST_INSTRS);
 }
 
--- a reply to a script of so many instructions at most, which a caller's own cells hold
+-- a caller's own cells hold a reply to a script of at most this many instructions
 pub record OwnCellsHoldReply (instrs : ℕ) (m : ℕ → ℕ) (caller : ℕ) : Type 0 where
   pub reply : Reply
   pub held : IsHeldBy (reply_in instrs m caller) reply

@@ -1,4 +1,4 @@
--- The record of a run: what its answers and the cells that recovery finds say of the history, and
+-- The record of a run: what its answers, and the cells that recovery finds, say of the history; and
 -- when the record is lawful.
 use Rattle.std.specs.Prelude.{◌≡◌, ℕ, ◌+◌, ◌==◌, ◌<◌, true, false, Bool, List, [], ◌∷◌, ◌++◌, length, All}
 use Rattle.std.proofs.Common.{get_or}
@@ -65,8 +65,8 @@ open_entry p e c x r = record {
   reply = reply_value_of r;
 }
 
--- an open call is an entry where the caller's recovered ticket cell holds its ticket, with the
--- reply that the other own cells hold
+-- an open call is an entry if the caller's recovered ticket cell holds its ticket; its reply is the
+-- one in the other own cells
 abbrev pub OpenCall : Plan → Ended → (caller index : ℕ) → (recovered : Bool) → List Entry → Type 0
 OpenCall p e c x true extra =
     (r : Reply) × IsHeldBy (reply_in MOST_INSTRS (record_number p e) c) r
@@ -86,13 +86,13 @@ pub record OwnEntries (p : Plan) (s : Start) (e : Ended) (c : ℕ) (es : List En
   pub beyond : BeyondAnswers p e c (finished_of s c + length (answers_of e c)) (ending_of e c) extra
   pub own : es ≡ answer_entries c (finished_of s c) (answers_of e c) ++ extra
 
--- what was asked and the sequence that was met are not told
+-- how a caller ended, without what was asked and the sequence that was met
 abbrev pub end_state_of : Ending → EndState
 end_state_of Done = plain.done
 end_state_of (Stopped asked) = plain.stopped
 end_state_of (Spent seq_of) = plain.spent
 
--- the line of a caller with so many entries
+-- the line of a caller with this many entries
 abbrev pub line_for : Ended → (caller entries : ℕ) → plain.Line
 line_for e c n = record {
   state = end_state_of (ending_of e c);
@@ -101,8 +101,8 @@ line_for e c n = record {
   longest = longest_steps (answers_of e c);
 }
 
--- the report that a record is: its entries, endings and steps, and the sequence and the store that
--- recovery finds
+-- the report agrees with the record: its entries, endings and steps are the record's, and its
+-- sequence and store are those that recovery finds
 pub record IsRecordOf (p : Plan) (s : Start) (e : Ended) (r : plain.Report) : Type 0 where
   pub entries : (c : ℕ) → c < p.callers → OwnEntries p s e c (entries_of r c)
   pub each_caller : length r.callers ≡ p.callers
@@ -110,8 +110,8 @@ pub record IsRecordOf (p : Plan) (s : Start) (e : Ended) (r : plain.Report) : Ty
   pub seq : r.seq ≡ recovered_seq p e
   pub store : DataCellsStandFor p.callers MOST_INSTRS p.blocks (record_number p e) r.store
 
--- what a run leaves is a record of the plan from the start, whose replies are whole, and whose
--- report is this one and is legal
+-- what a run leaves is a record of the plan from the start; its replies are whole, and its report
+-- is this one and is legal
 pub record IsLawfulRecord (p : Plan) (s : Start) (e : Ended) (r : plain.Report) : Type 0 where
   pub answers : length e.answers ≡ p.callers
   pub endings : length e.endings ≡ p.callers

@@ -8,14 +8,14 @@ use Rattle.of_plan.specs.Report.{Report, Start, entries_of, finished_of}
 use Rattle.of_plan.specs.Allowance.{least_steps}
 use Rattle.of_eval.specs.Record.{IsLawfulRecord, answer_entry}
 
--- each of a caller's answers, of which the first is to the script with this index, tells as many
--- steps as such a call makes at least
+-- each of a caller's answers, of which the first is to the script with this index, has at least the
+-- steps that such a call must make
 abbrev pub MakeLeastSteps : Plan → (caller index : ℕ) → List Answer → Type 0
 MakeLeastSteps p c x [] = Unit {0}
 MakeLeastSteps p c x (a ∷ others) =
     (least_steps p (answer_entry c x a) ≤ a.steps) × MakeLeastSteps p c (x + 1) others
 
--- the report is that of the run's lawful record
+-- the report is that of the run's record, which is lawful
 pub record ReportsRun (p : Plan) (s : Start) (e : Ended) (r : Report) : Type 0 where
   pub lawful : IsLawfulRecord p s e r
   -- its sequence is at most the plan's limit

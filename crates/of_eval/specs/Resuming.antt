@@ -21,13 +21,13 @@ part_with known batch script = record { known = known; batch = batch; script = s
 abbrev pub IsOfStore : ℕ → ℕ → Part → Type 0
 IsOfStore o blocks p = (m : ℕ → ℕ) × StandsForSome o blocks m × IsPartOf p m
 
--- where the walk to the key lacks a cell, the word lacks it too
+-- if the walk to the key lacks a cell, the word lacks it too
 abbrev pub LooksFor : ℕ → ℕ → ℕ → ℕ → Type 0
 LooksFor o blocks w key =
     (p : Part) (a : ℕ) → run_program (seek_program o blocks key) p ≡ Lacks a
     → run_program (word_program o blocks w) p ≡ Lacks a
 
--- whatever else is known, the script goes on behind the words that have run, with what these
+-- whatever else is known, the script goes on after the words that have run, with what these
 -- answered and wrote
 pub record MayResume (o blocks : ℕ) (k : SuspendedRun) (p : Part) : Type 0 where
   pub runs : (more : List (Option ℕ)) → Extends more p.known
@@ -46,7 +46,7 @@ pub record MayResume (o blocks : ℕ) (k : SuspendedRun) (p : Part) : Type 0 whe
   -- the next word looks for the key that is kept
   pub looks : (key : ℕ) → k.sought ≡ Some key → LooksFor o blocks (get_or k.words k.done 0) key
 
--- where a script is kept, it goes on so on the cells of the work that kept it
+-- if a script is kept, it goes on so on the cells of the work that kept it
 abbrev pub HoldsScript : SuspendedRun → Part → Type 0
 HoldsScript k p = 1 ≤ length k.words → MayResume (base_of k.callers MOST_INSTRS) k.blocks k p
 

@@ -66,7 +66,8 @@ answers_if cause false = abort_program cause
 abbrev pub need_answers : ℕ → Option ℕ → Program InstrResult
 need_answers v found = answers_if Differs (is_there found v)
 
--- Keys in their order: with more blocks than this such an instruction aborts as a word that is none.
+-- Keys in their order: with more blocks than this such an instruction aborts as a word that is
+-- none.
 
 abbrev pub ordered_program : ℕ → Program InstrResult → Program InstrResult
 ordered_program blocks f = if nat_lt MOST_ORDERED_BLOCKS blocks then abort_program BadOp else f
@@ -98,13 +99,13 @@ program_of o blocks (Some i) = instr_program o blocks i
 abbrev pub word_program : ℕ → ℕ → ℕ → Program InstrResult
 word_program o blocks w = program_of o blocks (instr_at w)
 
--- the script goes on behind these values, or aborts
+-- the script goes on after these values, or aborts
 abbrev pub go_on : ℕ → List (Option ℕ) → (Option ℕ → Program RawReply) → InstrResult
     → Program RawReply
 go_on n done further (Ok v) = further v
 go_on n done further (Err cause) = Done (reply_cells (reply_to n (Aborted (length done) cause)))
 
--- the words of a script of n, behind these values
+-- the words of a script of n, after these values
 abbrev pub words_program : ℕ → ℕ → ℕ → List (Option ℕ) → List ℕ → Program RawReply
 words_program o blocks n done [] = Done (reply_cells (reply_to n (Answered done)))
 words_program o blocks n done (w ∷ ws) =

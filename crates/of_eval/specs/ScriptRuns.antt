@@ -1,5 +1,5 @@
 -- What the words of an operation do to cells that stand for a store is what they do to the store.
--- These lemmas stand in specs/ since SoundScripts, the law of an impl, is proved with them.
+-- These lemmas are in specs/ since SoundScripts, the law of an impl, is proved with them.
 use Rattle.std.proofs.Common.{◌≡◌, ℕ, suc, ◌+◌, ◌<◌, ◌≤◌, refl, sym, ◌∙◌, ap, subst, arith, Option, Some, None, Ok, Err, List, [], ◌∷◌, ◌++◌, length, length-append}
 use Rattle.std.specs.List.{AllByRecursion as Each}
 use Rattle.std.proofs.lemmas.List.{append_assoc, append-nil}
@@ -31,7 +31,7 @@ abbrev pub LeadsToOutcome : ℕ → ℕ → ScriptOutcome → (ℕ → ℕ) → 
 LeadsToOutcome o blocks (Ok e) n = IsStored o blocks n e.0
 LeadsToOutcome o blocks (Err p) n = Unit {0}
 
--- a program does this outcome behind these values
+-- after these values, a program does what this outcome says
 pub record DoesOutcome (o blocks n : ℕ) (f : Program RawReply) (m : ℕ → ℕ) (done : List (Option ℕ))
     (x : ScriptOutcome) : Type 0 where
   pub inside : StaysBetween o (cells_at o blocks) f m

@@ -1,5 +1,5 @@
 -- How great the parts of a shape are.
--- These lemmas stand in specs/ since SoundScripts, the law of an impl, is proved with them.
+-- These lemmas are in specs/ since SoundScripts, the law of an impl, is proved with them.
 use Rattle.std.proofs.Common.{◌≡◌, ℕ, zero, suc, ◌<◌, ◌≤◌, ◌^◌, List, [], ◌∷◌, length, get_or, Option, Some, None, refl, arith}
 use Rattle.of_script.specs.declared.instr.Cause.{Cause}
 use Rattle.of_script.specs.declared.instr.Cause.TheVariants.{Overflow, Short, NoRoom, Differs, BadOp}

@@ -21,12 +21,12 @@ abbrev pub mark_bit : Option ℕ → ℕ
 mark_bit None = 0
 mark_bit (Some v) = 1
 
--- bit j is 1 where place j has a number
+-- bit j is 1 if place j has a number
 abbrev pub mask_of : List (Option ℕ) → ℕ
 mask_of [] = 0
 mask_of (v ∷ vs) = mark_bit v + 2 * mask_of vs
 
--- 0 is for no abort
+-- the code of a cause; 0 is for no abort
 abbrev pub code_of : Cause → ℕ
 code_of Overflow = 1
 code_of Short = 2
@@ -43,11 +43,11 @@ abort_part (Some a) = a.place * 2 ^ 21 + code_of a.cause * 2 ^ 26
 abbrev pub shape_of : Reply → ℕ
 shape_of r = mask_of r.values + r.len * 2 ^ 16 + abort_part r.abort
 
--- a reply as it is written: 0 stands where there is no number
+-- a reply as it is written, with 0 at places that have no number
 abbrev pub reply_cells : Reply → RawReply
 reply_cells r = record { shape = shape_of r; values = map (λ v. unwrap_or v 0) r.values }
 
--- The cells hold this reply. What stands at a place with no number does not matter.
+-- The cells hold this reply. At a place with no number they may hold anything.
 pub record IsLaidOut (raw : RawReply) (r : Reply) : Type 0 where
   pub shape : raw.shape ≡ shape_of r
   pub numbers : (i v : ℕ) → slice_index_or r.values i None ≡ Some v → slice_index raw.values i ≡ v

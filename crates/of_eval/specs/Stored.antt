@@ -16,7 +16,7 @@ cell_store s = record {
   room = s.room;
 }
 
--- The cells from o on stand for this store, with so many blocks.
+-- The cells from o on stand for this store, which has room for this many blocks.
 pub record IsStored (o blocks : ℕ) (m : ℕ → ℕ) (s : Store) : Type 0 where
   pub state : IsState s
   pub stands : StandsForStore o blocks m (cell_store s)

@@ -57,7 +57,7 @@ pub record OwnersMatchChains (blocks fresh : ℕ) (chains : ℕ → List ℕ) (o
   pub met : (b : ℕ) → get_or owners b 0 ≢ 0 → IsMet chains b
   pub counted : blocks_in_chains chains (out_chain blocks) + unmet_count owners ≡ fresh
 
--- the walk met these blocks, the last of them in chain n, and what it counted behind the chains
+-- the walk met these blocks, the last of them in chain n, and what it counted after the chains
 -- before chain k is right
 pub record HasWalked (p : Plot) (cells : List ℕ) (n k : ℕ) (chains : ℕ → List ℕ) (owners : List ℕ) :
     Type 0 where
@@ -82,7 +82,7 @@ pub record HoldsWhatWasMet (p : Plot) (cells : List ℕ) (chains : ℕ → List 
       → map (λ b. memory_of cells (first_at (base p) b)) (chains (queue_chain p.blocks q))
       ≡ queue s q
 
--- the walk stands before chain n, and what was counted behind the chains before chain k is right
+-- the walk is before chain n, and what was counted after the chains before chain k is right
 pub record IsBeforeChain (p : Plot) (cells : List ℕ) (n k : ℕ) (owners : List ℕ) (s : Store)
     : Type 0 where
   pub chains : ℕ → List ℕ
@@ -90,13 +90,13 @@ pub record IsBeforeChain (p : Plot) (cells : List ℕ) (n k : ℕ) (owners : Lis
   pub kept : HoldsWhatWasMet p cells chains s
   pub start : chains n ≡ []
 
--- the walk stands before the buckets, and no store has been made yet
+-- the walk is before the buckets, and no store has been made yet
 pub record HasWalkedFreeList (p : Plot) (cells : List ℕ) (owners : List ℕ) : Type 0 where
   pub chains : ℕ → List ℕ
   pub walked : HasWalked p cells 1 1 chains owners
   pub start : chains 1 ≡ []
 
--- a store with nothing in it but the first so many registers
+-- a store with nothing in it but the first n registers
 pub record HasRegisters (p : Plot) (cells : List ℕ) (n : ℕ) (s : Store) : Type 0 where
   pub state : IsState s
   pub room : s.room ≡ p.blocks

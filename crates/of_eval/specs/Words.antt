@@ -29,7 +29,7 @@ words_outcome s (w ∷ ws) = then_outcome (word_effect s w) (λ t. words_outcome
 abbrev pub run_words : Store → List ℕ → Store × Reply
 run_words s ws = run_result s (words_outcome s ws)
 
--- the reply of so many instructions
+-- the reply to a script of this many instructions
 abbrev pub reply_to : ℕ → Reply → RustReply
 reply_to n (Answered vs) = record {
   len = n;

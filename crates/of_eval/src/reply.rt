@@ -85,7 +85,7 @@ pub fn reply_of(raw: &RawReply) -> Option<Reply>
     aborted_reply(raw, len)
 }
 
-/// The numbers that a mask marks. None where one of them is above `GREATEST`.
+/// The numbers that a mask marks. None if one of them is above `GREATEST`.
 fn marked_values(
     mask: u32,
     cells: &[u32; MOST_INSTRS],

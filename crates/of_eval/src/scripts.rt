@@ -9,10 +9,10 @@ use crate::walk::{reach, resume, run_to_reply};
 use of_mem::{MOST_INSTRS, MaySuspend, Need, Part, Plot, RawReply, SuspendedRun, Work};
 use of_plan::Plan;
 
-/// What runs scripts on cells: so many callers, 1 to `MOST_CALLERS`, and room for so many keys and
-/// items, at most `MOST_BLOCKS`. An operation is the words of a script; a word that is no
-/// instruction aborts at its place. With room for more than `of_store::MOST_ORDERED_BLOCKS` so does
-/// an instruction on keys in their order.
+/// What runs scripts on cells: 1 to `MOST_CALLERS` callers, and room for keys and items, at most
+/// `MOST_BLOCKS`. An operation is the words of a script; a word that is no instruction aborts at
+/// its place. With room for more than `of_store::MOST_ORDERED_BLOCKS` so does an instruction on
+/// keys in their order.
 #[derive(Clone, Copy, Debug, PartialEq, Eq)]
 pub struct Scripts {
     pub callers: u32,

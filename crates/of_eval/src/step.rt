@@ -20,7 +20,7 @@ use of_store::MOST_ORDERED_BLOCKS;
 /// A number or none, or the cause for which the script aborts.
 pub(crate) type InstrResult = Result<Option<u32>, Cause>;
 
-/// Runs one word, which aborts where it is no instruction. The error names a cell that is read and
+/// Runs one word, which aborts if it is no instruction. The error names a cell that is read and
 /// isn't known.
 pub(crate) fn run_word(plot: &Plot, part: &mut Part, word: u64) -> Result<InstrResult, Need>
     requires { HasStore plot.now part.old }
@@ -188,7 +188,7 @@ fn compare(found: Option<u32>, value: u32) -> InstrResult
     Err(Cause::Differs)
 }
 
-/// Puts an item behind a queue.
+/// Puts an item at the end of a queue.
 #[tactic(auto, using(of_mem::proofs::Runs::run_then_gives, of_mem::proofs::Runs::run_then_needs))]
 fn push(plot: &Plot, part: &mut Part, queue: u8, value: u32) -> Result<InstrResult, Need>
     requires stands { HasStore plot.now part.old }
@@ -233,7 +233,7 @@ fn count(plot: &Plot, part: &Part) -> Result<InstrResult, Need>
     Ok(Ok(Some(keys)))
 }
 
-// Whether there are so many blocks that instructions on keys in their order abort.
+// Whether there are more blocks than instructions on keys in their order run with.
 fn is_large(plot: &Plot) -> bool
     ensures { result ≡ nat_lt MOST_ORDERED_BLOCKS plot.now.blocks }
 {

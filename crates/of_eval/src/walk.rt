@@ -41,7 +41,7 @@ pub(crate) fn resume(plot: &Plot, part: &mut Part, kept: &mut SuspendedRun, op: 
     kept.restore(part);
 }
 
-/// Walks towards the key that the next word looks for, where `kept` has one. The error names a cell
+/// Walks towards the key that the next word looks for, if `kept` has one. The error names a cell
 /// that is read and isn't known. A run that lacks one cell after the other of a bucket so costs the
 /// walk alone.
 pub(crate) fn reach(plot: &Plot, part: &mut Part, kept: &SuspendedRun) -> Result<(), Need>
@@ -135,7 +135,7 @@ fn run_words(
     for i in kept.done()..op.len() {
         match run_word(plot, part, op[i])? {
             Err(cause) => return Ok(aborted_reply(op.len(), i, cause)),
-            // no word goes on behind the last one, so what it answers and writes need not be kept
+            // no word comes after the last one, so what it answers and writes need not be kept
             Ok(value) if i == last => return Ok(answered_reply(op.len(), kept.values(), value)),
             Ok(value) => kept.advance(value, part),
         }
@@ -144,7 +144,7 @@ fn run_words(
     unreachable!()
 }
 
-/// Keeps the key that the next of these words looks for, if it does so before all else.
+/// Keeps the key that the next of these words looks for, if that comes first.
 fn keep_sought(kept: &mut SuspendedRun, op: &[u64])
     requires { kept.old.words ≡ op.now }
     ensures holds { (p : Part) → HoldsScript kept.old p → HoldsScript kept.new p }

@@ -50,12 +50,12 @@ empty_sink room piece fails = record {
   finished = false;
 }
 
--- a write fails at the numbers that are listed, and where something is to be written and no room is
+-- a write fails at the numbers that are listed, and if something is to be written and no room is
 -- left
 abbrev pub FailsToWrite : MemSink → List ℕ → Type 0
 FailsToWrite s text = Contains s.fails s.writes ⊎ ((s.room ≡ length s.bytes) × (0 < length text))
 
--- how many bytes a write of so many takes
+-- how many of this many bytes a write takes
 abbrev pub write_count : MemSink → ℕ → ℕ
 write_count s len = min (min (s.room - length s.bytes) s.piece) len
 

@@ -20,7 +20,7 @@ pub record IsReportOfTeam (p : Plan) (s : Start) (B : TableStart) (e : Ended) (w
   pub handed : IsHandedBack p s B e w
   pub report : handed.report ≡ r
 
--- so it is over the table that starts from an image's row
+-- this holds over the table that starts from an image's row
 abbrev pub IsLifeOf : Image → Plan → Ended → View → Report → Type 0
 IsLifeOf i p e w r = IsReportOfTeam p (start_of_image i) (start_from_row p i.row.words) e w r
 
@@ -29,6 +29,6 @@ IsLifeOf i p e w r = IsReportOfTeam p (start_of_image i) (start_from_row p i.row
 pub record LeavesImage (p : Plan) (s : Start) (e : Ended) (r : Report) (next : Image) : Type 0 where
   pub restored : IsRestored MOST_INSTRS (durable_row p e) next
   pub start : start_of_image next ≡ start_behind s (record { plan = p; report = r })
-  -- each caller's own cells hold its last announced call, with the reply that the report tells
+  -- each caller's own cells hold its last announced call, with the reply that is in the report
   pub last_calls : (c : ℕ) → c < p.callers
       → HoldsLastAnnounced (image_number next) c (finished_of s c) (entries_of r c)

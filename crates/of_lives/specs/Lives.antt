@@ -10,23 +10,24 @@ pub record Life : Type 0 where
   pub plan : Plan
   pub report : Report
 
--- how many scripts of a caller are done behind these entries of it, where n were done before:
--- those up to its last announced one. A read that wasn't announced leaves no ticket
+-- how many scripts of a caller are done after these entries of it, if n were done before: those up
+-- to its last announced one. A read that wasn't announced leaves no ticket
 abbrev pub done_behind : (n : ℕ) → List Entry → ℕ
 done_behind n [] = n
 done_behind n (e ∷ es) = done_behind (if e.announced then e.index + 1 else n) es
 
--- as many callers as the start or the plan has, whichever has more
+-- as many callers as the start or the plan has: the greater number
 abbrev pub callers_with : Start → Life → ℕ
 callers_with s l = max (length s.finished) l.plan.callers
 
--- how many scripts of each caller are done behind a life
+-- how many scripts of each caller are done after a life
 abbrev pub finished_behind : Start → Life → List ℕ
 finished_behind s l =
     map (λ c. done_behind (finished_of s c) (entries_of l.report c))
     (range_with_len 0 (callers_with s l))
 
--- where a life leaves: its last store, its sequence, and each caller behind its last announced call
+-- the start that a life leaves: its last store, its sequence, and each caller after its last
+-- announced call
 abbrev pub start_behind : Start → Life → Start
 start_behind s l = record {
   store = l.report.store;
@@ -44,7 +45,7 @@ abbrev pub EachLife : (Start → Life → Type 0) → Start → List Life → Ty
 EachLife P s [] = Unit {0}
 EachLife P s (l ∷ ls) = P s l × EachLife P (start_behind s l) ls
 
--- its report is legal from there
+-- the life's report is legal from this start
 abbrev pub IsLifeFrom : Start → Life → Type 0
 IsLifeFrom s l = IsLegal l.plan s l.report
 
@@ -56,7 +57,8 @@ AreLives s ls = EachLife IsLifeFrom s ls
 abbrev pub renumbered_start : Start → Start
 renumbered_start s = record s { seq = 0 }
 
--- A span is lives whose sequences go on. Behind each span they begin anew: where all of them leave
+-- A span is a list of lives whose sequences go on. After each span they begin anew, at the start
+-- that all its lives leave
 abbrev pub start_behind_spans : Start → List (List Life) → Start
 start_behind_spans s [] = s
 start_behind_spans s (ls ∷ spans) =

@@ -23,18 +23,18 @@ own_in ls c = filter (λ e. e.caller == c) (entries_in ls)
 abbrev pub IsAnnouncedBefore : Entry → Entry → Type 0
 IsAnnouncedBefore e f = (e.seq ≡ f.seq) × IsTrue e.announced × (e.caller < f.caller)
 
--- sequences don't fall, and an announced entry comes behind all of lower sequences
--- and, within its own, behind announced ones of lower callers alone
+-- sequences don't fall; an announced entry comes after all entries of lower sequences, and after
+-- none of its own sequence but announced ones of lower callers
 abbrev pub ComesBefore : Entry → Entry → Type 0
 ComesBefore e f =
     (e.seq ≤ f.seq)
     × (IsTrue f.announced → (e.seq < f.seq) ⊎ IsAnnouncedBefore e f)
 
--- behind an announced call of a caller come only later ones of it, so it isn't run again
+-- after an announced call of a caller come only later ones of it, so it isn't run again
 abbrev pub ComesLater : Entry → Entry → Type 0
 ComesLater e f = e.caller ≡ f.caller → IsTrue e.announced → e.index < f.index
 
--- its sequence is one from s to t, and above that of s where it was announced
+-- its sequence is one from s to t, and above that of s if it was announced
 abbrev pub IsBetween : (s t : Start) → Entry → Type 0
 IsBetween s t e = (s.seq ≤ e.seq) × (e.seq ≤ t.seq) × (IsTrue e.announced → s.seq < e.seq)
 
@@ -63,7 +63,7 @@ abbrev pub UnannouncedOnlyReads : Life → Entry → Type 0
 UnannouncedOnlyReads l e =
     e.announced ≡ false → All (λ i. IsTrue (reads_only i)) (script_of_entry l.plan e)
 
--- so it is with each entry of a life
+-- this holds of each entry of a life
 abbrev pub HasReads : Start → Life → Type 0
 HasReads s l = All (UnannouncedOnlyReads l) l.report.entries
 
@@ -78,28 +78,28 @@ pub record AreOneHistory (s : Start) (ls : List Life) : Type 0 where
   -- serial replay of all lives in order gives all replies, each at its place, and the last store
   pub replies : map (λ e. e.reply) (entries_in ls) ≡ replies_in_order s.store (life_scripts ls)
   pub final_store : (start_behind_all s ls).store ≡ last_store s.store (life_scripts ls)
-  -- entries stand by sequence; each one above the start's, up to the last, has an announced entry
+  -- entries are by sequence; each one above the start's, up to the last, has an announced entry
   pub order : AllPairs ComesBefore (entries_in ls)
   pub sequences : All (IsBetween s (start_behind_all s ls)) (entries_in ls)
   pub from_start : s.seq ≤ (start_behind_all s ls).seq
   pub none_left_out :
       (k : ℕ) → s.seq < k → k ≤ (start_behind_all s ls).seq
       → Any (IsAnnouncedAt k) (entries_in ls)
-  -- each announced call stands once, in its caller's order
+  -- each announced call is there once, in its caller's order
   pub once : AllPairs ComesLater (entries_in ls)
-  -- none stands there that was done at the start, and each from there to the last that is done does
+  -- no call is there that was done at the start, and each from there to the last that is done is
   pub behind_start : All (IsBehind s) (entries_in ls)
   pub all_done :
       (c x : ℕ) → finished_of s c ≤ x → x < finished_of (start_behind_all s ls) c
       → Any (IsCall c x) (entries_in ls)
   -- all are of callers that are known in the end
   pub known : All (IsKnownTo (start_behind_all s ls)) (entries_in ls)
-  -- a caller's ticket is that of its last announced call, or the start's where it has none
+  -- a caller's ticket is that of its last announced call, or the start's if it has none
   pub tickets :
       (c : ℕ)
       → finished_of (start_behind_all s ls) c ≡ done_behind (finished_of s c) (own_in ls c)
-  -- what wasn't announced, and has no announced call of its caller behind it, isn't done:
-  -- so the next life begins its caller with it, or with one before it
+  -- what wasn't announced, and has no announced call of its caller after it, isn't done: so the
+  -- next life begins its caller with it, or with one before it
   pub not_done :
       (es fs : List Entry) (e : Entry) → entries_in ls ≡ es ++ e ∷ fs
       → NoneAnnouncedOf e.caller (e ∷ fs) → finished_of (start_behind_all s ls) e.caller ≤ e.index
@@ -120,28 +120,28 @@ abbrev pub own_in_spans : List (List Life) → ℕ → List Entry
 own_in_spans spans c = filter (λ e. e.caller == c) (entries_of_spans spans)
 
 -- The entries of all spans together are one history from the first start, though each span has
--- sequences of its own. So whoever renumbers between two lives loses nothing and runs nothing twice
+-- sequences of its own. So renumbering between two lives loses nothing and runs nothing twice
 pub record AreOneHistoryInSpans (s : Start) (spans : List (List Life)) : Type 0 where
   -- serial replay of all lives in order gives all replies, each at its place, and the last store
   pub replies : map (λ e. e.reply) (entries_of_spans spans)
       ≡ replies_in_order s.store (scripts_of_spans spans)
   pub final_store : (start_behind_spans s spans).store
       ≡ last_store s.store (scripts_of_spans spans)
-  -- each announced call stands once, in its caller's order
+  -- each announced call is there once, in its caller's order
   pub once : AllPairs ComesLater (entries_of_spans spans)
-  -- none stands there that was done at the start, and each from there to the last that is done does
+  -- no call is there that was done at the start, and each from there to the last that is done is
   pub behind_start : All (IsBehind s) (entries_of_spans spans)
   pub all_done :
       (c x : ℕ) → finished_of s c ≤ x → x < finished_of (start_behind_spans s spans) c
       → Any (IsCall c x) (entries_of_spans spans)
   -- all are of callers that are known in the end
   pub known : All (IsKnownTo (start_behind_spans s spans)) (entries_of_spans spans)
-  -- a caller's ticket is that of its last announced call, or the start's where it has none
+  -- a caller's ticket is that of its last announced call, or the start's if it has none
   pub tickets :
       (c : ℕ)
       → finished_of (start_behind_spans s spans) c
       ≡ done_behind (finished_of s c) (own_in_spans spans c)
-  -- what wasn't announced, and has no announced call of its caller behind it, isn't done
+  -- what wasn't announced, and has no announced call of its caller after it, isn't done
   pub not_done :
       (es fs : List Entry) (e : Entry) → entries_of_spans spans ≡ es ++ e ∷ fs
       → NoneAnnouncedOf e.caller (e ∷ fs)
@@ -149,11 +149,11 @@ pub record AreOneHistoryInSpans (s : Start) (spans : List (List Life)) : Type 0 
   -- and the lives of each span are one history by their sequences too
   pub each : EachSpan AreOneHistory s spans
 
--- so it is for every list of spans, from every start
+-- this holds for every list of spans, from every start
 abbrev pub SpansAreOneHistory : Type 0
 SpansAreOneHistory =
     (s : Start) (spans : List (List Life)) → AreSpans s spans → AreOneHistoryInSpans s spans
 
--- so it is for every list of lives, from every start
+-- this holds for every list of lives, from every start
 abbrev pub LivesAreOneHistory : Type 0
 LivesAreOneHistory = (s : Start) (ls : List Life) → AreLives s ls → AreOneHistory s ls

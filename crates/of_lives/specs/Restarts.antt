@@ -1,5 +1,5 @@
 -- A life leaves where the next one begins: what recovery makes of the durable words of its run is a
--- row from which a table may start, at the start behind the life.
+-- row from which a table may start, at the start after the life.
 use Rattle.std.specs.Prelude.{List, ℕ, ◌<◌}
 use Rattle.of_recover.specs.Recovered.{recovered_words}
 use Rattle.of_eval.specs.Record.{plan_data_cells, IsLawfulRecord}
@@ -20,16 +20,16 @@ start_from_row p row = start_from_durable p.callers (plan_data_cells p) row
 
 -- a life with this report, from this start, has left this durable row
 pub record LeavesRow (p : Plan) (s : Start) (r : Report) (found : List ℕ) : Type 0 where
-  -- a table may start from it, behind the life
+  -- a table may start from it, at the start after the life
   pub row : IsStartRow (plan_setup p) (IsLawfulFor p) found
   pub start : StartsAtPlan p (start_behind s (record { plan = p; report = r }))
       (start_from_row p found)
-  -- and each caller's own cells hold its last announced call, with the reply that the report tells
+  -- and each caller's own cells hold its last announced call, with the reply that is in the report
   pub last_calls : (c : ℕ) → c < p.callers
       → HoldsLastAnnounced (start_number (start_from_row p found)) c (finished_of s c)
       (entries_of r c)
 
--- so it is of what recovery makes of the durable words of each run of a plan from a start
+-- this holds of what recovery makes of the durable words of each run of a plan from a start
 abbrev pub LivesRestart : Type 0
 LivesRestart =
     (p : Plan) (s : Start) (B : TableStart) (w : Moment) (e : Ended) → IsRunOfPlan p s B w e

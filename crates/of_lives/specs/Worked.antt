@@ -24,7 +24,7 @@ one_more_script = record two_callers {
       ∷ ((Load 0 ∷ []) ∷ (Add 0 1 ∷ []) ∷ (Add 0 1 ∷ []) ∷ []) ∷ [];
 }
 
--- the line of a caller that is done, with so many calls
+-- the line of a caller that is done, with this many calls
 abbrev pub done_with : (calls longest : ℕ) → Line
 done_with calls longest = record {
   state = done;
@@ -49,7 +49,7 @@ adds x k v reads line = record {
 abbrev pub adds_and_reads : (x k v : ℕ) → Life
 adds_and_reads x k v = adds x k v (worked_entry k 0 1 false (Some v) ∷ []) (done_with 1 60)
 
--- the second life goes on behind the announced calls: with the third script of the second caller
+-- the second life goes on after the announced calls: with the third script of the second caller
 abbrev pub second_life : Life
 second_life = adds_and_reads 2 2 7
 
@@ -65,7 +65,7 @@ asked_by c = map (λ e. e.index) (own_in both_lives c)
 abbrev pub replies_to : (caller : ℕ) → List Reply
 replies_to c = map (λ e. e.reply) (own_in both_lives c)
 
--- how many scripts of each caller are done behind both
+-- how many scripts of each caller are done after both
 abbrev pub done_in_both : List ℕ
 done_in_both = (start_behind_all worked_start both_lives).finished
 
@@ -77,11 +77,11 @@ one_number_reply v = Answered (v ∷ [])
 abbrev pub runs_again : Life
 runs_again = adds_and_reads 1 2 7
 
--- it begins at sequence 0 again
+-- a life that begins at sequence 0 again
 abbrev pub begins_anew : Life
 begins_anew = adds_and_reads 2 1 7
 
--- it begins with an empty store
+-- a life that begins with an empty store
 abbrev pub forgets_store : Life
 forgets_store = adds_and_reads 2 2 1
 

@@ -9,7 +9,7 @@ ghost use Rattle.of_lives.specs.Worked.{FollowsFirst, FollowsRenumbered, second_
 use of_caller::laws::runs_restart;
 use of_plan::laws::worked_reports;
 
-/// The entries of any number of lives are one history together, where each life has a report that
+/// The entries of any number of lives are one history together, if each life has a report that
 /// is legal from where the one before has left: serial replay of them all gives all replies and the
 /// last store, each announced call stands once, in its caller's order, and a read that was not
 /// announced leaves no ticket, so a later life may ask for it again.
@@ -17,9 +17,9 @@ pub fn any_lives()
     ensures { LivesAreOneHistory }
 {}
 
-/// So it is if sequences begin anew between lives, as `renumber` has it: replay gives all replies and
-/// the last store, no announced call is run again, and each that is done is there. Sequences order
-/// the entries of the lives between two such places.
+/// Lives are one history also if sequences begin anew between them, as `renumber` does it: replay
+/// gives all replies and the last store, no announced call is run again, and each that is done is
+/// there. Sequences order the entries of the lives between two renumberings.
 pub fn renumbered_lives()
     ensures { SpansAreOneHistory }
 {}
@@ -31,8 +31,8 @@ pub fn renumbered_images_start()
 {}
 
 /// A life leaves where the next one begins: from what recovery makes of the durable words of its
-/// run a table may start, and it starts behind the life, at its sequence and its store and with
-/// each caller behind its last announced call.
+/// run a table may start. It starts after the life, at its sequence and its store, with each caller
+/// after its last announced call.
 pub fn lives_restart()
     ensures { LivesRestart }
 {

@@ -32,7 +32,7 @@ pub struct Life {
     pub pass: Pass,
 }
 
-/// Goes on from an image: runs all callers of the plan at once, each with its scripts from behind
+/// Goes on from an image: runs all callers of the plan at once, each from its first script after
 /// its ticket on, over a table that starts from the image's row. No script that was announced
 /// before is run again. The brake of a caller is the one at its place; it is armed with the plan's
 /// stop.

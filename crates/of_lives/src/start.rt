@@ -40,8 +40,8 @@ pub fn fits(image: &Image, plan: &Plan) -> bool
         && has_scripts(image, plan)
 }
 
-/// The ticket of a caller's last announced call and the reply to it, also where the caller was
-/// stopped before it was answered: no later life runs it again. None where no call of the caller
+/// The ticket of a caller's last announced call and the reply to it, also if the caller was
+/// stopped before it was answered: no later life runs it again. None if no call of the caller
 /// was announced.
 pub fn last_reply(image: &Image, caller: u32) -> Option<(u32, Reply)>
     requires image { IsImage MOST_INSTRS image.now }

@@ -17,7 +17,7 @@ IsPair key v = IsNumber key × IsNumber v
 abbrev pub with_put : CellStore → ℕ → ℕ → CellStore
 with_put s key v = record s { map = fin.insert s.map key v }
 
--- what was there before; full for a new key where there is no room
+-- what was there before; full for a new key if there is no room
 abbrev pub put_answer : Option ℕ → Bool → Put
 put_answer (Some w) room = Over w
 put_answer None true = New
@@ -28,7 +28,7 @@ put_store s key v (Some w) room = with_put s key v
 put_store s key v None true = with_put s key v
 put_store s key v None false = s
 
--- what a put answers, in a store with so many blocks
+-- what a put answers, in a store with this many blocks
 abbrev pub answer_of_put : ℕ → ℕ → CellStore → Put
 answer_of_put blocks key s = put_answer (fin.get s.map key) (ltb (thing_count s) blocks)
 

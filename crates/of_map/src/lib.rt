@@ -19,7 +19,7 @@ use crate::answers::{Look, Position};
 pub use answers::Put;
 use of_mem::{Need, Part, Plot, Walk};
 
-// Where the block of a key stands, None where the key is absent.
+// Where the block of a key stands, None if the key is absent.
 fn seek(plot: &Plot, part: &mut Part, key: u32) -> Result<Option<Position>, Need>
     requires { HasBucketChain plot.now part.old key }
     ensures part { part.new ≡ part.old }
@@ -76,7 +76,7 @@ pub fn reach(plot: &Plot, part: &mut Part, key: u32) -> Result<(), Need>
     Ok(())
 }
 
-/// The value at a key, None where the key is absent. The error names a cell that is read and isn't
+/// The value at a key, None if the key is absent. The error names a cell that is read and isn't
 /// known.
 #[tactic(auto, using(of_mem::proofs::Runs::run_then_needs))]
 pub fn get(plot: &Plot, part: &mut Part, key: u32) -> Result<Option<u32>, Need>
@@ -101,7 +101,7 @@ fn read_value(plot: &Plot, part: &Part, block: u32) -> Result<Option<u32>, Need>
     Ok(Some(value))
 }
 
-/// Puts a value at a key, and answers what was there before. `Full` comes exactly where the key is
+/// Puts a value at a key, and answers what was there before. `Full` comes exactly if the key is
 /// absent and no block is free, and then nothing is written. The error names a cell that is read
 /// and isn't known.
 #[tactic(auto, using(of_mem::proofs::Runs::run_then_needs))]
@@ -130,7 +130,7 @@ fn change(plot: &Plot, part: &mut Part, block: u32, value: u32) -> Result<Put, N
     Ok(Put::Over(before))
 }
 
-// Puts a value at a key that is absent, where a block is free.
+// Puts a value at a key that is absent, if a block is free.
 #[tactic(auto, using(of_mem::proofs::Runs::run_then_needs))]
 fn insert(plot: &Plot, part: &mut Part, key: u32, value: u32) -> Result<Put, Need>
     requires { HasStore plot.now part.old }
@@ -160,7 +160,7 @@ fn fill(plot: &Plot, part: &mut Part, key: u32, value: u32, block: u32) -> Resul
     Ok(Put::New)
 }
 
-/// Deletes a key, and answers its value, None where the key was absent. The error names a cell that
+/// Deletes a key, and answers its value, None if the key was absent. The error names a cell that
 /// is read and isn't known.
 #[tactic(auto, using(of_mem::proofs::Runs::run_then_needs))]
 pub fn del(plot: &Plot, part: &mut Part, key: u32) -> Result<Option<u32>, Need>
@@ -207,7 +207,7 @@ fn count_down(plot: &Plot, part: &mut Part, value: u32) -> Result<Option<u32>, N
     Ok(Some(value))
 }
 
-/// The number of keys. The error names the cell that counts them where it isn't known.
+/// The number of keys. The error names the cell that counts them if it isn't known.
 pub fn count(plot: &Plot, part: &Part) -> Result<u32, Need>
     requires { HasStore plot.now part.now }
     ensures runs { RunsProgram (count plot.now) part.now part.now result }

@@ -7,12 +7,12 @@ abbrev pub value_for : List (ℕ × ℕ) → ℕ → Option ℕ
 value_for [] a = None
 value_for (e ∷ es) a = if e.0 == a then Some e.1 else value_for es a
 
--- the number changes in its place where the address is there, and else the pair comes last
+-- the number changes in its place if the address is there; otherwise the pair comes last
 abbrev pub put_pair : List (ℕ × ℕ) → ℕ → ℕ → List (ℕ × ℕ)
 put_pair [] a v = (a, v) ∷ []
 put_pair (e ∷ es) a v = if e.0 == a then (a, v) ∷ es else e ∷ put_pair es a v
 
--- a pair comes last where no place was found
+-- a pair comes last if no place was found
 abbrev pub with_last_pair : List (ℕ × ℕ) → ℕ → ℕ → Option ℕ → List (ℕ × ℕ)
 with_last_pair es a v None = es ++ (a, v) ∷ []
 with_last_pair es a v (Some place) = es

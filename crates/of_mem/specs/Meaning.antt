@@ -8,18 +8,18 @@ use Rattle.std.proofs.Common.{get_or, set, drop}
 use Rattle.of_mem.specs.declared.part.Need.{Need}
 use Rattle.of_mem.specs.declared.work.RawReply.{RawReply}
 
--- how a run on known cells ends: at a cell that it needs and that isn't known, or with its writes
--- in order of first writing and its reply
+-- how a run on known cells ends: it needs a cell that isn't known, or it has its writes, in order
+-- of first writing, and its reply
 pub data WalkEnd : Type 0 where
   Needs : ℕ → WalkEnd
   Gives : List (ℕ × ℕ) → RawReply → WalkEnd
 
--- all that steps compute with; which lists are lawful is a member of its own
+-- what steps compute with; which lists of cells are lawful is said elsewhere
 pub record Meaning : Type 0 where
   -- the cells after an operation, and its reply
   pub cells : List ℕ → List ℕ → List ℕ
   pub reply : List ℕ → List ℕ → RawReply
-  -- from what is known of each cell
+  -- how a run goes, from what is known of each cell
   pub walk : List (Option ℕ) → List ℕ → WalkEnd
   -- the operations that are known to write nothing
   pub reads_only : List ℕ → Bool
@@ -37,15 +37,15 @@ Agrees known xs = (a v : ℕ) → get_or known a None ≡ Some v → get_or xs a
 abbrev pub KnowsSome : (List ℕ → Type 0) → ℕ → List (Option ℕ) → Type 0
 KnowsSome lawful size known = (xs : List ℕ) × (length xs ≡ size) × lawful xs × Agrees known xs
 
--- the run went as the walk on these known cells: it gave the walk's writes and reply, or named the
--- cell that the walk needs, with no writes and the reply as before
+-- the run went as the walk on these known cells: it gave the walk's writes and reply, or it named
+-- the cell that the walk needs, with no writes and the reply as before
 abbrev pub RunsAsWalked : Meaning → List (Option ℕ) → List ℕ → Result (Unit {0}) Need
     → List (ℕ × ℕ) → RawReply → RawReply → Type 0
 RunsAsWalked M known op result script before after =
     MatchResult result (λ _. M.walk known op ≡ Gives script after)
     (λ need. (M.walk known op ≡ Needs need.addr) × (script ≡ []) × (after ≡ before))
 
--- alike from the cell on where the operations' own cells begin
+-- the lists are the same from the operations' first own cell on
 abbrev pub SameFrom : ℕ → List ℕ → List ℕ → Type 0
 SameFrom base xs ys = drop base xs ≡ drop base ys
 
@@ -53,13 +53,13 @@ SameFrom base xs ys = drop base xs ≡ drop base ys
 unfoldable pub is_marked : ℕ → ℕ → Bool
 is_marked shape j = shape / 2 ^ j % 2 == 1
 
--- no cell stands twice in it
+-- no cell is in it twice
 abbrev pub HasDistinctCells : List (ℕ × ℕ) → Type 0
 HasDistinctCells es =
     (j k : ℕ) → j < length es → k < length es
     → (get_or es j (0, 0)).0 ≡ (get_or es k (0, 0)).0 → j ≡ k
 
--- what a finished walk says is so of the list
+-- the result of a finished walk is true of the list
 pub record IsFinishedWalk (M : Meaning) (base size : ℕ) (xs op : List ℕ) (es : List (ℕ × ℕ))
     (r : RawReply) : Type 0 where
   pub inside : All (λ (e : ℕ × ℕ). (base ≤ e.0) × (e.0 < size) × FitsCell e.1) es
@@ -73,17 +73,17 @@ pub record IsFinishedWalk (M : Meaning) (base size : ℕ) (xs op : List ℕ) (es
   -- a number is marked only for an instruction of a script that wasn't aborted
   pub marks : (j : ℕ) → j < MOST_INSTRS → is_marked r.shape j ≡ true
       → (r.shape < LEAST_ABORT) × (j < length op) × (j < length r.values)
-  -- 0 stands where none is marked
+  -- the numbers that are not marked are 0
   pub rest : (j : ℕ) → j < MOST_INSTRS → is_marked r.shape j ≡ false → get_or r.values j 0 ≡ 0
   -- an operation that only reads writes nothing
   pub reads : M.reads_only op ≡ true → es ≡ []
 
--- what a walk says is so of a list with which the known cells agree
+-- the result of a walk is true of each list with which the known cells agree
 abbrev pub WalkFits : Meaning → ℕ → ℕ → List (Option ℕ) → List ℕ → List ℕ → WalkEnd → Type 0
 WalkFits M base size known xs op (Needs a) = (base ≤ a) × (a < size) × (get_or known a None ≡ None)
 WalkFits M base size known xs op (Gives es r) = IsFinishedWalk M base size xs op es r
 
--- there are as many callers as there may be, and the cells have room for what belongs to them
+-- there are one to the most callers, and the cells have room for those that are callers' own
 pub record HasRoom (many size : ℕ) : Type 0 where
   pub some : 1 ≤ many
   pub few : many ≤ MOST_CALLERS

@@ -5,7 +5,7 @@ use Rattle.of_mem.specs.Part.{Part, newest_at}
 use Rattle.of_mem.specs.TouchedCells.{TouchedCells}
 use Rattle.of_mem.specs.WriteSet.{WriteSet}
 
--- at each address stands what the cell holds, as far as it is known
+-- the number at each address is what the cell holds, as far as it is known
 pub record HasNewest (p : Part) (cells : List (Option ℕ)) : Type 0 where
   pub size : length cells ≡ length p.known
   pub at : (a : ℕ) → a < length p.known → get_or cells a None ≡ newest_at p a

@@ -5,13 +5,13 @@ use Rattle.std.proofs.Common.{get_or, set, replicate}
 use Rattle.of_mem.specs.declared.part.Need.{Need}
 use Rattle.of_mem.specs.CellMap.{value_for, put_pair, put_all}
 
--- the writes of batch and script stand in order of first writing
+-- the writes of batch and script are in order of first writing
 pub record Part : Type 0 where
   pub known : List (Option ℕ)
   pub batch : List (ℕ × ℕ)
   pub script : List (ℕ × ℕ)
 
--- no cell of so many is known, and nothing is written
+-- a part of a memory of n cells: none of them is known, and nothing is written
 abbrev pub empty_part : ℕ → Part
 empty_part n = record { known = replicate n None; batch = []; script = [] }
 
@@ -19,7 +19,7 @@ empty_part n = record { known = replicate n None; batch = []; script = [] }
 abbrev pub keep : Part → Part
 keep p = record p { batch = put_all p.batch p.script; script = [] }
 
--- the newer of two numbers, where there is one
+-- the newer of two numbers, if there is one
 abbrev pub newer_of : Option ℕ → Option ℕ → Option ℕ
 newer_of None old = old
 newer_of (Some v) old = Some v
@@ -37,7 +37,7 @@ learn p a v = record p { known = set p.known a (Some v) }
 unfoldable pub write : Part → ℕ → ℕ → Part
 write p a v = record p { script = put_pair p.script a v }
 
--- the read gave the number that the cell holds, or named the cell where none is known
+-- the read gave the number that the cell holds, or named the cell if none is known
 abbrev pub ReadsAt : Part → ℕ → Result ℕ Need → Type 0
 ReadsAt p a result =
     MatchResult result (λ v. newest_at p a ≡ Some v)
@@ -47,12 +47,12 @@ ReadsAt p a result =
 abbrev pub Extends : List (Option ℕ) → List (Option ℕ) → Type 0
 Extends more known = (a v : ℕ) → get_or known a None ≡ Some v → get_or more a None ≡ Some v
 
--- what is seen of a memory whose script's writes are undone, or not
+-- what is seen of a memory, with the script's writes undone or not
 abbrev pub visible : Bool → Part → Part
 visible true p = record p { script = [] }
 visible false p = p
 
--- the same memory where this is known
+-- the same memory, with these cells known
 abbrev pub with_known : List (Option ℕ) → Part → Part
 with_known more p = record p { known = more }
 

@@ -1,8 +1,8 @@
--- Where each data cell stands: o is the first cell behind those of the callers.
+-- The place of each data cell. o is the first cell after those of the callers.
 use Rattle.std.specs.Prelude.{ℕ, ◌+◌, ◌-◌, ◌*◌, ◌/◌, if◌then◌else◌, nat_le}
 use Rattle.of_mem.specs.declared.plot.TheConstants.{FEW_BLOCKS, BUCKETS, FRESH, FREE, KEYS, FIRST_BUCKET, FIRST_QUEUE, FIRST_BLOCK}
 
--- the first cell behind the cells of the callers
+-- the first cell after the cells of the callers
 abbrev pub base_of : ℕ → ℕ → ℕ
 base_of callers instrs = callers * (instrs + 2)
 
@@ -33,12 +33,12 @@ bucket_count blocks =
     if nat_le blocks FEW_BLOCKS then BUCKETS
     else (BUCKETS + (blocks - FEW_BLOCKS)) / 2 * 2 + 1
 
--- how far from o the buckets begin: with many blocks behind all other cells
+-- how far from o the buckets begin: with many blocks they come after all other cells
 unfoldable pub first_bucket : (blocks : ℕ) → ℕ
 first_bucket blocks =
     if nat_le blocks FEW_BLOCKS then FIRST_BUCKET else FIRST_BLOCK + 3 * blocks
 
--- how many buckets stand behind the blocks
+-- how many buckets come after the blocks
 unfoldable pub buckets_behind : (blocks : ℕ) → ℕ
 buckets_behind blocks = if nat_le blocks FEW_BLOCKS then 0 else bucket_count blocks
 

@@ -4,7 +4,7 @@ use Rattle.of_mem.specs.declared.plot.Plot.{Plot}
 use Rattle.of_mem.specs.declared.plot.TheConstants.{REGISTERS, QUEUES}
 use Rattle.of_mem.specs.Places.{base_of, cells_at, ticket_cell_at, shape_at, reply_at, register_at, fresh_at, free_at, keys_at, bucket_count, bucket_at, head_at, tail_at, length_at, block_at}
 
--- the first cell behind the cells of the callers
+-- the first cell after the cells of the callers
 abbrev pub base : Plot → ℕ
 base p = base_of p.callers p.instrs
 

@@ -6,8 +6,8 @@ use Rattle.of_mem.specs.Programs.{Program, Done, Read, Write, with_value, StaysB
 use Rattle.of_mem.specs.ProgramWork.{memory_of, meaning_of}
 use Rattle.of_mem.specs.Touching.{program_reads, ReadsAtMost, WritesAtMost}
 
--- The meaning is that of programs. On each lawful list of this size each uses only cells from low
--- on, makes so many reads at most, and so many writes at most.
+-- The meaning is that of programs. On each lawful list of this size each program uses only cells
+-- from `low` on, and makes at most `reads` reads and `writes` writes.
 pub record HasSmallPrograms (M : Meaning) (lawful : List ℕ → Type 0) (low size reads writes : ℕ)
     : Type 0 where
   pub keeps : RawReply → Bool
@@ -23,7 +23,7 @@ pub record HasSmallPrograms (M : Meaning) (lawful : List ℕ → Type 0) (low si
 
 -- A work cites these two as its laws, and an impl may cite specs/ alone.
 
--- what makes so many reads at most on every memory, whatever it reads, does so on each
+-- a program that makes at most n reads on every memory, whatever it reads, does so on this one
 pub few_reads : {A : Type 0} (n : ℕ) (f : Program A) (m : ℕ → ℕ) → ReadsAtMost n f
     → length (program_reads f m) ≤ n
 few_reads n (Done r) m h = omega arith
@@ -33,7 +33,7 @@ few_reads (suc n) (Read a k) m h =
     omega (arith, rest)
 few_reads n (Write a v f) m h = few_reads n f (with_value m a v) h
 
--- and so of writes
+-- a program that makes at most n writes on every memory does so on this one
 pub few_writes : {A : Type 0} (n : ℕ) (f : Program A) (m : ℕ → ℕ) → WritesAtMost n f
     → length (program_writes f m) ≤ n
 few_writes n (Done r) m h = omega arith

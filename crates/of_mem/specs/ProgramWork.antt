@@ -22,8 +22,8 @@ abbrev pub walk_of_run : (RawReply → Bool) → RunEnd RawReply → WalkEnd
 walk_of_run keeps (Lacks a) = Needs a
 walk_of_run keeps (Ends r q) = Gives (cond (keeps r) q.script []) r
 
--- what operations do that are programs; keeps says which replies are a success, reads which
--- operations are known to write nothing
+-- What operations do that are programs. `keeps` says which replies are a success, and `reads` which
+-- operations are known to write nothing.
 abbrev pub meaning_of : (RawReply → Bool) → (List ℕ → Bool) → (List ℕ → Program RawReply) → Meaning
 meaning_of keeps reads program = record {
   cells = λ xs op. cond (keeps (program_answer (program op) (memory_of xs)))

@@ -22,7 +22,7 @@ pub data RunEnd (A : Type 0) : Type 0 where
   Lacks : ℕ → RunEnd A
   Ends : A → Part → RunEnd A
 
--- goes on with the number of a cell, where there is one
+-- goes on with the number of a cell, if there is one
 abbrev pub with_number : {A : Type 0} → Option ℕ → ℕ → (ℕ → RunEnd A) → RunEnd A
 with_number None a k = Lacks a
 with_number (Some v) a k = k v
@@ -33,11 +33,11 @@ run_program (Done r) p = Ends r p
 run_program (Read a k) p = with_number (newest_at p a) a (λ v. run_program (k v) p)
 run_program (Write a v f) p = run_program f (write p a v)
 
--- the call answers r where its program does, and leaves this partial memory
+-- the call answers r if its program does, and leaves this partial memory
 abbrev pub RunsAs : {A : Type 0} → Program A → Part → A → Part → Type 0
 RunsAs f p r q = run_program f p ≡ Ends r q
 
--- the call names the cell that its program lacks
+-- the call names the cell that its program needs
 abbrev pub NeedsAt : {A : Type 0} → Program A → Part → ℕ → Type 0
 NeedsAt f p a = run_program f p ≡ Lacks a
 
@@ -67,7 +67,7 @@ program_writes (Done r) m = []
 program_writes (Read a k) m = program_writes (k (m a)) m
 program_writes (Write a v f) m = (a, v) ∷ program_writes f (with_value m a v)
 
--- on this memory each cell that it reads or writes lies between the two, and each number that it
+-- on this memory each cell that it reads or writes is between the two, and each number that it
 -- writes is a word
 abbrev pub StaysBetween : {A : Type 0} → ℕ → ℕ → Program A → (ℕ → ℕ) → Type 0
 StaysBetween low size (Done r) m = Unit {0}
@@ -75,13 +75,13 @@ StaysBetween low size (Read a k) m = (low ≤ a) × (a < size) × StaysBetween l
 StaysBetween low size (Write a v f) m =
     (low ≤ a) × (a < size) × FitsCell v × StaysBetween low size f (with_value m a v)
 
--- on every memory it reads and writes no cell before this one
+-- on every memory it reads and writes no cell below this one
 abbrev pub StaysFrom : {A : Type 0} → ℕ → Program A → Type 0
 StaysFrom low (Done r) = Unit {0}
 StaysFrom low (Read a k) = (low ≤ a) × ((v : ℕ) → StaysFrom low (k v))
 StaysFrom low (Write a v f) = (low ≤ a) × StaysFrom low f
 
--- on every memory its answer is such a one
+-- P holds of its answer on every memory
 abbrev pub AlwaysYields : {A : Type 0} → (A → Type 0) → Program A → Type 0
 AlwaysYields P (Done r) = P r
 AlwaysYields P (Read a k) = (v : ℕ) → AlwaysYields P (k v)

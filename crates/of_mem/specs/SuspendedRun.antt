@@ -7,7 +7,7 @@ pub record SuspendedRun : Type 0 where
   -- the work's own numbers
   pub callers : ℕ
   pub blocks : ℕ
-  -- the operation; no words where nothing is kept
+  -- the operation; no words if nothing is kept
   pub words : List ℕ
   -- how many of the first words have run, what each of the places answered, and what they wrote
   pub done : ℕ
@@ -15,7 +15,7 @@ pub record SuspendedRun : Type 0 where
   pub writes : List (ℕ × ℕ)
   -- cells are below it
   pub room : ℕ
-  -- the key that the next word looks for before all else, where that was kept
+  -- the key that the next word looks for before all else, if that was kept
   pub sought : Option ℕ
 
 -- an operation of which nothing has run

@@ -8,11 +8,11 @@ pub record TouchedCells : Type 0 where
   -- what each cell holds
   pub newest : List (Option ℕ)
 
--- so many cells of which none has a number
+-- this many cells, of which none has a number
 abbrev pub no_cells : ℕ → TouchedCells
 no_cells n = record { known = replicate n None; newest = replicate n None }
 
--- what so many cells have, if these were set and no others: a part of what is held for each
+-- what the first n cells hold, if these were set and no others: a part of what is held for each
 abbrev pub slots_of : (Option ℕ × Option ℕ → Option ℕ) → ℕ → List (ℕ × ℕ)
     → List (Option ℕ × Option ℕ) → List (Option ℕ)
 slots_of part n [] hs = replicate n None

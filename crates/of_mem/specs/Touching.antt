@@ -6,15 +6,15 @@ use Rattle.of_mem.specs.declared.work.RawReply.{RawReply}
 use Rattle.of_mem.specs.Meaning.{Meaning, Needs, Gives, Agrees}
 use Rattle.of_mem.specs.Programs.{Program, Done, Read, Write, with_value}
 
--- On this list the operation needs none but these cells, whatever else is known, and it writes so
--- many cells at most.
+-- On this list the operation needs only these cells, whatever else is known, and it writes at most
+-- `writes` cells.
 pub record StaysWithin (M : Meaning) (xs op cells : List ℕ) (writes : ℕ) : Type 0 where
   pub needs : (known : List (Option ℕ)) (a : ℕ) → Agrees known xs → M.walk known op ≡ Needs a
       → Contains cells a
   pub gives : (known : List (Option ℕ)) (es : List (ℕ × ℕ)) (reply : RawReply) → Agrees known xs
       → M.walk known op ≡ Gives es reply → length es ≤ writes
 
--- on each lawful list each operation reads so many cells at most, and writes so many at most
+-- on each lawful list each operation reads at most `reads` cells, and writes at most `writes`
 abbrev pub TouchesFew : Meaning → (lawful : List ℕ → Type 0) → (size reads writes : ℕ) → Type 0
 TouchesFew M lawful size reads writes =
     (xs op : List ℕ) → length xs ≡ size → lawful xs → length op ≤ MOST_INSTRS
@@ -28,14 +28,14 @@ program_reads (Done r) m = []
 program_reads (Read a k) m = a ∷ program_reads (k (m a)) m
 program_reads (Write a v f) m = program_reads f (with_value m a v)
 
--- on every memory, whatever it reads, it makes at most so many reads
+-- on every memory, whatever it reads, it makes at most n reads
 abbrev pub ReadsAtMost : {A : Type 0} → ℕ → Program A → Type 0
 ReadsAtMost n (Done r) = Unit {0}
 ReadsAtMost zero (Read a k) = ⊥
 ReadsAtMost (suc n) (Read a k) = (v : ℕ) → ReadsAtMost n (k v)
 ReadsAtMost n (Write a v f) = ReadsAtMost n f
 
--- and at most so many writes
+-- and at most n writes
 abbrev pub WritesAtMost : {A : Type 0} → ℕ → Program A → Type 0
 WritesAtMost n (Done r) = Unit {0}
 WritesAtMost n (Read a k) = (v : ℕ) → WritesAtMost n (k v)

@@ -34,8 +34,8 @@ pub fn numbers(plot: Plot)
     ensures cells { data_cell_count plot ≤ MOST_DATA_CELLS }
 {}
 
-/// A work of programs that make at most so many reads and writes needs at most so many cells for an
-/// operation, and writes at most so many.
+/// A work of programs that make at most `reads` reads and `writes` writes needs at most as many
+/// cells for an operation, and writes at most as many.
 pub fn programs_touch_few<W: Work>(work: W, reads: u32, writes: u32)
     requires { HasSmallPrograms (W.meaning work) (W.lawful work)
         (W.many work * (MOST_INSTRS + 2)) (W.size work) reads writes }

@@ -16,11 +16,11 @@ pub const QUEUES: u32 = 4;
 /// The most blocks that it has.
 pub const MOST_BLOCKS: u32 = 16_777_216;
 
-// Up to how many blocks it has `BUCKETS` buckets, in front of the queues. A store with more blocks
-// has about a bucket for each, behind the blocks.
+// Up to this many blocks it has `BUCKETS` buckets, in front of the queues. A store with more blocks
+// has about a bucket for each, after the blocks.
 const FEW_BLOCKS: u32 = 512;
 
-// How far behind the callers' cells the store's parts begin: the registers first, then the cells
+// How far after the callers' cells the store's parts begin: the registers first, then the cells
 // that the allocator and the map count with.
 const FRESH: u32 = REGISTERS;
 
@@ -65,7 +65,7 @@ impl Plot {
         caller * (self.instrs + 2)
     }
 
-    /// The first cell behind those of the callers.
+    /// The first cell after those of the callers.
     pub fn base(&self) -> u32
         ensures value { result ≡ base self.now }
         ensures small { result ≤ MOST_CALLERS * (MOST_INSTRS + 2) }
@@ -100,7 +100,7 @@ impl Plot {
         }
     }
 
-    // How many buckets stand behind the blocks.
+    // How many buckets come after the blocks.
     #[tactic(auto, using(crate::proofs::BucketPlaces::few_behind, crate::proofs::BucketPlaces::many_behind))]
     fn buckets_behind(&self) -> u32
         ensures value { result ≡ buckets_behind self.now.blocks }

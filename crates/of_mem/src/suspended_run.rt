@@ -14,7 +14,7 @@ use std::marker::Model;
 /// What a work keeps of an operation whose run lacked a cell: the work's own numbers, the
 /// operation's words, how many of the first words have run, what these answered and wrote, and the
 /// key that the next word looks for before all else, if it does.
-/// There are no words where nothing is kept. Only `new` takes memory.
+/// There are no words if nothing is kept. Only `new` takes memory.
 #[derive(Drop)]
 pub struct SuspendedRun {
     callers: u32,
@@ -142,7 +142,7 @@ impl SuspendedRun {
         part.copy_script(&mut self.writes);
     }
 
-    /// The key that the next word looks for before all else, where that was kept.
+    /// The key that the next word looks for before all else, if that was kept.
     pub fn sought(&self) -> Option<u32>
         ensures { result ≡ self.now.sought }
     {

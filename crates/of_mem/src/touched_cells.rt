@@ -35,7 +35,7 @@ impl Model for TouchedCells {
 }
 
 impl TouchedCells {
-    /// Nothing for each of so many cells. The error is that there is no memory.
+    /// No number for any of `cells` cells. The error is that there is no memory.
     pub fn new(alloc: Global, cells: u32) -> Result<Self, AllocError>
         ensures { IfOk result (λ c. c ≡ no_cells cells) }
     {

@@ -27,7 +27,7 @@ pub const MOST_WRITES: u32 = 238;
 /// The least shape of a script that was aborted: the cause stands in the bits above it.
 pub const LEAST_ABORT: u32 = 1 << 26;
 
-/// A reply as cells hold it: its shape, and a number at each place, 0 where the shape marks none.
+/// A reply as cells hold it: its shape, and a number at each place, 0 if the shape marks none.
 #[derive(Clone, Copy, Debug, PartialEq, Eq)]
 pub struct RawReply {
     pub shape: u32,

@@ -53,7 +53,7 @@ impl<W: MaySuspend> Workspace<W> {
         &self.part
     }
 
-    /// Makes a cell's number known. What was kept is forgotten where it was known already.
+    /// Makes a cell's number known. What was kept is forgotten if it was known already.
     pub fn learn(&mut self, addr: u32, value: u32)
         requires { addr < length self.old.known }
         ensures { self.new ≡ learn self.old addr value }

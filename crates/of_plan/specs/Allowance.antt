@@ -1,4 +1,4 @@
--- How many steps a caller may make, and what a report tells of keeping to it.
+-- How many steps a caller may make, and what a report shows of it.
 use Rattle.std.specs.Prelude.{◌≡◌, ℕ, ◌+◌, ◌*◌, ◌≤◌, ◌<◌, List, length, take, sum_by, IfSome, Option, Some, All, ◌==◌, if◌then◌else◌}
 use Rattle.of_plan.specs.declared.plan.Item.{Item}
 use Rattle.of_plan.specs.declared.plan.Item.TheVariants.{Turns, Evict}
@@ -7,7 +7,7 @@ use Rattle.of_plan.specs.Report.{Entry, stopped, Report, entries_of, caller_line
 use Rattle.of_plan.specs.Legal.{script_of_entry}
 
 -- the least steps of an answered call: an announced one stores its words and the announcement, and
--- makes four loads at least; a read makes three
+-- makes at least four loads; a read makes three
 abbrev pub least_steps : Plan → Entry → ℕ
 least_steps p e = if e.announced then length (script_of_entry p e) + 5 else 3
 
@@ -15,14 +15,14 @@ least_steps p e = if e.announced then length (script_of_entry p e) + 5 else 3
 abbrev pub answered_of : Report → ℕ → List Entry
 answered_of r c = take (caller_line r c).answered (entries_of r c)
 
--- a caller's answered calls can be made with so many steps; None is without end
+-- a caller's answered calls can be made with this many steps; None is for no limit
 pub record KeepsAllowance (p : Plan) (r : Report) (c : ℕ) (allowance : Option ℕ) : Type 0 where
   -- the least steps of its answered calls add up to no more
   pub adds_up : IfSome allowance (λ n. sum_by (least_steps p) (answered_of r c) ≤ n)
   -- its longest call made no more, and no fewer than the least steps of each
   pub upto : IfSome allowance (λ n. (caller_line r c).longest ≤ n)
   pub least : All (λ e. least_steps p e ≤ (caller_line r c).longest) (answered_of r c)
-  -- where it is stopped, its answered calls and one that stays open have used the allowance up
+  -- if it is stopped, its answered calls and one that stays open have used the allowance up
   pub used_up : (caller_line r c).state ≡ stopped → (n : ℕ) × (allowance ≡ Some n)
       × (n < (caller_line r c).answered * (caller_line r c).longest + bound_of p)
 

@@ -9,7 +9,7 @@ pub record BeginsSomeText (Is : List ℕ → Type 0) (text : List ℕ) (j : ℕ)
   pub is : Is other
   pub same : take j (text_lines text) ≡ take j (text_lines other)
 
--- the first line with which no text of the set begins, or the last where the text only stops too
+-- the first line with which no text of the set begins, or the last if the text only stops too
 -- early
 pub record IsBadLine (Is : List ℕ → Type 0) (text : List ℕ) (j : ℕ) : Type 0 where
   pub first : 1 ≤ j

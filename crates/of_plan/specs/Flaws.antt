@@ -42,7 +42,7 @@ IsNumberFlaw (TooGreat n) most piece =
     (n ≡ most) × IsNumeral piece × (parsed_number most piece ≡ None)
 IsNumberFlaw _ most piece = ⊥
 
--- a byte of a line with so many lines above it that looks like nothing
+-- a byte of a line, with this many lines above it, that looks like nothing
 pub record IsHiddenByte (above : ℕ) (line : List ℕ) (b : HiddenByte) : Type 0 where
   pub order : b.start ≤ b.end
   pub within : b.end ≤ length line

@@ -11,11 +11,11 @@ use Rattle.of_plan.specs.Plan.{Plan}
 abbrev pub load_script : (caller index : ℕ) → List Instr
 load_script t i = Add (i % 16) 1 ∷ Put (31 * t + i % 31) i ∷ []
 
--- so many of them
+-- a caller's first `count` scripts
 abbrev pub load_scripts : (count caller : ℕ) → List (List Instr)
 load_scripts m t = map (load_script t) (range_with_len 0 m)
 
--- each caller has so many scripts, on as many blocks as a plan may have, and there is no stop and no
+-- each caller has this many scripts, on as many blocks as a plan may have; there is no stop and no
 -- schedule
 abbrev pub generated_plan : (callers scripts : ℕ) → Plan
 generated_plan n m = record {

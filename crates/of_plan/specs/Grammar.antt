@@ -23,7 +23,7 @@ pub record Heading : Type 0 where
   pub blocks : ℕ
   pub limit : Option ℕ
 
--- the line of the limit, where there is one
+-- the line of the limit, if there is one
 abbrev pub limit_lines : Option ℕ → List PlanLine
 limit_lines None = []
 limit_lines (Some x) = Limit x ∷ []
@@ -51,17 +51,17 @@ IsEntryInRange h (Stop c x) = (c < h.callers) × (x ≤ LATEST_STOP)
 IsEntryInRange h (Turns c x) = (c < h.callers) × (1 ≤ x)
 IsEntryInRange h (Evict a) = a < durable_cells h.callers (data_cells h.callers h.blocks)
 
--- the script of that caller, where the entry is one
+-- the script of that caller, if the entry is one
 abbrev pub script_in_entry : ℕ → BodyLine → Option (List Instr)
 script_in_entry c (Script d script) = if d == c then Some script else None
 script_in_entry c _ = None
 
--- the stop of that caller, where the entry is one
+-- the stop of that caller, if the entry is one
 abbrev pub stop_at : ℕ → BodyLine → Option ℕ
 stop_at c (Stop d x) = if d == c then Some x else None
 stop_at c _ = None
 
--- the item of the schedule, where the entry is one
+-- the item of the schedule, if the entry is one
 abbrev pub item_of : BodyLine → Option Item
 item_of (Turns c x) = Some (TurnsItem c x)
 item_of (Evict a) = Some (EvictItem a)
@@ -79,7 +79,7 @@ pub record AreEntries (h : Heading) (entries : List BodyLine) : Type 0 where
   pub few_turns : sum_by turns_of (filter_map item_of entries) ≤ MOST_TURNS
   pub one_stop : (c : ℕ) → length (filter_map (stop_at c) entries) ≤ 1
 
--- the first, where there is one
+-- the first, if there is one
 abbrev pub head_of : List ℕ → Option ℕ
 head_of [] = None
 head_of (x ∷ xs) = Some x
@@ -88,7 +88,7 @@ head_of (x ∷ xs) = Some x
 abbrev pub scripts_in : List BodyLine → ℕ → List (List Instr)
 scripts_in entries c = filter_map (script_in_entry c) entries
 
--- the stop of a caller, where an entry is one
+-- the stop of a caller, if an entry is one
 abbrev pub stop_in : List BodyLine → ℕ → Option ℕ
 stop_in entries c = head_of (filter_map (stop_at c) entries)
 

@@ -77,7 +77,7 @@ history_report p s h lines = record {
   store = h.stores h.last;
 }
 
--- a caller's line tells its entries, and how it ended
+-- a caller's line agrees with its entries, and with how it ended
 pub record FitsLine (p : Plan) (s : Start) (h : History) (c : ℕ) (l : Line) : Type 0 where
   pub entries : l.entries ≡ length (h.own c)
   pub open_call : HasOpenCall l.state l.answered l.entries

@@ -25,22 +25,22 @@ pub record StandInOrder (p : Plan) (s : Start) (r : Report) : Type 0 where
       ≡ range_with_len (finished_of s c) (length (entries_of r c))
   pub of_scripts : (c : ℕ) → c < p.callers → length (entries_of r c) ≤ scripts_left p s c
 
--- a stopped caller may have an entry more than answered calls, the open call's; any other has as
--- many
+-- a stopped caller may have one entry more than answered calls, for its open call; any other caller
+-- has as many entries as answered calls
 abbrev pub HasOpenCall : EndState → (answered entries : ℕ) → Type 0
 HasOpenCall done answered entries = entries ≡ answered
 HasOpenCall spent answered entries = entries ≡ answered
 HasOpenCall stopped answered entries = (answered ≤ entries) × (entries ≤ answered + 1)
 
--- each caller has a line with the number of its entries, and at most its open call goes beyond its
--- answered calls
+-- each caller has a line, with the number of its entries; at most one entry, that of an open call,
+-- goes beyond its answered calls
 pub record CountOpenCalls (p : Plan) (r : Report) : Type 0 where
   pub each_caller : length r.callers ≡ p.callers
   pub entries : (c : ℕ) → c < p.callers → (caller_line r c).entries ≡ length (entries_of r c)
   pub open_call : All (λ l. HasOpenCall l.state l.answered l.entries) r.callers
 
--- within a sequence: the announced entries before the reads, those by caller with at most one each,
--- these by caller and index
+-- the order within a sequence: announced entries come before reads; announced ones are ordered by
+-- caller, at most one each; reads by caller and index
 abbrev pub StandsBeforeWithin : (announced_first announced_second : Bool) → Entry → Entry → Type 0
 StandsBeforeWithin true true e f = e.caller < f.caller
 StandsBeforeWithin true false e f = Unit {0}
@@ -60,8 +60,8 @@ HasSequence p s e =
     MatchBool e.announced (s.seq < e.seq)
     ((s.seq ≤ e.seq) × All (λ i. IsTrue (reads_only i)) (script_of_entry p e))
 
--- the entries stand by sequence, and the announced ones have each sequence above the start's up to
--- the report's; so where there is none the report's is the start's
+-- the entries are ordered by sequence, and each sequence above the start's, up to the report's, has
+-- an announced one; if there is none, the report's sequence is the start's
 pub record StandBySequence (p : Plan) (s : Start) (r : Report) : Type 0 where
   pub order : AllPairs StandsBefore r.entries
   pub sequences : All (λ e. HasSequence p s e × (e.seq ≤ r.seq)) r.entries
@@ -78,18 +78,18 @@ RepliesAreSerial p s r =
 abbrev pub IsFinalStore : Plan → Start → Report → Type 0
 IsFinalStore p s r = r.store ≡ last_store s.store (map (script_of_entry p) r.entries)
 
--- a caller is done where it has answered all that it had to do; where it is spent, the limit is
--- reached
+-- a caller is done if it has answered all that it had to do; if it is spent, the sequence is at the
+-- limit
 abbrev pub HasEndState : EndState → (answered scripts_left seq limit : ℕ) → Type 0
 HasEndState done answered scripts_left seq limit = answered ≡ scripts_left
 HasEndState stopped answered scripts_left seq limit = answered < scripts_left
 HasEndState spent answered scripts_left seq limit = (answered < scripts_left) × (seq ≡ limit)
 
--- the longest answered call is within the step bound, and is 0 where none was answered
+-- the longest answered call is within the step bound; it is 0 if none was answered
 abbrev pub LineIsWithinBound : Plan → Line → Type 0
 LineIsWithinBound p l = (l.longest ≤ bound_of p) × (l.answered ≡ 0 → l.longest ≡ 0)
 
--- one history of the plan's scripts from the start, as the report tells it
+-- the report is one history of the plan's scripts from the start
 pub record IsLegal (p : Plan) (s : Start) (r : Report) : Type 0 where
   pub in_order : StandInOrder p s r
   pub open_calls : CountOpenCalls p r

@@ -3,8 +3,8 @@ use Rattle.std.specs.Prelude.{◌≡◌, ◌⊎◌, ℕ, List, [], ◌∷◌, �
 use Rattle.of_script.specs.Text.{text_words, EndsWith}
 use Rattle.of_plan.specs.declared.pieces.Piece.{Piece}
 
--- of these words the piece is the one behind those before it; or they end there, and the piece is
--- nothing, at the end of the line
+-- of these words the piece is the next one after those before it; or there is no next one, and the
+-- piece is nothing, at the end of the line
 abbrev pub IsWholePiece : (words before : List (List ℕ)) (piece after : List ℕ) → Type 0
 IsWholePiece words before piece after =
     (words ≡ before ++ piece ∷ text_words after)
@@ -21,7 +21,7 @@ pub record IsBad (bytes : List ℕ) (b : Piece) (Is : List (List ℕ) → List �
   pub whole : IsWholePiece (text_words bytes) before piece after
   pub is : Is before piece
 
--- the first of the words, and nothing where there is none
+-- the first of the words, and nothing if there is none
 abbrev pub first_word : List (List ℕ) → List ℕ
 first_word [] = []
 first_word (w ∷ ws) = w

@@ -11,8 +11,8 @@ use Rattle.of_script.specs.Language.{IsScript}
 use Rattle.of_plan.specs.declared.plan.Item.{Item}
 use Rattle.of_plan.specs.declared.plan.Item.TheVariants.{Turns, Evict}
 
--- how many callers and blocks there are, the greatest sequence, and each caller's scripts and stop,
--- and what happens step by step
+-- how many callers and blocks there are, the greatest sequence, each caller's scripts and stop, and
+-- what happens step by step
 pub record Plan : Type 0 where
   pub callers : ℕ
   pub blocks : ℕ
@@ -25,11 +25,12 @@ pub record Plan : Type 0 where
 abbrev pub scripts_of : Plan → ℕ → List (List Instr)
 scripts_of p c = slice_index_or p.scripts c []
 
--- after how many steps a caller stops, where it does
+-- after how many steps a caller stops, if it does
 abbrev pub stop_of : Plan → ℕ → Option ℕ
 stop_of p c = slice_index_or p.stops c None
 
--- the data cells of so many callers and blocks: each caller's own, and behind them the store's
+-- how many data cells this many callers and blocks have: each caller's own, and after them the
+-- store's
 abbrev pub data_cells : (callers blocks : ℕ) → ℕ
 data_cells callers blocks = cells_at (base_of callers MOST_INSTRS) blocks
 
@@ -37,7 +38,7 @@ data_cells callers blocks = cells_at (base_of callers MOST_INSTRS) blocks
 abbrev pub durable_cells_of : Plan → ℕ
 durable_cells_of p = durable_cells p.callers (data_cells p.callers p.blocks)
 
--- the steps that a call of a plan takes at most
+-- the most steps of a call of a plan
 abbrev pub bound_of : Plan → ℕ
 bound_of p = step_bound p.callers MOST_INSTRS (data_cells p.callers p.blocks)
 

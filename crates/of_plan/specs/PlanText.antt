@@ -33,7 +33,7 @@ line_text l = line_body l ++ codes "\n"
 abbrev pub entries_text : List BodyLine → List ℕ
 entries_text entries = flat_map line_text (map Body entries)
 
--- the lines of these entries stand behind what was there
+-- the lines of these entries come after what was there
 abbrev pub AppendsEntries : {Z : Type 0} → (old new : String Z) → List BodyLine → Type 0
 AppendsEntries old new entries = AppendsText old new (entries_text entries)
 

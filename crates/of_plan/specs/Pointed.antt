@@ -9,16 +9,16 @@ use Rattle.of_plan.specs.ReasonText.{reason_text}
 abbrev pub sign : ℕ → ℕ
 sign b = if nat_lt b 32 then 63 else if nat_lt 126 b then 63 else b
 
--- the first byte that is shown: of a line of at most 100 bytes the first, and else at most 60 before
--- the piece
+-- the first byte of a line that is shown: its first byte if the line has at most 100, and otherwise
+-- at most 60 before the piece
 abbrev pub first_shown_byte : (size start : ℕ) → ℕ
 first_shown_byte size start = if nat_le size 100 then 0 else start - 60
 
--- and the end of what is shown, at most 100 bytes on
+-- the end of what is shown, at most 100 bytes after its begin
 abbrev pub last : (start size : ℕ) → ℕ
 last start size = min size (first_shown_byte size start + 100)
 
--- the byte twice, where something of a line is cut off
+-- the byte twice, if something of a line is cut off
 abbrev pub cut_mark : (byte : ℕ) → Bool → List ℕ
 cut_mark byte is_cut = if is_cut then byte ∷ byte ∷ [] else []
 
@@ -26,7 +26,7 @@ cut_mark byte is_cut = if is_cut then byte ∷ byte ∷ [] else []
 abbrev pub width : (start end size : ℕ) → ℕ
 width start end size = max (min end (last start size) - start) 1
 
--- whether something of a line is cut off before what is shown, and whether behind it
+-- whether a part of a line is cut off before what is shown, or after it
 abbrev pub is_cut_before : (size start : ℕ) → Bool
 is_cut_before size start = nat_lt 0 (first_shown_byte size start)
 

@@ -10,7 +10,7 @@ pub record Language : Type 1 where
   pub words_of : Line → List (List ℕ)
   pub InRange : Line → Type 0
 
--- how far a reading comes, and where a line leads, where it may come next
+-- how far a reading comes, and where a line leads, if it may come next
 pub record Reader (L : Language) : Type 1 where
   pub Progress : Type 0
   pub next : Progress → L.Line → Option Progress

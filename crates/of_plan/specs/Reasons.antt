@@ -176,7 +176,7 @@ pub record HasStop (text : List ℕ) (above : ℕ) (before : List (List ℕ)) (p
   pub says : Says (text_lines text) above (Stop caller) at caller
   pub is : number ≡ at + 1
 
--- what a reason says of a piece of a text with so many lines above it
+-- what a reason says of a piece of a text, which has this many lines above it
 abbrev pub IsTrueIn : Reason → (text : List ℕ) (above : ℕ) (before : List (List ℕ))
     (piece : List ℕ) → Type 0
 IsTrueIn EndMissing text above before piece = IsUnended text above × (piece ≡ [])

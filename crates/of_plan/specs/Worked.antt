@@ -64,7 +64,7 @@ legal_report = worked_report adds_one loads_six both_done 1 holds_six
 abbrev pub script_twice : Report
 script_twice = worked_report (worked_entry 1 1 0 true (Some 6)) loads_six both_done 1 holds_six
 
--- a line tells an entry more than there are
+-- a line counts one entry more than there are
 abbrev pub entry_too_many : Report
 entry_too_many = worked_report adds_one loads_six (record both_done { entries = 3 }) 1 holds_six
 

@@ -26,7 +26,7 @@ pub enum Wanted {
     Cell { least: u32 },
 }
 
-// The number behind the name of a line.
+// The number that follows the name of a line.
 fn number_behind(name: &[u8], wanted: &[u8], rest: &[u8], most: u32) -> Option<u32>
     ensures { result ≡ lines_above.number_behind name.now wanted.now (text_words rest.now) most }
 {
@@ -37,7 +37,7 @@ fn number_behind(name: &[u8], wanted: &[u8], rest: &[u8], most: u32) -> Option<u
     Some(number)
 }
 
-// The number that a line says, where it is one that is wanted; 0 where it says none.
+// The number that a line says, if it is one that is wanted; 0 if it says none.
 pub(crate) fn said(wanted: Wanted, line: &[u8]) -> Option<u32>
     ensures { result ≡ lines_above.said wanted (text_words line.now) }
 {
@@ -72,7 +72,7 @@ pub(crate) fn said(wanted: Wanted, line: &[u8]) -> Option<u32>
     }
 }
 
-/// The line with so many lines above it, nothing where there is none, and whether it is the last.
+/// The line with this many lines above it, or nothing if there is none, and whether it is the last.
 pub fn line_at(text: &[u8], above: u64) -> (&[u8], bool)
     ensures line { result.0.now ≡ lines_above.line_at (text_lines text.now) above }
     ensures last { IsTrue result.1 → length (text_lines text.now) ≡ above + 1 }
@@ -92,7 +92,7 @@ pub fn line_at(text: &[u8], above: u64) -> (&[u8], bool)
     }
 }
 
-/// The first of so many lines that says what is wanted, by the number of lines above it, and the
+/// The first of the lines above that says what is wanted: how many lines are above it, and the
 /// number that it says.
 pub fn find(text: &[u8], above: u64, wanted: Wanted) -> Option<(u64, u32)>
     ensures { MatchOption result (lines_above.NoneSays (text_lines text.now) above wanted)

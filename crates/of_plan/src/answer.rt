@@ -23,7 +23,7 @@ pub enum Ending {
     /// It was stopped before that.
     Stopped {
         /// How many steps its open call has asked for: those that it made, and the one that it
-        /// didn't get. 1 where none is open.
+        /// didn't get. 1 if none is open.
         asked: u64,
     },
     /// No sequence was left for its next call.

@@ -11,7 +11,7 @@ use crate::flaw::Flaw;
 use crate::numerals::is_numeral;
 use of_script::text::{next_number, word};
 
-/// A piece of a line: how many bytes it has, and how many of the line are left behind it.
+/// A piece of a line: how many bytes it has, and how many of the line are left after it.
 #[derive(Clone, Copy, Debug, PartialEq, Eq)]
 pub struct Piece {
     pub size: usize,
@@ -25,7 +25,7 @@ pub struct FlawedPiece {
     pub flaw: Flaw,
 }
 
-/// The word that comes next; the end of the line where none comes.
+/// The word that comes next; the end of the line if none comes.
 pub fn next_word(bytes: &[u8]) -> Piece
     ensures { IsNextWord bytes.now result }
 {

@@ -30,7 +30,7 @@ fn put_signs(out: &mut Vec<u8>, bytes: &[u8]) -> Result<(), AllocError>
     Ok(())
 }
 
-// Writes a byte so many times at the end.
+// Writes a byte a number of times at the end.
 fn put_times(out: &mut Vec<u8>, byte: u8, times: usize) -> Result<(), AllocError>
     ensures { OnOk result (out.new.items ≡ out.old.items ++ replicate times byte) }
 {
@@ -40,7 +40,7 @@ fn put_times(out: &mut Vec<u8>, byte: u8, times: usize) -> Result<(), AllocError
     Ok(())
 }
 
-// Writes a byte twice at the end, where something of a line is cut off.
+// Writes a byte twice at the end, if something of a line is cut off.
 fn put_cut(out: &mut Vec<u8>, byte: u8, is_cut: bool) -> Result<(), AllocError>
     ensures { OnOk result (out.new.items ≡ out.old.items ++ pointed.cut_mark byte is_cut) }
 {
@@ -50,7 +50,7 @@ fn put_cut(out: &mut Vec<u8>, byte: u8, is_cut: bool) -> Result<(), AllocError>
     Ok(())
 }
 
-// The first byte that is shown of a line with so many bytes.
+// The first byte that is shown of a line of this many bytes.
 fn first_shown(bytes: usize, start: usize) -> usize
     ensures value { result ≡ pointed.first_shown_byte bytes start }
     ensures upto { result ≤ start }

@@ -28,7 +28,7 @@ pub struct BadPiece {
     pub reason: Reason,
 }
 
-/// What is wrong with a text; nothing exactly where it is in the grammar, so where `parse` refuses
+/// What is wrong with a text; nothing exactly if it is in the grammar, so if `parse` refuses
 /// it. The line is the one that `parse` names. The error is want of memory.
 pub fn fault(alloc: Global, text: &[u8]) -> Result<Option<BadPiece>, AllocError>
     ensures { IfOk result (λ found. MatchOption found (IsPlanText text.now) (IsFaultOf text.now)) }

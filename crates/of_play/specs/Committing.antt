@@ -21,7 +21,7 @@ abbrev pub commits_by_step : Place → Op → (found : ℕ) → Bool
 commits_by_step ExchangeCurrent op found = expects op found
 commits_by_step place op found = false
 
--- the line of a batch, where it is committed
+-- the line of a batch, if it is committed
 abbrev pub commit_line : (commits : Bool) → (k i s : ℕ) → List Call → List ℕ
 commit_line true k i s calls = batch_line k i s calls
 commit_line false k i s calls = []

@@ -49,7 +49,7 @@ own_cell i j = if j == 0 then Ticket i else if j == 1 then Shape i else Reply i 
 abbrev pub queue_cell : (q j : ℕ) → CellUse
 queue_cell q j = if j == 0 then Front q else if j == 1 then Back q else Length q
 
--- what a cell behind those of the callers holds
+-- what a cell after those of the callers holds
 abbrev pub store_cell : (o a : ℕ) → CellUse
 store_cell o a =
     if nat_lt a (fresh_at o) then Register (a - o)
@@ -92,7 +92,7 @@ word_at_place n m w =
     ((w - script_place n MOST_INSTRS m 0 0) % (MOST_INSTRS + 1))
     else Members
 
--- Each data cell, each cell and each word has the name of what stands there.
+-- Each data cell, each cell and each word has the name of what it holds.
 abbrev pub CellUsesAreNamed : Type 0
 CellUsesAreNamed = (n a : ℕ) → address_of n (cell_use_at n a) ≡ a
 

@@ -1,4 +1,4 @@
--- How the code that plays a plan stands between two events.
+-- The state of the code that plays a plan, between two events.
 use Rattle.std.specs.Prelude.{◌≡◌, ◌≢◌, ℕ, ◌≤◌, ◌<◌, List, [], ◌++◌, length, map, take, slice_index_or}
 use Rattle.of_eval.specs.Scripts.{scripts_meaning}
 use Rattle.of_plan.specs.declared.answer.Answer.{Answer}
@@ -33,7 +33,7 @@ pub record EventsMayFollow (p : Plan) (es : List Event) : Type 0 where
 abbrev pub answers_in : ScheduleRun → ℕ → List Answer
 answers_in s c = slice_index_or (map (λ v. v.items) s.answers.items) c []
 
--- the code stands as these events leave a plan's table
+-- the code is in the state in which these events leave a plan's table
 pub record StandsAfter (p : Plan) (es : List Event) (s : ScheduleRun) : Type 0 where
   pub follows : EventsMayFollow p es
   pub callers : s.bank.callers ≡ p.callers
@@ -44,7 +44,7 @@ pub record StandsAfter (p : Plan) (es : List Event) (s : ScheduleRun) : Type 0 w
   pub told : (c : ℕ) → c < p.callers
       → AreAnswers (outcomes (plan_setup p) (opening_for p) es c) (answers_in s c)
 
--- the code stands as some events of the plan leave its table
+-- the code is in the state in which some events of the plan leave its table
 pub record IsPlaying (p : Plan) (s : ScheduleRun) : Type 0 where
   pub plan : IsPlan p
   pub events : List Event
@@ -56,24 +56,24 @@ MakesMoves p moves before now =
     (es : List Event) → StandsAfter p es before
     → StandsAfter p (es ++ events_from p (moment_after p es) moves) now
 
--- it has gone on by turns of the caller in a row, at most so many
+-- it has gone on by `made` turns of the caller in a row, at most `most`
 pub record MakesTurnsInRow (p : Plan) (c most made : ℕ) (before now : ScheduleRun) : Type 0 where
   pub few : made ≤ most
   pub moves : MakesMoves p (turns_by c made) before now
 
--- it has begun the caller's next call, where that begins one
+-- it has begun the caller's next call, if the caller begins one
 abbrev pub BeginsNext : Plan → ℕ → (before now : ScheduleRun) → Type 0
 BeginsNext p c before now =
     (es : List Event) → StandsAfter p es before
     → StandsAfter p (es ++ next_begin p c (machine_left p es c)) now
 
--- where a turn has ended a call, its reply is one
+-- if a turn has ended a call, its reply is one
 abbrev pub IsReplied : Turn → Type 0
 IsReplied Idle = Unit {0}
 IsReplied Open = Unit {0}
 IsReplied (EndedTurn o) = OutcomeHoldsReply o
 
--- what a turn has said of a caller is noted
+-- the outcome of a turn of caller c, if it has one, is noted after the caller's answers
 pub record NotesTurn (c : ℕ) (turn : Turn) (before now : ScheduleRun) : Type 0 where
   pub bank : now.bank ≡ before.bank
   pub answers : length now.answers.items ≡ length before.answers.items

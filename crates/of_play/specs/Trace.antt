@@ -31,7 +31,7 @@ step_of p i w v = record {
   outcome = ended_outcome (machine_in v i);
 }
 
--- where no call is open a turn does nothing
+-- if no call is open a turn does nothing
 abbrev pub turn_line : Plan → (k i : ℕ) → (idle : Bool) → (w v : Moment) → List ℕ
 turn_line p k i true w v = rest_line k i
 turn_line p k i false w v = step_line p k (step_of p i w v)
@@ -42,16 +42,16 @@ event_line p k w v (Turns i) = turn_line p k i (is_idle (machine_in w i).place) 
 event_line p k w v (Raises c) = evict_line p k (word_change (durable_at (plan_setup p) c) w v)
 event_line p k w v e = []
 
--- the world in which an event happens: where a turn begins a call that has begun
+-- the moment at which an event happens: if a turn begins a call, the call has begun
 abbrev pub moment_of_event : Plan → Moment → Event → Moment
 moment_of_event p w (Turns i) = after_events (plan_setup p) w (next_begin p i (machine_in w i))
 moment_of_event p w e = w
 
--- and the world that it leaves
+-- and the moment that it leaves
 abbrev pub moment_left_by : Plan → Moment → Event → Moment
 moment_left_by p w e = after_event (plan_setup p) (moment_of_event p w e) e
 
--- the line of event k, where w is what the events before it leave
+-- the line of event k; w is the moment that the events before it leave
 abbrev pub event_line_at : Plan → (k : ℕ) → Moment → Event → List ℕ
 event_line_at p k w e = event_line p k (moment_of_event p w e) (moment_left_by p w e) e
 

@@ -27,19 +27,19 @@ IsShown (Evicts k) = ⊥
 abbrev pub AllAreShown : Type 0
 AllAreShown = (p : Plan) → AllByRecursion IsShown (plan_events p)
 
--- the world that these moves leave, each with the begin right before it
+-- the moment that these moves leave, each with the begin right before it
 abbrev pub world_after : Plan → Moment → List Event → Moment
 world_after p w [] = w
 world_after p w (e ∷ es) = world_after p (after_events (plan_setup p) w (with_begin p w e)) es
 
--- line k is that of move k, in the world that the moves before it leave
+-- line k is that of move k, at the moment that the moves before it leave
 abbrev pub LinesAreOfMoves : Type 0
 LinesAreOfMoves = (p : Plan) (k : ℕ) (e : Event) → k < length (plan_events p)
     → get_or (trace_lines p) k []
     ≡ event_line_at p k (world_after p (opening_for p) (take k (plan_events p)))
     (get_or (plan_events p) k e)
 
--- and the world after the last one is what `play` ends in
+-- and the moment after the last one is the one that `play` ends in
 abbrev pub TracesEndAsPlays : Type 0
 TracesEndAsPlays =
     (p : Plan) → world_after p (opening_for p) (plan_events p) ≡ moment_after p (play_events p)

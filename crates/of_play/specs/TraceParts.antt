@@ -50,7 +50,7 @@ did_part (Raise c v) found = raise_part (nat_lt v found) v
 
 -- ---- what the word that was left means
 
--- an instruction, where it is the word of one
+-- an instruction, if it is the word of one
 abbrev pub instr_part : Option Instr → List ℕ
 instr_part None = []
 instr_part (Some i) = codes "; " ++ instr_text i
@@ -71,7 +71,7 @@ shape_part x =
 abbrev pub field_part : (field x : ℕ) → List ℕ
 field_part f x = if f == 2 then pointer_part x else []
 
--- the number of a data cell that holds this, where it is more than a number
+-- the number of a data cell that holds this, if it is more than a number
 abbrev pub cell_use_part : CellUse → ℕ → List ℕ
 cell_use_part (Ticket i) x = []
 cell_use_part (Shape i) x = shape_part x

@@ -1,4 +1,4 @@
--- How the code that traces a plan stands between two events.
+-- The state of the code that traces a plan, between two events.
 use Rattle.std.specs.Prelude.{◌≡◌, ℕ, ◌-◌, ◌≤◌, ◌<◌, List, ◌++◌, length, take, drop, flat_map, String, string_bytes}
 use Rattle.of_script.specs.Appending.{AppendsText}
 use Rattle.of_plan.specs.Plan.{Plan, IsPlan}
@@ -32,7 +32,7 @@ abbrev pub line_as : Form → Plan → (k : ℕ) → Moment → Event → List �
 line_as Events p = event_line_at p
 line_as Commits p = committed_at p
 
--- behind a text this was written of an event, with which the run went on from there
+-- at the end of a text, the line of an event was written, with which the run went on from there
 abbrev pub WritesLine : {Z : Type 0} → Form → Plan → (k : ℕ) → Event → (before : ScheduleRun)
     → (old new : String Z) → Type 0
 WritesLine f p k e before old new =
@@ -47,8 +47,8 @@ shown_lines f c lines = flat_map (λ line. line) (take c (drop f lines))
 abbrev pub lines_as : Form → Plan → List Event → List (List ℕ)
 lines_as f p ms = lines_from (line_as f p) p 0 (opening_for p) ms
 
--- The code stands as these moves leave it. Where it has shown all that it is to show the run has
--- ended.
+-- The code is in the state in which these moves leave it. If it has shown all that it is to show,
+-- the run has ended.
 pub record TracesAfter (p : Plan) (ms : List Event) (t : TraceRun) : Type 0 where
   pub before_end : t.number ≤ t.end
   pub number : t.number < t.end → t.number ≡ length ms
@@ -57,7 +57,7 @@ pub record TracesAfter (p : Plan) (ms : List Event) (t : TraceRun) : Type 0 wher
   pub text : string_bytes t.text
       ≡ shown_lines t.first (t.end - t.first) (lines_as t.form p ms)
 
--- it stands as some moves leave it
+-- it is in the state in which some moves leave it
 pub record IsTracing (p : Plan) (t : TraceRun) : Type 0 where
   pub plan : IsPlan p
   pub first : t.first ≤ t.end

@@ -83,7 +83,7 @@ word_text n Members = codes "members"
 abbrev pub pair_text : ℕ → List ℕ
 pair_text v = codes "(" ++ decimal (seq_of v) ++ codes "," ++ decimal (payload_of v) ++ codes ")"
 
--- what stands in a word: a script word is a number, and any other a pair
+-- the text of a word: a script word is a number, and any other a pair
 abbrev pub word_value_text : ShownWord → ℕ → List ℕ
 word_value_text (Now c) v = pair_text v
 word_value_text (Durable c) v = pair_text v

@@ -25,8 +25,8 @@ pub fn words_are_named()
     ensures words { WordsAreNamed }
 {}
 
-/// A plan's schedule has turns and evictions alone. The trace has the line of each, in the world
-/// that those before it leave; the world after the last one is what `play` ends in.
+/// A plan's schedule has only turns and evictions. The trace has the line of each, at the moment
+/// that those before it leave; the moment after the last one is the one that `play` ends in.
 pub fn traces_are_of_plays()
     ensures shown { AllAreShown }
     ensures lines { LinesAreOfMoves }

@@ -55,7 +55,7 @@ impl ScheduleRun {
         matches!(self.bank.answer(caller), Some(Outcome::Spent { .. }))
     }
 
-    /// Begins a caller's next call where it has none open, isn't spent and has a script left.
+    /// Begins a caller's next call if it has none open, isn't spent and has a script left.
     #[inline(always)]
     fn begin_next(&mut self, plan: &Plan, caller: u32)
         requires caller { caller < plan.now.callers }
@@ -152,8 +152,8 @@ impl ScheduleRun {
         self.bank.made(caller) as usize >= plan.scripts(caller).len()
     }
 
-    /// Makes turns of a caller while its call is open, at most `most`, and notes how that has ended.
-    /// It answers how many.
+    /// Makes turns of a caller while its call is open, at most `most`, and notes how that has
+    /// ended. It answers how many.
     #[inline(always)]
     fn turns_while_open(&mut self, plan: &Plan, caller: u32, most: u32) -> Result<u32, AllocError>
         requires caller { caller < plan.now.callers }

@@ -23,10 +23,10 @@ pub struct TraceStep {
     pub place: Place,
     /// What it did.
     pub op: Op,
-    /// Whose log it copied or applied, where it helped.
+    /// Whose log it copied or applied, if it helped.
     pub helps: Option<u32>,
     pub change: Change,
-    /// How the call has ended, where it was its last step.
+    /// How the call has ended, if it was its last step.
     pub outcome: Option<Outcome>,
 }
 

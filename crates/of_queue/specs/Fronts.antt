@@ -11,7 +11,7 @@ use Rattle.of_mem.specs.Stores.{queue_chain, CellStore}
 use Rattle.of_mem.specs.Calls.{PlotStandsForStore}
 use Rattle.of_alloc.specs.Blocks.{HasOut}
 
--- this block of the plot can be put behind the queue, and one item more can be counted
+-- this block of the plot can be put at the end of the queue, and one item more can be counted
 pub record CanAppend (plot : Plot) (p : Part) (q b : ℕ) : Type 0 where
   pub fits : length p.known ≡ data_cell_count plot
   pub queue : q < QUEUES
@@ -19,7 +19,7 @@ pub record CanAppend (plot : Plot) (p : Part) (q b : ℕ) : Type 0 where
   pub tail : (t : ℕ) → newest_at p (tail_at (base plot) q) ≡ Some t → t ≤ plot.blocks
   pub items : (n : ℕ) → newest_at p (length_at (base plot) q) ≡ Some n → FitsCell (n + 1)
 
--- one item less can be counted
+-- one item fewer can be counted
 pub record CanCount (plot : Plot) (p : Part) (q : ℕ) : Type 0 where
   pub fits : length p.known ≡ data_cell_count plot
   pub queue : q < QUEUES

@@ -24,11 +24,11 @@ abbrev pub push_store : CellStore → ℕ → ℕ → Bool → CellStore
 push_store s q v true = with_items s q (s.queues q ++ v ∷ [])
 push_store s q v false = s
 
--- the store after a push: the item stands behind the queue, where there is room
+-- the store after a push: the item is the last of the queue, if there is room
 abbrev pub after_push : ℕ → ℕ → ℕ → CellStore → CellStore
 after_push blocks q v s = push_store s q v (has_room blocks s)
 
--- the call put the item behind this queue, or found no room, and then it wrote nothing
+-- the call put the item at the end of this queue, or found no room and wrote nothing
 pub record PushesItem (plot : Plot) (before after : Part) (q v : ℕ) (result : Result Bool Need)
     : Type 0 where
   pub acts : ActsOnStore plot before after result
@@ -47,6 +47,6 @@ abbrev pub pop_store : CellStore → ℕ → List ℕ → CellStore
 pop_store s q [] = s
 pop_store s q (v ∷ items) = with_items s q items
 
--- the store after a pop: the front item is gone, where there was one
+-- the store after a pop: the front item is gone, if there was one
 abbrev pub after_pop : ℕ → CellStore → CellStore
 after_pop q s = pop_store s q (s.queues q)

@@ -7,7 +7,7 @@ use Rattle.of_mem.specs.Stores.{first_at, link_at}
 use Rattle.of_mem.specs.Programs.{Program, Done, Read, Write, then_do}
 use Rattle.of_alloc.specs.BlockPrograms.{take_program, give_program}
 
--- Pushing an item behind a queue: whether there was a block for it.
+-- Pushing an item onto the end of a queue; the answer is whether there was a block for it.
 
 abbrev pub count_up : ℕ → ℕ → ℕ → Program Bool
 count_up o q n = Write (length_at o q) (n + 1) (Done true)
@@ -15,7 +15,7 @@ count_up o q n = Write (length_at o q) (n + 1) (Done true)
 abbrev pub new_tail : ℕ → ℕ → ℕ → Program Bool
 new_tail o q b = Write (tail_at o q) (b + 1) (Read (length_at o q) (count_up o q))
 
--- the pointer cell behind the last block, by the pointer that tail holds
+-- the pointer cell after the last block, if tail holds this pointer
 abbrev pub last_cell : ℕ → ℕ → ℕ → ℕ
 last_cell o q zero = head_at o q
 last_cell o q (suc t) = link_at o t
@@ -43,7 +43,7 @@ item_after_give o q v u = Read (length_at o q) (count_down_program o q v)
 abbrev pub give_item_block : ℕ → ℕ → ℕ → ℕ → Program (Option ℕ)
 give_item_block o q b v = then_do (give_program o b) (item_after_give o q v)
 
--- by the link of the block that leaves: where it is 0 nothing is left
+-- by the link of the block that leaves: if it is 0, no block is left
 abbrev pub new_end : ℕ → ℕ → ℕ → ℕ → ℕ → Program (Option ℕ)
 new_end o q b v zero = Write (tail_at o q) 0 (give_item_block o q b v)
 new_end o q b v (suc t) = give_item_block o q b v

@@ -13,7 +13,7 @@ ghost use Rattle.of_queue.specs.Means.{IsItem, PushesItem, front_item, after_pop
 
 use of_mem::{Need, Part, Plot};
 
-/// Puts an item behind a queue. False comes exactly where no block is free, and then nothing is
+/// Puts an item at the end of a queue. False comes exactly if no block is free, and then nothing is
 /// written. The error names a cell that is read and isn't known.
 #[tactic(auto, using(of_mem::proofs::Runs::run_then_needs))]
 pub fn push(plot: &Plot, part: &mut Part, queue: u32, value: u32) -> Result<bool, Need>
@@ -44,7 +44,7 @@ fn append(plot: &Plot, part: &mut Part, queue: u32, value: u32, block: u32) -> R
     Ok(true)
 }
 
-// The pointer cell behind a queue's last block: its link, or the head of an empty queue.
+// The pointer cell after a queue's last block: its link, or the head of an empty queue.
 fn last_cell(plot: &Plot, queue: u32, tail: u32) -> u32
     requires queue { queue < QUEUES }
     requires tail { tail ≤ plot.now.blocks }
@@ -58,7 +58,7 @@ fn last_cell(plot: &Plot, queue: u32, tail: u32) -> u32
     }
 }
 
-/// Takes the front item of a queue. None comes exactly where the queue is empty. The error names a
+/// Takes the front item of a queue. None comes exactly if the queue is empty. The error names a
 /// cell that is read and isn't known.
 pub fn pop(plot: &Plot, part: &mut Part, queue: u32) -> Result<Option<u32>, Need>
     requires stands { HasStore plot.now part.old }
@@ -85,7 +85,7 @@ fn pop_front(plot: &Plot, part: &mut Part, queue: u32, block: u32) -> Result<Opt
     close(plot, part, queue, block, item, link)
 }
 
-// Clears the tail where nothing is left behind the block that leaves, and gives the block back.
+// Clears the tail if no block is left after the one that leaves, and gives the block back.
 fn close(
     plot: &Plot,
     part: &mut Part,
@@ -130,7 +130,7 @@ fn count_down(plot: &Plot, part: &mut Part, queue: u32, item: u32) -> Result<Opt
     Ok(Some(item))
 }
 
-/// The number of items of a queue. The error names the cell that counts them where it isn't known.
+/// The number of items of a queue. The error names the cell that counts them if it isn't known.
 pub fn len(plot: &Plot, part: &Part, queue: u32) -> Result<u32, Need>
     requires stands { HasStore plot.now part.now }
     requires queue { queue < QUEUES }

@@ -10,7 +10,7 @@ use Rattle.of_recover.specs.Writes.{recovery_writes}
 abbrev pub IsShapeRow : Shape → List ℕ → Type 0
 IsShapeRow shape words = IsDurableRow shape.callers shape.cells words
 
--- its current transaction is not open
+-- the current transaction of the row is not open
 abbrev pub IsClosed : Shape → List ℕ → Type 0
 IsClosed shape words = is_open shape.callers (slice_index words) ≡ false
 

@@ -41,8 +41,8 @@ image_code =
     })
     (λ _. refl)
 
--- an image of at most so many callers and blocks: its words are in range and recovered, its sequence
--- is theirs, and they are lawful with its store
+-- an image of at most this many callers and blocks: its words are in range and recovered, its
+-- sequence is theirs, and they are lawful with its store
 pub record IsImageWithin (callers blocks instrs : ℕ) (i : Image) : Type 0 where
   pub row : IsRowWithin callers blocks instrs i.row
   pub settled : recovered_row instrs i.row ≡ i.row
@@ -73,7 +73,7 @@ abbrev pub image_ticket : Image → (caller : ℕ) → ℕ
 image_ticket i c =
     payload_of (slice_index i.row.words (data_cell i.row.callers (ticket_cell_at MOST_INSTRS c)))
 
--- where a run from the image starts: so many scripts of a caller are done as its ticket says
+-- where a run from the image starts: as many scripts of a caller are done as its ticket says
 abbrev pub start_of_image : Image → Start
 start_of_image i = record {
   store = i.store;

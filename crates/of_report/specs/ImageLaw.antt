@@ -12,7 +12,7 @@ use Rattle.of_report.specs.ImageRow.{DurableRow, row_cell_count, data_numbers_in
 abbrev pub IsOwned : DurableRow → Type 0
 IsOwned r = current_owner (slice_index r.words) < r.callers
 
--- none of the first so many data cells is newer than the current transaction
+-- none of the first n data cells is newer than the current transaction
 abbrev pub NoneNewer : (callers : ℕ) → List ℕ → ℕ → Type 0
 NoneNewer callers words n =
     (a : ℕ) → a < n

@@ -1,4 +1,4 @@
--- The durable words of a table for so many callers and blocks. How many data cells there are
+-- The durable words of a table of some callers and blocks. How many data cells there are also
 -- depends on how many instructions a script has at most.
 use Rattle.std.specs.Prelude.{ℕ, ◌^◌, ◌≤◌, ◌<◌, List, map, slice_index}
 use Rattle.std.specs.List.{range_with_len}
@@ -17,11 +17,11 @@ pub record DurableRow : Type 0 where
   pub blocks : ℕ
   pub words : List ℕ
 
--- the row of these words, where the data cells stand so
+-- the row of these words, if the data cells stand so
 abbrev pub row_in : Plot → List ℕ → DurableRow
 row_in p ws = record { callers = p.callers; blocks = p.blocks; words = ws }
 
--- how many data cells there are, where scripts have at most so many instructions
+-- how many data cells there are, if scripts have at most this many instructions
 abbrev pub data_cell_count_for : (instrs callers blocks : ℕ) → ℕ
 data_cell_count_for instrs callers blocks = cells_at (base_of callers instrs) blocks
 
@@ -35,7 +35,7 @@ data_numbers_in instrs r =
     map (λ a. payload_of (slice_index r.words (data_cell r.callers a)))
     (range_with_len 0 (row_cell_count instrs r))
 
--- the ranges of a row of at most so many callers and blocks, where scripts have at most so many
+-- the ranges of a row of at most this many callers and blocks, with scripts of at most `instrs`
 -- instructions: a word of 64 bits for each cell
 pub record IsRowWithin (callers blocks instrs : ℕ) (r : DurableRow) : Type 0 where
   pub some_callers : 1 ≤ r.callers

@@ -18,14 +18,14 @@ use Rattle.of_report.specs.Found.{HasFound, AreOwn}
 
 -- ---- the entries of one caller
 
--- what recovery has found tells this open call of a caller, or that it has none
+-- this open call of a caller, or that it has none, is what recovery has found
 abbrev pub TellsOpenCall : RecoveredTable → (caller index : ℕ) → Option Entry → Type 0
 TellsOpenCall f c x told =
     (p : Plan) (e : Ended) (extra : List plain.Entry) → HasFound p e f
     → OpenCall p e c x (record_number p e (ticket_cell_at MOST_INSTRS c) == x + 1) extra
     → map entry_value (option_to_list told) ≡ extra
 
--- it tells this as what a caller with this ending has beyond its answers
+-- recovery has found this of a caller with this ending beyond its answers
 abbrev pub TellsBeyondAnswers : RecoveredTable → (caller index : ℕ) → Ending → Option Entry → Type 0
 TellsBeyondAnswers f c x ending told =
     (p : Plan) (e : Ended) (extra : List plain.Entry) → HasFound p e f
@@ -37,7 +37,7 @@ TellsOwnEntries f e c first told =
     (p : Plan) (s : Start) (own : List plain.Entry) → HasFound p e f → finished_of s c ≡ first
     → OwnEntries p s e c own → map entry_value told ≡ own
 
--- ---- those of all callers, where so many scripts of each are done at the start
+-- ---- those of all callers, if `done` says how many scripts of each are done at the start
 
 -- these are the entries, one caller after the other
 abbrev pub TellsAllEntries : Plan → (done : List ℕ) → Ended → List Entry → Type 0
@@ -61,7 +61,8 @@ HasRecord p s e = (r : plain.Report) × IsLawfulRecord p s e r
 abbrev pub TellsRecord : Plan → Start → Ended → Report → Type 0
 TellsRecord p s e told = (r : plain.Report) → IsLawfulRecord p s e r → report_value told ≡ r
 
--- what the run has left is a lawful record from a start at which so many scripts are done
+-- what the run has left is a lawful record from a start at which `done` scripts of the callers are
+-- done
 abbrev pub HasRecordBehind : Plan → (done : List ℕ) → Ended → Type 0
 HasRecordBehind p done e =
     (s : Start) × (r : plain.Report) × (s.finished ≡ done) × IsLawfulRecord p s e r

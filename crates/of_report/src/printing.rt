@@ -27,7 +27,7 @@ fn cause_name(cause: Cause) -> &'static str
     }
 }
 
-/// Writes a number behind a space.
+/// Writes a number, after a space.
 pub(crate) fn put_number(out: &mut String, number: u32) -> Result<(), AllocError>
     ensures { OnOk result (AppendsText out.old out.new (codes " " ++ decimal number)) }
 {
@@ -36,7 +36,7 @@ pub(crate) fn put_number(out: &mut String, number: u32) -> Result<(), AllocError
     out.push_str(buffer.format(number))
 }
 
-// Writes the value of an instruction behind a space.
+// Writes the value of an instruction, after a space.
 fn put_value(out: &mut String, value: Option<u32>) -> Result<(), AllocError>
     ensures { OnOk result (AppendsText out.old out.new (reply_value_text value)) }
 {
@@ -73,7 +73,7 @@ pub fn put_reply(out: &mut String, reply: &Reply) -> Result<(), AllocError>
     }
 }
 
-// The word of an entry's kind, behind a space.
+// The word of an entry's kind, after a space.
 fn kind_name(announced: bool) -> &'static str
     ensures { result.now ≡ codes " " ++ kind_text announced }
 {

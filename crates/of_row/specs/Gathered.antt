@@ -1,4 +1,4 @@
--- The row's first pass, while it keeps a caller of each number that is taken: nobody else makes a
+-- The row's first pass, while it keeps a caller of each number that is taken: no one else makes a
 -- step, so it may learn of all events, and each word that it loads is then that of one moment.
 use Rattle.std.specs.Prelude.{◌≡◌, ℕ, ◌<◌, List, [], true, Option, Some, None}
 use Rattle.std.specs.List.{AllByRecursion as Each}
@@ -17,7 +17,8 @@ use Rattle.of_row.specs.Keys.{key_setup, key_start}
 abbrev pub KeepsAsked : (callers : ℕ) → View → Type 0
 KeepsAsked callers v = (n : ℕ) → n < callers → IsAsked n v.asked → IsCallerKept n v.kept
 
--- it is the first pass's, has no eviction under way, and keeps a caller of each number that is taken
+-- it is the first pass's, has no eviction under way, and keeps a caller of each number that is
+-- taken
 pub record IsGathered (callers : ℕ) (v : View) : Type 0 where
   pub first : v.first ≡ true
   pub none : v.loaded ≡ []
@@ -49,7 +50,7 @@ pub record LearnsAll (S : Setup) (Lawful : List ℕ → Type 0) (B : TableStart)
 abbrev pub IsWordOfPast : Setup → TableStart → View → (c word : ℕ) → Type 0
 IsWordOfPast S B v c word = word ≡ get_or (moment S B v.past).words c 0
 
--- the same on the row with this key, where a load was told it
+-- the same on the row with this key, if a load was told it
 abbrev pub LearnsAllOf : {W : Type 0} → (W → Meaning) → (W → List ℕ → Type 0) → Option (RowKey W)
     → View → View → Type 0
 LearnsAllOf meaning lawful None v w = Unit {0}

@@ -24,8 +24,8 @@ SeesWholeHistory Lawful S =
     (B : TableStart) (ws : List ℕ) (v : View) (m : ViewMeetsRule S Lawful B ws v)
     → v.spent ≡ false → KeepsAll S ws v → v.seen ≡ map seen_batch (moment S B m.rule.events).batches
 
--- of each caller that a view keeps, its calls as far as was seen are just those that it made, and
--- they have ended as their outcomes say
+-- of each caller that a view keeps, its calls as far as was seen are exactly those that it made,
+-- and they have ended as their outcomes say
 abbrev pub SeesOwnCalls : (List ℕ → Type 0) → Setup → Type 0
 SeesOwnCalls Lawful S =
     (B : TableStart) (ws : List ℕ) (v : View) → ViewMeetsRule S Lawful B ws v
@@ -44,8 +44,8 @@ EvictionsAreRaised Lawful =
     (S : Setup) (B : TableStart) (ws : List ℕ) (v : View) → ViewMeetsRule S Lawful B ws v
     → v.spent ≡ false → Each (IsRaised S ws) v.evicted
 
--- a member that has no open call stands for a fresh machine of its number, with as many calls
--- behind it
+-- a member that has no open call stands for a fresh machine of its number, which has begun as many
+-- calls
 abbrev pub MembersStandForFresh : {X : Type 0} → (X → Meaning) → Type 0
 MembersStandForFresh {X} meaning =
     (member : Member) (m : Machine X) → HasNoCall member
@@ -53,7 +53,7 @@ MembersStandForFresh {X} meaning =
     (calls_of_member member)
     → IsMemberOf meaning member m
 
--- and one that stands for an idle machine has none open, and has begun as many
+-- a member that stands for an idle machine has no open call, and has begun as many
 abbrev pub IdleMembersHaveNoCall : {X : Type 0} → (X → Meaning) → Type 0
 IdleMembersHaveNoCall {X} meaning =
     (member : Member) (m : Machine X) → IsMemberOf meaning member m → m.call.place ≡ Idle
@@ -65,7 +65,7 @@ MemberInRange {X} work =
     (row : Row X) (member : Member) → IsRowMember row member
     → number_of_member member < (key_of row).callers
 
--- one that has just enrolled has none
+-- a member that has just enrolled has no open call
 abbrev pub NewMembersHaveNoCall : {X : Type 0} → (X → Meaning) → X → Type 0
 NewMembersHaveNoCall {X} meaning work =
     (row : Row X) (n : ℕ) (before pass : Pass) (member : Member)
@@ -86,7 +86,7 @@ NewMachinesRun {X} work =
     (row : Row X) (m : Machine X) → m.work ≡ (key_of row).work → m.callers ≡ (key_of row).callers
     → m.cells ≡ (key_of row).cells → m.limit ≡ (key_of row).limit → RunsOnRow row m
 
--- and goes on doing so, whatever call it holds
+-- the machine goes on running this work, whatever call it holds
 abbrev pub MachinesKeepRunning : {X : Type 0} → X → Type 0
 MachinesKeepRunning {X} work =
     (row : Row X) (m now : Machine X) (d : CallState) → RunsOnRow row m

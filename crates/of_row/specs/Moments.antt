@@ -54,13 +54,13 @@ HaveOwnSequence S B order s x =
 abbrev pub HasNoneOf : List Call → (caller : ℕ) → Type 0
 HasNoneOf order i = All (λ (c : Call). c.caller ≢ i) order
 
--- a world with these words, and nothing else
+-- a moment with these words, and nothing else
 abbrev pub words_alone : List ℕ → Moment
 words_alone ws = record { words = ws; machines = []; batches = []; reads = []; loaded = [] }
 
 -- What a row leaves that stops at this moment: one serial order of calls explains how all calls
--- have ended, it stands by sequence, and recovery of the row's words as they are finds what that
--- order leads to.
+-- have ended, it is by sequence, and recovery of the row's words as they are finds what that order
+-- leads to.
 pub record LosesNothing (S : Setup) (Lawful : List ℕ → Type 0) (B : TableStart)
     (s : State (Unit {0}) View) : Type 0 where
   pub events : List Event
@@ -84,8 +84,8 @@ StopsLoseNothing Lawful S =
     → LosesNothing S Lawful B s
 
 -- What the words of a closed row hold of the calls of a pass with this view: one serial order has
--- them as they ended, and stands by sequence, recovery of the words finds what that order leads to,
--- and from the row that it makes a table may start.
+-- them as they ended, and is by sequence; recovery of the words finds what that order leads to; and
+-- from the row that recovery makes a table may start.
 pub record HoldsCalls (S : Setup) (Lawful : List ℕ → Type 0) (B : TableStart) (ws : List ℕ)
     (v : View) : Type 0 where
   pub order : List Call
@@ -99,7 +99,7 @@ pub record HoldsCalls (S : Setup) (Lawful : List ℕ → Type 0) (B : TableStart
   pub restarts : (row : List ℕ) → IsDurable S ws row
       → IsStartRow S Lawful (recovered_words S.callers S.cells row)
 
--- so it is of each pass with which words meet the rule, as after the close
+-- this holds of each pass with which words meet the rule, as after the close
 abbrev pub ClosedHoldsCalls : (List ℕ → Type 0) → Setup → Type 0
 ClosedHoldsCalls Lawful S =
     (B : TableStart) (ws : List ℕ) (v : View) → ViewMeetsRule S Lawful B ws v → v.spent ≡ false

@@ -1,5 +1,4 @@
--- What passes are told: of a number that they asked for, of a cell that they evicted, and at the
--- end.
+-- What passes learn: of a number that they asked for, of a cell that they evicted, and at the end.
 use Rattle.std.specs.Prelude.{◌≡◌, ℕ, List}
 use Rattle.std.specs.Int.{bit_at}
 use Rattle.of_mem.specs.Meaning.{Meaning}
@@ -16,7 +15,8 @@ use Rattle.of_row.specs.Turned.{after_ask, after_number_given, new_known_caller,
 use Rattle.of_row.specs.Rows.{key_of, setup_at, row_start, view_of_pass, view_of_member}
 use Rattle.of_row.specs.Rows.{number_of_member, calls_of_member, IsRowPass, IsRowMember, HasSeenLegal}
 
--- whoever has the number n now has made no call on this row, and has seen what this pass had
+-- the caller that has the number n now has made no call on this row, and has seen what this pass
+-- had
 abbrev pub enrolled_caller : {W : Type 0} → (W → Meaning) → Row W → ℕ → Pass → KnownCaller
 enrolled_caller meaning r n p =
     new_known_caller (setup_at meaning r) (row_start meaning r) n

@@ -7,7 +7,7 @@ use Rattle.of_core.specs.Written.{OwnersTakePart}
 use Rattle.of_core.specs.Grounds.{GoodGrounds}
 use Rattle.of_core.specs.Touched.{ByTouch}
 
--- of histories by themselves: what stands in a longer one
+-- laws of histories by themselves: what holds of a longer one
 pub record HistoryLaws : Type 0 where
   pub next : NextBatchIsNumberedNext
   pub batches : LongerKeepsBatches

@@ -48,13 +48,13 @@ pub record HasShortRaises (S : Setup) (B : TableStart) (es : List Event) : Type 
   pub at_once : (k c : ℕ) → c < cell_count S
       → IsShort S B es k c (get_or (moment_at S B es k).words c 0)
 
--- so are the raises of each schedule that leads to a moment that meets the row's rule
+-- the raises are short of each schedule that leads to a moment that meets the row's rule
 abbrev pub MomentsHaveShortRaises : (List ℕ → Type 0) → Setup → Type 0
 MomentsHaveShortRaises Lawful S =
     (B : TableStart) (s : State (Unit {0}) View) → MeetsRule S Lawful B s
     → (es : List Event) → IsReachedBy S B s es → HasShortRaises S B es
 
--- and those of the run of a closed row
+-- the raises of the run of a closed row are short
 abbrev pub RunsHaveShortRaises : (List ℕ → Type 0) → Setup → Type 0
 RunsHaveShortRaises Lawful S =
     (B : TableStart) (ws : List ℕ) (v : View) (es : List Event) → HasRun S Lawful B ws v es

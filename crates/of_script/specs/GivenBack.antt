@@ -1,4 +1,4 @@
--- The law by which a script's list gives its fields back. It stands in specs/ since the model of
+-- The law by which a script's list gives its fields back. It is in specs/ since the model of
 -- `Script` names it, and may name nothing of its own proofs/.
 use Rattle.std.specs.Prelude.{◌≡◌, ℕ, ◌-◌, List, length, ◌++◌, replicate}
 use Rattle.std.proofs.Common.{arith, ap, sym, ◌∙◌}

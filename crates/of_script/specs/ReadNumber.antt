@@ -4,12 +4,12 @@ use denote.Ref.{Bor}
 use Rattle.of_script.specs.declared.instr.Instr.{Instr}
 use Rattle.of_script.specs.Text.{text_words}
 
--- the answer is the number that is read and the bytes of the other words, or none where none is
+-- the answer is the number that is read and the bytes of the other words, or none if none is
 abbrev pub HasReadNumber : Option (ℕ × List (List ℕ)) → Option (ℕ × Bor (List ℕ)) → Type 0
 HasReadNumber wanted answer =
     MatchOption answer (wanted ≡ None) (λ x. wanted ≡ Some (x.0, text_words x.1.now))
 
--- the same of an instruction
+-- the answer is the instruction that is read and the bytes of the other words, or none
 abbrev pub HasReadFront : Option (Instr × List (List ℕ)) → Option (Instr × Bor (List ℕ)) → Type 0
 HasReadFront wanted answer =
     MatchOption answer (wanted ≡ None) (λ x. wanted ≡ Some (x.0, text_words x.1.now))

@@ -63,7 +63,7 @@ impl SerialRun {
     }
 }
 
-// How a caller ended: it is done where each of its scripts has run.
+// How a caller ended: it is done if each of its scripts has run.
 fn line(answered: u32, scripts: usize) -> Line
     ensures { result ≡ serial_line answered scripts }
 {

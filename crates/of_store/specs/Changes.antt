@@ -48,7 +48,7 @@ may_fail First = true
 may_fail (Next k) = true
 may_fail (DropBelow k) = true
 
--- behind what takes something out, nothing of the script can fail
+-- no instruction of the script can fail after one that takes something out
 abbrev pub FailsFirst : List Instr → Type 0
 FailsFirst script = (i j : ℕ) (a b : Instr) → i < j → slice_get script i ≡ Some a
     → slice_get script j ≡ Some b → takes_out a ≡ true → may_fail b ≡ false
@@ -99,7 +99,7 @@ without (Register r v) s = with_register s r v
 without (Key k before) s = with_at s k before
 without (Pushed q) s = with_queue s q (take (length (queue s q) - 1) (queue s q))
 
--- a number that is to stand at a key again, which has one
+-- a number that is to be put back at a key, which has one
 abbrev pub IsReplaced : Store → ℕ → Option ℕ → Type 0
 IsReplaced s k None = Unit {0}
 IsReplaced s k (Some v) = (v ≤ greatest) × IsSome (fm.get s.keys k)

@@ -12,8 +12,8 @@ use crate::store::{Answer, Store};
 use of_script::{Abort, Cause, GREATEST, Instr, MOST_INSTRS, Reply, Script};
 use std::alloc::AllocError;
 
-// Whether nothing of a script can fail behind what takes something out, so that it can be taken
-// back without memory.
+// Whether no instruction of a script can fail after one that takes something out: then what was
+// written can be taken back without memory.
 fn fails_first(script: &Script) -> bool
     ensures { IsTrue result → FailsFirst script.now }
 {

@@ -35,7 +35,7 @@ impl<W: Work> Bank<W> {
         self.machines[caller as usize].want()
     }
 
-    /// How a caller's last call ended. None where a call is open, and where none has ended.
+    /// How a caller's last call ended. None if a call is open, or if none has ended.
     pub fn answer(&self, caller: u32) -> Option<Outcome>
         requires { caller < self.now.callers }
         ensures { result ≡ ended_outcome (machine_of self.now caller) }
@@ -43,7 +43,7 @@ impl<W: Work> Bank<W> {
         self.machines[caller as usize].answer()
     }
 
-    /// Whose log a caller's call copies or applies, where it helps another caller.
+    /// Whose log a caller's call copies or applies, if it helps another caller.
     pub fn helped(&self, caller: u32) -> Option<u32>
         requires { caller < self.now.callers }
         ensures { result ≡ helped_owner (machine_of self.now caller) }
@@ -51,7 +51,7 @@ impl<W: Work> Bank<W> {
         self.machines[caller as usize].helped()
     }
 
-    /// The calls that a caller's scan has run so far: those of its batch, where it commits them.
+    /// The calls that a caller's scan has run so far: those of its batch, if it commits them.
     pub fn calls(&self, caller: u32) -> &[Call]
         requires { caller < self.now.callers }
         ensures { map call_value result.now ≡ (machine_of self.now caller).calls }

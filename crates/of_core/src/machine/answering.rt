@@ -64,7 +64,7 @@ impl<W: Work> Machine<W> {
         }
     }
 
-    /// Asks for a number of the reply, or tells the reply where there is none to ask for.
+    /// Asks for a number of the reply, or tells the reply if there is none to ask for.
     fn ask_or_tell(&mut self, next: Option<u32>)
         requires below { IfSome next (λ j. j < MOST_INSTRS) }
         ensures { self.new ≡ record self.old { call = next_reply_place self.old.call next } }

@@ -91,7 +91,7 @@ impl<W: Work> Machine<W> {
         }
     }
 
-    /// Goes on with the try or the round behind its help.
+    /// Goes on with the try or the round after its help.
     pub(super) fn resume(&mut self)
         requires some { 1 ≤ length self.old.call.op }
         ensures { self.new ≡ machine_after W.meaning (λ S m. resume S m (m.rounds == 0)) self.old }
@@ -103,7 +103,7 @@ impl<W: Work> Machine<W> {
         }
     }
 
-    /// Begins to read the state of a round, behind the look at the request or the help.
+    /// Begins to read the state of a round, after the look at the request or the help.
     pub(super) fn enter(&mut self)
         ensures { self.new ≡ machine_after W.meaning enter self.old }
     {

@@ -18,14 +18,14 @@ impl<W: Work> Machine<W> {
         self.place
     }
 
-    /// Whose log the call copies or applies, where it helps another caller.
+    /// Whose log the call copies or applies, if it helps another caller.
     pub fn helped(&self) -> Option<u32>
         ensures { result ≡ helped_owner self.now.call }
     {
         if self.helps { Some(self.owner) } else { None }
     }
 
-    /// The calls that the scan has run so far: those of the batch, where it is committed.
+    /// The calls that the scan has run so far: those of the batch, if it is committed.
     pub fn calls(&self) -> &[Call]
         ensures { map call_value result.now ≡ self.now.call.calls }
     {

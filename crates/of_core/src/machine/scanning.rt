@@ -1,5 +1,5 @@
 //! How a machine goes on at the steps of a scan: of each caller in turn the announced call is run,
-//! where its ticket is new.
+//! if its ticket is new.
 
 ghost use Rattle.std.specs.Prelude.{◌≡◌, ◌<◌, ◌≤◌, ◌+◌, ◌++◌, [], ◌∷◌, length, map, true, IsTrue};
 ghost use Rattle.std.specs.Prelude.{vec_len, vec_capacity};
@@ -31,7 +31,7 @@ fn place_behind(more: bool) -> Place
     }
 }
 
-/// The reply of one's own call: the new one where the call that was run is one's own.
+/// The reply of one's own call: the new one if the call that was run is one's own.
 fn newer_raw(own: bool, new: &RawReply, old: &RawReply) -> RawReply
     ensures { result ≡ own_reply_or new.now old.now own }
 {
@@ -64,7 +64,7 @@ fn add_call(calls: &mut Vec<Call>, caller: u32, ticket: u32, op: &[u64], raw: &R
 
 impl<W: Work> Machine<W> {
     /// From the load of an announcement: its ticket is weighed against the caller's ticket cell,
-    /// which is loaded where it isn't known.
+    /// which is loaded if it isn't known.
     pub(super) fn after_load_announcement(&mut self, found: u64)
         requires at { self.old.call.place ≡ Place.LoadAnnouncement }
         requires small { payload_of found ≤ MOST_INSTRS }

@@ -72,7 +72,7 @@ impl<W: Work> Machine<W> {
         };
     }
 
-    /// Begins the run of a try, behind the look at the request or the help.
+    /// Begins the run of a try, after the look at the request or the help.
     pub(super) fn begin_reading(&mut self)
         requires some { 1 ≤ length self.old.call.op }
         ensures { self.new ≡ machine_after W.meaning begin_reading self.old }

@@ -22,7 +22,7 @@ fn apply(store: &mut Store, instr: Instr) -> Result<(), AllocError>
     Ok(())
 }
 
-/// Puts a number at a new key, where there is room for it.
+/// Puts a number at a new key, if there is room for it.
 pub(crate) fn put(store: &mut Store, key: u32, value: u32) -> Result<(), AllocError>
     requires key { key ≤ greatest }
     requires value { value ≤ greatest }
@@ -33,7 +33,7 @@ pub(crate) fn put(store: &mut Store, key: u32, value: u32) -> Result<(), AllocEr
     apply(store, Instr::Put { key, value })
 }
 
-/// Puts an item behind a queue, where there is room for it.
+/// Puts an item at the end of a queue, if there is room for it.
 pub(crate) fn push(store: &mut Store, q: u32, item: u32) -> Result<(), AllocError>
     requires q { q < QUEUES }
     requires item { item ≤ greatest }

@@ -1,4 +1,4 @@
-//! A line of a plan is read, and taken where it may come next.
+//! A line of a plan is read, and taken if it may come next.
 
 ghost use Rattle.std.specs.Prelude.{◌≡◌, ◌≤◌, ℕ, List, [], ◌∷◌, ◌++◌, IfOk, IfErr, IfSome, MatchOption, Some, None, true, codes};
 ghost use Rattle.of_script.specs.declared.instr.Instr.{Instr as InstrOf};
@@ -255,7 +255,7 @@ impl Reading {
         Ok(None)
     }
 
-    // Reads a title behind its first word, and takes it.
+    // Reads a title after its first word, and takes it.
     fn feed_title(&mut self, line: &[u8], rest: &[u8]) -> Option<Bad>
         requires words { text_words line.now ≡ codes "onefile" ∷ text_words rest.now }
         requires rest { EndsWith line.now rest.now }
@@ -271,7 +271,7 @@ impl Reading {
         None
     }
 
-    // Reads a script line behind its first word, and takes it.
+    // Reads a script line after its first word, and takes it.
     fn feed_script(&mut self, line: &[u8], rest: &[u8]) -> Result<Option<Bad>, AllocError>
         requires words { text_words line.now ≡ codes "script" ∷ text_words rest.now }
         requires rest { EndsWith line.now rest.now }
@@ -302,7 +302,7 @@ impl Reading {
         Ok(None)
     }
 
-    // Reads a line, and takes it where it may come next; or says why it may not.
+    // Reads a line, and takes it if it may come next; or says why it may not.
     pub(crate) fn feed(&mut self, alloc: Global, line: &[u8]) -> Result<Option<Bad>, AllocError>
         ensures { IfOk result (HasFed line.now self.old self.new) }
     {

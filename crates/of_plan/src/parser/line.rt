@@ -103,7 +103,7 @@ pub(crate) fn form_named(name: &[u8]) -> Option<LineForm>
     None
 }
 
-// The most that its first number can be, and 0 where it has none.
+// The most that its first number can be, and 0 if it has none.
 fn first_most(form: LineForm) -> u32
     ensures { result ≡ table.line_first_most form }
 {

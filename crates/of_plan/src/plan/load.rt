@@ -43,7 +43,7 @@ fn load_scripts(alloc: Global, caller: u32, count: u32) -> Result<Vec<Script>, A
     Ok(scripts)
 }
 
-/// The plan of a load: 1 to `MOST_PLAN_CALLERS` callers with so many scripts each, at most
+/// The plan of a load: 1 to `MOST_PLAN_CALLERS` callers, each with this many scripts, at most
 /// `MOST_SCRIPTS` together, on `MOST_PLAN_BLOCKS` blocks, without a stop and a schedule. All
 /// callers add to the same registers, and each puts at keys of its own.
 pub fn generate(alloc: Global, callers: u32, scripts: u32) -> Result<Plan, AllocError>

@@ -241,7 +241,7 @@ struct TraceRun {
     playing: ScheduleRun,
     /// The number of the next event.
     number: u32,
-    /// The number of the first event that is shown, and the number behind the last one.
+    /// The number of the first event that is shown, and the number after that of the last one.
     first: u32,
     end: u32,
     text: String,
@@ -281,7 +281,7 @@ impl TraceRun {
         Ok(())
     }
 
-    /// Makes an event. It does nothing where all that are to be shown were shown.
+    /// Makes an event. It does nothing if all that are to be shown were shown.
     fn event(&mut self, plan: &Plan, event: TraceEvent) -> Result<(), AllocError>
         requires event { IsEvent plan.now event }
         requires tracing { IsTracing plan.now self.old }
@@ -321,8 +321,8 @@ impl TraceRun {
     }
 }
 
-/// What a plan's schedule does from an event on (the first turn or eviction is 0), of so many
-/// events: a line each.
+/// What a plan's schedule does in `count` events from number `first` on (the first turn or eviction
+/// is 0): a line each.
 pub fn trace(alloc: Global, plan: &Plan, first: u32, count: u32) -> Result<Vec<u8>, AllocError>
     requires { first + count < 2 ^ 32 }
     ensures { IfOk result (λ text. text.items ≡ trace_text plan.now first count) }
