@@ -27,8 +27,8 @@ typedef struct header {
   char boot[40];   /* the run of the machine in which the file was made */
   uint64_t sum;    /* of all bytes above */
   uint64_t closed; /* IS_CLOSED as soon as the memory is closed and the disk has all of it */
-  /* Of a file that processes share: */
   uint32_t limit, apart; /* the limit of this life */
+  /* Of a file that processes share: */
   uint64_t start_sum;    /* of the durable words that the life starts from, behind the table */
   uint64_t share_sum;    /* of the two lines above, and of `sum` */
   _Alignas(64) _Atomic uint64_t used; /* a bit for each number that a process has had */

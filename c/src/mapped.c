@@ -23,7 +23,7 @@
 #include <sys/stat.h>
 #include <unistd.h>
 
-enum { ORDER = 0x01020304, MOST_FILES = 64 };
+enum { ORDER = 0x01020304, MOST_FILES = 64, LARGE_PAGE = 1 << 21 };
 
 static const char magic[8] = {'O', 'n', 'e', 'F', 'i', 'l', 'e', '\n'};
 static const uint64_t SUM_OF_NOTHING = 14695981039346656037u;
@@ -106,11 +106,25 @@ static given give(void *block) {
   return (given){block != NULL, block ? block : &nothing};
 }
 
+/* Asks for large pages for the words of a large table: all of them are written when it is opened,
+ * and with pages of 4096 bytes most of that time goes to the system, which gives them one by one.
+ * What a caller keeps of its own are numbers of 4 bytes, with room for all cells and touched here
+ * and there: on large pages it would take as much memory as the tables of all callers. Without
+ * large pages nothing else differs, so the answer is not looked at. */
+static void ask_large_pages(void *block, size_t size, size_t align) {
+  if (!block || align != sizeof(uint64_t) || size < 2 * LARGE_PAGE) return;
+  uintptr_t from = ((uintptr_t)block + LARGE_PAGE - 1) & ~(uintptr_t)(LARGE_PAGE - 1);
+  uintptr_t upto = ((uintptr_t)block + size) & ~(uintptr_t)(LARGE_PAGE - 1);
+  madvise((void *)from, upto - from, MADV_HUGEPAGE);
+}
+
 given rattle_alloc(size_t size, size_t align) {
   if (awaited.bytes != 0 && size == awaited.bytes && awaited.count++ == TABLE_REQUEST) {
     return give(awaited.words);
   }
-  return give(malloc(size ? size : align));
+  void *block = malloc(size ? size : align);
+  ask_large_pages(block, size, align);
+  return give(block);
 }
 
 given rattle_realloc(void *block, size_t kept, size_t size, size_t align) {
@@ -470,6 +484,7 @@ int onefile_open_file(onefile_memory *memory, const char *path, uint32_t callers
     int could_be = mapped_take_files();
     answer = mapped_conceive(&born, callers, blocks, limit);
     if (answer == ONEFILE_DONE) answer = mapped_head_for(&born, FOR_ONE, callers, blocks);
+    born.head.limit = limit;
     if (answer == ONEFILE_DONE) answer = begin(&born, memory);
     of_c_free(&born.start);
     mapped_let_go_files(could_be);
@@ -524,6 +539,7 @@ static uint32_t reopen(onefile_memory *memory, const char *path, uint32_t limit,
     answer = mapped_go_on_from(file, &born, limit);
     if (answer == ONEFILE_DONE) {
       answer = mapped_head_for(&born, FOR_ONE, born.head.callers, born.head.blocks);
+      born.head.limit = limit;
     }
     if (answer == ONEFILE_DONE) answer = begin(&born, memory);
     int why = errno;
@@ -551,4 +567,28 @@ int onefile_reopen_file(onefile_memory *memory, const char *path, uint32_t limit
   }
   if (saved) release(&saved->saved);
   return (int)answer;
+}
+
+/* ---- A memory in a file whose sequences begin anew. */
+
+int mapped_has(const onefile_memory *memory) { return mapped_table_of(memory) != NULL; }
+
+/* The path of a file that is open. NO_FILE if another file has its name, SYSTEM. */
+static uint32_t path_of(int file, char path[MOST_PATH]) {
+  char link[40];
+  snprintf(link, sizeof link, "/proc/self/fd/%d", file);
+  ssize_t size = readlink(link, path, MOST_PATH - 1);
+  if (size < 0) return ONEFILE_SYSTEM;
+  path[size] = 0;
+  return mapped_is_named(file, path) ? ONEFILE_DONE : ONEFILE_NO_FILE;
+}
+
+uint32_t mapped_renumber(onefile_memory *memory, onefile_slot *saved) {
+  char path[MOST_PATH];
+  const table *one = mapped_table_of(memory);
+  uint32_t limit = one->map->limit;
+  uint32_t answer = path_of(one->file, path);
+  if (answer == ONEFILE_DONE) answer = of_c_close(&memory->memory.slot, saved);
+  if (answer == ONEFILE_DONE) answer = of_c_renumber(saved);
+  return answer == ONEFILE_DONE ? reopen(memory, path, limit, NULL) : answer;
 }

@@ -23,12 +23,14 @@ uint32_t of_c_reopen(onefile_slot *saved, onefile_slot *memory);
 uint32_t of_c_enrol(of_c_pair *pair, uint32_t number);
 uint32_t of_c_leave(of_c_pair *pair);
 uint32_t of_c_close(onefile_slot *memory, onefile_slot *saved);
+uint32_t of_c_renumber_memory(onefile_slot *memory, onefile_slot *saved);
 uint32_t of_c_free(onefile_slot *slot);
 uint32_t of_c_call(onefile_slot *caller, const uint64_t *words, size_t count, uint64_t steps,
                    onefile_reply *reply);
 uint32_t of_c_call_text(onefile_slot *caller, const uint8_t *text, size_t length, uint64_t steps,
                         onefile_reply *reply);
 uint32_t of_c_go_on(onefile_slot *caller, uint64_t steps, onefile_reply *reply);
+uint32_t of_c_sequences_left(onefile_slot *caller, uint32_t *left);
 uint32_t of_c_register(onefile_slot *saved, uint32_t reg, uint32_t *value);
 uint32_t of_c_key(onefile_slot *saved, uint32_t key, uint32_t *value);
 uint32_t of_c_item(onefile_slot *saved, uint32_t queue, uint32_t at, uint32_t *value);

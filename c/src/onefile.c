@@ -122,6 +122,26 @@ int onefile_close(onefile_memory *memory, onefile_saved *saved) {
   return (int)answer;
 }
 
+/* Has the sequences of a memory begin anew that is taken with all its callers. */
+static uint32_t renumber_taken(onefile_memory *memory, onefile_saved *saved) {
+  if (mapped_is_inherited(memory) || shared_has(memory)) return ONEFILE_FILE_IN_USE;
+  if (has_caller(memory)) return ONEFILE_IN_USE;
+  if (mapped_has(memory)) return mapped_renumber(memory, &saved->saved.slot);
+  return of_c_renumber_memory(&memory->memory.slot, &saved->saved.slot);
+}
+
+int onefile_renumber(onefile_memory *memory, onefile_saved *saved) {
+  if (!memory || !saved) return ONEFILE_NULL;
+  if (!claim(&saved->saved)) return ONEFILE_BUSY;
+  uint32_t answer = ONEFILE_BUSY;
+  if (claim_all(memory)) {
+    answer = renumber_taken(memory, saved);
+    release_all(memory);
+  }
+  release(&saved->saved);
+  return (int)answer;
+}
+
 int onefile_free(onefile_memory *memory) {
   if (!memory) return ONEFILE_NULL;
   if (!claim_all(memory)) return ONEFILE_BUSY;
@@ -176,6 +196,16 @@ int onefile_go_on(onefile_memory *memory, uint32_t number, uint64_t steps, onefi
   onefile_guarded *caller = &memory->caller[number];
   if (!claim(caller)) return ONEFILE_BUSY;
   uint32_t answer = of_c_go_on(&caller->slot, steps, reply);
+  release(caller);
+  return (int)answer;
+}
+
+int onefile_sequences_left(onefile_memory *memory, uint32_t number, uint32_t *left) {
+  if (!memory || !left) return ONEFILE_NULL;
+  if (number >= ONEFILE_MOST_CALLERS) return ONEFILE_RANGE;
+  onefile_guarded *caller = &memory->caller[number];
+  if (!claim(caller)) return ONEFILE_BUSY;
+  uint32_t answer = of_c_sequences_left(&caller->slot, left);
   release(caller);
   return (int)answer;
 }

@@ -12,6 +12,11 @@ int mapped_is_inherited(onefile_memory *memory);
 /* Whether processes share the memory. */
 int shared_has(const onefile_memory *memory);
 
+/* Whether the memory is in a file, and closes it and opens one in its place whose sequences begin
+ * anew; what it has left is kept in `saved`. */
+int mapped_has(const onefile_memory *memory);
+uint32_t mapped_renumber(onefile_memory *memory, onefile_slot *saved);
+
 /* Takes a number of a shared memory for this process, if none has had it. Of any other memory it
  * is DONE, but in a forked child. TAKEN, FILE_IN_USE. The memory is claimed. */
 uint32_t shared_take_number(onefile_memory *memory, uint32_t number);
