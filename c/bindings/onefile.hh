@@ -62,6 +62,14 @@ class memory {
   // Lets a shared file go, which all callers of this process have left.
   void detach() { expect(onefile_close(&held, nullptr)); }
 
+  // Has the sequences of a memory begin anew that all callers have left.
+  void renumber() {
+    onefile_saved left = ONEFILE_NONE;
+    int answer = onefile_renumber(&held, &left);
+    onefile_free_saved(&left);
+    expect(answer);
+  }
+
   onefile_memory held = ONEFILE_NONE;
 
  private:
@@ -91,6 +99,13 @@ class caller {
     onefile_reply reply{};
     expect(onefile_call(&of.held, number, words.data(), words.size(), &reply));
     return reply;
+  }
+
+  // How many sequences are left at most, as far as this caller knows.
+  uint32_t sequences_left() const {
+    uint32_t left = 0;
+    expect(onefile_sequences_left(&of.held, number, &left));
+    return left;
   }
 
   // Runs a script that is stopped after so many steps.

@@ -47,6 +47,8 @@ OF = {
     "enrol_any": [POINTER(RawMemory), POINTER(c_uint32)],
     "leave": [POINTER(RawMemory), c_uint32],
     "close": [POINTER(RawMemory), POINTER(Guarded)],
+    "renumber": [POINTER(RawMemory), POINTER(Guarded)],
+    "sequences_left": [POINTER(RawMemory), c_uint32, POINTER(c_uint32)],
     "free": [POINTER(RawMemory)],
     "call_text_within": [
         POINTER(RawMemory), c_uint32, c_char_p, c_size_t, c_uint64, POINTER(Reply)],
@@ -110,6 +112,13 @@ class Memory:
         make("close", self.held, saved.held)
         return saved
 
+    def renumber(self):
+        """Has the sequences of a memory begin anew that all callers have left, and gives what it
+        has left."""
+        saved = Saved()
+        make("renumber", self.held, saved.held)
+        return saved
+
     def detach(self):
         """Lets a shared file go, which all callers of this process have left."""
         make("close", self.held, None)
@@ -142,6 +151,12 @@ class Caller:
         given = (self.memory.held, self.number, text, len(text), steps, reply)
         make("call_text_within", *given, wanted=(wanted,))
         return reply
+
+    def sequences_left(self):
+        """How many sequences are left at most, as far as this caller knows."""
+        left = c_uint32()
+        make("sequences_left", self.memory.held, self.number, left)
+        return left.value
 
 
 class Saved:

@@ -125,7 +125,6 @@ int onefile_close(onefile_memory *memory, onefile_saved *saved) {
 /* Has the sequences of a memory begin anew that is taken with all its callers. */
 static uint32_t renumber_taken(onefile_memory *memory, onefile_saved *saved) {
   if (mapped_is_inherited(memory) || shared_has(memory)) return ONEFILE_FILE_IN_USE;
-  if (has_caller(memory)) return ONEFILE_IN_USE;
   if (mapped_has(memory)) return mapped_renumber(memory, &saved->saved.slot);
   return of_c_renumber_memory(&memory->memory.slot, &saved->saved.slot);
 }

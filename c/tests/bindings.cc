@@ -61,6 +61,21 @@ static uint32_t shares_again(const std::string &path) {
   return sum;
 }
 
+// A sum, and how many sequences are left, before they begin anew and after that.
+static void renumbers() {
+  onefile::memory of(1, 0, 3);
+  std::printf("sums, and sequences left:");
+  for (int life = 0; life < 2; life++) {
+    {
+      onefile::caller own(of, 0);
+      uint32_t sum = own.call({onefile_add(3, 5)}).values[0];
+      std::printf(" %u %u", sum, own.sequences_left());
+    }
+    of.renumber();
+  }
+  std::puts("");
+}
+
 int main(int argc, char **argv) {
   onefile::memory of(2, 0);
   bool other = false;
@@ -72,6 +87,7 @@ int main(int argc, char **argv) {
   const char path[] = "/no/such\0folder";
   bool is_taken = takes_path(std::string(path, sizeof path - 1));
   std::printf("a path with a zero byte: %s\n", is_taken ? "taken" : "refused");
+  renumbers();
   std::string file = std::string(argc > 1 ? argv[1] : "/tmp") + "/onefile-bindings.cc";
   std::remove(file.c_str());
   uint32_t sum = shares(file);

@@ -265,8 +265,8 @@ pub extern "C" fn of_c_close(alloc: Global, memory: &mut Slot, saved: &mut Slot)
 // anew. If there is no memory for that one, what is left is held alone.
 fn renumber_home(
     home: Home,
-    mut place: Box<Held, Global>,
-    mut kept: Box<Held, Global>,
+    mut opened_in: Box<Held, Global>,
+    mut kept_in: Box<Held, Global>,
     memory: &mut Slot,
     saved: &mut Slot,
 ) -> u32
@@ -289,20 +289,20 @@ fn renumber_home(
                 saved: left,
             },
         ) => {
-            *kept = Held::Saved(Kept { saved: left });
-            saved.put(kept);
-            *place = Held::Memory(Home { memory: opened });
-            memory.put(place);
+            *kept_in = Held::Saved(Kept { saved: left });
+            saved.put(kept_in);
+            *opened_in = Held::Memory(Home { memory: opened });
+            memory.put(opened_in);
             DONE
         }
         Err(RenumberError::InUse(again)) => {
-            *place = Held::Memory(Home { memory: again });
-            memory.put(place);
+            *opened_in = Held::Memory(Home { memory: again });
+            memory.put(opened_in);
             IN_USE
         }
         Err(RenumberError::OutOfMemory(left)) => {
-            *kept = Held::Saved(Kept { saved: left });
-            saved.put(kept);
+            *kept_in = Held::Saved(Kept { saved: left });
+            saved.put(kept_in);
             NO_MEMORY
         }
     }
@@ -330,10 +330,10 @@ pub extern "C" fn of_c_renumber_memory(alloc: Global, memory: &mut Slot, saved: 
     if !saved.is_empty() {
         return FULL;
     }
-    let Ok(place) = Box::new(alloc, Held::Nothing) else {
+    let Ok(opened_in) = Box::new(alloc, Held::Nothing) else {
         return NO_MEMORY;
     };
-    let Ok(kept) = Box::new(alloc, Held::Nothing) else {
+    let Ok(kept_in) = Box::new(alloc, Held::Nothing) else {
         return NO_MEMORY;
     };
     let Some(held) = memory.take(alloc) else {
@@ -343,8 +343,9 @@ pub extern "C" fn of_c_renumber_memory(alloc: Global, memory: &mut Slot, saved: 
         memory.put(held);
         return EMPTY;
     }
-    match Box::into_inner(held) {
-        Held::Memory(home) => renumber_home(home, place, kept, memory, saved),
+    let held = Box::into_inner(held);
+    match held {
+        Held::Memory(home) => renumber_home(home, opened_in, kept_in, memory, saved),
         _ => unreachable!(),
     }
 }
