@@ -23,7 +23,6 @@ uint32_t of_c_reopen(onefile_slot *saved, onefile_slot *memory);
 uint32_t of_c_enrol(of_c_pair *pair, uint32_t number);
 uint32_t of_c_leave(of_c_pair *pair);
 uint32_t of_c_close(onefile_slot *memory, onefile_slot *saved);
-uint32_t of_c_renumber_memory(onefile_slot *memory, onefile_slot *saved);
 uint32_t of_c_free(onefile_slot *slot);
 uint32_t of_c_call(onefile_slot *caller, const uint64_t *words, size_t count, uint64_t steps,
                    onefile_reply *reply);

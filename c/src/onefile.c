@@ -126,7 +126,9 @@ int onefile_close(onefile_memory *memory, onefile_saved *saved) {
 static uint32_t renumber_taken(onefile_memory *memory, onefile_saved *saved) {
   if (mapped_is_inherited(memory) || shared_has(memory)) return ONEFILE_FILE_IN_USE;
   if (mapped_has(memory)) return mapped_renumber(memory, &saved->saved.slot);
-  return of_c_renumber_memory(&memory->memory.slot, &saved->saved.slot);
+  uint32_t answer = of_c_close(&memory->memory.slot, &saved->saved.slot);
+  if (answer == ONEFILE_DONE) answer = of_c_renumber(&saved->saved.slot);
+  return answer == ONEFILE_DONE ? of_c_reopen(&saved->saved.slot, &memory->memory.slot) : answer;
 }
 
 int onefile_renumber(onefile_memory *memory, onefile_saved *saved) {

@@ -1,5 +1,5 @@
 -- How a memory is opened, how its callers come and go, and how it is closed.
-use Rattle.std.specs.Prelude.{◌≡◌, ℕ, ◌<◌, List, [], Option, None, ◌⊎◌, max}
+use Rattle.std.specs.Prelude.{◌≡◌, ℕ, ◌<◌, List, [], Option, max}
 use Rattle.of_script.specs.declared.instr.Instr.{Instr}
 use Rattle.of_store.specs.Store.{Store, empty_store}
 use Rattle.of_memory.specs.declared.memory.Memory.{Memory}
@@ -13,7 +13,6 @@ use Rattle.of_memory.specs.Memories.{HasHistory, HasNoHandleOut, limit_of, Takes
 use Rattle.of_memory.specs.Memories.{OthersKnowOrder, RemembersAll}
 use Rattle.of_memory.specs.Saving.{SavedHolds, saved_callers, saved_limit, saved_seq, saved_ticket}
 use Rattle.of_memory.specs.Sequences.{seq_known_to, seq_known_in}
-use Rattle.of_memory.specs.Renewing.{GoesOnFrom, LeavesRenumbered}
 use Rattle.of_memory.specs.Telling.{KnowsOrdersOf, LeavesOrder, HearsMemory, TellsMemory}
 use Rattle.of_c.specs.declared.held.Held.{Held}
 use Rattle.of_c.specs.Slots.{HoldsMemory, HoldsHandle, HoldsSaved}
@@ -104,25 +103,3 @@ pub record HoldsClosed (before now : Option Held) : Type 0 where
   pub count : saved_callers left ≡ callers_of memory
   pub limit_is : saved_limit left ≡ limit_of memory
   pub here : HasNoHandleOut memory
-
--- What the memory has left is held, with sequences that begin anew: one serial history leads to it,
--- with each call that was answered. Each caller had left.
-pub record HoldsRest (before saved : Option Held) : Type 0 where
-  pub memory : Memory
-  pub was : HoldsMemory before memory
-  pub left : Saved
-  pub kept : HoldsSaved saved left
-  pub leaves : LeavesRenumbered memory left
-
--- so it is, and a memory is held that goes on from it
-pub record HoldsRenewed (before now saved : Option Held) : Type 0 where
-  pub rest : HoldsRest before saved
-  pub next : Memory
-  pub is : HoldsMemory now next
-  pub goes_on : GoesOnFrom rest.left next
-  pub seq : seq_known_in next ≡ 0
-
--- what was held is held still, or the memory is closed: the rest of it is held, and it is gone
-abbrev pub KeepsOrCloses : (before now saved_before saved : Option Held) → Type 0
-KeepsOrCloses before now saved_before saved =
-    ((now ≡ before) × (saved ≡ saved_before)) ⊎ ((now ≡ None) × HoldsRest before saved)

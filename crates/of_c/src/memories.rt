@@ -7,7 +7,6 @@ ghost use Rattle.of_c.specs.declared.held.Held.TheVariants.{Memory as HeldMemory
 ghost use Rattle.of_memory.specs.Memories.{HasHandleOut};
 ghost use Rattle.of_c.specs.Slots.{AreOfOne};
 ghost use Rattle.of_c.specs.Lives.{HoldsEmpty, HoldsNext, HoldsEnrolled, HoldsLeft, HoldsClosed};
-ghost use Rattle.of_c.specs.Lives.{HoldsRest, HoldsRenewed, KeepsOrCloses};
 ghost use Rattle.of_c.specs.Causes.{IsOneCode, HoldsNo, IsNotMemory, IsNotCaller, IsNotSaved};
 ghost use Rattle.of_c.specs.Causes.{AreOutOfRange, HoldsMemoryWith, HasNoNumber, IsEnrolled};
 ghost use Rattle.of_c.specs.Causes.{KeepsHeld, KeepsSlot};
@@ -17,7 +16,7 @@ use crate::held::{Held, Home, Kept, Seat};
 use crate::pair::Pair;
 use crate::slot::Slot;
 use crate::truth::{OfHandle, OfMemory, OfPair, OfSaved, surely};
-use of_memory::{EnrolError, Handle, InUse, Memory, OpenError, RenumberError, Renumbered, Saved};
+use of_memory::{EnrolError, Handle, InUse, Memory, OpenError, Saved};
 use std::alloc::Global;
 
 /// An empty memory: 1 to 64 callers, at most 16,777,216 blocks, sequences up to a limit.
@@ -257,95 +256,6 @@ pub extern "C" fn of_c_close(alloc: Global, memory: &mut Slot, saved: &mut Slot)
     }
     match Box::into_inner(held) {
         Held::Memory(home) => close_home(home, place, memory, saved),
-        _ => unreachable!(),
-    }
-}
-
-// Closes a memory, and opens the one that goes on from what it has left, with sequences that begin
-// anew. If there is no memory for that one, what is left is held alone.
-fn renumber_home(
-    home: Home,
-    mut opened_in: Box<Held, Global>,
-    mut kept_in: Box<Held, Global>,
-    memory: &mut Slot,
-    saved: &mut Slot,
-) -> u32
-    requires { memory.old.raw.held ≡ None }
-    ensures renumbered { result ≡ DONE
-        → HoldsRenewed (Some (HeldMemory home)) memory.new.raw.held saved.new.raw.held }
-    ensures codes { IsOneCode (DONE ∷ IN_USE ∷ NO_MEMORY ∷ []) result }
-    ensures in_use { result ≡ IN_USE → HasHandleOut home.memory }
-    ensures back { result ≡ IN_USE → memory.new.raw.held ≡ Some (HeldMemory home) }
-    ensures refused { result ≡ IN_USE → saved.new.raw.held ≡ saved.old.raw.held }
-    ensures closed { result ≡ NO_MEMORY
-        → HoldsRest (Some (HeldMemory home)) saved.new.raw.held }
-    ensures gone { result ≡ NO_MEMORY → memory.new.raw.held ≡ None }
-{
-    surely::<Memory, OfMemory>(&home.memory);
-    match home.memory.renumbered() {
-        Ok(
-            Renumbered {
-                memory: opened,
-                saved: left,
-            },
-        ) => {
-            *kept_in = Held::Saved(Kept { saved: left });
-            saved.put(kept_in);
-            *opened_in = Held::Memory(Home { memory: opened });
-            memory.put(opened_in);
-            DONE
-        }
-        Err(RenumberError::InUse(again)) => {
-            *opened_in = Held::Memory(Home { memory: again });
-            memory.put(opened_in);
-            IN_USE
-        }
-        Err(RenumberError::OutOfMemory(left)) => {
-            *kept_in = Held::Saved(Kept { saved: left });
-            saved.put(kept_in);
-            NO_MEMORY
-        }
-    }
-}
-
-/// Closes a memory, and opens one in its place that goes on from what it has left, with sequences
-/// that begin anew.
-#[unsafe(no_mangle)]
-pub extern "C" fn of_c_renumber_memory(alloc: Global, memory: &mut Slot, saved: &mut Slot) -> u32
-    ensures renumbered { result ≡ DONE
-        → HoldsRenewed memory.old.raw.held memory.new.raw.held saved.new.raw.held }
-    ensures codes { IsOneCode (DONE ∷ FULL ∷ EMPTY ∷ IN_USE ∷ NO_MEMORY ∷ []) result }
-    ensures full { (result ≡ FULL) ↔ IsSome saved.old.raw.held }
-    ensures empty { result ≡ EMPTY → HoldsNo IsNotMemory memory.old.raw.held }
-    // Only if a caller has not left.
-    ensures in_use { result ≡ IN_USE → HoldsMemoryWith HasHandleOut memory.old.raw.held }
-    ensures refused { result ≢ DONE → result ≢ NO_MEMORY
-        → saved.new.raw.held ≡ saved.old.raw.held }
-    ensures back { result ≢ DONE → result ≢ NO_MEMORY
-        → memory.new.raw.held ≡ memory.old.raw.held }
-    // Without memory nothing has changed, or the memory is closed.
-    ensures no_memory { result ≡ NO_MEMORY → KeepsOrCloses memory.old.raw.held
-        memory.new.raw.held saved.old.raw.held saved.new.raw.held }
-{
-    if !saved.is_empty() {
-        return FULL;
-    }
-    let Ok(opened_in) = Box::new(alloc, Held::Nothing) else {
-        return NO_MEMORY;
-    };
-    let Ok(kept_in) = Box::new(alloc, Held::Nothing) else {
-        return NO_MEMORY;
-    };
-    let Some(held) = memory.take(alloc) else {
-        return EMPTY;
-    };
-    if !matches!(&*held, Held::Memory(_)) {
-        memory.put(held);
-        return EMPTY;
-    }
-    let held = Box::into_inner(held);
-    match held {
-        Held::Memory(home) => renumber_home(home, opened_in, kept_in, memory, saved),
         _ => unreachable!(),
     }
 }

@@ -15,8 +15,7 @@ module _ (m : Memory) (d e : Saved) (same : SavesSame d e) where
   pub history_same : HasHistory m d → HasHistory m e
   history_same has s starts =
       let h = (has s starts).0 in
-      let l = (has s starts).1 in
-      (
+      let l = (has s starts).1 in (
         h,
         record {
           serial = l.serial;

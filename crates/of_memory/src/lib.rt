@@ -7,6 +7,7 @@ mod error;
 mod handle;
 mod image;
 pub mod laws;
+mod looking;
 mod memory;
 mod saved;
 mod words;

@@ -1,6 +1,6 @@
-//! What is saved, looked up without a copy of the store.
+//! What is saved, looked up cell by cell: no list of all of it is made, and no memory is taken.
 
-ghost use Rattle.std.specs.Prelude.{◌≡◌, ◌<◌, ◌%◌, length};
+ghost use Rattle.std.specs.Prelude.{◌≡◌, ◌<◌, length, slice_get};
 ghost use Rattle.std.specs.FinMap as fm;
 ghost use Rattle.of_mem.specs.declared.plot.TheConstants.{QUEUES, REGISTERS};
 ghost use Rattle.of_mem.specs.Plots.{base};
@@ -60,6 +60,14 @@ impl Saved {
         None
     }
 
+    /// How many keys there are.
+    pub fn keys(&self) -> u32
+        requires { IsSaved self.now }
+        ensures { (s : Store) → SavedHolds self.now s → result ≡ fm.len s.keys }
+    {
+        self.number(self.plot().keys())
+    }
+
     /// How many items a queue has.
     pub fn queue_len(&self, q: u32) -> u32
         requires saved { IsSaved self.now }
@@ -67,5 +75,28 @@ impl Saved {
         ensures { (s : Store) → SavedHolds self.now s → result ≡ length (queue s q) }
     {
         self.number(self.plot().length(q))
+    }
+
+    /// The item at a place of a queue, the front at 0. None exactly if there are no more than so
+    /// many.
+    pub fn item(&self, q: u32, at: u32) -> Option<u32>
+        requires saved { IsSaved self.now }
+        requires queue { q < QUEUES }
+        ensures { (s : Store) → SavedHolds self.now s → result ≡ slice_get (queue s q) at }
+    {
+        let plot = self.plot();
+        let mut cell = plot.head(q);
+        for passed in 0..at {
+            let pointer = self.number(cell);
+            if pointer == 0 {
+                return None;
+            }
+            cell = plot.block(pointer - 1, 2);
+        }
+        let pointer = self.number(cell);
+        if pointer == 0 {
+            return None;
+        }
+        Some(self.number(plot.block(pointer - 1, 0)))
     }
 }
