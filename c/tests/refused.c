@@ -66,6 +66,13 @@ static void expect(int answer, const char *what) {
 #define AGAIN(call) MAKE(call, 1)
 #define READS(call) MAKE(call, 0)
 
+/* Has the sequences begin anew. Without memory it has changed nothing, or the memory is closed: then
+ * what it has left is kept, and it can go on from there. */
+static int renumber(onefile_memory *memory, onefile_saved *saved) {
+  int answer = onefile_renumber(memory, saved);
+  return answer == ONEFILE_FULL ? onefile_reopen(memory, saved) : answer;
+}
+
 static void life(void) {
   static const char first[] = "add 1 5; put 3 4; push 0 9", second[] = "add 1 2";
   onefile_memory memory = ONEFILE_NONE;
@@ -87,6 +94,8 @@ static void life(void) {
   AGAIN(onefile_enrol(&memory, 0));
   CALL(onefile_call_text(&memory, 0, second, sizeof second - 1, &reply));
   AGAIN(onefile_leave(&memory, 0));
+  AGAIN(renumber(&memory, &saved));
+  AGAIN(onefile_free_saved(&saved));
   AGAIN(onefile_close(&memory, &saved));
   READS(onefile_register(&saved, 1, &value[0]));
   READS(onefile_key(&saved, 3, &value[1]));
