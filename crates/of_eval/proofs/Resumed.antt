@@ -17,7 +17,8 @@ use Rattle.of_script.specs.declared.instr.TheConstants.{MOST_INSTRS}
 use Rattle.of_store.specs.Replies.{IsSmall}
 use Rattle.of_store.proofs.Values.{small_values, none_left}
 use Rattle.of_eval.specs.ScriptPrograms.{word_program, words_program, script_program}
-use Rattle.of_eval.specs.Resuming.{part_with, IsOfStore, LooksFor, MayResume, HoldsScript}
+use Rattle.of_mem.specs.declared.walk.Sought.{Sought}
+use Rattle.of_eval.specs.Resuming.{part_with, IsOfStore, LooksFor, WalkLacks, MayResume, HoldsScript}
 use Rattle.of_eval.specs.Stored.{cell_store, HasState}
 use Rattle.of_eval.proofs.Walks.{script_is, ran_more, ran_lacks, word_leaves}
 
@@ -80,8 +81,8 @@ has_store plot k p q g h none here =
     let s = g.stands p.known (λ a w x. x) (of_store plot p h none) in
     subst (HasStore plot) (sym here) (record { fits = h.fits; memory = s.0; store = cell_store s.1.0; part = s.2; stands = s.1.1.stands })
 
--- a key that the next word looks for
-pub goes_sought : (o blocks : ℕ) (k : SuspendedRun) (p : Part) → MayResume o blocks k p → (r : Option ℕ) → IfSome r (λ key. LooksFor o blocks (get_or k.words k.done 0) key) → MayResume o blocks (record k { sought = r }) p
+-- what the next word looks for
+pub goes_sought : (o blocks : ℕ) (k : SuspendedRun) (p : Part) → MayResume o blocks k p → (r : Option Sought) → IfSome r (λ s. LooksFor o blocks (get_or k.words k.done 0) s) → MayResume o blocks (record k { sought = r }) p
 goes_sought o blocks k p g r h = record {
   runs = g.runs;
   stands = g.stands;
@@ -89,19 +90,19 @@ goes_sought o blocks k p g r h = record {
   width = g.width;
   past = g.past;
   small = g.small;
-  looks = λ key e. subst (λ (x : Option ℕ). IfSome x (λ key. LooksFor o blocks (get_or k.words k.done 0) key)) e h;
+  looks = λ s e. subst (λ (x : Option Sought). IfSome x (λ s. LooksFor o blocks (get_or k.words k.done 0) s)) e h;
 }
 
-pub looks_word : (o blocks w x : ℕ) (r : Option ℕ) → w ≡ x → IfSome r (λ key. (o blocks : ℕ) → LooksFor o blocks w key) → IfSome r (λ key. LooksFor o blocks x key)
-looks_word o blocks w x None e h = tt
-looks_word o blocks w x (Some key) e h = subst (λ (y : ℕ). LooksFor o blocks y key) e (h o blocks)
+pub looks_word : (o n blocks w x : ℕ) (r : Option Sought) → n ≡ blocks → w ≡ x → IfSome r (λ s. (o : ℕ) → LooksFor o n w s) → IfSome r (λ s. LooksFor o blocks x s)
+looks_word o n blocks w x None at e h = tt
+looks_word o n blocks w x (Some s) at e h = subst (λ (b : ℕ). LooksFor o b x s) at (subst (λ (y : ℕ). LooksFor o n y s) e (h o))
 
--- where the walk to the key that is kept lacks a cell, the script lacks it
+-- where the walk to what is kept lacks a cell, the script lacks it
 pub reaches : (o blocks : ℕ) (few : blocks ≤ MOST_BLOCKS) (k : SuspendedRun) (p q : Part) → MayResume o blocks k p → p.script ≡ [] → (op : List ℕ) → k.words ≡ op → length op ≤ MOST_INSTRS → q ≡ part_with p.known p.batch k.writes
-    → (key a : ℕ) → k.sought ≡ Some key → run_program (seek_program o blocks key) q ≡ Lacks a → run_program (script_program o blocks op) p ≡ Lacks a
-reaches o blocks few k p q g none op is most here key a e lacks =
+    → (s : Sought) (a : ℕ) → k.sought ≡ Some s → WalkLacks o blocks s q a → run_program (script_program o blocks op) p ≡ Lacks a
+reaches o blocks few k p q g none op is most here s a e lacks =
     let left : k.done < length op = omega (arith, g.left, ap length is) in
-    let word : run_program (word_program o blocks (get_or op k.done 0)) q ≡ Lacks a = subst (λ (ws : List ℕ). run_program (word_program o blocks (get_or ws k.done 0)) q ≡ Lacks a) is (g.looks key e q a lacks) in
+    let word : run_program (word_program o blocks (get_or op k.done 0)) q ≡ Lacks a = subst (λ (ws : List ℕ). run_program (word_program o blocks (get_or ws k.done 0)) q ≡ Lacks a) is (g.looks s e q a lacks) in
     ran_so o blocks few k p g none op is most k.done refl q here ∙ ran_lacks o blocks (length op) op k.done left k.values q q a word
 
 -- how the call reads and leaves what is kept

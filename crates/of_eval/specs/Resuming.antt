@@ -2,6 +2,8 @@
 -- `impl MaySuspend for Scripts`, which may cite specs/ alone.
 use Rattle.std.specs.Prelude.{◌≡◌, ℕ, ◌≤◌, ◌<◌, List, [], length, take, drop, Option, Some, None}
 use Rattle.std.proofs.Common.{get_or, arith, ap}
+use Rattle.of_mem.specs.declared.walk.Sought.{Sought}
+use Rattle.of_mem.specs.declared.walk.Sought.TheVariants.{Key, LeastFrom}
 use Rattle.of_mem.specs.declared.work.TheConstants.{MOST_INSTRS}
 use Rattle.of_mem.specs.Part.{Part, Extends, learn}
 use Rattle.of_mem.specs.Places.{base_of}
@@ -9,6 +11,7 @@ use Rattle.of_mem.specs.Programs.{Lacks, run_program, IsPartOf}
 use Rattle.of_mem.specs.SuspendedRun.{SuspendedRun}
 use Rattle.of_mem.proofs.Extended.{extends_learnt}
 use Rattle.of_map.specs.MapPrograms.{seek_program}
+use Rattle.of_order.specs.OrderPrograms.{least_program}
 use Rattle.of_store.specs.Replies.{IsSmall}
 use Rattle.of_eval.specs.ScriptPrograms.{word_program, words_program}
 use Rattle.of_eval.specs.Scripts.{StandsForSome}
@@ -21,10 +24,15 @@ part_with known batch script = record { known = known; batch = batch; script = s
 abbrev pub IsOfStore : ℕ → ℕ → Part → Type 0
 IsOfStore o blocks p = (m : ℕ → ℕ) × StandsForSome o blocks m × IsPartOf p m
 
--- where the walk to the key lacks a cell, the word lacks it too
-abbrev pub LooksFor : ℕ → ℕ → ℕ → ℕ → Type 0
-LooksFor o blocks w key =
-    (p : Part) (a : ℕ) → run_program (seek_program o blocks key) p ≡ Lacks a
+-- the walk to what is sought lacks this cell
+abbrev pub WalkLacks : ℕ → ℕ → Sought → Part → ℕ → Type 0
+WalkLacks o blocks (Key key) p a = run_program (seek_program o blocks key) p ≡ Lacks a
+WalkLacks o blocks (LeastFrom low) p a = run_program (least_program o blocks low) p ≡ Lacks a
+
+-- then the word lacks it too
+abbrev pub LooksFor : ℕ → ℕ → ℕ → Sought → Type 0
+LooksFor o blocks w s =
+    (p : Part) (a : ℕ) → WalkLacks o blocks s p a
     → run_program (word_program o blocks w) p ≡ Lacks a
 
 -- whatever else is known, the script goes on behind the words that have run, with what these
@@ -43,8 +51,8 @@ pub record MayResume (o blocks : ℕ) (k : SuspendedRun) (p : Part) : Type 0 whe
   pub width : length k.values ≡ MOST_INSTRS
   pub past : (i : ℕ) → k.done ≤ i → get_or k.values i None ≡ None
   pub small : (i : ℕ) → IsSmall (get_or k.values i None)
-  -- the next word looks for the key that is kept
-  pub looks : (key : ℕ) → k.sought ≡ Some key → LooksFor o blocks (get_or k.words k.done 0) key
+  -- the next word looks for what is kept
+  pub looks : (s : Sought) → k.sought ≡ Some s → LooksFor o blocks (get_or k.words k.done 0) s
 
 -- where a script is kept, it goes on so on the cells of the work that kept it
 abbrev pub HoldsScript : SuspendedRun → Part → Type 0

@@ -13,7 +13,7 @@ ghost use Rattle.of_eval.specs.Scripts.{instr_reads};
 ghost use Rattle.of_eval.specs.Resuming.{LooksFor};
 
 use of_map::Put;
-use of_mem::{Need, Part, Plot};
+use of_mem::{Need, Part, Plot, Sought};
 use of_script::{Cause, GREATEST, Instr, from_word};
 use of_store::MOST_ORDERED_BLOCKS;
 
@@ -42,15 +42,19 @@ pub(crate) fn word_reads(word: u64) -> bool
     }
 }
 
-/// The key that a word looks for before all else, if it is that of an instruction which does.
-pub(crate) fn word_seeks(word: u64) -> Option<u32>
-    ensures { IfSome result (λ key. (o blocks : ℕ) → LooksFor o blocks word key) }
+/// What a word looks for before all else over so many blocks, if it is that of an instruction which
+/// does.
+pub(crate) fn word_seeks(word: u64, blocks: u32) -> Option<Sought>
+    ensures { IfSome result (λ s. (o : ℕ) → LooksFor o blocks word s) }
 {
+    let is_ordered = blocks <= MOST_ORDERED_BLOCKS;
     match from_word(word)? {
-        Instr::Get { key } => Some(key),
-        Instr::Put { key, .. } => Some(key),
-        Instr::Del { key } => Some(key),
-        Instr::Need { key, .. } => Some(key),
+        Instr::Get { key } => Some(Sought::Key(key)),
+        Instr::Put { key, .. } => Some(Sought::Key(key)),
+        Instr::Del { key } => Some(Sought::Key(key)),
+        Instr::Need { key, .. } => Some(Sought::Key(key)),
+        Instr::First if is_ordered => Some(Sought::LeastFrom(0)),
+        Instr::Next { key } if is_ordered => Some(Sought::LeastFrom(u64::from(key) + 1)),
         _ => None,
     }
 }

@@ -21,7 +21,7 @@ ghost use Rattle.of_store.specs.Store.{Aborted};
 
 use crate::reply::reply_cells;
 use crate::step::{run_word, word_seeks};
-use of_mem::{Need, Part, Plot, RawReply, SuspendedRun};
+use of_mem::{Need, Part, Plot, RawReply, Sought, SuspendedRun};
 use of_script::{Abort, Cause, MOST_INSTRS, Reply};
 
 /// Goes back to where `kept` stopped if it is of these words, and else begins them there.
@@ -41,9 +41,9 @@ pub(crate) fn resume(plot: &Plot, part: &mut Part, kept: &mut SuspendedRun, op: 
     kept.restore(part);
 }
 
-/// Walks towards the key that the next word looks for, where `kept` has one. The error names a cell
-/// that is read and isn't known. A run that lacks one cell after the other of a bucket so costs the
-/// walk alone.
+/// Walks towards what the next word looks for, where `kept` has it. The error names a cell that is
+/// read and isn't known. A run that lacks one cell after the other of a bucket so costs the walk
+/// alone.
 pub(crate) fn reach(plot: &Plot, part: &mut Part, kept: &SuspendedRun) -> Result<(), Need>
     requires stands { HasState plot.now (record part.old { script = [] }) }
     requires goes { MayResume (base plot.now) plot.now.blocks kept.now
@@ -57,7 +57,8 @@ pub(crate) fn reach(plot: &Plot, part: &mut Part, kept: &SuspendedRun) -> Result
 {
     match kept.sought() {
         None => Ok(()),
-        Some(key) => of_map::reach(plot, part, key),
+        Some(Sought::Key(key)) => of_map::reach(plot, part, key),
+        Some(Sought::LeastFrom(low)) => of_order::reach(plot, part, low),
     }
 }
 
@@ -101,7 +102,7 @@ pub(crate) fn run_to_reply(
             Ok(())
         }
         Err(need) => {
-            keep_sought(kept, op);
+            keep_sought(plot, kept, op);
             part.undo();
             Err(need)
         }
@@ -144,15 +145,15 @@ fn run_words(
     unreachable!()
 }
 
-/// Keeps the key that the next of these words looks for, if it does so before all else.
-fn keep_sought(kept: &mut SuspendedRun, op: &[u64])
-    requires { kept.old.words ≡ op.now }
+/// Keeps what the next of these words looks for, if it does so before all else.
+fn keep_sought(plot: &Plot, kept: &mut SuspendedRun, op: &[u64])
+    requires { IsSuspensionOf kept.old plot.now.callers plot.now.blocks op.now }
     ensures holds { (p : Part) → HoldsScript kept.old p → HoldsScript kept.new p }
     ensures room { kept.new.room ≡ kept.old.room }
 {
     let next = kept.done();
     if next < op.len() {
-        kept.seek(word_seeks(op[next]));
+        kept.seek(word_seeks(op[next], plot.blocks));
     }
 }
 

@@ -1,6 +1,7 @@
 -- What a work keeps of an operation whose run lacked a cell.
 use Rattle.std.specs.Prelude.{◌≡◌, ℕ, List, [], Option, None}
 use Rattle.std.proofs.Common.{replicate}
+use Rattle.of_mem.specs.declared.walk.Sought.{Sought}
 use Rattle.of_mem.specs.declared.work.TheConstants.{MOST_INSTRS}
 
 pub record SuspendedRun : Type 0 where
@@ -15,8 +16,8 @@ pub record SuspendedRun : Type 0 where
   pub writes : List (ℕ × ℕ)
   -- cells are below it
   pub room : ℕ
-  -- the key that the next word looks for before all else, where that was kept
-  pub sought : Option ℕ
+  -- what the next word looks for before all else, where that was kept
+  pub sought : Option Sought
 
 -- an operation of which nothing has run
 abbrev pub begin_run : ℕ → ℕ → ℕ → List ℕ → SuspendedRun

@@ -6,14 +6,15 @@ ghost use Rattle.of_mem.specs.declared.work.TheConstants.{MOST_INSTRS};
 ghost use Rattle.of_mem.specs.SuspendedRun.{nothing_suspended, begin_run, IsSuspensionOf};
 
 use crate::part::Part;
+use crate::walk::Sought;
 use crate::work::MOST_INSTRS;
 use crate::write_set::WriteSet;
 use std::alloc::{AllocError, Global};
 use std::marker::Model;
 
 /// What a work keeps of an operation whose run lacked a cell: the work's own numbers, the
-/// operation's words, how many of the first words have run, what these answered and wrote, and the
-/// key that the next word looks for before all else, if it does.
+/// operation's words, how many of the first words have run, what these answered and wrote, and what
+/// the next word looks for before all else, if it does.
 /// There are no words where nothing is kept. Only `new` takes memory.
 #[derive(Drop)]
 pub struct SuspendedRun {
@@ -24,7 +25,7 @@ pub struct SuspendedRun {
     done: u32,
     values: [Option<u32>; MOST_INSTRS],
     writes: WriteSet,
-    sought: Option<u32>,
+    sought: Option<Sought>,
 }
 
 impl Model for SuspendedRun {
@@ -142,18 +143,18 @@ impl SuspendedRun {
         part.copy_script(&mut self.writes);
     }
 
-    /// The key that the next word looks for before all else, where that was kept.
-    pub fn sought(&self) -> Option<u32>
+    /// What the next word looks for before all else, where that was kept.
+    pub fn sought(&self) -> Option<Sought>
         ensures { result ≡ self.now.sought }
     {
         self.sought
     }
 
-    /// Keeps the key that the next word looks for before all else, or that there is none.
-    pub fn seek(&mut self, key: Option<u32>)
-        ensures { self.new ≡ record self.old { sought = key } }
+    /// Keeps what the next word looks for before all else, or that there is nothing.
+    pub fn seek(&mut self, sought: Option<Sought>)
+        ensures { self.new ≡ record self.old { sought = sought } }
     {
-        self.sought = key;
+        self.sought = sought;
     }
 
     /// Lets the script have written what the words wrote that have run.

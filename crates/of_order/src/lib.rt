@@ -2,7 +2,8 @@
 //! keys below one.
 #![tactic(auto)]
 
-ghost use Rattle.std.specs.Prelude.{◌≡◌, ◌+◌, ◌<◌, length};
+ghost use Rattle.std.specs.Prelude.{◌≡◌, ◌+◌, ◌<◌, length, MatchResult};
+ghost use Rattle.of_mem.specs.Programs.{NeedsAt};
 ghost use Rattle.of_mem.specs.Places.{bucket_count};
 ghost use Rattle.of_mem.specs.Calls.{RunsProgram, HasStore, AnswersOfStore, ActsOnStore};
 ghost use Rattle.of_order.specs.OrderPrograms as program;
@@ -33,6 +34,18 @@ pub fn next(plot: &Plot, part: &mut Part, key: u32) -> Result<Option<u32>, Need>
     ensures answers { AnswersOfStore plot.now part.old result (λ s. least_from s.map (key + 1)) }
 {
     least(plot, part, u64::from(key) + 1)
+}
+
+/// Walks towards the least key from this one on as far as cells are known. The error names a cell
+/// that is read and isn't known.
+pub fn reach(plot: &Plot, part: &mut Part, low: u64) -> Result<(), Need>
+    requires { HasStore plot.now part.old }
+    ensures part { part.new ≡ part.old }
+    ensures needs { MatchResult result (λ _. Unit {0})
+        (λ need. NeedsAt (program.least plot.now low) part.old need.addr) }
+{
+    least(plot, part, low)?;
+    Ok(())
 }
 
 // The least key from this one on, None where there is none. It goes on where a run before lacked a
