@@ -30,26 +30,6 @@ pub struct CReply {
     pub values: [u32; MOST_INSTRS],
 }
 
-// 1 for a number, 0 for none.
-fn flag_of(value: Option<u32>) -> u32
-    ensures { result ≡ given_flag value }
-{
-    match value {
-        Some(_) => 1,
-        None => 0,
-    }
-}
-
-// The number; 0 for none.
-fn number_of(value: Option<u32>) -> u32
-    ensures { result ≡ given_number value }
-{
-    match value {
-        Some(number) => number,
-        None => 0,
-    }
-}
-
 // Writes which values are numbers, and the numbers.
 #[inline(always)]
 fn write_values(
@@ -60,9 +40,13 @@ fn write_values(
     ensures given { ShowsEach given_flag values.now given.new }
     ensures numbers { ShowsEach given_number values.now numbers.new }
 {
+    *given = [0; MOST_INSTRS];
+    *numbers = [0; MOST_INSTRS];
     for place in 0..MOST_INSTRS {
-        given[place] = flag_of(values[place]);
-        numbers[place] = number_of(values[place]);
+        if let Some(number) = values[place] {
+            given[place] = 1;
+            numbers[place] = number;
+        }
     }
 }
 
