@@ -11,7 +11,7 @@ use of_eval::Scripts;
 use std::alloc::AllocError;
 use std::thread::{Threads, for_each_mut};
 
-/// What is done with a handle. It keeps what it comes to.
+/// A task that works with a handle, and keeps its results.
 pub trait Task {
     ghost use Rattle.of_memory.specs.declared.handle.Handle.{Handle as TheHandle};
     ghost use Rattle.of_memory.specs.Handles.{IsHandle, IsSame};
