@@ -16,8 +16,8 @@ use Rattle.of_memory.specs.Telling.{KnowsOrdersOf, LeavesOrder, HearsMemory, Tel
 use Rattle.of_c.specs.declared.held.Held.{Held}
 use Rattle.of_c.specs.Slots.{HoldsMemory, HoldsHandle, HoldsSaved}
 
--- an empty memory is held: it has so many callers and blocks and this limit, and none of the
--- callers has made a call
+-- an empty memory is held, with this many callers and blocks and this limit; none of its callers
+-- has made a call
 pub record HoldsEmpty (callers blocks limit : ℕ) (now : Option Held) : Type 0 where
   pub memory : Memory
   pub is : HoldsMemory now memory
@@ -28,7 +28,8 @@ pub record HoldsEmpty (callers blocks limit : ℕ) (now : Option Held) : Type 0 
   pub none : (n : ℕ) → n < callers → HasMadeOf memory n []
   pub idle : HasNoneOpen memory
 
--- a memory is held that goes on from what is held there
+-- a memory is held that goes on from what the slot `saved` holds; none of its callers has made a
+-- call since
 pub record HoldsNext (saved now : Option Held) : Type 0 where
   pub left : Saved
   pub was : HoldsSaved saved left
@@ -41,9 +42,9 @@ pub record HoldsNext (saved now : Option Held) : Type 0 where
   pub none : (n : ℕ) → n < saved_callers left → HasMadeOf memory n []
   pub idle : HasNoneOpen memory
 
--- Of the memory the caller with this number is held. It knows what the memory knew of its number,
--- and has heard of all calls that the memory knew to have ended. The memory still knows these, and
--- of the other numbers what it knew.
+-- The caller with this number has been taken out of the memory, and is held. It knows what the
+-- memory knew of its number, and has heard of all calls that the memory knew to have ended. The
+-- memory still knows of these calls, and knows of the other numbers what it knew.
 pub record HoldsEnrolled (number : ℕ) (before now caller : Option Held) : Type 0 where
   pub memory : Memory
   pub was : HoldsMemory before memory
@@ -64,8 +65,9 @@ pub record HoldsEnrolled (number : ℕ) (before now caller : Option Held) : Type
   pub heard : HearsMemory memory handle
   pub remembers : RemembersAll memory next
 
--- The memory knows of the caller's number what the caller knew, and of the others what it knew. It
--- has heard of all calls that the caller knew to have ended, and forgets none.
+-- The caller is back in the memory, which knows of the caller's number what the caller knew, and of
+-- the other numbers what it knew before. The memory has heard of all calls that the caller knew to
+-- have ended, and forgets none that it knew of.
 pub record HoldsLeft (before caller now : Option Held) : Type 0 where
   pub memory : Memory
   pub was : HoldsMemory before memory
@@ -86,8 +88,8 @@ pub record HoldsLeft (before caller now : Option Held) : Type 0 where
   pub heard : TellsMemory handle next
   pub remembers : RemembersAll memory next
 
--- what the memory has left is held: one serial history leads to it, with each call that was
--- answered. Each caller had left
+-- Every caller had left the memory. What the memory has left is held: one serial history leads to
+-- it, with each call that was answered.
 pub record HoldsClosed (before now : Option Held) : Type 0 where
   pub memory : Memory
   pub was : HoldsMemory before memory

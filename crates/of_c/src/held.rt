@@ -30,7 +30,7 @@ pub struct Kept {
 /// What a slot holds.
 #[derive(Drop)]
 pub enum Held {
-    /// A place that is about to be filled.
+    /// Nothing: a place that is about to be filled.
     Nothing,
     Memory(Home),
     Caller(Seat),

@@ -11,7 +11,7 @@ use crate::raw::Raw;
 use std::alloc::Global;
 use std::mem::replace;
 
-/// What C keeps for each thing that it has. All zeros are an empty slot.
+/// Where C keeps a memory, a caller, or what a memory has left. All zeros are an empty slot.
 #[repr(C)]
 pub struct Slot {
     state: u32,

@@ -50,7 +50,7 @@ impl Handle {
     ghost use Rattle.of_memory.specs.Telling.{LeavesOrder, TellsMemory, CallsStay, IsNews};
     ghost use Rattle.of_memory.specs.Telling.{TellsOwn, TellsHeard, HearsAll};
 
-    /// Its number.
+    /// The handle's number.
     pub fn number(&self) -> u32
         ensures { result ≡ number_of_handle self.now }
     {
@@ -83,7 +83,7 @@ impl Handle {
         }
     }
 
-    /// Runs a script for at most so many steps. If they don't do, the call stays open.
+    /// Runs a script for at most this many steps. If they are too few, the call stays open.
     pub fn run_within(&mut self, script: &Script, steps: u64) -> Result<Answer, RunError>
         requires { IsHandle self.old }
         ensures handle { IsHandle self.new }
@@ -133,7 +133,7 @@ impl Handle {
         }
     }
 
-    /// Goes on with the open call for at most so many steps.
+    /// Goes on with the open call for at most this many steps.
     pub fn go_on_within(&mut self, steps: u64) -> Result<Answer, RunError>
         requires { IsHandle self.old }
         ensures handle { IsHandle self.new }
@@ -175,8 +175,9 @@ impl Handle {
         self.cells.tell()
     }
 
-    /// Takes in what another handle of its memory knew when it told. Each call that the handle
-    /// begins from now on comes, in the memory's history, after all calls that the news tells of.
+    /// Takes in what another handle of the memory knew when its `tell` was called. In the memory's
+    /// history, each call that this handle begins from now on comes after all calls that the news
+    /// tells of.
     pub fn hear(&mut self, news: CellNews)
         requires handle { IsHandle self.old }
         requires news { IsNews (home_of self.old) news }
@@ -190,9 +191,9 @@ impl Handle {
         self.cells.hear(news);
     }
 
-    /// Leaves its memory, which keeps what it has made; a call that is open stays open. Then its
-    /// number is free again. Each call that a handle begins which comes after that stands later in
-    /// the memory's history, whatever its number.
+    /// Leaves the memory, which keeps the handle's calls. An open call stays open, and the number
+    /// is free again. A call of a handle that enrols later comes, in the memory's history, after
+    /// all ended calls of this handle, whatever the numbers of the two are.
     pub fn leave(self, memory: &mut Memory)
         requires handle { IsHandle self }
         requires memory { IsMemory memory.old }
