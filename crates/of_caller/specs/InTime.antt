@@ -48,19 +48,21 @@ NotBegun s ms k e = finished_of s e.caller + begun_in e.caller (take k ms) ≤ e
 abbrev pub EndsBefore : Start → List Mark → Entry → Entry → Type 0
 EndsBefore s ms e f = (k : ℕ) × EntryHasEnded s ms k e × NotBegun s ms k f
 
--- f comes no earlier than e in the history: its sequence is not lower, and is higher if f was
+-- f comes no earlier than e in the history: its sequence is not lower, and it is higher if f was
 -- announced
 abbrev pub StandsBehind : Entry → Entry → Type 0
 StandsBehind e f = (e.seq ≤ f.seq) × (IsTrue f.announced → e.seq < f.seq)
 
--- an entry comes no earlier than each entry whose call ended before its own call began
+-- each entry comes, in the history, no earlier than the entries whose calls ended before its own
+-- call began
 abbrev pub RespectsTime : Start → List Mark → Report → Type 0
 RespectsTime s ms r =
     All (λ e. All (λ f. EndsBefore s ms e f → StandsBehind e f) r.entries) r.entries
 
 -- ---- the marks of a schedule
 
--- an event that begins a call has a mark, and so has a turn that ends one
+-- the marks of an event at this moment: an event that begins a call has one, and so has a turn that
+-- ends a call
 abbrev pub marks_of : Setup → Moment → Event → List Mark
 marks_of S w (Begins i op) = BeginsCall i ∷ []
 marks_of S w (Turns i) =
@@ -75,13 +77,14 @@ abbrev pub marks_in : Setup → Moment → List Event → List Mark
 marks_in S w [] = []
 marks_in S w (e ∷ es) = marks_of S w e ++ marks_in S (after_event S w e) es
 
--- the marks of the plan's callers with these items for a schedule, from this start
+-- the marks of a run of the plan's callers from this start, with these items as the schedule
 abbrev pub course_of : Plan → TableStart → List Item → List Mark
 course_of p B items = marks_in (plan_setup p) (opening_at p B) (events_of_items p B items)
 
 -- ---- what holds of all schedules and teams
 
--- the report of what a schedule of the plan leaves, from any start, respects its real time
+-- if a schedule of the plan, from any start, leaves a record, the record's report respects the real
+-- time of the schedule
 abbrev pub SchedulesRespectTime : Plan → Type 0
 SchedulesRespectTime p =
     (s : Start) (B : TableStart) → MayStart (plan_setup p) (IsLawfulFor p) B
@@ -92,7 +95,8 @@ SchedulesRespectTime p =
     → (r : Report) → IsLawfulRecord p s e r
     → RespectsTime s (marks_in (plan_setup p) (opening_at p B) es) r
 
--- so does the report of what a team leaves, with the schedule that its run was
+-- a team's run is a schedule, and the report of what the team leaves respects the real time of this
+-- schedule
 abbrev pub TeamsRespectTime : Plan → Type 0
 TeamsRespectTime p =
     (s : Start) (B : TableStart) (e : Ended) (v : View) → IsTeamOf p s B e v

@@ -12,19 +12,19 @@ pub record HasTableLaws (S : Setup) (Lawful : List ℕ → Type 0) : Type 0 wher
   pub events : EventsKeepInvariant S Lawful
   pub schedules : SchedulesKeepInvariant S Lawful
   pub sound : InvariantIsSound S Lawful
-  -- words after the table's own may be anything
+  -- the words that come after the table's own words may be anything
   pub beside : WordsBehindAreFree S Lawful
   pub beside_calls : WordsBehindKeepCalls S Lawful
   -- a step of an open call finds a word, and is a step whatever its kind
   pub finds : StepsFindTheirWord
   pub steps : OpenStepsAreSteps S Lawful
-  -- every schedule leaves a sound moment, and the calls and turns of each caller are those of its
-  -- events
+  -- every schedule leaves a sound moment, and the calls and turns of each caller are those of the
+  -- schedule's events
   pub moments : EveryMomentIsSound S Lawful
   pub calls : EveryCallStands S Lawful
   pub more_calls : EventsLeadCalls S Lawful
   pub turns : TurnsCountSteps S Lawful
-  -- the first words of a table hold its start, and zeros are one
+  -- the first words of a table hold its start, and a table may start with zeros
   pub words : FirstWordsHoldStart S
   pub zero_start : ZerosMayStart S Lawful
 
