@@ -133,7 +133,8 @@ fn gather(
 /// pass, and the row is closed.
 ///
 /// The error is that there is no memory; then no caller has made a step, since all memory is taken
-/// before the first one. If no second thread can be made, the callers run one after the other.
+/// before the first one. If no second thread can be made, one thread does all of this, part by
+/// part.
 pub fn team<R: Threads + Sync>(
     rt: &R,
     alloc: Global,

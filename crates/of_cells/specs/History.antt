@@ -22,18 +22,19 @@ IsSerial M cells h = CallsHaveReplies M cells h
 abbrev pub cells_after : Meaning → (cells : List ℕ) → List Call → List ℕ
 cells_after M cells h = numbers_after_calls M cells h
 
--- each call is in it at most once, and the calls of each caller are in the order in which it made
--- them
+-- each call is in the history at most once, and the calls of each caller are in the order in which
+-- it made them
 abbrev pub StandsInOrder : List Call → Type 0
 StandsInOrder h =
     (p q : ℕ) → p < q → q < length h → IsNewerCall (get_or h p no_call) (get_or h q no_call)
 
--- the two replies have one shape, and the same numbers
+-- the two replies have one shape and the same numbers
 abbrev pub IsSameReply : RawReply → RawReply → Type 0
 IsSameReply r q =
     (r.shape ≡ q.shape) × ((y : ℕ) → y < MOST_INSTRS → get_or r.values y 0 ≡ get_or q.values y 0)
 
 -- the reply is what the operation gives on cells to which some serial history leads from these
+-- cells
 pub record IsMeant (M : Meaning) (cells op : List ℕ) (raw : RawReply) : Type 0 where
   pub history : List Call
   pub serial : IsSerial M cells history
@@ -60,7 +61,8 @@ ExplainsAll h c n es =
     (y : ℕ) → y < length es
     → ExplainsEnd h c (n + y + 1) (get_or es y no_ended).op (get_or es y no_ended).outcome
 
--- each of these calls that was answered has its own sequence in the history
+-- each of these calls that was answered has its own sequence in the history; the calls have the
+-- tickets from n + 1 on
 abbrev pub HaveOwnSequences : List Call → Sequences → (caller n : ℕ) → List EndedCall → Type 0
 HaveOwnSequences h s c n es =
     (y : ℕ) → y < length es → HasOwnSequence h s c (n + y + 1) (get_or es y no_ended).outcome
@@ -81,10 +83,11 @@ abbrev pub IsUpTo : Meaning → List Call → (caller ticket : ℕ) → Type 0
 IsUpTo M h c t =
     All (λ (e : Call). e.caller ≡ c → M.reads_only e.op ≡ false → e.ticket ≤ t) h
 
--- the call is one of this caller, up to this ticket, or above it
+-- the call is one of this caller, with this ticket or a lower one
 abbrev pub IsUpToTicket : (caller ticket : ℕ) → Call → Type 0
 IsUpToTicket n t e = (e.caller ≡ n) × (e.ticket ≤ t)
 
+-- the call is one of this caller, with a higher ticket than this
 abbrev pub IsAboveTicket : (caller ticket : ℕ) → Call → Type 0
 IsAboveTicket k u e = (e.caller ≡ k) × (u < e.ticket)
 

@@ -44,7 +44,7 @@ impl<W: Work> CellHandle<W> {
     ghost use Rattle.of_cells.specs.Memories.{KnowsOthers, OthersStayOpen, OthersKnowOrder};
     ghost use Rattle.of_cells.specs.Memories.{PutsBack, RemembersAll};
 
-    /// Its number.
+    /// The handle's number.
     pub fn number(&self) -> u32
         ensures { result ≡ number_of_handle self.now }
     {
@@ -205,8 +205,8 @@ impl<W: Work> CellHandle<W> {
         go_on_with(&self.row, &mut self.caller, stop)
     }
 
-    /// Leaves its memory, which keeps what it has made; a call that is open stays open. Then its
-    /// number is free again.
+    /// Leaves the memory, which keeps the handle's calls. An open call stays open, and the number
+    /// is free again.
     pub fn leave(self, memory: &mut CellMemory<W>)
         requires handle { IsCellHandle W.meaning self }
         requires memory { IsCellMemory W.meaning memory.old }

@@ -28,7 +28,7 @@ impl<W: Work> SavedCells<W> {
     ghost use Rattle.of_cells.specs.Saving.{saved_limit, saved_seq};
     ghost use Rattle.of_cells.specs.Memories.{IsLimit};
 
-    /// The last sequence that was committed in it.
+    /// The last sequence that was committed.
     pub fn seq(&self) -> u32
         requires { IsSavedCells W.many W.size W.meaning W.lawful self.now }
         ensures { result ≡ saved_seq self.now }
@@ -36,8 +36,8 @@ impl<W: Work> SavedCells<W> {
         seq_of(self.row[0])
     }
 
-    /// The same with another limit. There is no limit below its sequence, and none that is 0 or
-    /// above `GREATEST_LIMIT`: it is handed back then as it was.
+    /// The same with another limit. The limit must not be 0, above `GREATEST_LIMIT` or below the
+    /// last committed sequence: otherwise the error hands back what was saved as it was.
     pub fn with_limit(self, limit: u32) -> Result<SavedCells<W>, LimitError<W>>
         requires { IsSavedCells W.many W.size W.meaning W.lawful self }
         ensures saved { IfOk result (IsSavedCells W.many W.size W.meaning W.lawful) }
@@ -54,8 +54,8 @@ impl<W: Work> SavedCells<W> {
         Ok(SavedCells { limit, ..self })
     }
 
-    /// The same with sequences that begin anew, so that a memory which goes on from it has all of
-    /// them before it.
+    /// The same numbers in the data cells, with 0 as the last committed sequence. So a memory that
+    /// goes on from it has all sequences up to its limit left.
     pub fn renumbered(mut self) -> SavedCells<W>
         requires { IsSavedCells W.many W.size W.meaning W.lawful self }
         ensures saved { IsSavedCells W.many W.size W.meaning W.lawful result }

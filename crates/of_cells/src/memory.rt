@@ -22,12 +22,12 @@ pub struct CellMemory<W: Work> {
     row: Arc<Row<W>, Global>,
     /// The row's first pass: it has asked for each number.
     pass: Pass,
-    /// What the handles knew that have left.
+    /// What the handles that have left knew.
     known: Option<Pass>,
     /// The callers that have no handle, by their numbers.
     callers: Vec<Option<Caller<W>>>,
-    /// The memory into which a close loads the durable words, so that it takes none. It is empty
-    /// before, so that none of it is touched while the memory is in use.
+    /// Room into which a close loads the durable words, so that it allocates nothing. It is empty
+    /// until then, so that its pages are not touched while the memory is in use.
     room: Vec<u64>,
 }
 
@@ -99,7 +99,7 @@ impl<W: Work> CellMemory<W> {
         Ok(memory)
     }
 
-    /// A memory that goes on from what was saved. No call that it holds is run again.
+    /// A memory that goes on from what was saved. No call that is saved is run again.
     pub fn reopen(alloc: Global, saved: &SavedCells<W>) -> Result<CellMemory<W>, AllocError>
         requires { IsSavedCells W.many W.size W.meaning W.lawful saved.now }
         ensures memory { IfOk result (IsCellMemory W.meaning) }
@@ -140,14 +140,14 @@ impl<W: Work> CellMemory<W> {
         })
     }
 
-    /// The work whose operations it runs.
+    /// The work whose operations the memory runs.
     pub fn work(&self) -> W
         ensures { result ≡ work_of self.now }
     {
         self.row.work()
     }
 
-    /// How many callers it has.
+    /// How many callers the memory has.
     pub fn callers(&self) -> u32
         ensures { result ≡ callers_of self.now }
     {
@@ -161,7 +161,7 @@ impl<W: Work> CellMemory<W> {
         self.row.limit()
     }
 
-    /// A handle for a number. It goes on where the last handle of that number left.
+    /// A handle for this number, which goes on where the last handle of the number left.
     pub fn enrol(&mut self, number: u32) -> Result<CellHandle<W>, EnrolError>
         requires { IsCellMemory W.meaning self.old }
         ensures memory { IsCellMemory W.meaning self.new }
@@ -224,8 +224,8 @@ impl<W: Work> CellMemory<W> {
         put_at(&mut self.callers, number as usize, caller);
     }
 
-    /// Closes the memory: what is durable is recovered and saved, and all else is given up. While a
-    /// handle is out, the memory is handed back. It takes no memory.
+    /// Closes the memory: what is durable is recovered and saved, and all else is given up. If a
+    /// handle is out, the error hands the memory back. A close allocates nothing.
     pub fn close(self) -> Result<SavedCells<W>, InUse<W>>
         requires { IsCellMemory W.meaning self }
         ensures saved { IfOk result (IsSavedCells W.many W.size W.meaning W.lawful) }

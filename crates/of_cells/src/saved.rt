@@ -110,14 +110,14 @@ impl<W: Work> SavedCells<W> {
         self.work
     }
 
-    /// How many callers it has.
+    /// How many callers are saved.
     pub fn callers(&self) -> u32
         ensures { result ≡ saved_callers self.now }
     {
         self.shape.callers
     }
 
-    /// The last sequence that may be committed.
+    /// The last sequence that may be committed, in a memory that goes on from it.
     pub fn limit(&self) -> u32
         ensures { result ≡ saved_limit self.now }
     {
@@ -145,7 +145,7 @@ impl<W: Work> SavedCells<W> {
         payload_of(self.row[place as usize])
     }
 
-    /// The number of a data cell.
+    /// The number in a data cell.
     pub fn number(&self, cell: u32) -> u32
         requires saved { IsSavedCells W.many W.size W.meaning W.lawful self.now }
         requires cell { cell < W.size (saved_work self.now) }
@@ -154,8 +154,8 @@ impl<W: Work> SavedCells<W> {
         self.word_number(cell)
     }
 
-    /// How many calls of a caller it holds: the ticket of its last one, also if another caller
-    /// finished it.
+    /// How many calls of a caller are saved: the ticket of its last one, also if another caller
+    /// finished that call.
     pub fn ticket(&self, number: u32) -> u32
         requires saved { IsSavedCells W.many W.size W.meaning W.lawful self.now }
         requires number { number < saved_callers self.now }
@@ -181,8 +181,8 @@ impl<W: Work> SavedCells<W> {
         }
     }
 
-    /// The number of a caller's last call that it holds, and the reply to it as cells hold it, also
-    /// if the caller was stopped before it was answered. None if it holds no call of the caller.
+    /// The ticket of a caller's last saved call, and its reply as data cells hold it, also if the
+    /// caller was stopped before it had the reply. None if no call of the caller is saved.
     pub fn last_reply(&self, number: u32) -> Option<(u32, RawReply)>
         requires saved { IsSavedCells W.many W.size W.meaning W.lawful self.now }
         requires number { number < saved_callers self.now }

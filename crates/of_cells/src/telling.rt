@@ -11,7 +11,7 @@ use of_caller::Caller;
 use of_mem::Work;
 use of_row::{Pass, Row};
 
-/// What a handle knew when `tell` was called: which calls of its memory had ended. It goes to
+/// What a handle knew when `tell` was called: which calls of its memory had ended. News goes to
 /// another thread by value.
 #[derive(Drop)]
 pub struct CellNews {
@@ -59,8 +59,9 @@ impl<W: Work> CellHandle<W> {
         }
     }
 
-    /// Takes in what another handle of its memory knew when it told. Each call that the handle
-    /// begins from now on comes, in the memory's history, after all calls that the news names.
+    /// Takes in what another handle of the memory knew when its `tell` was called. In the memory's
+    /// history, each call that this handle begins from now on comes after all calls that the news
+    /// tells of.
     pub fn hear(&mut self, news: CellNews)
         requires handle { IsCellHandle W.meaning self.old }
         requires news { IsNews (home_of self.old) news }

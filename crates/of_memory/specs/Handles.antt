@@ -57,7 +57,7 @@ ResumesCall result h k =
     (script : List Instr) (ms : List Made) → HasOpen h script → HasMade h ms
     → HasMade k (made_with script result ms)
 
--- after a stopped call this script's call is open; after an answered or spent one no call is
+-- if the call was stopped, a call of this script is open; if it was answered or spent, no call is
 abbrev pub StaysOpenOnlyIfStopped : List Instr → Result Answer RunError → Handle → Type 0
 StaysOpenOnlyIfStopped script (Ok a) h = HasCallOpen h → ⊥
 StaysOpenOnlyIfStopped script (Err (Stopped asked)) h = HasOpen h script
@@ -113,11 +113,11 @@ CallsAreCounted =
     (h : Handle) (ms : List Made) → IsHandle h → (HasCallOpen h → ⊥) → HasMade h ms
     → calls_begun h ≡ tickets_behind h + length ms
 
--- a call that is open now is one of this script, or was open before
+-- if the handle has an open call now, it is of this script, or one of its script was open before
 abbrev pub OpensOnly : List Instr → (before now : Handle) → Type 0
 OpensOnly script h k = (s : List Instr) → HasOpen k s → (s ≡ script) ⊎ HasOpen h s
 
--- a call that is open now was open before
+-- if the handle has an open call now, a call of the same operation was open before
 abbrev pub OpensNone : (before now : Handle) → Type 0
 OpensNone h k = generic.OpensNone h.cells k.cells
 

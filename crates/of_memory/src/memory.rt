@@ -126,7 +126,7 @@ impl Memory {
     }
 
     /// Closes the memory: what is durable is recovered and saved, and all else is given up. If a
-    /// handle is out, and only then, the memory is handed back.
+    /// handle is out, and only then, the error hands the memory back.
     pub fn close(self) -> Result<Saved, InUse>
         requires { IsMemory self }
         ensures saved { IfOk result IsSaved }
