@@ -62,11 +62,11 @@ pub record HoldsMemoryWith (P : TheMemory → Type 0) (held : Option Held) : Typ
   pub is : HoldsMemory held memory
   pub so : P memory
 
--- the memory has no caller of this number
+-- the memory has no caller with this number
 abbrev pub HasNoNumber : ℕ → TheMemory → Type 0
 HasNoNumber n m = callers_of m ≤ n
 
--- a caller of this number is enrolled
+-- a caller with this number is enrolled, so it is not in the memory
 abbrev pub IsEnrolled : ℕ → TheMemory → Type 0
 IsEnrolled n m = get_or m.cells.callers.items n None ≡ None
 

@@ -1,18 +1,19 @@
-//! What C is answered. The C side answers 1 (a pointer is null) and 2 (a handle is in a call).
+//! The codes that C is answered. The C side adds 1 (a pointer is null) and 2 (a handle is in a
+//! call).
 
 /// What was asked for is done.
 pub const DONE: u32 = 0;
 
-/// The slot is empty, or holds something else.
+/// The slot is empty, or holds another kind of thing than the call needs.
 pub const EMPTY: u32 = 3;
 
 /// The slot that was to be filled holds something already.
 pub const FULL: u32 = 4;
 
-/// The call is out of memory.
+/// Memory ran out.
 pub const NO_MEMORY: u32 = 5;
 
-/// A number is out of its range.
+/// A number that was given is out of its range.
 pub const RANGE: u32 = 6;
 
 /// A caller with this number is enrolled already.
@@ -36,10 +37,10 @@ pub const NO_TICKET: u32 = 12;
 /// The words or the text are not those of a script.
 pub const NO_SCRIPT: u32 = 13;
 
-/// A caller of the memory has not left.
+/// The memory can't be closed: a caller of it has not left.
 pub const IN_USE: u32 = 14;
 
-/// There is no such key, item or call.
+/// No such key, item or call is saved.
 pub const ABSENT: u32 = 15;
 
 /// The buffer is too short for the text.

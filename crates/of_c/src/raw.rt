@@ -23,7 +23,7 @@ impl Model for Raw {
 }
 
 impl Raw {
-    /// None.
+    /// A null pointer, for a slot that holds nothing.
     pub(crate) fn none(alloc: Global) -> Raw
         ensures { result.held ≡ None }
     {

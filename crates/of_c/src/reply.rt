@@ -24,7 +24,7 @@ pub struct CReply {
     pub ticket: u32,
     /// How many steps the call made; if it was stopped, how many it has asked for.
     pub steps: u64,
-    /// 1 for each instruction that answered a number, 0 for the others.
+    /// 1 at the place of each instruction that answered a number, 0 at the others.
     pub given: [u32; MOST_INSTRS],
     /// The number that each instruction answered, 0 if it answered none.
     pub values: [u32; MOST_INSTRS],

@@ -79,7 +79,7 @@ pub extern "C" fn of_c_from_words(
     ensures full { (result ≡ FULL) ↔ IsSome saved.old.raw.held }
     ensures range { result ≡ RANGE → AreOutOfWords callers blocks limit words.now }
     ensures fault { result ≡ NO_START → HasCellAtFault callers blocks words.now }
-    // Words from which a table may start are taken, unless there is no memory.
+    // Words from which a table may start are taken, unless memory runs out.
     ensures back { (w : TheScripts) → AreCountsOf w callers blocks
         → AreStartWords w limit words.now
         → IsOneCode (DONE ∷ FULL ∷ NO_MEMORY ∷ []) result }

@@ -12,7 +12,7 @@ use Rattle.of_row.specs.Rows.{IsRowMember, RunsOnRow, IsMemberOf, HasNoCall}
 use Rattle.of_row.specs.Rows.{view_of_member, calls_of_member}
 use Rattle.of_caller.specs.declared.caller.Caller.{Caller}
 
--- the member that the caller makes its calls with
+-- the member with which the caller makes its calls
 abbrev pub member_of : {W : Type 0} → Caller W → Member
 member_of c = c.member
 

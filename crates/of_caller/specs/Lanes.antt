@@ -22,7 +22,7 @@ use Rattle.of_caller.specs.Callers.{IsCaller, caller_call, member_of, sight_of}
 use Rattle.of_caller.specs.Stops.{KeepsStop, KeepToStop, answer_steps, open_call_steps}
 use Rattle.of_caller.specs.Teams.{AreAnswered, KeepsCaller}
 
--- the row is one of the plan's, which has started where the plan does
+-- the row is one for the plan, and has started at a start of the plan
 pub record IsPlanRow (p : Plan) (r : Row Scripts) : Type 0 where
   pub plan : IsPlan p
   pub row : IsRowOf p r

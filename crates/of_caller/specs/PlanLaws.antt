@@ -5,9 +5,9 @@ use Rattle.of_core.specs.Table.{Setup}
 use Rattle.of_core.specs.Laws.{OpenStepsAreSteps, StepsFindTheirWord, InvariantIsSound, WordsBehindAreFree, WordsBehindKeepCalls, StartsMeetInvariant, EventsKeepInvariant, SchedulesKeepInvariant, EveryMomentIsSound, EveryCallStands, TurnsCountSteps, EventsLeadCalls, FirstWordsHoldStart, ZerosMayStart}
 use Rattle.of_caller.specs.Tables.{plan_setup, IsLawfulFor}
 
--- what the laws say of a table with this setup, whose data cells are lawful so
+-- what the laws say of a table with this setup; `Lawful` says which data cells are lawful
 pub record HasTableLaws (S : Setup) (Lawful : List ℕ → Type 0) : Type 0 where
-  -- a start, an event and a schedule keep the invariant, and what meets it is sound
+  -- a start meets the invariant, events and schedules keep it, and a moment that meets it is sound
   pub starts : StartsMeetInvariant S Lawful
   pub events : EventsKeepInvariant S Lawful
   pub schedules : SchedulesKeepInvariant S Lawful
@@ -15,7 +15,7 @@ pub record HasTableLaws (S : Setup) (Lawful : List ℕ → Type 0) : Type 0 wher
   -- the words that come after the table's own words may be anything
   pub beside : WordsBehindAreFree S Lawful
   pub beside_calls : WordsBehindKeepCalls S Lawful
-  -- a step of an open call finds a word, and is a step whatever its kind
+  -- a step of an open call finds the word that is there, and is a step of the protocol
   pub finds : StepsFindTheirWord
   pub steps : OpenStepsAreSteps S Lawful
   -- every schedule leaves a sound moment, and the calls and turns of each caller are those of the
@@ -28,6 +28,6 @@ pub record HasTableLaws (S : Setup) (Lawful : List ℕ → Type 0) : Type 0 wher
   pub words : FirstWordsHoldStart S
   pub zero_start : ZerosMayStart S Lawful
 
--- the laws hold at the table of the plan
+-- the laws hold for the table of the plan
 abbrev pub KeepsLaws : Plan → Type 0
 KeepsLaws p = HasTableLaws (plan_setup p) (IsLawfulFor p)

@@ -124,8 +124,8 @@ RunsAreReported =
 abbrev pub steps_made : Moment → (c : ℕ) → List Outcome → ℕ
 steps_made w c outs = total_steps outs + (machine_in w c).steps
 
--- in the report of a run, a caller that has made at most n steps, and exactly n if it is stopped
--- with no call spent, keeps them as its allowance, if its open call has a step left
+-- A caller of a run whose steps are at most n, and exactly n if it is stopped with no call spent,
+-- keeps n as its allowance in the run's report. Its open call must have a step left.
 abbrev pub RunsKeepAllowances : Type 0
 RunsKeepAllowances =
     (p : Plan) (s : Start) (B : TableStart) (w : Moment) (e : Ended) (run : IsRunOfPlan p s B w e)

@@ -43,7 +43,7 @@ impl<W: Work> Caller<W> {
     ghost use Rattle.of_caller.specs.Brakes.{AsksOf};
 
     /// Makes a caller of a member that has no open call. The caller goes on with the ticket after
-    /// the member's last call. If there is no memory, the error hands the member back.
+    /// the member's last call. If memory runs out, the error hands the member back.
     pub fn new(
         alloc: Global,
         row: &Row<W>,

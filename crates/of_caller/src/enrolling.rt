@@ -76,7 +76,7 @@ fn enrol_one(
 }
 
 /// Seats every caller of the plan, each with the brake at its place, which is armed with the
-/// caller's stop. If there is no memory, no caller has made a step.
+/// caller's stop. If memory runs out, no caller has made a step.
 pub(crate) fn enrol_all(
     alloc: Global,
     row: &Row<Scripts>,

@@ -18,7 +18,7 @@ use of_script::{MOST_INSTRS, to_words};
 use std::marker::Brand;
 use std::sync::ledger::{Blank, Ledger};
 
-/// A caller of a plan with its brake, and what it leaves.
+/// A caller of a plan, with its brake, its answers and its ending.
 #[derive(Drop)]
 pub(crate) struct TeamCaller {
     pub(crate) number: u32,

@@ -132,7 +132,7 @@ fn gather(
 /// last script, at its first stop, or if no sequence is left. Then the members are joined to the
 /// pass, and the row is closed.
 ///
-/// The error is that there is no memory; then no caller has made a step, since all memory is taken
+/// The error is that memory ran out; then no caller has made a step, since all memory is taken
 /// before the first one. If no second thread can be made, one thread does all of this, part by
 /// part.
 pub fn team<R: Threads + Sync>(

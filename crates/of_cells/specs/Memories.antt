@@ -30,7 +30,8 @@ use Rattle.of_cells.specs.Handles.{home_of, number_of_handle, caller_of}
 abbrev pub row_of : {W : Type 0} → CellMemory W → Row W
 row_of m = arc_value m.row
 
--- what holds of an open memory
+-- the memory is open: it has the row's first pass, a place for each caller, what is known of
+-- handles that have left, and empty room for the durable words
 pub record IsCellMemory {W : Type 0} (meaning : W → Meaning) (m : CellMemory W) : Type 0 where
   pub pass : IsRowPass (row_of m) m.pass
   pub first : IsFirstPass m.pass
@@ -94,7 +95,7 @@ pub record HasOrderOf {W : Type 0} (meaning : W → Meaning) (m : CellMemory W) 
 abbrev pub events_heard : {W : Type 0} → CellMemory W → List Event
 events_heard m = events_in m.known
 
--- the memory knows that `count` calls of this number, or more, have ended since it was opened
+-- the memory knows that at least `count` calls of this number have ended since it was opened
 abbrev pub HasHeardOf : {W : Type 0} → (W → Meaning) → CellMemory W → (number count : ℕ) → Type 0
 HasHeardOf meaning m n count =
     count ≤ calls_ended_in (setup_at meaning (row_of m)) (row_start meaning (row_of m))
@@ -109,15 +110,15 @@ RemembersAll meaning m k =
 abbrev pub HasMadeNothing : {W : Type 0} → CellMemory W → Type 0
 HasMadeNothing m = (n : ℕ) → n < callers_of m → HasMadeOf m n []
 
--- no call is open
+-- no caller that is in the memory has an open call
 abbrev pub HasNoneOpen : {W : Type 0} → CellMemory W → Type 0
 HasNoneOpen m = (n : ℕ) (op : List ℕ) → HasOpenOf m n op → ⊥
 
--- no handle is out
+-- no handle is out: the caller of each number is in the memory
 abbrev pub HasNoHandleOut : {W : Type 0} → CellMemory W → Type 0
 HasNoHandleOut m = AllHere m.callers.items (length m.callers.items)
 
--- a handle is out
+-- a handle is out: the caller of some number is not in the memory
 abbrev pub HasHandleOut : {W : Type 0} → CellMemory W → Type 0
 HasHandleOut m = HasNoHandleOut m → ⊥
 
@@ -154,7 +155,7 @@ pub record TakesOut {W : Type 0} (m k : CellMemory W) (h : CellHandle W) : Type 
   pub same : KnowsMore caller (caller_of h)
   pub now : k.callers.items ≡ slice_set m.callers.items (number_of_handle h) None
 
--- no caller is taken out
+-- the memory has the same callers in it as before
 abbrev pub TakesNone : {W : Type 0} → (before now : CellMemory W) → Type 0
 TakesNone m k = k.callers.items ≡ m.callers.items
 

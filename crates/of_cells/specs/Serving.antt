@@ -71,7 +71,8 @@ RisesByTouch meaning lawful r op made before now =
 abbrev pub HasStartedIfOpen : KnownCaller → Type 0
 HasStartedIfOpen x = IsOpen x.machine.place → 0 < x.machine.steps
 
--- a caller of the row with this number, which knows of its own calls that they have ended
+-- The caller serves the row with this number. It counts its calls, knows which of them have ended,
+-- and an open call of it has made a step.
 pub record Serves {W : Type 0} (meaning : W → Meaning) (r : Row W) (n : ℕ) (c : Caller W)
     : Type 0 where
   pub caller : IsCaller meaning r c
@@ -109,7 +110,7 @@ abbrev pub AllStand : {C : Type 0} → (ℕ → C → Type 0) → ℕ → List (
 AllStand {C} P count cs =
     (n : ℕ) → n < count → (c : C) × (get_or cs n None ≡ Some c) × P n c
 
--- at each place below the count there is a caller
+-- there is a caller at each place below the count
 abbrev pub AllHere : {C : Type 0} → List (Option C) → ℕ → Type 0
 AllHere {C} cs count = (n : ℕ) → n < count → (c : C) × (get_or cs n None ≡ Some c)
 
@@ -128,13 +129,14 @@ pub record IsKeptOf {W : Type 0} (c : Caller W) (x : KnownCaller) : Type 0 where
   pub ended : x.ended ≡ ended_of c
   pub open_call : IsOpen x.machine.place → x.machine ≡ caller_call c
 
--- each caller in a place below the count is kept
+-- each caller in the list, at a place below the count, is kept, with its number and its calls
 abbrev pub KeepsThose : {W : Type 0} → List (Option (Caller W)) → (count : ℕ) → List KnownCaller
     → Type 0
 KeepsThose {W} cs count xs =
     (n : ℕ) (c : Caller W) → n < count → get_or cs n None ≡ Some c → KeepsSo n (IsKeptOf c) xs
 
--- the events that each caller in a place below the count knows are the first of these events
+-- for each caller in the list, at a place below the count: the events that it knows are the first
+-- of these events
 abbrev pub KnowsPasts : {W : Type 0} → List (Option (Caller W)) → (count : ℕ) → List Event → Type 0
 KnowsPasts {W} cs count es =
     (n : ℕ) (c : Caller W) → n < count → get_or cs n None ≡ Some c → IsPrefix (events_known_to c) es

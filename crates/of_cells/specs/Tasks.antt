@@ -89,8 +89,8 @@ pub record HaveWorked {W J : Type 0} (meaning : W → Meaning) (Does : TaskWork 
   pub each : (n : ℕ) (d : J) → n < length xs
       → HasWorkedAs meaning Does n m k (get_or xs n d) (get_or ys n d)
 
--- why no task has worked: there is no memory, one of the numbers has no caller, or the handle of
--- one of them is out
+-- why no task has worked: memory ran out, one of the numbers has no caller, or the handle of one of
+-- them is out
 abbrev pub IsTaskCause : {W : Type 0} → CellMemory W → (count : ℕ) → EnrolError → Type 0
 IsTaskCause m count (OutOfMemory e) = Unit {0}
 IsTaskCause m count (NoCaller n) = (n ≡ callers_of m) × (n < count)

@@ -71,8 +71,8 @@ abbrev pub WordsHold : {W : Type 0} → (many size : W → ℕ) → W → (words
 WordsHold many size work words d =
     IsSavedRow many size work (words_found many size work words) d
 
--- why nothing is found in these words: there is no memory, the limit is out of its range or below
--- the sequence in the words, or a table for the work has another number of words
+-- why nothing is found in these words: memory ran out, the limit is out of its range or below the
+-- sequence in the words, or a table for the work has another number of words
 abbrev pub IsWordsCause : {W : Type 0} → (many size : W → ℕ) → W → (limit : ℕ) → (words : List ℕ)
     → WordsError → Type 0
 IsWordsCause many size work limit words OutOfMemory = Unit {0}

@@ -20,7 +20,7 @@ pub trait CellTask<H> {
     /// What its users may know of its work: the task and the handle before it, and both after it.
     ghost does: { Self → H → Self → H → Type 0 } = { λ _ _ _ _. Unit {0} };
 
-    /// Works with a handle, and gives it back.
+    /// Works with a handle, and gives back the task and the handle.
     fn work(self, handle: H) -> (Self, H)
         requires { may handle }
         ensures { does self handle result.0 result.1 };

@@ -17,7 +17,7 @@ pub enum OpenError {
     Limit { limit: u32 },
 }
 
-/// Why there is no handle.
+/// Why no handle is given out.
 #[derive(Debug, Drop, Error)]
 pub enum EnrolError {
     #[error("out of memory")]
@@ -45,7 +45,7 @@ pub enum RunError {
     /// `go_on` was called, and no call is open.
     #[error("no call is open")]
     NoCall,
-    /// The number has made all calls that it may make.
+    /// The handle's number has made all calls that it may make.
     #[error("no ticket is left")]
     NoTicket,
 }

@@ -222,7 +222,8 @@ impl<W: Work> CellHandle<W> {
         ensures order { LeavesOrder W.meaning self memory.new }
         ensures others_order { OthersKnowOrder W.meaning (number_of_handle self)
             memory.old memory.new }
-        // So a call that begins later comes later in the history, whatever its number.
+        // The memory knows the handle's ended calls, so calls that begin later come later in the
+        // history.
         ensures heard { TellsMemory W.meaning self memory.new }
         ensures remembers { RemembersAll W.meaning memory.old memory.new }
     {

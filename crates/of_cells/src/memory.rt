@@ -180,7 +180,7 @@ impl<W: Work> CellMemory<W> {
         ensures refused { OnErr result (TakesNone self.old self.new) }
         ensures order { IfOk result (KnowsOrdersOf W.meaning self.old) }
         ensures others_order { OthersKnowOrder W.meaning number self.old self.new }
-        // So its calls come, in the history, after all calls of handles that have left.
+        // The handle knows of all ended calls of handles that have left, so its calls come later.
         ensures heard { IfOk result (HearsMemory W.meaning self.old) }
         ensures remembers { RemembersAll W.meaning self.old self.new }
     {
@@ -235,7 +235,7 @@ impl<W: Work> CellMemory<W> {
         ensures work { IfOk result (λ d. saved_work d ≡ work_of self) }
         ensures callers { IfOk result (λ d. saved_callers d ≡ callers_of self) }
         ensures limit { IfOk result (λ d. saved_limit d ≡ limit_of self) }
-        // So no call that was answered is missing.
+        // No handle is out, so no call that was answered is missing.
         ensures here { IfOk result (λ d. HasNoHandleOut self) }
         ensures cause { OnErr result (HasHandleOut self) }
         ensures in_use { IfErr result (λ e. e.0 ≡ self) }

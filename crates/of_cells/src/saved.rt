@@ -103,7 +103,7 @@ impl<W: Work> SavedCells<W> {
         }
     }
 
-    /// The work whose cells these are.
+    /// The work whose cells are saved.
     pub fn work(&self) -> W
         ensures { result ≡ saved_work self.now }
     {
@@ -124,7 +124,7 @@ impl<W: Work> SavedCells<W> {
         self.limit
     }
 
-    /// The numbers of the data cells. The error is that there is no memory.
+    /// The numbers in the data cells. The error is that memory ran out.
     pub fn numbers(&self, alloc: Global) -> Result<Vec<u32>, AllocError>
         requires { IsSavedCells W.many W.size W.meaning W.lawful self.now }
         ensures { IfOk result (λ cells. cells.items ≡ saved_cells self.now) }

@@ -38,7 +38,7 @@ fn seat_one<W: Work>(
     }
 }
 
-/// Seats a caller of each number. The error is that there is no memory.
+/// Seats a caller of each number. The error is that memory ran out.
 pub(crate) fn seat_all<W: Work>(
     alloc: Global,
     row: &Row<W>,

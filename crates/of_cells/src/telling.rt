@@ -19,7 +19,7 @@ pub struct CellNews {
 }
 
 /// A caller and its memory tell each other what they know of the calls that have ended. Then both
-/// know all of it. It takes no memory and waits for nothing.
+/// know all of it. This allocates nothing and waits for nothing.
 pub(crate) fn exchange<W: Work>(row: &Row<W>, caller: &mut Caller<W>, known: &mut Option<Pass>)
     requires caller { IsCaller W.meaning row.now caller.old }
     requires known { IsKnowledge row.now known.old }
@@ -41,8 +41,8 @@ impl<W: Work> CellHandle<W> {
     ghost use Rattle.of_cells.specs.Telling.{HearsAll};
 
     /// What the handle knows, for another handle of its memory to hear: which of its own calls have
-    /// ended, and all that it has heard of others. It takes no memory and waits for nothing. The
-    /// handle's calls stay as they are.
+    /// ended, and all that it has heard of others. To tell allocates nothing and waits for nothing.
+    /// The handle's calls stay as they are.
     pub fn tell(&mut self) -> CellNews
         requires { IsCellHandle W.meaning self.old }
         ensures handle { IsCellHandle W.meaning self.new }

@@ -23,7 +23,7 @@ use Rattle.of_memory.specs.Calls.{RunsScripts, AreMade}
 use Rattle.of_memory.specs.Rows.{StandFor, StandsAt, HoldsLastReplies}
 use Rattle.of_memory.specs.Saving.{TellLast}
 
--- what the machines on a table for these scripts have in common
+-- what the machines on a table for these scripts, with this limit, have in common
 abbrev pub setup_with : Scripts → (limit : ℕ) → Setup
 setup_with w limit = setup_of w.callers (scripts_data_cells w) limit (scripts_meaning w)
 
@@ -44,7 +44,7 @@ HaveKeptSequences S B h q x =
     (ms : List Made) → AreMade x.ended ms
     → HaveOwnSequences h q x.machine.caller (done_before S B x.machine.caller) ms
 
--- the kept caller's call of this script is open
+-- the kept caller has an open call of this script
 abbrev pub HasOpenScript : KnownCaller → List Instr → Type 0
 HasOpenScript x script =
     IsScript script × HasOpenOperation x (map instr_word script)

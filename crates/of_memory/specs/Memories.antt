@@ -78,11 +78,11 @@ HasOrderOf m j n x k y = generic.HasOrderOf scripts_meaning m.cells j n x k y
 abbrev pub RemembersAll : (before now : Memory) → Type 0
 RemembersAll m k = generic.RemembersAll scripts_meaning m.cells k.cells
 
--- no handle is out
+-- no handle is out: the caller of each number is in the memory
 abbrev pub HasNoHandleOut : Memory → Type 0
 HasNoHandleOut m = generic.HasNoHandleOut m.cells
 
--- a handle is out
+-- a handle is out: the caller of some number is not in the memory
 abbrev pub HasHandleOut : Memory → Type 0
 HasHandleOut m = HasNoHandleOut m → ⊥
 
@@ -108,7 +108,7 @@ OthersStayOpen n m k =
 abbrev pub OthersKnowOrder : ℕ → (before now : Memory) → Type 0
 OthersKnowOrder i m l = generic.OthersKnowOrder scripts_meaning i m.cells l.cells
 
--- no call is open
+-- no caller that is in the memory has an open call
 abbrev pub HasNoneOpen : Memory → Type 0
 HasNoneOpen m = generic.HasNoneOpen m.cells
 
@@ -117,7 +117,7 @@ HasNoneOpen m = generic.HasNoneOpen m.cells
 abbrev pub TakesOut : (before now : Memory) → Handle → Type 0
 TakesOut m k h = generic.TakesOut m.cells k.cells h.cells
 
--- no caller is taken out
+-- the memory has the same callers in it as before
 abbrev pub TakesNone : (before now : Memory) → Type 0
 TakesNone m k = generic.TakesNone m.cells k.cells
 

@@ -77,8 +77,8 @@ pub record HaveWorked {J : Type 0} (Does : TaskWork J) (m k : Memory) (xs ys : L
   pub each : (n : ℕ) (d : J) → n < length xs
       → HasWorkedAs Does n m k (get_or xs n d) (get_or ys n d)
 
--- why no task has worked: there is no memory, one of the numbers has no caller, or the handle of
--- one of them is out
+-- why no task has worked: memory ran out, one of the numbers has no caller, or the handle of one of
+-- them is out
 abbrev pub IsTaskCause : Memory → (count : ℕ) → EnrolError → Type 0
 IsTaskCause m count e = generic.IsTaskCause m.cells count e
 

@@ -159,8 +159,8 @@ impl Handle {
     }
 
     /// What the handle knows, for another handle of its memory to hear: which of its own calls have
-    /// ended, and all that it has heard of others. It takes no memory and waits for nothing. The
-    /// handle's calls stay as they are.
+    /// ended, and all that it has heard of others. To tell allocates nothing and waits for nothing.
+    /// The handle's calls stay as they are.
     pub fn tell(&mut self) -> CellNews
         requires { IsHandle self.old }
         ensures handle { IsHandle self.new }

@@ -133,7 +133,7 @@ impl Memory {
         ensures history { IfOk result (HasHistory self) }
         ensures callers { IfOk result (λ d. saved_callers d ≡ callers_of self) }
         ensures limit { IfOk result (λ d. saved_limit d ≡ limit_of self) }
-        // So no call that was answered is missing.
+        // No handle is out, so no call that was answered is missing.
         ensures here { IfOk result (λ d. HasNoHandleOut self) }
         ensures cause { OnErr result (HasHandleOut self) }
         ensures in_use { IfErr result (λ e. e.0 ≡ self) }

@@ -50,7 +50,7 @@ impl Saved {
         self.cells.work()
     }
 
-    /// The store that is saved. The error is that there is no memory.
+    /// The store that is saved. The error is that memory ran out.
     pub fn store(&self, alloc: Global) -> Result<Store, AllocError>
         requires { IsSaved self.now }
         ensures { IfOk result (SavedHolds self.now) }
@@ -81,7 +81,7 @@ impl Saved {
         ensures none { IsNone result ↔ (saved_ticket self.now number ≡ 0) }
         ensures ticket { IfSome result (λ r. r.0 ≡ saved_ticket self.now number) }
         ensures reply { IfSome result (λ r. HoldsReply self.now number (reply_value_of r.1)) }
-        // No other reply is held.
+        // No other reply to that call is saved.
         ensures only { (r : ReplyValue) → HoldsReply self.now number r
             → IfSome result (λ given. reply_value_of given.1 ≡ r) }
     {

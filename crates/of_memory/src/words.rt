@@ -86,7 +86,7 @@ impl Saved {
         ensures holds { IfOk result (WordsHold callers blocks words.now) }
         ensures limit { IfOk result (λ d. saved_limit d ≡ limit) }
         ensures cause { IfErr result (IsWordsCause callers blocks limit words.now) }
-        // Words from which a table may start are taken, unless there is no memory.
+        // Words from which a table may start are taken, unless memory runs out.
         ensures back { (w : TheScripts) → AreCountsOf w callers blocks →
             AreStartWords w limit words.now → IfErr result (λ e. e ≡ OutOfMemory) }
     {
