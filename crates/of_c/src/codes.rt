@@ -19,16 +19,16 @@ pub const RANGE: u32 = 6;
 /// A caller with this number is enrolled already.
 pub const TAKEN: u32 = 7;
 
-/// The caller has an open call, so another one can't begin.
+/// The caller has an open call, so no other call can begin.
 pub const CALL_OPEN: u32 = 8;
 
 /// The caller has no open call that could go on.
 pub const NO_CALL: u32 = 9;
 
-/// The call has made all steps that it was given. It stays open.
+/// The call has made all steps that it was given. The call stays open.
 pub const STOPPED: u32 = 10;
 
-/// No sequence was left for the call. It is over, and changed nothing.
+/// No sequence was left for the call. The call is over, and changed nothing.
 pub const SPENT: u32 = 11;
 
 /// The caller's number has made all calls that it may make.

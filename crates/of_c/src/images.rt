@@ -99,8 +99,8 @@ fn code_of_fault(fault: ImageTextError) -> u32
     }
 }
 
-/// Fills the slot with what a memory has left, read from a text that `of_c_image` or the command
-/// line has written. The limit is the greatest one.
+/// Reads a text that `of_c_image` or the command line has written, and fills the slot with what a
+/// memory had left. The limit is the greatest one.
 #[unsafe(no_mangle)]
 pub extern "C" fn of_c_from_image(alloc: Global, text: &[u8], saved: &mut Slot) -> u32
     ensures read { result ≡ DONE → HoldsRead text.now saved.new.raw.held }

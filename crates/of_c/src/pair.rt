@@ -4,7 +4,7 @@ ghost use Rattle.of_c.specs.Slots.{AreOfOne};
 
 use crate::slot::Slot;
 
-/// A memory's slot beside that of one of its callers.
+/// The slot of a memory, and the slot of one of its callers.
 #[repr(C)]
 pub struct Pair {
     pub(crate) memory: Slot,

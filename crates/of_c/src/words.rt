@@ -115,7 +115,7 @@ fn renumber_held(held: &mut Held) -> u32
     }
 }
 
-/// Sets the last committed sequence of what a memory has left to 0. Store, tickets and replies
+/// Sets the last committed sequence to 0 in what a memory has left. Store, tickets and replies
 /// stay.
 #[unsafe(no_mangle)]
 pub extern "C" fn of_c_renumber(alloc: Global, saved: &mut Slot) -> u32

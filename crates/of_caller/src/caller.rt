@@ -68,7 +68,7 @@ impl<W: Work> Caller<W> {
     }
 
     /// Makes a call of an operation of 1 to `MOST_INSTRS` words. The brake is asked before each
-    /// step of the call, and told when it is answered. A stopped call stays open for `go_on`; a
+    /// step of the call, and told if the call is answered. A stopped call stays open for `go_on`; a
     /// spent one is over.
     pub fn call<L: Ledger, B: Brake>(
         &mut self,
@@ -145,7 +145,7 @@ impl<W: Work> Caller<W> {
         self.machine.is_idle()
     }
 
-    /// How many calls of the caller's number were begun, with those from before the row's start.
+    /// How many calls of the caller's number were begun, including those before the row's start.
     pub fn made(&self) -> u32
         ensures { result ≡ calls_begun_by self.now }
     {

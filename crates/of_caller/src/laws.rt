@@ -21,8 +21,8 @@ use of_plan::Plan;
 use of_row::laws::runs_are_schedules;
 
 /// The laws of the protocol hold for the table of a plan. So, from every start, the plan's
-/// schedules lead to its moments, and the record before anything has happened is that of a run. A
-/// table of zeros is at the plan's empty start.
+/// schedules lead to its moments, and what is left before anything has happened is the record of a
+/// run. A table of zeros is at the plan's empty start.
 pub fn plan_keeps_laws(plan: &Plan)
     ensures plan { IsPlan plan.now }
     ensures laws { KeepsLaws plan.now }
@@ -43,7 +43,7 @@ pub fn plan_keeps_laws(plan: &Plan)
 /// A run of a plan leaves a lawful record, if its table has come to a moment of the plan, and the
 /// answers and ending of each caller agree with how its calls ended. In its report, the sequence is
 /// within the limit, an entry beyond a caller's answers was announced, and each answered call made
-/// its least steps. The steps that a caller has made do as its allowance.
+/// its least steps. Each caller keeps to the number of its steps as an allowance.
 pub fn runs_are_lawful()
     ensures replies { RepliesAreHeld }
     ensures lawful { RunsAreLawful }
@@ -84,9 +84,10 @@ pub fn answers_are_behind<W: Work>()
     ensures events { EndsFirst W.meaning W.lawful }
 {}
 
-/// The report of a plan's schedule respects its real time: no entry comes before the entries whose
-/// calls ended before its own call began. A team leaves what some schedule leaves, with the plan's
-/// evictions in their order, and the team's report respects the real time of that schedule.
+/// The report of what a plan's schedule leaves respects the schedule's real time: no entry comes
+/// before the entries whose calls ended before its own call began. A team leaves what some schedule
+/// leaves, with the plan's evictions in their order, and the team's report respects the real time
+/// of that schedule.
 pub fn reports_respect_time(plan: &Plan)
     ensures schedules { SchedulesRespectTime plan.now }
     ensures teams { TeamsRespectTime plan.now }

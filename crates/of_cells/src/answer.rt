@@ -21,7 +21,7 @@ pub struct RawAnswer {
 }
 
 impl RawAnswer {
-    /// The same as the outcome of a call.
+    /// The answer as an `Outcome`.
     pub fn outcome(self) -> Outcome
         ensures { result ≡ outcome_of self }
     {

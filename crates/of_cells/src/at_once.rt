@@ -14,7 +14,7 @@ use std::thread::{Threads, for_each_mut};
 
 /// A task that works with a handle of type `H`, and keeps its results.
 pub trait CellTask<H> {
-    /// The handles that the task works with.
+    /// Which handles the task can work with.
     ghost may: { H → Type 0 } = { λ _. Unit {0} };
 
     /// What its users may know of its work: the task and the handle before it, and both after it.

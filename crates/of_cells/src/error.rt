@@ -57,15 +57,16 @@ pub enum WordsError {
     OutOfMemory,
     #[error("{limit} is no limit of sequences")]
     Limit { limit: u32 },
-    /// The table of a memory for the work has another number of durable words.
+    /// There are `count` words, but the table of the work has another number of durable words.
     #[error("{count} words are not the durable words of such a table")]
     Count { count: usize },
-    /// The last sequence that recovery finds in the words is this one, and the limit is below it.
+    /// The last committed sequence that recovery finds in the words is `seq`, and the limit is
+    /// below it.
     #[error("the limit is below sequence {seq}")]
     PastLimit { seq: u32 },
 }
 
-/// What was saved can't have the limit that was asked for. The error hands it back as it was.
+/// What is saved can't have the limit that was asked for. The error hands it back, unchanged.
 #[derive(Drop)]
 pub struct LimitError<W: Work>(pub SavedCells<W>);
 
@@ -83,7 +84,7 @@ impl<W: Work> fmt::Display for LimitError<W> {
 
 impl<W: Work> StdError for LimitError<W> {}
 
-/// The memory isn't closed, since one of its handles is out. The error hands it back.
+/// The memory can't be closed, since one of its handles is out. The error hands the memory back.
 #[derive(Drop)]
 pub struct InUse<W: Work>(pub CellMemory<W>);
 

@@ -36,8 +36,8 @@ impl<W: Work> SavedCells<W> {
         seq_of(self.row[0])
     }
 
-    /// The same with another limit. The limit must not be 0, above `GREATEST_LIMIT` or below the
-    /// last committed sequence: otherwise the error hands back what was saved as it was.
+    /// What is saved, with another limit. The limit must not be 0, above `GREATEST_LIMIT` or below
+    /// the last committed sequence: otherwise the error hands back what was saved, unchanged.
     pub fn with_limit(self, limit: u32) -> Result<SavedCells<W>, LimitError<W>>
         requires { IsSavedCells W.many W.size W.meaning W.lawful self }
         ensures saved { IfOk result (IsSavedCells W.many W.size W.meaning W.lawful) }
@@ -54,8 +54,8 @@ impl<W: Work> SavedCells<W> {
         Ok(SavedCells { limit, ..self })
     }
 
-    /// The same numbers in the data cells, with 0 as the last committed sequence. So a memory that
-    /// goes on from it has all sequences up to its limit left.
+    /// Keeps the numbers in the data cells, and sets the last committed sequence to 0. So a memory
+    /// that goes on from this has all sequences up to its limit left.
     pub fn renumbered(mut self) -> SavedCells<W>
         requires { IsSavedCells W.many W.size W.meaning W.lawful self }
         ensures saved { IsSavedCells W.many W.size W.meaning W.lawful result }

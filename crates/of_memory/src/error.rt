@@ -49,18 +49,19 @@ pub enum WordsError {
     Blocks { blocks: u32 },
     #[error("{limit} is no limit of sequences")]
     Limit { limit: u32 },
-    /// The table of a memory with these callers and blocks has another number of durable words.
+    /// There are `count` words, but the table of such a memory has another number of durable words.
     #[error("{count} words are not the durable words of such a memory")]
     Count { count: usize },
     /// No table may start from what recovery finds in the words. This is the first cell at fault.
     #[error("unlawful words, cell {cell}")]
     Unlawful { cell: u32 },
-    /// The last sequence that was committed in the words is this one, and the limit is below it.
+    /// The last committed sequence that recovery finds in the words is `seq`, and the limit is
+    /// below it.
     #[error("the limit is below sequence {seq}")]
     PastLimit { seq: u32 },
 }
 
-/// What was saved can't have the limit that was asked for. The error hands it back as it was.
+/// What is saved can't have the limit that was asked for. The error hands it back, unchanged.
 #[derive(Drop)]
 pub struct LimitError(pub Saved);
 
@@ -78,7 +79,7 @@ impl fmt::Display for LimitError {
 
 impl StdError for LimitError {}
 
-/// The memory isn't closed, since one of its handles is out. The error hands it back.
+/// The memory can't be closed, since one of its handles is out. The error hands the memory back.
 #[derive(Drop)]
 pub struct InUse(pub Memory);
 

@@ -39,9 +39,9 @@ impl Saved {
     ghost use Rattle.of_memory.specs.declared.error.ImageTextError.TheVariants.{OutOfMemory};
     ghost use Rattle.of_memory.specs.Texts.{IsOfPlanSize, IsTextOfSaved, TextHolds, IsReadBack, IsTextCause};
 
-    /// What is saved as a text: an image, as the command line reads and writes it. The text has the
-    /// store, and the last ticket and reply of each caller, but not the limit. If there are more
-    /// callers or blocks than a plan may have, the text can't be read back. The error is that
+    /// What is saved, as a text: an image, as the command line reads and writes it. The text has
+    /// the store, and the last ticket and reply of each caller, but not the limit. If there are
+    /// more callers or blocks than a plan may have, the text can't be read back. The error is that
     /// memory ran out.
     pub fn image_text(&self, alloc: Global) -> Result<Vec<u8>, AllocError>
         requires { IsSaved self.now }

@@ -33,8 +33,8 @@ impl Memory {
     ghost use Rattle.of_memory.specs.Telling.{KnowsOrdersOf, HearsMemory};
 
     /// An empty memory for 1 to 64 callers. `blocks` is how many keys and queued items it has room
-    /// for: at most `MOST_BLOCKS`, 16,777,216. If it is above 512, the memory runs no instruction
-    /// on keys in their order. `limit` is the last sequence that may be committed.
+    /// for: at most `MOST_BLOCKS`, 16,777,216. If `blocks` is above 512, the memory runs no
+    /// instruction on keys in their order. `limit` is the last sequence that may be committed.
     pub fn open(alloc: Global, callers: u32, blocks: u32, limit: u32) -> Result<Memory, OpenError>
         ensures memory { IfOk result IsMemory }
         ensures callers { IfOk result (λ m. callers_of m ≡ callers) }

@@ -92,8 +92,8 @@ impl Saved {
         Some((ticket, reply))
     }
 
-    /// The same with another limit. The limit must not be 0, above `GREATEST_LIMIT` or below the
-    /// last committed sequence: otherwise the error hands back what was saved as it was.
+    /// What is saved, with another limit. The limit must not be 0, above `GREATEST_LIMIT` or below
+    /// the last committed sequence: otherwise the error hands back what was saved, unchanged.
     pub fn with_limit(self, limit: u32) -> Result<Saved, LimitError>
         requires { IsSaved self }
         ensures saved { IfOk result IsSaved }
@@ -109,8 +109,8 @@ impl Saved {
         }
     }
 
-    /// The same store, tickets and replies, with 0 as the last committed sequence. So a memory that
-    /// goes on from it has all sequences up to its limit left.
+    /// Keeps store, tickets and replies, and sets the last committed sequence to 0. So a memory
+    /// that goes on from this has all sequences up to its limit left.
     pub fn renumbered(self) -> Saved
         requires { IsSaved self }
         ensures saved { IsSaved result }
