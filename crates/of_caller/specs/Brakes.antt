@@ -16,7 +16,7 @@ abbrev pub TakesStepsFrom : (before after : Option ℕ) → (n : ℕ) → Type 0
 TakesStepsFrom None after n = after ≡ None
 TakesStepsFrom (Some left) after n = (rest : ℕ) × (left ≡ n + rest) × (after ≡ Some rest)
 
--- n steps were taken from the steps left, if the brake reports them; whether a brake reports them
+-- if the brake reports its steps left, n steps were taken from them; whether a brake reports them
 -- never changes
 abbrev pub TakesSteps : (before after : Option (Option ℕ)) → (n : ℕ) → Type 0
 TakesSteps None after n = after ≡ None

@@ -45,8 +45,8 @@ pub record HasEndedWith (S : Setup) (Lawful : List ℕ → Type 0) (B : TableSta
   pub steps : TellsSteps (m.steps + n) o
   -- the call, also a spent one, has made no more steps than the bound
   pub within : m.steps + n ≤ bound S
-  -- the call has made no more steps than what operations of the work touch allows, however large
-  -- the memory is
+  -- the call's steps are within the bound by the cells that each operation of the work reads and
+  -- writes, however large the memory is
   pub touched : IsWithinTouched S Lawful m.op (m.steps + n)
   -- an announced call's sequence is above what was seen when the call began; a read's is not below
   -- it
@@ -114,8 +114,8 @@ pub record TellsCall (S : Setup) (Lawful : List ℕ → Type 0) (B : TableStart)
   pub looks : w.looks ≡ v.looks
   -- the member keeps the sequence that was seen when the call began, also if the call was stopped
   pub since : 0 < steps → kept.since ≡ since_after B v before
-  -- also if the call was stopped: its steps, with those that it had made before, are no more than
-  -- what operations of the work touch allows
+  -- also if the call was stopped: its steps, with those from before, are within the bound by the
+  -- cells that each operation of the work reads and writes
   pub touched : 0 < steps → IsWithinTouched S Lawful m.op (m.steps + steps)
   pub result : TellsResult S Lawful B m v before steps d w kept r
 

@@ -45,18 +45,17 @@ pub record AreAnswered (p : Plan) (behind c : ℕ) (calls : List EndedCall) (ans
   pub none_spent : NoneSpent (map (λ e. e.outcome) calls)
   pub told : AreAnswers (map (λ e. e.outcome) calls) answers
 
--- The machine of a stopped caller has the call of this operation open, which has made one step
--- fewer than it has asked for. If its first step was denied, no call is open. It has asked at most
--- as often as the bound allows.
+-- The machine of a caller that was stopped after this many asks has the call of this operation
+-- open, with one step fewer made. If the first ask was denied, no call is open. There were at most
+-- as many asks as the bound allows.
 pub record IsStopped (p : Plan) (op : List ℕ) (asked : ℕ) (m : CallState) : Type 0 where
   pub some : 1 ≤ asked
   pub within : asked ≤ bound_of p
   pub at_once : asked ≡ 1 → IsIdle m
   pub open_call : 1 < asked → IsOpen m.place × (m.op ≡ op) × (m.steps + 1 ≡ asked)
 
--- What is kept of a caller after its answered calls; its next script is number x of n. If it is
--- done, nothing is kept; if it is stopped, at most the open call; if no sequence was left, the
--- spent call.
+-- What is kept of a caller beyond its answered calls, if its next script is number x of n: nothing
+-- if it is done; at most the open call if it is stopped; the spent call if no sequence was left.
 abbrev pub KeepsLastCall : Plan → (c x n : ℕ) → CallState → List EndedCall → Ending → Type 0
 KeepsLastCall p c x n m beyond Done = (x ≡ n) × IsIdle m × (beyond ≡ [])
 KeepsLastCall p c x n m beyond (Stopped asked) =

@@ -21,8 +21,8 @@ use Rattle.of_cells.specs.Serving.{HasStartedIfOpen, cells_at_start, ended_of, e
 abbrev pub outcome_of : RawAnswer → Outcome
 outcome_of a = Answered a.seq a.announced a.raw a.steps
 
--- an answer's reply is what its operation gives on some cells that operations, run one after the
--- other, make of the cells with which the row started
+-- An answer's reply is what the operation gives on some cells. Operations, run one after the other,
+-- have made these cells of those with which the row started.
 abbrev pub AnswersAsMeant : {W : Type 0} → (W → Meaning) → Row W → (op : List ℕ)
     → Result RawAnswer RunError → Type 0
 AnswersAsMeant meaning r op (Ok a) =

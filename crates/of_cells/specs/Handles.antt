@@ -52,8 +52,8 @@ abbrev pub StaysOpenOnlyIfStopped : {W : Type 0} → (op : List ℕ) → Result 
     → CellHandle W → Type 0
 StaysOpenOnlyIfStopped op result h = LeavesOpen op result (caller_of h)
 
--- an answer's reply is what its operation gives on some cells that operations, run one after the
--- other, make of the cells with which the handle's memory was opened
+-- An answer's reply is what the operation gives on some cells. Operations, run one after the other,
+-- have made these cells of those with which the handle's memory was opened.
 abbrev pub RepliesAsMeant : {W : Type 0} → (W → Meaning) → (op : List ℕ) → CellHandle W
     → Result RawAnswer RunError → Type 0
 RepliesAsMeant meaning op h result = AnswersAsMeant meaning (home_of h) op result
@@ -85,15 +85,15 @@ MakesAtMost most h k = steps_of_calls k ≤ steps_of_calls h + most
 abbrev pub GoesOnWithin : {W : Type 0} → (most : ℕ) → (before now : CellHandle W) → Type 0
 GoesOnWithin most h k = HasCallOpen h → steps_so_far h + steps_of_calls k ≤ steps_of_calls h + most
 
--- the calls of the handle's number have made at most as many steps more as the bound by touched
--- cells allows a call of this operation, however many cells the memory has
+-- the calls of the handle's number have made no more steps than one call of this operation may make
+-- by the cells that each operation of the work reads and writes
 abbrev pub MakesByTouch : {W : Type 0} → (W → Meaning) → (W → List ℕ → Type 0) → (op : List ℕ)
     → (before now : CellHandle W) → Type 0
 MakesByTouch meaning lawful op h k =
     RisesByTouch meaning lawful (home_of h) op 0 (steps_of_calls h) (steps_of_calls k)
 
 -- if the handle has an open call: the steps that this call had made, and the steps made since, are
--- together within the bound by touched cells
+-- no more than it may make by the cells that each operation of the work reads and writes
 abbrev pub GoesOnByTouch : {W : Type 0} → (W → Meaning) → (W → List ℕ → Type 0)
     → (before now : CellHandle W) → Type 0
 GoesOnByTouch meaning lawful h k =
@@ -121,8 +121,8 @@ tickets_behind meaning h = made_before meaning (home_of h) (number_of_handle h)
 abbrev pub HasNoTicketLeft : {W : Type 0} → CellHandle W → Type 0
 HasNoTicketLeft h = calls_begun h + 1 < 4294967296 → ⊥
 
--- if a handle has no open call, its number has begun as many calls as it had made before its memory
--- was opened and has made since, together
+-- if a handle has no open call, the calls that its number has begun are as many as those from
+-- before its memory was opened and those that have ended since
 abbrev pub CallsAreCounted : {W : Type 0} → (W → Meaning) → Type 0
 CallsAreCounted {W} meaning =
     (h : CellHandle W) → IsCellHandle meaning h → (HasCallOpen h → ⊥)

@@ -130,13 +130,13 @@ IsFrom m h = home_of h ≡ row_of m
 abbrev pub IsStill : {W : Type 0} → (before now : CellMemory W) → Type 0
 IsStill m k = row_of k ≡ row_of m
 
--- for each number but n: if its handle was not out, it is not out now either, and the memory knows
--- the same ended calls of it
+-- Every caller but number n that was in the memory is still in it, and the memory knows the same
+-- ended calls of it.
 abbrev pub KnowsOthers : {W : Type 0} → ℕ → (before now : CellMemory W) → Type 0
 KnowsOthers n m k =
     (i : ℕ) (es : List EndedCall) → i ≢ n → HasMadeOf m i es → HasMadeOf k i es
 
--- for each number but n: if its handle was not out and a call of it was open, this is so still
+-- every caller but number n that was in the memory with an open call still is, with this call open
 abbrev pub OthersStayOpen : {W : Type 0} → ℕ → (before now : CellMemory W) → Type 0
 OthersStayOpen n m k =
     (i : ℕ) (op : List ℕ) → i ≢ n → HasOpenOf m i op → HasOpenOf k i op

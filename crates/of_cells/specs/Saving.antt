@@ -150,9 +150,9 @@ pub record HistoryLeads (M : Meaning) (caller_count : ℕ) (made : ℕ → ℕ) 
   pub last : (n : ℕ) → n < caller_count → TellLast now h n (made n)
   pub upto : (n : ℕ) → n < caller_count → IsUpTo M h n (own_ticket now n)
 
--- The history explains how the calls of each caller that the view keeps ended. Each answered one
--- has its own sequence. Of these callers it has no others but open calls. It respects what the view
--- knows of real time.
+-- The history explains how the calls of each caller that the view keeps have ended. Each answered
+-- one has its own sequence. All other calls of these callers in the history are open. It respects
+-- what the view knows of real time.
 pub record ExplainsView (S : Setup) (B : TableStart) (h : List Call) (q : Sequences) (v : View)
     : Type 0 where
   pub calls : Each (ExplainsKept S B h) v.kept

@@ -42,8 +42,8 @@ row_step_bound meaning r = bound (setup_at meaning r)
 abbrev pub ended_of : {W : Type 0} → Caller W → List EndedCall
 ended_of c = (last_caller (sight_of c).kept).ended
 
--- as many calls of the caller's number were begun as are from before the row's start, have ended
--- since, or are open
+-- the calls of the caller's number that were begun are as many as those from before the row's
+-- start, those that have ended since, and the open one
 abbrev pub CountsCalls : {W : Type 0} → (W → Meaning) → Row W → ℕ → Caller W → Type 0
 CountsCalls meaning r n c =
     calls_begun_by c
@@ -58,9 +58,9 @@ events_known_to c = (sight_of c).past
 abbrev pub steps_made_by : {W : Type 0} → Caller W → ℕ
 steps_made_by c = (last_caller (sight_of c).kept).turns
 
--- From the count `before` to the count `now` the caller's calls have made no more steps than the
--- bound by touched cells allows to a call of this operation, if `made` steps of it were made
--- already.
+-- From the count `before` to the count `now` the caller's calls have made no more steps than one
+-- call of this operation may make, if it had made `made` steps already: at most the bound by the
+-- cells that each operation of the work reads and writes.
 abbrev pub RisesByTouch : {W : Type 0} → (W → Meaning) → (W → List ℕ → Type 0) → Row W
     → (op : List ℕ) → (made before now : ℕ) → Type 0
 RisesByTouch meaning lawful r op made before now =
@@ -92,7 +92,7 @@ pub record KnowsMore {W : Type 0} (before now : Caller W) : Type 0 where
 abbrev pub KeepsServing : {W : Type 0} → (W → Meaning) → Row W → (before now : Caller W) → Type 0
 KeepsServing meaning r c d = (n : ℕ) → Serves meaning r n c → Serves meaning r n d
 
--- the caller serves the row with this number, and has made no call on it
+-- the caller serves the row with this number, and has begun no call on the row
 pub record IsNew {W : Type 0} (meaning : W → Meaning) (r : Row W) (n : ℕ) (c : Caller W)
     : Type 0 where
   pub serves : Serves meaning r n c

@@ -16,8 +16,8 @@ use Rattle.of_memory.specs.History.{Made, Replied, Spent}
 abbrev pub no_reply : RawReply
 no_reply = record { shape = 0; values = [] }
 
--- the result of a script's call as that of a call of cells, without the reply: an answer keeps its
--- sequence, its steps and whether it was announced, and an error stays
+-- the result of a script's call, seen as that of a call of cells, but without the reply: an answer
+-- keeps its sequence, its steps and whether it was announced, and an error stays
 abbrev pub without_reply : Result Answer RunError → Result RawAnswer RunError
 without_reply (Ok a) =
     Ok (record { seq = a.seq; announced = a.announced; raw = no_reply; steps = a.steps })

@@ -106,8 +106,8 @@ MakesAtMost most h k = generic.MakesAtMost most h.cells k.cells
 abbrev pub GoesOnWithin : (most : ℕ) → (before now : Handle) → Type 0
 GoesOnWithin most h k = generic.GoesOnWithin most h.cells k.cells
 
--- if a handle has no open call, its number has begun as many calls as it had made before its memory
--- was opened and has made since, together
+-- if a handle has no open call, the calls that its number has begun are as many as those from
+-- before its memory was opened and those that have ended since
 abbrev pub CallsAreCounted : Type 0
 CallsAreCounted =
     (h : Handle) (ms : List Made) → IsHandle h → (HasCallOpen h → ⊥) → HasMade h ms
@@ -139,8 +139,8 @@ pub record IsOfSizes (h : Handle) (callers blocks : ℕ) : Type 0 where
   pub callers_are : (key_of (home_of h)).work.callers ≡ callers
   pub blocks_are : (key_of (home_of h)).work.blocks ≡ blocks
 
--- the step bound of the smallest memory, with one caller and no blocks, and of one with as many
--- callers and blocks as a plan may have
+-- the step bounds of the smallest memory, which has one caller and no blocks, and of one with as
+-- many callers and blocks as a plan may have
 pub record AreStepBounds : Type 0 where
   pub smallest : (h : Handle) → IsHandle h → IsOfSizes h 1 0 → step_bound_of h ≡ 6054
   pub largest : (h : Handle) → IsHandle h → IsOfSizes h 16 512 → step_bound_of h ≡ 138657

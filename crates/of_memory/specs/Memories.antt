@@ -94,12 +94,12 @@ IsFrom m h = generic.IsFrom m.cells h.cells
 abbrev pub IsStill : (before now : Memory) → Type 0
 IsStill m k = generic.IsStill m.cells k.cells
 
--- for each number but n: if its handle was not out, it is not out now either, and the memory knows
--- the same ended calls of it
+-- Every caller but number n that was in the memory is still in it, and the memory knows the same
+-- ended calls of it.
 abbrev pub KnowsOthers : ℕ → (before now : Memory) → Type 0
 KnowsOthers n m k = (i : ℕ) (ms : List Made) → i ≢ n → HasMadeOf m i ms → HasMadeOf k i ms
 
--- for each number but n: if its handle was not out and a call of it was open, this is so still
+-- every caller but number n that was in the memory with an open call still is, with this call open
 abbrev pub OthersStayOpen : ℕ → (before now : Memory) → Type 0
 OthersStayOpen n m k =
     (i : ℕ) (script : List Instr) → i ≢ n → HasOpenOf m i script → HasOpenOf k i script

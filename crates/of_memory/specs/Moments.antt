@@ -24,8 +24,8 @@ use Rattle.of_memory.specs.Laws.{setup_with, HistoryFound}
 use Rattle.of_memory.specs.Words.{AreStartWords}
 use Rattle.of_memory.specs.Memories.{row_of, limit_of, StartsWith}
 
--- one of the views, which is not spent, keeps the caller of this number, and all calls of this
--- caller are calls of scripts
+-- one of the views is not spent and keeps the caller of this number; all calls of this caller are
+-- calls of scripts
 pub record IsKeptByOne (vs : List View) (n : ℕ) : Type 0 where
   pub seat : ℕ
   pub view : View
@@ -33,8 +33,8 @@ pub record IsKeptByOne (vs : List View) (n : ℕ) : Type 0 where
   pub live : view.spent ≡ false
   pub keeps : KeepsSo n RunsScripts view.kept
 
--- each number that is taken is kept by a view that is not spent, and all calls of the number are
--- calls of scripts
+-- for each number that is taken, a view that is not spent keeps its caller, and all calls of this
+-- caller are calls of scripts
 abbrev pub EachRunsScripts : Setup → State (Unit {0}) View → Type 0
 EachRunsScripts S s =
     (n : ℕ) → n < S.callers → (bit_at (members_of S s.words) n ≡ 0) ⊎ IsKeptByOne s.views n

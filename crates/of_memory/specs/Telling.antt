@@ -87,7 +87,7 @@ TellsMemory h m = generic.TellsMemory scripts_meaning h.cells m.cells
 -- ---- the whole
 
 -- in some history that leads from the store to what is saved, the calls ms of handle a come before
--- each call of handle b's number that is later than its calls ks
+-- each call of handle b's number that is later than b's calls ks
 abbrev pub ComeFirst : Memory → Store → Saved → (a b : Handle) → (ms ks : List Made) → Type 0
 ComeFirst m s d a b ms ks =
     (h : List HistoryEntry) × LeadsTo m s d h
