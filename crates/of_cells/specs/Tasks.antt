@@ -42,7 +42,7 @@ RestKnowsOrder meaning from m l =
 abbrev pub TaskWork : Type 0 → Type 0 → Type 1
 TaskWork W J = J → CellHandle W → J → CellHandle W → Type 0
 
--- a task that takes such handles may work with each handle of a memory
+-- the task can work with each handle of a memory
 abbrev pub TakesAny : {W : Type 0} → (W → Meaning) → (May : CellHandle W → Type 0) → Type 0
 TakesAny {W} meaning May = (h : CellHandle W) → IsCellHandle meaning h → May h
 
