@@ -34,12 +34,13 @@ use Rattle.of_eval.specs.Stored.{cell_store, IsStored}
 use Rattle.of_eval.specs.ScriptPrograms.{InstrResult, abort_program, ordered_program, answer_program, answers_number, put_answers, answers_if, need_answers, add_to, add_unless, sub_from, sub_unless, instr_program}
 use Rattle.of_eval.specs.Registers.{register_stands}
 
--- the answer and the cells are those of this effect; an abort's cells are not asked
+-- The instruction's answer r and the memory n after it are those of this effect on the store. After
+-- an abort only the cause counts, and n may be anything.
 abbrev pub GivesEffect : ℕ → ℕ → InstrEffect → InstrResult → (ℕ → ℕ) → Type 0
 GivesEffect o blocks (Ok e) r n = (r ≡ Ok e.1) × StandsForStore o blocks n (cell_store e.0)
 GivesEffect o blocks (Err cause) r n = r ≡ Err cause
 
--- a program gives this effect, and stays among the cells of the store
+-- run on the memory m, the program has this effect on the store, and uses only cells of the store
 abbrev pub HasEffect : ℕ → ℕ → (ℕ → ℕ) → Program InstrResult → InstrEffect → Type 0
 HasEffect o blocks m f e =
     StaysBetween o (cells_at o blocks) f m
@@ -56,11 +57,12 @@ four (a ∷ b ∷ c ∷ []) e = absurd (omega arith)
 four (a ∷ b ∷ c ∷ d ∷ []) e = omega arith
 four (a ∷ b ∷ c ∷ d ∷ x ∷ l) e = absurd (omega arith)
 
--- as many things are kept
+-- both kinds of store count the same number of keys and items
 pub things_kept : (s : Store) → IsState s → thing_count (cell_store s) ≡ stored_count s
 things_kept s h = let e = four s.queues h.queues in omega (arith, e)
 
--- a queue with other items, both ways to say it
+-- changing a queue's items gives the same store, whether it is done on a store of scripts or on a
+-- store of cells
 pub queue_plain : (s : Store) (q : ℕ) (items : List ℕ) → q < length s.queues
     → cell_store (with_queue s q items)
     ≡ record (cell_store s) { queues = with_value (λ x. queue s x) q items }
@@ -308,7 +310,7 @@ module _ (o blocks : ℕ) (few : blocks ≤ MOST_BLOCKS) (m : ℕ → ℕ) (s : 
       after_first o blocks m (drop_program o blocks k) answers_number (dropped k)
       d.0 (tt, (ap (λ (v : ℕ). Ok (Some v)) d.1, d.2))
 
-  -- every instruction does to the cells what it does to the store
+  -- every instruction does to cells that stand for a store what it does to the store
   pub instr_acts : (i : Instr) → IsInstrInRange i
       → HasEffect o blocks m (instr_program o blocks i) (instr_effect s i)
   instr_acts (Load r) k = load r k

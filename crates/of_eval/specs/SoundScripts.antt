@@ -30,7 +30,7 @@ use Rattle.of_eval.specs.ScriptsStay.{words_stay, words_only}
 use Rattle.of_eval.specs.FewWrites.{script_few}
 use Rattle.of_eval.specs.ShapeLaws.{code_some}
 
--- memory of zeros stands for the empty store
+-- a memory in which every cell is 0 stands for the empty store
 pub empty_is_stored : (o blocks : ℕ) → blocks ≤ MOST_BLOCKS → (m : ℕ → ℕ) → ((a : ℕ) → m a ≡ 0)
     → IsStored o blocks m (empty_store blocks)
 empty_is_stored o blocks few m z = record {

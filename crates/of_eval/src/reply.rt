@@ -53,7 +53,8 @@ fn abort_part(abort: Option<Abort>) -> u32
     }
 }
 
-/// A reply as cells hold it: its shape, and its number at each place, 0 for none.
+/// A reply as it is written into cells: its shape and its numbers, with 0 at places that have no
+/// number.
 pub fn reply_cells(reply: &Reply) -> RawReply
     requires { IsWhole reply.now }
     ensures { result ≡ reply_cells reply.now }
@@ -124,8 +125,8 @@ pub(crate) fn abort_in_cells(len: usize, place: usize, cause: Cause, out: &mut R
     });
 }
 
-/// The reply that these cells hold. None comes exactly if they hold none: their shape is that of no
-/// reply, or a number that it marks is above `GREATEST`.
+/// The reply that these cells hold. None exactly if they hold no reply: the shape is not the shape
+/// of any reply, or a number that it marks is above `GREATEST`.
 pub fn reply_of(raw: &RawReply) -> Option<Reply>
     ensures some { IfSome result (IsHeldBy raw.now) }
     ensures only { (r : TheReply) → IsHeldBy raw.now r → result ≡ Some r }

@@ -1,4 +1,4 @@
-//! A store is filled with what cells hold.
+//! Filling a store with what the cells hold.
 
 ghost use Rattle.std.specs.Prelude.{◌≡◌, ◌≤◌, ◌<◌, None, [], ◌∷◌, ◌++◌, length, IfOk, OnOk};
 ghost use Rattle.std.specs.FinMap as fm;

@@ -1,4 +1,4 @@
-//! The cells of callers.
+//! Looking at the own cells of callers.
 
 ghost use Rattle.std.specs.Prelude.{◌≡◌, ◌≢◌, ◌<◌, length, IfErr, OnOk};
 ghost use Rattle.of_mem.specs.Plots.{data_cell_count};

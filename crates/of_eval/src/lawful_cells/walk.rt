@@ -1,4 +1,4 @@
-//! The walk through the chains.
+//! The walk through the chains of blocks.
 
 ghost use Rattle.std.specs.Prelude.{◌≡◌, ◌≢◌, ◌<◌, ◌+◌, ◌↔◌, IsTrue, EachIndex, slice_index, ℕ, List, length, IfOk, IfErr, OnOk, All};
 ghost use Rattle.of_mem.specs.declared.plot.TheConstants.{QUEUES};
