@@ -23,7 +23,7 @@ pub record BeginsAnew (callers cells : ℕ) (old new : List ℕ) : Type 0 where
   pub size : IsDurableRow callers cells new
   pub seq : current_seq (slice_index new) ≡ 0
   pub owner : current_owner (slice_index new) ≡ 0
-  -- recovery finds nothing to do
+  -- a recovery of the row changes nothing
   pub settled : recovered_words callers cells new ≡ new
   pub numbers : (addr : ℕ) → addr < cells
       → slice_index new (data_cell callers addr)
@@ -38,11 +38,11 @@ renumbering_writes callers cells words =
     map (λ j. (last - j, renumbered_word callers cells (slice_index words) (last - j)))
     (range_with_len 0 (length words))
 
--- The row `new` is what some writes of a renumbering made of `old`. Its data cells have the same
--- numbers, and if a table may start from `old`, it may start from `new`.
+-- What is true of the row `new` after some writes of a renumbering of `old`: its data cells have
+-- the same numbers, and if a table may start from `old`, it may start from `new`.
 pub record BeginsAnewPartly (callers cells : ℕ) (old new : List ℕ) : Type 0 where
   pub size : IsDurableRow callers cells new
-  -- recovery finds nothing to do
+  -- a recovery of the row changes nothing
   pub settled : recovered_words callers cells new ≡ new
   pub numbers : (addr : ℕ) → addr < cells
       → payload_of (slice_index new (data_cell callers addr))
