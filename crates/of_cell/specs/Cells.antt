@@ -1,6 +1,6 @@
 -- The cells of a shape and the words of its shared table, by their numbers, and the step bound of a
--- call. A shape is three numbers: of callers, of script words a caller has room for, and of data
--- cells.
+-- call. A shape is three numbers: how many callers there are, how many script words each caller has
+-- room for, and how many data cells there are.
 use Rattle.std.specs.Prelude.{ℕ, ◌+◌, ◌*◌, ◌≤◌, min}
 use Rattle.of_cell.specs.declared.shape.TheConstants.{MOST_CALLERS, MOST_SCRIPT_WORDS, MOST_DATA_CELLS, FEW_DATA_CELLS, LOG_SHARE}
 
@@ -59,7 +59,7 @@ abbrev pub script_place : (callers instrs cells caller x : ℕ) → ℕ
 script_place callers instrs cells caller x =
     durable_cells callers cells + durable_cells callers cells + caller * (instrs + 1) + x
 
--- the place of a caller's announcement
+-- the place of a caller's announcement in the shared table
 abbrev pub announce_place : (callers instrs cells caller : ℕ) → ℕ
 announce_place callers instrs cells caller = script_place callers instrs cells caller instrs
 

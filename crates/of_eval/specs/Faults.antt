@@ -26,7 +26,7 @@ pub record IsShapeOf (instrs shape : ℕ) (r : Reply) : Type 0 where
   pub held : IsHeldBy (shape_alone shape) r
   pub few : r.len ≤ instrs
 
--- the reply has a number at this place
+-- reply r has a number at place j
 abbrev pub HasNumber : Reply → ℕ → Type 0
 HasNumber r j = is_some (slice_index_or r.values j None) ≡ true
 
@@ -72,7 +72,7 @@ abbrev pub IsPath : ℕ → (ℕ → ℕ) → ℕ → List ℕ → Type 0
 IsPath o m cell [] = Unit {0}
 IsPath o m cell (b ∷ bs) = (m cell ≡ b + 1) × IsPath o m (link_at o b) bs
 
--- the list has this number
+-- the number x is in the list
 abbrev pub ContainsNumber : List ℕ → ℕ → Type 0
 ContainsNumber [] x = ⊥
 ContainsNumber (a ∷ l) x = (x ≡ a) ⊎ ContainsNumber l x
@@ -136,12 +136,12 @@ pub data ChainFault (o blocks : ℕ) (m : ℕ → ℕ) (n : ℕ) (chains : ℕ �
   Key : (k b : ℕ) → k < bucket_count blocks → n ≡ 1 + k → LeadsToNewBlock o blocks m n chains b
       → IsNoKey o blocks m k (chains n) (m (first_at o b)) → cell ≡ first_at o b
       → ChainFault o blocks m n chains cell
-  -- the value at a key is too great
+  -- the value at the block's key is 2 ^ 31 or more
   Value : (k b : ℕ) → k < bucket_count blocks → n ≡ 1 + k → LeadsToNewBlock o blocks m n chains b
       → (IsNoKey o blocks m k (chains n) (m (first_at o b)) → ⊥)
       → (IsNumber (m (second_at o b)) → ⊥)
       → cell ≡ second_at o b → ChainFault o blocks m n chains cell
-  -- the item is too great
+  -- the item in the block is 2 ^ 31 or more
   Item : (q b : ℕ) → q < 4 → n ≡ queue_chain blocks q → LeadsToNewBlock o blocks m n chains b
       → (IsNumber (m (first_at o b)) → ⊥) → cell ≡ first_at o b
       → ChainFault o blocks m n chains cell
@@ -166,19 +166,19 @@ pub data CountFault (o blocks : ℕ) (m : ℕ → ℕ) (n : ℕ) (chains : ℕ �
 
 -- The cell is the first one at fault. All that is looked at before it is sound.
 pub data IsFirstFault (callers instrs blocks : ℕ) (m : ℕ → ℕ) (cell : ℕ) : Type 0 where
-  -- a caller's own cells
+  -- the fault is in the own cells of caller c
   Own : (c : ℕ) → c < callers → AllOwnCellsAreSound instrs m c → OwnFault instrs m c cell
       → IsFirstFault callers instrs blocks m cell
-  -- a register that is too great
+  -- the fault is a register that holds 2 ^ 31 or more
   Register : AllOwnCellsAreSound instrs m callers → (r : ℕ) → r < REGISTERS
       → AreNumbers (base_of callers instrs) m r
       → (IsNumber (m (register_at (base_of callers instrs) r)) → ⊥)
       → cell ≡ register_at (base_of callers instrs) r → IsFirstFault callers instrs blocks m cell
-  -- more blocks were taken than there are
+  -- the count of blocks taken at least once is above the number of blocks
   Fresh : AllOwnCellsAreSound instrs m callers → AreNumbers (base_of callers instrs) m REGISTERS
       → blocks < m (fresh_at (base_of callers instrs))
       → cell ≡ fresh_at (base_of callers instrs) → IsFirstFault callers instrs blocks m cell
-  -- a pointer of a chain, or what a block holds
+  -- the fault is a pointer of a chain, or what a block of a chain holds
   Chain : HasSoundHead callers instrs blocks m → (n : ℕ) (chains : ℕ → List ℕ)
       → HasPassed (base_of callers instrs) blocks m n chains
       → HasRightCounts (base_of callers instrs) blocks m n chains

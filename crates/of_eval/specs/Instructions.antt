@@ -77,7 +77,7 @@ queue_plain s q items l =
           rw (changed_other (λ y. queue s y) q items x n) (get_or-set_other s.queues q x items [] n)
     ]
 
--- a program, and then an answer by what it answered
+-- a program that is followed by another one has the effect of both
 after_first : {A : Type 0} (o blocks : ℕ) (m : ℕ → ℕ) (f : Program A) (g : A → Program InstrResult)
     (e : InstrEffect) → StaysBetween o (cells_at o blocks) f m
     → HasEffect o blocks (memory_after f m) (g (program_answer f m)) e
@@ -171,7 +171,7 @@ module _ (o blocks : ℕ) (few : blocks ≤ MOST_BLOCKS) (m : ℕ → ℕ) (s : 
       (need_answers v x) (instr_effect s (Need k v))) (sym g.0)
       (need_case v (is_there (fin.get s.keys k) v) (memory_after (get_program o blocks k) m) stay))
 
-  -- there is room exactly if the store is not full
+  -- the store of cells is full exactly if the store of scripts is
   full : ltb (thing_count (cell_store s)) blocks ≡ false → leb s.room (stored_count s) ≡ true
   full e =
       le-leb s.room (stored_count s)
@@ -276,7 +276,8 @@ module _ (o blocks : ℕ) (few : blocks ≤ MOST_BLOCKS) (m : ℕ → ℕ) (s : 
   ordered_case true f e d = (tt, refl)
   ordered_case false f e d = d
 
-  -- the cells have as many blocks as the store has room
+  -- an instruction on keys in their order has its effect: the cells have as many blocks as the
+  -- store has room
   ordered : (f : Program InstrResult) (e : InstrEffect) → Does f e
       → Does (ordered_program blocks f) (ordered_effect s e)
   ordered f e d =

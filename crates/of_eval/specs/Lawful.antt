@@ -21,7 +21,7 @@ reply_in instrs m c = record {
   values = map (reply_number instrs m c) (range_with_len 0 MOST_INSTRS);
 }
 
--- a caller's own cells hold a reply to a script of at most this many instructions
+-- the caller's own cells hold a whole reply to a script of at most `instrs` instructions
 pub record OwnCellsHoldReply (instrs : ℕ) (m : ℕ → ℕ) (caller : ℕ) : Type 0 where
   pub reply : Reply
   pub held : IsHeldBy (reply_in instrs m caller) reply

@@ -20,7 +20,7 @@ pub record ReportsRun (p : Plan) (s : Start) (e : Ended) (r : Report) : Type 0 w
   pub lawful : IsLawfulRecord p s e r
   -- the report's sequence is at most the plan's limit
   pub within_limit : r.seq ≤ p.limit
-  -- an entry beyond a caller's answers was announced
+  -- an entry that a caller has besides its answers is of an announced call
   pub announced : (c : ℕ) → c < p.callers
       → All (λ f. IsTrue f.announced) (drop (length (answers_of e c)) (entries_of r c))
   -- each answered call made at least the steps that it must make

@@ -27,7 +27,7 @@ CallerIsSound p cells caller = OwnCellsAreSound p.instrs (memory_of cells) calle
 abbrev pub NamesOwnFault : Plot → List ℕ → (caller : ℕ) → LawErr → Type 0
 NamesOwnFault p cells caller e = NamesCellWith (OwnFault p.instrs (memory_of cells) caller) e
 
--- every caller's own cells are sound
+-- the own cells of every caller are sound
 abbrev pub CallersAreSound : Plot → List ℕ → Type 0
 CallersAreSound p cells = AllOwnCellsAreSound p.instrs (memory_of cells) p.callers
 

@@ -40,7 +40,7 @@ impl From<AllocError> for LawErr {
     }
 }
 
-/// Looks at the cells in their order, and makes the store that they stand for.
+/// Looks at the cells in order, and makes the store for which they stand.
 fn read_store(alloc: Global, plot: &Plot, cells: &[u32]) -> Result<Store, LawErr>
     requires { length cells.now ≡ data_cell_count plot.now }
     ensures ok { IfOk result (CellsStandFor plot.now cells.now) }

@@ -1,4 +1,5 @@
-//! The map over cells: buckets of blocks.
+//! The map from keys to values over cells: each bucket is a chain of blocks, and a block holds a
+//! key and its value.
 #![tactic(auto)]
 
 ghost use Rattle.std.specs.Prelude.{◌≡◌, ◌≢◌, ◌%◌, ◌<◌, ◌≤◌, ℕ, Some, length, IfOk, MatchResult};

@@ -8,7 +8,7 @@ use Rattle.of_mem.specs.Places.{base_of, cells_at, ticket_cell_at, shape_at, rep
 abbrev pub base : Plot → ℕ
 base p = base_of p.callers p.instrs
 
--- the number of data cells
+-- how many data cells the plot has: the callers' own cells and the cells of the store
 abbrev pub data_cell_count : Plot → ℕ
 data_cell_count p = cells_at (base p) p.blocks
 

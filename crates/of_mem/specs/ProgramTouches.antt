@@ -6,8 +6,8 @@ use Rattle.of_mem.specs.Programs.{Program, Done, Read, Write, with_value, StaysB
 use Rattle.of_mem.specs.ProgramWork.{memory_of, meaning_of}
 use Rattle.of_mem.specs.Touching.{program_reads, ReadsAtMost, WritesAtMost}
 
--- The meaning is that of programs. On each lawful list of this size each program uses only cells
--- from `low` on, and makes at most `reads` reads and `writes` writes.
+-- The operations of the meaning M are programs. On each lawful list of `size` cells, each program
+-- uses only cells from `low` on, and makes at most `reads` reads and `writes` writes.
 pub record HasSmallPrograms (M : Meaning) (lawful : List ℕ → Type 0) (low size reads writes : ℕ)
     : Type 0 where
   pub keeps : RawReply → Bool

@@ -51,7 +51,7 @@ with_value m a v x = cond (eqb x a) v (m x)
 unfoldable pub with_writes : (ℕ → ℕ) → List (ℕ × ℕ) → ℕ → ℕ
 with_writes m es a = unwrap_or (value_for es a) (m a)
 
--- what a program answers on a whole memory
+-- what the program answers if it is run on the whole memory m
 abbrev pub program_answer : {A : Type 0} → Program A → (ℕ → ℕ) → A
 program_answer (Done r) m = r
 program_answer (Read a k) m = program_answer (k (m a)) m

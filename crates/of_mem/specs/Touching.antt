@@ -6,8 +6,8 @@ use Rattle.of_mem.specs.declared.work.RawReply.{RawReply}
 use Rattle.of_mem.specs.Meaning.{Meaning, Needs, Gives, Agrees}
 use Rattle.of_mem.specs.Programs.{Program, Done, Read, Write, with_value}
 
--- On this list the operation needs only these cells, whatever else is known, and it writes at most
--- `writes` cells.
+-- On the list xs, the operation `op` needs only the cells of the list `cells`, whatever else is
+-- known, and it writes at most `writes` cells.
 pub record StaysWithin (M : Meaning) (xs op cells : List ℕ) (writes : ℕ) : Type 0 where
   pub needs : (known : List (Option ℕ)) (a : ℕ) → Agrees known xs → M.walk known op ≡ Needs a
       → Contains cells a
@@ -23,7 +23,7 @@ TouchesFew M lawful size reads writes =
 
 -- Definitions for operations that are programs.
 
--- the cells that a program reads on a whole memory, in order
+-- the cells that the program reads if it is run on the whole memory m, in order
 abbrev pub program_reads : {A : Type 0} → Program A → (ℕ → ℕ) → List ℕ
 program_reads (Done r) m = []
 program_reads (Read a k) m = a ∷ program_reads (k (m a)) m

@@ -74,7 +74,7 @@ impl Plot {
         self.row(self.callers)
     }
 
-    /// How many buckets the keys are spread over.
+    /// How many buckets the keys of the store are spread over.
     #[tactic(auto, using(crate::proofs::BucketPlaces::few_count, crate::proofs::BucketPlaces::many_count))]
     pub fn buckets(&self) -> u32
         ensures value { result ≡ bucket_count self.now.blocks }
@@ -114,7 +114,7 @@ impl Plot {
         }
     }
 
-    /// The number of data cells.
+    /// The number of data cells: the callers' own cells and the cells of the store.
     pub fn cells(&self) -> u32
         ensures { result ≡ data_cell_count self.now }
     {

@@ -9,7 +9,7 @@ use crate::part::{Need, Part};
 use crate::suspended_run::{MaySuspend, SuspendedRun};
 use crate::workspace::Workspace;
 
-/// The most words of an operation, and the most numbers of a reply.
+/// The most words that an operation may have, and the most numbers that a reply may have.
 pub const MOST_INSTRS: usize = 16;
 
 /// The most callers of a work; a table of cell words has as many at most.
@@ -45,7 +45,7 @@ pub trait Work: MaySuspend {
     /// How many data cells there are.
     ghost size: { Self → ℕ };
 
-    /// Which lists of cells are lawful.
+    /// Which lists of cells are lawful: operations run on them, and leave lawful ones.
     ghost lawful: { Self → List ℕ → Type 0 };
 
     /// What an operation does to a list of cells, what it replies, and how it runs if only some

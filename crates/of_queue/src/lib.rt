@@ -1,4 +1,5 @@
-//! The queues over cells: chains of blocks with a head, a tail and a length.
+//! The queues over cells: each queue is a chain of blocks, with a head, a tail and a length, and a
+//! block holds an item.
 #![tactic(auto)]
 
 ghost use Rattle.std.specs.Prelude.{◌≡◌, ◌<◌, ◌≤◌, ℕ, Some, false, true, length, IfOk};

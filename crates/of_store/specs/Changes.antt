@@ -48,7 +48,7 @@ may_fail First = true
 may_fail (Next k) = true
 may_fail (DropBelow k) = true
 
--- no instruction of the script can fail after one that takes something out
+-- no instruction that may fail comes after one that takes a key or an item out
 abbrev pub FailsFirst : List Instr → Type 0
 FailsFirst script = (i j : ℕ) (a b : Instr) → i < j → slice_get script i ≡ Some a
     → slice_get script j ≡ Some b → takes_out a ≡ true → may_fail b ≡ false
