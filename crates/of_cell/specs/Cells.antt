@@ -13,11 +13,11 @@ pub record IsShape (callers instrs cells : ℕ) : Type 0 where
   pub some_cells : 1 ≤ cells
   pub few_cells : cells ≤ MOST_DATA_CELLS
 
--- the cell of a caller's request; cell 0 is the current-transaction word
+-- the number of the cell that holds a caller's request; number 0 is the current-transaction word
 abbrev pub request_cell : (caller : ℕ) → ℕ
 request_cell caller = caller + 1
 
--- the cell of the data cell with this address
+-- the cell number of the data cell with this address
 abbrev pub data_cell : (callers addr : ℕ) → ℕ
 data_cell callers addr = callers + 1 + addr
 
@@ -26,21 +26,21 @@ data_cell callers addr = callers + 1 + addr
 unfoldable pub log_room : (callers cells : ℕ) → ℕ
 log_room callers cells = min cells (FEW_DATA_CELLS + callers * LOG_SHARE)
 
--- the cell of word x of a caller's log: word 0 is the number of entries, and after it come the
--- address and the value of each entry
+-- the cell number of word x of a caller's log: word 0 is the number of entries, and after it come
+-- the address and the value of each entry
 abbrev pub log_cell : (callers cells caller x : ℕ) → ℕ
 log_cell callers cells caller x =
     callers + 1 + cells + caller * (2 * log_room callers cells + 1) + x
 
--- the cell that holds the number of entries of a caller's log
+-- the number of the cell that holds how many entries a caller's log has
 abbrev pub log_count_cell : (callers cells caller : ℕ) → ℕ
 log_count_cell callers cells caller = log_cell callers cells caller 0
 
--- the cell that holds the address of an entry of a caller's log
+-- the number of the cell that holds the address of an entry of a caller's log
 abbrev pub log_addr_cell : (callers cells caller entry : ℕ) → ℕ
 log_addr_cell callers cells caller entry = log_cell callers cells caller (2 * entry + 1)
 
--- the cell that holds the value of an entry of a caller's log
+-- the number of the cell that holds the value of an entry of a caller's log
 abbrev pub log_value_cell : (callers cells caller entry : ℕ) → ℕ
 log_value_cell callers cells caller entry = log_cell callers cells caller (2 * entry + 2)
 

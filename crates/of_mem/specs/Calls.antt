@@ -8,9 +8,9 @@ use Rattle.of_mem.specs.Part.{Part}
 use Rattle.of_mem.specs.Programs.{Program, RunsAs, NeedsAt, IsPartOf, with_writes}
 use Rattle.of_mem.specs.Stores.{CellStore, StandsForStore}
 
--- The call ran as program f. It answered r and left the partial memory that f leaves, or its error
--- names the cell that f needs and that is not known. It did not change the known cells or the
--- batch's writes.
+-- The call ran as the program f: it gave the answer of f and left the partial memory that f leaves,
+-- or its error names the cell that f needs and that is not known. It did not change the known cells
+-- or the batch's writes.
 pub record RunsProgram {A : Type 0} (f : Program A) (before after : Part) (result : Result A Need)
     : Type 0 where
   pub walk : MatchResult result (λ r. RunsAs f before r after) (λ need. NeedsAt f before need.addr)
@@ -30,8 +30,8 @@ pub record HasStore (plot : Plot) (p : Part) : Type 0 where
   pub part : IsPartOf p memory
   pub stands : PlotStandsForStore plot memory store
 
--- If the call answered, its answer is that of `answer` on the store, for every store for which a
--- memory that agrees with p stands.
+-- If the call answered, then for every memory m that agrees with p, and every store s for which m
+-- stands, the answer is `answer s`.
 abbrev pub AnswersOfStore : {A : Type 0} → Plot → Part → Result A Need → (CellStore → A) → Type 0
 AnswersOfStore plot p result answer =
     IfOk result (λ r. (m : ℕ → ℕ) (s : CellStore) → IsPartOf p m → PlotStandsForStore plot m s
@@ -45,8 +45,9 @@ pub record HasActedOnStore {A : Type 0} (plot : Plot) (m : ℕ → ℕ) (s : Cel
   pub part : IsPartOf after (with_writes m after.script)
   pub stands : PlotStandsForStore plot (with_writes m after.script) (next s)
 
--- If the call answered, then for every memory m that agrees with `before`, and the store s for
--- which m stands, the call acted as `answer` and `next` say.
+-- If the call answered, then for every memory m that agrees with `before`, and every store s for
+-- which m stands: the answer is `answer s`, and with the script's writes the memory stands for the
+-- store `next s`.
 abbrev pub ActsOnStore : {A : Type 0} → Plot → Part → Part → Result A Need
     → (CellStore → A) → (CellStore → CellStore) → Type 0
 ActsOnStore plot before after result answer next =

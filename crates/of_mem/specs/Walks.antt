@@ -40,8 +40,9 @@ Weighs o low p (suc n) from best to result =
     × (newest_at p from ≡ Some (suc b)) × (newest_at p (first_at o b) ≡ Some k)
     × Weighs o low p n (link_at o b) (better_of low k best) to result
 
--- All pointers and keys of bucket i are known, and with its keys the least key goes from `best` to
--- `result`. No more blocks are passed than there are.
+-- All pointers and keys of bucket i are known. `best` is the least key from `low` on before this
+-- bucket, and `result` is the least one with the keys of the bucket. No more blocks are passed than
+-- there are.
 pub record WeighsBucket (o blocks low : ℕ) (p : Part) (i : ℕ) (best result : Option ℕ)
     : Type 0 where
   pub passed : ℕ
@@ -60,8 +61,9 @@ WeighsBuckets o blocks low p (suc i) result =
     (best : Option ℕ)
     × WeighsBuckets o blocks low p i best × WeighsBucket o blocks low p i best result
 
--- the walk w, from the front of its bucket, is where the known cells lead; it passed at most as
--- many blocks as there are
+-- The walk w is right. From the front of its bucket, known cells lead through as many blocks as it
+-- passed, to its cell. None of these blocks has the key that is sought; if the least key is sought,
+-- the walk's best key is the least one so far.
 abbrev pub CameTo : ℕ → ℕ → Sought → Part → Walk → Type 0
 CameTo o blocks (Key key) p w =
     (w.passed ≤ blocks)
@@ -71,11 +73,11 @@ CameTo o blocks (LeastFrom low) p w =
     × (best : Option ℕ) × WeighsBuckets o blocks low p w.bucket best
     × Weighs o low p w.passed (bucket_at o blocks w.bucket) best w.cell w.best
 
--- the walk w is where the known cells of the plot lead
+-- the walk w is right on the known cells of the plot
 abbrev pub HasCome : Plot → Sought → Part → Walk → Type 0
 HasCome plot s p w = CameTo (base plot) plot.blocks s p w
 
--- if a walk is kept, it is where the known cells lead
+-- if a walk is kept, it is right on the known cells
 abbrev pub IsSoundWalk : KeptWalk → Part → Type 0
 IsSoundWalk k p = k.is_kept ≡ true → CameTo k.base k.blocks k.sought p k.walk
 

@@ -156,7 +156,7 @@ impl SuspendedRun {
         self.sought = key;
     }
 
-    /// Makes the writes of the words that have run the script's writes in `part`.
+    /// Sets the script's writes in `part` to the writes of the words that have run.
     pub fn restore(&self, part: &mut Part)
         requires { self.now.room ≡ length part.old.known }
         ensures { part.new ≡ record part.old { script = self.now.writes } }
@@ -192,8 +192,8 @@ fn are_same(words: &[u64], others: &[u64]) -> bool
     true
 }
 
-/// What a work may keep of an operation between two runs, and for which partial memories it is
-/// right. What is kept says itself of which work and which operation it is.
+/// A work that may keep, between two runs, how far an operation came. This trait says for which
+/// partial memories what is kept is right. What is kept names its work and its operation itself.
 pub trait MaySuspend: Copy + Send + Sync {
     ghost use Rattle.std.specs.Prelude.{◌≡◌, ℕ, [], None};
     ghost use Rattle.std.proofs.Common.{get_or};
@@ -203,7 +203,7 @@ pub trait MaySuspend: Copy + Send + Sync {
     /// Whether what is kept is right for a partial memory in which the script has written nothing.
     ghost holds: { SuspendedRun → Part → Type 0 };
 
-    /// If nothing is kept, this is right for every partial memory.
+    /// If no operation is kept, what is kept is right for every partial memory.
     ghost nothing: { (k : SuspendedRun) (p : Part) → k.words ≡ [] → holds k p };
 
     /// What is kept stays right if a cell becomes known that was not known before.
