@@ -63,7 +63,8 @@ script_place callers instrs cells caller x =
 abbrev pub announce_place : (callers instrs cells caller : ℕ) → ℕ
 announce_place callers instrs cells caller = script_place callers instrs cells caller instrs
 
--- the place of the members word, the last word of the shared table
+-- the place of the members word, which says which callers take part; it is the last word of the
+-- shared table
 abbrev pub members_place : (callers instrs cells : ℕ) → ℕ
 members_place callers instrs cells =
     durable_cells callers cells + durable_cells callers cells + callers * (instrs + 1)

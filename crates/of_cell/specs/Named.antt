@@ -1,5 +1,5 @@
--- Cells and words of the table by name. With the names it is stated that no two cells share a
--- number, and no two words a place.
+-- Names for the cells and the words of the table, with which it is stated that no two cells have
+-- the same number, and no two words the same place.
 use Rattle.std.specs.Prelude.{ℕ, ◌≡◌, ◌<◌}
 use Rattle.of_cell.specs.Cells.{log_room, request_cell, data_cell, log_count_cell, log_addr_cell, log_value_cell, durable_cells, durable_place, script_place, announce_place, members_place, table_words}
 

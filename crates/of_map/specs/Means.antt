@@ -37,8 +37,8 @@ answer_of_put blocks key s = put_answer (fin.get s.map key) (ltb (thing_count s)
 abbrev pub after_put : ℕ → ℕ → ℕ → CellStore → CellStore
 after_put blocks key v s = put_store s key v (fin.get s.map key) (ltb (thing_count s) blocks)
 
--- If the call answered, it put value v at the key, or found no room; then it answered `Full` and
--- wrote nothing.
+-- If the call answered, it put value v at the key, or found no room. If it found no room, it
+-- answered `Full` and wrote nothing.
 pub record PutsValue (plot : Plot) (before after : Part) (key v : ℕ) (result : Result Put Need)
     : Type 0 where
   pub acts : ActsOnStore plot before after result

@@ -108,9 +108,9 @@ fn read_value(plot: &Plot, part: &Part, block: u32) -> Result<Option<u32>, Need>
     Ok(Some(value))
 }
 
-/// Puts a value at a key, and answers the value that was there before. It answers `Full` exactly if
-/// the key is absent and no block is free, and then writes nothing. An error names a cell that must
-/// be read and is not known.
+/// Puts a value at a key. The answer says which value was there before, if any. It is `Full`
+/// exactly if the key is absent and no block is free, and then nothing is written. An error names a
+/// cell that must be read and is not known.
 #[tactic(auto, using(of_mem::proofs::Runs::run_then_needs))]
 pub fn put(plot: &Plot, part: &mut Part, key: u32, value: u32) -> Result<Put, Need>
     requires stands { HasStore plot.now part.old }

@@ -47,7 +47,7 @@ RunsAsWalked M known op result script before after =
     MatchResult result (λ _. M.walk known op ≡ Gives script after)
     (λ need. (M.walk known op ≡ Needs need.addr) × (script ≡ []) × (after ≡ before))
 
--- the two lists are the same from cell `base` on, the first cell that operations use
+-- both lists have the same numbers from cell `base` on, the first cell that operations use
 abbrev pub SameFrom : ℕ → List ℕ → List ℕ → Type 0
 SameFrom base xs ys = drop base xs ≡ drop base ys
 
@@ -61,8 +61,8 @@ HasDistinctCells es =
     (j k : ℕ) → j < length es → k < length es
     → (get_or es j (0, 0)).0 ≡ (get_or es k (0, 0)).0 → j ≡ k
 
--- A walk that finished with writes es and reply r is right about the cells xs: the operation makes
--- these writes and gives this reply.
+-- A walk that finished with writes es and reply r is right about the list of cells xs: the
+-- operation makes these writes on xs and gives this reply.
 pub record IsFinishedWalk (M : Meaning) (base size : ℕ) (xs op : List ℕ) (es : List (ℕ × ℕ))
     (r : RawReply) : Type 0 where
   pub inside : All (λ (e : ℕ × ℕ). (base ≤ e.0) × (e.0 < size) × FitsCell e.1) es

@@ -23,8 +23,8 @@ pub data RunEnd (A : Type 0) : Type 0 where
   Lacks : ℕ → RunEnd A
   Ends : A → Part → RunEnd A
 
--- how a program goes on after reading cell a: with the cell's number, or it ends since there is
--- none
+-- How a program goes on when it reads cell a: if the cell's number is known, k goes on with it.
+-- Otherwise the program ends, and lacks the cell.
 abbrev pub with_number : {A : Type 0} → Option ℕ → ℕ → (ℕ → RunEnd A) → RunEnd A
 with_number None a k = Lacks a
 with_number (Some v) a k = k v
@@ -95,7 +95,7 @@ OnlyReads (Done r) = Unit {0}
 OnlyReads (Read a k) = (v : ℕ) → OnlyReads (k v)
 OnlyReads (Write a v f) = ⊥
 
--- each number that the partial memory has for a cell is also the cell's number in the whole memory
--- m
+-- The partial memory agrees with the whole memory m: each number that it has for a cell is also the
+-- cell's number in m.
 abbrev pub IsPartOf : Part → (ℕ → ℕ) → Type 0
 IsPartOf p m = (a v : ℕ) → newest_at p a ≡ Some v → m a ≡ v

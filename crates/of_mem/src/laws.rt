@@ -12,7 +12,7 @@ ghost use Rattle.of_mem.specs.Touching.{TouchesFew};
 use crate::plot::Plot;
 use crate::work::Work;
 
-/// Data cells for different things have different addresses, all below the number of data cells.
+/// Data cells for different uses have different addresses, all below the number of data cells.
 pub fn places_differ(plot: Plot)
     ensures { CellPlacesDiffer plot }
 {}

@@ -26,8 +26,8 @@ abbrev pub at_pointer : ℕ → ℕ → (ℕ → Option ℕ → Program (Option 
 at_pointer o low further best zero = Done best
 at_pointer o low further best (suc b) = Read (first_at o b) (weigh_key o low further b best)
 
--- the walk from this pointer on, past at most as many blocks as the third argument says; the answer
--- is the best key
+-- The walk from this pointer on. It passes at most as many blocks as the third argument says, and
+-- answers the best key.
 abbrev pub least_walk : ℕ → ℕ → ℕ → ℕ → Option ℕ → Program (Option ℕ)
 least_walk o low zero pointer best = Done best
 least_walk o low (suc n) pointer best = at_pointer o low (least_walk o low n) best pointer
@@ -38,8 +38,8 @@ from_front o blocks low best front = least_walk o low blocks front best
 abbrev pub least_in_program : ℕ → ℕ → ℕ → ℕ → Option ℕ → Program (Option ℕ)
 least_in_program o blocks i low best = Read (bucket_at o blocks i) (from_front o blocks low best)
 
--- the walk through as many buckets as the fourth argument says, from bucket i on; the answer is the
--- best key
+-- The walk through some buckets, from bucket i on; the fourth argument says how many. It answers
+-- the best key.
 unfoldable pub least_buckets : ℕ → ℕ → ℕ → ℕ → ℕ → Option ℕ → Program (Option ℕ)
 least_buckets o blocks low zero i best = Done best
 least_buckets o blocks low (suc j) i best =
@@ -83,8 +83,7 @@ drop_front o blocks i low gone front = drop_walk o low blocks (bucket_at o block
 abbrev pub drop_in_program : ℕ → ℕ → ℕ → ℕ → ℕ → Program ℕ
 drop_in_program o blocks i low gone = Read (bucket_at o blocks i) (drop_front o blocks i low gone)
 
--- takes the number of dropped keys off the count of keys n, and answers it; this is done once, at
--- the end, and only if a key was dropped
+-- takes `gone`, the number of dropped keys, off the count of keys n, and answers `gone`
 abbrev pub less_gone : ℕ → ℕ → ℕ → Program ℕ
 less_gone o gone n = Write (keys_at o) (n - gone) (Done gone)
 

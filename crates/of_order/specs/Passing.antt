@@ -15,17 +15,17 @@ abbrev pub HasWeighed : Plot → ℕ → Part → Walk → Option ℕ → Type 0
 HasWeighed plot low p start best =
     WeighsBuckets (base plot) plot.blocks low p (start.bucket + 1) best
 
--- What a walk at `here` becomes when it passes one block. None: its bucket is at the end, and the
--- walk's best key is the best of this bucket and of those before. `Some next`: `next` is the walk
--- after one block more of the same bucket.
+-- What a walk at `here` becomes when it tries to pass one more block. None: its bucket has no more
+-- blocks, and the walk's best key is the best one of this bucket and of those before. `Some next`:
+-- `next` is the walk after one more block of the same bucket.
 abbrev pub IsPast : Plot → ℕ → Part → Walk → Option Walk → Type 0
 IsPast plot low p here None = HasWeighed plot low p here here.best
 IsPast plot low p here (Some next) =
     HasCome plot (LeastFrom low) p next
     × (next.bucket ≡ here.bucket) × (next.passed ≡ here.passed + 1)
 
--- the walk passed one block or its bucket ended, or the error names the cell that the program needs
--- and that is not known
+-- the walk passed one block, or its bucket has no more, or the error names the cell that the
+-- program needs and that is not known
 abbrev pub PassesBlock : Plot → ℕ → Part → Walk → Result (Option Walk) Need → Type 0
 PassesBlock plot low p here result =
     MatchResult result (IsPast plot low p here) (λ need. NeedsAt (least plot low) p need.addr)

@@ -28,8 +28,8 @@ push_store s q v false = s
 abbrev pub after_push : ℕ → ℕ → ℕ → CellStore → CellStore
 after_push blocks q v s = push_store s q v (has_room blocks s)
 
--- if the call answered, it put item v at the end of queue q, or found no room; then it answered
--- false and wrote nothing
+-- If the call answered, it put item v at the end of queue q, or found no room. If it found no room,
+-- it answered false and wrote nothing.
 pub record PushesItem (plot : Plot) (before after : Part) (q v : ℕ) (result : Result Bool Need)
     : Type 0 where
   pub acts : ActsOnStore plot before after result
