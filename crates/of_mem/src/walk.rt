@@ -8,8 +8,8 @@ ghost use Rattle.of_mem.specs.Walks.{HasCome, IsWalkOf};
 
 use crate::plot::Plot;
 
-/// What a walk looks for: a key, in its bucket, or the least key that is at least a number, in all
-/// buckets.
+/// What a walk looks for: a key, in the key's bucket, or the least key that is not below a number,
+/// in all buckets.
 #[derive(Clone, Copy, Debug, PartialEq, Eq)]
 pub enum Sought {
     Key(u32),

@@ -39,10 +39,10 @@ pub struct RawReply {
 /// A work runs operations on cells. The first `callers * (MOST_INSTRS + 2)` cells are the callers'
 /// own, and no operation reads or writes them.
 pub trait Work: MaySuspend {
-    /// How many callers there are.
+    /// How many callers the work has.
     ghost many: { Self → ℕ };
 
-    /// How many data cells there are.
+    /// How many data cells the work has.
     ghost size: { Self → ℕ };
 
     /// Which lists of cells are lawful: operations run on them, and leave lawful ones.
@@ -52,11 +52,11 @@ pub trait Work: MaySuspend {
     /// cells are known.
     ghost meaning: { Self → Meaning };
 
-    /// The number of callers.
+    /// The number of callers of the work.
     fn callers(&self) -> u32
         ensures { result ≡ many self.now };
 
-    /// The number of data cells.
+    /// The number of data cells of the work.
     fn cells(&self) -> u32
         ensures { result ≡ size self.now };
 
