@@ -12,7 +12,7 @@ use Rattle.of_mem.specs.declared.work.RawReply.{RawReply}
 use Rattle.of_core.specs.TableMoment.{Moment, TableStart, Batch, Read, step_reads}
 use Rattle.of_core.specs.Order.{HasBegunTry}
 
--- the step loads the current-transaction word
+-- whether the step from this place loads the current-transaction word
 abbrev pub loads_current_at : Place → Bool
 loads_current_at TryCurrent = true
 loads_current_at LoadCurrent = true
@@ -27,8 +27,8 @@ rests_on_seq_at m StoreAnnouncement = 0
 rests_on_seq_at m LoadCurrent = 0
 rests_on_seq_at m p = m.seq
 
--- what a call's last step answers: it counts each of its steps, and names no newer state than the
--- machine depended on. An unannounced answer comes from a try
+-- what is true of the outcome that a call's last step answers: it counts each of the call's steps,
+-- and names no newer state than the machine rested on. An unannounced answer comes from a try
 abbrev pub LastStepTells : Setup → CallState → Place → Option Outcome → Type 0
 LastStepTells S m p None = ⊥
 LastStepTells S m p (Some (Answered s false raw steps)) =
@@ -56,7 +56,7 @@ pub record IsStepAtPlace (S : Setup) (m : CallState) (n : ℕ) (p : Place) (d : 
   pub loads : loads_current_at p ≡ true → (added ≡ []) × (rests_on_seq_at d d.place ≤ seq_of n)
   pub rests : loads_current_at p ≡ false
       → rests_on_seq_at d d.place ≤ rests_on_seq_at m p + length added
-  -- what is committed is the caller's
+  -- a batch that the step commits is the caller's
   pub owner : All (λ (b : Batch). b.owner ≡ m.caller) added
   pub few : length added ≤ 1
   pub commits : 0 < length added → (p ≡ ExchangeCurrent) × (n ≡ pack m.seq m.owner)
@@ -76,13 +76,13 @@ rests_on_seq m = rests_on_seq_at m m.place
 unfoldable pub ReadsFrom : (low : ℕ) → CallState → Type 0
 ReadsFrom low m = HasBegunTry m m.place → low ≤ m.seq
 
--- the read of a machine's call, with this reply of the state at s
+-- the read that the machine's call is, if it has this reply from the state at s
 abbrev pub read_of_call : CallState → RawReply → (s : ℕ) → Read
 read_of_call m raw s = record { caller = m.caller; ticket = m.made; op = m.op; raw = raw; seq = s }
 
--- what a call's last step answers, if it leads from m to d: no newer state than the machine
--- rested on, and the number of its steps. An unannounced answer is a read of the history, of no
--- older state than the try reads from
+-- what is true of the outcome of a call's last step, which leads from m to d: it names no newer
+-- state than m rested on, and counts the call's steps. An unannounced answer is a read of the
+-- history, of no older state than the try reads
 abbrev pub TellsOutcome : Setup → CallState → CallState → Outcome → Type 0
 TellsOutcome S m d (Answered s true raw steps) =
     (s ≤ rests_on_seq m) × (steps ≡ m.steps + 1) × (step_reads m d ≡ [])
@@ -103,7 +103,8 @@ pub record IsStep (S : Setup) (B : TableStart) (w : Moment) (m : CallState) (n :
   -- newer one
   pub finds_last : loads_current m ≡ true
       → (seq_of n ≡ B.seq + length w.batches) × (bs ≡ []) × (rests_on_seq d ≤ seq_of n)
-  -- any other step leaves it on what it rested on, or on the batch that it commits
+  -- after any other step the machine rests on what it rested on before, or on the batch that the
+  -- step commits
   pub rests_on : loads_current m ≡ false → rests_on_seq d ≤ rests_on_seq m + length bs
   -- a try goes on at the state that it reads, or begins at the last one
   pub reads_from : (low : ℕ) → low ≤ B.seq + length w.batches → ReadsFrom low m → ReadsFrom low d

@@ -37,7 +37,7 @@ pub record Touches (m : CallState) (longest most : ℕ) : Type 0 where
   -- the cells that are known, and the one that is loaded next
   pub cells : knowns m.known + next_load m.place ≤ most
 
--- this holds of caller i now and after each of the events
+-- caller i's machine touches no more than this now and after each of the events
 abbrev pub TouchesOnly : Setup → Moment → List Event → (i longest most : ℕ) → Type 0
 TouchesOnly S w [] i longest most = Touches (machine_in w i) longest most
 TouchesOnly S w (e ∷ es) i longest most =
@@ -63,8 +63,9 @@ store_steps longest = 1 + 2 * (1 + 2 * longest) + 2 + 1
 abbrev pub try_steps : (longest most : ℕ) → ℕ
 try_steps longest most = 2 + help_steps longest + most
 
--- a round: the same, the announcement and the script words of each caller, and the log. A round
--- that finds its call in the history loads its reply in place of these
+-- a round: load the current-transaction word and the request, help, load the data cells and each
+-- caller's announcement and script words, and store the log. A round that finds its call in the
+-- history loads its reply in place of the scan
 abbrev pub round_steps : Setup → (longest most : ℕ) → ℕ
 round_steps S longest most =
     2 + help_steps longest + most + S.callers * (S.instrs + 1) + store_steps longest

@@ -64,11 +64,11 @@ word_of (Store c v) = c
 word_of (Exchange c old new) = c
 word_of (Raise c v) = c
 
--- it is on a word of the table
+-- the step is on a word of the table
 abbrev pub IsOnTable : Setup → Op → Type 0
 IsOnTable S o = word_of o < words_before_members S
 
--- what a step leaves in its word, in which it found this
+-- the number that a step leaves in its word, if it found `found` there
 abbrev pub word_left : Op → ℕ → ℕ
 word_left (Load c) found = found
 word_left (Store c v) found = v
@@ -103,11 +103,11 @@ after_read_run m (Gives es r) =
 abbrev pub read_on : Setup → CallState → CallState
 read_on S m = after_read_run m (S.meaning.walk m.known m.op)
 
--- after the look at the request, or the help
+-- a try begins its run, after the look at the request or after the help
 abbrev pub begin_reading : Setup → CallState → CallState
 begin_reading S m = read_on S (record m { known = no_cell_known S; helps = false })
 
--- a try that met a newer cell is over; after the last the call is announced
+-- a try that met a newer cell is over: another try begins, or after the last one the announcement
 abbrev pub end_try : CallState → (more : Bool) → CallState
 end_try m true = record m { place = TryCurrent }
 end_try m false = record m { place = StoreScript 0 }
@@ -116,7 +116,7 @@ abbrev pub after_try_cell : Setup → CallState → (a found : ℕ) → (newer :
 after_try_cell S m a found true = end_try m (nat_lt m.tries MOST_TRIES)
 after_try_cell S m a found false = read_on S (record m { known = with_cell_known S m a found })
 
--- a transaction is open if its owner's request says so
+-- whether the request `found` says that the transaction s is open
 abbrev pub is_request_open : (s found : ℕ) → Bool
 is_request_open s found = nat_lt 0 s && (found == pack s 0)
 
@@ -132,7 +132,8 @@ abbrev pub first_round_seq : CallState → ℕ → (none_yet : Bool) → ℕ
 first_round_seq m s true = s
 first_round_seq m s false = m.first
 
--- after the look at the request, or the help: one's own ticket comes next
+-- a round goes on after the look at the request, or after the help: to load the own ticket cell
+-- comes next
 abbrev pub enter : Setup → CallState → CallState
 enter S m = record m {
   place = LoadOwnTicket;
@@ -195,7 +196,7 @@ abbrev pub after_own_ticket : Setup → CallState → ℕ → (newer there at_li
 after_own_ticket S m found true there at_limit = next_round m
 after_own_ticket S m found false there at_limit = after_own_ticket_found S m found there at_limit
 
--- the first marked place from j on, of n
+-- the first place that the shape marks, among the n places from j on
 abbrev pub first_marked_place : (shape j n : ℕ) → Option ℕ
 first_marked_place shape j zero = None
 first_marked_place shape j (suc n) =
@@ -249,12 +250,11 @@ after_load_ticket S m found false =
     weigh S (record m { known = with_cell_known S m (ticket_cell S m.scan) found })
     (nat_lt (payload_of found) (seq_of m.heard))
 
--- the call that the scan has come to, as it was run: its writes come after those of the calls
--- before it, and its own cells after its writes
+-- the call that the scan has run for the caller that it has come to, with its reply
 abbrev pub call_as_run : CallState → RawReply → Call
 call_as_run m r = record { caller = m.scan; ticket = seq_of m.heard; op = m.script; raw = r }
 
--- the reply of one's own call: the new one if the call that was run is one's own
+-- the reply of the machine's own call: a new one if the call that was just run is its own
 abbrev pub own_reply_or : (new old : RawReply) → (own : Bool) → RawReply
 own_reply_or new old true = new
 own_reply_or new old false = old
@@ -322,7 +322,7 @@ after_raise_closed S m false in_try = record m {
   steps = 0;
 }
 
--- the machine after its step from a place found this number; the step is counted before
+-- the machine after its step from this place found this number, if it has counted the step already
 abbrev pub take_word_at : Setup → CallState → (found : ℕ) → Place → CallState
 take_word_at S m found Idle = m
 take_word_at S m found TryCurrent = record m {
@@ -373,7 +373,7 @@ take_word_at S m found (RaiseTarget j f) = next_entry m j (nat_lt (j + 1) (lengt
 take_word_at S m found CloseRequest = record m { place = RaiseClosed }
 take_word_at S m found RaiseClosed = after_raise_closed S m m.helps (m.rounds == 0)
 
--- each step of an open call is counted
+-- the machine with its step from this place counted, if a call is open
 abbrev pub with_step_counted : Place → CallState → CallState
 with_step_counted Idle m = m
 with_step_counted p m = record m { steps = m.steps + 1 }
