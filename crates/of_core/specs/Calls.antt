@@ -25,7 +25,8 @@ abbrev pub if_so : {A : Type 0} → Bool → List A → List A
 if_so true xs = xs
 if_so false xs = []
 
--- the operation that caller i begins by this event, as a list of one; or no operation
+-- the operation that caller i begins by this event, as a list of one; an empty list if it begins
+-- none
 abbrev pub operation_begun : Event → ℕ → List (List ℕ)
 operation_begun (Begins j op) i = if_so (i == j) (op ∷ [])
 operation_begun (Turns j) i = []
@@ -44,11 +45,12 @@ outcome_of_turn NoCall = []
 outcome_of_turn Open = []
 outcome_of_turn (Ended o) = o ∷ []
 
--- how a step that led from one machine to the other has ended its call
+-- how a step that led from one machine to the other has ended its call: a list of one outcome, or
+-- of none
 abbrev pub outcome_of_step : (before now : CallState) → List Outcome
 outcome_of_step m d = outcome_of_turn (turn_of m d)
 
--- how an event has ended a call of caller i
+-- how an event has ended a call of caller i: a list of one outcome, or of none
 abbrev pub outcome_of_event : Setup → Moment → Event → ℕ → List Outcome
 outcome_of_event S w (Begins j op) i = []
 outcome_of_event S w (Turns j) i =
@@ -119,11 +121,11 @@ last_outcome_or before (o ∷ os) = last_outcome_or (Some o) os
 abbrev pub last_outcome : List Outcome → Option Outcome
 last_outcome os = last_outcome_or None os
 
--- all calls of caller i in the batches are older than the one with this ticket
+-- all calls of caller i in the batches have lower tickets than this one
 abbrev pub HasNotRun : TableStart → Moment → (i ticket : ℕ) → Type 0
 HasNotRun B w i ticket = EachCall B w.batches (IsOlderCall i ticket)
 
--- the history has the read of caller i with this ticket and operation
+-- the history has the read of caller i with this ticket, operation and reply, of the state at s
 abbrev pub HasRead : List Read → (i ticket : ℕ) → (op : List ℕ) → RawReply → (s : ℕ) → Type 0
 HasRead rs i ticket op raw s = (k : ℕ) × (k < length rs)
     × (get_or rs k no_read ≡ record { caller = i; ticket = ticket; op = op; raw = raw; seq = s })
@@ -156,8 +158,8 @@ WasBegun before i ops c = c.caller ≡ i
     → (before < c.ticket) × (c.ticket ≤ before + length ops)
     × (c.op ≡ get_or ops (c.ticket - before - 1) [])
 
--- caller i had begun this many calls before; since then it has begun these, and the ended ones have
--- these outcomes
+-- caller i had begun `before` calls; since then it has begun calls of the operations `ops`, and
+-- those of them that have ended have the outcomes `outs`, in order
 pub record HasCalls (S : Setup) (B : TableStart) (before : ℕ) (w : Moment) (i : ℕ)
     (ops : List (List ℕ)) (outs : List Outcome) : Type 0 where
   -- the machine counts the calls that were begun
@@ -183,7 +185,7 @@ pub record HasCalls (S : Setup) (B : TableStart) (before : ℕ) (w : Moment) (i 
       → ReadsFrom (outcome_seq (get_or outs x no_outcome)) (machine_in w i)
   -- each of the caller's reads in the history is an outcome
   pub reads : All (IsOutcome before i ops outs) w.reads
-  -- each of its calls in a batch was begun, with these words
+  -- each of the caller's calls in a batch was begun by the caller, with these words
   pub calls : EachCall B w.batches (WasBegun before i ops)
 
 -- the turns of caller i among the events are the steps of its calls
@@ -191,7 +193,7 @@ pub record TurnsAreTold (S : Setup) (w : Moment) (es : List Event) (i : ℕ) : T
   -- the calls count no more steps than there were turns
   pub few : total_steps (outcomes S w es i) + (machine_in (after_events S w es) i).steps
       ≤ turn_count i es
-  -- they count each turn, if every turn found a call open and no call was spent
+  -- the calls count each turn, if every turn found a call open and no call was spent
   pub exact : TurnsFindOpenCalls S w es i → NoneSpent (outcomes S w es i)
       → total_steps (outcomes S w es i) + (machine_in (after_events S w es) i).steps
       ≡ turn_count i es

@@ -1,5 +1,5 @@
--- Calls beside commits: an announced call is done after at most two of them, a try or a round is
--- lost only to one of them, and an outcome is no older than its call.
+-- How calls depend on commits: an announced call is done after at most two commits, a try or a
+-- round is lost only to a commit, and an outcome is no older than its call.
 use Rattle.std.specs.Prelude.{ℕ, ◌+◌, ◌-◌, List, [], length, ◌≡◌, ◌≤◌, ◌<◌, Bool, true, false}
 use Rattle.std.proofs.Common.{get_or, take}
 use Rattle.of_cell.specs.Words.{seq_of}
@@ -52,14 +52,14 @@ DoneAfterTwoCommits S Lawful = EachSchedule S Lawful (λ B n es.
 
 -- Lost tries and rounds.
 
--- a try or a round begins at these places, and so does the announcement after the last try
+-- whether a try or a round begins at this place, or a script word is stored, as after the last try
 abbrev pub begins_at : Place → Bool
 begins_at TryCurrent = true
 begins_at (StoreScript j) = true
 begins_at LoadCurrent = true
 begins_at p = false
 
--- at these places a call is being announced, and its first round comes next
+-- whether a call is being announced at this place, so that its first round comes next
 abbrev pub announces_at : Place → Bool
 announces_at (StoreScript j) = true
 announces_at StoreAnnouncement = true

@@ -51,8 +51,8 @@ pub record IsStepAtPlace (S : Setup) (m : CallState) (n : ℕ) (p : Place) (d : 
   pub caller : d.caller ≡ m.caller
   pub made : d.made ≡ m.made
   pub op : d.op ≡ m.op
-  -- a load of the current-transaction word rests on what it found, and any other step on what the
-  -- machine rested on, or on the batch that it commits
+  -- after a load of the current-transaction word the machine rests on what it found, and after any
+  -- other step on what it rested on before, or on the batch that the step commits
   pub loads : loads_current_at p ≡ true → (added ≡ []) × (rests_on_seq_at d d.place ≤ seq_of n)
   pub rests : loads_current_at p ≡ false
       → rests_on_seq_at d d.place ≤ rests_on_seq_at m p + length added
@@ -76,7 +76,7 @@ rests_on_seq m = rests_on_seq_at m m.place
 unfoldable pub ReadsFrom : (low : ℕ) → CallState → Type 0
 ReadsFrom low m = HasBegunTry m m.place → low ≤ m.seq
 
--- the read that the machine's call is, if it has this reply from the state at s
+-- the machine's call as a read of the state at s, with this reply
 abbrev pub read_of_call : CallState → RawReply → (s : ℕ) → Read
 read_of_call m raw s = record { caller = m.caller; ticket = m.made; op = m.op; raw = raw; seq = s }
 
@@ -108,7 +108,8 @@ pub record IsStep (S : Setup) (B : TableStart) (w : Moment) (m : CallState) (n :
   pub rests_on : loads_current m ≡ false → rests_on_seq d ≤ rests_on_seq m + length bs
   -- a try goes on at the state that it reads, or begins at the last one
   pub reads_from : (low : ℕ) → low ≤ B.seq + length w.batches → ReadsFrom low m → ReadsFrom low d
-  -- a step commits at most one batch, which is the caller's, and only right after the last one
+  -- a step commits at most one batch, which is the caller's, and only if the machine rests on the
+  -- last batch
   pub few : length bs ≤ 1
   pub owner : All (λ (b : Batch). b.owner ≡ m.caller) bs
   pub commits : 0 < length bs → rests_on_seq m ≡ B.seq + length w.batches

@@ -28,7 +28,7 @@ state_after B bs k = words_after_batches B.seq B.cells (take (k - B.seq) bs)
 abbrev pub no_batch : Batch
 no_batch = record { owner = 0; log = []; calls = []; announcements = λ c. 0 }
 
--- the batch of sequence k: the first batch comes after the start's sequence
+-- the batch of sequence k: the first of these batches has the sequence after the start's
 unfoldable pub batch_at : TableStart → List Batch → ℕ → Batch
 batch_at B bs k = get_or bs (k - B.seq - 1) no_batch
 
@@ -82,7 +82,7 @@ ticket_in_state S st i = payload_of (get_or st (ticket_cell S i) 0)
 abbrev pub last_ticket_by : Setup → TableStart → List Batch → ℕ → ℕ → ℕ
 last_ticket_by S B bs k i = payload_of (data_word_after B bs k (ticket_cell S i))
 
--- the cell is caller i's own
+-- the data cell a is one of caller i's own cells
 abbrev pub IsCellOfCaller : Setup → ℕ → ℕ → Type 0
 IsCellOfCaller S i a = (ticket_cell S i ≤ a) × (a < ticket_cell S i + (S.instrs + 2))
 

@@ -73,7 +73,7 @@ EachBeside S Lawful Law =
     (B : TableStart) (w : Moment) → MeetsInvariant S Lawful B w → (c v : ℕ)
     → words_before_members S ≤ c → Law B w c v
 
--- the law holds of each table of n words that begins at a start
+-- the law holds of each table of n words that begins at a start that it may have
 abbrev pub EachStart : Setup → (List ℕ → Type 0) → (TableStart → (n : ℕ) → Type 0) → Type 0
 EachStart S Lawful Law =
     (B : TableStart) → MayStart S Lawful B → (n : ℕ) → words_before_members S ≤ n → Law B n
@@ -116,7 +116,8 @@ IsRaise (Store c v) = ⊥
 IsRaise (Exchange c old new) = ⊥
 IsRaise (Raise c v) = Unit {0}
 
--- the step is a raise, which leaves the same machine whatever it finds, and commits nothing
+-- the machine's next step is a raise, which leads to the same machine whatever it finds, and
+-- commits nothing
 abbrev pub GoesBlindly : Setup → CallState → Type 0
 GoesBlindly S m =
     IsRaise (want S m) × ((n k : ℕ) → take_word S m n ≡ take_word S m k)
@@ -140,7 +141,8 @@ NewCallsWereOpen S Lawful = EachStep S Lawful (λ B w i m n.
     (k : ℕ) → B.seq + length w.batches < k → k ≤ B.seq + length (after_step S i m n w).batches
     → All (IsOpenCall w) (batch_at B (after_step S i m n w).batches k).calls)
 
--- to begin a call keeps the invariant; the call rests on nothing yet, and no try of it has read
+-- to begin a call keeps the invariant; the new call rests on no sequence yet, and is in no try that
+-- has loaded a word
 abbrev pub BeginsKeepInvariant : Setup → (List ℕ → Type 0) → Type 0
 BeginsKeepInvariant S Lawful =
     EachBegin S Lawful (λ B w i d op. MeetsInvariant S Lawful B (after_begin S i d op w)
@@ -179,8 +181,8 @@ WordsBehindAreFree S Lawful = EachBeside S Lawful (λ B w c v.
     × ((e : ℕ × ℕ) → IsLoaded S B w.words w.batches e
     → IsLoaded S B (set w.words c v) w.batches e))
 
--- a table at its start, with idle machines, meets the invariant, and an idle machine rests on
--- nothing
+-- a table at its start, with idle machines, meets the invariant, and an idle machine rests on no
+-- sequence
 abbrev pub StartsMeetInvariant : Setup → (List ℕ → Type 0) → Type 0
 StartsMeetInvariant S Lawful =
     EachStart S Lawful (λ B n. MeetsInvariant S Lawful B (opening_moment S B n)
@@ -211,7 +213,7 @@ KeepsCalls S B i w v =
 abbrev pub KeepsOthersCalls : Setup → TableStart → (i : ℕ) → (w v : Moment) → Type 0
 KeepsOthersCalls S B i w v = (j : ℕ) → j < S.callers → (i ≡ j → ⊥) → KeepsCalls S B j w v
 
--- at a start each caller has made the calls that its ticket counts, and no others
+-- at a start each caller has made the calls that its ticket cell counts, and no others
 abbrev pub StartsHaveNoCalls : Setup → (List ℕ → Type 0) → Type 0
 StartsHaveNoCalls S Lawful = EachStart S Lawful (λ B n.
     (i : ℕ) → i < S.callers → HasCalls S B (start_ticket S B i) (opening_moment S B n) i [] [])
@@ -429,7 +431,7 @@ TurnsKeepIdle =
     (S : Setup) (m : CallState) (n : ℕ) → m.place ≡ Idle
     → (take_word S m n ≡ m) × (step_reads m m ≡ [])
 
--- an idle machine rests on nothing, and no try of it has read
+-- an idle machine rests on no sequence, and is in no try
 abbrev pub IdleRestsOnNothing : Type 0
 IdleRestsOnNothing =
     (m : CallState) → m.place ≡ Idle → (rests_on_seq m ≡ 0) × ((low : ℕ) → ReadsFrom low m)
@@ -446,16 +448,16 @@ TurnsAreSteps = (S : Setup) (w : Moment) (i n : ℕ) → IsFoundBy (want S (mach
 
 -- Histories by themselves.
 
--- the first state is the start's
+-- the state at the start's sequence is that of the start
 abbrev pub FirstStateIsStart : Type 0
 FirstStateIsStart = (B : TableStart) (bs : List Batch) → state_after B bs B.seq ≡ B.cells
 
--- the batches are numbered from the start's sequence on
+-- the batches are numbered in order, the first with the number after the start's sequence
 abbrev pub BatchesAreNumbered : Type 0
 BatchesAreNumbered = (B : TableStart) (bs : List Batch) (d : ℕ)
     → batch_at B bs (B.seq + d + 1) ≡ get_or bs d no_batch
 
--- the next batch has the next number
+-- a batch that is added to a history has the next number
 abbrev pub NextBatchIsNumberedNext : Type 0
 NextBatchIsNumberedNext = (B : TableStart) (bs : List Batch) (b : Batch) (k : ℕ)
     → k ≡ B.seq + length bs + 1 → batch_at B (bs ++ b ∷ []) k ≡ b
@@ -470,7 +472,7 @@ abbrev pub LongerKeepsStates : Type 0
 LongerKeepsStates = (B : TableStart) (bs cs : List Batch) (k : ℕ)
     → k ≤ B.seq + length bs → state_after B (bs ++ cs) k ≡ state_after B bs k
 
--- the beginning of a history keeps its batches
+-- the first n batches of a history keep their numbers without the later ones
 abbrev pub PrefixKeepsBatches : Type 0
 PrefixKeepsBatches = (B : TableStart) (bs : List Batch) (n k : ℕ)
     → B.seq < k → k ≤ B.seq + n → batch_at B (take n bs) k ≡ batch_at B bs k

@@ -46,8 +46,8 @@ AreLinearized S n B (es ∷ lives) (order ∷ orders) =
 abbrev pub whole_order : List (List Call) → List Call
 whole_order orders = flat_map (λ order. order) orders
 
--- the lives have such orders, which together are one serial run from the first start: so each call
--- comes after all calls of the lives before its own
+-- each life has an order, as `AreLinearized` says, and these orders one after the other are one
+-- serial run from the first start: so each call comes after all calls of earlier lives
 pub record AreDurablyLinearizable (S : Setup) (n : ℕ) (B : TableStart) (lives : List (List Event))
     : Type 0 where
   pub orders : List (List Call)

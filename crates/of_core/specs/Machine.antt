@@ -45,10 +45,10 @@ pub record CallState : Type 0 where
   pub kept : ℕ
   -- the steps that the open call has made
   pub steps : ℕ
-  -- the rounds begun, and the sequence of the first
+  -- how many rounds the call has begun, and the sequence at which the first began
   pub rounds : ℕ
   pub first : ℕ
-  -- the tries begun
+  -- how many tries the call has begun
   pub tries : ℕ
   -- the caller that the scan has come to, its announcement and its script words as loaded, and the
   -- calls run so far

@@ -41,13 +41,13 @@ bank_opening meaning B b =
 abbrev pub machine_of : {X : Type 0} → Bank X → ℕ → CallState
 machine_of b i = get_or b.machines i no_machine
 
--- the moment with a bank's words and machines, and no history
+-- the moment with a bank's words and machines, an empty history and no word loaded for an eviction
 abbrev pub moment_of_bank : {X : Type 0} → Bank X → Moment
 moment_of_bank b =
     record { words = b.words; machines = b.machines; batches = []; reads = []; loaded = [] }
 
--- The bank after these events. They begin with an empty history and no word loaded for an eviction;
--- the words and machines after an event do not depend on the history.
+-- The bank after these events. The history before them is left out, as neither words nor machines
+-- depend on it.
 abbrev pub bank_after : {X : Type 0} → (X → Meaning) → List Event → Bank X → Bank X
 bank_after meaning es b = record b {
   words = (after_events (bank_setup meaning b) (moment_of_bank b) es).words;

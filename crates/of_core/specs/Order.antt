@@ -72,7 +72,7 @@ abbrev pub IsOlder : CallState → Place → Read → Type 0
 IsOlder m p r = WasMadeBefore m r (is_idle p)
 
 -- the reads of the machine's caller are older than its open call. Nothing that the caller has made,
--- a read or a call in a batch, is newer than the state that a try of it reads
+-- a read or a call in a batch, is newer than the state that its try reads
 pub record HasOnlyOlderCalls (S : Setup) (B : TableStart) (ws : List ℕ) (bs : List Batch)
     (rs : List Read) (i : ℕ) (m : CallState) (p : Place) : Type 0 where
   pub older : All (λ (r : Read). r.caller ≡ i → IsOlder m p r) rs
@@ -80,7 +80,8 @@ pub record HasOnlyOlderCalls (S : Setup) (B : TableStart) (ws : List ℕ) (bs : 
   pub still : HasBegunTry m p
       → last_ticket_by S B bs m.seq i ≡ last_ticket_by S B bs (committed_seq ws) i
 
--- the order of calls at a moment, and what each machine needs to keep it
+-- the calls of each caller are in order at this moment, and each machine has what it needs to keep
+-- them so
 pub record KeepsCallOrder (S : Setup) (B : TableStart) (w : Moment) : Type 0 where
   pub ordered : AreInCallOrder S B w.words w.batches w.reads
   pub behind : (i : ℕ) (m : CallState) → i < S.callers → get_or w.machines i m ≡ m

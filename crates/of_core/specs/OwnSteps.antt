@@ -24,7 +24,7 @@ abbrev pub after_own_steps : Setup → ℕ → CallOnTable → CallOnTable
 after_own_steps S zero x = x
 after_own_steps S (suc n) x = after_own_step S (after_own_steps S n x)
 
--- however many steps the call has made, it may take the word that the next one finds
+-- after any number of its own steps, the call may take the word that its next step finds
 abbrev pub MayGoOn : Setup → (List ℕ → Type 0) → CallOnTable → Type 0
 MayGoOn S Lawful x =
     (k : ℕ) → let y = after_own_steps S k x in MayTake S Lawful y.call (word_found S y.words y.call)

@@ -46,8 +46,9 @@ RaisesAreShort S Lawful =
     → want S (machine_in w i) ≡ Raise (durable_at S c) v
     → (es : List Event) → IsSchedule S w es → lower_changes S w es c v ≤ pending S w c v
 
--- While an eviction is about to raise a durable word to e.1, no call changes that word to one that
--- is still below e.1. Another eviction that has loaded its word before does it at most once.
+-- While an eviction is about to raise a durable word to the word e.1, no call changes that word to
+-- one that is still below e.1. Another eviction that has loaded its word before does it at most
+-- once.
 abbrev pub EvictionsAreShort : Setup → (List ℕ → Type 0) → Type 0
 EvictionsAreShort S Lawful =
     (B : TableStart) (w : Moment) → MeetsInvariant S Lawful B w
@@ -71,8 +72,8 @@ CellsLevel S Lawful = EachSchedule S Lawful (λ B n es.
     → (get_or (after_event S w e).words c 0 ≡ get_or w.words c 0)
     ⊎ (get_or w.words c 0 ≤ durable_word S w.words c))
 
--- so in such schedules nothing changes a durable word to one below the word that a caller is about
--- to raise it to
+-- In schedules from a start, as long as no machine is replaced, nothing changes a durable word to
+-- one below the word that a caller is about to raise it to.
 abbrev pub RaisesUndisturbed : Setup → (List ℕ → Type 0) → Type 0
 RaisesUndisturbed S Lawful = EachSchedule S Lawful (λ B n es.
     let w : Moment = after_events S (opening_moment S B n) es in
@@ -80,8 +81,8 @@ RaisesUndisturbed S Lawful = EachSchedule S Lawful (λ B n es.
     → want S (machine_in w i) ≡ Raise (durable_at S c) v
     → (ds : List Event) → IsSchedule S w ds → lower_changes S w ds c v ≡ 0)
 
--- nor does anything, in such schedules, change a durable word to one below a word that was loaded
--- from its cell for an eviction
+-- In schedules from a start, as long as no machine is replaced, nothing changes a durable word to
+-- one below a word that was loaded from its cell for an eviction.
 abbrev pub EvictionsUndisturbed : Setup → (List ℕ → Type 0) → Type 0
 EvictionsUndisturbed S Lawful = EachSchedule S Lawful (λ B n es.
     let w : Moment = after_events S (opening_moment S B n) es in
@@ -89,8 +90,9 @@ EvictionsUndisturbed S Lawful = EachSchedule S Lawful (λ B n es.
     → (ds : List Event) → IsSchedule S w ds
     → lower_changes S w ds (get_or w.loaded k (0, 0)).0 (get_or w.loaded k (0, 0)).1 ≡ 0)
 
--- while a caller is about to raise a durable word to v, the word stays as it is until it is at
--- least v: if the exchange of the loop has failed, the next load ends the loop
+-- In schedules from a start, as long as no machine is replaced, a durable word that a caller is
+-- about to raise to v stays as it is until it is at least v. If the exchange of the loop has
+-- failed, the next load ends the loop.
 abbrev pub RaisesStand : Setup → (List ℕ → Type 0) → Type 0
 RaisesStand S Lawful = EachSchedule S Lawful (λ B n es.
     let w : Moment = after_events S (opening_moment S B n) es in

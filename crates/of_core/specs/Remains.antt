@@ -28,13 +28,13 @@ IsOwnOpen r i = (payload_of r.current ≡ i) × (0 < seq_of r.current)
 
 -- caller i has nothing under way, so a new machine may take the place of its lost one
 pub record MayRevive (r : Remains) (i : ℕ) : Type 0 where
-  -- its log is of no transaction after the last committed one
+  -- the caller's log is of no transaction after the last committed one
   pub log : seq_of r.log ≤ seq_of r.current
-  -- its request is of no transaction after the last committed one
+  -- the caller's request is of no transaction after the last committed one
   pub request : seq_of r.request ≤ seq_of r.current
-  -- it has no open transaction
+  -- the caller has no open transaction
   pub closed : IsOwnOpen r i → ⊥
-  -- its request is durable
+  -- the caller's request is durable
   pub durable : r.durable ≡ r.request
 
 -- whether the announced call is newer than the call in the ticket cell, and so may not have run yet
@@ -57,7 +57,7 @@ revived_if S r i made false = idle_machine S i (max made (payload_of r.ticket))
 abbrev pub revived_machine : Setup → Remains → (i made : ℕ) → CallState
 revived_machine S r i made = revived_if S r i made (announces_open_call r)
 
--- the moment after a new machine has taken the place of caller i's
+-- the moment after a new machine has taken the place of caller i's machine
 abbrev pub after_revival : Setup → (i made : ℕ) → Moment → Moment
 after_revival S i made w = record w {
   machines = set w.machines i (revived_machine S (remains_of S w.words i) i made);

@@ -21,8 +21,8 @@ EachRevival S Lawful Law =
     (B : TableStart) (w : Moment) → MeetsInvariant S Lawful B w
     → (i made : ℕ) → i < S.callers → MayRevive (remains_of S w.words i) i → Law B w i made
 
--- the answered reads of caller i are older than its machine's open call, or no newer than the last
--- call of an idle machine
+-- the answered reads of caller i are older than the open call of the machine d or, if d is idle, no
+-- newer than its last call
 abbrev pub HasOlderReads : Moment → ℕ → CallState → Type 0
 HasOlderReads w i d = All (λ (r : Read). r.caller ≡ i → IsOlder d d.place r) w.reads
 

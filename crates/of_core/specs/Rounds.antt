@@ -25,8 +25,8 @@ HasOneOperation B ws bs i t op =
     (k : ℕ) → B.seq < k → k ≤ committed_seq ws
     → All (λ (c : Call). c.caller ≡ i → c.ticket ≡ t → c.op ≡ op) (batch_at B bs k).calls
 
--- m is before its first round or between two: it has begun at most two, and since the first began
--- as many batches were committed as it has begun rounds
+-- m is before its first round or between two: it has begun at most two, and at least as many
+-- batches were committed since the first began
 pub record IsBetweenRounds (ws : List ℕ) (m : CallState) : Type 0 where
   pub few : m.rounds ≤ 2
   pub later : 1 ≤ m.rounds → m.first + m.rounds ≤ committed_seq ws

@@ -65,7 +65,7 @@ pub record HasScannedUpTo (S : Setup) (B : TableStart) (ws : List ℕ) (bs : Lis
   pub over : IsOverlayOf S (numbers_after B bs s) cs es
   pub taken : All (WasTakenByScan S (state_after B bs s)) cs
   pub below : All (λ (c : Call). c.caller < n) cs
-  -- over many data cells each of the n callers has at most its share of the log
+  -- if there are many data cells, the log is at most as long as the n callers' shares of it
   pub short : (S.cells ≤ FEW_DATA_CELLS) ⊎ (length es ≤ n * LOG_SHARE)
   pub ordered : CallersRise cs
   pub announced : s ≡ committed_seq ws → All (IsAnnouncedCall S ws) cs
@@ -103,6 +103,6 @@ pub record HasLoadedScript (S : Setup) (st ws : List ℕ) (s c heard : ℕ) (scr
   pub many : length script ≡ j
   pub within : j ≤ payload_of heard
 
--- the machine's scan, up to the caller that it has come to
+-- m's scan has passed all callers before the caller that it has come to
 abbrev pub IsInScan : Setup → TableStart → List ℕ → List Batch → ℕ → CallState → Type 0
 IsInScan S B ws bs i m = HasScannedUpTo S B ws bs i m.seq m.made m.op m.raw m.calls m.log m.scan

@@ -43,7 +43,7 @@ start_from_durable callers cells row = record {
 abbrev pub start_on : Shape → List ℕ → TableStart
 start_on shape row = start_from_durable shape.callers shape.cells row
 
--- the row is the durable words, cell by cell
+-- the list `row` has the durable words of the table, cell by cell
 pub record IsDurable (S : Setup) (ws row : List ℕ) : Type 0 where
   pub long : length row ≡ cell_count S
   pub each : (c : ℕ) → c < cell_count S → get_or row c 0 ≡ durable_word S ws c

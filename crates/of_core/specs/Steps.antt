@@ -16,7 +16,7 @@ use Rattle.of_core.specs.declared.place.Outcome.TheVariants.{Answered, Spent}
 use Rattle.of_core.specs.Table.{Setup, words_before_members, request_at, data_at, log_at, durable_at, script_word_at, ticket_cell, shape_cell, reply_cell}
 use Rattle.of_core.specs.Machine.{Call, CallState, log_entry, log_words, log_of, entries_going_round, no_cell_known, with_cell_known, own_cells}
 
--- what the machine m asks for at a place
+-- the step that the machine m asks for at a place
 abbrev pub want_at : Setup → CallState → Place → Op
 want_at S m Idle = Load 0
 want_at S m TryCurrent = Load 0
@@ -88,13 +88,14 @@ IsFoundBy (Raise c v) ws n = n ≡ get_or ws c 0
 abbrev pub word_found : Setup → List ℕ → CallState → ℕ
 word_found S ws m = get_or ws (word_of (want S m)) 0
 
--- Announcing: the script words in order, and then the announcement.
+-- Announcing. After the store of a script word comes the next one, or after the last one the
+-- announcement.
 abbrev pub after_store_script : CallState → ℕ → (more : Bool) → CallState
 after_store_script m j true = record m { place = StoreScript (j + 1) }
 after_store_script m j false = record m { place = StoreAnnouncement }
 
--- Trying a read: its run goes on as far as the cells of the state are known, and the call is
--- answered at its end.
+-- Trying a read. After a run on the known cells, the machine loads the cell that the run needs, or
+-- the call is answered with the run's reply.
 abbrev pub after_read_run : CallState → WalkEnd → CallState
 after_read_run m (Needs a) = record m { place = TryCell a }
 after_read_run m (Gives es r) =
@@ -124,7 +125,7 @@ abbrev pub after_try_request : Setup → CallState → (opened : Bool) → CallS
 after_try_request S m true = record m { place = CopyLog 0; copy = []; helps = true }
 after_try_request S m false = begin_reading S m
 
--- A round: the current-transaction word and the request of its owner.
+-- A round. Each begins at the load of the current-transaction word.
 abbrev pub next_round : CallState → CallState
 next_round m = record m { place = LoadCurrent }
 
@@ -152,8 +153,7 @@ abbrev pub after_load_request : Setup → CallState → (opened : Bool) → Call
 after_load_request S m true = record m { place = CopyLog 0; copy = []; helps = true }
 after_load_request S m false = enter S m
 
--- Helping: the owner's log words are copied, as many as the count says, and its request is looked
--- at again.
+-- Helping. The copy of the owner's log words gets one word more, as it was found.
 abbrev pub with_log_word_copied : CallState → ℕ → List ℕ
 with_log_word_copied m found = m.copy ++ payload_of found ∷ []
 
@@ -169,8 +169,8 @@ after_look_again S m true in_try = record m {
 }
 after_look_again S m false in_try = resume S m in_try
 
--- One's own ticket: if the ticket cell has it, the call is in the history, and its reply is loaded;
--- if not, at the limit the call is spent.
+-- One's own ticket. If the ticket cell doesn't have the call, and the limit is reached, the call
+-- ends as spent.
 abbrev pub end_spent : CallState → CallState
 end_spent m = record m { place = Idle; answer = Some (Spent m.seq); steps = 0 }
 
@@ -226,8 +226,8 @@ after_load_reply S m j found false =
     next_reply_place (with_reply m j found)
     (first_marked_place m.raw.shape (j + 1) (S.instrs - j - 1))
 
--- The scan: the announcement of each caller in turn, and its ticket cell if that isn't known. A
--- call with a new ticket is run.
+-- The scan. After a caller comes the next caller's announcement, or after the last one the raise of
+-- the old request, with which the log begins.
 abbrev pub place_behind : (more : Bool) → Place
 place_behind true = LoadAnnouncement
 place_behind false = RaiseOld
@@ -266,7 +266,8 @@ with_call_run S m es r = record m {
   raw = own_reply_or r m.raw (m.scan == m.caller);
 }
 
--- a run that needs a cell begins again when the cell is known
+-- after a run of the scanned call, the machine loads the cell that the run needs, or the scan goes
+-- on to the next caller
 abbrev pub after_script_run : Setup → CallState → WalkEnd → CallState
 after_script_run S m (Needs a) = record m { place = LoadCell a }
 after_script_run S m (Gives es r) =
@@ -287,8 +288,8 @@ abbrev pub after_load_cell : Setup → CallState → (a found : ℕ) → (newer 
 after_load_cell S m a found true = next_round m
 after_load_cell S m a found false = run_script S (record m { known = with_cell_known S m a found })
 
--- The log: each word is stored and raised, and then the request; the current-transaction word is
--- exchanged last.
+-- The log. After the raise of a log word comes the next one, or after the last one the store of the
+-- request.
 abbrev pub after_raise_log : CallState → ℕ → (more : Bool) → CallState
 after_raise_log m x true = record m { place = StoreLog (x + 1) }
 after_raise_log m x false = record m { place = StoreRequest }
@@ -298,8 +299,8 @@ after_commit_exchange m true =
     record m { place = RaiseCurrent; helps = false; seq = m.seq + 1; owner = m.caller }
 after_commit_exchange m false = next_round m
 
--- Applying: the current-transaction word is raised, each entry's cell is exchanged if it is
--- older, and raised; then the request is closed.
+-- Applying. After the raise of the current-transaction word comes the first entry of the log, or
+-- the close of the request if the log is empty.
 abbrev pub after_raise_current : CallState → (some : Bool) → CallState
 after_raise_current m true = record m { place = LoadTarget 0 }
 after_raise_current m false = record m { place = CloseRequest }
@@ -312,7 +313,8 @@ abbrev pub next_entry : CallState → ℕ → (more : Bool) → CallState
 next_entry m j true = record m { place = LoadTarget (j + 1) }
 next_entry m j false = record m { place = CloseRequest }
 
--- a helper goes on with its round or try, and an owner is answered
+-- after the raise of the closed request, a helper goes on with its round or try, and an owner's
+-- call is answered
 abbrev pub after_raise_closed : Setup → CallState → (helps in_try : Bool) → CallState
 after_raise_closed S m true in_try = resume S m in_try
 after_raise_closed S m false in_try = record m {

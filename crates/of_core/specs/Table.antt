@@ -37,8 +37,8 @@ setup_of n m l meaning = record {
 abbrev pub setup_on : Shape → (limit : ℕ) → Meaning → Setup
 setup_on shape limit meaning = setup_of shape.callers shape.cells limit meaning
 
--- Cells. Cell 0 names the last committed transaction; a request for each caller, the data cells and
--- each caller's log words follow.
+-- Cells. Cell 0 is the current-transaction word. After it come each caller's request, the data
+-- cells, and each caller's log words.
 abbrev pub request_at : ℕ → ℕ
 request_at i = request_cell i
 
@@ -68,8 +68,8 @@ script_word_at S i x = script_place S.callers S.instrs S.cells i x
 abbrev pub words_before_members : Setup → ℕ
 words_before_members S = members_place S.callers S.instrs S.cells
 
--- Data cells. Each caller's own come first: the ticket, the shape and the reply of its last
--- announced call that was run.
+-- Data cells. Each caller's own cells come first: the ticket of its last announced call that was
+-- run, and the shape and the numbers of that call's reply.
 abbrev pub ticket_cell : Setup → ℕ → ℕ
 ticket_cell S i = ticket_cell_at S.instrs i
 
@@ -93,7 +93,7 @@ reply_word_at S i j = data_at S (reply_cell S i j)
 abbrev pub first_operation_cell : Setup → ℕ
 first_operation_cell S = base_of S.callers S.instrs
 
--- The words themselves.
+-- The words at these places, if the words of the table are ws.
 abbrev pub current_word : List ℕ → ℕ
 current_word ws = get_or ws 0 0
 

@@ -47,7 +47,7 @@ module _ (S : Setup) (B : TableStart) (ws : List ℕ) (bs : List Batch) (i : ℕ
   AppliesAs m true = IsHelping m
   AppliesAs m false = OwnsTransaction m
 
-  -- m.log has the entries of batch m.seq's log, and those below j are applied
+  -- m applies batch m.seq: m.log has the entries of the batch's log, and those below j are applied
   pub record IsApplying (m : CallState) (j : ℕ) : Type 0 where
     pub mode : AppliesAs m m.helps
     pub after : B.seq < m.seq
@@ -84,7 +84,7 @@ module _ (S : Setup) (B : TableStart) (ws : List ℕ) (bs : List Batch) (i : ℕ
       → (batch_at B bs k).owner ≡ i → pack k 0 < durable_request S ws i
 
   -- m has stored x words of its log, z of them durably, and its caller's request is still the old
-  -- one
+  -- one, which is durable and closes all of its batches
   pub record IsStoringLog (m : CallState) (x z : ℕ) : Type 0 where
     pub stored : HasStoredLog m x z
     pub own : seq_of (request_of ws i) ≤ m.seq

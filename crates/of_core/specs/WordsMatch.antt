@@ -1,4 +1,4 @@
--- What the invariant says of words and history, and of no machine, in groups.
+-- What the invariant says of words and history, in groups of facts. None of them is about machines.
 use Rattle.std.specs.Prelude.{ℕ, ◌+◌, ◌*◌, ◌-◌, List, length, ◌≡◌, ◌≤◌, ◌<◌, ◌⊎◌, max, map}
 use Rattle.std.proofs.Common.{get_or}
 use Rattle.of_mem.specs.declared.work.TheConstants.{MOST_INSTRS}
@@ -100,7 +100,8 @@ pub record DurableWordsMatch (S : Setup) (B : TableStart) (ws : List ℕ) (bs : 
   -- the durable current-transaction word names the owner of the batch of its sequence
   pub owner : B.seq < durable_seq S ws
       → payload_of (durable_word S ws 0) ≡ (batch_at B bs (durable_seq S ws)).owner
-  -- if its sequence is the start's, it names the start's owner
+  -- if the durable sequence is the start's, the durable current-transaction word names the start's
+  -- owner
   pub first : durable_seq S ws ≡ B.seq → payload_of (durable_word S ws 0) ≡ B.owner
   -- the durable sequence is the last committed one, or the one before it if the last transaction is
   -- open
@@ -126,8 +127,8 @@ pub record DurableWordsMatch (S : Setup) (B : TableStart) (ws : List ℕ) (bs : 
       → get_or (log_words (batch_at B bs k).log) x 0 ≡ v
       → (log_word_of S ws i x ≡ pack k v) × (durable_log S ws i x ≡ pack k v)
 
--- each state is lawful, and its batch's calls lead from the state before to it. The own cells hold
--- each caller's last call
+-- the state after each batch is lawful, and the calls of the batch lead to it from the state
+-- before. The own cells of each caller hold its last call
 pub record StatesFollowBatches (S : Setup) (Lawful : List ℕ → Type 0) (B : TableStart)
     (bs : List Batch) : Type 0 where
   -- each state is lawful
@@ -159,8 +160,9 @@ pub record StatesFollowBatches (S : Setup) (Lawful : List ℕ → Type 0) (B : T
   -- each batch has at least one call
   pub some : (k : ℕ) → B.seq < k → k ≤ B.seq + length bs → 0 < length (batch_at B bs k).calls
 
--- an announcement is of 1 to K words, a caller's announced tickets rise, and a call that was
--- already announced when a batch was committed is run by the next batch at the latest
+-- an announcement is of at least one word and at most as many as an operation may have, a caller's
+-- announced tickets rise, and a call that was already announced when a batch was committed is run
+-- by the next batch at the latest
 pub record AnnouncementsAreServed (S : Setup) (B : TableStart) (ws : List ℕ) (bs : List Batch)
     : Type 0 where
   -- an announcement is of at most as many words as an operation may have

@@ -16,12 +16,12 @@ abbrev pub reply_with : List ℕ → RawReply
 reply_with vs =
     record { shape = 2 ^ length vs - 1; values = vs ++ replicate (MOST_INSTRS - length vs) 0 }
 
--- the walk asks for the cell a if it isn't known, and goes on with its number
+-- a walk that needs the cell a asks for it if it isn't known, and otherwise goes on with its number
 abbrev pub known_or : ℕ → (ℕ → WalkEnd) → Option ℕ → WalkEnd
 known_or a next None = Needs a
 known_or a next (Some v) = next v
 
--- the walk loads n cells from a on, and ends with their numbers
+-- a walk that loads n cells from a on, and then ends with vs and their numbers
 abbrev pub loaded_more : List (Option ℕ) → (a n : ℕ) → List ℕ → (List ℕ → WalkEnd) → WalkEnd
 loaded_more known a zero vs end = end vs
 loaded_more known a (suc n) vs end =
@@ -31,8 +31,8 @@ abbrev pub numbers_from : List ℕ → (a n : ℕ) → List ℕ
 numbers_from xs a zero = []
 numbers_from xs a (suc n) = get_or xs a 0 ∷ numbers_from xs (a + 1) n
 
--- Two registers from the cell a on. The operation v ∷ [] stores v in the second, and n zeros read
--- the first n.
+-- Two registers, which are the cells a and a + 1. The operation v ∷ [] stores v in the second, and
+-- n zeros read the first n: an operation reads if its first word is 0.
 abbrev pub is_read : List ℕ → Bool
 is_read op = get_or op 0 0 == 0
 

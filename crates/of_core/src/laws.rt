@@ -195,8 +195,8 @@ pub fn batches<W: Work>(limit: u32, work: W)
 
 /// A raise is a loop of a load and an exchange. While a caller is about to raise a durable word to
 /// v, no call changes that word to another one below v. Only an eviction may, at most once, with a
-/// word that it has loaded before. In schedules from a start no eviction does: a cell changes only
-/// if its durable word is at least the word that it holds.
+/// word that it has loaded before. In schedules from a start no eviction does, as long as no
+/// machine is replaced: a cell changes only if its durable word is at least the word that it holds.
 pub fn raises_are_short<W: Work>(limit: u32, work: W)
     ensures held { RaisesHeld (setup_for W.many W.size W.meaning limit work) (W.lawful work) }
     ensures calls { RaisesAreShort (setup_for W.many W.size W.meaning limit work) (W.lawful work) }

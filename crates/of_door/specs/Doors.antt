@@ -39,7 +39,8 @@ abbrev pub WasRefused : (w n : ℕ) → (before now : Hand) → Type 0
 WasRefused w n before now =
     (n ≢ w) × (found_by now ≡ found_by before ++ n ∷ []) × (stored_by now ≡ stored_by before)
 
--- each call of the member in the batches that it has seen has a ticket that the member has begun
+-- each call of the member's caller, in the batches that the member has seen, is one that the member
+-- counts as begun: its ticket is at most the number of these
 abbrev pub TicketsUpTo : {W : Type 0} → (W → Meaning) → Row W → Member → Type 0
 TicketsUpTo meaning r m =
     let B = row_start meaning r in

@@ -21,7 +21,8 @@ IsMemberAtToldDoor (Some r) number m = IsMemberAtDoor r number m
 abbrev pub SlotHolds : (Member → Type 0) → (w : ℕ) → Option Member → Type 0
 SlotHolds May w x = (w ≡ 0 → x ≡ None) × (w ≡ 1 → (m : Member) × (x ≡ Some m) × May m)
 
--- at the words 0 and 1 the slot is at home and holds what the word says; at 2 the slot is out
+-- at the words 0 and 1 the slot is in the table and holds what the word says; at 2 a hand has taken
+-- it out
 abbrev pub SlotMatchesWord : (Member → Type 0) → (w : ℕ) → List (maybe.Option (Option Member))
     → Type 0
 SlotMatchesWord May w homes =

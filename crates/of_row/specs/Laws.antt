@@ -18,7 +18,7 @@ use Rattle.of_row.specs.Rows.{key_of, IsRowMember, RunsOnRow, IsMemberOf, HasNoC
 use Rattle.of_row.specs.Rows.{number_of_member, calls_of_member}
 use Rattle.of_row.specs.Passes.{HasEnrolled}
 
--- a view that keeps every number that is taken has seen the whole history
+-- a view that keeps a caller of every number that is taken has seen the whole history
 abbrev pub SeesWholeHistory : (List ℕ → Type 0) → Setup → Type 0
 SeesWholeHistory Lawful S =
     (B : TableStart) (ws : List ℕ) (v : View) (m : ViewMeetsRule S Lawful B ws v)

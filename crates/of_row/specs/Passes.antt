@@ -15,8 +15,8 @@ use Rattle.of_row.specs.Turned.{after_ask, after_number_given, new_known_caller,
 use Rattle.of_row.specs.Rows.{key_of, setup_at, row_start, view_of_pass, view_of_member}
 use Rattle.of_row.specs.Rows.{number_of_member, calls_of_member, IsRowPass, IsRowMember, HasSeenLegal}
 
--- the caller that is kept for the number n when the pass has got it: the caller has made no call on
--- this row, and has seen what the pass had seen
+-- what is kept of the caller of number n once the pass p has got this number: the caller has made
+-- no call on this row, and has seen what the pass had seen
 abbrev pub enrolled_caller : {W : Type 0} → (W → Meaning) → Row W → ℕ → Pass → KnownCaller
 enrolled_caller meaning r n p =
     new_known_caller (setup_at meaning r) (row_start meaning r) n
@@ -50,7 +50,8 @@ pub record HasEnrolled {W : Type 0} (meaning : W → Meaning) (r : Row W) (n : �
       (enrolled_caller meaning r n before)
   pub legal : HasSeenLegal meaning r (view_of_pass before)
 
--- the pass has evicted the cell: it loaded it, and raised its durable word to what it loaded
+-- the pass has evicted the cell: it has loaded the cell, and raised the cell's durable word to the
+-- word that was found
 abbrev pub HasEvicted : ℕ → (before now : Pass) → Type 0
 HasEvicted cell before now =
     (n : ℕ) × (view_of_pass now ≡ after_evict (after_fetch cell n (view_of_pass before)))
