@@ -28,7 +28,7 @@ use std::snapshot::Snapshot;
 mod inspect;
 mod own_steps;
 
-/// What a turn says of its caller's call.
+/// What a turn answers about its caller's call.
 #[derive(Clone, Copy)]
 pub enum Turn {
     /// The caller had no open call, and nothing was done.
@@ -39,8 +39,8 @@ pub enum Turn {
     Ended(Outcome),
 }
 
-/// The words of a table, and a machine for each caller. Words and machines are always what some
-/// schedule leaves from the table's start.
+/// The words of a table, and a machine for each caller. Both are always what some schedule leaves
+/// from the table's start.
 #[derive(Drop)]
 pub struct Bank<W: Work> {
     work: W,
@@ -287,8 +287,8 @@ impl<W: Work> Bank<W> {
         self.words[durable] = self.words[durable].max(self.words[cell as usize]);
     }
 
-    /// Does nothing. Its contract says that the words and machines are what some schedule leaves
-    /// from the table's start.
+    /// Shows that the words and machines are what some schedule leaves from the table's start: its
+    /// contract says so, and the call does nothing.
     pub fn stands(&self)
         ensures { IsReached (bank_setup W.meaning self.now) (W.lawful self.now.work)
             self.now.start self.now.words self.now.machines }

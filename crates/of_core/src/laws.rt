@@ -63,12 +63,12 @@ pub fn step_kept<W: Work>(limit: u32, work: W)
     ensures grounds { GoodGrounds (setup_for W.many W.size W.meaning limit work) (W.lawful work) }
 {}
 
-/// A caller's machine may be lost, with the thread or the process that had it. A new machine may
-/// take its place if the words say that the caller has nothing under way: no log and no request of
-/// a transaction that isn't committed, no open transaction, and a durable request. This keeps the
-/// invariant if the new machine counts all reads that its caller was answered. Below the limit it
-/// does, if it goes on with the announced call. No other caller's calls change. A machine that may
-/// be replaced still may be until its caller makes a step.
+/// A new machine may take the place of a caller's machine that is lost, with the thread or the
+/// process that had it, if the words say that the caller has nothing under way: no log and no
+/// request of a transaction that isn't committed, no open transaction, and a durable request. This
+/// keeps the invariant if the new machine counts all reads that its caller was answered. Below the
+/// limit it does, if it goes on with the announced call. No other caller's calls change. A machine
+/// that may be replaced still may be until its caller makes a step.
 pub fn taken_over_stands<W: Work>(limit: u32, work: W)
     ensures core { RevivalsKeepCore
         (setup_for W.many W.size W.meaning limit work) (W.lawful work) }
@@ -184,19 +184,20 @@ pub fn touched_bounds()
     ensures transfers { TouchedBoundOfTransfers }
 {}
 
-/// What batches write, in every schedule. A batch's log has the writes of its calls, in order, and
-/// their callers' own cells, and nothing else. One of a batch's calls is its owner's. A data cell
-/// keeps its word or gets one of a later transaction, so no helper writes an older number.
+/// In every schedule, a batch's log has the writes of its calls, in order, and their callers' own
+/// cells, and nothing else. One of a batch's calls is its owner's. A data cell keeps its word or
+/// gets one of a later transaction, so no helper writes an older number.
 pub fn batches<W: Work>(limit: u32, work: W)
     ensures logs { LogsAreWrites (setup_for W.many W.size W.meaning limit work) (W.lawful work) }
     ensures owners { OwnersTakePart (setup_for W.many W.size W.meaning limit work) (W.lawful work) }
     ensures rise { CellsRise (setup_for W.many W.size W.meaning limit work) (W.lawful work) }
 {}
 
-/// A raise is a loop of a load and an exchange. While a caller is about to raise a durable word to
-/// v, no call changes that word to another one below v. Only an eviction may, at most once, with a
-/// word that it has loaded before. In schedules from a start no eviction does, as long as no
-/// machine is replaced: a cell changes only if its durable word is at least the word that it holds.
+/// A raise is a loop of a load and an exchange, and the loop is short: while a caller is about to
+/// raise a durable word to v, no call changes that word to another one below v. Only an eviction
+/// may, at most once, with a word that it has loaded before. In schedules from a start no eviction
+/// does, as long as no machine is replaced: a cell changes only if its durable word is at least the
+/// word that it holds.
 pub fn raises_are_short<W: Work>(limit: u32, work: W)
     ensures held { RaisesHeld (setup_for W.many W.size W.meaning limit work) (W.lawful work) }
     ensures calls { RaisesAreShort (setup_for W.many W.size W.meaning limit work) (W.lawful work) }

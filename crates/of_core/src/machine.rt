@@ -309,8 +309,8 @@ impl<W: Work> Machine<W> {
         self.perform(self.place, &NameStep, &mut ())
     }
 
-    /// Has `by` perform the machine's next atomic step with `hand`. `place` is the place of the
-    /// machine.
+    /// Performs the machine's next atomic step by the performer `by`, with `hand`. `place` is the
+    /// place of the machine.
     // in line, and with an arm for each place: it performs its own form of step and goes straight
     // on from there, with one jump by the place
     #[inline(always)]
@@ -416,8 +416,8 @@ impl<W: Work> Machine<W> {
         }
     }
 
-    /// Goes on after the step that `want` named. `found` is the word that the step found; if the
-    /// step is a store, it may be any number.
+    /// Goes on after the step that `want` named, which found the word `found`. If the step is a
+    /// store, `found` may be any number.
     #[inline(always)]
     #[tactic(auto, unfolding(crate::specs::Steps::take_word))]
     pub fn take(&mut self, found: u64)
@@ -429,8 +429,8 @@ impl<W: Work> Machine<W> {
         self.take_at(self.place, found)
     }
 
-    /// Goes on after the step that `place` names, which is the machine's place. `found` is the word
-    /// that the step found; if the step is a store, it may be any number.
+    /// Goes on after the step that `place`, the machine's place, names, and which found the word
+    /// `found`. If the step is a store, `found` may be any number.
     #[inline(always)]
     pub fn take_at(&mut self, place: Place, found: u64)
         requires here { place ≡ self.old.call.place }

@@ -21,9 +21,9 @@ pub fn sees_whole<W: Work>(limit: u32, work: W)
     protocol(limit, work);
 }
 
-/// For each caller that a pass or a member keeps, it has seen this caller's own calls and no others
-/// of it, each as it ended, whatever passes and members were parted, met or joined before. What it
-/// has seen is a legal history.
+/// A pass or a member has seen, of each caller that it keeps, the caller's own calls and no others,
+/// each as it ended, whatever passes and members were parted, met or joined before. What it has
+/// seen is a legal history.
 pub fn sees_own<W: Work>(limit: u32, work: W)
     ensures own { SeesOwnCalls (W.lawful work) (setup_for W.many W.size W.meaning limit work) }
     ensures legal { SeesLegal (W.lawful work) (setup_for W.many W.size W.meaning limit work) }
@@ -37,9 +37,8 @@ pub fn evictions_are_raised<W: Work>(work: W)
     ensures { EvictionsAreRaised (W.lawful work) }
 {}
 
-/// For which machines a member stands. If it has no open call, as after it has enrolled, it stands
-/// for a fresh machine of its number. If a machine that it stands for begins a call, it still
-/// stands for that machine.
+/// A member that has no open call, as after it has enrolled, stands for a fresh machine of its
+/// number. If a machine that it stands for begins a call, it still stands for that machine.
 pub fn members<W: Work>(work: W)
     ensures fresh { MembersStandForFresh W.meaning }
     ensures range { MemberInRange work }
@@ -53,8 +52,8 @@ pub fn idle_members<W: Work>()
     ensures { IdleMembersHaveNoCall W.meaning }
 {}
 
-/// Which machines run on a row: those with the row's sizes and work, and they still do when they
-/// have begun a call.
+/// A machine with the row's sizes and work runs on the row, and still does when it has begun a
+/// call.
 pub fn machines<W: Work>(work: W)
     ensures first { NewMachinesRun work }
     ensures begun { MachinesKeepRunning work }

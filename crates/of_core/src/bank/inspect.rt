@@ -17,7 +17,7 @@ use crate::place::{Op, Outcome, Place};
 use of_mem::Work;
 
 impl<W: Work> Bank<W> {
-    /// Where a caller's call is. A place has the name of the step that comes next.
+    /// Where a caller's call is: a place has the name of the step that comes next.
     pub fn place(&self, caller: u32) -> Place
         requires { caller < self.now.callers }
         ensures { result ≡ (machine_of self.now caller).place }
@@ -61,7 +61,7 @@ impl<W: Work> Bank<W> {
         self.machines[caller as usize].calls()
     }
 
-    /// The word at this index of the table.
+    /// The word of the table at the index `place`.
     pub fn word(&self, place: u32) -> u64
         requires { place < table_word_count (bank_setup W.meaning self.now) }
         ensures { result ≡ get_or self.now.words place 0 }

@@ -10,7 +10,7 @@ use crate::place::Place;
 use of_mem::Work;
 
 impl<W: Work> Machine<W> {
-    /// Where the call is. A place has the name of the step that comes next.
+    /// Where the call is: a place has the name of the step that comes next.
     #[inline(always)]
     pub fn place(&self) -> Place
         ensures { result ≡ self.now.call.place }
