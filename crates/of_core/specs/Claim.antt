@@ -21,7 +21,7 @@ use Rattle.of_core.specs.History.{state_after, batch_at, EachBatch, EachCall, Is
 use Rattle.of_core.specs.Bound.{bound}
 use Rattle.of_core.specs.Events.{machine_in}
 
--- the places of a round or a try at which the known cells are those of its state
+-- whether, at this place of a round or a try, the known cells must be those of its state
 abbrev pub knows_state : Place → Bool
 knows_state (TryCell a) = true
 knows_state LoadOwnTicket = true
@@ -64,7 +64,7 @@ pub record HasHeld (S : Setup) (B : TableStart) (ws : List ℕ) (bs : List Batch
   pub log : (j x : ℕ) → j < S.callers → x < 2 * most_entries S + 1 → c ≡ log_at S j x
       → IsLogWord B ws bs j x v
 
--- the numbers after the first n batches, by replay of their calls
+-- the numbers of the data cells after the first n batches, by replay of their calls
 abbrev pub numbers_by_replay : Setup → TableStart → List Batch → (n : ℕ) → List ℕ
 numbers_by_replay S B bs n = numbers_after_batches S.meaning (map payload_of B.cells) (take n bs)
 

@@ -44,7 +44,8 @@ CountsStepOrEnds S m p d false = (d.steps ≡ m.steps + 1) × (d.answer ≡ m.an
 abbrev pub CountsStep : Setup → CallState → Place → CallState → Type 0
 CountsStep S m p d = CountsStepOrEnds S m p d (is_idle d.place)
 
--- the step from the place p that found n has led from m to d and committed these batches
+-- a step from the place p has found n, has led from the machine m to d, and has committed these
+-- batches
 pub record IsStepAtPlace (S : Setup) (m : CallState) (n : ℕ) (p : Place) (d : CallState)
     (added : List Batch) : Type 0 where
   -- caller, number and operation of the call stay
@@ -60,7 +61,8 @@ pub record IsStepAtPlace (S : Setup) (m : CallState) (n : ℕ) (p : Place) (d : 
   pub owner : All (λ (b : Batch). b.owner ≡ m.caller) added
   pub few : length added ≤ 1
   pub commits : 0 < length added → (p ≡ ExchangeCurrent) × (n ≡ pack m.seq m.owner)
-  -- a try commits nothing, and it goes on at its sequence or has just begun
+  -- a step of a try commits nothing; after the step, a try is at the same sequence as before or has
+  -- just begun
   pub tries : HasBegunTry m p → added ≡ []
   pub trying : HasBegunTry d d.place
       → (HasBegunTry m p × (d.seq ≡ m.seq)) ⊎ ((p ≡ TryCurrent) × (d.seq ≡ seq_of n))
@@ -72,7 +74,8 @@ loads_current m = loads_current_at m.place
 unfoldable pub rests_on_seq : CallState → ℕ
 rests_on_seq m = rests_on_seq_at m m.place
 
--- a try that has loaded the current-transaction word reads no older state than this
+-- if the machine is in a try that has loaded the current-transaction word, the state that it reads
+-- is no older than `low`
 unfoldable pub ReadsFrom : (low : ℕ) → CallState → Type 0
 ReadsFrom low m = HasBegunTry m m.place → low ≤ m.seq
 
@@ -91,8 +94,8 @@ TellsOutcome S m d (Answered s false raw steps) =
     × (step_reads m d ≡ read_of_call m raw s ∷ []) × ((low : ℕ) → ReadsFrom low m → low ≤ s)
 TellsOutcome S m d (Spent s) = (s ≤ rests_on_seq m) × (s ≡ S.limit) × (step_reads m d ≡ [])
 
--- the step of an open call, at a moment that meets the invariant: it found n, led from m to d and
--- committed these batches
+-- a step of an open call, at a moment that meets the invariant, has found n, has led from the
+-- machine m to d, and has committed these batches
 pub record IsStep (S : Setup) (B : TableStart) (w : Moment) (m : CallState) (n : ℕ) (d : CallState)
     (bs : List Batch) : Type 0 where
   -- caller, number and operation of the call stay
@@ -106,7 +109,7 @@ pub record IsStep (S : Setup) (B : TableStart) (w : Moment) (m : CallState) (n :
   -- after any other step the machine rests on what it rested on before, or on the batch that the
   -- step commits
   pub rests_on : loads_current m ≡ false → rests_on_seq d ≤ rests_on_seq m + length bs
-  -- a try goes on at the state that it reads, or begins at the last one
+  -- after the step, a try reads the same state as before, or it has begun at the last batch
   pub reads_from : (low : ℕ) → low ≤ B.seq + length w.batches → ReadsFrom low m → ReadsFrom low d
   -- a step commits at most one batch, which is the caller's, and only if the machine rests on the
   -- last batch

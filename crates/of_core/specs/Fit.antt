@@ -10,7 +10,8 @@ use Rattle.of_mem.specs.CellMap.{value_for}
 use Rattle.of_core.specs.Table.{most_entries, Setup, first_operation_cell, ticket_cell}
 use Rattle.of_core.specs.Machine.{CallState, log_words}
 
--- the scan is at a caller, has run no more calls than it has passed callers, and may still commit
+-- the scan has come to a caller, and has run at most one call for each caller that it has passed;
+-- its sequence is below the limit
 pub record IsScanning (S : Setup) (m : CallState) : Type 0 where
   pub scan : m.scan < S.callers
   pub few : length m.calls ≤ m.scan

@@ -17,9 +17,9 @@ knowns [] = 0
 knowns (None ∷ ks) = knowns ks
 knowns (Some v ∷ ks) = suc (knowns ks)
 
--- 1 if the next step loads a data cell that the try or the round is to know, and 0 otherwise.
--- The loads of one's own shape and reply are not among them: they come in place of a scan, and are
--- no more than the words that it loads of one caller.
+-- 1 if the next step loads a data cell that the try or the round is to know, and 0 otherwise. The
+-- loads of the shape and the numbers of one's own reply do not count: they come in place of a scan,
+-- and are no more than the words that a scan loads of one caller.
 abbrev pub next_load : Place → ℕ
 next_load (TryCell a) = 1
 next_load LoadOwnTicket = 1
@@ -27,7 +27,7 @@ next_load LoadTicket = 1
 next_load (LoadCell a) = 1
 next_load p = 0
 
--- what a machine touches at a moment: no log of it has more than `longest` entries, and its try or
+-- no log that the machine writes, copies or applies has more than `longest` entries, and its try or
 -- round has loaded no more than `most` data cells
 pub record Touches (m : CallState) (longest most : ℕ) : Type 0 where
   -- the machine's write-set, or the log that it applies

@@ -23,7 +23,8 @@ pub record Guarantees (S : Setup) (B : TableStart) (i : ℕ) (ws : List ℕ) (bs
   pub batches : (k : ℕ) → B.seq < k → k ≤ committed_seq ws → batch_at B cs k ≡ batch_at B bs k
   -- nothing is committed above the limit
   pub limit : committed_seq vs ≤ S.limit
-  -- each new call is one that its caller announces, and changes its caller's ticket cell alone
+  -- each call of a new batch is one that its caller announces; the batch changes no ticket cells
+  -- but those of such callers, to the announced tickets
   pub newer : (k : ℕ) → committed_seq ws < k → k ≤ committed_seq vs
       → All (λ (c : Call). IsAnnouncedCall S ws c × (length c.op ≤ S.instrs))
       (batch_at B cs k).calls
@@ -32,7 +33,7 @@ pub record Guarantees (S : Setup) (B : TableStart) (i : ℕ) (ws : List ℕ) (bs
       ⊎ ((last_ticket_by S B cs k j ≡ seq_of (announcement_of S ws j))
       × (last_ticket_by S B bs (committed_seq ws) j < seq_of (announcement_of S ws j))
       × (committed_seq ws < S.limit))
-  -- a new batch remembers the announcements of its moment
+  -- a new batch records the announcements of the moment at which it was committed
   pub snapshot : (k j : ℕ) → committed_seq ws < k → k ≤ committed_seq vs → j < S.callers
       → (batch_at B cs k).announcements j ≡ announcement_of S ws j
   -- a caller's script words and announcement change only if the caller is i, and what it announced

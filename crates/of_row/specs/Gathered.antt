@@ -35,8 +35,8 @@ pub record HasWholePast (S : Setup) (B : TableStart) (v : View) : Type 0 where
   pub evicts : v.evicted ≡ (moment S B v.past).loaded
   pub raised : Each (IsRaised S (moment S B v.past).words) v.evicted
 
--- The view v has learnt of all events and is w now. The words at this moment meet the rule with v;
--- those of the table itself are what the events leave.
+-- The view v has learnt of all events and is w now. The words at this moment meet the rule with v,
+-- and the table's own words are what these events leave.
 pub record LearnsAll (S : Setup) (Lawful : List ℕ → Type 0) (B : TableStart) (v w : View)
     : Type 0 where
   pub learnt : HasLongerPast v w

@@ -20,7 +20,7 @@ use Rattle.of_row.specs.Moments.{IsReachedBy}
 abbrev pub moment_at : Setup → TableStart → List Event → ℕ → Moment
 moment_at S B es k = moment S B (take k es)
 
--- the durable word of the cell c at that moment
+-- the durable word of the cell c after the first k events
 abbrev pub durable_after : Setup → TableStart → List Event → (k c : ℕ) → ℕ
 durable_after S B es k c = durable_word S (moment_at S B es k).words c
 
@@ -35,7 +35,7 @@ pub record IsShort (S : Setup) (B : TableStart) (es : List Event) (k c v : ℕ) 
       → durable_after S B es exchange c ≢ durable_after S B es load c
       → v ≤ durable_after S B es again c
 
--- each raise of the events is short, from each moment on at which it is still to be made
+-- each raise in these events is short, from each moment on at which it is still to be made
 pub record HasShortRaises (S : Setup) (B : TableStart) (es : List Event) : Type 0 where
   -- the raise of a caller that is about to raise a durable word
   pub calls : (k i c v : ℕ) → i < S.callers → c < cell_count S
