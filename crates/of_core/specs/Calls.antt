@@ -50,7 +50,7 @@ outcome_of_turn (Ended o) = o ∷ []
 abbrev pub outcome_of_step : (before now : CallState) → List Outcome
 outcome_of_step m d = outcome_of_turn (turn_of m d)
 
--- how an event has ended a call of caller i: a list of one outcome, or of none
+-- how an event has ended a call of caller i
 abbrev pub outcome_of_event : Setup → Moment → Event → ℕ → List Outcome
 outcome_of_event S w (Begins j op) i = []
 outcome_of_event S w (Turns j) i =
@@ -125,7 +125,7 @@ last_outcome os = last_outcome_or None os
 abbrev pub HasNotRun : TableStart → Moment → (i ticket : ℕ) → Type 0
 HasNotRun B w i ticket = EachCall B w.batches (IsOlderCall i ticket)
 
--- the history has the read of caller i with this ticket, operation and reply, of the state at s
+-- the history has the read of caller i with this ticket and operation
 abbrev pub HasRead : List Read → (i ticket : ℕ) → (op : List ℕ) → RawReply → (s : ℕ) → Type 0
 HasRead rs i ticket op raw s = (k : ℕ) × (k < length rs)
     × (get_or rs k no_read ≡ record { caller = i; ticket = ticket; op = op; raw = raw; seq = s })

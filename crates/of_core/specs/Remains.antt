@@ -57,7 +57,7 @@ revived_if S r i made false = idle_machine S i (max made (payload_of r.ticket))
 abbrev pub revived_machine : Setup → Remains → (i made : ℕ) → CallState
 revived_machine S r i made = revived_if S r i made (announces_open_call r)
 
--- the moment after a new machine has taken the place of caller i's machine
+-- the moment after a new machine has taken the place of caller i's
 abbrev pub after_revival : Setup → (i made : ℕ) → Moment → Moment
 after_revival S i made w = record w {
   machines = set w.machines i (revived_machine S (remains_of S w.words i) i made);
