@@ -25,7 +25,8 @@ abbrev pub if_so : {A : Type 0} → Bool → List A → List A
 if_so true xs = xs
 if_so false xs = []
 
--- the operation that caller i begins by an event
+-- the operation that caller i begins by this event, as a list of one; an empty list if it begins
+-- none
 abbrev pub operation_begun : Event → ℕ → List (List ℕ)
 operation_begun (Begins j op) i = if_so (i == j) (op ∷ [])
 operation_begun (Turns j) i = []
@@ -44,7 +45,8 @@ outcome_of_turn NoCall = []
 outcome_of_turn Open = []
 outcome_of_turn (Ended o) = o ∷ []
 
--- how a step that led from one machine to the other has ended its call
+-- how a step that led from one machine to the other has ended its call: a list of one outcome, or
+-- of none
 abbrev pub outcome_of_step : (before now : CallState) → List Outcome
 outcome_of_step m d = outcome_of_turn (turn_of m d)
 
@@ -100,7 +102,8 @@ abbrev pub outcome_seq : Outcome → ℕ
 outcome_seq (Answered s announced raw steps) = s
 outcome_seq (Spent s) = s
 
--- an outcome is not before a sequence: an announced call's is above it, and no other is below it
+-- an outcome is not before a sequence: an announced call's answer is above it, and any other
+-- outcome is not below it
 abbrev pub IsNotBefore : ℕ → Outcome → Type 0
 IsNotBefore low (Answered s true raw steps) = low < s
 IsNotBefore low (Answered s false raw steps) = low ≤ s
@@ -118,7 +121,7 @@ last_outcome_or before (o ∷ os) = last_outcome_or (Some o) os
 abbrev pub last_outcome : List Outcome → Option Outcome
 last_outcome os = last_outcome_or None os
 
--- all calls of caller i in the batches are older than the one with this ticket
+-- all calls of caller i in the batches have lower tickets than this one
 abbrev pub HasNotRun : TableStart → Moment → (i ticket : ℕ) → Type 0
 HasNotRun B w i ticket = EachCall B w.batches (IsOlderCall i ticket)
 
@@ -142,57 +145,58 @@ OutcomeStands S B w i ticket op (Answered s false raw steps) =
 OutcomeStands S B w i ticket op (Spent s) =
     (s ≡ S.limit) × (durable_seq S w.words ≡ s) × HasNotRun B w i ticket
 
--- a read of caller i is how one of its calls has ended
+-- if the read is caller i's, it is how one of the caller's calls has ended
 abbrev pub IsOutcome : (before i : ℕ) → List (List ℕ) → List Outcome → Read → Type 0
 IsOutcome before i ops outs r = r.caller ≡ i → (x : ℕ) × (steps : ℕ) × (x < length outs)
     × (r.ticket ≡ before + x + 1) × (r.op ≡ get_or ops x [])
     × (get_or outs x no_outcome ≡ Answered r.seq false r.raw steps)
 
--- if a call is one of caller i, then i has begun it, with these words
+-- if the call c is caller i's, the caller has begun it, with these words, after its first `before`
+-- calls
 abbrev pub WasBegun : (before i : ℕ) → List (List ℕ) → Call → Type 0
 WasBegun before i ops c = c.caller ≡ i
     → (before < c.ticket) × (c.ticket ≤ before + length ops)
     × (c.op ≡ get_or ops (c.ticket - before - 1) [])
 
--- caller i had begun this many calls before; since then it has begun these, and the ended ones have
--- these outcomes
+-- caller i had begun `before` calls; since then it has begun calls of the operations `ops`, and
+-- those of them that have ended have the outcomes `outs`, in order
 pub record HasCalls (S : Setup) (B : TableStart) (before : ℕ) (w : Moment) (i : ℕ)
     (ops : List (List ℕ)) (outs : List Outcome) : Type 0 where
-  -- the machine counts what was begun
+  -- the machine counts the calls that were begun
   pub made : (machine_in w i).made ≡ before + length ops
-  -- with no call open all have ended
+  -- if no call is open, all calls have ended
   pub idle : IsIdle (machine_in w i) → length outs ≡ length ops
   -- an open call is the last one begun
   pub open_call : IsOpen (machine_in w i).place
       → (length ops ≡ length outs + 1) × ((machine_in w i).op ≡ get_or ops (length outs) [])
-  -- and has no answer yet
+  -- an open call has no answer yet
   pub unanswered : IsOpen (machine_in w i).place → (machine_in w i).answer ≡ None
   -- the machine holds the last outcome
   pub last : IsIdle (machine_in w i) → (machine_in w i).answer ≡ last_outcome outs
   -- each outcome is in the history
   pub each : (x : ℕ) → x < length outs
       → OutcomeStands S B w i (before + x + 1) (get_or ops x []) (get_or outs x no_outcome)
-  -- none goes back: of two outcomes the later is of no older state, and of a newer one if its
-  -- call was announced
+  -- of two outcomes, the later one is of no older state than the earlier, and of a newer one if it
+  -- is an announced call's answer
   pub rising : (x y : ℕ) → x < y → y < length outs
       → IsNotBefore (outcome_seq (get_or outs x no_outcome)) (get_or outs y no_outcome)
-  -- nor does a try of the open call read an older state than an outcome has
+  -- a try of the open call reads no older state than an outcome has
   pub reads_from : (x : ℕ) → x < length outs
       → ReadsFrom (outcome_seq (get_or outs x no_outcome)) (machine_in w i)
   -- each of the caller's reads in the history is an outcome
   pub reads : All (IsOutcome before i ops outs) w.reads
-  -- each of its calls in a batch was begun, with these words
+  -- each of the caller's calls in a batch was begun by the caller, with these words
   pub calls : EachCall B w.batches (WasBegun before i ops)
 
 -- the turns of caller i among the events are the steps of its calls
 pub record TurnsAreTold (S : Setup) (w : Moment) (es : List Event) (i : ℕ) : Type 0 where
-  -- no call counts a step that was no turn
+  -- the calls count no more steps than there were turns
   pub few : total_steps (outcomes S w es i) + (machine_in (after_events S w es) i).steps
       ≤ turn_count i es
-  -- and each turn of an open call is counted
+  -- the calls count each turn, if every turn found a call open and no call was spent
   pub exact : TurnsFindOpenCalls S w es i → NoneSpent (outcomes S w es i)
       → total_steps (outcomes S w es i) + (machine_in (after_events S w es) i).steps
       ≡ turn_count i es
-  -- an open call has a step left
+  -- an open call has made fewer steps than the bound
   pub within : IsOpen (machine_in (after_events S w es) i).place
       → (machine_in (after_events S w es) i).steps < bound S

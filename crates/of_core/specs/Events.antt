@@ -12,26 +12,27 @@ use Rattle.of_core.specs.Starts.{first_words}
 
 -- what may happen to a table
 pub data Event : Type 0 where
-  -- a caller begins a call, and makes its next step
+  -- a caller begins a call of this operation; a caller makes its next step
   Begins : ℕ → List ℕ → Event
   Turns : ℕ → Event
   -- a cell is loaded for an eviction, and then the loaded word is raised
   Loads : ℕ → Event
   Evicts : ℕ → Event
-  -- both in one step: the durable word of a cell is raised to the word that the cell holds
+  -- a whole eviction in one step: the durable word of a cell is raised to the word that the cell
+  -- holds
   Raises : ℕ → Event
 
 -- the machine of caller i
 abbrev pub machine_in : Moment → ℕ → CallState
 machine_in w i = get_or w.machines i no_machine
 
--- the durable word of a cell is raised to a word
+-- the moment after the durable word of the cell e.0 is raised to the word e.1
 abbrev pub after_raise : Setup → Moment → ℕ × ℕ → Moment
 after_raise S w e = record w {
   words = set w.words (durable_at S e.0) (max (get_or w.words (durable_at S e.0) 0) e.1);
 }
 
--- the machine m of caller i begins a call
+-- the moment after the machine m of caller i begins a call of this operation
 abbrev pub after_begin : Setup → ℕ → CallState → List ℕ → Moment → Moment
 after_begin S i m op w = record w { machines = set w.machines i (begin_call S m op) }
 
@@ -98,7 +99,7 @@ abbrev pub one_if : Bool → ℕ
 one_if true = 1
 one_if false = 0
 
--- how many turns of caller i an event is
+-- 1 if the event is a turn of caller i, and otherwise 0
 abbrev pub turns_in_event : ℕ → Event → ℕ
 turns_in_event i (Begins j op) = 0
 turns_in_event i (Turns j) = one_if (i == j)

@@ -12,7 +12,7 @@ use Rattle.of_mem.specs.declared.work.RawReply.{RawReply}
 use Rattle.of_core.specs.TableMoment.{Moment, TableStart, Batch, Read, step_reads}
 use Rattle.of_core.specs.Order.{HasBegunTry}
 
--- the step loads the current-transaction word
+-- whether the step from this place loads the current-transaction word
 abbrev pub loads_current_at : Place → Bool
 loads_current_at TryCurrent = true
 loads_current_at LoadCurrent = true
@@ -27,8 +27,8 @@ rests_on_seq_at m StoreAnnouncement = 0
 rests_on_seq_at m LoadCurrent = 0
 rests_on_seq_at m p = m.seq
 
--- what a call's last step answers: it counts each of its steps, and names no newer state than the
--- machine depended on. An unannounced answer comes from a try
+-- what is true of the outcome that a call's last step answers: it counts each of the call's steps,
+-- and names no newer state than the machine rested on. An unannounced answer comes from a try
 abbrev pub LastStepTells : Setup → CallState → Place → Option Outcome → Type 0
 LastStepTells S m p None = ⊥
 LastStepTells S m p (Some (Answered s false raw steps)) =
@@ -44,23 +44,25 @@ CountsStepOrEnds S m p d false = (d.steps ≡ m.steps + 1) × (d.answer ≡ m.an
 abbrev pub CountsStep : Setup → CallState → Place → CallState → Type 0
 CountsStep S m p d = CountsStepOrEnds S m p d (is_idle d.place)
 
--- the step from the place p that found n has led from m to d and committed these batches
+-- a step from the place p has found n, has led from the machine m to d, and has committed these
+-- batches
 pub record IsStepAtPlace (S : Setup) (m : CallState) (n : ℕ) (p : Place) (d : CallState)
     (added : List Batch) : Type 0 where
   -- caller, number and operation of the call stay
   pub caller : d.caller ≡ m.caller
   pub made : d.made ≡ m.made
   pub op : d.op ≡ m.op
-  -- a load of the current-transaction word rests on what it found, and any other step on what the
-  -- machine rested on, or on the batch that it commits
+  -- after a load of the current-transaction word the machine rests on what it found, and after any
+  -- other step on what it rested on before, or on the batch that the step commits
   pub loads : loads_current_at p ≡ true → (added ≡ []) × (rests_on_seq_at d d.place ≤ seq_of n)
   pub rests : loads_current_at p ≡ false
       → rests_on_seq_at d d.place ≤ rests_on_seq_at m p + length added
-  -- what is committed is the caller's
+  -- a batch that the step commits is the caller's
   pub owner : All (λ (b : Batch). b.owner ≡ m.caller) added
   pub few : length added ≤ 1
   pub commits : 0 < length added → (p ≡ ExchangeCurrent) × (n ≡ pack m.seq m.owner)
-  -- a try commits nothing, and it goes on at its sequence or has just begun
+  -- a step of a try commits nothing; after the step, a try is at the same sequence as before or has
+  -- just begun
   pub tries : HasBegunTry m p → added ≡ []
   pub trying : HasBegunTry d d.place
       → (HasBegunTry m p × (d.seq ≡ m.seq)) ⊎ ((p ≡ TryCurrent) × (d.seq ≡ seq_of n))
@@ -72,17 +74,18 @@ loads_current m = loads_current_at m.place
 unfoldable pub rests_on_seq : CallState → ℕ
 rests_on_seq m = rests_on_seq_at m m.place
 
--- a try that has loaded the current-transaction word reads no older state than this
+-- if the machine is in a try that has loaded the current-transaction word, the state that it reads
+-- is no older than `low`
 unfoldable pub ReadsFrom : (low : ℕ) → CallState → Type 0
 ReadsFrom low m = HasBegunTry m m.place → low ≤ m.seq
 
--- the read of a machine's call, with this reply of the state at s
+-- the machine's call as a read of the state at s, with this reply
 abbrev pub read_of_call : CallState → RawReply → (s : ℕ) → Read
 read_of_call m raw s = record { caller = m.caller; ticket = m.made; op = m.op; raw = raw; seq = s }
 
--- what a call's last step answers, if it leads from m to d: no newer state than the machine
--- rested on, and the number of its steps. An unannounced answer is a read of the history, of no
--- older state than the try reads from
+-- what is true of the outcome of a call's last step, which leads from m to d: it names no newer
+-- state than m rested on, and counts the call's steps. An unannounced answer is a read of the
+-- history, of no older state than the try reads
 abbrev pub TellsOutcome : Setup → CallState → CallState → Outcome → Type 0
 TellsOutcome S m d (Answered s true raw steps) =
     (s ≤ rests_on_seq m) × (steps ≡ m.steps + 1) × (step_reads m d ≡ [])
@@ -91,8 +94,8 @@ TellsOutcome S m d (Answered s false raw steps) =
     × (step_reads m d ≡ read_of_call m raw s ∷ []) × ((low : ℕ) → ReadsFrom low m → low ≤ s)
 TellsOutcome S m d (Spent s) = (s ≤ rests_on_seq m) × (s ≡ S.limit) × (step_reads m d ≡ [])
 
--- the step of an open call, at a moment that meets the invariant: it found n, led from m to d and
--- committed these batches
+-- a step of an open call, at a moment that meets the invariant, has found n, has led from the
+-- machine m to d, and has committed these batches
 pub record IsStep (S : Setup) (B : TableStart) (w : Moment) (m : CallState) (n : ℕ) (d : CallState)
     (bs : List Batch) : Type 0 where
   -- caller, number and operation of the call stay
@@ -103,11 +106,13 @@ pub record IsStep (S : Setup) (B : TableStart) (w : Moment) (m : CallState) (n :
   -- newer one
   pub finds_last : loads_current m ≡ true
       → (seq_of n ≡ B.seq + length w.batches) × (bs ≡ []) × (rests_on_seq d ≤ seq_of n)
-  -- any other step leaves it on what it rested on, or on the batch that it commits
+  -- after any other step the machine rests on what it rested on before, or on the batch that the
+  -- step commits
   pub rests_on : loads_current m ≡ false → rests_on_seq d ≤ rests_on_seq m + length bs
-  -- a try goes on at the state that it reads, or begins at the last one
+  -- after the step, a try reads the same state as before, or it has begun at the last batch
   pub reads_from : (low : ℕ) → low ≤ B.seq + length w.batches → ReadsFrom low m → ReadsFrom low d
-  -- a step commits at most one batch, which is the caller's, and only right after the last one
+  -- a step commits at most one batch, which is the caller's, and only if the machine rests on the
+  -- last batch
   pub few : length bs ≤ 1
   pub owner : All (λ (b : Batch). b.owner ≡ m.caller) bs
   pub commits : 0 < length bs → rests_on_seq m ≡ B.seq + length w.batches

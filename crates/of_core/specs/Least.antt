@@ -8,7 +8,8 @@ use Rattle.of_core.specs.declared.place.Outcome.TheVariants.{Answered, Spent}
 use Rattle.of_core.specs.Table.{Setup}
 use Rattle.of_core.specs.Machine.{CallState, no_cell_known}
 
--- the two loads of a try, and one more if its run with nothing known needs a cell
+-- the least steps of a try by how its run goes with no cell known: its two loads, and one more if
+-- the run needs a cell
 abbrev pub least_of : WalkEnd → ℕ
 least_of (Needs a) = 3
 least_of (Gives es r) = 2
@@ -22,17 +23,18 @@ least_read S op = least_of (S.meaning.walk (no_cell_known S) op)
 abbrev pub least_call : List ℕ → ℕ
 least_call op = length op + 5
 
--- the steps that a try or a round has made when it helps: it has made its two loads
+-- the least steps that a call has made when its try or its round helps: those up to the two loads
+-- with which it began
 abbrev pub made_helping : List ℕ → (in_try : Bool) → ℕ
 made_helping op true = 2
 made_helping op false = length op + 3
 
--- the steps made at an apply: those of a helper, or all up to the caller's own exchange
+-- the least steps that a call has made when it applies a log: as a helper, or as the owner
 abbrev pub made_applying : List ℕ → (in_try helps : Bool) → ℕ
 made_applying op in_try true = made_helping op in_try
 made_applying op in_try false = length op + 4
 
--- how many steps are made at a place at least
+-- the least steps that a call has made when it is at this place
 abbrev pub least_steps_at : CallState → Place → ℕ
 least_steps_at m Idle = 0
 least_steps_at m TryCurrent = 0
@@ -72,8 +74,8 @@ TellsLeastSteps S op (Some (Answered s true raw steps)) = least_call op ≤ step
 TellsLeastSteps S op (Some (Answered s false raw steps)) = least_read S op ≤ steps
 TellsLeastSteps S op (Some (Spent s)) = Unit {0}
 
--- the steps made are at least those; an idle machine has none of an open call, and its last answer
--- has at least the steps that its call must make
+-- m has made at least the least steps of its place; if it is idle, it counts no steps, and its last
+-- answer names at least the steps that its call must make
 pub record HasMadeLeastSteps (S : Setup) (m : CallState) (p : Place) : Type 0 where
   pub steps : least_steps_at m p ≤ m.steps
   pub rests : p ≡ Idle → m.steps ≡ 0

@@ -1,5 +1,5 @@
--- What lets a machine take a word: with these words, machines and history it meets the invariant,
--- and its wanted step finds this word.
+-- When a machine may take a word: at some moment that meets the invariant, the machine's next step
+-- finds this word.
 use Rattle.std.specs.Prelude.{◌≡◌, ℕ, ◌<◌, List}
 use Rattle.std.proofs.Common.{get_or}
 use Rattle.of_core.specs.Table.{Setup}

@@ -45,7 +45,7 @@ pub record TableStart : Type 0 where
   pub owner : ℕ
   pub cells : List ℕ
 
--- what an exchange commits, if it wins
+-- the batch that the machine's exchange of the current-transaction word commits, if it wins
 abbrev pub one_batch : Setup → List ℕ → CallState → Bool → List Batch
 one_batch S ws m true = record {
   owner = m.caller;
@@ -55,13 +55,13 @@ one_batch S ws m true = record {
 } ∷ []
 one_batch S ws m false = []
 
--- what a step from a place commits: an exchange of the current-transaction word its batch, and
--- any other nothing
+-- the batches that a step from this place commits: an exchange of the current-transaction word that
+-- wins commits one, and any other step none
 abbrev pub step_batches_at : Setup → List ℕ → CallState → ℕ → Place → List Batch
 step_batches_at S ws m found ExchangeCurrent = one_batch S ws m (found == pack m.seq m.owner)
 step_batches_at S ws m found p = []
 
--- the read that an outcome of the machine is
+-- the read that the history gets by this outcome, if it is an unannounced answer
 abbrev pub read_of : CallState → Option Outcome → List Read
 read_of d None = []
 read_of d (Some (Answered s false raw n)) =
@@ -69,7 +69,7 @@ read_of d (Some (Answered s false raw n)) =
 read_of d (Some (Answered s true raw n)) = []
 read_of d (Some (Spent s)) = []
 
--- an open call's last step may answer a read
+-- the read that a step has answered: only a call's last step may answer one
 abbrev pub step_reads_if : CallState → (was_idle now_idle : Bool) → List Read
 step_reads_if d true now_idle = []
 step_reads_if d false true = read_of d d.answer
@@ -87,7 +87,7 @@ step_batches S ws m found = step_batches_at S ws m found m.place
 unfoldable pub step_reads : CallState → CallState → List Read
 step_reads m d = step_reads_at d m.place
 
--- the next step of the machine m of caller i, which finds n
+-- the moment after the next step of caller i's machine m, which finds n
 abbrev pub after_step : Setup → ℕ → CallState → ℕ → Moment → Moment
 after_step S i m n w = record {
   words = words_after (want S m) w.words;
@@ -97,7 +97,8 @@ after_step S i m n w = record {
   loaded = w.loaded;
 }
 
--- the same with the place p as an argument of its own
+-- the moment after the step of caller i's machine m from the place p, which finds the word that is
+-- there
 abbrev pub after_step_at : Setup → ℕ → CallState → Place → Moment → Moment
 after_step_at S i m p w =
     let c = word_of (want_at S m p) in
@@ -110,7 +111,8 @@ after_step_at S i m p w =
       loaded = w.loaded;
     }
 
--- the same of a machine that has counted its step
+-- the moment after the step of caller i's machine m from the place p, if m has counted this step
+-- already
 abbrev pub after_counted_step : Setup → ℕ → CallState → Place → Moment → Moment
 after_counted_step S i m p w =
     let c = word_of (want_at S m p) in

@@ -38,8 +38,8 @@ use std::marker::Model;
 /// numbers.
 const OWN_CELLS: u32 = MOST_INSTRS as u32 + 2;
 
-/// One call as a machine of atomic steps on the words of a shared table. It makes no step itself:
-/// it names the next one, and takes the word which that step found.
+/// One call as a machine of atomic steps on the words of a shared table. The machine makes no step
+/// itself: it names its next step, and goes on when it is given the word that the step found.
 #[derive(Drop)]
 pub struct Machine<W: Work> {
     work: W,
@@ -65,7 +65,8 @@ pub struct Machine<W: Work> {
     /// Where a run writes its reply, so that no run has to clear one.
     spare: RawReply,
     answer: Option<Outcome>,
-    /// The last value that one knows one's request's durable word to have.
+    /// The word to which this call last raised the durable word of its caller's request; 0 if it
+    /// has not yet.
     kept: u64,
     steps: u64,
     rounds: u32,
@@ -157,8 +158,8 @@ impl<W: Work> Machine<W> {
         })
     }
 
-    /// Opens a call of 1 to `MOST_INSTRS` words: one that only reads is tried first, any other is
-    /// announced.
+    /// Opens a call of the operation `op`, which has 1 to `MOST_INSTRS` words. If the operation
+    /// only reads, the call begins with a try; otherwise it is announced at once.
     pub fn begin(&mut self, op: &[u64])
         requires idle { self.old.call.place ≡ Place.Idle }
         requires some { 1 ≤ length op.now }
@@ -205,7 +206,7 @@ impl<W: Work> Machine<W> {
         self.calls.clear();
     }
 
-    /// How many calls were begun, with those before the machine was made.
+    /// How many calls the caller has begun, those before this machine was made with them.
     pub fn made(&self) -> u32
         ensures { result ≡ self.now.call.made }
     {
@@ -297,7 +298,7 @@ impl<W: Work> Machine<W> {
         self.shape.data_cell(self.caller * OWN_CELLS + 2 + at)
     }
 
-    /// The next atomic step.
+    /// The next atomic step of the open call.
     #[inline(always)]
     #[tactic(auto, unfolding(crate::specs::Steps::want))]
     pub fn want(&self) -> Op
@@ -308,7 +309,8 @@ impl<W: Work> Machine<W> {
         self.perform(self.place, &NameStep, &mut ())
     }
 
-    /// Has the next atomic step performed: that of `place`, where the machine stands.
+    /// Performs the machine's next atomic step by the performer `by`, with `hand`. `place` is the
+    /// place of the machine.
     // in line, and with an arm for each place: it performs its own form of step and goes straight
     // on from there, with one jump by the place
     #[inline(always)]
@@ -414,7 +416,8 @@ impl<W: Work> Machine<W> {
         }
     }
 
-    /// Goes on with the word that the wanted step found, for a store with any number.
+    /// Goes on after the step that `want` named, which found the word `found`. If the step is a
+    /// store, `found` may be any number.
     #[inline(always)]
     #[tactic(auto, unfolding(crate::specs::Steps::take_word))]
     pub fn take(&mut self, found: u64)
@@ -426,7 +429,8 @@ impl<W: Work> Machine<W> {
         self.take_at(self.place, found)
     }
 
-    /// Goes on from `place`, where the machine stands, with the word that its step found.
+    /// Goes on after the step that `place`, the machine's place, names, and which found the word
+    /// `found`. If the step is a store, `found` may be any number.
     #[inline(always)]
     pub fn take_at(&mut self, place: Place, found: u64)
         requires here { place ≡ self.old.call.place }

@@ -10,7 +10,7 @@ use Rattle.of_row.specs.Trail.{HasDoneNothing}
 use Rattle.of_row.specs.Rule.{members_of, ViewFits, MeetsRule}
 use Rattle.of_row.specs.Turned.{new_known_caller}
 
--- what the member of number n knows that has seen nothing since the row's start
+-- the view of a member of number n that has seen nothing since the row's start
 abbrev pub fresh_member_view : Setup → TableStart → ℕ → View
 fresh_member_view S B n = record {
   spent = false;
@@ -25,8 +25,8 @@ fresh_member_view S B n = record {
   looks = 0;
 }
 
--- if a number is taken and has done nothing, that view fits at its home, whatever the others have
--- done
+-- if the number n is taken and its caller has done nothing, the view of a fresh member of n fits
+-- the rule at the seat of n, whatever the other callers have done
 abbrev pub FreshMembersFit : (List ℕ → Type 0) → Setup → Type 0
 FreshMembersFit Lawful S =
     (B : TableStart) (s : State (Unit {0}) View) (r : MeetsRule S Lawful B s) (n : ℕ)

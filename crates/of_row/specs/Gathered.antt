@@ -17,26 +17,26 @@ use Rattle.of_row.specs.Keys.{key_setup, key_start}
 abbrev pub KeepsAsked : (callers : ℕ) → View → Type 0
 KeepsAsked callers v = (n : ℕ) → n < callers → IsAsked n v.asked → IsCallerKept n v.kept
 
--- it is the first pass's, has no eviction under way, and keeps a caller of each number that is
--- taken
+-- the view is the first pass's, has no eviction under way, and keeps a caller of each number that
+-- it has asked for
 pub record IsGathered (callers : ℕ) (v : View) : Type 0 where
   pub first : v.first ≡ true
   pub none : v.loaded ≡ []
   pub keeps : KeepsAsked callers v
 
--- the second view is the first one, of which the past has gone on
+-- the view w is v with a longer past, which begins with v's past
 abbrev pub HasLongerPast : (before now : View) → Type 0
 HasLongerPast v w = IsPrefix v.past w.past × (w ≡ record v { past = w.past })
 
--- the view's past has all that those did whom it keeps, and all its evictions, each of which has
--- raised the durable word
+-- the view's past has all that the callers which it keeps have done, and all its evictions, each of
+-- which has raised the durable word
 pub record HasWholePast (S : Setup) (B : TableStart) (v : View) : Type 0 where
   pub runs : Each (IsRunBy S B v.past) v.kept
   pub evicts : v.evicted ≡ (moment S B v.past).loaded
   pub raised : Each (IsRaised S (moment S B v.past).words) v.evicted
 
--- The view v has learnt of all events and is w now. The words at this moment meet the rule with v;
--- those of the table itself are what the events leave.
+-- The view v has learnt of all events and is w now. The words at this moment meet the rule with v,
+-- and the table's own words are what these events leave.
 pub record LearnsAll (S : Setup) (Lawful : List ℕ → Type 0) (B : TableStart) (v w : View)
     : Type 0 where
   pub learnt : HasLongerPast v w
@@ -46,11 +46,11 @@ pub record LearnsAll (S : Setup) (Lawful : List ℕ → Type 0) (B : TableStart)
   pub own : (c : ℕ) → c < words_before_members S
       → get_or words c 0 ≡ get_or (moment S B w.past).words c 0
 
--- the word c is that of the moment which the view's past leaves
+-- `word` is the word c of the moment that the view's past leaves
 abbrev pub IsWordOfPast : Setup → TableStart → View → (c word : ℕ) → Type 0
 IsWordOfPast S B v c word = word ≡ get_or (moment S B v.past).words c 0
 
--- the same on the row with this key, if a load was told it
+-- the view v has learnt of all events of the row with this key, and is w now, if a key is given
 abbrev pub LearnsAllOf : {W : Type 0} → (W → Meaning) → (W → List ℕ → Type 0) → Option (RowKey W)
     → View → View → Type 0
 LearnsAllOf meaning lawful None v w = Unit {0}

@@ -26,14 +26,14 @@ pub record IsReachedBy (S : Setup) (B : TableStart) (s : State (Unit {0}) View) 
       → get_or s.words c 0 ≡ get_or (moment S B es).words c 0
   -- what a pass or a member has seen is how the history begins
   pub seen : EachView (λ v. IsSeenPrefix v.seen (moment S B es).batches) s.views
-  -- its past is how the events begin
+  -- the past of a pass or a member is how the events begin
   pub pasts : EachView (HasPast es) s.views
-  -- each eviction that it has made has raised the durable word of its cell
+  -- each eviction that a pass has made has raised the durable word of its cell
   pub raised : EachView (λ v. Each (IsRaised S s.words) v.evicted) s.views
-  -- each caller that it keeps has had as many turns as it has made steps, and its calls began and
-  -- ended so
+  -- each caller that is kept has had as many turns as it has made steps, and its calls began and
+  -- ended as the events say
   pub callers : EachView (λ v. Each (IsRunBy S B es) v.kept) s.views
-  -- a number that isn't taken has done nothing
+  -- the caller of a number that isn't taken has begun no call and had no turn
   pub free : EachFree S s.words (HasDoneNothing es)
 
 -- the order has each call of the caller that was answered, with its reply, and none that was spent
@@ -43,7 +43,7 @@ ExplainsEndedCalls S B order x =
     → ExplainsOutcome S order x.machine.caller (ticket_at S B x y)
     (ended_operation_at x.ended y) (outcome_at x.ended y)
 
--- each call of the caller that was answered has its own sequence in the order
+-- each call of the caller that was answered has, in the order, the sequence of its answer
 abbrev pub HaveOwnSequence : Setup → TableStart → (order : List Call) → Sequences → KnownCaller
     → Type 0
 HaveOwnSequence S B order s x =
@@ -58,7 +58,7 @@ HasNoneOf order i = All (λ (c : Call). c.caller ≢ i) order
 abbrev pub words_alone : List ℕ → Moment
 words_alone ws = record { words = ws; machines = []; batches = []; reads = []; loaded = [] }
 
--- What a row leaves that stops at this moment: one serial order of calls explains how all calls
+-- The row stops at this moment, and loses nothing: one serial order of calls explains how all calls
 -- have ended, it is by sequence, and recovery of the row's words as they are finds what that order
 -- leads to.
 pub record LosesNothing (S : Setup) (Lawful : List ℕ → Type 0) (B : TableStart)
@@ -68,24 +68,25 @@ pub record LosesNothing (S : Setup) (Lawful : List ℕ → Type 0) (B : TableSta
   pub order : List Call
   pub linearizes : Linearizes S B (first_of S B) events order
   pub by_seq : IsBySequence S B (first_of S B) events order
-  -- also those of each caller that a pass or a member keeps
+  -- the order explains the ended calls of each caller that a pass or a member keeps
   pub explained : EachView (λ v. Each (ExplainsEndedCalls S B order) v.kept) s.views
   pub sequenced : EachView (λ v. Each (HaveOwnSequence S B order by_seq.sequences) v.kept) s.views
-  -- recovery finds that order's numbers, and each caller's last call in it
+  -- recovery finds the numbers that the order leads to, and each caller's last call of the order
   pub recovered_so : IsRecovered S B (words_alone s.words) order
-  -- and from the row that recovery makes a table may start
+  -- a table may start from the row that recovery makes
   pub restarts : (row : List ℕ) → IsDurable S s.words row
       → IsStartRow S Lawful (recovered_words S.callers S.cells row)
 
--- at each moment that meets the row's rule, as each does between any two steps on it
+-- a row that stops at a moment that meets the rule loses nothing; each moment between two steps
+-- meets it
 abbrev pub StopsLoseNothing : (List ℕ → Type 0) → Setup → Type 0
 StopsLoseNothing Lawful S =
     (B : TableStart) (s : State (Unit {0}) View) → MeetsRule S Lawful B s
     → LosesNothing S Lawful B s
 
--- What the words of a closed row hold of the calls of a pass with this view: one serial order has
--- them as they ended, and is by sequence; recovery of the words finds what that order leads to; and
--- from the row that recovery makes a table may start.
+-- What the words of a closed row hold of the calls that a view keeps: one serial order has these
+-- calls as they ended, and is by sequence; recovery of the words finds what that order leads to;
+-- and a table may start from the row that recovery makes.
 pub record HoldsCalls (S : Setup) (Lawful : List ℕ → Type 0) (B : TableStart) (ws : List ℕ)
     (v : View) : Type 0 where
   pub order : List Call
@@ -93,13 +94,13 @@ pub record HoldsCalls (S : Setup) (Lawful : List ℕ → Type 0) (B : TableStart
   pub sequences : Sequences
   pub by_seq : StandsBySequence order sequences
   pub sequenced : Each (HaveOwnSequence S B order sequences) v.kept
-  -- none of its calls is of a number that isn't taken
+  -- the order has no call of a number that isn't taken
   pub free : EachFree S ws (HasNoneOf order)
   pub recovered_so : IsRecovered S B (words_alone ws) order
   pub restarts : (row : List ℕ) → IsDurable S ws row
       → IsStartRow S Lawful (recovered_words S.callers S.cells row)
 
--- this holds of each pass with which words meet the rule, as after the close
+-- if words and a view meet the rule, as after a close, the words hold the calls that the view keeps
 abbrev pub ClosedHoldsCalls : (List ℕ → Type 0) → Setup → Type 0
 ClosedHoldsCalls Lawful S =
     (B : TableStart) (ws : List ℕ) (v : View) → ViewMeetsRule S Lawful B ws v → v.spent ≡ false

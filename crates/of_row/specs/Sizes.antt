@@ -14,7 +14,7 @@ pub record Sizes (W : Type 0) : Type 0 where
 abbrev pub sizes_value : {W : Type 0} → Inside W → Sizes W
 sizes_value m = record { shape = m.shape; limit = m.limit; work = m.work }
 
--- the shape is the work's, and the log words of a sequence above the limit are words still
+-- the shape is the work's, and the sequence after the limit still fits into a word
 pub record SizesFit {W : Type 0} (many size : W → ℕ) (m : Sizes W) : Type 0 where
   pub callers : m.shape.callers ≡ many m.work
   pub instrs : m.shape.instrs ≡ MOST_INSTRS

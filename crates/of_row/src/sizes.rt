@@ -7,7 +7,7 @@ use of_cell::Shape;
 use of_mem::Work;
 use std::marker::Model;
 
-/// The shape of a row, its limit and its work, which fit one another.
+/// A row's shape, limit and work, whose sizes agree.
 #[derive(Drop)]
 pub struct Sizes<W: Work> {
     shape: Shape,
