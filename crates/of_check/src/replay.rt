@@ -14,8 +14,8 @@ use of_report::{Entry, Report};
 use of_store::Store;
 use std::alloc::{AllocError, Global};
 
-/// The calls that have run, how many of each caller, the claim of the last, and the store that it
-/// left.
+/// The entries of the calls that have run, how many calls of each caller, the claim of the last
+/// call, and the store that it left.
 #[derive(Drop)]
 pub(crate) struct Replay {
     pub entries: Vec<Entry>,
