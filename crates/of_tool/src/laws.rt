@@ -60,7 +60,7 @@ pub fn limits()
     ensures events { MOST_EVENTS ≡ 10000 }
 {}
 
-/// The texts of `--help` and `--version`; those of errors are in the definition of what is written.
+/// The texts of `--help` and `--version`. The texts of errors are defined in `specs/Refusals.antt`.
 pub fn help_and_version()
     ensures version { VERSION.now ≡ codes "onefile 0.1.0\n" }
     ensures help { HELP.now ≡ help_text }
