@@ -5,7 +5,7 @@ use of_report::Report;
 /// Which rule an entry breaks. The entries before it break none.
 #[derive(Clone, Copy, Debug, PartialEq, Eq)]
 pub enum EntryRule {
-    /// The plan has no such caller.
+    /// The plan has no caller of the entry's number.
     NoCaller,
     /// The caller has no script left for this entry.
     NoScript,
@@ -55,7 +55,7 @@ pub enum Cause {
     },
 }
 
-/// What a text is judged to be.
+/// The judgement on a text.
 #[derive(Drop)]
 pub enum Judgement {
     /// The text is that of this report, which is legal for the plan.

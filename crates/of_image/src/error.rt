@@ -9,8 +9,8 @@ use std::fmt;
 pub enum ImageErr {
     /// Memory ran out.
     Memory,
-    /// The text isn't in the grammar. This is the first line with which no image's text begins, or
-    /// the last one if the text only stops too early. Lines count from 1.
+    /// The text isn't in the grammar, and this is its bad line: the first with which no image's
+    /// text begins, or the last one if the text only stops too early. Lines count from 1.
     Bad { line: u64 },
     /// The text is in the grammar, but in what recovery finds in its row this cell is the first at
     /// fault.

@@ -62,9 +62,9 @@ impl From<AllocError> for Refusal {
     }
 }
 
-/// The fault of a text that has no image. None means that the text has an image, so that it is
-/// read: by `image_parse` in version 2, by `migrate` in version 1. The line or the cell is the one
-/// that they name. An error means out of memory.
+/// The fault of a text that has no image; None if the text has one, so that it is read: in version
+/// 2 by `image_parse`, in version 1 by `migrate`. The line or the cell is the one that these name.
+/// An error means out of memory.
 pub fn fault(alloc: Global, version: Version, text: &[u8]) -> Result<Option<ImageFault>, AllocError>
     ensures { IfOk result (λ found.
         MatchOption found (HasImage version text.now) (IsImageFaultOf version text.now)) }

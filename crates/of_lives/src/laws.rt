@@ -17,7 +17,7 @@ pub fn any_lives()
     ensures { LivesAreOneHistory }
 {}
 
-/// Lives are one history also if `renumber` lets sequences begin anew between them. Replay gives
+/// Lives are one history also if `renumber` lets sequences begin anew between them: replay gives
 /// all replies and the last store, no announced call is run again, and each call that is done is an
 /// entry. Sequences order only the entries between two renumberings.
 pub fn renumbered_lives()
@@ -30,9 +30,9 @@ pub fn renumbered_images_start()
     ensures { RenumberedImagesStart }
 {}
 
-/// The next life begins where a life ends. Recovery makes of the durable words of its run a row
-/// from which a table may start: at the life's last sequence and store, with each caller after its
-/// last announced call.
+/// Recovery makes of the durable words of a life a row from which a table may start: at the life's
+/// last sequence and store, with each caller after its last announced call. So the next life begins
+/// where this one ends.
 pub fn lives_restart()
     ensures { LivesRestart }
 {

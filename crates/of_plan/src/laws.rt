@@ -22,13 +22,13 @@ pub fn serial_is_legal()
     ensures { (p : Plan) → IsLegal p (empty_start p) (serial_report p) }
 {}
 
-/// A report that is put together of a history, sequence by sequence, is legal. Its entries of a
-/// caller are the history's entries of that caller, in the same order.
+/// A report that is put together of a history, sequence by sequence, is legal, and has the
+/// history's entries of each caller in the same order.
 pub fn histories_are_legal()
     ensures { (p : Plan) (s : Start) → HistoriesAreLegal p s }
 {}
 
-/// A worked report is legal. For each clause of legality, a report that differs from it in one
+/// A worked report is legal, and for each clause of legality a report that differs from it in one
 /// field is refused.
 pub fn worked_reports()
     ensures legal { IsLegal two_callers (empty_start two_callers) legal_report }

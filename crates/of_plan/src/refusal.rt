@@ -28,8 +28,8 @@ pub struct BadPiece {
     pub reason: Reason,
 }
 
-/// The fault of a text that is no plan. None means that the text is in the grammar, so that `parse`
-/// reads it. The line is the one that `parse` names. The error means that memory ran out.
+/// The fault of a text that is no plan; None if the text is in the grammar, so that `parse` reads
+/// it. The line is the one that `parse` names. An error means out of memory.
 pub fn fault(alloc: Global, text: &[u8]) -> Result<Option<BadPiece>, AllocError>
     ensures { IfOk result (λ found. MatchOption found (IsPlanText text.now) (IsFaultOf text.now)) }
 {
@@ -103,7 +103,7 @@ impl BadPiece {
     ghost use Rattle.std.specs.Prelude.{◌≡◌, IfOk};
     ghost use Rattle.of_plan.specs.Pointed.{bad_piece_message};
 
-    /// What is printed of the fault of a text. The error means that memory ran out.
+    /// What is printed of the fault of a text. An error means out of memory.
     pub fn print(&self, alloc: Global, text: &[u8]) -> Result<Vec<u8>, AllocError>
         requires { IsFaultOf text.now self.now }
         ensures { IfOk result (λ out. out.items ≡ bad_piece_message text.now self.now) }

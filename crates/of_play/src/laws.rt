@@ -25,8 +25,9 @@ pub fn words_are_named()
     ensures words { WordsAreNamed }
 {}
 
-/// A plan's schedule has only turns and evictions. A trace has the line of each, at the moment that
-/// those before it leave. The moment after the last one is the one in which `play` ends.
+/// A trace has a line for each turn and each eviction of a plan's schedule, at the moment that
+/// those before it leave. The schedule has no other events. The moment after the last one is the
+/// one in which `play` ends.
 pub fn traces_are_of_plays()
     ensures shown { AllAreShown }
     ensures lines { LinesAreOfMoves }

@@ -25,7 +25,7 @@ pub struct Image {
     pub blocks: u32,
     /// The durable words after recovery.
     pub durable: Vec<u64>,
-    /// What recovery found.
+    /// The sequence that recovery found, and whether it found an open transaction.
     pub recovered: Recovered,
     /// The store for which the data cells stand.
     pub store: Store,
