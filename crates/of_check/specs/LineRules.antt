@@ -1,5 +1,5 @@
--- What a line of a text is, beside the line of a report that has to be there instead. It is another
--- line; what is said of it is true of these two.
+-- What is wrong with a line that was found in a text where a report must have another, the wanted
+-- one.
 use Rattle.std.specs.Prelude.{◌≡◌, ◌≢◌, ℕ, ◌≤◌, ◌<◌, ◌⊎◌, List, [], length, take, ◌==◌, codes, slice_index_or}
 use Rattle.std.specs.List.{slice_split}
 use Rattle.of_check.specs.declared.line_rule.LineRule.{LineRule}

@@ -1,4 +1,4 @@
--- A worked legal report, and seven that are no legal ones, each one field away from it.
+-- A worked legal report, and seven reports that differ from it in one field and are not legal.
 use Rattle.std.specs.Prelude.{ℕ, ◌+◌, Bool, true, false, Option, Some, None, [], ◌∷◌}
 use Rattle.of_script.specs.declared.instr.Instr.TheVariants.{Load, Store as StoreInstr, Add}
 use Rattle.of_store.specs.Store.{Store, Answered, empty_store, with_register}
