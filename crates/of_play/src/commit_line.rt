@@ -53,7 +53,7 @@ fn put_batch(
     out.push_str("\n")
 }
 
-/// Writes the line of a step, if it commits these calls.
+/// Writes the line of a step if it commits these calls, and otherwise nothing.
 pub fn put_commit(
     out: &mut String,
     number: u32,

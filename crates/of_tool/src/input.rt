@@ -108,7 +108,7 @@ pub(crate) fn image_in(alloc: Global, text: &[u8]) -> Result<Image, Failure>
     }
 }
 
-/// The image that the first text has and the plan that the second one spells, which fits it.
+/// The image of the first text and the plan of the second, if the plan fits the image.
 pub(crate) fn life_in(alloc: Global, first: &[u8], second: &[u8]) -> Result<(Image, Plan), Failure>
     ensures read { MatchResult result (λ life. IsLife first.now second.now life.0 life.1)
         (FailsBy (HaveNoLife first.now second.now)) }
