@@ -1,15 +1,15 @@
 -- All calls of a schedule: which were begun, how they have ended, and how many steps they have
 -- made.
-use Rattle.std.specs.Prelude.{◌==◌, Bool, true, false, Option, Some, None, ℕ, ◌+◌, ◌-◌, List, [], ◌∷◌, ◌++◌, length, ◌≡◌, ◌≤◌, ◌<◌}
+use Rattle.std.specs.Prelude.{◌==◌, Bool, true, false, Option, Some, None, ℕ, ◌+◌, ◌-◌, List, [], ◌∷◌, ◌++◌, length, ◌≡◌, ◌≤◌, ◌<◌, ◌⊎◌}
 use Rattle.std.specs.List.{All}
 use Rattle.std.proofs.Common.{get_or}
 use Rattle.of_core.specs.declared.bank.Turn.{Turn}
 use Rattle.of_core.specs.declared.bank.Turn.TheVariants.{Idle as NoCall, Open, Ended}
 use Rattle.of_mem.specs.declared.work.RawReply.{RawReply}
 use Rattle.of_core.specs.declared.place.Outcome.{Outcome}
-use Rattle.of_core.specs.declared.place.Outcome.TheVariants.{Answered, Spent}
-use Rattle.of_core.specs.Table.{Setup, durable_seq}
-use Rattle.of_core.specs.Machine.{Call, CallState, IsOpen}
+use Rattle.of_core.specs.declared.place.Outcome.TheVariants.{Answered, Spent, Lost}
+use Rattle.of_core.specs.Table.{Setup, committed_seq, durable_seq}
+use Rattle.of_core.specs.Machine.{Call, CallState, IsOpen, is_idle}
 use Rattle.of_core.specs.TableMoment.{Moment, TableStart, Read}
 use Rattle.of_core.specs.History.{batch_at, EachCall, IsOlderCall, HasCall}
 use Rattle.of_core.specs.Order.{no_read}
@@ -17,7 +17,7 @@ use Rattle.of_core.specs.Facts.{ReadsFrom}
 use Rattle.of_core.specs.Bound.{bound}
 pub use Rattle.of_core.specs.Least.{least_read}
 use Rattle.of_core.specs.Least.{least_call}
-use Rattle.of_core.specs.Events.{Event, Begins, Turns, Loads, Evicts, Raises, machine_in, after_event, after_events, turn_count}
+use Rattle.of_core.specs.Events.{Event, Begins, Turns, Loads, Evicts, Raises, Revives, machine_in, after_event, after_events, turn_count}
 use Rattle.of_core.specs.Turn.{turn_of, IsIdle}
 
 -- the list if the flag is set, and otherwise the empty list
@@ -33,6 +33,7 @@ operation_begun (Turns j) i = []
 operation_begun (Loads c) i = []
 operation_begun (Evicts k) i = []
 operation_begun (Raises c) i = []
+operation_begun (Revives j made) i = []
 
 -- the operations of the calls that caller i has begun, in order
 abbrev pub operations_begun : List Event → ℕ → List (List ℕ)
@@ -50,6 +51,12 @@ outcome_of_turn (Ended o) = o ∷ []
 abbrev pub outcome_of_step : (before now : CallState) → List Outcome
 outcome_of_step m d = outcome_of_turn (turn_of m d)
 
+-- how a call ends if its machine is lost: it does if the new machine has no call open
+abbrev pub outcome_of_loss : (committed : ℕ) → (was_idle now_idle : Bool) → List Outcome
+outcome_of_loss s true now_idle = []
+outcome_of_loss s false true = Lost s ∷ []
+outcome_of_loss s false false = []
+
 -- how an event has ended a call of caller i
 abbrev pub outcome_of_event : Setup → Moment → Event → ℕ → List Outcome
 outcome_of_event S w (Begins j op) i = []
@@ -58,30 +65,35 @@ outcome_of_event S w (Turns j) i =
 outcome_of_event S w (Loads c) i = []
 outcome_of_event S w (Evicts k) i = []
 outcome_of_event S w (Raises c) i = []
+outcome_of_event S w (Revives j made) i =
+    if_so (i == j) (outcome_of_loss (committed_seq w.words) (is_idle (machine_in w j).place)
+    (is_idle (machine_in (after_event S w (Revives j made)) j).place))
 
 -- how the calls of caller i have ended, in order
 abbrev pub outcomes : Setup → Moment → List Event → ℕ → List Outcome
 outcomes S w [] i = []
 outcomes S w (e ∷ es) i = outcome_of_event S w e i ++ outcomes S (after_event S w e) es i
 
--- if the event is a turn of caller i, a call of it is open
+-- if the event is a turn of caller i, a call of it is open; and it doesn't replace its machine
 abbrev pub TurnFindsOpenCall : Moment → Event → ℕ → Type 0
 TurnFindsOpenCall w (Begins j op) i = Unit {0}
 TurnFindsOpenCall w (Turns j) i = i ≡ j → IsOpen (machine_in w i).place
 TurnFindsOpenCall w (Loads c) i = Unit {0}
 TurnFindsOpenCall w (Evicts k) i = Unit {0}
 TurnFindsOpenCall w (Raises c) i = Unit {0}
+TurnFindsOpenCall w (Revives j made) i = i ≡ j → ⊥
 
--- every turn of caller i comes while a call of it is open
+-- every turn of caller i comes while a call of it is open, and its machine is never replaced
 abbrev pub TurnsFindOpenCalls : Setup → Moment → List Event → ℕ → Type 0
 TurnsFindOpenCalls S w [] i = Unit {0}
 TurnsFindOpenCalls S w (e ∷ es) i =
     TurnFindsOpenCall w e i × TurnsFindOpenCalls S (after_event S w e) es i
 
--- the steps of an answered call; a spent one has none
+-- the steps of an answered call; a spent or a lost one has none
 abbrev pub outcome_steps : Outcome → ℕ
 outcome_steps (Answered s announced raw steps) = steps
 outcome_steps (Spent s) = 0
+outcome_steps (Lost s) = 0
 
 -- the steps of answered calls, added up
 abbrev pub total_steps : List Outcome → ℕ
@@ -91,8 +103,9 @@ total_steps (o ∷ os) = outcome_steps o + total_steps os
 abbrev pub IsAnswered : Outcome → Type 0
 IsAnswered (Answered s announced raw steps) = Unit {0}
 IsAnswered (Spent s) = ⊥
+IsAnswered (Lost s) = ⊥
 
--- none of them is spent
+-- none of them is spent or lost
 abbrev pub NoneSpent : List Outcome → Type 0
 NoneSpent [] = Unit {0}
 NoneSpent (o ∷ os) = IsAnswered o × NoneSpent os
@@ -101,6 +114,7 @@ NoneSpent (o ∷ os) = IsAnswered o × NoneSpent os
 abbrev pub outcome_seq : Outcome → ℕ
 outcome_seq (Answered s announced raw steps) = s
 outcome_seq (Spent s) = s
+outcome_seq (Lost s) = s
 
 -- an outcome is not before a sequence: an announced call's answer is above it, and any other
 -- outcome is not below it
@@ -108,6 +122,7 @@ abbrev pub IsNotBefore : ℕ → Outcome → Type 0
 IsNotBefore low (Answered s true raw steps) = low < s
 IsNotBefore low (Answered s false raw steps) = low ≤ s
 IsNotBefore low (Spent s) = low ≤ s
+IsNotBefore low (Lost s) = low ≤ s
 
 -- an outcome that no call has
 abbrev pub no_outcome : Outcome
@@ -125,6 +140,12 @@ last_outcome os = last_outcome_or None os
 abbrev pub HasNotRun : TableStart → Moment → (i ticket : ℕ) → Type 0
 HasNotRun B w i ticket = EachCall B w.batches (IsOlderCall i ticket)
 
+-- the calls of caller i up to this ticket are in batches up to s, and its later calls in later ones
+abbrev pub IsSplitAt : TableStart → Moment → (i ticket s : ℕ) → Type 0
+IsSplitAt B w i ticket s = (k : ℕ) → B.seq < k → k ≤ B.seq + length w.batches
+    → All (λ (c : Call). c.caller ≡ i → (c.ticket ≤ ticket → k ≤ s) × (k ≤ s → c.ticket ≤ ticket))
+    (batch_at B w.batches k).calls
+
 -- the history has the read of caller i with this ticket and operation
 abbrev pub HasRead : List Read → (i ticket : ℕ) → (op : List ℕ) → RawReply → (s : ℕ) → Type 0
 HasRead rs i ticket op raw s = (k : ℕ) × (k < length rs)
@@ -132,7 +153,8 @@ HasRead rs i ticket op raw s = (k : ℕ) × (k < length rs)
 
 -- the history of this moment has the outcome of the call of caller i with this ticket and
 -- operation: a batch, or a read, has the call, with at least the steps that it must make; or the
--- sequence is spent, and no batch has it
+-- sequence is spent, and no batch has it; or its machine was lost when the last batch was s, and no
+-- later batch has it
 abbrev pub OutcomeStands : Setup → TableStart → Moment → (i ticket : ℕ) → (op : List ℕ) → Outcome
     → Type 0
 OutcomeStands S B w i ticket op (Answered s true raw steps) =
@@ -144,6 +166,8 @@ OutcomeStands S B w i ticket op (Answered s false raw steps) =
     × (S.meaning.reads_only op ≡ true) × (least_read S op ≤ steps) × (steps ≤ bound S)
 OutcomeStands S B w i ticket op (Spent s) =
     (s ≡ S.limit) × (durable_seq S w.words ≡ s) × HasNotRun B w i ticket
+OutcomeStands S B w i ticket op (Lost s) =
+    (s ≤ B.seq + length w.batches) × IsSplitAt B w i ticket s
 
 -- if the read is caller i's, it is how one of the caller's calls has ended
 abbrev pub IsOutcome : (before i : ℕ) → List (List ℕ) → List Outcome → Read → Type 0
@@ -171,8 +195,9 @@ pub record HasCalls (S : Setup) (B : TableStart) (before : ℕ) (w : Moment) (i 
       → (length ops ≡ length outs + 1) × ((machine_in w i).op ≡ get_or ops (length outs) [])
   -- an open call has no answer yet
   pub unanswered : IsOpen (machine_in w i).place → (machine_in w i).answer ≡ None
-  -- the machine holds the last outcome
-  pub last : IsIdle (machine_in w i) → (machine_in w i).answer ≡ last_outcome outs
+  -- the machine holds the last outcome, or none if it is new
+  pub last : IsIdle (machine_in w i)
+      → ((machine_in w i).answer ≡ None) ⊎ ((machine_in w i).answer ≡ last_outcome outs)
   -- each outcome is in the history
   pub each : (x : ℕ) → x < length outs
       → OutcomeStands S B w i (before + x + 1) (get_or ops x []) (get_or outs x no_outcome)

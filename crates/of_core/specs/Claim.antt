@@ -8,7 +8,7 @@ use Rattle.of_recover.specs.Recovered.{recovered_data}
 use Rattle.of_core.specs.declared.place.Place.{Place}
 use Rattle.of_core.specs.declared.place.Place.TheVariants.{Idle, TryCell, LoadOwnTicket, LoadShape, LoadReply, LoadAnnouncement, LoadTicket, LoadScript, LoadCell, RaiseOld, StoreLog, RaiseLog, StoreRequest, RaiseRequest, ExchangeCurrent}
 use Rattle.of_core.specs.declared.place.Outcome.{Outcome}
-use Rattle.of_core.specs.declared.place.Outcome.TheVariants.{Answered, Spent}
+use Rattle.of_core.specs.declared.place.Outcome.TheVariants.{Answered, Spent, Lost}
 use Rattle.std.specs.List.{All}
 use Rattle.of_core.specs.Table.{most_entries, Setup, first_operation_cell, cell_count, request_at, data_at, log_at, durable_word, announcement_of, committed_seq, durable_seq}
 use Rattle.of_core.specs.Machine.{Call, CallState, IsOpen}
@@ -89,6 +89,7 @@ OutcomeIsInHistory S B w i m (Some (Spent s)) =
     (s ≡ S.limit) × (B.seq + length w.batches ≡ s)
     × ((k : ℕ) → B.seq < k → k ≤ s → All (IsOlderCall i m.made) (batch_at B w.batches k).calls)
     × (s ≤ durable_seq S w.words)
+OutcomeIsInHistory S B w i m (Some (Lost s)) = ⊥
 
 -- a call in a batch was begun by its caller; if it is the caller's open call, it is in the batch
 -- with that call's words

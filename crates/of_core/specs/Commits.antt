@@ -7,7 +7,7 @@ use Rattle.of_core.specs.declared.machine.trying.TheConstants.{MOST_TRIES}
 use Rattle.of_core.specs.declared.place.Place.{Place}
 use Rattle.of_core.specs.declared.place.Place.TheVariants.{TryCurrent, StoreScript, StoreAnnouncement, LoadCurrent}
 use Rattle.of_core.specs.declared.place.Outcome.{Outcome}
-use Rattle.of_core.specs.declared.place.Outcome.TheVariants.{Answered, Spent}
+use Rattle.of_core.specs.declared.place.Outcome.TheVariants.{Answered, Spent, Lost}
 use Rattle.of_core.specs.Table.{Setup, announcement_of}
 use Rattle.of_core.specs.Machine.{CallState, IsOpen, no_call}
 use Rattle.of_core.specs.Steps.{take_word}
@@ -102,6 +102,7 @@ IsSince S from op (Answered s true raw steps) =
 IsSince S from op (Answered s false raw steps) = from ≤ s
 IsSince S from op (Spent s) =
     (from ≤ s) × (S.meaning.reads_only op ≡ true → from + MOST_TRIES ≤ s)
+IsSince S from op (Lost s) = from ≤ s
 
 -- every outcome is no older than the last batch at any moment before its call began
 abbrev pub OutcomesAreNew : Setup → (List ℕ → Type 0) → Type 0

@@ -5,7 +5,7 @@ use Rattle.of_cell.specs.Words.{pack, seq_of}
 use Rattle.of_core.specs.declared.place.Place.{Place}
 use Rattle.of_core.specs.declared.place.Place.TheVariants.{Idle, TryCurrent, StoreScript, StoreAnnouncement, LoadCurrent, ExchangeCurrent}
 use Rattle.of_core.specs.declared.place.Outcome.{Outcome}
-use Rattle.of_core.specs.declared.place.Outcome.TheVariants.{Answered, Spent}
+use Rattle.of_core.specs.declared.place.Outcome.TheVariants.{Answered, Spent, Lost}
 use Rattle.of_core.specs.Table.{Setup}
 use Rattle.of_core.specs.Machine.{CallState, IsOpen, is_idle}
 use Rattle.of_mem.specs.declared.work.RawReply.{RawReply}
@@ -35,6 +35,7 @@ LastStepTells S m p (Some (Answered s false raw steps)) =
     HasBegunTry m p × (s ≡ m.seq) × (steps ≡ m.steps + 1)
 LastStepTells S m p (Some (Answered s true raw steps)) = (s ≤ m.seq) × (steps ≡ m.steps + 1)
 LastStepTells S m p (Some (Spent s)) = (s ≡ m.seq) × (s ≡ S.limit)
+LastStepTells S m p (Some (Lost s)) = ⊥
 
 -- after the step the call is open and has made one step more, or it has ended with an answer
 abbrev pub CountsStepOrEnds : Setup → CallState → Place → CallState → (ended : Bool) → Type 0
@@ -93,6 +94,7 @@ TellsOutcome S m d (Answered s false raw steps) =
     (s ≤ rests_on_seq m) × (steps ≡ m.steps + 1)
     × (step_reads m d ≡ read_of_call m raw s ∷ []) × ((low : ℕ) → ReadsFrom low m → low ≤ s)
 TellsOutcome S m d (Spent s) = (s ≤ rests_on_seq m) × (s ≡ S.limit) × (step_reads m d ≡ [])
+TellsOutcome S m d (Lost s) = ⊥
 
 -- a step of an open call, at a moment that meets the invariant, has found n, has led from the
 -- machine m to d, and has committed these batches

@@ -254,6 +254,15 @@ SchedulesKeepInvariant S Lawful =
     (B : TableStart) (w : Moment) → MeetsInvariant S Lawful B w
     → (es : List Event) → IsSchedule S w es → MeetsInvariant S Lawful B (after_events S w es)
 
+-- if an event commits a batch, each call of the batch is the open call of its caller's present
+-- machine. So a call that a lost machine had begun and not announced is never run
+abbrev pub LostCallsNeverRun : Setup → (List ℕ → Type 0) → Type 0
+LostCallsNeverRun S Lawful = EachSchedule S Lawful (λ B n es.
+    let w : Moment = after_events S (opening_moment S B n) es in
+    (e : Event) → MayHappen S w e → (k : ℕ) → B.seq + length w.batches < k
+    → k ≤ B.seq + length (after_event S w e).batches
+    → All (IsOpenCall w) (batch_at B (after_event S w e).batches k).calls)
+
 -- every schedule from every start leaves a moment that is sound
 abbrev pub EveryMomentIsSound : Setup → (List ℕ → Type 0) → Type 0
 EveryMomentIsSound S Lawful =

@@ -4,7 +4,7 @@ use Rattle.of_mem.specs.Meaning.{WalkEnd, Needs, Gives}
 use Rattle.of_core.specs.declared.place.Place.{Place}
 use Rattle.of_core.specs.declared.place.Place.TheVariants.{Idle, TryCurrent, TryRequest, TryCell, StoreScript, StoreAnnouncement, LoadCurrent, LoadRequest, CopyLog, LookAgain, LoadOwnTicket, LoadShape, LoadReply, LoadAnnouncement, LoadTicket, LoadScript, LoadCell, RaiseOld, StoreLog, RaiseLog, StoreRequest, RaiseRequest, ExchangeCurrent, RaiseCurrent, LoadTarget, ExchangeTarget, ReloadTarget, RaiseTarget, CloseRequest, RaiseClosed}
 use Rattle.of_core.specs.declared.place.Outcome.{Outcome}
-use Rattle.of_core.specs.declared.place.Outcome.TheVariants.{Answered, Spent}
+use Rattle.of_core.specs.declared.place.Outcome.TheVariants.{Answered, Spent, Lost}
 use Rattle.of_core.specs.Table.{Setup}
 use Rattle.of_core.specs.Machine.{CallState, no_cell_known}
 
@@ -73,6 +73,7 @@ TellsLeastSteps S op None = Unit {0}
 TellsLeastSteps S op (Some (Answered s true raw steps)) = least_call op ≤ steps
 TellsLeastSteps S op (Some (Answered s false raw steps)) = least_read S op ≤ steps
 TellsLeastSteps S op (Some (Spent s)) = Unit {0}
+TellsLeastSteps S op (Some (Lost s)) = Unit {0}
 
 -- m has made at least the least steps of its place; if it is idle, it counts no steps, and its last
 -- answer names at least the steps that its call must make

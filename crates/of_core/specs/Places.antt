@@ -7,7 +7,7 @@ use Rattle.of_mem.specs.Meaning.{is_marked}
 use Rattle.of_core.specs.declared.machine.trying.TheConstants.{MOST_TRIES}
 use Rattle.of_cell.specs.Words.{pack, seq_of, payload_of}
 use Rattle.of_core.specs.declared.place.Outcome.{Outcome}
-use Rattle.of_core.specs.declared.place.Outcome.TheVariants.{Answered, Spent}
+use Rattle.of_core.specs.declared.place.Outcome.TheVariants.{Answered, Spent, Lost}
 use Rattle.of_core.specs.Table.{most_entries, Setup, ticket_cell, request_of, data_word, durable_request, announcement_of, script_words_of, committed_seq, durable_seq}
 use Rattle.of_core.specs.Machine.{CallState, log_entry, log_words, no_cell_known}
 use Rattle.of_core.specs.TableMoment.{Batch, TableStart}
@@ -46,6 +46,7 @@ module _ (S : Setup) (B : TableStart) (ws : List ℕ) (bs : List Batch) (i : ℕ
   LastOutcomeStands (Some (Answered s false raw steps)) = WasReadAt s raw
   LastOutcomeStands (Some (Answered s true raw steps)) = WasRunInBatch s raw
   LastOutcomeStands (Some (Spent s)) = WasSpentAt s
+  LastOutcomeStands (Some (Lost s)) = ⊥
 
   -- Idle: the caller has nothing under way, and the last outcome of m stands in the history
   pub record IsAtRest : Type 0 where

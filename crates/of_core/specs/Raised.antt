@@ -7,7 +7,7 @@ use Rattle.of_core.specs.Table.{Setup, cell_count, durable_at, durable_word}
 use Rattle.of_core.specs.Steps.{want}
 use Rattle.of_core.specs.TableMoment.{Moment, TableStart}
 use Rattle.of_core.specs.Invariant.{MeetsInvariant, IsLoaded}
-use Rattle.of_core.specs.Events.{Event, after_event, MayHappen, after_events, opening_moment, one_if, machine_in, IsSchedule}
+use Rattle.of_core.specs.Events.{Event, after_event, MayHappen, after_events, opening_moment, one_if, machine_in, IsSchedule, AllReplaceNone}
 use Rattle.of_core.specs.Laws.{EachSchedule}
 
 -- a raise to v goes round again if the word x that it has loaded has become another word y that is
@@ -63,10 +63,11 @@ RaisesHeld S Lawful =
     → want S (machine_in w i) ≡ Raise (durable_at S c) v
     → v ≤ get_or w.words c 0
 
--- In schedules from a start a cell changes only if its durable word is at least its word. So of all
--- the words that a cell has held, only the present one may not be durable.
+-- In schedules from a start, as long as no machine is replaced, a cell changes only if its durable
+-- word is at least its word. So of all the words that a cell has held, only the present one may not
+-- be durable. A machine that was lost may leave a log word that is not durable.
 abbrev pub CellsLevel : Setup → (List ℕ → Type 0) → Type 0
-CellsLevel S Lawful = EachSchedule S Lawful (λ B n es.
+CellsLevel S Lawful = EachSchedule S Lawful (λ B n es. AllReplaceNone es →
     let w : Moment = after_events S (opening_moment S B n) es in
     (e : Event) → MayHappen S w e → (c : ℕ) → c < cell_count S
     → (get_or (after_event S w e).words c 0 ≡ get_or w.words c 0)
@@ -75,7 +76,7 @@ CellsLevel S Lawful = EachSchedule S Lawful (λ B n es.
 -- In schedules from a start, as long as no machine is replaced, nothing changes a durable word to
 -- one below the word that a caller is about to raise it to.
 abbrev pub RaisesUndisturbed : Setup → (List ℕ → Type 0) → Type 0
-RaisesUndisturbed S Lawful = EachSchedule S Lawful (λ B n es.
+RaisesUndisturbed S Lawful = EachSchedule S Lawful (λ B n es. AllReplaceNone es →
     let w : Moment = after_events S (opening_moment S B n) es in
     (i c v : ℕ) → i < S.callers → c < cell_count S
     → want S (machine_in w i) ≡ Raise (durable_at S c) v
@@ -84,7 +85,7 @@ RaisesUndisturbed S Lawful = EachSchedule S Lawful (λ B n es.
 -- In schedules from a start, as long as no machine is replaced, nothing changes a durable word to
 -- one below a word that was loaded from its cell for an eviction.
 abbrev pub EvictionsUndisturbed : Setup → (List ℕ → Type 0) → Type 0
-EvictionsUndisturbed S Lawful = EachSchedule S Lawful (λ B n es.
+EvictionsUndisturbed S Lawful = EachSchedule S Lawful (λ B n es. AllReplaceNone es →
     let w : Moment = after_events S (opening_moment S B n) es in
     (k : ℕ) → k < length w.loaded
     → (ds : List Event) → IsSchedule S w ds
@@ -94,7 +95,7 @@ EvictionsUndisturbed S Lawful = EachSchedule S Lawful (λ B n es.
 -- about to raise to v stays as it is until it is at least v. If the exchange of the loop has
 -- failed, the next load ends the loop.
 abbrev pub RaisesStand : Setup → (List ℕ → Type 0) → Type 0
-RaisesStand S Lawful = EachSchedule S Lawful (λ B n es.
+RaisesStand S Lawful = EachSchedule S Lawful (λ B n es. AllReplaceNone es →
     let w : Moment = after_events S (opening_moment S B n) es in
     (i c v : ℕ) → i < S.callers → c < cell_count S
     → want S (machine_in w i) ≡ Raise (durable_at S c) v

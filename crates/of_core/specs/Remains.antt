@@ -6,7 +6,7 @@ use Rattle.of_cell.specs.Words.{pack, seq_of, payload_of}
 use Rattle.of_core.specs.declared.place.Place.TheVariants.{LoadCurrent}
 use Rattle.of_core.specs.declared.remains.Remains.{Remains}
 use Rattle.of_core.specs.Table.{Setup, ticket_cell, current_word, request_of, durable_request, log_word_of, data_word, announcement_of, script_words_of}
-use Rattle.of_core.specs.Machine.{CallState, idle_machine}
+use Rattle.of_core.specs.Machine.{CallState, IsOpen, idle_machine}
 use Rattle.of_core.specs.TableMoment.{Moment}
 
 -- the words from which a new machine for caller i is made
@@ -56,6 +56,10 @@ revived_if S r i made false = idle_machine S i (max made (payload_of r.ticket))
 -- the new machine of caller i, as these words of the table decide
 abbrev pub revived_machine : Setup → Remains → (i made : ℕ) → CallState
 revived_machine S r i made = revived_if S r i made (announces_open_call r)
+
+-- the new machine counts the same calls as the lost one, and has none open that had ended
+abbrev pub CountsOn : (lost now : CallState) → Type 0
+CountsOn m d = (d.made ≡ m.made) × (IsOpen d.place → IsOpen m.place)
 
 -- the moment after a new machine has taken the place of caller i's
 abbrev pub after_revival : Setup → (i made : ℕ) → Moment → Moment

@@ -9,9 +9,9 @@ use Rattle.of_core.specs.History.{last_ticket_by}
 use Rattle.of_core.specs.WordsMatch.{IsLastOpen}
 use Rattle.of_core.specs.Order.{IsOlder}
 use Rattle.of_core.specs.Invariant.{MeetsInvariant, MeetsCore}
-use Rattle.of_core.specs.Events.{after_raise}
+use Rattle.of_core.specs.Events.{after_raise, machine_in}
 use Rattle.of_core.specs.Laws.{EachStep, EachLoaded, KeepsOthersCalls}
-use Rattle.of_core.specs.Remains.{remains_of, MayRevive, announces_open_call, revived_machine, after_revival}
+use Rattle.of_core.specs.Remains.{remains_of, MayRevive, announces_open_call, revived_machine, CountsOn, after_revival}
 
 -- the law holds of each caller whose machine may be replaced, and of each number of calls that the
 -- new machine is given
@@ -48,6 +48,13 @@ abbrev pub OpenCallsCountReads : Setup → (List ℕ → Type 0) → Type 0
 OpenCallsCountReads S Lawful = EachRevival S Lawful (λ B w i made.
     announces_open_call (remains_of S w.words i) ≡ true → committed_seq w.words < S.limit
     → CountsReads S w i made)
+
+-- below the limit a new machine that is given the lost one's number counts on
+abbrev pub RevivalsCountOn : Setup → (List ℕ → Type 0) → Type 0
+RevivalsCountOn S Lawful = EachRevival S Lawful (λ B w i made.
+    let m : CallState = machine_in w i in
+    made ≡ m.made → committed_seq w.words < S.limit
+    → CountsOn m (revived_machine S (remains_of S w.words i) i made))
 
 -- a new machine is idle only if the announced call has run; and if no transaction is open, the call
 -- that it goes on with has not run

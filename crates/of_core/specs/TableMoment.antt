@@ -6,7 +6,7 @@ use Rattle.of_core.specs.declared.place.Place.{Place}
 use Rattle.of_core.specs.declared.place.Place.TheVariants.{ExchangeCurrent}
 use Rattle.of_mem.specs.declared.work.RawReply.{RawReply}
 use Rattle.of_core.specs.declared.place.Outcome.{Outcome}
-use Rattle.of_core.specs.declared.place.Outcome.TheVariants.{Answered, Spent}
+use Rattle.of_core.specs.declared.place.Outcome.TheVariants.{Answered, Spent, Lost}
 use Rattle.of_core.specs.Table.{Setup, announcement_of}
 use Rattle.of_core.specs.Machine.{Call, CallState, is_idle}
 use Rattle.of_core.specs.Steps.{want, take_word, words_after, want_at, word_of, word_left, take_word_at, with_step_counted}
@@ -68,6 +68,7 @@ read_of d (Some (Answered s false raw n)) =
     record { caller = d.caller; ticket = d.made; op = d.op; raw = raw; seq = s } ∷ []
 read_of d (Some (Answered s true raw n)) = []
 read_of d (Some (Spent s)) = []
+read_of d (Some (Lost s)) = []
 
 -- the read that a step has answered: only a call's last step may answer one
 abbrev pub step_reads_if : CallState → (was_idle now_idle : Bool) → List Read

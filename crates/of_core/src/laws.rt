@@ -6,7 +6,7 @@ ghost use Rattle.of_core.specs.Laws.{StepsKeepInvariant, StepsGuarantee, OpenSte
 ghost use Rattle.of_core.specs.Laws.{NewCallsWereOpen, BeginsKeepInvariant, LoadsMayBeRaised, StepsKeepLoaded, RaisesKeepInvariant};
 ghost use Rattle.of_core.specs.Laws.{RaisesNeverLower, WordsBehindAreFree, StartsMeetInvariant, InvariantIsSound};
 ghost use Rattle.of_core.specs.Laws.{StartsHaveNoCalls, StepsEndOwnCall, BeginsAddOneCall, RaisesKeepCalls, WordsBehindKeepCalls};
-ghost use Rattle.of_core.specs.Laws.{EventsKeepInvariant, SchedulesKeepInvariant, DurablesWereHeld, EveryMomentIsSound};
+ghost use Rattle.of_core.specs.Laws.{EventsKeepInvariant, SchedulesKeepInvariant, DurablesWereHeld, EveryMomentIsSound, LostCallsNeverRun};
 ghost use Rattle.of_core.specs.Laws.{EveryCallStands, TurnsCountSteps, EventsLeadCalls, CallsEndInTime};
 ghost use Rattle.of_core.specs.Laws.{EveryOrder, Detectable, RealTime, LateCalls, OwnTime, EveryLife};
 ghost use Rattle.of_core.specs.Commits.{DoneAfterTwoCommits, GivenUp, LostToCommits, OutcomesAreNew};
@@ -16,8 +16,7 @@ ghost use Rattle.of_core.specs.Written.{LogsAreWrites, OwnersTakePart, CellsRise
 ghost use Rattle.of_core.specs.Needed.{LoadsNeeded, CopiesOpenLogs};
 ghost use Rattle.of_core.specs.SpentRound.{SpentInRounds};
 ghost use Rattle.of_core.specs.Grounds.{GoodGrounds};
-ghost use Rattle.of_core.specs.Losses.{LossesKeepInvariant, LossesLeaveSound, LostCallsNeverRun};
-ghost use Rattle.of_core.specs.Revived.{RevivalsKeepCore, RevivalsKeepInvariant, OpenCallsCountReads, RevivalsMissNoCall, RevivalsKeepOthers, StepsLeaveRevivable, RaisesLeaveRevivable};
+ghost use Rattle.of_core.specs.Revived.{RevivalsKeepCore, RevivalsKeepInvariant, OpenCallsCountReads, RevivalsCountOn, RevivalsMissNoCall, RevivalsKeepOthers, StepsLeaveRevivable, RaisesLeaveRevivable};
 ghost use Rattle.of_core.specs.Raised.{RaisesHeld, RaisesAreShort, EvictionsAreShort, CellsLevel};
 ghost use Rattle.of_core.specs.Raised.{RaisesUndisturbed, EvictionsUndisturbed, RaisesStand};
 ghost use Rattle.of_core.specs.Laws.{FirstWordsHoldStart, FirstMachinesAreIdle, ZerosMayStart};
@@ -76,6 +75,8 @@ pub fn taken_over_stands<W: Work>(limit: u32, work: W)
         (setup_for W.many W.size W.meaning limit work) (W.lawful work) }
     ensures newest { OpenCallsCountReads
         (setup_for W.many W.size W.meaning limit work) (W.lawful work) }
+    ensures counted { RevivalsCountOn
+        (setup_for W.many W.size W.meaning limit work) (W.lawful work) }
     ensures ran { RevivalsMissNoCall
         (setup_for W.many W.size W.meaning limit work) (W.lawful work) }
     ensures others { RevivalsKeepOthers
@@ -83,20 +84,6 @@ pub fn taken_over_stands<W: Work>(limit: u32, work: W)
     ensures steps { StepsLeaveRevivable
         (setup_for W.many W.size W.meaning limit work) (W.lawful work) }
     ensures raises { RaisesLeaveRevivable
-        (setup_for W.many W.size W.meaning limit work) (W.lawful work) }
-{}
-
-/// Schedules in which machines are lost and replaced, any number of times, each at any moment at
-/// which its words allow it. Each such schedule keeps the invariant. From every start it leaves a
-/// moment with a legal history, of which recovery gives the state that its durable words name. A
-/// batch has only calls that its callers' present machines have open: a call that a lost machine
-/// had begun and not announced is never run.
-pub fn taken_over_moments<W: Work>(limit: u32, work: W)
-    ensures kept { LossesKeepInvariant
-        (setup_for W.many W.size W.meaning limit work) (W.lawful work) }
-    ensures sound { LossesLeaveSound
-        (setup_for W.many W.size W.meaning limit work) (W.lawful work) }
-    ensures never { LostCallsNeverRun
         (setup_for W.many W.size W.meaning limit work) (W.lawful work) }
 {}
 
@@ -117,7 +104,9 @@ pub fn calls_kept<W: Work>(limit: u32, work: W)
 
 /// Each event, and so each schedule, keeps the invariant. From every start, every schedule leaves a
 /// moment whose history is legal, and recovery of its durable words gives the state at the durable
-/// sequence. Each durable word is one that its cell has held.
+/// sequence. Each durable word is one that its cell has held. Machines may be lost and replaced on
+/// the way: when a batch is committed, its calls are the open calls of their callers' present
+/// machines. So a call that a lost machine had begun and not announced is never run.
 pub fn every_moment<W: Work>(limit: u32, work: W)
     ensures kept { EventsKeepInvariant
         (setup_for W.many W.size W.meaning limit work) (W.lawful work) }
@@ -126,6 +115,8 @@ pub fn every_moment<W: Work>(limit: u32, work: W)
     ensures durables { DurablesWereHeld
         (setup_for W.many W.size W.meaning limit work) (W.lawful work) }
     ensures sound { EveryMomentIsSound
+        (setup_for W.many W.size W.meaning limit work) (W.lawful work) }
+    ensures never { LostCallsNeverRun
         (setup_for W.many W.size W.meaning limit work) (W.lawful work) }
 {}
 
