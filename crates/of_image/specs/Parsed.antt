@@ -1,4 +1,5 @@
--- Which image a text has, and why another text has none.
+-- How the text of an image is read: what recovery finds in its words, and which line or cell is at
+-- fault in a text that is refused.
 use Rattle.std.specs.Prelude.{◌≡◌, ℕ, List}
 use Rattle.of_plan.specs.BadLine.{HasBadLine}
 use Rattle.of_script.specs.declared.instr.TheConstants.{MOST_INSTRS}

@@ -3,8 +3,9 @@ use Rattle.std.specs.Prelude.{ℕ, Bool, List, filter, replicate, slice_index, s
 use Rattle.of_store.specs.Store.{Store, Reply, empty_store}
 use Rattle.of_plan.specs.Plan.{Plan}
 
--- a call in the history: a script of a caller by its index from 0, at a sequence, with its reply; a
--- read that was not announced shares its sequence with others
+-- A call in the history: the script with this index (from 0) of a caller, the call's sequence,
+-- whether it was announced, and its reply. All calls of one batch have the same sequence; so have
+-- the reads of the state that the batch leaves.
 pub record Entry : Type 0 where
   pub seq : ℕ
   pub caller : ℕ

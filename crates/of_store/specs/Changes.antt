@@ -1,6 +1,7 @@
 -- What an instruction changes in a store, and the store without the change. A script that fails
--- takes its changes back, but not after it has taken something out: putting that in again might
--- need memory. A script that may fail after taking something out runs on a copy of the store.
+-- leaves the store as it was. Writes are undone, which needs no memory. To put a removed key or
+-- item in again might need memory, so a script that may fail after it has removed one runs on a copy
+-- of the store.
 use Rattle.std.specs.Prelude.{◌≡◌, ℕ, zero, suc, ◌-◌, ◌<◌, ◌≤◌, Bool, true, false, List, length, take, slice_get, slice_index_or, Option, Some, None, IsSome, IsNone, Result, Ok, Err}
 use Rattle.std.specs.FinMap as fm
 use Rattle.of_script.specs.declared.instr.Instr.{Instr}
