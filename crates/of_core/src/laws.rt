@@ -87,9 +87,9 @@ pub fn taken_over_stands<W: Work>(limit: u32, work: W)
         (setup_for W.many W.size W.meaning limit work) (W.lawful work) }
 {}
 
-/// How the calls of a caller change. At a start there are none. A step may end the open call of its
-/// own caller. A begin adds a call of its own caller, also if a fresh machine begins it. Nothing
-/// else changes a caller's calls.
+/// Which steps and events change a caller's calls. At a start there are no calls. A step may end
+/// the open call of its own caller. A begin adds a call of its own caller, also if a fresh machine
+/// begins the call. Nothing else changes a caller's calls.
 pub fn calls_kept<W: Work>(limit: u32, work: W)
     ensures start { StartsHaveNoCalls
         (setup_for W.many W.size W.meaning limit work) (W.lawful work) }
@@ -168,16 +168,17 @@ pub fn ends_in_time<W: Work>(limit: u32, work: W)
     ensures spent { SpentInRounds (setup_for W.many W.size W.meaning limit work) (W.lawful work) }
 {}
 
-/// The bound by what operations touch, for a call that may write: its formula, and a worked case,
-/// in which three callers have operations that read and write at most two cells.
+/// The formula of the step bound by what operations touch, for a call that may write, and a worked
+/// case: three callers have operations that read and write at most two cells.
 pub fn touched_bounds()
     ensures writes { TouchedBoundOfWrites }
     ensures transfers { TouchedBoundOfTransfers }
 {}
 
-/// In every schedule, a batch's log has the writes of its calls, in order, and their callers' own
-/// cells, and nothing else. One of a batch's calls is its owner's. A data cell keeps its word or
-/// gets one of a later transaction, so no helper writes an older number.
+/// In every schedule, a batch's log has the writes of the batch's calls, run in order, and entries
+/// for their callers' own cells, and nothing else. One of the calls is by the batch's owner. A step
+/// leaves a data cell's word or gives the cell a word of a later transaction, so no helper writes
+/// an older number.
 pub fn batches<W: Work>(limit: u32, work: W)
     ensures logs { LogsAreWrites (setup_for W.many W.size W.meaning limit work) (W.lawful work) }
     ensures owners { OwnersTakePart (setup_for W.many W.size W.meaning limit work) (W.lawful work) }
@@ -219,7 +220,8 @@ pub fn starts<W: Work>(limit: u32, work: W)
         (setup_for W.many W.size W.meaning limit work) (W.lawful work) }
 {}
 
-/// What holds of a machine by itself, on any table.
+/// What holds of each machine by itself, on any table: it is idle or has an open call, a turn
+/// leaves an idle machine as it is, and a turn of a caller is the next step of its machine.
 pub fn machines()
     ensures idle_or_open { IsIdleOrOpen }
     ensures idle_is { IdleTestIsExact }

@@ -9,9 +9,8 @@ ghost use Rattle.of_core.specs.Steps.{word_of, words_after};
 
 use crate::place::Op;
 
-/// A way to perform the steps that a machine asks for, such as on the words of a bank.
-/// `Machine::perform`, which says what the step of each place is, is written once for all of these
-/// ways.
+/// A way to perform the steps that a machine names, such as on the words of a bank.
+/// `Machine::perform`, which has the step of each place, is written once for all performers.
 pub trait Performer {
     /// What the performer gives for a step, such as the word that the step found.
     type Given;
@@ -45,7 +44,7 @@ pub trait Performer {
         ensures { made self.now hand.old (Raise word value) result hand.new };
 }
 
-/// Makes no step, and gives the step itself.
+/// The performer that makes no step, and gives the step itself.
 #[derive(Clone, Copy)]
 pub(crate) struct NameStep;
 
@@ -79,7 +78,7 @@ impl Performer for NameStep {
     }
 }
 
-/// Makes the step on words, and gives the word that it found.
+/// The performer that makes the step on a list of words, and gives the word that the step found.
 #[derive(Clone, Copy)]
 pub(crate) struct OnWords;
 
@@ -114,7 +113,7 @@ impl Performer for OnWords {
     }
 }
 
-/// Makes a load, which leaves the words as they are.
+/// Makes a load, and gives the word that it found. The words stay as they are.
 #[inline(always)]
 fn load_on(words: &mut [u64], word: u32) -> u64
     requires { word < length words.old }
