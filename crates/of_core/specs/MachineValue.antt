@@ -34,7 +34,7 @@ abbrev pub machine_after : {X : Type 0} → (X → Meaning) → (Setup → CallS
     → Machine X → Machine X
 machine_after meaning next m = record m { call = next (machine_setup meaning m) m.call }
 
--- the step that the machine asks for at the place p
+-- the step that the machine makes next if it is at the place p
 abbrev pub op_at : {X : Type 0} → (X → Meaning) → Place → Machine X → Op
 op_at meaning p m = want_at (machine_setup meaning m) m.call p
 

@@ -104,7 +104,7 @@ after_read_run m (Gives es r) =
 abbrev pub read_on : Setup → CallState → CallState
 read_on S m = after_read_run m (S.meaning.walk m.known m.op)
 
--- a try begins its run, after the look at the request or after the help
+-- a try begins its run, after the load of the owner's request or after the help
 abbrev pub begin_reading : Setup → CallState → CallState
 begin_reading S m = read_on S (record m { known = no_cell_known S; helps = false })
 
@@ -133,8 +133,8 @@ abbrev pub first_round_seq : CallState → ℕ → (none_yet : Bool) → ℕ
 first_round_seq m s true = s
 first_round_seq m s false = m.first
 
--- a round goes on after the look at the request, or after the help: to load the own ticket cell
--- comes next
+-- after the load of the owner's request, or after the help, a round goes on with the load of the
+-- caller's own ticket cell
 abbrev pub enter : Setup → CallState → CallState
 enter S m = record m {
   place = LoadOwnTicket;
@@ -324,7 +324,8 @@ after_raise_closed S m false in_try = record m {
   steps = 0;
 }
 
--- the machine after its step from this place found this number, if it has counted the step already
+-- the machine after its step from this place, which has found this number; the step is counted
+-- already
 abbrev pub take_word_at : Setup → CallState → (found : ℕ) → Place → CallState
 take_word_at S m found Idle = m
 take_word_at S m found TryCurrent = record m {
@@ -380,6 +381,6 @@ abbrev pub with_step_counted : Place → CallState → CallState
 with_step_counted Idle m = m
 with_step_counted p m = record m { steps = m.steps + 1 }
 
--- the machine after its next step found this number
+-- the machine after its next step, which has found this number
 unfoldable pub take_word : Setup → CallState → (found : ℕ) → CallState
 take_word S m found = take_word_at S (with_step_counted m.place m) found m.place

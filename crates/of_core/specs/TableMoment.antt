@@ -16,9 +16,9 @@ pub record Batch : Type 0 where
   pub owner : ℕ
   -- the write-set, in order of first writing
   pub log : List (ℕ × ℕ)
-  -- the calls that it runs, by caller
+  -- the calls that the batch runs, by caller
   pub calls : List Call
-  -- the announcements at the moment when it was committed
+  -- the announcements at the moment when the batch was committed
   pub announcements : ℕ → ℕ
 
 -- a call that was answered without being announced: it read the state at this sequence
@@ -29,8 +29,8 @@ pub record Read : Type 0 where
   pub raw : RawReply
   pub seq : ℕ
 
--- the words, each caller's machine, and the history: the batches in order, and beside them the
--- reads in the order of their answers
+-- the words, each caller's machine, and the history: the batches in order, and the reads in the
+-- order of their answers
 pub record Moment : Type 0 where
   pub words : List ℕ
   pub machines : List CallState

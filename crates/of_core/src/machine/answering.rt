@@ -14,8 +14,9 @@ use of_cell::{payload_of, seq_of};
 use of_mem::{MOST_INSTRS, RawReply, Work};
 
 impl<W: Work> Machine<W> {
-    /// Goes on after the load of the caller's own ticket cell: to the call's reply if the call was
-    /// run; otherwise the call is spent at the limit, or the scan begins.
+    /// Goes on after the load of the caller's own ticket cell. A cell that is newer than the
+    /// round's state ends the round. Otherwise the reply is loaded if the call was run; if it was
+    /// not, the call is spent at the limit, and the scan begins below the limit.
     pub(super) fn after_own_ticket(&mut self, found: u64)
         requires at { self.old.call.place ≡ Place.LoadOwnTicket }
         ensures { self.new ≡ step_from W.meaning Place.LoadOwnTicket found self.old }

@@ -20,8 +20,8 @@ use crate::place::Place;
 use of_cell::{payload_of, seq_of};
 use of_mem::{MOST_INSTRS, RawReply, Work};
 
-/// Where a scan goes on after it has passed a caller: at the next caller if there are `more`, and
-/// otherwise at the store of the log.
+/// Where a scan goes on after it has passed a caller: at the next caller's announcement if there
+/// are `more` callers, and otherwise at `RaiseOld`, the step before the log is stored.
 fn place_behind(more: bool) -> Place
     ensures { result ≡ place_behind more }
 {
