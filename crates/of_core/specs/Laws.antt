@@ -447,7 +447,8 @@ abbrev pub IdleRestsOnNothing : Type 0
 IdleRestsOnNothing =
     (m : CallState) → m.place ≡ Idle → (rests_on_seq m ≡ 0) × ((low : ℕ) → ReadsFrom low m)
 
--- a machine's next step may find what `word_found` gives: the table's word that the step is on
+-- a machine's next step finds the word that `word_found` gives: the table's word that the step is
+-- on
 abbrev pub StepsFindTheirWord : Type 0
 StepsFindTheirWord =
     (S : Setup) (ws : List ℕ) (m : CallState) → IsFoundBy (want S m) ws (word_found S ws m)

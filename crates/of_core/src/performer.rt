@@ -18,7 +18,8 @@ pub trait Performer {
     /// What the performer makes its steps on, such as the words of a bank. A step may change it.
     type Hand;
 
-    // which steps it may be asked for, and what holds after one of what it gave and left
+    // `takes` says which steps the performer may be given, and `made` what holds after a step: of
+    // what the performer gave, and of the hand before and after the step
     ghost takes: { Self → Self.Hand → Op → Type 0 };
 
     ghost made: { Self → Self.Hand → Op → Self.Given → Self.Hand → Type 0 };
