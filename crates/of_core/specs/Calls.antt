@@ -159,7 +159,7 @@ HasRead rs i ticket op raw s = (k : ℕ) × (k < length rs)
 -- the history of this moment agrees with the outcome of the call of caller i with this ticket and
 -- operation. An answered call is in batch s or is a read, s is durable, and its steps are at least
 -- those that it must make and at most the bound. A spent call is in no batch, and s is the limit. A
--- lost call is in no batch after s
+-- lost call is in no batch after s, and a later call of the caller in none up to s
 abbrev pub OutcomeStands : Setup → TableStart → Moment → (i ticket : ℕ) → (op : List ℕ) → Outcome
     → Type 0
 OutcomeStands S B w i ticket op (Answered s true raw steps) =

@@ -19,8 +19,8 @@ pub data Event : Type 0 where
   Turns : ℕ → Event
   -- a cell is loaded for an eviction
   Loads : ℕ → Event
-  -- an eviction's raise: of the words loaded for evictions, the one with this index (from 0) is
-  -- raised on its cell's durable word
+  -- the durable word of a cell is raised to a word that was loaded from the cell for an eviction:
+  -- the number is the index, from 0, among the words that were loaded so
   Evicts : ℕ → Event
   -- a whole eviction in one step: the durable word of a cell is raised to the word that the cell
   -- holds

@@ -45,8 +45,8 @@ abbrev pub CountsStepOrEnds : Setup → CallState → Place → CallState → (e
 CountsStepOrEnds S m p d true = LastStepTells S m p d.answer × (m.seq ≤ rests_on_seq_at m p)
 CountsStepOrEnds S m p d false = (d.steps ≡ m.steps + 1) × (d.answer ≡ m.answer)
 
--- after the step, which leads from m to d, the call has made one step more, or has ended with an
--- outcome that counts the step
+-- after the step, which leads from m to d, the call is still open and has made one step more, or it
+-- has an outcome as `LastStepTells` says
 abbrev pub CountsStep : Setup → CallState → Place → CallState → Type 0
 CountsStep S m p d = CountsStepOrEnds S m p d (is_idle d.place)
 

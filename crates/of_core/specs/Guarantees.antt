@@ -12,9 +12,9 @@ use Rattle.of_core.specs.Scan.{IsAnnouncedCall}
 use Rattle.of_core.specs.Invariant.{MeetsCore}
 
 -- What other machines may rely on after a step of machine i, from words ws and batches bs to words
--- vs and batches cs. Earlier batches and states stay, a new batch is caller i's and has only
--- announced calls, and a request of another caller changes only if the step closes the last batch's
--- request.
+-- vs and batches cs. Earlier batches and states stay, and a new batch is caller i's and has only
+-- announced calls. Another caller's log words and announcement stay, and its request changes only
+-- if the step closes the last batch's request.
 pub record Guarantees (S : Setup) (B : TableStart) (i : ℕ) (ws : List ℕ) (bs : List Batch)
     (vs : List ℕ) (cs : List Batch) : Type 0 where
   -- if the last sequence stays, its owner stays too

@@ -313,7 +313,7 @@ Detectable S Lawful = EachSchedule S Lawful (λ B n es.
     (order : List Call) → Linearizes S B w es order → IsRecovered S B (after_events S w es) order
     → (i : ℕ) → i < S.callers → IsDetectable S B w es order i)
 
--- if call y of caller j begins after call x of caller i has ended, the outcome of call y is not
+-- if call y of caller j begins after call x of caller i has ended, and ends too, its outcome is not
 -- before the sequence that the outcome of call x names (`IsNotBefore`)
 abbrev pub RealTime : Setup → (List ℕ → Type 0) → Type 0
 RealTime S Lawful = EachSchedule S Lawful (λ B n es.

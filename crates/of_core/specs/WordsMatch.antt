@@ -89,8 +89,8 @@ abbrev pub WasHeldByCell : TableStart → List ℕ → List Batch → ℕ → �
 WasHeldByCell B ws bs a w =
     (k : ℕ) × (B.seq ≤ k) × (k ≤ committed_seq ws) × (w ≡ data_word_after B bs k a)
 
--- no durable word is above its cell's word. If the durable request of the last batch's owner is
--- still open, the batch's log is durable; the durable data cells are of the state at the durable
+-- no durable word is above its cell's word. While the durable request of a batch's owner opens the
+-- batch, the batch's log is durable. The durable data cells are of the state at the durable
 -- sequence or, while that transaction is open, of the state before
 pub record DurableWordsMatch (S : Setup) (B : TableStart) (ws : List ℕ) (bs : List Batch)
     : Type 0 where

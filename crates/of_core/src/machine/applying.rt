@@ -10,7 +10,7 @@ use of_cell::{pack, seq_of};
 use of_mem::Work;
 
 impl<W: Work> Machine<W> {
-    /// Goes on after the raise of the current-transaction word.
+    /// Goes on after the raise of the durable word of the current-transaction word.
     pub(super) fn after_raise_current(&mut self)
         requires at { self.old.call.place ≡ Place.RaiseCurrent }
         ensures { self.new ≡ step_from W.meaning Place.RaiseCurrent 0 self.old }
@@ -51,7 +51,7 @@ impl<W: Work> Machine<W> {
         self.place = Place::RaiseTarget(entry, found);
     }
 
-    /// Goes on after the raise of an entry's cell.
+    /// Goes on after the raise of the durable word of an entry's cell.
     pub(super) fn after_raise_target(&mut self, entry: u32, raised: u64)
         requires at { self.old.call.place ≡ RaiseTarget entry raised }
         ensures { self.new ≡ step_from W.meaning (RaiseTarget entry raised) 0 self.old }
@@ -72,8 +72,8 @@ impl<W: Work> Machine<W> {
         self.place = Place::RaiseClosed;
     }
 
-    /// Goes on after the raise of the closed request: a helper goes on with its try or round, and
-    /// an owner's call is answered.
+    /// Goes on after the raise of the durable word of the closed request: a helper goes on with its
+    /// try or round, and an owner's call is answered.
     pub(super) fn after_raise_closed(&mut self)
         requires some { IsTrue self.old.call.helps → 1 ≤ length self.old.call.op }
         ensures { self.new ≡ step_from W.meaning Place.RaiseClosed 0 self.old }
