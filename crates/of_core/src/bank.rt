@@ -143,8 +143,8 @@ impl<W: Work> Bank<W> {
     }
 
     /// A bank that starts from a durable row that recovery would not change. Each caller's machine
-    /// is idle, and counts the calls that the row's ticket cell of its caller counts. `limit` is
-    /// the last sequence that may be committed. The error is that there is no memory.
+    /// is idle, and has the number of calls that the caller's ticket cell has in the row. `limit`
+    /// is the last sequence that may be committed. The error is that there is no memory.
     pub fn start(
         alloc: Global,
         shape: Shape,
