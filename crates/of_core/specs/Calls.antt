@@ -51,13 +51,14 @@ outcome_of_turn (Ended o) = o ∷ []
 abbrev pub outcome_of_step : (before now : CallState) → List Outcome
 outcome_of_step m d = outcome_of_turn (turn_of m d)
 
--- how a call ends if its machine is lost: it does if the new machine has no call open
+-- how a call ends whose machine is lost and replaced: as lost, if the call was open and the new
+-- machine has no open call; a list of one outcome, or of none
 abbrev pub outcome_of_loss : (committed : ℕ) → (was_idle now_idle : Bool) → List Outcome
 outcome_of_loss s true now_idle = []
 outcome_of_loss s false true = Lost s ∷ []
 outcome_of_loss s false false = []
 
--- how an event has ended a call of caller i
+-- how an event has ended a call of caller i: a list of one outcome, or of none
 abbrev pub outcome_of_event : Setup → Moment → Event → ℕ → List Outcome
 outcome_of_event S w (Begins j op) i = []
 outcome_of_event S w (Turns j) i =
@@ -74,7 +75,8 @@ abbrev pub outcomes : Setup → Moment → List Event → ℕ → List Outcome
 outcomes S w [] i = []
 outcomes S w (e ∷ es) i = outcome_of_event S w e i ++ outcomes S (after_event S w e) es i
 
--- if the event is a turn of caller i, a call of it is open; and it doesn't replace its machine
+-- if the event is a turn of caller i, the caller has an open call; and the event does not replace
+-- the caller's machine
 abbrev pub TurnFindsOpenCall : Moment → Event → ℕ → Type 0
 TurnFindsOpenCall w (Begins j op) i = Unit {0}
 TurnFindsOpenCall w (Turns j) i = i ≡ j → IsOpen (machine_in w i).place
@@ -83,13 +85,13 @@ TurnFindsOpenCall w (Evicts k) i = Unit {0}
 TurnFindsOpenCall w (Raises c) i = Unit {0}
 TurnFindsOpenCall w (Revives j made) i = i ≡ j → ⊥
 
--- every turn of caller i comes while a call of it is open, and its machine is never replaced
+-- at every turn of caller i the caller has an open call, and its machine is never replaced
 abbrev pub TurnsFindOpenCalls : Setup → Moment → List Event → ℕ → Type 0
 TurnsFindOpenCalls S w [] i = Unit {0}
 TurnsFindOpenCalls S w (e ∷ es) i =
     TurnFindsOpenCall w e i × TurnsFindOpenCalls S (after_event S w e) es i
 
--- the steps of an answered call; a spent or a lost one has none
+-- how many steps an answered call has made; 0 for a spent or a lost call
 abbrev pub outcome_steps : Outcome → ℕ
 outcome_steps (Answered s announced raw steps) = steps
 outcome_steps (Spent s) = 0
@@ -100,39 +102,41 @@ abbrev pub total_steps : List Outcome → ℕ
 total_steps [] = 0
 total_steps (o ∷ os) = outcome_steps o + total_steps os
 
+-- the outcome is an answer: the call is neither spent nor lost
 abbrev pub IsAnswered : Outcome → Type 0
 IsAnswered (Answered s announced raw steps) = Unit {0}
 IsAnswered (Spent s) = ⊥
 IsAnswered (Lost s) = ⊥
 
--- none of them is spent or lost
+-- none of the outcomes is spent or lost: each is an answer
 abbrev pub NoneSpent : List Outcome → Type 0
 NoneSpent [] = Unit {0}
 NoneSpent (o ∷ os) = IsAnswered o × NoneSpent os
 
--- the sequence of an outcome
+-- the sequence that an outcome names
 abbrev pub outcome_seq : Outcome → ℕ
 outcome_seq (Answered s announced raw steps) = s
 outcome_seq (Spent s) = s
 outcome_seq (Lost s) = s
 
--- an outcome is not before a sequence: an announced call's answer is above it, and any other
--- outcome is not below it
+-- the outcome is not before the sequence `low`: the sequence of an announced call's answer is above
+-- `low`, and the sequence of any other outcome is at least `low`
 abbrev pub IsNotBefore : ℕ → Outcome → Type 0
 IsNotBefore low (Answered s true raw steps) = low < s
 IsNotBefore low (Answered s false raw steps) = low ≤ s
 IsNotBefore low (Spent s) = low ≤ s
 IsNotBefore low (Lost s) = low ≤ s
 
--- an outcome that no call has
+-- the outcome that stands for a place beyond the end of a list of outcomes
 abbrev pub no_outcome : Outcome
 no_outcome = Spent 0
 
--- the last of the outcomes, or this one if there is none
+-- the last of the outcomes, or `before` if the list is empty
 abbrev pub last_outcome_or : Option Outcome → List Outcome → Option Outcome
 last_outcome_or before [] = before
 last_outcome_or before (o ∷ os) = last_outcome_or (Some o) os
 
+-- the last of the outcomes, or None if the list is empty
 abbrev pub last_outcome : List Outcome → Option Outcome
 last_outcome os = last_outcome_or None os
 
@@ -140,7 +144,8 @@ last_outcome os = last_outcome_or None os
 abbrev pub HasNotRun : TableStart → Moment → (i ticket : ℕ) → Type 0
 HasNotRun B w i ticket = EachCall B w.batches (IsOlderCall i ticket)
 
--- the calls of caller i up to this ticket are in batches up to s, and its later calls in later ones
+-- of the calls of caller i that are in batches, those up to this ticket are in batches up to s, and
+-- those with higher tickets are in later batches
 abbrev pub IsSplitAt : TableStart → Moment → (i ticket s : ℕ) → Type 0
 IsSplitAt B w i ticket s = (k : ℕ) → B.seq < k → k ≤ B.seq + length w.batches
     → All (λ (c : Call). c.caller ≡ i → (c.ticket ≤ ticket → k ≤ s) × (k ≤ s → c.ticket ≤ ticket))
@@ -151,10 +156,10 @@ abbrev pub HasRead : List Read → (i ticket : ℕ) → (op : List ℕ) → RawR
 HasRead rs i ticket op raw s = (k : ℕ) × (k < length rs)
     × (get_or rs k no_read ≡ record { caller = i; ticket = ticket; op = op; raw = raw; seq = s })
 
--- the history of this moment has the outcome of the call of caller i with this ticket and
--- operation: a batch, or a read, has the call, with at least the steps that it must make; or the
--- sequence is spent, and no batch has it; or its machine was lost when the last batch was s, and no
--- later batch has it
+-- the history of this moment agrees with the outcome of the call of caller i with this ticket and
+-- operation. An answered call is in batch s or is a read, s is durable, and its steps are at least
+-- those that it must make and at most the bound. A spent call is in no batch, and s is the limit. A
+-- lost call is in no batch after s, and a later call of the caller in none up to s
 abbrev pub OutcomeStands : Setup → TableStart → Moment → (i ticket : ℕ) → (op : List ℕ) → Outcome
     → Type 0
 OutcomeStands S B w i ticket op (Answered s true raw steps) =
@@ -169,14 +174,15 @@ OutcomeStands S B w i ticket op (Spent s) =
 OutcomeStands S B w i ticket op (Lost s) =
     (s ≤ B.seq + length w.batches) × IsSplitAt B w i ticket s
 
--- if the read is caller i's, it is how one of the caller's calls has ended
+-- if the read is caller i's, it is the unannounced answer of one of the calls that the caller has
+-- begun after its first `before` calls
 abbrev pub IsOutcome : (before i : ℕ) → List (List ℕ) → List Outcome → Read → Type 0
 IsOutcome before i ops outs r = r.caller ≡ i → (x : ℕ) × (steps : ℕ) × (x < length outs)
     × (r.ticket ≡ before + x + 1) × (r.op ≡ get_or ops x [])
     × (get_or outs x no_outcome ≡ Answered r.seq false r.raw steps)
 
--- if the call c is caller i's, the caller has begun it, with these words, after its first `before`
--- calls
+-- if the call c is caller i's, the caller has begun it after its first `before` calls, and `ops`
+-- has its operation
 abbrev pub WasBegun : (before i : ℕ) → List (List ℕ) → Call → Type 0
 WasBegun before i ops c = c.caller ≡ i
     → (before < c.ticket) × (c.ticket ≤ before + length ops)
@@ -210,7 +216,7 @@ pub record HasCalls (S : Setup) (B : TableStart) (before : ℕ) (w : Moment) (i 
       → ReadsFrom (outcome_seq (get_or outs x no_outcome)) (machine_in w i)
   -- each of the caller's reads in the history is an outcome
   pub reads : All (IsOutcome before i ops outs) w.reads
-  -- each of the caller's calls in a batch was begun by the caller, with these words
+  -- each of the caller's calls in a batch is one that the caller has begun, with the same operation
   pub calls : EachCall B w.batches (WasBegun before i ops)
 
 -- the turns of caller i among the events are the steps of its calls

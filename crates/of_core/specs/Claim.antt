@@ -39,7 +39,8 @@ knows_state RaiseRequest = true
 knows_state ExchangeCurrent = true
 knows_state p = false
 
--- what was loaded of the own cells of caller i, for its answer, is of this state
+-- at `LoadShape` and `LoadReply`: what the machine m of caller i has loaded from the caller's own
+-- cells is what this state has there
 abbrev pub OwnCellsAreOfState : Setup → (state_after : List ℕ) → (i : ℕ) → CallState → Place
     → Type 0
 OwnCellsAreOfState S st i m LoadShape = FindsOwnTicket S st i m
@@ -147,11 +148,11 @@ pub record IsSound (S : Setup) (B : TableStart) (w : Moment) : Type 0 where
   -- the owner of each batch is a caller
   pub owners : (k : ℕ) → B.seq < k → k ≤ B.seq + length w.batches
       → (batch_at B w.batches k).owner < S.callers
-  -- the current-transaction word counts the batches, and the table's data cells are those of the
-  -- last state, or, while its transaction is open, of the one before
+  -- the current-transaction word counts the batches. Each data cell is of the last state; while the
+  -- last transaction is open, it may still be of the state before
   pub count : committed_seq w.words ≡ B.seq + length w.batches
   pub data_cells : DataCellsMatchState S B w.words w.batches
-  -- no durable word is above its cell's, and each is one that its cell has held
+  -- no durable word is above its cell's word, and each may have been held by its cell
   pub low : (c : ℕ) → c < cell_count S → durable_word S w.words c ≤ get_or w.words c 0
   pub held : (c : ℕ) → c < cell_count S → HasHeld S B w.words w.batches c (durable_word S w.words c)
   -- each round and each try has used the cells of only one state

@@ -71,9 +71,10 @@ GivenUp S Lawful = EachStep S Lawful (λ B w i m n.
     announces_at m.place ≡ false → begins_at (take_word S m n).place ≡ true → IsOpen m.place
     → m.seq < last_batch B w)
 
--- What a call has lost while this many batches were committed: at most one try and one round for
--- each, so it has begun at most one try and one round more. A call that only reads has begun a
--- round, and so was announced, only after as many commits as there may be tries.
+-- What a call may have lost while `commits` batches were committed. Each commit loses it at most
+-- one try and one round, so it has begun at most one try and one round more than there were
+-- commits. A call that only reads has begun a round only after as many commits as a call may make
+-- tries.
 pub record HasLost (S : Setup) (m : CallState) (commits : ℕ) : Type 0 where
   pub tries : m.tries ≤ commits + 1
   pub rounds : m.rounds ≤ commits + 1

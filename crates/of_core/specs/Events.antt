@@ -13,11 +13,14 @@ use Rattle.of_core.specs.Remains.{remains_of, MayRevive, revived_machine, Counts
 
 -- what may happen to a table
 pub data Event : Type 0 where
-  -- a caller begins a call of this operation; a caller makes its next step
+  -- a caller begins a call of this operation
   Begins : ℕ → List ℕ → Event
+  -- a caller makes its next step
   Turns : ℕ → Event
-  -- a cell is loaded for an eviction, and then the loaded word is raised
+  -- a cell is loaded for an eviction
   Loads : ℕ → Event
+  -- the durable word of a cell is raised to a word that was loaded from the cell for an eviction:
+  -- the number is the index, from 0, among the words that were loaded so
   Evicts : ℕ → Event
   -- a whole eviction in one step: the durable word of a cell is raised to the word that the cell
   -- holds
@@ -49,9 +52,9 @@ after_event S w (Revives i made) = after_revival S i made w
 after_event S w (Turns i) =
     after_step S i (machine_in w i) (word_found S w.words (machine_in w i)) w
 
--- when an event may happen: a call begins only if none of the caller's is open, with at least one
--- word and at most as many as an operation may have; a machine may be lost at any step, and is
--- replaced only when its caller has nothing under way
+-- when an event may happen. A call begins only if its caller has no open call, with at least one
+-- word and at most as many as an operation may have. A machine is replaced only if its caller has
+-- nothing under way, and the new machine counts the same calls
 abbrev pub MayHappen : Setup → Moment → Event → Type 0
 MayHappen S w (Begins i op) =
     (i < S.callers) × ((machine_in w i).place ≡ Idle) × (1 ≤ length op) × (length op ≤ S.instrs)
@@ -116,7 +119,7 @@ turns_in_event i (Evicts k) = 0
 turns_in_event i (Raises c) = 0
 turns_in_event i (Revives j made) = 0
 
--- how many turns of caller i these events are
+-- how many of the events are turns of caller i
 abbrev pub turn_count : ℕ → List Event → ℕ
 turn_count i [] = 0
 turn_count i (e ∷ es) = turns_in_event i e + turn_count i es
@@ -130,7 +133,7 @@ ReplacesNone (Evicts k) = Unit {0}
 ReplacesNone (Raises c) = Unit {0}
 ReplacesNone (Revives j made) = ⊥
 
--- nor does any of these
+-- none of the events replaces a machine
 abbrev pub AllReplaceNone : List Event → Type 0
 AllReplaceNone [] = Unit {0}
 AllReplaceNone (e ∷ es) = ReplacesNone e × AllReplaceNone es

@@ -18,7 +18,8 @@ loads_current_at TryCurrent = true
 loads_current_at LoadCurrent = true
 loads_current_at p = false
 
--- the sequence that the machine's round, try or apply rests on; 0 if it has none
+-- the sequence that the machine's round or try goes by, or of the transaction that it applies:
+-- m.seq; 0 at a place before the load of the current-transaction word
 abbrev pub rests_on_seq_at : CallState → Place → ℕ
 rests_on_seq_at m Idle = 0
 rests_on_seq_at m TryCurrent = 0
@@ -27,8 +28,9 @@ rests_on_seq_at m StoreAnnouncement = 0
 rests_on_seq_at m LoadCurrent = 0
 rests_on_seq_at m p = m.seq
 
--- what is true of the outcome that a call's last step answers: it counts each of the call's steps,
--- and names no newer state than the machine rested on. An unannounced answer comes from a try
+-- what is true of the outcome of a call's last step, which machine m makes from place p: an answer
+-- counts all steps of the call, and its sequence is at most m.seq; an unannounced answer comes from
+-- a try. A spent call ends at the limit. No step ends a call as lost
 abbrev pub LastStepTells : Setup → CallState → Place → Option Outcome → Type 0
 LastStepTells S m p None = ⊥
 LastStepTells S m p (Some (Answered s false raw steps)) =
@@ -37,28 +39,33 @@ LastStepTells S m p (Some (Answered s true raw steps)) = (s ≤ m.seq) × (steps
 LastStepTells S m p (Some (Spent s)) = (s ≡ m.seq) × (s ≡ S.limit)
 LastStepTells S m p (Some (Lost s)) = ⊥
 
--- after the step the call is open and has made one step more, or it has ended with an answer
+-- after the step the call is still open and has made one step more, or, if `ended`, it has an
+-- outcome as `LastStepTells` says
 abbrev pub CountsStepOrEnds : Setup → CallState → Place → CallState → (ended : Bool) → Type 0
 CountsStepOrEnds S m p d true = LastStepTells S m p d.answer × (m.seq ≤ rests_on_seq_at m p)
 CountsStepOrEnds S m p d false = (d.steps ≡ m.steps + 1) × (d.answer ≡ m.answer)
 
+-- after the step, which leads from m to d, the call is still open and has made one step more, or it
+-- has an outcome as `LastStepTells` says
 abbrev pub CountsStep : Setup → CallState → Place → CallState → Type 0
 CountsStep S m p d = CountsStepOrEnds S m p d (is_idle d.place)
 
--- a step from the place p has found n, has led from the machine m to d, and has committed these
--- batches
+-- a step from the place p has found n, has led from the machine m to d, and has committed the
+-- batches `added`
 pub record IsStepAtPlace (S : Setup) (m : CallState) (n : ℕ) (p : Place) (d : CallState)
     (added : List Batch) : Type 0 where
   -- caller, number and operation of the call stay
   pub caller : d.caller ≡ m.caller
   pub made : d.made ≡ m.made
   pub op : d.op ≡ m.op
-  -- after a load of the current-transaction word the machine rests on what it found, and after any
-  -- other step on what it rested on before, or on the batch that the step commits
+  -- a load of the current-transaction word commits nothing, and the machine then goes by the
+  -- sequence that it found, or by an older one. After any other step it goes by no newer sequence
+  -- than before, or by that of the batch that the step commits
   pub loads : loads_current_at p ≡ true → (added ≡ []) × (rests_on_seq_at d d.place ≤ seq_of n)
   pub rests : loads_current_at p ≡ false
       → rests_on_seq_at d d.place ≤ rests_on_seq_at m p + length added
-  -- a batch that the step commits is the caller's
+  -- the step commits at most one batch, which is the caller's, by an exchange of the
+  -- current-transaction word that the round has loaded
   pub owner : All (λ (b : Batch). b.owner ≡ m.caller) added
   pub few : length added ≤ 1
   pub commits : 0 < length added → (p ≡ ExchangeCurrent) × (n ≡ pack m.seq m.owner)
@@ -84,9 +91,9 @@ ReadsFrom low m = HasBegunTry m m.place → low ≤ m.seq
 abbrev pub read_of_call : CallState → RawReply → (s : ℕ) → Read
 read_of_call m raw s = record { caller = m.caller; ticket = m.made; op = m.op; raw = raw; seq = s }
 
--- what is true of the outcome of a call's last step, which leads from m to d: it names no newer
--- state than m rested on, and counts the call's steps. An unannounced answer is a read of the
--- history, of no older state than the try reads
+-- what is true of the outcome of a call's last step, which leads from m to d: its sequence is no
+-- newer than the one that m goes by (`rests_on_seq`), and an answer counts all steps of the call.
+-- An unannounced answer is a read of the history, of no older state than the try reads
 abbrev pub TellsOutcome : Setup → CallState → CallState → Outcome → Type 0
 TellsOutcome S m d (Answered s true raw steps) =
     (s ≤ rests_on_seq m) × (steps ≡ m.steps + 1) × (step_reads m d ≡ [])
@@ -97,28 +104,28 @@ TellsOutcome S m d (Spent s) = (s ≤ rests_on_seq m) × (s ≡ S.limit) × (ste
 TellsOutcome S m d (Lost s) = ⊥
 
 -- a step of an open call, at a moment that meets the invariant, has found n, has led from the
--- machine m to d, and has committed these batches
+-- machine m to d, and has committed the batches bs
 pub record IsStep (S : Setup) (B : TableStart) (w : Moment) (m : CallState) (n : ℕ) (d : CallState)
     (bs : List Batch) : Type 0 where
   -- caller, number and operation of the call stay
   pub caller : d.caller ≡ m.caller
   pub made : d.made ≡ m.made
   pub op : d.op ≡ m.op
-  -- a load of the current-transaction word finds the last batch, and the machine then rests on no
-  -- newer one
+  -- a load of the current-transaction word finds the sequence of the last batch, and commits
+  -- nothing; the machine's round or try then goes by this sequence or an older one (`rests_on_seq`)
   pub finds_last : loads_current m ≡ true
       → (seq_of n ≡ B.seq + length w.batches) × (bs ≡ []) × (rests_on_seq d ≤ seq_of n)
-  -- after any other step the machine rests on what it rested on before, or on the batch that the
-  -- step commits
+  -- after any other step the machine goes by no newer sequence than before, or by that of the batch
+  -- that the step commits
   pub rests_on : loads_current m ≡ false → rests_on_seq d ≤ rests_on_seq m + length bs
   -- after the step, a try reads the same state as before, or it has begun at the last batch
   pub reads_from : (low : ℕ) → low ≤ B.seq + length w.batches → ReadsFrom low m → ReadsFrom low d
-  -- a step commits at most one batch, which is the caller's, and only if the machine rests on the
-  -- last batch
+  -- a step commits at most one batch, which is the caller's, and only if the machine goes by the
+  -- sequence of the last batch
   pub few : length bs ≤ 1
   pub owner : All (λ (b : Batch). b.owner ≡ m.caller) bs
   pub commits : 0 < length bs → rests_on_seq m ≡ B.seq + length w.batches
-  -- the call stays open and has made one step more, or it has ended with an answer
+  -- the call stays open and has made one step more, or it has ended with an outcome
   pub goes_on : IsOpen d.place
       → (d.steps ≡ m.steps + 1) × (d.answer ≡ m.answer) × (step_reads m d ≡ [])
   pub ends : d.place ≡ Idle → (o : Outcome) × (d.answer ≡ Some o) × TellsOutcome S m d o

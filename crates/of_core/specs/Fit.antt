@@ -72,7 +72,8 @@ pub record FitsSizes (many size : ℕ) (S : Setup) (m : CallState) : Type 0 wher
   pub known : length m.known ≡ S.cells
   pub place : FitsPlace S m m.place
 
--- whether the place is one of a scan, where the batch's writes lie over what is known
+-- whether the place is one of a scan, where a run sees the known cells with the writes of the batch
+-- so far
 abbrev pub is_scanning : Place → Bool
 is_scanning LoadOwnTicket = true
 is_scanning LoadAnnouncement = true
@@ -81,7 +82,8 @@ is_scanning (LoadScript j) = true
 is_scanning (LoadCell a) = true
 is_scanning p = false
 
--- whether the place is one of a try's run, where nothing lies over what is known
+-- whether the place is `TryCell`, where a try runs its operation; a run sees the known cells there
+-- as they were loaded, with no writes of a batch
 abbrev pub is_reading : Place → Bool
 is_reading (TryCell a) = true
 is_reading p = false
@@ -90,7 +92,8 @@ is_reading p = false
 abbrev pub IsEmptyWithRoom : {A G : Type 0} → ℕ → Vec A G → Type 0
 IsEmptyWithRoom n v = (v.items ≡ []) × (n ≤ vec_capacity v)
 
--- the room that the machine's parts have, and what lies over the known cells
+-- the room that the machine's lists have, and the writes that a run sees over the known cells:
+-- those of the log in a scan, and none in a try
 pub record HasRoomInParts (S : Setup) (m : CallState) (logs words scripts copies runs : ℕ)
     (batch script : List (ℕ × ℕ)) : Type 0 where
   pub log : logs ≡ S.cells

@@ -37,7 +37,8 @@ pub record Touches (m : CallState) (longest most : ℕ) : Type 0 where
   -- the cells that are known, and the one that is loaded next
   pub cells : knowns m.known + next_load m.place ≤ most
 
--- caller i's machine touches no more than this now and after each of the events
+-- now and after each of the events, caller i's machine touches no more than `longest` and `most`
+-- allow (`Touches`)
 abbrev pub TouchesOnly : Setup → Moment → List Event → (i longest most : ℕ) → Type 0
 TouchesOnly S w [] i longest most = Touches (machine_in w i) longest most
 TouchesOnly S w (e ∷ es) i longest most =

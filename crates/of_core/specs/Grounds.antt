@@ -27,7 +27,8 @@ pub record HasGrounds (S : Setup) (Lawful : List ℕ → Type 0) (B : TableStart
   pub cells : S.cells < PAYLOADS
   pub own_in : first_operation_cell S ≤ S.cells
 
--- each moment that meets the invariant has these grounds
+-- each moment that meets the invariant has grounds: a start that a table may have, lawful states,
+-- and sizes that fit (`HasGrounds`)
 abbrev pub GoodGrounds : Setup → (List ℕ → Type 0) → Type 0
 GoodGrounds S Lawful =
     (B : TableStart) (w : Moment) → MeetsInvariant S Lawful B w → HasGrounds S Lawful B w

@@ -11,9 +11,10 @@ use Rattle.of_core.specs.Rounds.{AnnouncesNothingNew}
 use Rattle.of_core.specs.Scan.{IsAnnouncedCall}
 use Rattle.of_core.specs.Invariant.{MeetsCore}
 
--- What others may rely on after a step of machine i led from these words and batches to those: what
--- was there stays, a new batch is i's and of calls that are announced, and a word of another
--- machine changes only by closing the last batch's request.
+-- What other machines may rely on after a step of machine i, from words ws and batches bs to words
+-- vs and batches cs. Earlier batches and states stay, and a new batch is caller i's and has only
+-- announced calls. Another caller's log words and announcement stay, and its request changes only
+-- if the step closes the last batch's request.
 pub record Guarantees (S : Setup) (B : TableStart) (i : ℕ) (ws : List ℕ) (bs : List Batch)
     (vs : List ℕ) (cs : List Batch) : Type 0 where
   -- if the last sequence stays, its owner stays too
@@ -23,8 +24,8 @@ pub record Guarantees (S : Setup) (B : TableStart) (i : ℕ) (ws : List ℕ) (bs
   pub batches : (k : ℕ) → B.seq < k → k ≤ committed_seq ws → batch_at B cs k ≡ batch_at B bs k
   -- nothing is committed above the limit
   pub limit : committed_seq vs ≤ S.limit
-  -- each call of a new batch is one that its caller announces; the batch changes no ticket cells
-  -- but those of such callers, to the announced tickets
+  -- each call of a new batch is one that its caller announces; the batch leaves each ticket cell as
+  -- it was, or raises it to the ticket that its caller announces
   pub newer : (k : ℕ) → committed_seq ws < k → k ≤ committed_seq vs
       → All (λ (c : Call). IsAnnouncedCall S ws c × (length c.op ≤ S.instrs))
       (batch_at B cs k).calls
@@ -36,8 +37,8 @@ pub record Guarantees (S : Setup) (B : TableStart) (i : ℕ) (ws : List ℕ) (bs
   -- a new batch records the announcements of the moment at which it was committed
   pub snapshot : (k j : ℕ) → committed_seq ws < k → k ≤ committed_seq vs → j < S.callers
       → (batch_at B cs k).announcements j ≡ announcement_of S ws j
-  -- a caller's script words and announcement change only if the caller is i, and what it announced
-  -- is done
+  -- a script word or an announcement changes only if its caller is i, and the call that i announced
+  -- was run or the limit is reached
   pub script_of : (j x : ℕ) → j < S.callers → x < S.instrs + 1
       → (script_word S vs j x ≡ script_word S ws j x) ⊎ ((j ≡ i) × AnnouncesNothingNew S B ws bs j)
   -- if i's announcement changes, no batch has recorded the new one

@@ -40,11 +40,11 @@ EachBatch B bs P = (k : ℕ) → B.seq < k → k ≤ B.seq + length bs → P (ba
 abbrev pub EachCall : TableStart → List Batch → (Call → Type 0) → Type 0
 EachCall B bs P = EachBatch B bs (All P)
 
--- if the call is caller i's, its ticket is below this one
+-- if the call is caller i's, its ticket is below `ticket`
 abbrev pub IsOlderCall : (i ticket : ℕ) → Call → Type 0
 IsOlderCall i ticket c = c.caller ≡ i → c.ticket < ticket
 
--- a data word after batch k
+-- the word of the data cell a after batch k
 abbrev pub data_word_after : TableStart → List Batch → ℕ → ℕ → ℕ
 data_word_after B bs k a = get_or (state_after B bs k) a 0
 

@@ -123,8 +123,8 @@ GoesBlindly S m =
     IsRaise (want S m) × ((n k : ℕ) → take_word S m n ≡ take_word S m k)
     × ((ws : List ℕ) (n : ℕ) → step_batches S ws m n ≡ [])
 
--- a machine goes on in the same way whatever a step on a durable word finds: that step is a raise,
--- and commits nothing
+-- a machine goes on in the same way whatever its step on a durable word finds: each such step is a
+-- raise, and commits nothing
 abbrev pub StepBlind : Setup → (List ℕ → Type 0) → Type 0
 StepBlind S Lawful = EachMachine S Lawful (λ B w i m.
     ((c : ℕ) → c < cell_count S → word_of (want S m) ≡ durable_at S c → ⊥) ⊎ GoesBlindly S m)
@@ -141,8 +141,8 @@ NewCallsWereOpen S Lawful = EachStep S Lawful (λ B w i m n.
     (k : ℕ) → B.seq + length w.batches < k → k ≤ B.seq + length (after_step S i m n w).batches
     → All (IsOpenCall w) (batch_at B (after_step S i m n w).batches k).calls)
 
--- to begin a call keeps the invariant; the new call rests on no sequence yet, and is in no try that
--- has loaded a word
+-- to begin a call keeps the invariant; the new call goes by no sequence yet (`rests_on_seq` is 0),
+-- and has loaded no current-transaction word in a try
 abbrev pub BeginsKeepInvariant : Setup → (List ℕ → Type 0) → Type 0
 BeginsKeepInvariant S Lawful =
     EachBegin S Lawful (λ B w i d op. MeetsInvariant S Lawful B (after_begin S i d op w)
@@ -181,8 +181,8 @@ WordsBehindAreFree S Lawful = EachBeside S Lawful (λ B w c v.
     × ((e : ℕ × ℕ) → IsLoaded S B w.words w.batches e
     → IsLoaded S B (set w.words c v) w.batches e))
 
--- a table at its start, with idle machines, meets the invariant, and an idle machine rests on no
--- sequence
+-- a table at its start, with idle machines, meets the invariant, and an idle machine goes by no
+-- sequence (`rests_on_seq` is 0)
 abbrev pub StartsMeetInvariant : Setup → (List ℕ → Type 0) → Type 0
 StartsMeetInvariant S Lawful =
     EachStart S Lawful (λ B n. MeetsInvariant S Lawful B (opening_moment S B n)
@@ -196,20 +196,21 @@ InvariantIsSound S Lawful =
 
 -- The calls of one caller, step by step.
 
--- from w to v caller i begins the calls `more`, and its calls end with the outcomes `ended`
+-- between the moments w and v caller i begins calls of the operations `more`, and its calls end
+-- with the outcomes `ended`
 abbrev pub GainsCalls : Setup → TableStart → (i : ℕ)
     → List (List ℕ) → List Outcome → (w v : Moment) → Type 0
 GainsCalls S B i more ended w v =
     (before : ℕ) (ops : List (List ℕ)) (outs : List Outcome)
     → HasCalls S B before w i ops outs → HasCalls S B before v i (ops ++ more) (outs ++ ended)
 
--- from w to v the calls of caller i stay as they are
+-- between the moments w and v caller i begins no call, and no call of it ends
 abbrev pub KeepsCalls : Setup → TableStart → (i : ℕ) → (w v : Moment) → Type 0
 KeepsCalls S B i w v =
     (before : ℕ) (ops : List (List ℕ)) (outs : List Outcome)
     → HasCalls S B before w i ops outs → HasCalls S B before v i ops outs
 
--- from w to v the calls of all callers but i stay as they are
+-- between the moments w and v no caller but i begins a call, and no call of another caller ends
 abbrev pub KeepsOthersCalls : Setup → TableStart → (i : ℕ) → (w v : Moment) → Type 0
 KeepsOthersCalls S B i w v = (j : ℕ) → j < S.callers → (i ≡ j → ⊥) → KeepsCalls S B j w v
 
@@ -274,7 +275,8 @@ DurablesWereHeld S Lawful = EachSchedule S Lawful (λ B n es.
     let w : Moment = opening_moment S B n in
     (c : ℕ) → c < cell_count S → HasStood S w es c (durable_word S (after_events S w es).words c))
 
--- every schedule from every start leaves each caller's calls as its events begin and end them
+-- after every schedule from every start, each caller has the calls that the events have begun, with
+-- the outcomes by which the events have ended them
 abbrev pub EveryCallStands : Setup → (List ℕ → Type 0) → Type 0
 EveryCallStands S Lawful = EachSchedule S Lawful (λ B n es.
     let w : Moment = opening_moment S B n in
@@ -304,15 +306,15 @@ EveryOrder S Lawful =
     EachSchedule S Lawful (λ B n es. IsDurablyLinearizable S B (opening_moment S B n) es)
 
 -- every schedule is detectable: what recovery finds shows each caller whether its last call took
--- effect. It shows this by each order that linearizes the schedule and that recovery finds
+-- effect. This holds by each order that linearizes the schedule and leads to what recovery finds
 abbrev pub Detectable : Setup → (List ℕ → Type 0) → Type 0
 Detectable S Lawful = EachSchedule S Lawful (λ B n es.
     let w : Moment = opening_moment S B n in
     (order : List Call) → Linearizes S B w es order → IsRecovered S B (after_events S w es) order
     → (i : ℕ) → i < S.callers → IsDetectable S B w es order i)
 
--- if a call of any caller begins after another call has ended, its outcome is not before the
--- other's
+-- if call y of caller j begins after call x of caller i has ended, and ends too, its outcome is not
+-- before the sequence that the outcome of call x names (`IsNotBefore`)
 abbrev pub RealTime : Setup → (List ℕ → Type 0) → Type 0
 RealTime S Lawful = EachSchedule S Lawful (λ B n es.
     let w : Moment = opening_moment S B n in
@@ -321,8 +323,8 @@ RealTime S Lawful = EachSchedule S Lawful (λ B n es.
     → IsNotBefore (outcome_seq (get_or (outcomes S w es i) x no_outcome))
     (get_or (outcomes S w es j) y no_outcome))
 
--- if a call has ended after the first k events, then each call that has not begun by then, and that
--- is in a batch at all, is in a later batch than the ended call's sequence
+-- if call x of caller i has ended after the first k events, then a call that has not begun after
+-- these events is in no batch up to the sequence that the outcome of call x names
 abbrev pub LateCalls : Setup → (List ℕ → Type 0) → Type 0
 LateCalls S Lawful = EachSchedule S Lawful (λ B n es.
     let w : Moment = opening_moment S B n in
@@ -343,8 +345,8 @@ abbrev pub EveryLife : Setup → (List ℕ → Type 0) → Type 0
 EveryLife S Lawful = EachStart S Lawful (λ B n.
     (lives : List (List Event)) → AreScheduleLives S n B lives → AreDurablyLinearizable S n B lives)
 
--- a call that stays open has made fewer steps than the bound, so its last step comes in time; and
--- it never begins a fourth round
+-- if a call stays open through a schedule, its steps before the schedule and its turns in the
+-- schedule are together fewer than the bound; and the call never begins a fourth round
 abbrev pub CallsEndInTime : Setup → (List ℕ → Type 0) → Type 0
 CallsEndInTime S Lawful =
     (B : TableStart) (w : Moment) → MeetsInvariant S Lawful B w
@@ -355,8 +357,8 @@ CallsEndInTime S Lawful =
 
 -- Starts.
 
--- the n words hold a start: its current-transaction word and its data words, the same durably, and
--- 0 after the durable words
+-- the n words hold the start B: its current-transaction word and its data words, for each cell a
+-- durable word that is equal to the cell's word, and 0 after the durable words
 pub record HoldsStart (S : Setup) (B : TableStart) (ws : List ℕ) (n : ℕ) : Type 0 where
   pub long : length ws ≡ n
   pub current : get_or ws 0 0 ≡ pack B.seq B.owner
@@ -440,12 +442,13 @@ TurnsKeepIdle =
     (S : Setup) (m : CallState) (n : ℕ) → m.place ≡ Idle
     → (take_word S m n ≡ m) × (step_reads m m ≡ [])
 
--- an idle machine rests on no sequence, and is in no try
+-- an idle machine goes by no sequence (`rests_on_seq` is 0), and is in no try
 abbrev pub IdleRestsOnNothing : Type 0
 IdleRestsOnNothing =
     (m : CallState) → m.place ≡ Idle → (rests_on_seq m ≡ 0) × ((low : ℕ) → ReadsFrom low m)
 
--- the word of the table that a machine's next step is on is what the step finds
+-- a machine's next step finds the word that `word_found` gives: the table's word that the step is
+-- on
 abbrev pub StepsFindTheirWord : Type 0
 StepsFindTheirWord =
     (S : Setup) (ws : List ℕ) (m : CallState) → IsFoundBy (want S m) ws (word_found S ws m)
@@ -457,7 +460,7 @@ TurnsAreSteps = (S : Setup) (w : Moment) (i n : ℕ) → IsFoundBy (want S (mach
 
 -- Histories by themselves.
 
--- the state at the start's sequence is that of the start
+-- the state at the start's sequence is the start's cells, whatever batches follow
 abbrev pub FirstStateIsStart : Type 0
 FirstStateIsStart = (B : TableStart) (bs : List Batch) → state_after B bs B.seq ≡ B.cells
 
@@ -471,21 +474,22 @@ abbrev pub NextBatchIsNumberedNext : Type 0
 NextBatchIsNumberedNext = (B : TableStart) (bs : List Batch) (b : Batch) (k : ℕ)
     → k ≡ B.seq + length bs + 1 → batch_at B (bs ++ b ∷ []) k ≡ b
 
--- a longer history has the same batches, as far as the shorter one goes
+-- if batches are added to a history, its earlier batches keep their numbers
 abbrev pub LongerKeepsBatches : Type 0
 LongerKeepsBatches = (B : TableStart) (bs cs : List Batch) (k : ℕ)
     → B.seq < k → k ≤ B.seq + length bs → batch_at B (bs ++ cs) k ≡ batch_at B bs k
 
--- a longer history has the same states, as far as the shorter one goes
+-- if batches are added to a history, the states after its earlier batches stay the same
 abbrev pub LongerKeepsStates : Type 0
 LongerKeepsStates = (B : TableStart) (bs cs : List Batch) (k : ℕ)
     → k ≤ B.seq + length bs → state_after B (bs ++ cs) k ≡ state_after B bs k
 
--- the first n batches of a history keep their numbers without the later ones
+-- the first n batches of a history have the same numbers if the later batches are left out
 abbrev pub PrefixKeepsBatches : Type 0
 PrefixKeepsBatches = (B : TableStart) (bs : List Batch) (n k : ℕ)
     → B.seq < k → k ≤ B.seq + n → batch_at B (take n bs) k ≡ batch_at B bs k
 
+-- the states after the first n batches of a history are the same if the later batches are left out
 abbrev pub PrefixKeepsStates : Type 0
 PrefixKeepsStates = (B : TableStart) (bs : List Batch) (n k : ℕ)
     → k ≤ B.seq + n → state_after B (take n bs) k ≡ state_after B bs k

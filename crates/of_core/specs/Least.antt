@@ -18,8 +18,8 @@ least_of (Gives es r) = 2
 abbrev pub least_read : Setup → List ℕ → ℕ
 least_read S op = least_of (S.meaning.walk (no_cell_known S) op)
 
--- the least steps of an announced call: its words, the announcement, the two loads of a round, its
--- ticket and its shape
+-- the least steps of an announced call: the stores of its words and of the announcement, the two
+-- loads with which a round begins, and the loads of the ticket cell and of the reply's shape
 abbrev pub least_call : List ℕ → ℕ
 least_call op = length op + 5
 

@@ -12,18 +12,20 @@ use Rattle.of_core.specs.Table.{Setup}
 -- a call as it was run, with its reply
 pub record Call : Type 0 where
   pub caller : ℕ
-  -- the number of the call among its caller's
+  -- the number of the call among the calls of its caller
   pub ticket : ℕ
   -- the operation, as words
   pub op : List ℕ
   pub raw : RawReply
 
+-- the call that stands for a place beyond the end of a list of calls
 abbrev pub no_call : Call
 no_call = record { caller = 0; ticket = 0; op = []; raw = record { shape = 0; values = [] } }
 
+-- the state of a caller's machine: its open or last call, and what the machine has loaded and kept
 pub record CallState : Type 0 where
   pub caller : ℕ
-  -- how many calls were begun, and the last one's operation
+  -- how many calls the caller has begun, and the operation of its last call
   pub made : ℕ
   pub op : List ℕ
   pub place : Place
@@ -38,14 +40,15 @@ pub record CallState : Type 0 where
   -- the log words that a helper has loaded, and whether it helps
   pub copy : List ℕ
   pub helps : Bool
-  -- the reply of one's own call, and how the last call ended
+  -- the reply of the machine's own call, and how its last call ended
   pub raw : RawReply
   pub answer : Option Outcome
-  -- the word to which the durable word of one's own request was last raised by the call, or 0
+  -- the word to which the call last raised the durable word of its caller's request; 0 if the call
+  -- has not raised it
   pub kept : ℕ
   -- the steps that the open call has made
   pub steps : ℕ
-  -- how many rounds the call has begun, and the sequence at which the first began
+  -- how many rounds the call has begun, and the sequence at which its first round began
   pub rounds : ℕ
   pub first : ℕ
   -- how many tries the call has begun
@@ -62,6 +65,7 @@ abbrev pub is_idle : Place → Bool
 is_idle Idle = true
 is_idle p = false
 
+-- a call is open at this place
 abbrev pub IsOpen : Place → Type 0
 IsOpen p = is_idle p ≡ false
 
@@ -69,6 +73,7 @@ IsOpen p = is_idle p ≡ false
 abbrev pub log_entry : CallState → ℕ → ℕ × ℕ
 log_entry m j = get_or m.log j (0, 0)
 
+-- the machine that stands for a place beyond the end of a list of machines
 abbrev pub no_machine : CallState
 no_machine = record {
   caller = 0;
@@ -94,7 +99,7 @@ no_machine = record {
   calls = [];
 }
 
--- nothing is known of any cell
+-- what is known before any load: no cell
 abbrev pub no_cell_known : Setup → List (Option ℕ)
 no_cell_known S = replicate S.cells None
 
@@ -129,20 +134,24 @@ begin_call S m op = record (idle_machine S m.caller m.made) {
   place = first_place (S.meaning.reads_only op);
 }
 
--- The words of a log: the number of its entries, and then cell and number of each.
+-- the cell and the number of each entry, one entry after the other
 abbrev pub flat_entries : List (ℕ × ℕ) → List ℕ
 flat_entries [] = []
 flat_entries (e ∷ es) = e.0 ∷ e.1 ∷ flat_entries es
 
+-- the words of a log: the number of its entries, and then the cell and the number of each entry
 abbrev pub log_words : List (ℕ × ℕ) → List ℕ
 log_words es = length es ∷ flat_entries es
 
--- the entries that these words are: a cell and a number each
+-- the entries that the words stand for: of each two words the first is a cell, and the second its
+-- number
 abbrev pub entries_of_words : List ℕ → List (ℕ × ℕ)
 entries_of_words [] = []
 entries_of_words (a ∷ []) = []
 entries_of_words (a ∷ v ∷ ws) = (a, v) ∷ entries_of_words ws
 
+-- the entries of the log with these words; the first word, which is the number of entries, is left
+-- out
 abbrev pub log_of : List ℕ → List (ℕ × ℕ)
 log_of [] = []
 log_of (n ∷ ws) = entries_of_words ws

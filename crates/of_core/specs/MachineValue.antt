@@ -9,6 +9,7 @@ use Rattle.of_core.specs.Table.{Setup, setup_of}
 use Rattle.of_core.specs.Machine.{CallState}
 use Rattle.of_core.specs.Steps.{want_at, take_word_at}
 
+-- what contracts see of a machine
 pub record Machine (X : Type 0) : Type 0 where
   -- what runs operations
   pub work : X
@@ -16,7 +17,7 @@ pub record Machine (X : Type 0) : Type 0 where
   pub callers : ℕ
   pub cells : ℕ
   pub limit : ℕ
-  -- what the machine holds
+  -- the state of the machine's call
   pub call : CallState
 
 -- what a machine has in common with all machines of its table; the first argument gives the meaning
@@ -24,7 +25,8 @@ pub record Machine (X : Type 0) : Type 0 where
 abbrev pub machine_setup : {X : Type 0} → (X → Meaning) → Machine X → Setup
 machine_setup meaning m = setup_of m.callers m.cells m.limit (meaning m.work)
 
--- the machine after its step from the place p found this number, if it has counted the step already
+-- the machine after its step from the place p, which has found this number; the step is counted
+-- already
 abbrev pub step_from : {X : Type 0} → (X → Meaning) → Place → (found : ℕ) → Machine X → Machine X
 step_from meaning p found m =
     record m { call = take_word_at (machine_setup meaning m) m.call found p }
@@ -34,7 +36,7 @@ abbrev pub machine_after : {X : Type 0} → (X → Meaning) → (Setup → CallS
     → Machine X → Machine X
 machine_after meaning next m = record m { call = next (machine_setup meaning m) m.call }
 
--- the step that the machine asks for at the place p
+-- the step that the machine makes next if it is at the place p
 abbrev pub op_at : {X : Type 0} → (X → Meaning) → Place → Machine X → Op
 op_at meaning p m = want_at (machine_setup meaning m) m.call p
 

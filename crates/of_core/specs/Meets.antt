@@ -8,6 +8,8 @@ use Rattle.of_core.specs.Steps.{want, IsFoundBy}
 use Rattle.of_core.specs.TableMoment.{Moment, TableStart}
 use Rattle.of_core.specs.Invariant.{MeetsInvariant}
 
+-- at some moment that meets the invariant, m is the machine of a caller, and its next step finds
+-- the word `found`
 pub record MayTake (S : Setup) (Lawful : List ℕ → Type 0) (m : CallState) (found : ℕ) : Type 0 where
   pub start : TableStart
   pub world : Moment

@@ -21,7 +21,8 @@ NeedsCell S m (TryCell a) = S.meaning.walk m.known m.op ≡ Needs a
 NeedsCell S m (LoadCell a) = S.meaning.walk (overlaid m.known m.log) m.script ≡ Needs a
 NeedsCell S m p = Unit {0}
 
--- at every moment of every schedule, each caller that is about to load a cell for a run needs it
+-- at every moment of every schedule, if a machine is about to load a cell for a run, the run needs
+-- that cell (`NeedsCell`)
 abbrev pub LoadsNeeded : Setup → (List ℕ → Type 0) → Type 0
 LoadsNeeded S Lawful = EachSchedule S Lawful (λ B n es.
     let w : Moment = after_events S (opening_moment S B n) es in

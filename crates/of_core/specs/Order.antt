@@ -19,6 +19,7 @@ pub record IsRead (S : Setup) (B : TableStart) (bs : List Batch) (d : ℕ) (r : 
   pub only : S.meaning.reads_only r.op ≡ true
   pub reply : S.meaning.reply (numbers_after B bs r.seq) r.op ≡ r.raw
 
+-- the read that stands for a place beyond the end of a list of reads
 abbrev pub no_read : Read
 no_read =
     record { caller = 0; ticket = 0; op = []; raw = record { shape = 0; values = [] }; seq = 0 }
@@ -68,6 +69,8 @@ abbrev pub WasMadeBefore : CallState → Read → (idle : Bool) → Type 0
 WasMadeBefore m r true = r.ticket ≤ m.made
 WasMadeBefore m r false = r.ticket < m.made
 
+-- the read was made before the machine's open call or, if the place is Idle, no later than the
+-- machine's last call
 abbrev pub IsOlder : CallState → Place → Read → Type 0
 IsOlder m p r = WasMadeBefore m r (is_idle p)
 
@@ -80,8 +83,8 @@ pub record HasOnlyOlderCalls (S : Setup) (B : TableStart) (ws : List ℕ) (bs : 
   pub still : HasBegunTry m p
       → last_ticket_by S B bs m.seq i ≡ last_ticket_by S B bs (committed_seq ws) i
 
--- the calls of each caller are in order at this moment, and each machine has what it needs to keep
--- them so
+-- the calls of each caller are in order at this moment, and the answered reads of each machine's
+-- caller are older than its open call (`HasOnlyOlderCalls`)
 pub record KeepsCallOrder (S : Setup) (B : TableStart) (w : Moment) : Type 0 where
   pub ordered : AreInCallOrder S B w.words w.batches w.reads
   pub behind : (i : ℕ) (m : CallState) → i < S.callers → get_or w.machines i m ≡ m

@@ -113,7 +113,7 @@ module _ (S : Setup) (B : TableStart) (ws : List ℕ) (bs : List Batch) (i : ℕ
         → x < length (log_words (batch_at B bs m.seq).log)
     pub in_log : x < 2 * most_entries S + 1
 
-  -- LookAgain: if the transaction is still open, its whole log is copied
+  -- LookAgain: if the transaction is still open, the copy has its whole log
   pub record IsLookingAgain : Type 0 where
     pub copies : IsCopyingLog S B ws bs i m (length m.copy)
     pub whole : request_of ws m.owner ≡ pack m.seq 0
@@ -134,8 +134,8 @@ module _ (S : Setup) (B : TableStart) (ws : List ℕ) (bs : List Batch) (i : ℕ
     pub calm : HasNothingUnderWay S B ws bs i m.seq
     pub finds : FindsOwnTicket S (state_after B bs m.seq) i m
 
-  -- LoadReply j: the shape of the reply is loaded, and the numbers below j that it marks; it marks
-  -- j too
+  -- LoadReply j: the shape of the reply is loaded, and so are the numbers below j that the shape
+  -- marks; the shape marks j too
   pub record IsLoadingReply (j : ℕ) : Type 0 where
     pub looks : IsPastRequest S B ws bs i m
     pub calm : HasNothingUnderWay S B ws bs i m.seq
@@ -207,8 +207,8 @@ module _ (S : Setup) (B : TableStart) (ws : List ℕ) (bs : List Batch) (i : ℕ
     pub more : j < length m.log
     pub durable : m.seq ≤ durable_seq S ws
 
-  -- ExchangeTarget j f: the cell of entry j held f, which is older than the transaction. It still
-  -- holds f, or it is no older than the transaction now
+  -- ExchangeTarget j f: the cell of entry j held f, which is older than the transaction. The cell
+  -- still holds f, or its word is no older than the transaction now
   pub record IsExchangingTarget (j f : ℕ) : Type 0 where
     pub entry : IsAtEntry j
     pub older : seq_of f < m.seq

@@ -37,8 +37,8 @@ pending_among x c v (e ∷ es) = one_if (is_pending x c v e) + pending_among x c
 abbrev pub pending : Setup → Moment → (c v : ℕ) → ℕ
 pending S w c v = pending_among (durable_word S w.words c) c v w.loaded
 
--- While a caller is about to raise a durable word to v, no call changes that word to one that is
--- still below v. An eviction that has loaded its word before does it at most once.
+-- While a caller is about to raise a durable word to v, no call changes the durable word to another
+-- one below v. Only evictions may, at most once for each word that they have loaded before.
 abbrev pub RaisesAreShort : Setup → (List ℕ → Type 0) → Type 0
 RaisesAreShort S Lawful =
     (B : TableStart) (w : Moment) → MeetsInvariant S Lawful B w
@@ -46,9 +46,9 @@ RaisesAreShort S Lawful =
     → want S (machine_in w i) ≡ Raise (durable_at S c) v
     → (es : List Event) → IsSchedule S w es → lower_changes S w es c v ≤ pending S w c v
 
--- While an eviction is about to raise a durable word to the word e.1, no call changes that word to
--- one that is still below e.1. Another eviction that has loaded its word before does it at most
--- once.
+-- While an eviction is about to raise a durable word to the word e.1, no call changes the durable
+-- word to another one below e.1. Only other evictions may, at most once for each word that they
+-- have loaded before.
 abbrev pub EvictionsAreShort : Setup → (List ℕ → Type 0) → Type 0
 EvictionsAreShort S Lawful =
     (B : TableStart) (w : Moment) → MeetsInvariant S Lawful B w
@@ -64,8 +64,8 @@ RaisesHeld S Lawful =
     → v ≤ get_or w.words c 0
 
 -- In schedules from a start, as long as no machine is replaced, a cell changes only if its durable
--- word is at least its word. So of all the words that a cell has held, only the present one may not
--- be durable. A machine that was lost may leave a log word that is not durable.
+-- word is at least the word that the cell holds. So of all the words that a cell has held, only the
+-- present one may not be durable. A machine that was lost may leave a log word that is not durable.
 abbrev pub CellsLevel : Setup → (List ℕ → Type 0) → Type 0
 CellsLevel S Lawful = EachSchedule S Lawful (λ B n es. AllReplaceNone es →
     let w : Moment = after_events S (opening_moment S B n) es in

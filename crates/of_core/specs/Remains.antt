@@ -1,5 +1,5 @@
 -- What a table's words say about a caller whose machine is lost: when a new machine may take its
--- place, and how that one begins.
+-- place, and how the new machine begins.
 use Rattle.std.specs.Prelude.{ℕ, ◌+◌, max, nat_lt, List, Bool, true, false, ◌≡◌, ◌≤◌, ◌<◌}
 use Rattle.std.proofs.Common.{set, take}
 use Rattle.of_cell.specs.Words.{pack, seq_of, payload_of}
@@ -53,15 +53,16 @@ revived_if S r i made true = record (idle_machine S i (seq_of r.announcement)) {
 }
 revived_if S r i made false = idle_machine S i (max made (payload_of r.ticket))
 
--- the new machine of caller i, as these words of the table decide
+-- the new machine of caller i, made from the words of the table that `Remains` has
 abbrev pub revived_machine : Setup → Remains → (i made : ℕ) → CallState
 revived_machine S r i made = revived_if S r i made (announces_open_call r)
 
--- the new machine counts the same calls as the lost one, and has none open that had ended
+-- the new machine has begun as many calls as the lost one, and has an open call only if the lost
+-- one had an open call
 abbrev pub CountsOn : (lost now : CallState) → Type 0
 CountsOn m d = (d.made ≡ m.made) × (IsOpen d.place → IsOpen m.place)
 
--- the moment after a new machine has taken the place of caller i's
+-- the moment after a new machine has taken the place of caller i's machine
 abbrev pub after_revival : Setup → (i made : ℕ) → Moment → Moment
 after_revival S i made w = record w {
   machines = set w.machines i (revived_machine S (remains_of S w.words i) i made);

@@ -49,7 +49,8 @@ OpenCallsCountReads S Lawful = EachRevival S Lawful (λ B w i made.
     announces_open_call (remains_of S w.words i) ≡ true → committed_seq w.words < S.limit
     → CountsReads S w i made)
 
--- below the limit a new machine that is given the lost one's number counts on
+-- below the limit, a new machine that is given the number of calls of the lost one has begun as
+-- many calls, and has an open call only if the lost one had an open call
 abbrev pub RevivalsCountOn : Setup → (List ℕ → Type 0) → Type 0
 RevivalsCountOn S Lawful = EachRevival S Lawful (λ B w i made.
     let m : CallState = machine_in w i in
@@ -66,19 +67,21 @@ RevivalsMissNoCall S Lawful = EachRevival S Lawful (λ B w i made.
     × (announces_open_call (remains_of S w.words i) ≡ true
     → (IsLastOpen B w.words → ⊥) → ran < ticket))
 
--- a new machine changes no other caller's calls
+-- a new machine whose number of calls is large enough for its caller's answered reads changes no
+-- other caller's calls
 abbrev pub RevivalsKeepOthers : Setup → (List ℕ → Type 0) → Type 0
 RevivalsKeepOthers S Lawful = EachRevival S Lawful (λ B w i made.
     CountsReads S w i made → KeepsOthersCalls S B i w (after_revival S i made w))
 
--- a machine that may be replaced still may be after each step of another caller
+-- if the machine of a caller may be replaced, it may still be replaced after each step of another
+-- caller
 abbrev pub StepsLeaveRevivable : Setup → (List ℕ → Type 0) → Type 0
 StepsLeaveRevivable S Lawful = EachStep S Lawful (λ B w j m n.
     (i : ℕ) → i < S.callers → (i ≡ j → ⊥) → MayRevive (remains_of S w.words i) i
     → MayRevive (remains_of S (after_step S j m n w).words i) i)
 
--- a machine that may be replaced still may be after each raise of a word that was loaded for an
--- eviction
+-- if the machine of a caller may be replaced, it may still be replaced after an eviction raises a
+-- word that was loaded before
 abbrev pub RaisesLeaveRevivable : Setup → (List ℕ → Type 0) → Type 0
 RaisesLeaveRevivable S Lawful = EachLoaded S Lawful (λ B w e.
     (i : ℕ) → i < S.callers → MayRevive (remains_of S w.words i) i

@@ -25,13 +25,14 @@ HasOneOperation B ws bs i t op =
     (k : ℕ) → B.seq < k → k ≤ committed_seq ws
     → All (λ (c : Call). c.caller ≡ i → c.ticket ≡ t → c.op ≡ op) (batch_at B bs k).calls
 
--- m is before its first round or between two: it has begun at most two, and at least as many
--- batches were committed since the first began
+-- m is before its first round or between two rounds. It has begun at most two rounds, and since the
+-- first one began, at least as many batches were committed as rounds were begun
 pub record IsBetweenRounds (ws : List ℕ) (m : CallState) : Type 0 where
   pub few : m.rounds ≤ 2
   pub later : 1 ≤ m.rounds → m.first + m.rounds ≤ committed_seq ws
 
--- m has loaded the ticket cell of caller i in the state st, and it has the ticket of m's call
+-- m has loaded the ticket cell of caller i as it is in the state st, and this cell has the ticket
+-- of m's call
 pub record FindsOwnTicket (S : Setup) (st : List ℕ) (i : ℕ) (m : CallState) : Type 0 where
   pub heard : m.heard ≡ get_or st (ticket_cell S i) 0
   pub there : payload_of m.heard ≡ m.made
@@ -47,7 +48,7 @@ pub record HasReadReplyUpTo (S : Setup) (st : List ℕ) (i : ℕ) (m : CallState
   pub many : length m.raw.values ≡ S.instrs
 
 module _ (S : Setup) (B : TableStart) (ws : List ℕ) (bs : List Batch) where
-  -- what caller i announces was run, or the limit is reached
+  -- the call that caller i announces was run, or the limit is reached
   abbrev pub AnnouncesNothingNew : ℕ → Type 0
   AnnouncesNothingNew i =
       (seq_of (announcement_of S ws i) ≤ last_ticket_by S B bs (committed_seq ws) i)
@@ -68,13 +69,14 @@ module _ (S : Setup) (B : TableStart) (ws : List ℕ) (bs : List Batch) where
     pub words : length m.op ≤ S.instrs
     pub some : 1 ≤ length m.op
     pub kept : KnowsOwnRequest B ws bs i m.kept
-    -- no batch has run the call: its ticket is above its caller's in the history
+    -- no batch has run the call: its ticket is above the ticket of its caller's last call that was
+    -- run
     pub above : last_ticket_by S B bs (committed_seq ws) i < m.made
-    -- what the caller announces is not to be run any more
+    -- the call that the caller announces was run, or the limit is reached
     pub quieted : AnnouncesNothingNew i
     -- the caller's ticket cell shows its last call that was run
     pub settled : HasSettledCells i
-    -- what the caller announces is an older call
+    -- the call that the caller announces is older than the open call
     pub newer : seq_of (announcement_of S ws i) < m.made
     pub rounds : m.rounds ≡ 0
 
@@ -93,7 +95,7 @@ module _ (S : Setup) (B : TableStart) (ws : List ℕ) (bs : List Batch) where
     pub upto : last_ticket_by S B bs (committed_seq ws) i ≤ m.made
     -- the call was not run before the start
     pub beyond : last_ticket_by S B bs B.seq i < m.made
-    -- if the call is in a batch, it is there with these words
+    -- if the call is in a batch, it has the same operation there
     pub mine : HasOneOperation B ws bs i m.made m.op
     -- the call was announced before its first round, so its announcement was there when each later
     -- batch was committed
@@ -120,7 +122,7 @@ module _ (S : Setup) (B : TableStart) (ws : List ℕ) (bs : List Batch) where
     pub begun : IsAnnounced i m
     -- m.seq and m.owner are what the round has loaded of the current-transaction word
     pub current_word : WasCurrent m.seq m.owner
-    -- caller i has committed nothing since then
+    -- caller i has committed no batch after m.seq
     pub unowned : (k : ℕ) → m.seq < k → k ≤ committed_seq ws → (batch_at B bs k).owner ≡ i → ⊥
     -- each round of the call is at a later sequence than the round before
     pub later : m.first + m.rounds ≤ m.seq + 1

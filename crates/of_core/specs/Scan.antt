@@ -1,5 +1,5 @@
--- What the invariant says of a scan: the calls that were run are an overlay on the state of the
--- round.
+-- What the invariant says of a scan: which calls it has run, and that its log has what these calls
+-- write on the state of the round.
 use Rattle.std.specs.Prelude.{ℕ, ◌*◌, List, length, true, false, ◌≡◌, ◌≤◌, ◌<◌, ◌⊎◌}
 use Rattle.std.proofs.Common.{get_or}
 use Rattle.of_cell.specs.declared.word.TheConstants.{PAYLOADS}
@@ -50,8 +50,8 @@ pub record IsAnnouncedCall (S : Setup) (ws : List ℕ) (c : Call) : Type 0 where
   pub says : announcement_of S ws c.caller ≡ pack c.ticket (length c.op)
   pub script : script_words_of S ws c.caller (length c.op) ≡ c.op
 
--- a scan over the state st may have taken this call in: its ticket is newer than the caller's in
--- that state
+-- a scan on the state st may have run this call: the ticket is newer than the one in its caller's
+-- ticket cell in this state, and the operation has no more words than an operation may have
 pub record WasTakenByScan (S : Setup) (st : List ℕ) (c : Call) : Type 0 where
   pub caller : c.caller < S.callers
   pub above : ticket_in_state S st c.caller < c.ticket

@@ -20,7 +20,8 @@ pub record IsSpentInRound (S : Setup) (w : Moment) (i : ℕ) (m : CallState) (s 
   -- the call's announcement is on the table
   pub says : announcement_of S w.words i ≡ pack m.made (length m.op)
 
--- a step that ends a call as spent is the look for the call's ticket in a round
+-- a step that ends a call as spent is the load of the caller's own ticket cell, in one of the
+-- call's rounds
 abbrev pub SpentInRounds : Setup → (List ℕ → Type 0) → Type 0
 SpentInRounds S Lawful = EachStep S Lawful (λ B w i m n.
     (s : ℕ) → IsOpen m.place → (take_word S m n).place ≡ Idle

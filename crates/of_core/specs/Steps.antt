@@ -1,5 +1,5 @@
--- The order of steps: what a machine asks for at each place, and how it goes on with the word that
--- was found.
+-- The order of steps: which step a machine makes at each place, and how it goes on with the word
+-- that the step found.
 use Rattle.std.specs.Prelude.{◌≡◌, ◌<◌, ℕ, ◌+◌, ◌*◌, ◌==◌, nat_lt, max, ◌-◌, List, [], ◌∷◌, ◌++◌, length, Option, Some, None, Bool, true, false, if◌then◌else◌, ◌&&◌}
 use Rattle.std.proofs.Common.{get_or, set, replicate, zero, suc}
 use Rattle.of_core.specs.declared.machine.trying.TheConstants.{MOST_TRIES}
@@ -16,7 +16,7 @@ use Rattle.of_core.specs.declared.place.Outcome.TheVariants.{Answered, Spent}
 use Rattle.of_core.specs.Table.{Setup, words_before_members, request_at, data_at, log_at, durable_at, script_word_at, ticket_cell, shape_cell, reply_cell}
 use Rattle.of_core.specs.Machine.{Call, CallState, log_entry, log_words, log_of, entries_going_round, no_cell_known, with_cell_known, own_cells}
 
--- the step that the machine m asks for at a place
+-- the step that the machine m makes next if it is at this place
 abbrev pub want_at : Setup → CallState → Place → Op
 want_at S m Idle = Load 0
 want_at S m TryCurrent = Load 0
@@ -53,7 +53,7 @@ want_at S m (RaiseTarget j found) = Raise (durable_at S (data_at S (log_entry m 
 want_at S m CloseRequest = Exchange (request_at m.owner) (pack m.seq 0) (pack m.seq 1)
 want_at S m RaiseClosed = Raise (durable_at S (request_at m.owner)) (pack m.seq 1)
 
--- the step that the machine asks for next
+-- the step that the machine makes next
 unfoldable pub want : Setup → CallState → Op
 want S m = want_at S m m.place
 
@@ -75,6 +75,7 @@ word_left (Store c v) found = v
 word_left (Exchange c old new) found = if found == old then new else found
 word_left (Raise c v) found = max found v
 
+-- the words of the table after the step
 abbrev pub words_after : Op → List ℕ → List ℕ
 words_after o ws = set ws (word_of o) (word_left o (get_or ws (word_of o) 0))
 
@@ -85,11 +86,12 @@ IsFoundBy (Store c v) ws n = Unit {0}
 IsFoundBy (Exchange c old new) ws n = n ≡ get_or ws c 0
 IsFoundBy (Raise c v) ws n = n ≡ get_or ws c 0
 
+-- the word of the table that the machine's next step is on, as the step finds it
 abbrev pub word_found : Setup → List ℕ → CallState → ℕ
 word_found S ws m = get_or ws (word_of (want S m)) 0
 
--- Announcing. After the store of a script word comes the next one, or after the last one the
--- announcement.
+-- Announcing. After the store of a script word comes the store of the next script word, or, after
+-- the last one, the store of the announcement.
 abbrev pub after_store_script : CallState → ℕ → (more : Bool) → CallState
 after_store_script m j true = record m { place = StoreScript (j + 1) }
 after_store_script m j false = record m { place = StoreAnnouncement }
@@ -104,11 +106,12 @@ after_read_run m (Gives es r) =
 abbrev pub read_on : Setup → CallState → CallState
 read_on S m = after_read_run m (S.meaning.walk m.known m.op)
 
--- a try begins its run, after the look at the request or after the help
+-- a try begins its run, after the load of the owner's request or after the help
 abbrev pub begin_reading : Setup → CallState → CallState
 begin_reading S m = read_on S (record m { known = no_cell_known S; helps = false })
 
--- a try that met a newer cell is over: another try begins, or after the last one the announcement
+-- a try that has met a newer cell is over: the next try begins if there may be `more` tries, and
+-- otherwise the call is announced
 abbrev pub end_try : CallState → (more : Bool) → CallState
 end_try m true = record m { place = TryCurrent }
 end_try m false = record m { place = StoreScript 0 }
@@ -125,16 +128,17 @@ abbrev pub after_try_request : Setup → CallState → (opened : Bool) → CallS
 after_try_request S m true = record m { place = CopyLog 0; copy = []; helps = true }
 after_try_request S m false = begin_reading S m
 
--- A round. Each begins at the load of the current-transaction word.
+-- A round. Each round begins at the load of the current-transaction word.
 abbrev pub next_round : CallState → CallState
 next_round m = record m { place = LoadCurrent }
 
+-- the sequence at which the call's first round began: s, if the round at s is the first
 abbrev pub first_round_seq : CallState → ℕ → (none_yet : Bool) → ℕ
 first_round_seq m s true = s
 first_round_seq m s false = m.first
 
--- a round goes on after the look at the request, or after the help: to load the own ticket cell
--- comes next
+-- after the load of the owner's request, or after the help, a round goes on with the load of the
+-- caller's own ticket cell
 abbrev pub enter : Setup → CallState → CallState
 enter S m = record m {
   place = LoadOwnTicket;
@@ -153,7 +157,7 @@ abbrev pub after_load_request : Setup → CallState → (opened : Bool) → Call
 after_load_request S m true = record m { place = CopyLog 0; copy = []; helps = true }
 after_load_request S m false = enter S m
 
--- Helping. The copy of the owner's log words gets one word more, as it was found.
+-- Helping. The log words copied so far, and after them the payload of the log word that was found.
 abbrev pub with_log_word_copied : CallState → ℕ → List ℕ
 with_log_word_copied m found = m.copy ++ payload_of found ∷ []
 
@@ -169,8 +173,8 @@ after_look_again S m true in_try = record m {
 }
 after_look_again S m false in_try = resume S m in_try
 
--- One's own ticket. If the ticket cell doesn't have the call, and the limit is reached, the call
--- ends as spent.
+-- The caller's own ticket. If the ticket cell doesn't have the call's ticket, and the limit is
+-- reached, the call ends as spent.
 abbrev pub end_spent : CallState → CallState
 end_spent m = record m { place = Idle; answer = Some (Spent m.seq); steps = 0 }
 
@@ -226,8 +230,8 @@ after_load_reply S m j found false =
     next_reply_place (with_reply m j found)
     (first_marked_place m.raw.shape (j + 1) (S.instrs - j - 1))
 
--- The scan. After a caller comes the next caller's announcement, or after the last one the raise of
--- the old request, with which the log begins.
+-- The scan. After a caller comes the load of the next caller's announcement, or, after the last
+-- caller, the raise of the old request, which comes before the stores of the log.
 abbrev pub place_behind : (more : Bool) → Place
 place_behind true = LoadAnnouncement
 place_behind false = RaiseOld
@@ -288,8 +292,8 @@ abbrev pub after_load_cell : Setup → CallState → (a found : ℕ) → (newer 
 after_load_cell S m a found true = next_round m
 after_load_cell S m a found false = run_script S (record m { known = with_cell_known S m a found })
 
--- The log. After the raise of a log word comes the next one, or after the last one the store of the
--- request.
+-- The log. After the raise of a log word comes the store of the next log word, or, after the last
+-- one, the store of the request.
 abbrev pub after_raise_log : CallState → ℕ → (more : Bool) → CallState
 after_raise_log m x true = record m { place = StoreLog (x + 1) }
 after_raise_log m x false = record m { place = StoreRequest }
@@ -324,7 +328,8 @@ after_raise_closed S m false in_try = record m {
   steps = 0;
 }
 
--- the machine after its step from this place found this number, if it has counted the step already
+-- the machine after its step from this place, which has found this number; the step is counted
+-- already
 abbrev pub take_word_at : Setup → CallState → (found : ℕ) → Place → CallState
 take_word_at S m found Idle = m
 take_word_at S m found TryCurrent = record m {
@@ -380,6 +385,6 @@ abbrev pub with_step_counted : Place → CallState → CallState
 with_step_counted Idle m = m
 with_step_counted p m = record m { steps = m.steps + 1 }
 
--- the machine after its next step found this number
+-- the machine after its next step, which has found this number
 unfoldable pub take_word : Setup → CallState → (found : ℕ) → CallState
 take_word S m found = take_word_at S (with_step_counted m.place m) found m.place

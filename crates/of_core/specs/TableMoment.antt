@@ -16,9 +16,9 @@ pub record Batch : Type 0 where
   pub owner : ℕ
   -- the write-set, in order of first writing
   pub log : List (ℕ × ℕ)
-  -- the calls that it runs, by caller
+  -- the calls that the batch runs, by caller
   pub calls : List Call
-  -- the announcements at the moment when it was committed
+  -- the announcements at the moment when the batch was committed
   pub announcements : ℕ → ℕ
 
 -- a call that was answered without being announced: it read the state at this sequence
@@ -29,8 +29,8 @@ pub record Read : Type 0 where
   pub raw : RawReply
   pub seq : ℕ
 
--- the words, each caller's machine, and the history: the batches in order, and beside them the
--- reads in the order of their answers
+-- the words, each caller's machine, and the history: the batches in order, and the reads in the
+-- order of their answers
 pub record Moment : Type 0 where
   pub words : List ℕ
   pub machines : List CallState
@@ -70,7 +70,8 @@ read_of d (Some (Answered s true raw n)) = []
 read_of d (Some (Spent s)) = []
 read_of d (Some (Lost s)) = []
 
--- the read that a step has answered: only a call's last step may answer one
+-- the read that a step has answered, if it has led to the machine d: a list of one read, or of
+-- none; only a call's last step may answer a read
 abbrev pub step_reads_if : CallState → (was_idle now_idle : Bool) → List Read
 step_reads_if d true now_idle = []
 step_reads_if d false true = read_of d d.answer
@@ -80,7 +81,8 @@ step_reads_if d false false = []
 abbrev pub step_reads_at : CallState → Place → List Read
 step_reads_at d p = step_reads_if d (is_idle p) (is_idle d.place)
 
--- what the machine's next step commits
+-- the batches that the machine's next step commits if it finds `found`: a list of one batch, or of
+-- none
 unfoldable pub step_batches : Setup → List ℕ → CallState → ℕ → List Batch
 step_batches S ws m found = step_batches_at S ws m found m.place
 

@@ -14,12 +14,12 @@ use Rattle.of_core.specs.Laws.{EachSchedule}
 abbrev pub longest_log : Setup → (writes : ℕ) → ℕ
 longest_log S writes = S.callers * (writes + (S.instrs + 2))
 
--- the most data cells that one try or round loads: one's own ticket, and of each caller the ticket
--- and what its operation reads
+-- the most data cells that one try or round loads: the caller's own ticket cell, and for each
+-- caller the ticket cell and the cells that its operation reads
 abbrev pub most_loads : Setup → (reads : ℕ) → ℕ
 most_loads S reads = S.callers * (reads + 1) + 1
 
--- the most tries of a call: one that may write makes none
+-- the most tries of a call that only reads; 0 for a call that may write
 abbrev pub most_tries : (reads_only : Bool) → ℕ
 most_tries true = MOST_TRIES
 most_tries false = 0

@@ -1,5 +1,6 @@
--- What the invariant says of one's own log and request, and of a transaction that is copied or
--- applied. The words are ws, the history is bs, from the start B, and m is the machine of caller i.
+-- What the invariant says of a machine's own log and request, and of a transaction that is copied
+-- or applied. The words are ws, the history is bs, from the start B, and m is the machine of caller
+-- i.
 use Rattle.std.specs.Prelude.{ℕ, ◌+◌, ◌*◌, List, length, Bool, true, false, ◌≡◌, ◌≤◌, ◌<◌, ◌⊎◌}
 use Rattle.std.proofs.Common.{get_or, take}
 use Rattle.of_cell.specs.Words.{pack, seq_of}
@@ -10,7 +11,7 @@ use Rattle.of_core.specs.History.{batch_at, last_ticket_by, HasCall}
 use Rattle.of_core.specs.Rounds.{WasCurrent, MayHelp, IsPastOwnTicket, HasNothingUnderWay}
 use Rattle.of_core.specs.Scan.{HasScannedUpTo}
 
--- the second list has the entries of the first, in some order
+-- the two lists have the same length and the same entries, in any order
 pub record IsReorderingOf (es ds : List (ℕ × ℕ)) : Type 0 where
   pub many : length ds ≡ length es
   pub each : (j : ℕ) → j < length ds
@@ -36,7 +37,7 @@ module _ (S : Setup) (B : TableStart) (ws : List ℕ) (bs : List Batch) (i : ℕ
     pub unowned : (k : ℕ) → m.seq < k → k ≤ committed_seq ws → (batch_at B bs k).owner ≡ i → ⊥
     pub logs : (y : ℕ) → y < 2 * most_entries S + 1 → seq_of (log_word_of S ws i y) ≤ m.seq
 
-  -- m helps in a round or a try, and its caller has nothing of its own under way
+  -- m helps in a round or a try, and caller i has nothing under way itself
   pub record IsHelping (m : CallState) : Type 0 where
     pub helper : MayHelp S B ws bs i m
     pub current_word : WasCurrent S B ws bs m.seq m.owner
@@ -83,8 +84,9 @@ module _ (S : Setup) (B : TableStart) (ws : List ℕ) (bs : List Batch) (i : ℕ
   HasClosedDurably = (k : ℕ) → B.seq < k → k ≤ committed_seq ws
       → (batch_at B bs k).owner ≡ i → pack k 0 < durable_request S ws i
 
-  -- m has stored x words of its log, z of them durably, and its caller's request is still the old
-  -- one, which is durable and closes all of its batches
+  -- m has stored the first x words of its log, of which the first z are durable. Its caller's
+  -- request is still the old one, which is durable and closes all batches that the caller has
+  -- committed
   pub record IsStoringLog (m : CallState) (x z : ℕ) : Type 0 where
     pub stored : HasStoredLog m x z
     pub own : seq_of (request_of ws i) ≤ m.seq

@@ -22,7 +22,7 @@ pub record IsLog (S : Setup) (es : List (ℕ × ℕ)) : Type 0 where
   pub once : HasDistinctCells es
   pub few : length es ≤ most_entries S
 
--- the words are those of a possible log
+-- the words `copy` are the log words of a possible log
 abbrev pub AreLogWords : Setup → List ℕ → Type 0
 AreLogWords S copy = (es : List (ℕ × ℕ)) × (copy ≡ log_words es) × IsLog S es
 
@@ -40,7 +40,7 @@ pub record MayStart (S : Setup) (Lawful : List ℕ → Type 0) (B : TableStart) 
 
 -- the current-transaction word counts the batches, and names the owner of the last one
 pub record CountsBatches (S : Setup) (B : TableStart) (ws : List ℕ) (bs : List Batch) : Type 0 where
-  -- the last sequence counts the batches from the start on
+  -- the last sequence is the start's sequence plus the number of batches
   pub count : committed_seq ws ≡ B.seq + length bs
   -- the last sequence is at most the limit
   pub limit : committed_seq ws ≤ S.limit
@@ -89,8 +89,9 @@ abbrev pub WasHeldByCell : TableStart → List ℕ → List Batch → ℕ → �
 WasHeldByCell B ws bs a w =
     (k : ℕ) × (B.seq ≤ k) × (k ≤ committed_seq ws) × (w ≡ data_word_after B bs k a)
 
--- the durable words: none is above its cell's word. If the last transaction is open, its log is
--- durable; otherwise the durable data cells are of its state
+-- no durable word is above its cell's word. While the durable request of a batch's owner opens the
+-- batch, the batch's log is durable. The durable data cells are of the state at the durable
+-- sequence or, while that transaction is open, of the state before
 pub record DurableWordsMatch (S : Setup) (B : TableStart) (ws : List ℕ) (bs : List Batch)
     : Type 0 where
   -- no durable word is above its cell's
@@ -127,8 +128,8 @@ pub record DurableWordsMatch (S : Setup) (B : TableStart) (ws : List ℕ) (bs : 
       → get_or (log_words (batch_at B bs k).log) x 0 ≡ v
       → (log_word_of S ws i x ≡ pack k v) × (durable_log S ws i x ≡ pack k v)
 
--- the state after each batch is lawful, and the calls of the batch lead to it from the state
--- before. The own cells of each caller hold its last call
+-- the state after each batch is lawful, and the calls of the batch lead from the state before the
+-- batch to the state after it. The own cells of each caller hold its last call
 pub record StatesFollowBatches (S : Setup) (Lawful : List ℕ → Type 0) (B : TableStart)
     (bs : List Batch) : Type 0 where
   -- each state is lawful
@@ -185,7 +186,8 @@ pub record AnnouncementsAreServed (S : Setup) (B : TableStart) (ws : List ℕ) (
   pub reached : (i : ℕ) → i < S.callers
       → last_ticket_by S B bs (committed_seq ws) i
       ≤ max (last_ticket_by S B bs B.seq i) (seq_of (announcement_of S ws i))
-  -- a caller's log has no more entries than there is room for, also if its round was lost
+  -- a caller's log has no more entries than there is room for, also if the round that stored the
+  -- log has not committed it
   pub counts : (i : ℕ) → i < S.callers → payload_of (log_word_of S ws i 0) ≤ most_entries S
 
 -- if the word w of caller j's request is newer than the start, it opens a transaction, or it closes
@@ -219,7 +221,8 @@ pub record WordsHaveTheirKind (S : Setup) (B : TableStart) (ws : List ℕ) (bs :
   -- a durable log word with the sequence of one of its caller's batches is that of the batch's log
   pub dur_logs : (j x : ℕ) → j < S.callers → x < 2 * most_entries S + 1
       → IsLogWord B ws bs j x (durable_log S ws j x)
-  -- each entry in a caller's log names a data cell, also if its round was lost
+  -- each entry in a caller's log names a data cell, also if the round that stored the log has not
+  -- committed it
   pub sized : (j y : ℕ) → j < S.callers → y < most_entries S
       → payload_of (log_word_of S ws j (2 * y + 1)) < S.cells
 

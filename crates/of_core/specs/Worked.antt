@@ -16,17 +16,20 @@ abbrev pub reply_with : List ℕ → RawReply
 reply_with vs =
     record { shape = 2 ^ length vs - 1; values = vs ++ replicate (MOST_INSTRS - length vs) 0 }
 
--- a walk that needs the cell a asks for it if it isn't known, and otherwise goes on with its number
+-- a walk that needs the cell a: if the cell isn't known, the walk ends and says that it needs a;
+-- otherwise it goes on by `next` with the cell's number
 abbrev pub known_or : ℕ → (ℕ → WalkEnd) → Option ℕ → WalkEnd
 known_or a next None = Needs a
 known_or a next (Some v) = next v
 
--- a walk that loads n cells from a on, and then ends with vs and their numbers
+-- a walk that loads the n cells from a on, and then ends as `end` says for vs with the numbers of
+-- these cells after it
 abbrev pub loaded_more : List (Option ℕ) → (a n : ℕ) → List ℕ → (List ℕ → WalkEnd) → WalkEnd
 loaded_more known a zero vs end = end vs
 loaded_more known a (suc n) vs end =
     known_or a (λ v. loaded_more known (a + 1) n (vs ++ v ∷ []) end) (get_or known a None)
 
+-- the numbers of the n cells from a on
 abbrev pub numbers_from : List ℕ → (a n : ℕ) → List ℕ
 numbers_from xs a zero = []
 numbers_from xs a (suc n) = get_or xs a 0 ∷ numbers_from xs (a + 1) n

@@ -15,7 +15,8 @@ use Rattle.of_core.specs.Invariant.{MeetsInvariant}
 use Rattle.of_core.specs.Events.{Event, IsSchedule, opening_moment, after_events}
 use Rattle.of_core.specs.Laws.{EachSchedule}
 
--- how the call c ran on the state, with the entries `before` over it
+-- a run of the call c on the state, with the numbers that the log `before` gives to cells in place
+-- of theirs
 pub record RunOf (S : Setup) (state : List ℕ) (before : List (ℕ × ℕ)) (c : Call) : Type 0 where
   -- the cells of the state that the run knew
   pub known : List (Option ℕ)
@@ -37,12 +38,14 @@ LeadTo S state before [] after = before ≡ after
 LeadTo S state before (c ∷ cs) after =
     (r : RunOf S state before c) × LeadTo S state (with_call S before r.writes c) cs after
 
--- the log is what the calls write, in order, and nothing besides; it has no cell twice
+-- the log has what the calls write, run in order, and their callers' own cells, and nothing else;
+-- it has no cell twice
 pub record IsLogOf (S : Setup) (state : List ℕ) (cs : List Call) (log : List (ℕ × ℕ)) : Type 0 where
   pub writes : LeadTo S state [] cs log
   pub is_log : IsLog S log
 
--- in every schedule from every start each batch's log is what its calls write on the state before
+-- in every schedule from every start, each batch's log is what its calls write on the state before
+-- the batch (`IsLogOf`)
 abbrev pub LogsAreWrites : Setup → (List ℕ → Type 0) → Type 0
 LogsAreWrites S Lawful = EachSchedule S Lawful (λ B n es.
     let bs : List Batch = (after_events S (opening_moment S B n) es).batches in

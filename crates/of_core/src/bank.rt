@@ -64,7 +64,8 @@ impl<W: Work> Model for Bank<W> {
     ghost invariant = { IsBank W.many W.size W.meaning W.lawful };
 }
 
-/// What a turn says of a call that was open before it.
+/// What a turn says of a call that was open before the turn: ended if there is an answer, and still
+/// open otherwise.
 fn turn_of_answer(answer: Option<Outcome>) -> Turn
     ensures { result ≡ turn_of_outcome answer }
 {
@@ -74,8 +75,8 @@ fn turn_of_answer(answer: Option<Outcome>) -> Turn
     }
 }
 
-/// How many calls a caller has made before the start that a row's first words are: the number of
-/// its ticket cell.
+/// How many calls a caller has made before a start with these first words: the number in the
+/// caller's ticket cell.
 fn start_ticket(shape: &Shape, words: &[u64], caller: u32) -> u32
     requires caller { caller < shape.now.callers }
     requires own { shape.now.callers * (MOST_INSTRS + 2) ≤ shape.now.cells }
@@ -87,8 +88,8 @@ fn start_ticket(shape: &Shape, words: &[u64], caller: u32) -> u32
     payload_of(words[shape.data_cell(ticket) as usize])
 }
 
-/// An idle machine for each caller, which has made the calls that the first words count. The error
-/// is that there is no memory.
+/// An idle machine for each caller. It counts the calls that the caller has made by the first
+/// words. The error is that there is no memory.
 fn idle_machines<W: Work>(
     alloc: Global,
     shape: Shape,
@@ -142,8 +143,8 @@ impl<W: Work> Bank<W> {
     }
 
     /// A bank that starts from a durable row that recovery would not change. Each caller's machine
-    /// is idle, and counts the calls that its caller has made by this row. `limit` is the last
-    /// sequence that may be committed. The error is that there is no memory.
+    /// is idle, and has the number of calls that the caller's ticket cell has in the row. `limit`
+    /// is the last sequence that may be committed. The error is that there is no memory.
     pub fn start(
         alloc: Global,
         shape: Shape,
@@ -172,8 +173,8 @@ impl<W: Work> Bank<W> {
         Ok(bank)
     }
 
-    /// A bank over these first words, with an idle machine for each caller. The error is that there
-    /// is no memory.
+    /// A bank whose table has these first words, with an idle machine for each caller. The error is
+    /// that there is no memory.
     fn over(
         alloc: Global,
         shape: Shape,
@@ -219,7 +220,7 @@ impl<W: Work> Bank<W> {
         self.machines[caller as usize].is_idle()
     }
 
-    /// How many calls a caller has begun, those before the start with them.
+    /// How many calls a caller has begun, including those before the start.
     pub fn made(&self, caller: u32) -> u32
         requires { caller < self.now.callers }
         ensures { result ≡ (machine_of self.now caller).made }
@@ -248,7 +249,8 @@ impl<W: Work> Bank<W> {
         machine.begin(op);
     }
 
-    /// Makes the next step of a caller's open call. If none is open, nothing changes.
+    /// Makes the next step of a caller's open call. If the caller has no open call, nothing
+    /// changes.
     #[inline(always)]
     pub fn turn(&mut self, caller: u32) -> Turn
         requires { caller < self.old.callers }
@@ -265,8 +267,8 @@ impl<W: Work> Bank<W> {
         turn_of_answer(machine.answer())
     }
 
-    /// Makes up to `most` steps of a caller's open call: fewer if the call ends. The result is how
-    /// many steps it made.
+    /// Makes up to `most` steps of a caller's open call; fewer if the call ends before. The result
+    /// is how many steps were made.
     #[inline(always)]
     pub fn turns(&mut self, caller: u32, most: u32) -> u32
         requires { caller < self.old.callers }
@@ -287,8 +289,8 @@ impl<W: Work> Bank<W> {
         self.words[durable] = self.words[durable].max(self.words[cell as usize]);
     }
 
-    /// Shows that the words and machines are what some schedule leaves from the table's start: its
-    /// contract says so, and the call does nothing.
+    /// Does nothing. Its contract says that the words and machines are what some schedule leaves
+    /// from the table's start.
     pub fn stands(&self)
         ensures { IsReached (bank_setup W.meaning self.now) (W.lawful self.now.work)
             self.now.start self.now.words self.now.machines }

@@ -31,8 +31,8 @@ use of_mem::Work;
 /// A table at its start meets the invariant, and each step, each begin of a call and each eviction
 /// keeps it. In place of an idle machine, a fresh one may begin its caller's next call, if it is
 /// given how many calls the caller has begun. Each moment that meets the invariant is sound: its
-/// history is legal, and recovery of its durable words gives the state at the durable sequence. It
-/// has come from a start that a table may have, and all its states are lawful.
+/// history is legal, and recovery of its durable words gives the state at the durable sequence. The
+/// table has begun at a start that a table may have, and all states of the history are lawful.
 pub fn step_kept<W: Work>(limit: u32, work: W)
     ensures kept { StepsKeepInvariant
         (setup_for W.many W.size W.meaning limit work) (W.lawful work) }
@@ -66,8 +66,8 @@ pub fn step_kept<W: Work>(limit: u32, work: W)
 /// process that had it, if the words say that the caller has nothing under way: no log and no
 /// request of a transaction that isn't committed, no open transaction, and a durable request. This
 /// keeps the invariant if the new machine counts all reads that its caller was answered. Below the
-/// limit it does, if it goes on with the announced call. No other caller's calls change. A machine
-/// that may be replaced still may be until its caller makes a step.
+/// limit, a new machine that goes on with the announced call counts all of them. No other caller's
+/// calls change. Once a machine may be replaced, this stays so until its caller makes a step.
 pub fn taken_over_stands<W: Work>(limit: u32, work: W)
     ensures core { RevivalsKeepCore
         (setup_for W.many W.size W.meaning limit work) (W.lawful work) }
@@ -87,9 +87,9 @@ pub fn taken_over_stands<W: Work>(limit: u32, work: W)
         (setup_for W.many W.size W.meaning limit work) (W.lawful work) }
 {}
 
-/// How the calls of a caller change. At a start there are none. A step may end the open call of its
-/// own caller. A begin adds a call of its own caller, also if a fresh machine begins it. Nothing
-/// else changes a caller's calls.
+/// Which steps and events change a caller's calls. At a start there are no calls. A step may end
+/// the open call of its own caller. A begin adds a call of its own caller, also if a fresh machine
+/// begins the call. Nothing else changes a caller's calls.
 pub fn calls_kept<W: Work>(limit: u32, work: W)
     ensures start { StartsHaveNoCalls
         (setup_for W.many W.size W.meaning limit work) (W.lawful work) }
@@ -121,8 +121,8 @@ pub fn every_moment<W: Work>(limit: u32, work: W)
 {}
 
 /// In every schedule, each caller has the calls that the events begin. The history has the outcome
-/// of each call that has ended, and no outcome is older than that of the caller's call before. Each
-/// turn of a caller that has an open call is a step of that call.
+/// of each call that has ended, and no outcome is older than the outcome of the caller's previous
+/// call. Each turn of a caller that has an open call is a step of that call.
 pub fn every_call<W: Work>(limit: u32, work: W)
     ensures calls { EveryCallStands (setup_for W.many W.size W.meaning limit work) (W.lawful work) }
     ensures turns { TurnsCountSteps (setup_for W.many W.size W.meaning limit work) (W.lawful work) }
@@ -131,11 +131,11 @@ pub fn every_call<W: Work>(limit: u32, work: W)
 
 /// Every schedule is durably linearizable. One serial order has all calls that were answered, and
 /// some open ones. Run in this order, the calls give the replies that they have, and each call
-/// comes after all that had ended when it began. The order is by sequence; among calls of one
-/// sequence the announced ones come first, by caller. An answered call has the sequence of its
-/// answer. Recovery at any moment finds what the order leads to, and shows each caller whether its
-/// last call took effect, and its reply. If each life starts from what recovery finds after the
-/// life before, their orders make up one serial order from the first start. No outcome is older
+/// comes after all calls that had ended before it began. The order is by sequence; among calls of
+/// one sequence the announced ones come first, by caller. An answered call has the sequence of its
+/// answer. Recovery at any moment finds what the order leads to. It shows each caller whether its
+/// last call took effect, and the call's reply. If each life starts from what recovery finds after
+/// the life before, their orders make up one serial order from the first start. No outcome is older
 /// than the last batch before its call began.
 pub fn every_order<W: Work>(limit: u32, work: W)
     ensures order { EveryOrder (setup_for W.many W.size W.meaning limit work) (W.lawful work) }
@@ -168,16 +168,17 @@ pub fn ends_in_time<W: Work>(limit: u32, work: W)
     ensures spent { SpentInRounds (setup_for W.many W.size W.meaning limit work) (W.lawful work) }
 {}
 
-/// The bound by what operations touch, for a call that may write: its formula, and a worked case,
-/// in which three callers have operations that read and write at most two cells.
+/// The formula of the step bound by what operations touch, for a call that may write, and a worked
+/// case: three callers have operations that read and write at most two cells.
 pub fn touched_bounds()
     ensures writes { TouchedBoundOfWrites }
     ensures transfers { TouchedBoundOfTransfers }
 {}
 
-/// In every schedule, a batch's log has the writes of its calls, in order, and their callers' own
-/// cells, and nothing else. One of a batch's calls is its owner's. A data cell keeps its word or
-/// gets one of a later transaction, so no helper writes an older number.
+/// In every schedule, a batch's log has the writes of the batch's calls, run in order, and entries
+/// for their callers' own cells, and nothing else. One of the calls is by the batch's owner. A step
+/// leaves a data cell's word or gives the cell a word of a later transaction, so no helper writes
+/// an older number.
 pub fn batches<W: Work>(limit: u32, work: W)
     ensures logs { LogsAreWrites (setup_for W.many W.size W.meaning limit work) (W.lawful work) }
     ensures owners { OwnersTakePart (setup_for W.many W.size W.meaning limit work) (W.lawful work) }
@@ -186,9 +187,9 @@ pub fn batches<W: Work>(limit: u32, work: W)
 
 /// A raise is a loop of a load and an exchange, and the loop is short: while a caller is about to
 /// raise a durable word to v, no call changes that word to another one below v. Only an eviction
-/// may, at most once, with a word that it has loaded before. In schedules from a start no eviction
-/// does, as long as no machine is replaced: a cell changes only if its durable word is at least the
-/// word that it holds.
+/// may, at most once, with a word that it has loaded before. In schedules from a start in which no
+/// machine is replaced, no eviction does so: a cell changes only if its durable word is at least
+/// the word that the cell holds.
 pub fn raises_are_short<W: Work>(limit: u32, work: W)
     ensures held { RaisesHeld (setup_for W.many W.size W.meaning limit work) (W.lawful work) }
     ensures calls { RaisesAreShort (setup_for W.many W.size W.meaning limit work) (W.lawful work) }
@@ -203,9 +204,10 @@ pub fn raises_are_short<W: Work>(limit: u32, work: W)
 {}
 
 /// The first words of a table hold its start, and its first machines are idle. A table may start
-/// with zeros, and then no caller has made a call. It may start from what recovery makes of the
-/// durable words of any moment, also if an earlier recovery has stopped between two of its writes.
-/// A renumbering that has stopped between two of its writes leaves a start with the same numbers.
+/// with zeros, and then no caller has made a call. A table may start from what recovery makes of
+/// the durable words of any moment, also if an earlier recovery has stopped between two of its
+/// writes. A renumbering that has stopped between two of its writes leaves a start with the same
+/// numbers.
 pub fn starts<W: Work>(limit: u32, work: W)
     ensures words { FirstWordsHoldStart (setup_for W.many W.size W.meaning limit work) }
     ensures machines { FirstMachinesAreIdle (setup_for W.many W.size W.meaning limit work) }
@@ -219,7 +221,8 @@ pub fn starts<W: Work>(limit: u32, work: W)
         (setup_for W.many W.size W.meaning limit work) (W.lawful work) }
 {}
 
-/// What holds of a machine by itself, on any table.
+/// What holds of each machine by itself, on any table: it is idle or has an open call, a turn
+/// leaves an idle machine as it is, and a turn of a caller is the next step of its machine.
 pub fn machines()
     ensures idle_or_open { IsIdleOrOpen }
     ensures idle_is { IdleTestIsExact }

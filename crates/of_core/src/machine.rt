@@ -46,7 +46,7 @@ pub struct Machine<W: Work> {
     shape: Shape,
     /// How many cells there are; a cell's durable word comes this many words after the cell.
     durable: u32,
-    /// The first word of one's own log.
+    /// The first word of the caller's own log.
     own_log: u32,
     limit: u32,
     caller: u32,
@@ -55,18 +55,18 @@ pub struct Machine<W: Work> {
     place: Place,
     seq: u32,
     owner: u32,
-    /// What is known of the data cells; in a scan the log lies over it as the batch.
+    /// The data cells that were loaded; in a scan also the writes of the log over them.
     part: Workspace<W>,
     log: WriteSet,
     /// The log words that a helper has loaded.
     copy: Vec<u32>,
     helps: bool,
     raw: RawReply,
-    /// Where a run writes its reply, so that no run has to clear one.
+    /// The reply into which a run writes, kept so that no run has to make an empty one.
     spare: RawReply,
     answer: Option<Outcome>,
-    /// The word to which this call last raised the durable word of its caller's request; 0 if it
-    /// has not yet.
+    /// The word to which this call last raised the durable word of its caller's request; 0 if this
+    /// call has not raised it yet.
     kept: u64,
     steps: u64,
     rounds: u32,
@@ -178,8 +178,8 @@ impl<W: Work> Machine<W> {
         };
     }
 
-    /// Nothing of the calls before is kept but their number: a call begins as that of a fresh
-    /// machine does.
+    /// Forgets all of the calls before but their number, so that the next call begins as on a fresh
+    /// machine.
     fn forget(&mut self)
         ensures { self.new ≡ machine_after W.meaning fresh_call self.old }
     {
@@ -206,7 +206,7 @@ impl<W: Work> Machine<W> {
         self.calls.clear();
     }
 
-    /// How many calls the caller has begun, those before this machine was made with them.
+    /// How many calls the caller has begun, including those from before this machine was made.
     pub fn made(&self) -> u32
         ensures { result ≡ self.now.call.made }
     {
@@ -238,7 +238,8 @@ impl<W: Work> Machine<W> {
     }
 
     #[tactic(auto, using(crate::proofs::LogWords::word_laws))]
-    /// Word `at` of one's log: the number of entries, and then cell and number of each.
+    /// Word `at` of the machine's log. Word 0 is the number of entries; then come the cell and the
+    /// number of each entry.
     fn log_word(&self, at: u32) -> u32
         requires { at < length (log_words self.now.call.log) }
         ensures { result ≡ get_or (log_words self.now.call.log) at 0 }
@@ -250,7 +251,7 @@ impl<W: Work> Machine<W> {
         if at % 2 == 1 { addr } else { value }
     }
 
-    /// The place of a cell's durable word.
+    /// The index in the table of a cell's durable word.
     #[tactic(auto, using(of_cell::proofs::Rooms::cells_small))]
     fn durable_word(&self, cell: u32) -> u32
         requires { cell < cell_count (machine_setup W.meaning self.now) }
@@ -261,7 +262,7 @@ impl<W: Work> Machine<W> {
     }
 
     #[tactic(auto, using(crate::proofs::Stability::log_in, of_cell::proofs::Rooms::cells_small))]
-    /// The cell of word `at` of one's own log.
+    /// The cell in which word `at` of the caller's own log is stored.
     fn own_log_cell(&self, at: u32) -> u32
         requires { at < 2 * log_room self.now.callers self.now.cells + 1 }
         ensures value { result ≡ log_at (machine_setup W.meaning self.now) self.now.call.caller at }
@@ -270,7 +271,7 @@ impl<W: Work> Machine<W> {
         self.own_log + at
     }
 
-    /// The word of a caller's ticket cell.
+    /// The index in the table of a caller's ticket cell.
     fn ticket_word(&self, caller: u32) -> u32
         requires { caller < self.now.callers }
         ensures value { result ≡ ticket_word_at (machine_setup W.meaning self.now) caller }
@@ -279,7 +280,7 @@ impl<W: Work> Machine<W> {
         self.shape.data_cell(caller * OWN_CELLS)
     }
 
-    /// The word of the shape of one's reply.
+    /// The index in the table of the cell with the shape of the caller's own reply.
     fn shape_word(&self) -> u32
         ensures value { result
             ≡ shape_word_at (machine_setup W.meaning self.now) self.now.call.caller }
@@ -288,7 +289,7 @@ impl<W: Work> Machine<W> {
         self.shape.data_cell(self.caller * OWN_CELLS + 1)
     }
 
-    /// The word of a number of one's reply.
+    /// The index in the table of the cell with number `at` of the caller's own reply.
     fn reply_word(&self, at: u32) -> u32
         requires { at < MOST_INSTRS }
         ensures value { result

@@ -9,9 +9,8 @@ ghost use Rattle.of_core.specs.Steps.{word_of, words_after};
 
 use crate::place::Op;
 
-/// A way to perform the steps that a machine asks for, such as on the words of a bank.
-/// `Machine::perform`, which says what the step of each place is, is written once for all of these
-/// ways.
+/// A way to perform the steps that a machine names, such as on the words of a bank.
+/// `Machine::perform`, which has the step of each place, is written once for all performers.
 pub trait Performer {
     /// What the performer gives for a step, such as the word that the step found.
     type Given;
@@ -19,7 +18,8 @@ pub trait Performer {
     /// What the performer makes its steps on, such as the words of a bank. A step may change it.
     type Hand;
 
-    // which steps it may be asked for, and what holds after one of what it gave and left
+    // `takes` says which steps the performer may be given, and `made` what holds after a step: of
+    // what the performer gave, and of the hand before and after the step
     ghost takes: { Self → Self.Hand → Op → Type 0 };
 
     ghost made: { Self → Self.Hand → Op → Self.Given → Self.Hand → Type 0 };
@@ -45,7 +45,7 @@ pub trait Performer {
         ensures { made self.now hand.old (Raise word value) result hand.new };
 }
 
-/// Makes no step, and gives the step itself.
+/// The performer that makes no step, and gives the step itself.
 #[derive(Clone, Copy)]
 pub(crate) struct NameStep;
 
@@ -79,7 +79,7 @@ impl Performer for NameStep {
     }
 }
 
-/// Makes the step on words, and gives the word that it found.
+/// The performer that makes the step on a list of words, and gives the word that the step found.
 #[derive(Clone, Copy)]
 pub(crate) struct OnWords;
 
@@ -114,7 +114,7 @@ impl Performer for OnWords {
     }
 }
 
-/// Makes a load, which leaves the words as they are.
+/// Makes a load, and gives the word that it found. The words stay as they are.
 #[inline(always)]
 fn load_on(words: &mut [u64], word: u32) -> u64
     requires { word < length words.old }
