@@ -85,7 +85,7 @@ pub record GoesOn (stop : Option ℕ) (h : Handle) (a : Result Answer RunError) 
   pub knows : KeepsKnown h k
   pub alone : MakesStepsAlone h k
 
--- what a call does: the handle before it, its result, and the handle after it
+-- what may be claimed of a call: of the handle before it, its result, and the handle after it
 abbrev pub CallWork : Type 1
 CallWork = Handle → Result Answer RunError → Handle → Type 0
 
