@@ -1,4 +1,4 @@
--- What C is told of a call, and what the call has come to.
+-- What a call answers to C, and what the call has come to.
 use Rattle.std.specs.Prelude.{◌≡◌, ◌≢◌, ℕ, ◌==◌, if◌then◌else◌, List, map, Option, Some, None, Result, Ok, Err}
 use Rattle.of_script.specs.declared.instr.Instr.{Instr}
 use Rattle.of_script.specs.Language.{IsScript, instr_word}

@@ -15,7 +15,7 @@ use Rattle.of_play.specs.declared.trace_line.TraceStep.{TraceStep}
 use Rattle.of_play.specs.Play.{plan_events, next_begin, with_begin}
 use Rattle.of_play.specs.TraceLine.{step_line, rest_line, evict_line}
 
--- what a word holds at one moment and at another
+-- the change of a word from the moment `w` to the moment `v`: what it held, and what it holds then
 abbrev pub word_change : (word : ℕ) → (w v : Moment) → Change
 word_change c w v = record { word = c; found = get_or w.words c 0; left = get_or v.words c 0 }
 

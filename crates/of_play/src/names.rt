@@ -20,11 +20,11 @@ pub enum CellUse {
     Register(u32),
     /// How many blocks of the store were taken at least once.
     Taken,
-    /// The front of the list of free blocks.
+    /// The first block of the list of free blocks.
     Free,
     /// How many keys there are.
     Keys,
-    /// The front of a bucket of the map.
+    /// The first block of a bucket of the map.
     Bucket(u32),
     /// The first block of a queue.
     Front(u32),
