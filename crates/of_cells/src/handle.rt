@@ -51,8 +51,7 @@ impl<W: Work> CellHandle<W> {
         self.number
     }
 
-    /// Runs an operation of 1 to `MOST_INSTRS` words, all of it or nothing. The answer has its
-    /// reply.
+    /// Runs an operation of 1 to `MOST_INSTRS` words, all of it or nothing, and answers its reply.
     pub fn run(&mut self, op: &[u64]) -> Result<RawAnswer, RunError>
         requires handle { IsCellHandle W.meaning self.old }
         requires some { 1 ≤ length op.now }
