@@ -57,7 +57,7 @@ impl Handle {
         self.cells.number()
     }
 
-    /// Runs a script, all of it or nothing. The answer has its reply.
+    /// Runs a script, all of it or nothing, and answers its reply.
     pub fn run(&mut self, script: &Script) -> Result<Answer, RunError>
         requires { IsHandle self.old }
         ensures handle { IsHandle self.new }
