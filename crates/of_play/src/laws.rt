@@ -17,8 +17,8 @@ pub fn plans_have_schedules(plan: &Plan)
     plan_keeps_laws(plan);
 }
 
-/// A trace prints a name of its own for each data cell, each cell and each word of a table: the
-/// name has one place, which is that of the cell or word.
+/// A trace prints a name of its own for each data cell, each cell and each word of a table: no two
+/// of them have the same name.
 pub fn words_are_named()
     ensures uses { CellUsesAreNamed }
     ensures cells { CellsAreNamed }
