@@ -1,4 +1,4 @@
--- What C is told of a call, and what the call has come to.
+-- What a call answers to C, and what the call has come to.
 use Rattle.std.specs.Prelude.{◌≡◌, ◌≢◌, ℕ, ◌==◌, if◌then◌else◌, List, map, Option, Some, None, Result, Ok, Err}
 use Rattle.of_script.specs.declared.instr.Instr.{Instr}
 use Rattle.of_script.specs.Language.{IsScript, instr_word}
@@ -85,7 +85,7 @@ pub record GoesOn (stop : Option ℕ) (h : Handle) (a : Result Answer RunError) 
   pub knows : KeepsKnown h k
   pub alone : MakesStepsAlone h k
 
--- what a call does: the handle before it, its result, and the handle after it
+-- what may be claimed of a call: of the handle before it, its result, and the handle after it
 abbrev pub CallWork : Type 1
 CallWork = Handle → Result Answer RunError → Handle → Type 0
 

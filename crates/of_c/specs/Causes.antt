@@ -1,4 +1,4 @@
--- Why C is answered which code. Any call may run out of memory.
+-- Which code a call from C answers, and why. Any call may run out of memory.
 use Rattle.std.specs.Prelude.{◌≡◌, ◌≢◌, ◌⊎◌, ℕ, ◌<◌, ◌≤◌, List, [], ◌∷◌, Option, Some, None, length}
 use Rattle.std.proofs.Common.{get_or}
 use Rattle.of_cell.specs.declared.word.TheConstants.{GREATEST_LIMIT}
@@ -70,8 +70,8 @@ HasNoNumber n m = callers_of m ≤ n
 abbrev pub IsEnrolled : ℕ → TheMemory → Type 0
 IsEnrolled n m = get_or m.cells.callers.items n None ≡ None
 
--- it is still the same memory: each caller that was in it is in it now, and it knows of every
--- number what it knew
+-- the memory is still the same: it has the callers in it that it had, and knows of every number
+-- what it knew
 pub record KnowsAll (m k : TheMemory) : Type 0 where
   pub still : IsStill m k
   pub none : TakesNone m k
@@ -116,8 +116,8 @@ IsUnread held code = ((code ≡ EMPTY) × HoldsNo IsNotSaved held) ⊎ (code ≡
 
 -- ---- of words
 
--- a count or the limit is out of its range, the words are not as many as such a memory has, or the
--- limit is below their sequence
+-- a count or the limit is out of its range, there are not as many words as such a memory has, or
+-- the limit is below the sequence that the words hold
 abbrev pub AreOutOfWords : (callers blocks limit : ℕ) → List ℕ → Type 0
 AreOutOfWords callers blocks limit words =
     AreOutOfRange callers blocks limit

@@ -19,7 +19,7 @@ abbrev pub HoldsText : (text before now : List ℕ) → Type 0
 HoldsText text before now = now ≡ text ++ slice_range before (length text) (length before)
 
 -- Something is held that a memory has left, and P holds of the text that is printed for it. If a
--- plan may have its sizes, the text holds it.
+-- plan may have as many callers and blocks, this text is read as what is held.
 pub record HasText (held : Option Held) (P : List ℕ → Type 0) : Type 0 where
   pub left : Saved
   pub is : HoldsSaved held left

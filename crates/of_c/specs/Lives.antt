@@ -88,8 +88,8 @@ pub record HoldsLeft (before caller now : Option Held) : Type 0 where
   pub heard : TellsMemory handle next
   pub remembers : RemembersAll memory next
 
--- Every caller had left the memory. What the memory has left is held: one serial history leads to
--- it, with each call that was answered.
+-- Every caller had left the memory. What the memory has left is held: one serial history, which has
+-- each call that was answered, leads to what is held.
 pub record HoldsClosed (before now : Option Held) : Type 0 where
   pub memory : Memory
   pub was : HoldsMemory before memory

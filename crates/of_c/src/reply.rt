@@ -22,7 +22,7 @@ pub struct CReply {
     pub cause: u32,
     /// In the reply to a caller's last saved call, the ticket of that call; in an answer, 0.
     pub ticket: u32,
-    /// How many steps the call made; if it was stopped, how many it has asked for.
+    /// How many steps the call made; if it was stopped, how often it asked for a step.
     pub steps: u64,
     /// 1 at the place of each instruction that answered a number, 0 at the others.
     pub given: [u32; MOST_INSTRS],

@@ -34,7 +34,7 @@ impl Claim<Saved> for OfSaved {
     ghost claim = { IsSaved };
 }
 
-/// The fact that the caller of a pair is one of the memory beside it.
+/// The fact that the caller of a pair is one of the pair's memory.
 pub(crate) struct OfPair;
 
 impl Claim<Pair> for OfPair {

@@ -11,30 +11,31 @@ IsStop (Ok o) = ⊥
 IsStop (Err (Stopped asked)) = Unit {0}
 IsStop (Err (Spent seq)) = ⊥
 
--- n steps were taken from the steps left; if these have no limit, they still have none
+-- n of the steps left were used up; if the steps left had no limit, they still have none
 abbrev pub TakesStepsFrom : (before after : Option ℕ) → (n : ℕ) → Type 0
 TakesStepsFrom None after n = after ≡ None
 TakesStepsFrom (Some left) after n = (rest : ℕ) × (left ≡ n + rest) × (after ≡ Some rest)
 
--- if the brake reports its steps left, n steps were taken from them; whether a brake reports them
--- never changes
+-- if the brake reports its steps left, n of them were used up; whether a brake reports its steps
+-- left never changes
 abbrev pub TakesSteps : (before after : Option (Option ℕ)) → (n : ℕ) → Type 0
 TakesSteps None after n = after ≡ None
 TakesSteps (Some left) None n = ⊥
 TakesSteps (Some left) (Some rest) n = TakesStepsFrom left rest n
 
--- the brake gave as many steps as the count rose from a to b
+-- the count of steps rose from a to b, and the brake's steps left, if it reports them, fell by the
+-- same number
 abbrev pub UsesCountedSteps : (before after : Option (Option ℕ)) → (a b : ℕ) → Type 0
 UsesCountedSteps before after a b = (n : ℕ) × (b ≡ a + n) × TakesSteps before after n
 
--- the brake denied ask number `asked`, since one step fewer was left at first; without a limit no
--- ask is denied
+-- at first `left` steps were left, and the brake denied the ask after these, number `asked`;
+-- without a limit no ask is denied
 abbrev pub StopsWhenUsedUp : (left : Option ℕ) → (asked : ℕ) → Type 0
 StopsWhenUsedUp None asked = ⊥
 StopsWhenUsedUp (Some left) asked = asked ≡ left + 1
 
--- the brake denied ask number `asked`: if it reports its steps left, one step fewer was left at
--- first
+-- if the brake reports its steps left: one fewer than `asked` was left at first, and the brake
+-- denied ask number `asked`
 abbrev pub StopsWhenToldUsedUp : (left : Option (Option ℕ)) → (asked : ℕ) → Type 0
 StopsWhenToldUsedUp None asked = Unit {0}
 StopsWhenToldUsedUp (Some left) asked = StopsWhenUsedUp left asked

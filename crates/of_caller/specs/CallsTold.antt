@@ -27,17 +27,19 @@ use Rattle.of_caller.specs.Vain.{IsLastStep}
 -- In these definitions a call goes on from the machine m, with the view v that keeps x, and n steps
 -- later it has come to the machine d, with the view w that keeps y.
 
--- the call has ended with the outcome o
+-- The open call of the machine m has ended with the outcome o, after n more steps. The machine is d
+-- now; the view v, which kept x, is w now, which keeps y.
 pub record HasEndedWith (S : Setup) (Lawful : List ℕ → Type 0) (B : TableStart)
     (m : CallState) (v : View) (x : KnownCaller) (n : ℕ) (d : CallState) (w : View)
     (y : KnownCaller) (o : Outcome) : Type 0 where
   -- the caller has no open call, and its machine holds the outcome
   pub idle : IsIdle d
   pub answer : d.answer ≡ Some o
-  -- the member keeps one call more, with this outcome
+  -- the member keeps one ended call more, with this outcome
   pub kept : y.ended ≡ x.ended ++ record { op = m.op; outcome = o } ∷ []
   -- a batch that was seen has the call with its reply; or the call only reads, and its reply is its
-  -- meaning in the state at its sequence; or what was seen has come to the limit without it
+  -- meaning in the state at its sequence; or the call is spent, and the batches that were seen come
+  -- up to the limit without it
   pub stands : CallHasEnded S B (seen_history w.seen) (seen_seq B w.seen) m.caller m.made m.op o
   -- a read's reply is its operation's meaning after the batches that were seen up to its sequence
   pub meant : IsMeantReply S B (seen_history w.seen) m.op o
@@ -51,10 +53,12 @@ pub record HasEndedWith (S : Setup) (Lawful : List ℕ → Type 0) (B : TableSta
   -- an announced call's sequence is above what was seen when the call began; a read's is not below
   -- it
   pub beyond : IsNotBefore (since_after B v x) o
-  -- the call is spent exactly if a round of it that began at the limit did not find its ticket
+  -- the call is spent exactly if its last step, in a round that began at the limit, did not find
+  -- its ticket
   pub last : IsLastStep S Lawful d o
 
--- the call is still open, and has a step left
+-- the open call of the machine m is still open after n more steps, and has a step left; the machine
+-- is d now, and y is kept of its caller
 pub record IsStillOpen (S : Setup) (m : CallState) (x : KnownCaller) (n : ℕ) (d : CallState)
     (y : KnownCaller) : Type 0 where
   pub open_call : IsOpen d.place
@@ -62,8 +66,8 @@ pub record IsStillOpen (S : Setup) (m : CallState) (x : KnownCaller) (n : ℕ) (
   pub within : d.steps < bound S
   pub kept : y.ended ≡ x.ended
 
--- What the result says: an answer; a stop, for which the brake was asked once more than steps were
--- made, and at most as often as the bound allows; or that the call is spent.
+-- What a call's result says: the call was answered; or it was stopped and is still open, and the
+-- brake was asked once more than steps were made, within the bound; or the call is spent.
 abbrev pub TellsResult : Setup → (List ℕ → Type 0) → TableStart
     → CallState → View → KnownCaller → (steps : ℕ) → CallState → View → KnownCaller
     → Result Outcome CallErr → Type 0
@@ -72,10 +76,10 @@ TellsResult S L B m v x n d w y (Err (Stopped asked)) =
     IsStillOpen S m x n d y × (asked ≡ n + 1) × (m.steps + asked ≤ bound S)
 TellsResult S L B m v x n d w y (Err (Spent seq)) = HasEndedWith S L B m v x n d w y (Over seq)
 
--- What is known after a call has made steps. The member keeps the machine. What was seen is a legal
--- history. Of the caller's calls it has exactly those that the caller made, as they have ended;
--- each announced one that was answered is in one batch. In the events of the member's past the
--- caller's calls began and ended in the same way.
+-- What is known after a call has made steps. The member keeps the machine. What the member has seen
+-- is a legal history. In it the caller has only calls that it has begun, as they ended, and each
+-- announced and answered one once. In the events of the member's past the caller's calls began and
+-- ended in the same way.
 pub record TellsStepsMade (S : Setup) (B : TableStart) (d : CallState) (w : View) (y : KnownCaller)
     : Type 0 where
   pub machine : y.machine ≡ d
@@ -88,7 +92,7 @@ pub record TellsStepsMade (S : Setup) (B : TableStart) (d : CallState) (w : View
 pub record TellsCall (S : Setup) (Lawful : List ℕ → Type 0) (B : TableStart)
     (m : CallState) (v : View) (a : ℕ) (d : CallState) (w : View) (b : ℕ)
     (r : Result Outcome CallErr) : Type 0 where
-  -- how many steps the call has made now: the count has risen by them
+  -- how many steps the call has made since; the count has risen by this number
   pub steps : ℕ
   pub rise : b ≡ a + steps
   -- nothing that was seen is lost, and the past only gets longer
@@ -105,12 +109,12 @@ pub record TellsCall (S : Setup) (Lawful : List ℕ → Type 0) (B : TableStart)
   pub kept_now : w.kept ≡ kept ∷ []
   pub none : steps ≡ 0 → w ≡ v
   pub some : 0 < steps → TellsStepsMade S B d w kept
-  -- before the first step, the past had no call of the caller but those that the caller had begun
+  -- before the first step, the past had no more calls of the caller than the caller had begun
   pub behind : 0 < steps
       → length (operations_begun v.past m.caller) ≤ length (operations_known before)
   -- each step that was counted was made on the table
   pub turns : kept.turns ≡ before.turns + steps
-  -- no other load was made
+  -- besides these steps the caller has made no load
   pub looks : w.looks ≡ v.looks
   -- the member keeps the sequence that was seen when the call began, also if the call was stopped
   pub since : 0 < steps → kept.since ≡ since_after B v before

@@ -44,7 +44,8 @@ EntryHasEnded s ms k e = e.index < finished_of s e.caller + over_in e.caller (ta
 abbrev pub NotBegun : Start → List Mark → (k : ℕ) → Entry → Type 0
 NotBegun s ms k e = finished_of s e.caller + begun_in e.caller (take k ms) ≤ e.index
 
--- the call of e ends before that of f begins: there is a moment between them
+-- the call of e ends before the call of f begins: after the first k marks, for some k, the one has
+-- ended and the other has not begun
 abbrev pub EndsBefore : Start → List Mark → Entry → Entry → Type 0
 EndsBefore s ms e f = (k : ℕ) × EntryHasEnded s ms k e × NotBegun s ms k f
 

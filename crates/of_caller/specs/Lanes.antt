@@ -1,4 +1,5 @@
--- How far a caller of a team has come with its scripts.
+-- How far a caller of a team has come with its scripts. A lane is a caller of a team with its
+-- brake, its answers and its ending.
 use Rattle.std.specs.Prelude.{◌≡◌, ℕ, ◌+◌, ◌-◌, ◌≤◌, ◌<◌, List, [], ◌∷◌, ◌++◌, length, vec_capacity, Option, Some, None}
 use Rattle.of_eval.specs.declared.scripts.Scripts.{Scripts}
 use Rattle.of_eval.specs.Scripts.{scripts_meaning}
@@ -67,8 +68,8 @@ pub record CallerHasEnded (p : Plan) (behind c : ℕ) (r : Row Scripts) (caller 
   pub number : kept.machine.caller ≡ c
   pub keeps : KeepsCaller p behind c answers ending kept
 
--- if a brake reports its steps left, it gave the steps of the answers in `all` that come after
--- `these`, and no others
+-- if a brake reports its steps left, these fell by the steps of the answers in `all` that come
+-- after `these`, and by no others
 abbrev pub TakesStepsOfAnswers : (before after : Option (Option ℕ)) → (these all : List Answer)
     → Type 0
 TakesStepsOfAnswers before after xs ys =
@@ -95,8 +96,8 @@ module _ {X : Type 0} {Y : X → Type 0} where
     pub first : a.first ≤ length (scripts_of p a.number)
     pub room : length (scripts_of p a.number) - a.first ≤ vec_capacity a.answers
 
-  -- the lane's caller is between two calls, and i of its scripts that weren't done before are
-  -- answered
+  -- the lane's caller is between two calls; of its scripts that weren't done before the row's
+  -- start, i are answered
   pub record LaneAt (p : Plan) (r : Row Scripts) (a : TeamCaller X Y) (i : ℕ) : Type 0 where
     pub lane : IsLane p a
     pub caller : CallerHasAnswered p a.first a.number r a.caller a.answers.items i
@@ -110,7 +111,7 @@ module _ {X : Type 0} {Y : X → Type 0} where
   abbrev pub LaneEnds : Plan → Row Scripts → TeamCaller X Y → Ending → Type 0
   LaneEnds p r a ending = CallerHasEnded p a.first a.number r a.caller a.answers.items ending
 
-  -- the second lane is the first one after its caller has ended
+  -- lane b is lane a after its caller has made all its calls and has ended
   pub record HasRun (p : Plan) (r : Row Scripts) (a b : TeamCaller X Y) : Type 0 where
     pub number : b.number ≡ a.number
     pub first : b.first ≡ a.first

@@ -1,4 +1,4 @@
--- What events leave of a plan's table.
+-- What events leave on a plan's table of zeros.
 use Rattle.std.specs.Prelude.{◌≡◌, ℕ, ◌≤◌, ◌<◌, List, length, map, take}
 use Rattle.of_plan.specs.Plan.{Plan, scripts_of}
 use Rattle.of_plan.specs.Ended.{Ended, answers_of, ending_of}
@@ -8,11 +8,11 @@ use Rattle.of_core.specs.Calls.{operations_begun, outcomes}
 use Rattle.of_caller.specs.Tables.{plan_setup, opening_for, operation_of}
 use Rattle.of_caller.specs.Ends.{AreAnswers, ending_at}
 
--- the moment that these events leave of a plan's table
+-- the moment that these events leave on a plan's table of zeros
 abbrev pub moment_after : Plan → List Event → Moment
 moment_after p es = after_events (plan_setup p) (opening_for p) es
 
--- these events, on the table of a plan of zeros, leave this record of a run
+-- these events, on a plan's table of zeros, leave this record of a run
 pub record IsLeftBy (p : Plan) (es : List Event) (e : Ended) : Type 0 where
   pub answers : length e.answers ≡ p.callers
   pub endings : length e.endings ≡ p.callers

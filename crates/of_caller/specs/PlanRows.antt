@@ -26,6 +26,7 @@ start_of_row r = row_start scripts_meaning r
 abbrev pub HasScripts : Plan → Start → Type 0
 HasScripts p s = (c : ℕ) → c < p.callers → finished_of s c ≤ length (scripts_of p c)
 
--- the row has started at a start of the plan
+-- the row has started at a start of the plan, at which no caller has more scripts done than it has
+-- scripts in the plan
 abbrev pub HasStart : Plan → Row Scripts → Type 0
 HasStart p r = (s : Start) × StartsAtPlan p s (start_of_row r) × HasScripts p s

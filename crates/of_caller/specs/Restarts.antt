@@ -45,8 +45,8 @@ pub record StartsAfterReport (p : Plan) (s : Start) (r : Report) (B : TableStart
   pub callers : (c : ℕ) → c < p.callers
       → HoldsLastAnnounced (start_number B) c (finished_of s c) (entries_of r c)
 
--- a table may start from what recovery makes of the durable words of a run with this report, and it
--- starts where the report ends
+-- a table may start from what recovery makes of the durable words of a run with this report; this
+-- start is where the report ends
 abbrev pub MayRestartAfter : Plan → Start → Ended → Report → Type 0
 MayRestartAfter p s e r =
     (row : List ℕ) → IsDurable (plan_setup p) e.words row

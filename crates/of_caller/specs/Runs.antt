@@ -24,8 +24,8 @@ use Rattle.of_caller.specs.Tables.{plan_setup, opening_at, operation_of}
 use Rattle.of_caller.specs.Ends.{OutcomeHoldsReply, AnswersStandBeforeSpent, AreAnswers, ending_if_left}
 use Rattle.of_caller.specs.Starts.{StartsAtPlan}
 
--- these operations are those of a caller's scripts after the first `behind`, in order and from the
--- first one on
+-- these are the operations of a caller's next scripts: of some scripts right after the first
+-- `behind`, in order, with none left out
 pub record AreNextScripts (p : Plan) (behind c : ℕ) (ops : List (List ℕ)) : Type 0 where
   pub count : ℕ
   pub few : count ≤ length (scripts_of p c) - behind
@@ -33,7 +33,7 @@ pub record AreNextScripts (p : Plan) (behind c : ℕ) (ops : List (List ℕ)) : 
 
 -- How a caller ends whose calls have these outcomes, of which `answered` are answers. With no
 -- script left it is done. With one left it is spent if its last call was spent; otherwise it is
--- stopped, and has asked for one step more than its open call has made.
+-- stopped, and its brake was asked once more than its open call has made steps.
 abbrev pub ending_of_calls : (outs : List Outcome) → (steps scripts_left answered : ℕ) → Ending
 ending_of_calls outs steps n a = if a == n then Done else ending_if_left (last_outcome outs) steps
 
@@ -48,8 +48,8 @@ pub record IsMomentOf (p : Plan) (s : Start) (B : TableStart) (w : Moment) (ops 
   pub calls : (c : ℕ) → c < p.callers
       → HasCalls (plan_setup p) B (finished_of s c) w c (ops c) (outs c)
 
--- The record's answers and ending of caller c say how its calls have ended. Answers are found by
--- their place, so no answer comes after a spent call, whose script it would be taken for.
+-- The record's answers and ending of caller c say how its calls have ended. An answer's place in
+-- the list says of which script it is, so no answer may come after a spent call.
 pub record TellsCalls (p : Plan) (s : Start) (w : Moment) (e : Ended) (c : ℕ) (outs : List Outcome)
     : Type 0 where
   pub answers_first : AnswersStandBeforeSpent outs

@@ -15,7 +15,7 @@ use Rattle.of_caller.specs.declared.team_caller.TeamCaller.{TeamCaller}
 use Rattle.of_caller.specs.Callers.{member_of, sight_of}
 use Rattle.of_caller.specs.Lanes.{IsReady}
 
--- the view of a first pass that has asked only for numbers below n, keeps no caller, and has
+-- the view of a first pass that has tried to enrol only numbers below n, keeps no caller, and has
 -- evicted and loaded nothing
 pub record HasSeated (n : ℕ) (v : View) : Type 0 where
   pub first : v.first ≡ true
@@ -52,7 +52,7 @@ module _ {X : Type 0} {Y : X → Type 0} where
   abbrev pub IsAt : Row Scripts → TeamCaller X Y → Type 0
   IsAt r a = IsRowMember r (member_of a.caller)
 
-  -- the view of a pass after it has taken in the members of these lanes
+  -- the view of a pass after the members of these lanes were joined to it
   abbrev pub gathered : View → List (TeamCaller X Y) → View
   gathered v [] = v
   gathered v (a ∷ others) = gathered (after_join v (sight_of a.caller)) others

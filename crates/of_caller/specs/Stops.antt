@@ -13,25 +13,26 @@ abbrev pub answer_steps : List Answer → ℕ
 answer_steps [] = 0
 answer_steps (a ∷ others) = a.steps + answer_steps others
 
--- the steps of the open call of a stopped caller: one less than it has asked for; 0 if it isn't
--- stopped
+-- the steps of the open call of a stopped caller: one less than its brake was asked for; 0 if the
+-- caller isn't stopped
 abbrev pub open_call_steps : Ending → ℕ
 open_call_steps Done = 0
 open_call_steps (Stopped asked) = asked - 1
 open_call_steps (Spent seq) = 0
 
--- A caller that has made this many steps keeps to its stop: it has made no more steps than the
--- stop, and just as many if it was stopped. Without a stop it isn't stopped.
+-- A caller that has made this many steps keeps to its stop: it has made at most `stop` steps, and
+-- exactly `stop` if it was stopped. Without a stop it isn't stopped.
 abbrev pub KeepsStop : (stop : Option ℕ) → (steps : ℕ) → EndState → Type 0
 KeepsStop None steps state = state ≡ stopped → ⊥
 KeepsStop (Some most) steps state = (steps ≤ most) × (state ≡ stopped → steps ≡ most)
 
--- a caller with these answers and this ending keeps to its stop
+-- a caller with these answers and this ending keeps to its stop: the steps of its answers and of
+-- its open call are at most `stop`, and exactly `stop` if it was stopped
 abbrev pub KeepToStop : (stop : Option ℕ) → List Answer → Ending → Type 0
 KeepToStop stop answers ending =
     KeepsStop stop (answer_steps answers + open_call_steps ending) (end_state_of ending)
 
--- a caller whose brake reports its steps left keeps to its stop
+-- if a caller's brake reports its steps left, the caller keeps to its stop
 abbrev pub KeepToToldStop : (left : Option (Option ℕ)) → (stop : Option ℕ) → List Answer → Ending
     → Type 0
 KeepToToldStop None stop answers ending = Unit {0}

@@ -45,9 +45,9 @@ pub record AreAnswered (p : Plan) (behind c : ℕ) (calls : List EndedCall) (ans
   pub none_spent : NoneSpent (map (λ e. e.outcome) calls)
   pub told : AreAnswers (map (λ e. e.outcome) calls) answers
 
--- The machine of a caller that was stopped after this many asks has the call of this operation
--- open, with one step fewer made. If the first ask was denied, no call is open. There were at most
--- as many asks as the bound allows.
+-- A caller was stopped when its brake was asked for the `asked`-th time. Its machine has a call of
+-- this operation open, with one step fewer made. If the first ask was denied, no call is open.
+-- There were at most as many asks as the bound allows.
 pub record IsStopped (p : Plan) (op : List ℕ) (asked : ℕ) (m : CallState) : Type 0 where
   pub some : 1 ≤ asked
   pub within : asked ≤ bound_of p
@@ -154,7 +154,7 @@ TeamsKeepAllowances p =
     → (r : Report) → IsLawfulRecord p s e r → (c : ℕ) → c < p.callers
     → KeepToStop (stop_of p c) (answers_of e c) (ending_of e c) → KeepsAllowance p r c (stop_of p c)
 
--- each team of the plan leaves the record that some schedule of the plan's callers leaves
+-- what each team of the plan leaves is what some schedule of the plan's callers leaves
 abbrev pub TeamsAreScheduled : Plan → Type 0
 TeamsAreScheduled p =
     (s : Start) (B : TableStart) (e : Ended) (v : View) → IsTeamOf p s B e v

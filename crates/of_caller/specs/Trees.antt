@@ -1,4 +1,4 @@
--- Lists of which each item is worked on by itself, in threads of a tree.
+-- Lists whose items are worked on each by itself, by a tree of threads.
 use Rattle.std.specs.Prelude.{◌≡◌, List, [], ◌∷◌}
 use denote.Ref.{MutBor}
 use denote.Param.Members.{Shared}

@@ -19,7 +19,7 @@ use thiserror::Error;
 /// Why a call has no answer.
 #[derive(Clone, Copy, Debug, PartialEq, Eq, Error)]
 pub enum CallErr {
-    /// The brake was asked this many times and denied the last step. The call stays open.
+    /// The brake was asked `asked` times, and denied the last time. The call stays open.
     #[error("stopped at step {asked}")]
     Stopped { asked: u64 },
     /// The sequence has come to the row's limit, `seq`, before the call took effect. The call is

@@ -75,7 +75,7 @@ fn enrol_one(
     }
 }
 
-/// Seats every caller of the plan, each with the brake at its place, which is armed with the
+/// Enrols every caller of the plan, each with the brake at its place, which is armed with the
 /// caller's stop. If memory runs out, no caller has made a step.
 pub(crate) fn enrol_all(
     alloc: Global,

@@ -20,9 +20,9 @@ use of_mem::Work;
 use of_plan::Plan;
 use of_row::laws::runs_are_schedules;
 
-/// The laws of the protocol hold for the table of a plan. So, from every start, the plan's
-/// schedules lead to its moments, and what is left before anything has happened is the record of a
-/// run. A table of zeros is at the plan's empty start.
+/// The laws of the protocol hold for the table of a plan. From every start, the plan's schedules
+/// lead to moments of the plan, and the record before any event is that of a run. A table of zeros
+/// is at the plan's empty start.
 pub fn plan_keeps_laws(plan: &Plan)
     ensures plan { IsPlan plan.now }
     ensures laws { KeepsLaws plan.now }
@@ -53,9 +53,9 @@ pub fn runs_are_lawful()
 
 /// A team of a plan leaves a lawful record, of which the laws of runs hold. The announced entries
 /// of its report are the calls of the batches that the team's pass has seen. A caller that keeps to
-/// its stop keeps it as its allowance. A table may start from the recovered durable words, where
-/// the report ends. Some schedule of the plan's callers, with the plan's evictions in their order,
-/// leaves the same record.
+/// its stop keeps to this as its allowance in the report. A table may start from the recovered
+/// durable words, where the report ends. Some schedule of the plan's callers, with the plan's
+/// evictions in their order, leaves the same record.
 pub fn teams_are_lawful(plan: &Plan)
     ensures lawful { TeamsAreLawful plan.now }
     ensures allowances { TeamsKeepAllowances plan.now }

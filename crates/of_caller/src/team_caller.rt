@@ -28,7 +28,8 @@ pub(crate) struct TeamCaller {
     pub(crate) brake: Box<dyn Brake + Send>,
     /// The answers so far, with room for one to each script that isn't done.
     pub(crate) answers: Vec<Answer>,
-    /// How the caller has ended. Before it has run, that its first step was denied.
+    /// How the caller has ended; before it has run, an ending that says that its first step was
+    /// denied.
     pub(crate) ending: Ending,
     /// Unused. Callers of a team are side by side in memory, and each writes its machine at each
     /// step. This keeps the next caller's fields off the cache line that is written.

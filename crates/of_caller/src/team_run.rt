@@ -127,7 +127,7 @@ fn gather(
 }
 
 /// Runs all callers of a plan at once on a row for it. Each caller runs its scripts from the first
-/// that isn't done. A worker beside them makes the plan's evictions in their order. Each caller has
+/// that isn't done. Meanwhile a worker makes the plan's evictions in their order. Each caller has
 /// the brake at its place in `brakes`, which is armed with the plan's stop. A caller ends after its
 /// last script, at its first stop, or if no sequence is left. Then the members are joined to the
 /// pass, and the row is closed.

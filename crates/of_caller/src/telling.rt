@@ -1,4 +1,4 @@
-//! What one caller knows goes to another while both stay: as a pass.
+//! How one caller tells another what it knows, by a pass, while both go on with their calls.
 
 ghost use Rattle.std.specs.Prelude.{◌≡◌, ◌+◌};
 ghost use Rattle.of_row.specs.Rows.{view_of_pass, IsRowPass, KeepsNobody, KnowsBoth};
@@ -25,8 +25,8 @@ impl<W: Work> Caller<W> {
         row.tell(&mut self.member)
     }
 
-    /// Takes in a pass that keeps no caller. Then the caller knows all that it or the pass had
-    /// seen. The caller's calls stay as they are, the open one too.
+    /// Takes in a pass that keeps no caller: the caller then knows all that the caller and the pass
+    /// had seen. The caller's calls stay as they are, the open one too.
     pub fn hear(&mut self, row: &Row<W>, pass: Pass)
         requires caller { IsCaller W.meaning row.now self.old }
         requires pass { IsRowPass row.now pass }

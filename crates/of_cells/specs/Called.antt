@@ -21,8 +21,8 @@ use Rattle.of_cells.specs.Serving.{HasStartedIfOpen, cells_at_start, ended_of, e
 abbrev pub outcome_of : RawAnswer → Outcome
 outcome_of a = Answered a.seq a.announced a.raw a.steps
 
--- An answer's reply is what the operation gives on some cells. Operations, run one after the other,
--- have made these cells of those with which the row started.
+-- If the call was answered, its reply is what the operation gives on some cells. A serial history
+-- of operations leads to these cells from those with which the row started.
 abbrev pub AnswersAsMeant : {W : Type 0} → (W → Meaning) → Row W → (op : List ℕ)
     → Result RawAnswer RunError → Type 0
 AnswersAsMeant meaning r op (Ok a) =
@@ -58,8 +58,8 @@ LeavesOpen op (Err InCall) c = Unit {0}
 LeavesOpen op (Err NoCall) c = Unit {0}
 LeavesOpen op (Err NoTicket) c = Unit {0}
 
--- if the caller has an open call now, it is of this operation, or one of its operation was open
--- before
+-- an open call that the caller has now is of the operation `op`, or the caller had an open call of
+-- the same operation before
 abbrev pub CallerOpensOnly : {W : Type 0} → (op : List ℕ) → (before now : Caller W) → Type 0
 CallerOpensOnly op c d = (o : List ℕ) → IsOpenAt o d → (o ≡ op) ⊎ IsOpenAt o c
 

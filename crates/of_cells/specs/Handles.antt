@@ -52,8 +52,8 @@ abbrev pub StaysOpenOnlyIfStopped : {W : Type 0} → (op : List ℕ) → Result 
     → CellHandle W → Type 0
 StaysOpenOnlyIfStopped op result h = LeavesOpen op result (caller_of h)
 
--- An answer's reply is what the operation gives on some cells. Operations, run one after the other,
--- have made these cells of those with which the handle's memory was opened.
+-- If the call was answered, its reply is what the operation gives on some cells. A serial history
+-- of operations leads to these cells from those with which the handle's memory was opened.
 abbrev pub RepliesAsMeant : {W : Type 0} → (W → Meaning) → (op : List ℕ) → CellHandle W
     → Result RawAnswer RunError → Type 0
 RepliesAsMeant meaning op h result = AnswersAsMeant meaning (home_of h) op result
@@ -128,8 +128,8 @@ CallsAreCounted {W} meaning =
     (h : CellHandle W) → IsCellHandle meaning h → (HasCallOpen h → ⊥)
     → calls_begun h ≡ tickets_behind meaning h + length (made_by h)
 
--- if the handle has an open call now, it is of this operation, or one of its operation was open
--- before
+-- an open call that the handle has now is of the operation `op`, or the handle had an open call of
+-- the same operation before
 abbrev pub OpensOnly : {W : Type 0} → (op : List ℕ) → (before now : CellHandle W) → Type 0
 OpensOnly op h k = CallerOpensOnly op (caller_of h) (caller_of k)
 

@@ -50,7 +50,8 @@ pub record HasEntry (h : List Call) (caller ticket : ℕ) (op : List ℕ) (raw :
   pub words : (get_or h place no_call).op ≡ op
   pub reply : IsSameReply raw (get_or h place no_call).raw
 
--- The history has an answered call, with its reply. It does not have a spent one.
+-- The history agrees with how this call ended: if the call was answered, the history has it, with
+-- its reply; if it was spent, the history does not have it.
 abbrev pub ExplainsEnd : List Call → (caller ticket : ℕ) → (op : List ℕ) → Outcome → Type 0
 ExplainsEnd h c t op (Answered seq announced raw steps) = HasEntry h c t op raw
 ExplainsEnd h c t op (Spent seq) = All (λ (e : Call). e.caller ≡ c → e.ticket ≡ t → ⊥) h
@@ -61,14 +62,14 @@ ExplainsAll h c n es =
     (y : ℕ) → y < length es
     → ExplainsEnd h c (n + y + 1) (get_or es y no_ended).op (get_or es y no_ended).outcome
 
--- each of these calls that was answered has its own sequence in the history; the calls have the
--- tickets from n + 1 on
+-- each of these calls that was answered has, in the history, the sequence that its answer names,
+-- and is announced there exactly if the answer says so; the tickets are those from n + 1 on
 abbrev pub HaveOwnSequences : List Call → Sequences → (caller n : ℕ) → List EndedCall → Type 0
 HaveOwnSequences h s c n es =
     (y : ℕ) → y < length es → HasOwnSequence h s c (n + y + 1) (get_or es y no_ended).outcome
 
--- the entry is one of these calls, of which the first has ticket n + 1, or it is the call after
--- them, which is open
+-- the entry is one of these ended calls, which have the tickets from n + 1 on, or it is an open
+-- call with the ticket after theirs
 abbrev pub IsOneOf : (n : ℕ) → List EndedCall → (IsOpenCall : List ℕ → Type 0) → Call → Type 0
 IsOneOf n es IsOpenCall e =
     ((y : ℕ) × (y < length es) × (e.ticket ≡ n + y + 1) × (e.op ≡ (get_or es y no_ended).op))
@@ -78,7 +79,7 @@ IsOneOf n es IsOpenCall e =
 abbrev pub HasOnly : List Call → (caller n : ℕ) → List EndedCall → (List ℕ → Type 0) → Type 0
 HasOnly h c n es IsOpenCall = All (λ (e : Call). e.caller ≡ c → IsOneOf n es IsOpenCall e) h
 
--- no call of the caller that may write is later than the one with this ticket
+-- no call of the caller in the history that may write has a ticket above this one
 abbrev pub IsUpTo : Meaning → List Call → (caller ticket : ℕ) → Type 0
 IsUpTo M h c t =
     All (λ (e : Call). e.caller ≡ c → M.reads_only e.op ≡ false → e.ticket ≤ t) h

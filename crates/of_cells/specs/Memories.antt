@@ -30,8 +30,8 @@ use Rattle.of_cells.specs.Handles.{home_of, number_of_handle, caller_of}
 abbrev pub row_of : {W : Type 0} → CellMemory W → Row W
 row_of m = arc_value m.row
 
--- the memory is open: it has the row's first pass, a place for each caller, what is known of
--- handles that have left, and empty room for the durable words
+-- the memory is open: it has the row's first pass, a place for each caller, what handles that have
+-- left knew, and empty room for the durable words
 pub record IsCellMemory {W : Type 0} (meaning : W → Meaning) (m : CellMemory W) : Type 0 where
   pub pass : IsRowPass (row_of m) m.pass
   pub first : IsFirstPass m.pass
@@ -126,29 +126,30 @@ HasHandleOut m = HasNoHandleOut m → ⊥
 abbrev pub IsFrom : {W : Type 0} → CellMemory W → CellHandle W → Type 0
 IsFrom m h = home_of h ≡ row_of m
 
--- it is still the same memory
+-- both are the same memory at different times: they have the same row
 abbrev pub IsStill : {W : Type 0} → (before now : CellMemory W) → Type 0
 IsStill m k = row_of k ≡ row_of m
 
--- Every caller but number n that was in the memory is still in it, and the memory knows the same
--- ended calls of it.
+-- For each number but n whose caller was in the memory: the caller is still in the memory, with the
+-- same ended calls.
 abbrev pub KnowsOthers : {W : Type 0} → ℕ → (before now : CellMemory W) → Type 0
 KnowsOthers n m k =
     (i : ℕ) (es : List EndedCall) → i ≢ n → HasMadeOf m i es → HasMadeOf k i es
 
--- every caller but number n that was in the memory with an open call still is, with this call open
+-- for each number but n whose caller was in the memory with an open call: the caller is still in
+-- the memory, with this call open
 abbrev pub OthersStayOpen : {W : Type 0} → ℕ → (before now : CellMemory W) → Type 0
 OthersStayOpen n m k =
     (i : ℕ) (op : List ℕ) → i ≢ n → HasOpenOf m i op → HasOpenOf k i op
 
--- all numbers but i still know each order of calls that they knew
+-- for each number but i: its caller in the memory still knows each order of calls that it knew
 abbrev pub OthersKnowOrder : {W : Type 0} → (W → Meaning) → ℕ → (before now : CellMemory W)
     → Type 0
 OthersKnowOrder meaning i m l =
     (j n x k y : ℕ) → j ≢ i → HasOrderOf meaning m j n x k y → HasOrderOf meaning l j n x k y
 
--- The caller of the handle's number was in the memory, and is taken out of it. The handle has its
--- calls, and knows what the caller knew.
+-- The caller of the handle's number was in the memory, and is taken out of it. The handle has this
+-- caller's calls, and knows what the caller knew.
 pub record TakesOut {W : Type 0} (m k : CellMemory W) (h : CellHandle W) : Type 0 where
   pub caller : Caller W
   pub was : get_or m.callers.items (number_of_handle h) None ≡ Some caller
@@ -174,9 +175,9 @@ PutsBack m k h = PutsCaller (number_of_handle h) (caller_of h) m k
 -- serial: each call has the reply that it gets when they are run one after the other. It has each
 -- call at most once, and the calls of each caller in the order in which it made them. It is ordered
 -- by sequence: sequences do not fall, and of the calls of one sequence the announced ones come
--- first, by caller. It has each call that was answered, with its reply and its own sequence. It has
--- no spent call, and besides the answered ones only open calls. What is saved names the last call
--- of each caller, and no call of it that may write is later.
+-- first, by caller. It has each call that was answered, with its reply, at the sequence that the
+-- answer names. It has no spent call, and besides the answered calls only open ones. What is saved
+-- names the last call of each caller; later calls of the caller only read.
 pub record IsOneHistory {W : Type 0} (meaning : W → Meaning) (m : CellMemory W) (d : SavedCells W)
     (h : List Call) : Type 0 where
   pub serial : IsSerial (meaning (work_of m)) (cells_before meaning m) h

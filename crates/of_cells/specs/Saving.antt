@@ -101,8 +101,8 @@ HoldAfterOwn k cells numbers =
 abbrev pub SavedHolds : {W : Type 0} → SavedCells W → List ℕ → Type 0
 SavedHolds d numbers = HoldAfterOwn (saved_callers d) (saved_cells d) numbers
 
--- What data cells know of the last call of caller n, which had made `before` calls: there was none
--- since, or it is a call of the history, and the cells hold its reply.
+-- Caller n had made `before` calls. The data cells show its last call since: there was none, or it
+-- is the call of the history with the ticket in the cells, and the cells hold its reply.
 abbrev pub TellLast : (cells : List ℕ) → List Call → (n before : ℕ) → Type 0
 TellLast xs h n before =
     (own_ticket xs n ≡ before)
@@ -114,7 +114,8 @@ abbrev pub ExplainsKept : Setup → TableStart → List Call → KnownCaller →
 ExplainsKept S B h x =
     ExplainsAll h x.machine.caller (done_before S B x.machine.caller) x.ended
 
--- each call of the kept caller that was answered has its own sequence in the history
+-- each answered call of the kept caller that is in the history has there the sequence that its
+-- answer names, and is announced there exactly if its answer says so
 abbrev pub HaveKeptSequences : Setup → TableStart → List Call → Sequences → KnownCaller → Type 0
 HaveKeptSequences S B h q x =
     HaveOwnSequences h q x.machine.caller (done_before S B x.machine.caller) x.ended
@@ -128,8 +129,8 @@ abbrev pub HasOnlyKept : Setup → TableStart → List Call → KnownCaller → 
 HasOnlyKept S B h x =
     HasOnly h x.machine.caller (done_before S B x.machine.caller) x.ended (HasOpenOperation x)
 
--- if, in these events, some calls had ended before others began, they come before these in the
--- history
+-- if some calls had ended before others began, in these events, the former come before the latter
+-- in the history
 abbrev pub RespectsEvents : Setup → TableStart → List Event → List Call → Type 0
 RespectsEvents S B es h =
     (n x k y : ℕ) → EndBefore S B es n x k y
@@ -138,7 +139,7 @@ RespectsEvents S B es h =
 -- A serial history leads from the numbers of data cells `before` to those `now`. Each call is in it
 -- at most once, with a ticket above the number of calls that its caller had made, and the calls of
 -- a caller are in the order in which it made them. The history is ordered by sequence. The cells
--- know the last call of each caller, and no call of it that may write is later.
+-- show the last call of each caller; later calls of the caller only read.
 pub record HistoryLeads (M : Meaning) (caller_count : ℕ) (made : ℕ → ℕ) (before now : List ℕ)
     (h : List Call) (q : Sequences) : Type 0 where
   pub serial : IsSerial M before h
@@ -150,9 +151,9 @@ pub record HistoryLeads (M : Meaning) (caller_count : ℕ) (made : ℕ → ℕ) 
   pub last : (n : ℕ) → n < caller_count → TellLast now h n (made n)
   pub upto : (n : ℕ) → n < caller_count → IsUpTo M h n (own_ticket now n)
 
--- The history explains how the calls of each caller that the view keeps have ended. Each answered
--- one has its own sequence. All other calls of these callers in the history are open. It respects
--- what the view knows of real time.
+-- The history explains how the calls of each caller that the view keeps have ended, and gives each
+-- answered call the sequence that its answer names. All other calls of these callers in the history
+-- are open. The history respects real time, as far as the view knows it.
 pub record ExplainsView (S : Setup) (B : TableStart) (h : List Call) (q : Sequences) (v : View)
     : Type 0 where
   pub calls : Each (ExplainsKept S B h) v.kept

@@ -99,7 +99,7 @@ pub record IsNew {W : Type 0} (meaning : W → Meaning) (r : Row W) (n : ℕ) (c
   pub none : ended_of c ≡ []
   pub idle : IsIdle (caller_call c)
 
--- this is the row's first pass, and it has asked only for numbers below the next one
+-- this is the row's first pass, and it has tried to enrol only numbers below `next`
 pub record Enrols {W : Type 0} (r : Row W) (next : ℕ) (p : Pass) : Type 0 where
   pub row : IsRowPass r p
   pub first : IsFirstPass p

@@ -12,26 +12,27 @@ use Rattle.of_cells.specs.Handles.{IsCellHandle, HasOpen, IsSame, caller_of, mad
 use Rattle.of_cells.specs.Memories.{HasMadeOf, HasOpenOf, HasOrderOf, IsFrom, RemembersAll, callers_of}
 use Rattle.of_cells.specs.Telling.{KnowsOrdersOf, LeavesOrder, HearsMemory, TellsMemory}
 
--- of the handle's number the memory knows the calls that the handle knows, ended and open, and no
--- others
+-- the caller of the handle's number is in the memory, with exactly the calls that the handle has,
+-- ended and open
 pub record KnowsHandle {W : Type 0} (m : CellMemory W) (h : CellHandle W) : Type 0 where
   pub made : HasMadeOf m (number_of_handle h) (made_by h)
   pub only : (es : List EndedCall) → HasMadeOf m (number_of_handle h) es → made_by h ≡ es
   pub open_call : (op : List ℕ) → HasOpen h op → HasOpenOf m (number_of_handle h) op
   pub only_open : (op : List ℕ) → HasOpenOf m (number_of_handle h) op → HasOpen h op
 
--- of number n the memory knows the calls that it knew, ended and open, and no others
+-- of number n the memory knows exactly the calls that it knew before, ended and open
 pub record KnowsSame {W : Type 0} (n : ℕ) (m k : CellMemory W) : Type 0 where
   pub made : (es : List EndedCall) → HasMadeOf m n es → HasMadeOf k n es
   pub only : (es : List EndedCall) → HasMadeOf k n es → HasMadeOf m n es
   pub open_call : (op : List ℕ) → HasOpenOf m n op → HasOpenOf k n op
   pub only_open : (op : List ℕ) → HasOpenOf k n op → HasOpenOf m n op
 
--- of each number from this one on the memory knows the calls that it knew, and no others
+-- of each number from `from` on the memory knows exactly the calls that it knew before
 abbrev pub KnowsRest : {W : Type 0} → (from : ℕ) → (before now : CellMemory W) → Type 0
 KnowsRest from m k = (n : ℕ) → from ≤ n → KnowsSame n m k
 
--- each number from this one on still knows each order of calls that it knew
+-- for each number from `from` on: its caller in the memory still knows each order of calls that it
+-- knew
 abbrev pub RestKnowsOrder : {W : Type 0} → (W → Meaning) → (from : ℕ)
     → (before now : CellMemory W) → Type 0
 RestKnowsOrder meaning from m l =
@@ -89,8 +90,8 @@ pub record HaveWorked {W J : Type 0} (meaning : W → Meaning) (Does : TaskWork 
   pub each : (n : ℕ) (d : J) → n < length xs
       → HasWorkedAs meaning Does n m k (get_or xs n d) (get_or ys n d)
 
--- why no task has worked: memory ran out, one of the numbers has no caller, or the handle of one of
--- them is out
+-- why no task has worked: memory ran out, there are more tasks than callers, or a handle with the
+-- number of a task is out
 abbrev pub IsTaskCause : {W : Type 0} → CellMemory W → (count : ℕ) → EnrolError → Type 0
 IsTaskCause m count (OutOfMemory e) = Unit {0}
 IsTaskCause m count (NoCaller n) = (n ≡ callers_of m) × (n < count)
@@ -114,7 +115,7 @@ WorksOn {W} {J} meaning Does s t =
     (p : CellHandle W × J) → s ≡ Some p
     → (q : CellHandle W × J) × (t ≡ Some q) × HasWorked meaning Does p q
 
--- each task has worked with its handle
+-- the task in each slot has worked with its handle, and both are still in the slot
 abbrev pub AllWorkOn : {W J : Type 0} → (W → Meaning) → TaskWork W J
     → (before now : List (Slot W J)) → Type 0
 AllWorkOn {W} {J} meaning Does ss ts =

@@ -32,7 +32,7 @@ KnowsOrder meaning h n x k y =
     EndBefore (setup_at meaning (home_of h)) (row_start meaning (home_of h))
     (events_known_to (caller_of h)) n x k y
 
--- the handle still knows which calls had ended, and each order of calls that it knew
+-- the handle still knows of each ended call that it knew of, and each order of calls that it knew
 pub record KeepsKnown {W : Type 0} (meaning : W → Meaning) (before now : CellHandle W)
     : Type 0 where
   pub heard : (n count : ℕ) → HasHeardOf meaning before n count → HasHeardOf meaning now n count
@@ -49,7 +49,7 @@ CallsStay h k = KnowsMore (caller_of h) (caller_of k)
 abbrev pub events_told : CellNews → List Event
 events_told a = (view_of_pass a.pass).past
 
--- the news is of the calls of this memory
+-- the news is of the calls of the memory with this row
 pub record IsNews {W : Type 0} (r : Row W) (a : CellNews) : Type 0 where
   pub row : IsRowPass r a.pass
   pub nobody : KeepsNobody a.pass
@@ -92,13 +92,14 @@ ResumesAfterHeard meaning result h k =
 
 -- ---- handles come and go
 
--- the handle knows each order of calls that its number knew in the memory
+-- the handle knows each order of calls that the caller of its number knew in the memory
 abbrev pub KnowsOrdersOf : {W : Type 0} → (W → Meaning) → CellMemory W → CellHandle W → Type 0
 KnowsOrdersOf meaning m h =
     (n x k y : ℕ) → HasOrderOf meaning m (number_of_handle h) n x k y
     → KnowsOrder meaning h n x k y
 
--- the memory knows of the handle's number each order of calls that the handle knew
+-- the caller of the handle's number is in the memory, and knows each order of calls that the handle
+-- knew
 abbrev pub LeavesOrder : {W : Type 0} → (W → Meaning) → CellHandle W → CellMemory W → Type 0
 LeavesOrder meaning h m =
     (n x k y : ℕ) → KnowsOrder meaning h n x k y

@@ -14,9 +14,9 @@ IsNeverStopped (Err InCall) = Unit {0}
 IsNeverStopped (Err NoCall) = Unit {0}
 IsNeverStopped (Err NoTicket) = Unit {0}
 
--- A call that had made `before` steps is given `more`, and has made `now` in all. An answer has no
--- more steps than both together. The call is stopped only after it has made them all, at its next
--- ask.
+-- A call that had made `before` steps may make `more` steps, and has made `now` in all. If it is
+-- answered, it has made at most `before + more`. It is stopped only after it has made all of them,
+-- when it asks for one more.
 abbrev pub KeepsWithin : (before more now : ℕ) → Result RawAnswer RunError → Type 0
 KeepsWithin before more now (Ok a) = a.steps ≤ before + more
 KeepsWithin before more now (Err (Stopped asked)) = (asked ≡ more + 1) × (now ≡ before + more)

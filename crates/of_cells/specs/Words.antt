@@ -86,7 +86,7 @@ IsWordsCause many size work limit words (PastLimit seq) =
 -- ---- moments
 
 -- Recovery finds a start in the durable words, and one serial history leads from the cells with
--- which the memory was opened to what is saved of them. Each view that is not spent finds in the
+-- which the memory was opened to what recovery finds. Each view that is not spent finds in the
 -- history what the view knows: each answered call of the callers that its pass or member keeps,
 -- with its reply, and besides these only open calls. A number that is not taken has no call in it.
 pub record MayGoOnFromWords {W : Type 0} (many size : W → ℕ) (meaning : W → Meaning)

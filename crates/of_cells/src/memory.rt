@@ -20,7 +20,7 @@ use std::sync::Arc;
 pub struct CellMemory<W: Work> {
     alloc: Global,
     row: Arc<Row<W>, Global>,
-    /// The row's first pass: it has asked for each number.
+    /// The row's first pass: it has enrolled each number.
     pass: Pass,
     /// What the handles that have left knew.
     known: Option<Pass>,

@@ -117,7 +117,7 @@ impl<W: Work> SavedCells<W> {
         self.shape.callers
     }
 
-    /// The last sequence that may be committed, in a memory that goes on from it.
+    /// The limit of a memory that goes on from what is saved: the last sequence that it may commit.
     pub fn limit(&self) -> u32
         ensures { result ≡ saved_limit self.now }
     {

@@ -1,5 +1,5 @@
-//! What a handle knows goes to another, for another thread, while both stay; and what a caller
-//! knows goes to its memory when it leaves, and the other way when it comes.
+//! How a handle tells another handle what it knows, while both stay; and how a caller and its
+//! memory tell each other what they know, when the caller comes or leaves.
 
 ghost use Rattle.std.specs.Prelude.{◌≡◌, ◌+◌};
 ghost use mathlib.Core.List.{IsPrefix};

@@ -20,13 +20,13 @@ pub record IsReportOfTeam (p : Plan) (s : Start) (B : TableStart) (e : Ended) (w
   pub handed : IsHandedBack p s B e w
   pub report : handed.report ≡ r
 
--- a life that goes on from the image leaves this: a team has run the plan over a table that starts
--- from the image's row
+-- a life that goes on from the image leaves the run `e`, the view `w` and the report `r`: a team
+-- has run the plan over a table that starts from the image's row
 abbrev pub IsLifeOf : Image → Plan → Ended → View → Report → Type 0
 IsLifeOf i p e w r = IsReportOfTeam p (start_of_image i) (start_from_row p i.row.words) e w r
 
--- recovery finds the image `next` in the durable words that a life with this report has left; the
--- next life starts from it, where this one ends
+-- Recovery finds the image `next` in the durable words that a life with this report has left. The
+-- next life starts from this image, where the life ends.
 pub record LeavesImage (p : Plan) (s : Start) (e : Ended) (r : Report) (next : Image) : Type 0 where
   pub restored : IsRestored MOST_INSTRS (durable_row p e) next
   pub start : start_of_image next ≡ start_behind s (record { plan = p; report = r })

@@ -1,4 +1,4 @@
--- Lives: runs of plans one after the other, each from where the one before has left.
+-- Lives: runs of plans one after the other, each from the start that the one before has left.
 use Rattle.std.specs.Prelude.{ℕ, ◌+◌, max, List, [], ◌∷◌, length, map, if◌then◌else◌}
 use Rattle.std.specs.List.{range_with_len}
 use Rattle.of_plan.specs.Plan.{Plan}
@@ -10,13 +10,13 @@ pub record Life : Type 0 where
   pub plan : Plan
   pub report : Report
 
--- how many scripts of a caller are done after these entries of it, if `n` were done before: all up
--- to its last announced entry, and still `n` if none was announced
+-- how many scripts of a caller are done after these entries of the caller, if `n` were done before:
+-- all up to its last announced entry, and still `n` if none was announced
 abbrev pub done_behind : (n : ℕ) → List Entry → ℕ
 done_behind n [] = n
 done_behind n (e ∷ es) = done_behind (if e.announced then e.index + 1 else n) es
 
--- as many callers as the start or the life's plan has, if these differ the greater number
+-- the number of callers of the start or that of the life's plan, whichever is greater
 abbrev pub callers_with : Start → Life → ℕ
 callers_with s l = max (length s.finished) l.plan.callers
 
@@ -26,8 +26,8 @@ finished_behind s l =
     map (λ c. done_behind (finished_of s c) (entries_of l.report c))
     (range_with_len 0 (callers_with s l))
 
--- the start that a life leaves: its last store, its sequence, and each caller after its last
--- announced call
+-- the start that a life leaves: the life's last store and sequence, and for each caller how many
+-- scripts are done, up to its last announced call
 abbrev pub start_behind : Start → Life → Start
 start_behind s l = record {
   store = l.report.store;
@@ -35,7 +35,8 @@ start_behind s l = record {
   finished = finished_behind s l;
 }
 
--- the start that these lives leave, one after the other
+-- the start that the last of these lives leaves, if each goes on from the start that the one before
+-- leaves, the first from `s`
 abbrev pub start_behind_all : Start → List Life → Start
 start_behind_all s [] = s
 start_behind_all s (l ∷ ls) = start_behind_all (start_behind s l) ls
@@ -49,16 +50,17 @@ EachLife P s (l ∷ ls) = P s l × EachLife P (start_behind s l) ls
 abbrev pub IsLifeFrom : Start → Life → Type 0
 IsLifeFrom s l = IsLegal l.plan s l.report
 
--- each life has a legal report from the start that the one before it leaves
+-- each life has a report that is legal from the start that the life before it leaves; the first
+-- life's is legal from `s`
 abbrev pub AreLives : Start → List Life → Type 0
 AreLives s ls = EachLife IsLifeFrom s ls
 
--- the same start, with sequence 0
+-- the start `s` with sequence 0 instead of its own
 abbrev pub renumbered_start : Start → Start
 renumbered_start s = record s { seq = 0 }
 
--- the start that these spans leave. A span is a list of lives whose sequences go on; after each
--- span they begin anew
+-- The start that these spans leave. A span is a list of lives whose sequences go on from life to
+-- life. After each span the sequences begin anew.
 abbrev pub start_behind_spans : Start → List (List Life) → Start
 start_behind_spans s [] = s
 start_behind_spans s (ls ∷ spans) =

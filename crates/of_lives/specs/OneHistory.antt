@@ -30,8 +30,8 @@ ComesBefore e f =
     (e.seq ≤ f.seq)
     × (IsTrue f.announced → (e.seq < f.seq) ⊎ IsAnnouncedBefore e f)
 
--- if `e` was announced, `f` is a later call, or one of another caller: so no announced call is run
--- again
+-- if `e` was announced and `f` is of the same caller, `f` is of a later script: no announced call
+-- is run again
 abbrev pub ComesLater : Entry → Entry → Type 0
 ComesLater e f = e.caller ≡ f.caller → IsTrue e.announced → e.index < f.index
 
@@ -56,7 +56,7 @@ IsKnownTo s e = e.caller < length s.finished
 abbrev pub IsCall : (caller index : ℕ) → Entry → Type 0
 IsCall c x e = (e.caller ≡ c) × (e.index ≡ x)
 
--- none of these entries is an announced one of the caller
+-- no entry of this caller among these was announced
 abbrev pub NoneAnnouncedOf : (caller : ℕ) → List Entry → Type 0
 NoneAnnouncedOf c es = All (λ e. e.caller ≡ c → e.announced ≡ false) es
 
@@ -99,7 +99,7 @@ pub record AreOneHistory (s : Start) (ls : List Life) : Type 0 where
       → Any (IsCall c x) (entries_in ls)
   -- each entry is of a caller that is counted in the end
   pub known : All (IsKnownTo (start_behind_all s ls)) (entries_in ls)
-  -- a caller's ticket is that of its last announced call, or the start's if it has none
+  -- in the end, a caller's ticket is that of its last announced call, or the start's if it has none
   pub tickets :
       (c : ℕ)
       → finished_of (start_behind_all s ls) c ≡ done_behind (finished_of s c) (own_in ls c)
@@ -143,7 +143,7 @@ pub record AreOneHistoryInSpans (s : Start) (spans : List (List Life)) : Type 0 
       → Any (IsCall c x) (entries_of_spans spans)
   -- each entry is of a caller that is counted in the end
   pub known : All (IsKnownTo (start_behind_spans s spans)) (entries_of_spans spans)
-  -- a caller's ticket is that of its last announced call, or the start's if it has none
+  -- in the end, a caller's ticket is that of its last announced call, or the start's if it has none
   pub tickets :
       (c : ℕ)
       → finished_of (start_behind_spans s spans) c

@@ -1,5 +1,5 @@
--- A life leaves where the next one begins: what recovery makes of the durable words of its run is a
--- row from which a table may start, at the start after the life.
+-- A life leaves a start for the next one: recovery makes of the durable words of its run a row from
+-- which a table may start, at the start after the life.
 use Rattle.std.specs.Prelude.{List, ℕ, ◌<◌}
 use Rattle.of_recover.specs.Recovered.{recovered_words}
 use Rattle.of_eval.specs.Record.{plan_data_cells, IsLawfulRecord}

@@ -1,4 +1,5 @@
--- Two worked lives, and four that can't be the second, each a number or an entry away from it.
+-- Two worked lives, and four lives that can't be the second one, each different from it in a number
+-- or an entry.
 use Rattle.std.specs.Prelude.{ℕ, true, false, Option, Some, List, [], ◌∷◌, map}
 use Rattle.of_script.specs.declared.instr.Instr.TheVariants.{Load, Store, Add}
 use Rattle.of_store.specs.Store.{Reply, Answered, empty_store, with_register}
@@ -47,7 +48,8 @@ adds x k v reads line = record {
   };
 }
 
--- such a life in which the first caller then asks for its read again, and is answered `v`
+-- a life in which the second caller adds, by its script `x` at sequence `k`, and the first caller
+-- then reads again; both are answered `v`
 abbrev pub adds_and_reads : (x k v : ℕ) → Life
 adds_and_reads x k v = adds x k v (worked_entry k 0 1 false (Some v) ∷ []) (done_with 1 60)
 
@@ -88,7 +90,7 @@ begins_anew = adds_and_reads 2 1 7
 abbrev pub forgets_store : Life
 forgets_store = adds_and_reads 2 2 1
 
--- no second life: the read counts as done, and isn't asked for again
+-- no second life: the read of the first life isn't made again, as if it counted as done
 abbrev pub skips_read : Life
 skips_read = adds 2 2 7 [] (done_with 0 0)
 

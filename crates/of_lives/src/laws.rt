@@ -10,9 +10,9 @@ use of_caller::laws::runs_restart;
 use of_plan::laws::worked_reports;
 
 /// The entries of any number of lives are one history, if each life has a report that is legal from
-/// where the one before has left. Serial replay of all of them gives all replies and the last
-/// store. Each announced call is there once, in its caller's order. A read that was not announced
-/// leaves no ticket, so a later life may ask for it again.
+/// the start that the life before it has left. Serial replay of all entries gives all replies and
+/// the last store. Each announced call is there once, in its caller's order. A read that was not
+/// announced leaves no ticket, so a later life may make it again.
 pub fn any_lives()
     ensures { LivesAreOneHistory }
 {}
@@ -39,9 +39,9 @@ pub fn lives_restart()
     runs_restart();
 }
 
-/// A worked second life asks again for a read of the first, finds what was added in between, and
-/// runs no announced call again. Four lives that differ from it in a number or an entry are
-/// refused. If the first life was renumbered, only the one that begins at sequence 0 is legal.
+/// A worked second life makes a read of the first life again, finds what was added in between, and
+/// runs no announced call again. Four lives that differ from the second life in a number or an
+/// entry are refused. After a renumbering, only the one that begins at sequence 0 is legal.
 pub fn worked_lives()
     ensures follows { FollowsFirst second_life }
     ensures asked_again { asked_by 0 ≡ 0 ∷ 1 ∷ 1 ∷ [] }

@@ -38,7 +38,7 @@ pub struct Life {
 /// that the plan has for the caller.
 ///
 /// The life leaves durable words in which recovery finds an image, and the next life can go on from
-/// that. An error means out of memory.
+/// this image. An error means out of memory.
 pub fn continue_from<R: Threads + Sync>(
     rt: &R,
     alloc: Global,

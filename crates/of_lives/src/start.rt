@@ -1,5 +1,5 @@
-//! The start that an image is: which plans can go on from it, and what the last calls of its
-//! callers were answered.
+//! Images as starts: which plans can go on from an image, and what the last calls of its callers
+//! were answered.
 
 ghost use Rattle.std.specs.Prelude.{◌≡◌, ◌<◌, ◌≤◌, ◌↔◌, ℕ, length, IsTrue, IsNone, IfSome};
 ghost use Rattle.of_mem.specs.declared.work.TheConstants.{MOST_INSTRS};

@@ -113,11 +113,12 @@ CallsAreCounted =
     (h : Handle) (ms : List Made) → IsHandle h → (HasCallOpen h → ⊥) → HasMade h ms
     → calls_begun h ≡ tickets_behind h + length ms
 
--- if the handle has an open call now, it is of this script, or one of its script was open before
+-- an open call that the handle has now is of this script, or the handle had an open call of the
+-- same script before
 abbrev pub OpensOnly : List Instr → (before now : Handle) → Type 0
 OpensOnly script h k = (s : List Instr) → HasOpen k s → (s ≡ script) ⊎ HasOpen h s
 
--- if the handle has an open call now, a call of the same operation was open before
+-- if the handle has an open call now, it had an open call of the same script before
 abbrev pub OpensNone : (before now : Handle) → Type 0
 OpensNone h k = generic.OpensNone h.cells k.cells
 

@@ -57,7 +57,8 @@ no_made = record { script = []; ended = Spent 0 }
 abbrev pub HasEntry : List HistoryEntry → HistoryEntry → Type 0
 HasEntry h e = (p : ℕ) × (p < length h) × (get_or h p no_history_entry ≡ e)
 
--- The history has an answered call, with its reply. It does not have a spent one.
+-- The history agrees with how this call ended: if the call was answered, the history has it, with
+-- its reply; if it was spent, the history does not have it.
 abbrev pub ExplainsEnd : List HistoryEntry → (caller ticket : ℕ) → List Instr → End → Type 0
 ExplainsEnd h c t script (Replied r seq steps announced) =
     HasEntry h (record { caller = c; ticket = t; script = script; reply = r })
@@ -86,14 +87,14 @@ HasSequenceOfEnd h s c t (Replied r seq steps announced) =
     → (get_or h p no_history_entry).ticket ≡ t → (s.seq p ≡ seq) × (s.announced p ≡ announced)
 HasSequenceOfEnd h s c t (Spent seq) = Unit {0}
 
--- each of these calls that was answered has its own sequence in the history; the calls have the
--- tickets from n + 1 on
+-- each of these calls that was answered has, in the history, the sequence that its answer names,
+-- and is announced there exactly if the answer says so; the tickets are those from n + 1 on
 abbrev pub HaveOwnSequences : List HistoryEntry → Sequences → (caller n : ℕ) → List Made → Type 0
 HaveOwnSequences h s c n ms =
     (y : ℕ) → y < length ms → HasSequenceOfEnd h s c (n + y + 1) (get_or ms y no_made).ended
 
--- the entry is one of these calls, of which the first has ticket n + 1, or it is the call after
--- them, which is open
+-- the entry is one of these ended calls, which have the tickets from n + 1 on, or it is an open
+-- call with the ticket after theirs
 abbrev pub IsOneOf : (n : ℕ) → List Made → (IsOpenCall : List Instr → Type 0) → HistoryEntry
     → Type 0
 IsOneOf n ms IsOpenCall e =
@@ -109,7 +110,7 @@ HasOnly h c n ms IsOpenCall = All (λ (e : HistoryEntry). e.caller ≡ c → IsO
 abbrev pub ScriptOnlyReads : List Instr → Type 0
 ScriptOnlyReads script = All (λ (i : Instr). IsTrue (reads_only i)) script
 
--- no call of the caller that may write is later than the one with this ticket
+-- no call of the caller in the history that may write has a ticket above this one
 abbrev pub IsUpTo : List HistoryEntry → (caller ticket : ℕ) → Type 0
 IsUpTo h c t =
     All (λ (e : HistoryEntry). e.caller ≡ c → (ScriptOnlyReads e.script → ⊥) → e.ticket ≤ t) h

@@ -37,7 +37,8 @@ ExplainsKept S B h x =
     (ms : List Made) → AreMade x.ended ms
     → ExplainsAll h x.machine.caller (done_before S B x.machine.caller) ms
 
--- each call of the kept caller that was answered has its own sequence in the history
+-- each answered call of the kept caller that is in the history has there the sequence that its
+-- answer names, and is announced there exactly if its answer says so
 abbrev pub HaveKeptSequences : Setup → TableStart → List HistoryEntry → Sequences → KnownCaller
     → Type 0
 HaveKeptSequences S B h q x =
@@ -55,8 +56,8 @@ HasOnlyKept S B h x =
     (ms : List Made) → AreMade x.ended ms
     → HasOnly h x.machine.caller (done_before S B x.machine.caller) ms (HasOpenScript x)
 
--- if, in these events, some calls had ended before others began, they come before these in the
--- history
+-- if some calls had ended before others began, in these events, the former come before the latter
+-- in the history
 abbrev pub RespectsEvents : Setup → TableStart → List Event → List HistoryEntry → Type 0
 RespectsEvents S B es h =
     (n x k y : ℕ) → EndBefore S B es n x k y
@@ -64,8 +65,8 @@ RespectsEvents S B es h =
 
 -- A serial history leads from the store to the one that data cells with these numbers stand for.
 -- Each call is in it at most once, and the calls of each caller are in the order in which it made
--- them. It is ordered by sequence. The cells know the last call of each caller, which had made
--- `made` calls before, and no call of it that may write is later.
+-- them. The history is ordered by sequence. Each caller had made `made` calls before; the cells
+-- show its last call, and its later calls only read.
 pub record HistoryLeads (w : Scripts) (caller_count : ℕ) (made : ℕ → ℕ) (s : Store) (now : List ℕ)
     (h : List HistoryEntry) (q : Sequences) : Type 0 where
   pub serial : IsSerial s h
@@ -76,9 +77,9 @@ pub record HistoryLeads (w : Scripts) (caller_count : ℕ) (made : ℕ → ℕ) 
   pub last : (n : ℕ) → n < caller_count → TellLast now h n (made n)
   pub upto : (n : ℕ) → n < caller_count → IsUpTo h n (own_ticket now n)
 
--- The history explains how the calls of each caller that the view keeps have ended. Each answered
--- one has its own sequence. All other calls of these callers in the history are open. It respects
--- what the view knows of real time.
+-- The history explains how the calls of each caller that the view keeps have ended, and gives each
+-- answered call the sequence that its answer names. All other calls of these callers in the history
+-- are open. The history respects real time, as far as the view knows it.
 pub record ExplainsView (S : Setup) (B : TableStart) (h : List HistoryEntry) (q : Sequences)
     (v : View) : Type 0 where
   pub calls : Each (ExplainsKept S B h) v.kept

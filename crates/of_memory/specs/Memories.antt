@@ -90,21 +90,22 @@ HasHandleOut m = HasNoHandleOut m → ⊥
 abbrev pub IsFrom : Memory → Handle → Type 0
 IsFrom m h = generic.IsFrom m.cells h.cells
 
--- it is still the same memory
+-- both are the same memory at different times: they have the same row
 abbrev pub IsStill : (before now : Memory) → Type 0
 IsStill m k = generic.IsStill m.cells k.cells
 
--- Every caller but number n that was in the memory is still in it, and the memory knows the same
--- ended calls of it.
+-- For each number but n whose caller was in the memory: the caller is still in the memory, with the
+-- same ended calls.
 abbrev pub KnowsOthers : ℕ → (before now : Memory) → Type 0
 KnowsOthers n m k = (i : ℕ) (ms : List Made) → i ≢ n → HasMadeOf m i ms → HasMadeOf k i ms
 
--- every caller but number n that was in the memory with an open call still is, with this call open
+-- for each number but n whose caller was in the memory with an open call: the caller is still in
+-- the memory, with this call open
 abbrev pub OthersStayOpen : ℕ → (before now : Memory) → Type 0
 OthersStayOpen n m k =
     (i : ℕ) (script : List Instr) → i ≢ n → HasOpenOf m i script → HasOpenOf k i script
 
--- all numbers but i still know each order of calls that they knew
+-- for each number but i: its caller in the memory still knows each order of calls that it knew
 abbrev pub OthersKnowOrder : ℕ → (before now : Memory) → Type 0
 OthersKnowOrder i m l = generic.OthersKnowOrder scripts_meaning i m.cells l.cells
 
@@ -112,8 +113,8 @@ OthersKnowOrder i m l = generic.OthersKnowOrder scripts_meaning i m.cells l.cell
 abbrev pub HasNoneOpen : Memory → Type 0
 HasNoneOpen m = generic.HasNoneOpen m.cells
 
--- The caller of the handle's number was in the memory, and is taken out of it. The handle has its
--- calls, and knows what the caller knew.
+-- The caller of the handle's number was in the memory, and is taken out of it. The handle has this
+-- caller's calls, and knows what the caller knew.
 abbrev pub TakesOut : (before now : Memory) → Handle → Type 0
 TakesOut m k h = generic.TakesOut m.cells k.cells h.cells
 
@@ -125,7 +126,7 @@ TakesNone m k = generic.TakesNone m.cells k.cells
 abbrev pub PutsBack : (before now : Memory) → Handle → Type 0
 PutsBack m k h = generic.PutsBack m.cells k.cells h.cells
 
--- what is saved knows the last call of caller n: there was none since the memory was opened, or it
+-- what is saved shows the last call of caller n: there was none since the memory was opened, or it
 -- is a call of the history, and its reply is saved
 abbrev pub TellsLastOf : Memory → Saved → List HistoryEntry → ℕ → Type 0
 TellsLastOf m d h n = TellLast (saved_cells d) h n (tickets_before m n)
@@ -133,10 +134,10 @@ TellsLastOf m d h n = TellLast (saved_cells d) h n (tickets_before m n)
 -- The history leads from the store with which the memory was opened to the saved one. It is serial:
 -- each call has the reply that it gets when they are run one after the other. It has each call at
 -- most once, and the calls of each caller in the order in which it made them. It is ordered by
--- sequence. It has each call that was answered, with its reply and its own sequence. It has no
--- spent call, and besides the answered ones only open calls. What is saved names the last call of
--- each caller, and no call of it that may write is later. The history respects real time, as far as
--- one of the numbers knows it.
+-- sequence. It has each call that was answered, with its reply, at the sequence that the answer
+-- names. It has no spent call, and besides the answered calls only open ones. What is saved names
+-- the last call of each caller; later calls of the caller only read. The history respects real
+-- time, as far as one of the numbers knows it.
 pub record LeadsTo (m : Memory) (s : Store) (d : Saved) (h : List HistoryEntry) : Type 0 where
   pub serial : IsSerial s h
   pub ends : SavedHolds d (store_after s h)

@@ -12,8 +12,8 @@ use Rattle.of_memory.specs.Handles.{IsHandle, HasMade, HasOpen, IsSame, number_o
 use Rattle.of_memory.specs.Memories.{HasMadeOf, HasOpenOf, HasOrderOf, IsFrom}
 use Rattle.of_memory.specs.Telling.{KnowsOrdersOf, LeavesOrder, HearsMemory, TellsMemory}
 
--- of the handle's number the memory knows the calls that the handle knows, ended and open, and no
--- others
+-- the caller of the handle's number is in the memory, with exactly the calls that the handle has,
+-- ended and open
 pub record KnowsHandle (m : Memory) (h : Handle) : Type 0 where
   pub made : (ms : List Made) → HasMade h ms → HasMadeOf m (number_of_handle h) ms
   pub only : (ms : List Made) → HasMadeOf m (number_of_handle h) ms → HasMade h ms
@@ -22,18 +22,19 @@ pub record KnowsHandle (m : Memory) (h : Handle) : Type 0 where
   pub only_open : (script : List Instr) → HasOpenOf m (number_of_handle h) script
       → HasOpen h script
 
--- of number n the memory knows the calls that it knew, ended and open, and no others
+-- of number n the memory knows exactly the calls that it knew before, ended and open
 pub record KnowsSame (n : ℕ) (m k : Memory) : Type 0 where
   pub made : (ms : List Made) → HasMadeOf m n ms → HasMadeOf k n ms
   pub only : (ms : List Made) → HasMadeOf k n ms → HasMadeOf m n ms
   pub open_call : (script : List Instr) → HasOpenOf m n script → HasOpenOf k n script
   pub only_open : (script : List Instr) → HasOpenOf k n script → HasOpenOf m n script
 
--- of each number from this one on the memory knows the calls that it knew, and no others
+-- of each number from `from` on the memory knows exactly the calls that it knew before
 abbrev pub KnowsRest : (from : ℕ) → (before now : Memory) → Type 0
 KnowsRest from m k = (n : ℕ) → from ≤ n → KnowsSame n m k
 
--- each number from this one on still knows each order of calls that it knew
+-- for each number from `from` on: its caller in the memory still knows each order of calls that it
+-- knew
 abbrev pub RestKnowsOrder : (from : ℕ) → (before now : Memory) → Type 0
 RestKnowsOrder from m l =
     (j : ℕ) → from ≤ j → (n x k y : ℕ) → HasOrderOf m j n x k y → HasOrderOf l j n x k y
@@ -77,8 +78,8 @@ pub record HaveWorked {J : Type 0} (Does : TaskWork J) (m k : Memory) (xs ys : L
   pub each : (n : ℕ) (d : J) → n < length xs
       → HasWorkedAs Does n m k (get_or xs n d) (get_or ys n d)
 
--- why no task has worked: memory ran out, one of the numbers has no caller, or the handle of one of
--- them is out
+-- why no task has worked: memory ran out, there are more tasks than callers, or a handle with the
+-- number of a task is out
 abbrev pub IsTaskCause : Memory → (count : ℕ) → EnrolError → Type 0
 IsTaskCause m count e = generic.IsTaskCause m.cells count e
 

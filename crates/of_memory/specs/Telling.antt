@@ -25,7 +25,7 @@ HasHeardOf h n count = generic.HasHeardOf scripts_meaning h.cells n count
 abbrev pub KnowsOrder : Handle → (n x k y : ℕ) → Type 0
 KnowsOrder h n x k y = generic.KnowsOrder scripts_meaning h.cells n x k y
 
--- the handle still knows which calls had ended, and each order of calls that it knew
+-- the handle still knows of each ended call that it knew of, and each order of calls that it knew
 abbrev pub KeepsKnown : (before now : Handle) → Type 0
 KeepsKnown h k = generic.KeepsKnown scripts_meaning h.cells k.cells
 
@@ -36,7 +36,7 @@ CallsStay h k = generic.CallsStay h.cells k.cells
 
 -- ---- news
 
--- the news is of the calls of this memory
+-- the news is of the calls of the memory with this row
 abbrev pub IsNews : Row Scripts → News → Type 0
 IsNews r a = generic.IsNews r a
 
@@ -68,11 +68,12 @@ ResumesAfterHeard result h k =
 
 -- ---- handles come and go
 
--- the handle knows each order of calls that its number knew in the memory
+-- the handle knows each order of calls that the caller of its number knew in the memory
 abbrev pub KnowsOrdersOf : Memory → Handle → Type 0
 KnowsOrdersOf m h = generic.KnowsOrdersOf scripts_meaning m.cells h.cells
 
--- the memory knows of the handle's number each order of calls that the handle knew
+-- the caller of the handle's number is in the memory, and knows each order of calls that the handle
+-- knew
 abbrev pub LeavesOrder : Handle → Memory → Type 0
 LeavesOrder h m = generic.LeavesOrder scripts_meaning h.cells m.cells
 

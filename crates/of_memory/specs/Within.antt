@@ -9,9 +9,9 @@ use Rattle.of_memory.specs.Called.{without_reply}
 abbrev pub IsNeverStopped : Result Answer RunError → Type 0
 IsNeverStopped result = generic.IsNeverStopped (without_reply result)
 
--- A call that had made `before` steps is given `more`, and has made `now` in all. An answer has no
--- more steps than both together. The call is stopped only after it has made them all, at its next
--- ask.
+-- A call that had made `before` steps may make `more` steps, and has made `now` in all. If it is
+-- answered, it has made at most `before + more`. It is stopped only after it has made all of them,
+-- when it asks for one more.
 abbrev pub KeepsWithin : (before more now : ℕ) → Result Answer RunError → Type 0
 KeepsWithin before more now result = generic.KeepsWithin before more now (without_reply result)
 

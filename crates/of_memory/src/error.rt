@@ -61,7 +61,7 @@ pub enum WordsError {
     PastLimit { seq: u32 },
 }
 
-/// What is saved can't have the limit that was asked for. The error hands it back, unchanged.
+/// What is saved can't have this limit. The error hands back what was saved, unchanged.
 #[derive(Drop)]
 pub struct LimitError(pub Saved);
 

@@ -23,16 +23,18 @@ abbrev pub commits_by_step : Place → Op → (found : ℕ) → Bool
 commits_by_step ExchangeCurrent op found = expects op found
 commits_by_step place op found = false
 
--- the line of a batch, if the step commits; otherwise nothing
+-- the line of event `k`, a turn of caller `i`, if it commits these calls at the sequence `s`;
+-- otherwise nothing
 abbrev pub commit_line : (commits : Bool) → (k i s : ℕ) → List Call → List ℕ
 commit_line true k i s calls = batch_line k i s calls
 commit_line false k i s calls = []
 
--- the line of a batch of these calls, as the code has them, at the sequence after that of the word
--- that was found
+-- the line of event `k`, a turn of caller `i` that has committed these calls: `found` is the
+-- current-transaction word that the turn found, and the batch has the sequence after it
 abbrev pub batch_line_after : (k i found : ℕ) → List RustCall → List ℕ
 batch_line_after k i found calls = batch_line k i (seq_of found + 1) (map call_value calls)
 
--- the line of such a batch, if the step commits; otherwise nothing
+-- the line of event `k`, a turn of caller `i`, if it commits these calls, at the sequence after
+-- that of the word `found`; otherwise nothing
 abbrev pub commit_line_after : (commits : Bool) → (k i found : ℕ) → List RustCall → List ℕ
 commit_line_after b k i found calls = commit_line b k i (seq_of found + 1) (map call_value calls)

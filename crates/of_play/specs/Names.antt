@@ -41,7 +41,7 @@ shown_word_place n m (Script i x) = script_place n MOST_INSTRS m i x
 shown_word_place n m (Announcement i) = announce_place n MOST_INSTRS m i
 shown_word_place n m Members = members_place n MOST_INSTRS m
 
--- what the data cell `j` among a caller's own holds
+-- what data cell `j` of the cells that belong to caller `i` holds
 abbrev pub own_cell : (i j : ℕ) → CellUse
 own_cell i j = if j == 0 then Ticket i else if j == 1 then Shape i else Reply i (j - 2)
 
@@ -93,7 +93,7 @@ word_at_place n m w =
     ((w - script_place n MOST_INSTRS m 0 0) % (MOST_INSTRS + 1))
     else Members
 
--- each data cell is named by what it holds: the address of its use is its own
+-- each data cell is named by its use: the address of the cell that has this use is the cell's own
 abbrev pub CellUsesAreNamed : Type 0
 CellUsesAreNamed = (n a : ℕ) → address_of n (cell_use_at n a) ≡ a
 

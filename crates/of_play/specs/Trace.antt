@@ -1,5 +1,5 @@
--- The trace of a plan: a line for each event of its schedule that is asked for, a turn or an
--- eviction; and the lines of its commits.
+-- The trace of a plan: a line for each turn and each eviction of its schedule, all or some of them;
+-- and the lines of its commits.
 use Rattle.std.specs.Prelude.{ℕ, ◌-◌, ◌+◌, List, [], ◌∷◌, ◌++◌, Bool, true, false, length, get_or, take, drop, flat_map, codes, decimal}
 use Rattle.of_plan.specs.Plan.{Plan}
 use Rattle.of_core.specs.Table.{durable_at, committed_seq}
@@ -15,7 +15,7 @@ use Rattle.of_play.specs.declared.trace_line.TraceStep.{TraceStep}
 use Rattle.of_play.specs.Play.{plan_events, next_begin, with_begin}
 use Rattle.of_play.specs.TraceLine.{step_line, rest_line, evict_line}
 
--- what a word holds at one moment and at another
+-- the change of a word from the moment `w` to the moment `v`: what it held, and what it holds then
 abbrev pub word_change : (word : ℕ) → (w v : Moment) → Change
 word_change c w v = record { word = c; found = get_or w.words c 0; left = get_or v.words c 0 }
 
@@ -31,7 +31,8 @@ step_of p i w v = record {
   outcome = ended_outcome (machine_in v i);
 }
 
--- the line of turn `k`, of caller `i`; if no call of it is open, the turn does nothing
+-- the line of event `k`, a turn of caller `i`; if no call of the caller is open, the turn does
+-- nothing
 abbrev pub turn_line : Plan → (k i : ℕ) → (idle : Bool) → (w v : Moment) → List ℕ
 turn_line p k i true w v = rest_line k i
 turn_line p k i false w v = step_line p k (step_of p i w v)
@@ -42,8 +43,8 @@ event_line p k w v (Turns i) = turn_line p k i (is_idle (machine_in w i).place) 
 event_line p k w v (Raises c) = evict_line p k (word_change (durable_at (plan_setup p) c) w v)
 event_line p k w v e = []
 
--- the moment at which an event happens, if the events before it leave `w`: if a turn begins a call,
--- this has begun
+-- the moment at which an event happens, if the events before it leave `w`; a call that a turn
+-- begins has begun at this moment
 abbrev pub moment_of_event : Plan → Moment → Event → Moment
 moment_of_event p w (Turns i) = after_events (plan_setup p) w (next_begin p i (machine_in w i))
 moment_of_event p w e = w

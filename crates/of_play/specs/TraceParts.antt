@@ -50,7 +50,7 @@ did_part (Raise c v) found = raise_part (nat_lt v found) v
 
 -- ---- what the word that was left means
 
--- the instruction of a script word, if the word is one
+-- what is printed of a script word: its instruction, if the word is one
 abbrev pub instr_part : Option Instr → List ℕ
 instr_part None = []
 instr_part (Some i) = codes "; " ++ instr_text i
@@ -68,7 +68,8 @@ shape_part x =
     else if nat_lt x (2 ^ 21) then codes "; answers " ++ decimal (x / 2 ^ 16 % 32)
     else codes "; aborted at " ++ decimal (x / 2 ^ 21 % 32)
 
--- what is printed of a field of a block, if it is the last one, which is a pointer
+-- what is printed of a field of a block: the last field is a pointer, and of the others nothing is
+-- printed
 abbrev pub field_part : (field x : ℕ) → List ℕ
 field_part f x = if f == 2 then pointer_part x else []
 

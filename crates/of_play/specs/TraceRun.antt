@@ -47,8 +47,8 @@ shown_lines f c lines = flat_map (λ line. line) (take c (drop f lines))
 abbrev pub lines_as : Form → Plan → List Event → List (List ℕ)
 lines_as f p ms = lines_from (line_as f p) p 0 (opening_for p) ms
 
--- the code is in the state in which these turns and evictions leave it; after the last event that
--- is to be shown, only its text is promised
+-- the code is in the state in which these turns and evictions leave it; once all lines that were
+-- asked for are written, only the text is promised
 pub record TracesAfter (p : Plan) (ms : List Event) (t : TraceRun) : Type 0 where
   pub before_end : t.number ≤ t.end
   pub number : t.number < t.end → t.number ≡ length ms

@@ -17,17 +17,17 @@ pub fn plans_have_schedules(plan: &Plan)
     plan_keeps_laws(plan);
 }
 
-/// The name that a trace prints of a data cell, a cell or a word of a table stands for exactly that
-/// one.
+/// A trace prints a name of its own for each data cell, each cell and each word of a table: no two
+/// of them have the same name.
 pub fn words_are_named()
     ensures uses { CellUsesAreNamed }
     ensures cells { CellsAreNamed }
     ensures words { WordsAreNamed }
 {}
 
-/// A trace has a line for each turn and each eviction of a plan's schedule, at the moment that
-/// those before it leave. The schedule has no other events. The moment after the last one is the
-/// one in which `play` ends.
+/// A trace has a line for each turn and each eviction of a plan's schedule. It shows this event at
+/// the moment that the turns and evictions before it leave. The schedule has no other events. The
+/// moment after the last line is the one in which `play` ends.
 pub fn traces_are_of_plays()
     ensures shown { AllAreShown }
     ensures lines { LinesAreOfMoves }

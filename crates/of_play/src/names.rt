@@ -20,11 +20,11 @@ pub enum CellUse {
     Register(u32),
     /// How many blocks of the store were taken at least once.
     Taken,
-    /// The front of the list of free blocks.
+    /// The first block of the list of free blocks.
     Free,
     /// How many keys there are.
     Keys,
-    /// The front of a bucket of the map.
+    /// The first block of a bucket of the map.
     Bucket(u32),
     /// The first block of a queue.
     Front(u32),
@@ -97,8 +97,8 @@ impl CellUse {
     ghost use Rattle.of_play.specs.Names.{cell_use_at, store_cell};
     ghost use Rattle.of_mem.specs.Places.{base_of};
 
-    /// What a data cell after those of the callers holds. A plan has few blocks, so its buckets
-    /// come right after the count of keys.
+    /// What a data cell after the callers' own cells holds. The buckets come right after the count
+    /// of keys, since a plan has few blocks. With many blocks they would come after the blocks.
     fn in_store(plot: &Plot, addr: u32) -> CellUse
         requires instrs { plot.now.instrs ≡ MOST_INSTRS }
         requires behind { base_of plot.now.callers MOST_INSTRS ≤ addr }

@@ -18,27 +18,29 @@ use Rattle.of_row.specs.Rows.{key_of, IsRowMember, RunsOnRow, IsMemberOf, HasNoC
 use Rattle.of_row.specs.Rows.{number_of_member, calls_of_member}
 use Rattle.of_row.specs.Passes.{HasEnrolled}
 
--- a view that keeps a caller of every number that is taken has seen the whole history
+-- if a view isn't spent and keeps a caller of every number that is taken, it has seen the whole
+-- history
 abbrev pub SeesWholeHistory : (List ℕ → Type 0) → Setup → Type 0
 SeesWholeHistory Lawful S =
     (B : TableStart) (ws : List ℕ) (v : View) (m : ViewMeetsRule S Lawful B ws v)
     → v.spent ≡ false → KeepsAll S ws v → v.seen ≡ map seen_batch (moment S B m.rule.events).batches
 
--- for each caller that a view keeps: in the batches that the view has seen, this caller's calls are
--- calls that it made, and each of its calls that has ended did so as its outcome says
+-- For each caller that a view keeps: in the batches that the view has seen, each call with this
+-- caller's number is one that the caller has begun; and each ended call of the caller has ended as
+-- its outcome says.
 abbrev pub SeesOwnCalls : (List ℕ → Type 0) → Setup → Type 0
 SeesOwnCalls Lawful S =
     (B : TableStart) (ws : List ℕ) (v : View) → ViewMeetsRule S Lawful B ws v
     → v.spent ≡ false → KeepsOwn S B v
 
--- what a view has seen is a legal history
+-- what a view that isn't spent has seen is a legal history
 abbrev pub SeesLegal : (List ℕ → Type 0) → Setup → Type 0
 SeesLegal Lawful S =
     (B : TableStart) (ws : List ℕ) (v : View) → ViewMeetsRule S Lawful B ws v
     → v.spent ≡ false → IsLegalFront S B v.seen
 
--- each eviction that a view has made has raised the durable word of its cell, at least to the word
--- that it loaded
+-- for each eviction that a view lists, the durable word of the cell is at least the word that the
+-- eviction loaded
 abbrev pub EvictionsAreRaised : (List ℕ → Type 0) → Type 0
 EvictionsAreRaised Lawful =
     (S : Setup) (B : TableStart) (ws : List ℕ) (v : View) → ViewMeetsRule S Lawful B ws v
@@ -81,13 +83,13 @@ BegunMembersStand {X} meaning work =
     → now ≡ record m { call = begin_call (machine_setup meaning m) m.call op }
     → IsMemberOf meaning member now
 
--- a machine with the row's work and sizes runs on the row
+-- a machine with the row's work, sizes and limit runs on the row
 abbrev pub NewMachinesRun : {X : Type 0} → X → Type 0
 NewMachinesRun {X} work =
     (row : Row X) (m : Machine X) → m.work ≡ (key_of row).work → m.callers ≡ (key_of row).callers
     → m.cells ≡ (key_of row).cells → m.limit ≡ (key_of row).limit → RunsOnRow row m
 
--- a machine that runs on a row still does, whatever call it holds
+-- a machine that runs on a row still runs on it if only its call has changed
 abbrev pub MachinesKeepRunning : {X : Type 0} → X → Type 0
 MachinesKeepRunning {X} work =
     (row : Row X) (m now : Machine X) (d : CallState) → RunsOnRow row m

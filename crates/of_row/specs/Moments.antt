@@ -24,9 +24,9 @@ pub record IsReachedBy (S : Setup) (B : TableStart) (s : State (Unit {0}) View) 
   -- the table's own words are those that the events leave
   pub words : (c : ℕ) → c < words_before_members S
       → get_or s.words c 0 ≡ get_or (moment S B es).words c 0
-  -- what a pass or a member has seen is how the history begins
+  -- the batches that a pass or a member has seen are the first ones of the history
   pub seen : EachView (λ v. IsSeenPrefix v.seen (moment S B es).batches) s.views
-  -- the past of a pass or a member is how the events begin
+  -- the past of each pass and member is a beginning of the events
   pub pasts : EachView (HasPast es) s.views
   -- each eviction that a pass has made has raised the durable word of its cell
   pub raised : EachView (λ v. Each (IsRaised S s.words) v.evicted) s.views
@@ -36,14 +36,16 @@ pub record IsReachedBy (S : Setup) (B : TableStart) (s : State (Unit {0}) View) 
   -- the caller of a number that isn't taken has begun no call and had no turn
   pub free : EachFree S s.words (HasDoneNothing es)
 
--- the order has each call of the caller that was answered, with its reply, and none that was spent
+-- of the caller's ended calls, the order has each that was answered, with its reply, and none that
+-- was spent
 abbrev pub ExplainsEndedCalls : Setup → TableStart → (order : List Call) → KnownCaller → Type 0
 ExplainsEndedCalls S B order x =
     (y : ℕ) → y < length x.ended
     → ExplainsOutcome S order x.machine.caller (ticket_at S B x y)
     (ended_operation_at x.ended y) (outcome_at x.ended y)
 
--- each call of the caller that was answered has, in the order, the sequence of its answer
+-- each answered call of the caller has, in the order, the sequence that its answer names, and is
+-- announced there exactly if its answer says so
 abbrev pub HaveOwnSequence : Setup → TableStart → (order : List Call) → Sequences → KnownCaller
     → Type 0
 HaveOwnSequence S B order s x =
@@ -54,13 +56,13 @@ HaveOwnSequence S B order s x =
 abbrev pub HasNoneOf : List Call → (caller : ℕ) → Type 0
 HasNoneOf order i = All (λ (c : Call). c.caller ≢ i) order
 
--- a moment with these words, and nothing else
+-- a moment that has these words, but no machines, batches, reads or loads
 abbrev pub words_alone : List ℕ → Moment
 words_alone ws = record { words = ws; machines = []; batches = []; reads = []; loaded = [] }
 
--- The row stops at this moment, and loses nothing: one serial order of calls explains how all calls
--- have ended, it is by sequence, and recovery of the row's words as they are finds what that order
--- leads to.
+-- A row that stops at this moment loses nothing. One serial order of calls, sorted by sequence,
+-- explains how all calls have ended. Recovery of the row's words finds the state to which this
+-- order leads.
 pub record LosesNothing (S : Setup) (Lawful : List ℕ → Type 0) (B : TableStart)
     (s : State (Unit {0}) View) : Type 0 where
   pub events : List Event
@@ -77,15 +79,15 @@ pub record LosesNothing (S : Setup) (Lawful : List ℕ → Type 0) (B : TableSta
   pub restarts : (row : List ℕ) → IsDurable S s.words row
       → IsStartRow S Lawful (recovered_words S.callers S.cells row)
 
--- a row that stops at a moment that meets the rule loses nothing; each moment between two steps
--- meets it
+-- a row loses nothing if it stops at a moment that meets the row's rule, as each moment between two
+-- steps does
 abbrev pub StopsLoseNothing : (List ℕ → Type 0) → Setup → Type 0
 StopsLoseNothing Lawful S =
     (B : TableStart) (s : State (Unit {0}) View) → MeetsRule S Lawful B s
     → LosesNothing S Lawful B s
 
--- What the words of a closed row hold of the calls that a view keeps: one serial order has these
--- calls as they ended, and is by sequence; recovery of the words finds what that order leads to;
+-- The words of a closed row hold the calls that a view keeps. One serial order, sorted by sequence,
+-- has these calls as they ended. Recovery of the words finds the state to which this order leads,
 -- and a table may start from the row that recovery makes.
 pub record HoldsCalls (S : Setup) (Lawful : List ℕ → Type 0) (B : TableStart) (ws : List ℕ)
     (v : View) : Type 0 where
@@ -100,7 +102,8 @@ pub record HoldsCalls (S : Setup) (Lawful : List ℕ → Type 0) (B : TableStart
   pub restarts : (row : List ℕ) → IsDurable S ws row
       → IsStartRow S Lawful (recovered_words S.callers S.cells row)
 
--- if words and a view meet the rule, as after a close, the words hold the calls that the view keeps
+-- if words and a view that isn't spent meet the row's rule, as after a close, the words hold the
+-- calls that the view keeps
 abbrev pub ClosedHoldsCalls : (List ℕ → Type 0) → Setup → Type 0
 ClosedHoldsCalls Lawful S =
     (B : TableStart) (ws : List ℕ) (v : View) → ViewMeetsRule S Lawful B ws v → v.spent ≡ false

@@ -1,4 +1,5 @@
--- What passes learn: of a number that they asked for, of a cell that they evicted, and at the end.
+-- What a pass learns when it enrols a caller's number, evicts a cell, learns of all events, or
+-- closes the row.
 use Rattle.std.specs.Prelude.{◌≡◌, ℕ, List}
 use Rattle.std.specs.Int.{bit_at}
 use Rattle.of_mem.specs.Meaning.{Meaning}
@@ -15,26 +16,26 @@ use Rattle.of_row.specs.Turned.{after_ask, after_number_given, new_known_caller,
 use Rattle.of_row.specs.Rows.{key_of, setup_at, row_start, view_of_pass, view_of_member}
 use Rattle.of_row.specs.Rows.{number_of_member, calls_of_member, IsRowPass, IsRowMember, HasSeenLegal}
 
--- what is kept of the caller of number n once the pass p has got this number: the caller has made
--- no call on this row, and has seen what the pass had seen
+-- what is kept of caller n when the pass p has enrolled it: an idle machine, no call on this row
+-- yet, and the last sequence that the pass had seen
 abbrev pub enrolled_caller : {W : Type 0} → (W → Meaning) → Row W → ℕ → Pass → KnownCaller
 enrolled_caller meaning r n p =
     new_known_caller (setup_at meaning r) (row_start meaning r) n
     (seen_seq (row_start meaning r) (view_of_pass p).seen)
 
--- the pass is the row's first one, which has made no step
+-- the pass is the row's first one, and has made no step yet
 abbrev pub IsFirst : {W : Type 0} → Row W → Pass → Type 0
 IsFirst r p = IsRowPass r p × (view_of_pass p ≡ first_view)
 
--- The number n is taken: the members word that was found has its bit. The pass had asked for n
--- before, and adds the word to its list.
+-- The number n is taken: its bit is set in the members word that was found. The pass had tried to
+-- enrol n before. It lists this try too, with the word that was found.
 abbrev pub NumberIsRefused : {W : Type 0} → Row W → ℕ → (before now : Pass) → Taken → Type 0
 NumberIsRefused r n before now taken =
     IsRowPass r now × (bit_at taken.members n ≡ 1) × IsAsked n (view_of_pass before).asked
     × (view_of_pass now ≡ after_ask n taken.members (view_of_pass before))
 
--- The number n was free in the members word that was found. A member has it now, which has seen
--- what the pass has seen and has made no call on this row.
+-- The number n was free in the members word that was found, and `member` has it now. The member has
+-- seen what the pass has seen, and has made no call on this row.
 pub record HasEnrolled {W : Type 0} (meaning : W → Meaning) (r : Row W) (n : ℕ) (before : Pass)
     (member : Member) (now : Pass) : Type 0 where
   pub at_row : IsRowMember r member × IsRowPass r now
@@ -75,7 +76,8 @@ pub record ClosesWithDurable {W : Type 0} (meaning : W → Meaning) (lawful : W 
 abbrev pub words_of_past : {W : Type 0} → (W → Meaning) → Row W → View → List ℕ
 words_of_past meaning r v = (moment (setup_at meaning r) (row_start meaning r) v.past).words
 
--- the view's past has all that the callers which it keeps have done, and all its evictions
+-- the view's past has all calls and turns of the callers that the view keeps, and all evictions
+-- that the view has made
 abbrev pub KnowsAllDone : {W : Type 0} → (W → Meaning) → Row W → View → Type 0
 KnowsAllDone meaning r v = HasWholePast (setup_at meaning r) (row_start meaning r) v
 

@@ -1,4 +1,5 @@
--- The laws of the protocol that a row rests on, at one setup: those of `of_core::laws`.
+-- The laws of the protocol from which the laws of a row are proved, at one setup: those of
+-- `of_core::laws`.
 use Rattle.std.specs.Prelude.{ℕ, List}
 use Rattle.of_core.specs.Table.{Setup}
 use Rattle.of_core.specs.Laws.{StartsMeetInvariant, FirstWordsHoldStart, FirstMachinesAreIdle, SchedulesKeepInvariant, OpenStepsAreSteps, StepBlind, StepsKeepDurables, BeginsKeepInvariant, InvariantIsSound, EveryCallStands, CallsEndInTime}

@@ -25,7 +25,7 @@ abbrev pub durable_after : Setup → TableStart → List Event → (k c : ℕ) �
 durable_after S B es k c = durable_word S (moment_at S B es k).words c
 
 -- from the moment after the first k events on, the loop that raises the durable word of the cell c
--- to v is short
+-- to v is short: its exchange fails at most once
 pub record IsShort (S : Setup) (B : TableStart) (es : List Event) (k c v : ℕ) : Type 0 where
   -- no later event changes that word to one that is still below v
   pub undisturbed : lower_changes S (moment_at S B es k) (drop k es) c v ≡ 0

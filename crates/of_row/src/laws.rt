@@ -21,9 +21,9 @@ pub fn sees_whole<W: Work>(limit: u32, work: W)
     protocol(limit, work);
 }
 
-/// A pass or a member has seen, of each caller that it keeps, the caller's own calls and no others,
-/// each as it ended, whatever passes and members were parted, met or joined before. What it has
-/// seen is a legal history.
+/// Of each caller that it keeps, a pass or a member has seen only calls that the caller has begun,
+/// each as it ended, whatever passes and members were parted, met or joined before. What the pass
+/// or the member has seen is a legal history.
 pub fn sees_own<W: Work>(limit: u32, work: W)
     ensures own { SeesOwnCalls (W.lawful work) (setup_for W.many W.size W.meaning limit work) }
     ensures legal { SeesLegal (W.lawful work) (setup_for W.many W.size W.meaning limit work) }
@@ -37,8 +37,9 @@ pub fn evictions_are_raised<W: Work>(work: W)
     ensures { EvictionsAreRaised (W.lawful work) }
 {}
 
-/// A member that has no open call, as after it has enrolled, stands for a fresh machine of its
-/// number. If a machine that it stands for begins a call, it still stands for that machine.
+/// A member that has no open call stands for a fresh machine of its number. After it has enrolled,
+/// a member has no open call. If the idle machine for which a member stands begins a call, the
+/// member stands for the machine with this call too.
 pub fn members<W: Work>(work: W)
     ensures fresh { MembersStandForFresh W.meaning }
     ensures range { MemberInRange work }
@@ -52,8 +53,8 @@ pub fn idle_members<W: Work>()
     ensures { IdleMembersHaveNoCall W.meaning }
 {}
 
-/// A machine with the row's sizes and work runs on the row, and still does when it has begun a
-/// call.
+/// A machine with the row's sizes, limit and work runs on the row. After it has begun a call, it
+/// still does.
 pub fn machines<W: Work>(work: W)
     ensures first { NewMachinesRun work }
     ensures begun { MachinesKeepRunning work }

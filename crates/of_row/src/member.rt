@@ -7,8 +7,8 @@ ghost use Rattle.of_row.specs.Views.{IsSole};
 use crate::view::View;
 use atomic_table::Seat;
 
-/// A seat on a row for a thread that makes no calls. Contracts see what the pass knows. No eviction
-/// of the pass is half done.
+/// A seat on a row for a thread that makes no calls. Contracts see what the pass knows. Each
+/// eviction that the pass has begun is finished.
 #[derive(Drop)]
 pub struct Pass {
     pub(crate) seat: Seat<(), View>,

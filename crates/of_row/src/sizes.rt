@@ -1,4 +1,4 @@
-//! What a row is made for: its sizes, which are its work's.
+//! What a row is made for: its shape, its limit and its work.
 
 ghost use Rattle.std.specs.Prelude.{◌≡◌, ◌≤◌};
 ghost use Rattle.of_mem.specs.declared.work.TheConstants.{MOST_INSTRS};

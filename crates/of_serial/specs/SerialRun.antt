@@ -39,18 +39,18 @@ RunsScript script before now reply =
     (s : Store) → CellsHoldStore before s
     → CellsHoldStore now (run s script).0 × (reply_value_of reply ≡ (run s script).1)
 
--- the code's run has come as far as the run `h`
+-- the code's run has the entries, the sequence and the store of the serial run `h`
 pub record HasComeTo (r : RustSerialRun) (h : SerialRun) : Type 0 where
   pub entries : map entry_value r.entries.items ≡ h.entries
   pub whole : All HasWholeReply r.entries.items
   pub seq : r.seq ≡ h.seq
   pub store : CellsHoldStore r.cells h.store
 
--- the code's run has come as far as some serial run
+-- the code's run has the entries, the sequence and the store of some serial run
 abbrev pub IsOnCourse : RustSerialRun → Type 0
 IsOnCourse r = (h : SerialRun) × HasComeTo r h
 
--- the run after one more call, with this script
+-- the serial run `h` after one more call, with this script
 abbrev pub after_call : SerialRun → CallId → List Instr → SerialRun
 after_call h call script = record {
   entries = h.entries ++ serial_entry (h.seq + 1, (call, (run h.store script).1)) ∷ [];
@@ -79,11 +79,12 @@ course_after p calls = record {
 abbrev pub HasMadeCalls : Plan → RustSerialRun → Type 0
 HasMadeCalls p r = (calls : List CallId) × HasComeTo r (course_after p calls)
 
--- the calls of a caller for which there is a sequence after `s`, up to the plan's limit
+-- the caller's first calls, as many as there are sequences above `seq` up to the plan's limit
 abbrev pub calls_within : Plan → (seq caller : ℕ) → List CallId
 calls_within p s c = take (p.limit - s) (calls_of p c)
 
--- the code's run has made the calls of this caller too, as many as there are sequences for
+-- after the calls so far, the code's run has made the calls of this caller, as many as there are
+-- sequences left
 abbrev pub RunsCaller : Plan → ℕ → (before now : RustSerialRun) → Type 0
 RunsCaller p c before now =
     (calls : List CallId) → HasComeTo before (course_after p calls)

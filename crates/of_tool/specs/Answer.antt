@@ -70,24 +70,25 @@ abbrev pub HasNoPlan : List ℕ → Refusal → Type 0
 HasNoPlan text (BadPlan line) = HasBadLine IsPlanText text line
 HasNoPlan text why = ⊥
 
--- the refusal says why the text has no image of this version
+-- the refusal says why no image of this version is read from the text
 abbrev pub HasNoImage : Edition → List ℕ → Refusal → Type 0
 HasNoImage edition text (BadImage line) = HasBadLine (IsImageText edition) text line
 HasNoImage edition text (UnlawfulImage cell) = IsUnlawful edition text cell
 HasNoImage edition text why = ⊥
 
--- the first text has this image, and the second spells this plan
+-- the first text is read as this image, and the second spells this plan
 pub record AreOf (first second : List ℕ) (image : Image) (plan : Plan) : Type 0 where
   pub reads : ReadsImage Two first image
   pub spelled : SpellsPlan second plan
 
--- the first text has this image, the second spells this plan, and the plan fits the image
+-- the first text is read as this image, the second spells this plan, and the plan fits the image
 pub record IsLife (first second : List ℕ) (image : Image) (plan : Plan) : Type 0 where
   pub are : AreOf first second image plan
   pub fits : PlanFitsImage image plan
 
--- the refusal says why the texts have no such image and plan: the second spells no plan; or it
--- does, and the first has no image; or it has, and the plan doesn't fit the image
+-- the refusal says why the texts are no image with a plan that fits it: the second text spells no
+-- plan; or it spells one, and no image is read from the first; or both are read, and the plan
+-- doesn't fit the image
 abbrev pub HaveNoLife : (first second : List ℕ) → Refusal → Type 0
 HaveNoLife first second (BadPlan line) = HasBadLine IsPlanText second line
 HaveNoLife first second DoesNotFit =

@@ -30,7 +30,7 @@ pub data Input : Type 0 where
   ImageAndPlan : Input
   -- an image, a plan, a report and an image
   WholeLife : Input
-  -- texts of any kind, and which of them is asked for
+  -- texts of any kind, and the number of the one that is to be printed
   AnyTexts : (number : ℕ) → Input
 
 -- the kind of input that a command reads; None if it reads nothing
@@ -121,12 +121,12 @@ pub record ReadsOne (Is : List ℕ → Type 0) (source : Change) : Type 0 where
   pub read : ReadsAll MOST_IMAGE source bytes
   pub is : Is bytes
 
--- the whole input is the text of an image of this version, and this is the image
+-- the whole input is the text of an image of this version, and is read as this image
 abbrev pub ReadsImageOf : Edition → Change → AnImage → Type 0
 ReadsImageOf edition source image = ReadsOne (λ bytes. ReadsImage edition bytes image) source
 
--- the whole input is the text of a version 1 image, and `text` is the text of that image in version
--- 2
+-- the whole input is the text of an image of version 1, and `text` is this image, recovered, in
+-- version 2
 abbrev pub ReadsEarlier : Change → List ℕ → Type 0
 ReadsEarlier source text = ReadsOne (λ bytes. Migrates bytes text) source
 
@@ -226,8 +226,8 @@ pub record ReadsLegalLife (source : Change) : Type 0 where
   pub fits : PlanFitsImage image plan
   pub legal : IsLegalLife image plan told left
 
--- the whole input has four parts: an image, a plan that fits it, and two texts that are not those
--- of such a life
+-- the whole input has four parts: an image, a plan that fits it, and two texts that are not the
+-- report and the image of a life that goes on from the first image by the plan
 pub record ReadsIllegalLife (source : Change) : Type 0 where
   pub image : AnImage
   pub plan : Plan
@@ -246,7 +246,7 @@ pub record ReadsPart (number : ℕ) (source : Change) (part : List ℕ) : Type 0
   pub is : IsPart number bytes part
   pub some : 1 ≤ length part
 
--- the whole input has fewer texts than this number: its part with the number is empty
+-- the whole input has fewer than `number` texts: the part with this number is empty
 pub record ReadsFewer (number : ℕ) (source : Change) : Type 0 where
   pub bytes : List ℕ
   pub read : ReadsAll MOST_WITH_REPORT source bytes

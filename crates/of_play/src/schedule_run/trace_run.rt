@@ -296,7 +296,7 @@ impl TraceRun {
         }
     }
 
-    /// Makes that many turns of a caller.
+    /// Makes `count` turns of a caller.
     fn turns(&mut self, plan: &Plan, caller: u32, count: u32) -> Result<(), AllocError>
         requires caller { caller < plan.now.callers }
         requires tracing { IsTracing plan.now self.old }

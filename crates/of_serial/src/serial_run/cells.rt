@@ -35,7 +35,7 @@ impl Cells {
         Ok(Cells { scripts, part })
     }
 
-    /// Runs a script, keeps what it writes, and answers its reply.
+    /// Runs a script, keeps what it writes, and returns its reply.
     pub(super) fn run(&mut self, script: &Script) -> Reply
         requires { (s : Store) × CellsHoldStore self.old s }
         ensures whole { IsWhole result }
