@@ -7,7 +7,7 @@ use Rattle.of_mem.specs.Meaning.{Meaning}
 use Rattle.of_mem.specs.declared.work.RawReply.{RawReply}
 use Rattle.of_mem.specs.declared.work.TheConstants.{MOST_INSTRS}
 use Rattle.of_core.specs.declared.place.Outcome.{Outcome}
-use Rattle.of_core.specs.declared.place.Outcome.TheVariants.{Answered, Spent}
+use Rattle.of_core.specs.declared.place.Outcome.TheVariants.{Answered, Spent, Lost}
 use Rattle.of_core.specs.Machine.{Call, no_call}
 use Rattle.of_core.specs.Claim.{IsNewerCall}
 use Rattle.of_core.specs.Linear.{Sequences, HasOwnSequence}
@@ -49,10 +49,12 @@ pub record HasEntry (h : List Call) (caller ticket : ℕ) (op : List ℕ) (raw :
   pub words : (get_or h place no_call).op ≡ op
   pub reply : IsSameReply raw (get_or h place no_call).raw
 
--- The history has an answered call, with its reply. It does not have a spent one.
+-- The history has an answered call, with its reply. It does not have a spent one, and may have a
+-- lost one.
 abbrev pub ExplainsEnd : List Call → (caller ticket : ℕ) → (op : List ℕ) → Outcome → Type 0
 ExplainsEnd h c t op (Answered seq announced raw steps) = HasEntry h c t op raw
 ExplainsEnd h c t op (Spent seq) = All (λ (e : Call). e.caller ≡ c → e.ticket ≡ t → ⊥) h
+ExplainsEnd h c t op (Lost seq) = Unit {0}
 
 -- the history explains how these calls of a caller ended; they have the tickets from n + 1 on
 abbrev pub ExplainsAll : List Call → (caller n : ℕ) → List EndedCall → Type 0

@@ -8,6 +8,7 @@ use Rattle.of_plan.specs.Ended.{Ended}
 use Rattle.of_core.specs.declared.bank.Turn.{Turn}
 use Rattle.of_core.specs.declared.bank.Turn.TheVariants.{Idle, Open, Ended as EndedTurn}
 use Rattle.of_core.specs.declared.place.Outcome.{Outcome}
+use Rattle.of_core.specs.declared.place.Outcome.TheVariants.{Lost}
 use Rattle.of_core.specs.Machine.{CallState}
 use Rattle.of_core.specs.Moment.{bank_setup}
 use Rattle.of_core.specs.Events.{Event, machine_in, IsSchedule}
@@ -67,11 +68,17 @@ BeginsNext p c before now =
     (es : List Event) → StandsAfter p es before
     → StandsAfter p (es ++ next_begin p c (machine_left p es c)) now
 
+-- the raw reply of an answered call is that of some reply; and no call is lost, since a play
+-- replaces no machine
+abbrev pub IsPlayedOutcome : Outcome → Type 0
+IsPlayedOutcome (Lost s) = ⊥
+IsPlayedOutcome o = OutcomeHoldsReply o
+
 -- if a turn has ended a call, its reply is one
 abbrev pub IsReplied : Turn → Type 0
 IsReplied Idle = Unit {0}
 IsReplied Open = Unit {0}
-IsReplied (EndedTurn o) = OutcomeHoldsReply o
+IsReplied (EndedTurn o) = IsPlayedOutcome o
 
 -- the outcome of a turn of caller c, if it has one, is noted after the caller's answers
 pub record NotesTurn (c : ℕ) (turn : Turn) (before now : ScheduleRun) : Type 0 where
