@@ -143,7 +143,7 @@ pub record IsSound (S : Setup) (B : TableStart) (w : Moment) : Type 0 where
   pub met : (k i : ℕ) → B.seq < k → k < B.seq + length w.batches → i < S.callers
       → (batch_at B w.batches k).announcements i ≡ announcement_of S w.words i
       → seq_of (announcement_of S w.words i) ≤ last_ticket_by S B w.batches (k + 1) i
-  -- batches are the callers'
+  -- the owner of each batch, who has committed it, is one of the callers
   pub owners : (k : ℕ) → B.seq < k → k ≤ B.seq + length w.batches
       → (batch_at B w.batches k).owner < S.callers
   -- the current-transaction word counts the batches, and the table's data cells are those of the

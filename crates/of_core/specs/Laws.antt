@@ -156,7 +156,8 @@ StepsKeepLoaded S Lawful = EachStep S Lawful (λ B w i m n.
     (e : ℕ × ℕ) → IsLoaded S B w.words w.batches e
     → IsLoaded S B (after_step S i m n w).words (after_step S i m n w).batches e)
 
--- and to raise the durable word of its cell to it keeps the invariant, and all other such words
+-- An eviction raises the durable word of a cell to a word that was loaded from the cell before. This
+-- keeps the invariant, and each word that was loaded for another eviction may still be raised.
 abbrev pub RaisesKeepInvariant : Setup → (List ℕ → Type 0) → Type 0
 RaisesKeepInvariant S Lawful =
     EachLoaded S Lawful (λ B w e. MeetsInvariant S Lawful B (after_raise S w e)

@@ -110,7 +110,8 @@ pub record DurableWordsMatch (S : Setup) (B : TableStart) (ws : List ℕ) (bs : 
       → (durable_cell S ws a ≡ data_word_after B bs (durable_seq S ws) a)
       ⊎ (IsLastOpen B ws × (committed_seq ws ≡ durable_seq S ws)
       × (durable_cell S ws a ≡ data_word_after B bs (durable_seq S ws - 1) a))
-  -- the start's request is closed durably too
+  -- the transaction of the start is closed, also after a crash: the durable request word of its
+  -- owner is above the word that the request had while the transaction was open
   pub begun : 0 < B.seq → pack B.seq 0 < durable_request S ws B.owner
   -- a batch's owner has stored its request durably before it committed
   pub floor : (k : ℕ) → B.seq < k → k ≤ committed_seq ws

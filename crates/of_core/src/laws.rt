@@ -28,11 +28,12 @@ ghost use Rattle.of_core.specs.Laws.{LongerKeepsStates, PrefixKeepsBatches, Pref
 
 use of_mem::Work;
 
-/// From whatever meets the invariant each step, each begin of a call and each eviction leads to
-/// what meets it. A fresh machine may begin an idle one's next call in its place, if it is given as
-/// many calls: all else that the protocol needs is on the table. A table at a start meets the
-/// invariant, and whatever meets it has what every moment claims: it has begun at a start that a
-/// table may have, and its states are lawful.
+/// If a moment meets the invariant, so does the moment after a step of any machine, after a call
+/// begins, and after an eviction. A call may also begin on a new machine in place of its caller's
+/// idle one, if that is given the number of calls that the idle one has made: all else that the
+/// protocol needs is on the table. A table at a start meets the invariant. A moment that meets it
+/// is sound, it came from a start that a table may have, and the state after each of its batches
+/// is lawful.
 pub fn step_kept<W: Work>(limit: u32, work: W)
     ensures kept { StepsKeepInvariant
         (setup_for W.many W.size W.meaning limit work) (W.lawful work) }
@@ -102,10 +103,11 @@ pub fn calls_kept<W: Work>(limit: u32, work: W)
         (setup_for W.many W.size W.meaning limit work) (W.lawful work) }
 {}
 
-/// Each event, and so each schedule, keeps the invariant. From every start every schedule leaves a
-/// moment with a legal history, of which recovery gives the state that its durable words name; and
-/// no durable word is other than one that its cell has held. A schedule may replace machines that
-/// are lost; what such a machine had begun and not announced is never run.
+/// Each event keeps the invariant, and so does each schedule. After any schedule from any start the
+/// history is legal; recovery of the durable words gives the state after one of its batches, the
+/// one whose number the durable current-transaction word has; and each durable word is one that
+/// its cell held at some moment of the schedule. A schedule may replace machines that are lost: a
+/// call that a lost machine had begun and not announced is never run.
 pub fn every_moment<W: Work>(limit: u32, work: W)
     ensures kept { EventsKeepInvariant
         (setup_for W.many W.size W.meaning limit work) (W.lawful work) }
