@@ -6,11 +6,12 @@ use Rattle.of_plan.specs.Plan.{Plan}
 use Rattle.of_plan.specs.Ended.{Ended}
 use Rattle.of_plan.specs.Report.{Entry, Report, Start, finished_of}
 use Rattle.of_eval.specs.Record.{IsLawfulRecord}
-use Rattle.of_core.specs.Table.{Setup}
+use Rattle.of_core.specs.Table.{Setup, committed_seq}
+use Rattle.of_core.specs.Machine.{is_idle}
 use Rattle.of_core.specs.TableMoment.{Moment, TableStart}
 use Rattle.of_core.specs.WordsMatch.{MayStart}
-use Rattle.of_core.specs.Events.{Event, Begins, Turns, Loads, Evicts, Raises, after_event, machine_in, after_events, IsSchedule}
-use Rattle.of_core.specs.Calls.{outcome_of_step, outcomes}
+use Rattle.of_core.specs.Events.{Event, Begins, Turns, Loads, Evicts, Raises, Revives, after_event, machine_in, after_events, IsSchedule}
+use Rattle.of_core.specs.Calls.{outcome_of_step, outcome_of_loss, outcomes}
 use Rattle.of_row.specs.Views.{View}
 use Rattle.of_caller.specs.Tables.{plan_setup, IsLawfulFor, opening_at}
 use Rattle.of_caller.specs.Scheduled.{events_of_items, IsScheduled}
@@ -63,7 +64,7 @@ RespectsTime s ms r =
 -- ---- the marks of a schedule
 
 -- the marks of an event at this moment: an event that begins a call has one, and so has a turn that
--- ends a call
+-- ends a call, or the loss of a machine that ends one
 abbrev pub marks_of : Setup → Moment → Event → List Mark
 marks_of S w (Begins i op) = BeginsCall i ∷ []
 marks_of S w (Turns i) =
@@ -72,6 +73,10 @@ marks_of S w (Turns i) =
 marks_of S w (Loads c) = []
 marks_of S w (Evicts k) = []
 marks_of S w (Raises c) = []
+marks_of S w (Revives i made) =
+    map (λ o. EndsCall i)
+    (outcome_of_loss (committed_seq w.words) (is_idle (machine_in w i).place)
+    (is_idle (machine_in (after_event S w (Revives i made)) i).place))
 
 -- the marks of these events, the first of which happens at this moment
 abbrev pub marks_in : Setup → Moment → List Event → List Mark

@@ -10,7 +10,7 @@ use Rattle.of_plan.specs.declared.answer.Answer.{Answer}
 use Rattle.of_plan.specs.declared.answer.Ending.{Ending}
 use Rattle.of_plan.specs.Plan.{Plan, IsPlan, scripts_of}
 use Rattle.of_core.specs.declared.place.Outcome.{Outcome}
-use Rattle.of_core.specs.declared.place.Outcome.TheVariants.{Answered, Spent}
+use Rattle.of_core.specs.declared.place.Outcome.TheVariants.{Answered, Spent, Lost}
 use Rattle.of_core.specs.Turn.{IsIdle}
 use Rattle.of_row.specs.Views.{KnownCaller}
 use Rattle.of_row.specs.Rows.{IsRowMember}
@@ -33,6 +33,7 @@ pub record IsPlanRow (p : Plan) (r : Row Scripts) : Type 0 where
 abbrev pub IsHeldAnswer : Outcome → Type 0
 IsHeldAnswer (Answered k announced raw steps) = (r : Reply) × IsHeldBy raw r
 IsHeldAnswer (Spent k) = ⊥
+IsHeldAnswer (Lost k) = ⊥
 
 -- the list is longer by one item, of which P holds
 pub record Appends {A : Type 0} (P : A → Type 0) (xs ys : List A) : Type 0 where

@@ -4,6 +4,7 @@ use Rattle.of_plan.specs.Plan.{Plan}
 use Rattle.of_core.specs.Table.{Setup}
 use Rattle.of_core.specs.Laws.{OpenStepsAreSteps, StepsFindTheirWord, InvariantIsSound, WordsBehindAreFree, WordsBehindKeepCalls, StartsMeetInvariant, EventsKeepInvariant, SchedulesKeepInvariant, EveryMomentIsSound, EveryCallStands, TurnsCountSteps, EventsLeadCalls, FirstWordsHoldStart, ZerosMayStart}
 use Rattle.of_caller.specs.Tables.{plan_setup, IsLawfulFor}
+use Rattle.of_caller.specs.LastOutcomes.{EventsLeadLast, MachinesHoldLast}
 
 -- what the laws say of a table with this setup; `Lawful` says which data cells are lawful
 pub record HasTableLaws (S : Setup) (Lawful : List ℕ → Type 0) : Type 0 where
@@ -24,6 +25,9 @@ pub record HasTableLaws (S : Setup) (Lawful : List ℕ → Type 0) : Type 0 wher
   pub calls : EveryCallStands S Lawful
   pub more_calls : EventsLeadCalls S Lawful
   pub turns : TurnsCountSteps S Lawful
+  -- as long as no machine is replaced, an idle one holds its caller's last outcome
+  pub more_last : EventsLeadLast S Lawful
+  pub last : MachinesHoldLast S Lawful
   -- the first words of a table hold its start, and a table may start with zeros
   pub words : FirstWordsHoldStart S
   pub zero_start : ZerosMayStart S Lawful

@@ -3,7 +3,7 @@ use Rattle.std.specs.Prelude.{◌≡◌, ◌≢◌, ℕ, ◌≤◌, ◌↔◌, L
 use Rattle.of_cell.specs.Words.{seq_of, payload_of}
 use Rattle.of_core.specs.declared.place.Place.TheVariants.{LoadOwnTicket}
 use Rattle.of_core.specs.declared.place.Outcome.{Outcome}
-use Rattle.of_core.specs.declared.place.Outcome.TheVariants.{Answered, Spent}
+use Rattle.of_core.specs.declared.place.Outcome.TheVariants.{Answered, Spent, Lost}
 use Rattle.of_core.specs.Table.{Setup}
 use Rattle.of_core.specs.Machine.{CallState, IsOpen}
 use Rattle.of_core.specs.Steps.{take_word}
@@ -19,6 +19,7 @@ MissesOwnTicketAtLimit S m found =
 abbrev pub IsSpent : Outcome → Type 0
 IsSpent (Answered s announced raw steps) = ⊥
 IsSpent (Spent s) = Unit {0}
+IsSpent (Lost s) = ⊥
 
 -- the call's last step led to the machine d with the outcome o; the call is spent exactly if this
 -- step did not find the call's ticket

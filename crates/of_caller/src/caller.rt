@@ -130,6 +130,8 @@ impl<W: Work> Caller<W> {
         }
         match self.machine.answer() {
             Some(Outcome::Spent { seq }) => Err(CallErr::Spent { seq }),
+            // a row replaces no machine
+            Some(Outcome::Lost { .. }) => unreachable!(),
             Some(outcome) => {
                 brake.answered();
                 Ok(outcome)

@@ -7,7 +7,7 @@ use Rattle.of_mem.specs.Meaning.{Meaning}
 use Rattle.of_mem.specs.declared.work.RawReply.{RawReply}
 use Rattle.of_mem.specs.declared.work.TheConstants.{MOST_INSTRS}
 use Rattle.of_core.specs.declared.place.Outcome.{Outcome}
-use Rattle.of_core.specs.declared.place.Outcome.TheVariants.{Answered, Spent}
+use Rattle.of_core.specs.declared.place.Outcome.TheVariants.{Answered, Spent, Lost}
 use Rattle.of_core.specs.Machine.{Call, no_call}
 use Rattle.of_core.specs.Claim.{IsNewerCall}
 use Rattle.of_core.specs.Linear.{Sequences, HasOwnSequence}
@@ -51,10 +51,11 @@ pub record HasEntry (h : List Call) (caller ticket : ℕ) (op : List ℕ) (raw :
   pub reply : IsSameReply raw (get_or h place no_call).raw
 
 -- The history agrees with how this call ended: if the call was answered, the history has it, with
--- its reply; if it was spent, the history does not have it.
+-- its reply; if it was spent, the history does not have it. A lost call may be there or not.
 abbrev pub ExplainsEnd : List Call → (caller ticket : ℕ) → (op : List ℕ) → Outcome → Type 0
 ExplainsEnd h c t op (Answered seq announced raw steps) = HasEntry h c t op raw
 ExplainsEnd h c t op (Spent seq) = All (λ (e : Call). e.caller ≡ c → e.ticket ≡ t → ⊥) h
+ExplainsEnd h c t op (Lost seq) = Unit {0}
 
 -- the history explains how these calls of a caller ended; they have the tickets from n + 1 on
 abbrev pub ExplainsAll : List Call → (caller n : ℕ) → List EndedCall → Type 0

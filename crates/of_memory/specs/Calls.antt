@@ -9,7 +9,7 @@ use Rattle.of_store.specs.Store.{Reply}
 use Rattle.of_store.specs.Replies.{reply_value_of}
 use Rattle.of_eval.specs.Shapes.{IsHeldBy}
 use Rattle.of_core.specs.declared.place.Outcome.{Outcome}
-use Rattle.of_core.specs.declared.place.Outcome.TheVariants.{Answered, Spent as Over}
+use Rattle.of_core.specs.declared.place.Outcome.TheVariants.{Answered, Spent as Over, Lost}
 use Rattle.of_core.specs.Machine.{IsOpen}
 use Rattle.of_row.specs.Views.{EndedCall, KnownCaller}
 use Rattle.of_memory.specs.History.{End, Replied, Spent, Made}
@@ -30,6 +30,7 @@ EndsAs (Answered s announced raw steps) (Replied r t n a) =
 EndsAs (Answered s announced raw steps) (Spent t) = ⊥
 EndsAs (Over s) (Replied r t n a) = ⊥
 EndsAs (Over s) (Spent t) = s ≡ t
+EndsAs (Lost s) end = ⊥
 
 -- what a caller keeps of an ended call is this call of a script
 pub record IsMade (e : EndedCall) (m : Made) : Type 0 where

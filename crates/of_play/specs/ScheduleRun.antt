@@ -8,6 +8,7 @@ use Rattle.of_plan.specs.Ended.{Ended}
 use Rattle.of_core.specs.declared.bank.Turn.{Turn}
 use Rattle.of_core.specs.declared.bank.Turn.TheVariants.{Idle, Open, Ended as EndedTurn}
 use Rattle.of_core.specs.declared.place.Outcome.{Outcome}
+use Rattle.of_core.specs.declared.place.Outcome.TheVariants.{Lost}
 use Rattle.of_core.specs.Machine.{CallState}
 use Rattle.of_core.specs.Moment.{bank_setup}
 use Rattle.of_core.specs.Events.{Event, machine_in, IsSchedule}
@@ -68,11 +69,17 @@ BeginsNext p c before now =
     (es : List Event) → StandsAfter p es before
     → StandsAfter p (es ++ next_begin p c (machine_left p es c)) now
 
+-- the raw reply of an answered call is that of some reply; and no call is lost, since a play
+-- replaces no machine
+abbrev pub IsPlayedOutcome : Outcome → Type 0
+IsPlayedOutcome (Lost s) = ⊥
+IsPlayedOutcome o = OutcomeHoldsReply o
+
 -- if the turn has ended a call, the call's outcome holds a reply
 abbrev pub IsReplied : Turn → Type 0
 IsReplied Idle = Unit {0}
 IsReplied Open = Unit {0}
-IsReplied (EndedTurn o) = OutcomeHoldsReply o
+IsReplied (EndedTurn o) = IsPlayedOutcome o
 
 -- if the turn of caller `c` has ended a call, the code has noted its outcome after the caller's
 -- answers

@@ -8,7 +8,7 @@ use Rattle.of_mem.specs.declared.work.RawReply.{RawReply}
 use Rattle.of_eval.specs.Shapes.{IsHeldBy}
 use Rattle.of_plan.specs.Plan.{Plan}
 use Rattle.of_core.specs.TableMoment.{Moment}
-use Rattle.of_core.specs.Events.{Event, Begins, Turns, Loads, Evicts, Raises, after_events}
+use Rattle.of_core.specs.Events.{Event, Begins, Turns, Loads, Evicts, Raises, Revives, after_events}
 use Rattle.of_caller.specs.Tables.{plan_setup, opening_for}
 use Rattle.of_caller.specs.Left.{moment_after}
 use Rattle.of_play.specs.Play.{with_begin, plan_events, play_events}
@@ -22,6 +22,7 @@ IsShown (Raises c) = Unit {0}
 IsShown (Begins i op) = ⊥
 IsShown (Loads c) = ⊥
 IsShown (Evicts k) = ⊥
+IsShown (Revives i made) = ⊥
 
 -- the schedule of a plan has only turns and evictions
 abbrev pub AllAreShown : Type 0

@@ -2,7 +2,7 @@
 use Rattle.std.specs.Prelude.{ℕ, List, [], ◌++◌, Option, Some, None, true, false, codes, decimal}
 use Rattle.of_plan.specs.Plan.{Plan}
 use Rattle.of_core.specs.declared.place.Outcome.{Outcome}
-use Rattle.of_core.specs.declared.place.Outcome.TheVariants.{Answered, Spent}
+use Rattle.of_core.specs.declared.place.Outcome.TheVariants.{Answered, Spent, Lost}
 use Rattle.of_play.specs.declared.trace_line.TraceStep.{TraceStep}
 use Rattle.of_play.specs.declared.trace_text.Change.{Change}
 use Rattle.of_play.specs.TraceText.{step_text, plan_word, change_text}
@@ -16,6 +16,7 @@ end_text (Some (Answered s true raw k)) =
 end_text (Some (Answered s false raw k)) =
     codes ", read at " ++ decimal s ++ codes " in " ++ decimal k ++ codes " steps"
 end_text (Some (Spent s)) = codes ", spent at " ++ decimal s
+end_text (Some (Lost s)) = codes ", lost at " ++ decimal s
 
 -- what is printed first of event `k`: its number, its caller, the index of the script, and the name
 -- of the step

@@ -13,7 +13,7 @@ use Rattle.of_report.specs.ReportText.{reply_text}
 use Rattle.of_core.specs.declared.place.Op.{Op}
 use Rattle.of_core.specs.declared.place.Op.TheVariants.{Load, Store, Exchange, Raise}
 use Rattle.of_core.specs.declared.place.Outcome.{Outcome}
-use Rattle.of_core.specs.declared.place.Outcome.TheVariants.{Answered, Spent}
+use Rattle.of_core.specs.declared.place.Outcome.TheVariants.{Answered, Spent, Lost}
 use Rattle.of_play.specs.declared.names.CellUse.{CellUse}
 use Rattle.of_play.specs.declared.names.CellUse.TheVariants.{Ticket, Shape, Reply as ReplyHeld, Register, Taken, Free, Keys, Bucket, Front, Back, Length, Block}
 use Rattle.of_play.specs.declared.names.ShownCell.{ShownCell}
@@ -133,8 +133,9 @@ shown_reply raw =
 abbrev pub held_part : RawReply → List ℕ
 held_part raw = codes "; reply" ++ reply_text (shown_reply raw)
 
--- what is printed of the reply of a call that has ended; a spent call has none
+-- what is printed of the reply of a call that has ended; a spent or a lost call has none
 abbrev pub reply_part : Option Outcome → List ℕ
 reply_part None = []
 reply_part (Some (Answered s announced raw k)) = held_part raw
 reply_part (Some (Spent s)) = []
+reply_part (Some (Lost s)) = []

@@ -27,8 +27,8 @@ impl ScheduleRun {
     ghost use Rattle.of_plan.specs.Plan.{IsPlan, IsScheduleItem, scripts_of};
     ghost use Rattle.of_core.specs.Events.{Turns};
     ghost use Rattle.of_play.specs.Play.{turns_by, item_events};
-    ghost use Rattle.of_caller.specs.Ends.{OutcomeHoldsReply, is_spent};
-    ghost use Rattle.of_play.specs.ScheduleRun.{StandsAfter, IsPlaying, MakesMoves, MakesTurnsInRow, BeginsNext, IsReplied, NotesTurn, NotesEnd, CallerEndsAs, RunLeaves};
+    ghost use Rattle.of_caller.specs.Ends.{is_spent};
+    ghost use Rattle.of_play.specs.ScheduleRun.{StandsAfter, IsPlaying, MakesMoves, MakesTurnsInRow, BeginsNext, IsPlayedOutcome, IsReplied, NotesTurn, NotesEnd, CallerEndsAs, RunLeaves};
     ghost use Rattle.of_core.specs.Moment.{machine_of};
     ghost use Rattle.of_core.specs.MachineValue.{ended_outcome};
 
@@ -84,11 +84,13 @@ impl ScheduleRun {
     #[inline(never)]
     fn note_end(&mut self, caller: u32, outcome: Outcome) -> Result<(), AllocError>
         requires answers { caller < length self.old.answers.items }
-        requires reply { OutcomeHoldsReply outcome }
+        requires reply { IsPlayedOutcome outcome }
         ensures { OnOk result (NotesEnd caller outcome self.old self.new) }
     {
         match outcome {
             Outcome::Spent { .. } => Ok(()),
+            // a play replaces no machine
+            Outcome::Lost { .. } => unreachable!(),
             Outcome::Answered {
                 seq,
                 announced,
@@ -224,7 +226,7 @@ impl ScheduleRun {
         };
         match outcome {
             Outcome::Spent { seq } => Ending::Spent { seq },
-            Outcome::Answered { .. } => Ending::Stopped { asked },
+            Outcome::Answered { .. } | Outcome::Lost { .. } => Ending::Stopped { asked },
         }
     }
 

@@ -37,6 +37,7 @@ fn put_end(out: &mut String, outcome: Option<Outcome>) -> Result<(), AllocError>
     match outcome {
         None => Ok(()),
         Some(Outcome::Spent { seq }) => write!(out, ", spent at {seq}"),
+        Some(Outcome::Lost { seq }) => write!(out, ", lost at {seq}"),
         Some(
             Outcome::Answered {
                 seq,

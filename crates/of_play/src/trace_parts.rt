@@ -215,7 +215,7 @@ pub fn put_reply_part(out: &mut String, outcome: Option<Outcome>) -> Result<(), 
     ensures { OnOk result (AppendsText out.old out.new (reply_part outcome)) }
 {
     match outcome {
-        None | Some(Outcome::Spent { .. }) => Ok(()),
+        None | Some(Outcome::Spent { .. }) | Some(Outcome::Lost { .. }) => Ok(()),
         Some(Outcome::Answered { raw, .. }) => put_held(out, &raw),
     }
 }
