@@ -105,8 +105,7 @@ SavedHolds d numbers = HoldAfterOwn (saved_callers d) (saved_cells d) numbers
 -- is the call of the history with the ticket in the cells, and the cells hold its reply.
 abbrev pub TellLast : (cells : List ℕ) → List Call → (n before : ℕ) → Type 0
 TellLast xs h n before =
-    (own_ticket xs n ≡ before)
-    ⊎ ((p : ℕ) × (p < length h) × ((get_or h p no_call).caller ≡ n)
+    (own_ticket xs n ≡ before) ⊎ ((p : ℕ) × (p < length h) × ((get_or h p no_call).caller ≡ n)
     × ((get_or h p no_call).ticket ≡ own_ticket xs n) × HoldReply xs n (get_or h p no_call).raw)
 
 -- the history explains how the kept caller's calls ended
