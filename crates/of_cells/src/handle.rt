@@ -51,7 +51,8 @@ impl<W: Work> CellHandle<W> {
         self.number
     }
 
-    /// Runs an operation of 1 to `MOST_INSTRS` words, all of it or nothing, and answers its reply.
+    /// Runs an operation of 1 to `MOST_INSTRS` words, all of it or nothing, and answers with its
+    /// reply.
     pub fn run(&mut self, op: &[u64]) -> Result<RawAnswer, RunError>
         requires handle { IsCellHandle W.meaning self.old }
         requires some { 1 ≤ length op.now }
@@ -153,7 +154,7 @@ impl<W: Work> CellHandle<W> {
         self.resume(None)
     }
 
-    /// Goes on with the open call for at most this many steps.
+    /// Goes on with the open call for at most this many steps. If they are too few, it stays open.
     pub fn go_on_within(&mut self, steps: u64) -> Result<RawAnswer, RunError>
         requires { IsCellHandle W.meaning self.old }
         ensures handle { IsCellHandle W.meaning self.new }

@@ -54,8 +54,8 @@ impl<W: Work> SavedCells<W> {
         Ok(SavedCells { limit, ..self })
     }
 
-    /// Keeps the numbers in the data cells, and sets the last committed sequence to 0. So a memory
-    /// that goes on from this has all sequences up to its limit left.
+    /// Keeps the numbers in the data cells, and sets the last committed sequence to 0. A memory
+    /// that goes on from the result has all sequences up to its limit left.
     pub fn renumbered(mut self) -> SavedCells<W>
         requires { IsSavedCells W.many W.size W.meaning W.lawful self }
         ensures saved { IsSavedCells W.many W.size W.meaning W.lawful result }

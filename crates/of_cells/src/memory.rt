@@ -1,4 +1,4 @@
-//! The memory itself.
+//! A memory of cells: it is opened, gives out handles, and is closed.
 
 ghost use Rattle.std.specs.Prelude.{◌≡◌};
 ghost use Rattle.of_cell.specs.declared.word.TheConstants.{GREATEST_LIMIT};
@@ -26,8 +26,8 @@ pub struct CellMemory<W: Work> {
     known: Option<Pass>,
     /// The callers that have no handle, by their numbers.
     callers: Vec<Option<Caller<W>>>,
-    /// Room into which a close loads the durable words, so that it allocates nothing. It is empty
-    /// until then, so that its pages are not touched while the memory is in use.
+    /// Room into which a close loads the durable words, so that the close allocates nothing. The
+    /// room is empty until then, so that its pages are not touched while the memory is in use.
     room: Vec<u64>,
 }
 
@@ -224,8 +224,8 @@ impl<W: Work> CellMemory<W> {
         put_at(&mut self.callers, number as usize, caller);
     }
 
-    /// Closes the memory: what is durable is recovered and saved, and all else is given up. If a
-    /// handle is out, the error hands the memory back. A close allocates nothing.
+    /// Closes the memory: the durable words are recovered and saved, and all else is given up. If
+    /// a handle is out, the error hands the memory back. A close allocates nothing.
     pub fn close(self) -> Result<SavedCells<W>, InUse<W>>
         requires { IsCellMemory W.meaning self }
         ensures saved { IfOk result (IsSavedCells W.many W.size W.meaning W.lawful) }

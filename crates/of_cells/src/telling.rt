@@ -18,8 +18,8 @@ pub struct CellNews {
     pub(crate) pass: Pass,
 }
 
-/// A caller and its memory tell each other what they know of the calls that have ended. Then both
-/// know all of it. This allocates nothing and waits for nothing.
+/// A caller and its memory tell each other what they know of the calls that have ended. After this,
+/// both know all that one of them knew. This allocates nothing and waits for nothing.
 pub(crate) fn exchange<W: Work>(row: &Row<W>, caller: &mut Caller<W>, known: &mut Option<Pass>)
     requires caller { IsCaller W.meaning row.now caller.old }
     requires known { IsKnowledge row.now known.old }
