@@ -57,7 +57,7 @@ impl Handle {
         self.cells.number()
     }
 
-    /// Runs a script, all of it or nothing, and answers its reply.
+    /// Runs a script, all of it or nothing, and answers with its reply.
     pub fn run(&mut self, script: &Script) -> Result<Answer, RunError>
         requires { IsHandle self.old }
         ensures handle { IsHandle self.new }
@@ -133,7 +133,7 @@ impl Handle {
         }
     }
 
-    /// Goes on with the open call for at most this many steps.
+    /// Goes on with the open call for at most this many steps. If they are too few, it stays open.
     pub fn go_on_within(&mut self, steps: u64) -> Result<Answer, RunError>
         requires { IsHandle self.old }
         ensures handle { IsHandle self.new }

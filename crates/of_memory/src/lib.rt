@@ -1,4 +1,4 @@
-//! A memory that a program opens: threads run scripts on one store, and what is closed can be
+//! A memory that a program opens: threads run scripts on one store, and a closed memory can be
 //! opened again. It is a memory of cells, whose operations are scripts.
 #![tactic(auto)]
 

@@ -1,4 +1,4 @@
-//! The memory itself.
+//! A memory: it is opened, gives out handles, and is closed.
 
 use crate::error::{InUse, OpenError};
 use crate::handle::Handle;
@@ -98,8 +98,8 @@ impl Memory {
     }
 
     /// A handle for this number, which goes on where the last handle of the number left. In the
-    /// memory's history, the calls that it begins come after all ended calls of handles that left
-    /// before.
+    /// memory's history, the calls that the new handle begins come after all ended calls of handles
+    /// that left before.
     pub fn enrol(&mut self, number: u32) -> Result<Handle, EnrolError>
         requires { IsMemory self.old }
         ensures memory { IsMemory self.new }
@@ -125,8 +125,8 @@ impl Memory {
         Ok(Handle { cells })
     }
 
-    /// Closes the memory: what is durable is recovered and saved, and all else is given up. If a
-    /// handle is out, and only then, the error hands the memory back.
+    /// Closes the memory: the durable words are recovered and saved, and all else is given up. If
+    /// a handle is out, and only then, the error hands the memory back.
     pub fn close(self) -> Result<Saved, InUse>
         requires { IsMemory self }
         ensures saved { IfOk result IsSaved }

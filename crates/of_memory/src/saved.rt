@@ -21,7 +21,7 @@ impl Saved {
     ghost use Rattle.of_memory.specs.Saving.{saved_limit, saved_seq, saved_ticket, saved_scripts};
     ghost use Rattle.of_memory.specs.Texts.{SavesSame, IsNoLimitOf};
 
-    /// How many callers are saved.
+    /// How many callers the saved memory has.
     pub fn callers(&self) -> u32
         ensures { result ≡ saved_callers self.now }
     {
@@ -63,8 +63,8 @@ impl Saved {
         }
     }
 
-    /// How many calls of a caller are saved: the ticket of its last one, also if another caller
-    /// finished that call.
+    /// How many calls of a caller are saved: the ticket of the caller's last saved call, also if
+    /// another caller finished this call.
     pub fn ticket(&self, number: u32) -> u32
         requires saved { IsSaved self.now }
         requires number { number < saved_callers self.now }
@@ -109,8 +109,8 @@ impl Saved {
         }
     }
 
-    /// Keeps store, tickets and replies, and sets the last committed sequence to 0. So a memory
-    /// that goes on from this has all sequences up to its limit left.
+    /// Keeps store, tickets and replies, and sets the last committed sequence to 0. A memory that
+    /// goes on from the result has all sequences up to its limit left.
     pub fn renumbered(self) -> Saved
         requires { IsSaved self }
         ensures saved { IsSaved result }
