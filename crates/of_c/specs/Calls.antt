@@ -1,4 +1,4 @@
--- What a call answers to C, and what the call has come to.
+-- What a call from C answers: a code, and a reply that shows the call's result.
 use Rattle.std.specs.Prelude.{◌≡◌, ◌≢◌, ℕ, ◌==◌, if◌then◌else◌, List, map, Option, Some, None, Result, Ok, Err}
 use Rattle.of_script.specs.declared.instr.Instr.{Instr}
 use Rattle.of_script.specs.Language.{IsScript, instr_word}
@@ -25,8 +25,8 @@ use Rattle.of_c.specs.Slots.{HasHandle}
 abbrev pub step_limit : ℕ → Option ℕ
 step_limit steps = if steps == 18446744073709551615 then None else Some steps
 
--- The code and the reply tell C what a call has come to. `open_code` is the code of a call that was
--- refused because a call is open, or because none is.
+-- The code and the reply tell C the result of a call. `open_code` is the code if the call was
+-- refused: a new call because one is open already, or a call to go on because none is open.
 abbrev pub Tells : (open_code : ℕ) → Result Answer RunError → (code : ℕ) → CReply → Type 0
 Tells o (Ok a) code r = (code ≡ DONE) × ShowsAnswer a r
 Tells o (Err (Stopped asked)) code r = (code ≡ STOPPED) × (r.steps ≡ asked)
@@ -35,14 +35,14 @@ Tells o (Err InCall) code r = code ≡ o
 Tells o (Err NoCall) code r = code ≡ o
 Tells o (Err NoTicket) code r = code ≡ NO_TICKET
 
--- A call that was not answered leaves the reply as it was, but for the steps if it was stopped, and
--- but for the sequence if it was spent.
+-- A call that was not answered leaves the reply as it was, apart from the reply's steps if the call
+-- was stopped, and apart from the reply's sequence if the call was spent.
 pub record LeavesReply (code : ℕ) (before now : CReply) : Type 0 where
   pub stopped : code ≡ STOPPED → now ≡ record before { steps = now.steps }
   pub spent : code ≡ SPENT → now ≡ record before { seq = now.seq }
   pub refused : code ≢ DONE → code ≢ STOPPED → code ≢ SPENT → now ≡ before
 
--- the reply is as it was, but for the place
+-- the reply is as it was, apart from its place
 abbrev pub ShowsPlaceAlone : (before now : CReply) → Type 0
 ShowsPlaceAlone before now = now ≡ record before { place = now.place }
 
@@ -89,8 +89,8 @@ pub record GoesOn (stop : Option ℕ) (h : Handle) (a : Result Answer RunError) 
 abbrev pub CallWork : Type 1
 CallWork = Handle → Result Answer RunError → Handle → Type 0
 
--- a caller is still held, with its handle after the call, and the code and the reply tell what the
--- call has come to
+-- a caller is still held, with its handle after the call; the code and the reply tell the result
+-- of the call
 pub record HasCalled (Does : CallWork) (open_code : ℕ) (h : Handle) (now : Held) (reply : CReply)
     (code : ℕ) : Type 0 where
   pub handle : Handle
