@@ -47,7 +47,7 @@ pub record LeavesReply (code : ℕ) (before now : CReply) : Type 0 where
 abbrev pub ShowsPlaceAlone : (before now : CReply) → Type 0
 ShowsPlaceAlone before now = now ≡ record before { place = now.place }
 
--- its calls have made no more steps than were given, if so many were
+-- its calls have made no more steps than were given, if a number was
 abbrev pub MakesGiven : (stop : Option ℕ) → (before now : Handle) → Type 0
 MakesGiven None h k = Unit {0}
 MakesGiven (Some steps) h k = MakesAtMost steps h k
@@ -149,8 +149,8 @@ CallsText text stop before now reply code =
 abbrev pub IsNoText : List ℕ → Type 0
 IsNoText text = (script : List Instr) → SpellsScript text script → ⊥
 
--- a caller is held, and so many sequences come after the last one that it knows
-pub record HasLeft (held : Option Held) (left : ℕ) : Type 0 where
+-- a caller is held, and `left` sequences come after the last one that it knows
+pub record HasSequencesLeft (held : Option Held) (left : ℕ) : Type 0 where
   pub handle : Handle
   pub is : HoldsHandle held handle
   pub left_is : left ≡ left_of_handle handle

@@ -14,7 +14,7 @@ use Rattle.of_c.specs.Slots.{HoldsSaved}
 abbrev pub TellsNoText : (code : ℕ) → Type 0
 TellsNoText code = (code ≢ DONE) × (code ≢ NO_ROOM)
 
--- the buffer is the text, and behind it as it was
+-- the buffer is the text, and after it as it was
 abbrev pub HoldsText : (text before now : List ℕ) → Type 0
 HoldsText text before now = now ≡ text ++ slice_range before (length text) (length before)
 

@@ -17,7 +17,7 @@ use Rattle.of_memory.specs.Telling.{KnowsOrdersOf, LeavesOrder, HearsMemory, Tel
 use Rattle.of_c.specs.declared.held.Held.{Held}
 use Rattle.of_c.specs.Slots.{HoldsMemory, HoldsHandle, HoldsSaved}
 
--- an empty memory is held: it has so many callers and blocks and this limit, and none of the
+-- an empty memory is held: it has these callers and blocks and this limit, and none of the
 -- callers has made a call
 pub record HoldsEmpty (callers blocks limit : ℕ) (now : Option Held) : Type 0 where
   pub memory : Memory

@@ -6,7 +6,7 @@ ghost use Rattle.of_c.specs.declared.codes.TheConstants.{CALL_OPEN, DONE, EMPTY}
 ghost use Rattle.of_c.specs.declared.codes.TheConstants.{NO_CALL, NO_SCRIPT};
 ghost use Rattle.of_c.specs.Calls.{step_limit, Tells, CallsScript, GoesOn, CallsHeld, CallsSlot};
 ghost use Rattle.of_c.specs.Calls.{CallsWords, AreNoScript, CallsText, IsNoText};
-ghost use Rattle.of_c.specs.Calls.{LeavesReply, ShowsPlaceAlone, HasLeft};
+ghost use Rattle.of_c.specs.Calls.{LeavesReply, ShowsPlaceAlone, HasSequencesLeft};
 ghost use Rattle.of_c.specs.Causes.{IsOneCode, HoldsNo, IsNotCaller};
 
 use crate::codes::{CALL_OPEN, DONE, EMPTY, NO_CALL, NO_SCRIPT, NO_TICKET, SPENT, STOPPED};
@@ -60,7 +60,7 @@ impl Seat {
         self.handle.run(script)
     }
 
-    // Runs a script, for at most so many steps.
+    // Runs a script, for at most `steps` steps.
     fn run_within(&mut self, script: &Script, steps: u64) -> Result<Answer, RunError>
         ensures { CallsScript script.now (Some steps) self.old.handle result self.new.handle }
     {
@@ -68,7 +68,7 @@ impl Seat {
         self.handle.run_within(script, steps)
     }
 
-    // Goes on with the open call, for at most so many steps.
+    // Goes on with the open call, for at most `steps` steps.
     fn go_on(&mut self, limit: Option<u64>) -> Result<Answer, RunError>
         ensures { GoesOn limit self.old.handle result self.new.handle }
     {
@@ -127,7 +127,7 @@ fn run_in(
     code
 }
 
-/// Runs the script of 1 to 16 words, for at most so many steps.
+/// Runs the script of 1 to 16 words, for at most `steps` steps.
 #[unsafe(no_mangle)]
 pub extern "C" fn of_c_call(
     alloc: Global,
@@ -149,7 +149,7 @@ pub extern "C" fn of_c_call(
     run_in(alloc, caller, &script, limit_of(steps), reply)
 }
 
-/// Runs the script that a text spells, for at most so many steps. If it spells none, the reply's
+/// Runs the script that a text spells, for at most `steps` steps. If it spells none, the reply's
 /// `place` is the piece at fault.
 #[unsafe(no_mangle)]
 pub extern "C" fn of_c_call_text(
@@ -176,7 +176,7 @@ pub extern "C" fn of_c_call_text(
     }
 }
 
-/// Goes on with the open call, for at most so many steps.
+/// Goes on with the open call, for at most `steps` steps.
 #[unsafe(no_mangle)]
 pub extern "C" fn of_c_go_on(
     alloc: Global,
@@ -197,7 +197,7 @@ pub extern "C" fn of_c_go_on(
 }
 
 fn left_held(held: &Held, left: &mut u32) -> u32
-    ensures read { result ≡ DONE → HasLeft (Some held.now) left.new }
+    ensures read { result ≡ DONE → HasSequencesLeft (Some held.now) left.new }
     ensures codes { IsOneCode (DONE ∷ EMPTY ∷ []) result }
     ensures empty { (result ≡ EMPTY) ↔ IsNotCaller held.now }
     ensures unread { result ≢ DONE → left.new ≡ left.old }
@@ -214,7 +214,7 @@ fn left_held(held: &Held, left: &mut u32) -> u32
 /// How many sequences are left at most: those after the last one that the caller knows.
 #[unsafe(no_mangle)]
 pub extern "C" fn of_c_sequences_left(alloc: Global, caller: &mut Slot, left: &mut u32) -> u32
-    ensures read { result ≡ DONE → HasLeft caller.old.raw.held left.new }
+    ensures read { result ≡ DONE → HasSequencesLeft caller.old.raw.held left.new }
     ensures codes { IsOneCode (DONE ∷ EMPTY ∷ []) result }
     ensures empty { (result ≡ EMPTY) ↔ HoldsNo IsNotCaller caller.old.raw.held }
     ensures same { caller.new.raw.held ≡ caller.old.raw.held }

@@ -96,7 +96,7 @@ impl Handle {
         }
     }
 
-    /// Runs a script for at most so many steps. If they don't do, the call stays open.
+    /// Runs a script for at most `steps` steps. If they don't do, the call stays open.
     pub fn run_within(&mut self, script: &Script, steps: u64) -> Result<Answer, RunError>
         requires { IsHandle self.old }
         ensures handle { IsHandle self.new }
@@ -148,7 +148,7 @@ impl Handle {
         }
     }
 
-    /// Goes on with the open call for at most so many steps.
+    /// Goes on with the open call for at most `steps` steps.
     pub fn go_on_within(&mut self, steps: u64) -> Result<Answer, RunError>
         requires { IsHandle self.old }
         ensures handle { IsHandle self.new }

@@ -72,7 +72,7 @@ impl Saved {
         }
     }
 
-    /// How many calls of a caller it holds: the number of its last one, whoever finished it.
+    /// How many calls of a caller it holds: the number of its last one, also if another caller finished it.
     pub fn ticket(&self, number: u32) -> u32
         requires saved { IsSaved self.now }
         requires number { number < saved_callers self.now }
