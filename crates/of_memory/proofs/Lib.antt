@@ -15,4 +15,4 @@ pub mod Reading
 pub mod Texts
 pub mod StartWords
 pub mod Renewing
-pub mod Looking
+pub mod Chains

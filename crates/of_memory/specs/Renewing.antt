@@ -12,7 +12,7 @@ use Rattle.of_memory.specs.Saving.{saved_ticket}
 
 -- the memory goes on from what was saved: it starts with its callers, limit, store and tickets, and
 -- none of the callers has made a call
-pub record GoesOnFrom (d : Saved) (m : Memory) : Type 0 where
+pub record GoesOnFromSaved (d : Saved) (m : Memory) : Type 0 where
   pub callers : callers_of m ≡ saved_callers d
   pub limit : limit_of m ≡ saved_limit d
   pub store : (s : Store) → SavedHolds d s → StartsWith m s

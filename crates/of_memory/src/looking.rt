@@ -77,8 +77,7 @@ impl Saved {
         self.number(self.plot().length(q))
     }
 
-    /// The item at a place of a queue, the front at 0. None exactly if there are no more than so
-    /// many.
+    /// The item at a place of a queue, the front at 0. None exactly if the queue has none there.
     pub fn item(&self, q: u32, at: u32) -> Option<u32>
         requires saved { IsSaved self.now }
         requires queue { q < QUEUES }

@@ -40,7 +40,7 @@ impl Memory {
     ghost use Rattle.of_memory.specs.Telling.{KnowsOrdersOf, HearsMemory};
     ghost use Rattle.of_memory.specs.Saving.{saved_seq};
     ghost use Rattle.of_memory.specs.Sequences.{seq_known_to, seq_known_in, left_of_memory};
-    ghost use Rattle.of_memory.specs.Renewing.{GoesOnFrom, LeavesRenumbered, IsRenumberCause};
+    ghost use Rattle.of_memory.specs.Renewing.{GoesOnFromSaved, LeavesRenumbered, IsRenumberCause};
 
     /// An empty memory: 1 to 64 callers, and room for at most `MOST_BLOCKS` keys and queued
     /// items, 16,777,216. With room for more than 512 it runs no instruction on keys in their
@@ -175,7 +175,7 @@ impl Memory {
     pub fn renumbered(self) -> Result<Renumbered, RenumberError>
         requires { IsMemory self }
         ensures memory { IfOk result (λ r. IsMemory r.memory) }
-        ensures goes_on { IfOk result (λ r. GoesOnFrom r.saved r.memory) }
+        ensures goes_on { IfOk result (λ r. GoesOnFromSaved r.saved r.memory) }
         ensures saved { IfOk result (λ r. LeavesRenumbered self r.saved) }
         ensures anew { IfOk result (λ r. seq_known_in r.memory ≡ 0) }
         ensures cause { IfErr result (IsRenumberCause self) }
