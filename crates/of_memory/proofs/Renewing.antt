@@ -3,7 +3,9 @@ use Rattle.std.proofs.Common.{◌≡◌, ℕ, List, sym, subst, ◌∙◌}
 use Rattle.of_memory.specs.declared.memory.Memory.{Memory}
 use Rattle.of_memory.specs.declared.saved.Saved.{Saved}
 use Rattle.of_memory.specs.History.{IsUpTo, HistoryEntry}
-use Rattle.of_memory.specs.Memories.{HasHistory, TellsLastOf}
+use Rattle.of_memory.specs.Memories.{HasHistory, HasNoHandleOut, TellsLastOf, callers_of, limit_of}
+use Rattle.of_memory.specs.Renewing.{LeavesRenumbered}
+use Rattle.of_memory.specs.Saving.{IsSaved, saved_callers, saved_limit, saved_seq}
 use Rattle.of_memory.specs.Texts.{SavesSame}
 
 module _ (m : Memory) (d e : Saved) (same : SavesSame d e) where
@@ -32,3 +34,14 @@ module _ (m : Memory) (d e : Saved) (same : SavesSame d e) where
           time = l.time;
         },
       )
+
+  -- so a memory that has left the one has left the other, with other sequences
+  pub leaves : HasNoHandleOut m → HasHistory m d → saved_callers d ≡ callers_of m → saved_limit d ≡ limit_of m → IsSaved e → saved_limit e ≡ saved_limit d → saved_seq e ≡ 0 → LeavesRenumbered m e
+  leaves here has callers limit saved kept zero = record {
+    here = here;
+    saved = saved;
+    history = history_same has;
+    callers = same.callers ∙ callers;
+    limit = kept ∙ limit;
+    seq = zero;
+  }
