@@ -168,6 +168,7 @@ impl Memory {
             })),
         }
     }
+
     /// Closes the memory, and opens one that goes on from what it has left, with sequences that
     /// begin anew. What it has left is handed out too, with each caller's last ticket and reply. If
     /// a handle is out, and only then, the memory is handed back; if there is no memory for the new
