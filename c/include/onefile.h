@@ -168,12 +168,12 @@ int onefile_leave(onefile_memory *memory, uint32_t number);
  * of a memory that its parent has opened in a file. */
 int onefile_close(onefile_memory *memory, onefile_saved *saved);
 
-/* Closes the memory and fills it with one that goes on from what it has left, with the same callers,
- * blocks and limit: in memory, or in a new file with the same name. Sequences begin anew; store and
- * tickets go on. No caller is enrolled then. What the memory has left is kept in `saved`, as after
- * onefile_close: onefile_last_reply tells what the last call of each caller came to.
- * EMPTY, FULL; IN_USE while a caller of this memory has not left; FILE_IN_USE if processes share the
- * memory: let each close it, and the next life has all sequences; FILE_IN_USE in a forked child.
+/* Closes the memory and fills it with one that goes on from what it has left, with the same
+ * callers, blocks and limit: in memory, or in a new file with the same name. Sequences begin anew;
+ * store and tickets go on. No caller is enrolled then. What the memory has left is kept in `saved`,
+ * as after onefile_close: onefile_last_reply tells what the last call of each caller came to.
+ * EMPTY, FULL; IN_USE while a caller of this memory has not left; FILE_IN_USE if processes share
+ * it: let each close it, and the next life has all sequences; FILE_IN_USE in a forked child.
  * NO_MEMORY, and of a memory in a file FILE_IN_USE, NO_SPACE, NO_FILE and SYSTEM too, may come once
  * the memory is closed: `memory` is empty then, and `saved` is not. */
 int onefile_renumber(onefile_memory *memory, onefile_saved *saved);
@@ -370,9 +370,8 @@ int onefile_call_text_within(onefile_memory *memory, uint32_t number, const char
 int onefile_go_on(onefile_memory *memory, uint32_t number, uint64_t steps, onefile_reply *reply);
 
 /* How many sequences are left at most: those after the `seq` of the caller's last call that was
- * answered or SPENT. Of one that has made no call yet, those after the last one that a caller knew
- * which has left. Other callers may have taken some since: a call that only reads tells more. It
- * makes no step.
+ * answered or SPENT. If it has made no call, those after the last one that was known to callers that
+ * have left. Other callers may have taken some since. It makes no step.
  * EMPTY, RANGE. */
 int onefile_sequences_left(onefile_memory *memory, uint32_t number, uint32_t *left);
 
