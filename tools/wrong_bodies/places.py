@@ -104,10 +104,14 @@ def function(file, text, at):
     return Function(module_of(file), holder, trait, name)
 
 
+def uncommented(text):
+    """A .rt or .antt file without the lines that are comments."""
+    return "\n".join(it for it in text.split("\n") if not it.lstrip().startswith(("//", "--")))
+
+
 def contracts(text):
     """A .rt file without bodies of functions and without comments: what callers may rest on."""
     lines, gone = text.split("\n"), set()
     for _, first, last in bodies(text):
         gone |= set(range(first + 1, last + 1))
-    kept = (line for at, line in enumerate(lines) if at not in gone)
-    return "\n".join(it for it in kept if not it.lstrip().startswith("//"))
+    return uncommented("\n".join(line for at, line in enumerate(lines) if at not in gone))

@@ -16,7 +16,7 @@ pub struct Answer {
 }
 
 impl Answer {
-    /// What was answered; None if the sequences had run out.
+    /// What was answered; None if the sequences had run out, or the call was lost.
     pub fn reply(&self) -> Option<Reply> {
         match self.outcome {
             Outcome::Answered {
@@ -25,7 +25,7 @@ impl Answer {
                 raw,
                 steps: _,
             } => Some(Reply::from_raw(&raw)),
-            Outcome::Spent { seq: _ } => None,
+            Outcome::Spent { seq: _ } | Outcome::Lost { seq: _ } => None,
         }
     }
 }

@@ -1,4 +1,5 @@
--- What taking and giving a block reads and writes, and in which order.
+-- Which cells the allocator reads and writes, and in which order, when it takes a block and when it
+-- gets one back.
 use Rattle.std.specs.Prelude.{ℕ, zero, suc, ◌+◌, Bool, true, false, ltb, Option, Some, None}
 use Rattle.of_mem.specs.declared.plot.Plot.{Plot}
 use Rattle.of_mem.specs.Plots.{base}
@@ -6,7 +7,7 @@ use Rattle.of_mem.specs.Places.{fresh_at, free_at}
 use Rattle.of_mem.specs.Programs.{Program, Done, Read, Write}
 use Rattle.of_mem.specs.Stores.{link_at}
 
--- the next block that was never taken, if there is one
+-- takes block n, the first that was never taken, if the flag says that there is one
 abbrev pub take_fresh : ℕ → ℕ → Bool → Program (Option ℕ)
 take_fresh o n true = Write (fresh_at o) (n + 1) (Done (Some n))
 take_fresh o n false = Done None
@@ -17,7 +18,8 @@ with_fresh o blocks n = take_fresh o n (ltb n blocks)
 abbrev pub with_free_link : ℕ → ℕ → ℕ → Program (Option ℕ)
 with_free_link o b link = Write (free_at o) link (Done (Some b))
 
--- takes a block, by the pointer of the free list
+-- takes a block: the first of the free list, to which the pointer that was read leads, or if the
+-- list is empty, one that was never taken
 abbrev pub with_free : ℕ → ℕ → ℕ → Program (Option ℕ)
 with_free o blocks zero = Read (fresh_at o) (with_fresh o blocks)
 with_free o blocks (suc b) = Read (link_at o b) (with_free_link o b)
@@ -29,7 +31,7 @@ abbrev pub give_program : ℕ → ℕ → Program (Unit {0})
 give_program o b =
     Read (free_at o) (λ front. Write (link_at o b) front (Write (free_at o) (b + 1) (Done tt)))
 
--- The programs of the calls on a plot.
+-- The programs of `take` and `give` on the cells of a plot.
 
 abbrev pub take : Plot → Program (Option ℕ)
 take plot = take_program (base plot) plot.blocks

@@ -1,10 +1,10 @@
--- A block that was taken from a heap of chains.
+-- What taking a block changes in the chains of blocks.
 use Rattle.std.specs.Prelude.{◌≡◌, ◌≢◌, ℕ, ◌+◌, ◌<◌, ◌≤◌, List, [], ◌∷◌, length}
 use Rattle.of_mem.specs.Places.{fresh_at, free_at}
 use Rattle.of_mem.specs.Stores.{out_chain, queue_chain, IsHeap, blocks_in_chains}
 
--- the block is out from then on, no other chain than the free list changed, and no other cell than
--- free and fresh
+-- From memory m to memory n, block b was taken and is the only block that is out. No chain but the
+-- free list changed, and no cell but its pointer and the count of blocks taken at least once.
 pub record HasTakenBlock (o blocks : ℕ) (m : ℕ → ℕ) (chains : ℕ → List ℕ) (b : ℕ) (n : ℕ → ℕ)
     : Type 0 where
   pub chains_after : ℕ → List ℕ

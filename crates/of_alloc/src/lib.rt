@@ -1,4 +1,5 @@
-//! The allocator of blocks: a free list, and after it the blocks that were never taken.
+//! The allocator of blocks. It gives the first block of the free list, or if the list is empty, a
+//! block that was never taken.
 #![tactic(auto)]
 
 ghost use Rattle.of_mem.specs.Calls.{RunsProgram};
@@ -7,9 +8,9 @@ ghost use Rattle.of_alloc.specs.BlockPrograms.{take, give};
 
 use of_mem::{Need, Part, Plot};
 
-/// Takes a block: the front of the free list, else the next one that was never taken, else none.
-/// None comes exactly if all blocks are out, and then nothing is written. The error names a cell
-/// that is read and isn't known.
+/// Takes a block: the first one of the free list, or if the list is empty, the next one that was
+/// never taken. It answers None exactly if all blocks are out, and then writes nothing. An error
+/// names a cell that must be read and is not known.
 pub fn take(plot: &Plot, part: &mut Part) -> Result<Option<u32>, Need>
     requires { HasFreeList plot.now part.old }
     ensures runs { RunsProgram (take plot.now) part.old part.new result }
@@ -30,8 +31,8 @@ pub fn take(plot: &Plot, part: &mut Part) -> Result<Option<u32>, Need>
     Ok(None)
 }
 
-/// Puts a block that is out in front of the free list. The error names a cell that is read and
-/// isn't known.
+/// Gives back a block that is out: it becomes the first one of the free list. An error names a cell
+/// that must be read and is not known.
 pub fn give(plot: &Plot, part: &mut Part, block: u32) -> Result<(), Need>
     requires { HasOut plot.now part.old block }
     ensures runs { RunsProgram (give plot.now block) part.old part.new result }

@@ -1,4 +1,4 @@
-//! A boxed brake, for what holds brakes of several kinds.
+//! A boxed brake is a brake too, so that brakes of several kinds can be kept in one place.
 
 use crate::brake::Brake;
 

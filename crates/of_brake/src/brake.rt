@@ -1,31 +1,34 @@
-//! What is asked before each step of a caller.
+//! Brakes, which are asked before each step of a caller.
 
 ghost use Rattle.std.specs.Prelude.{◌≡◌, ℕ, ◌≤◌, false, Option};
 ghost use Rattle.of_brake.specs.Stops.{HasRisen, IsArmedWith, ChargesAsk, HasHeardAnswer, Asked};
 
-/// It is asked before each step of one caller, and may deny it. Whether it tells the steps left
-/// never changes.
+/// A brake is asked before each step of one caller, and may deny the step. It may also report how
+/// many steps are left; whether it does never changes.
 pub trait Brake: Drop {
-    /// How often it has denied a step: a count that never falls.
+    /// How often the brake has denied a step. This count never falls. A denial raises it, unless it
+    /// is at 2 ^ 64 - 1.
     ghost denials: { Self → ℕ };
 
-    /// The steps left, if the brake reports them; none of them is for no limit.
+    /// How many steps are left: None if the brake doesn't report this, `Some None` if there is no
+    /// limit.
     ghost left: { Self → Option (Option ℕ) };
 
-    /// The answered calls that it has heard of, if it counts them.
+    /// How many answered calls the brake was told of: None if it doesn't count them.
     ghost answers: { Self → Option ℕ };
 
-    /// How often it was asked, if it counts that.
+    /// How often the brake was asked: None if it doesn't count this.
     ghost asks: { Self → Option ℕ };
 
-    /// Sets the steps left; None is no end.
+    /// Sets how many steps are left, if the brake reports this. `None` is no limit.
     fn arm(&mut self, stop: Option<u64>)
         ensures denials { denials self.old ≤ denials self.new }
         ensures armed { IsArmedWith (left self.old) stop (left self.new) }
         ensures answers { answers self.new ≡ answers self.old }
         ensures asks { asks self.new ≡ asks self.old };
 
-    /// Whether the next step may be made.
+    /// Asks whether the caller may make its next step: false denies it. If the brake reports the
+    /// steps left, it denies exactly if none is left, and a granted step takes one off.
     fn ask(&mut self) -> bool
         ensures denials { denials self.old ≤ denials self.new }
         ensures cause { result ≡ false → HasRisen (denials self.old) (denials self.new) }
@@ -33,7 +36,7 @@ pub trait Brake: Drop {
         ensures answers { answers self.new ≡ answers self.old }
         ensures asks { Asked (asks self.old) (asks self.new) };
 
-    /// Is called after each answered call.
+    /// Tells the brake that a call of its caller was answered.
     fn answered(&mut self)
         ensures denials { denials self.old ≤ denials self.new }
         ensures left { left self.new ≡ left self.old }

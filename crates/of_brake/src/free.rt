@@ -1,11 +1,11 @@
-//! A brake that never denies.
+//! A brake that never denies a step.
 
 ghost use Rattle.std.specs.Prelude.{◌≡◌, true, None};
 
 use crate::brake::Brake;
 
-/// A brake that allows each ask, and counts nothing: to ask it costs nothing. It tells no steps
-/// left, whatever it is armed with.
+/// A brake that grants every step and counts nothing. It doesn't report its steps left, even after
+/// it is armed.
 #[derive(Drop)]
 pub struct Free;
 

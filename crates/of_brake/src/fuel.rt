@@ -1,10 +1,10 @@
-//! A brake with a number of steps.
+//! A brake that lets a caller make a given number of steps.
 
 ghost use Rattle.std.specs.Prelude.{◌≡◌, Some, None};
 
 use crate::brake::Brake;
 
-/// A brake that tells its steps left, and denies exactly if none is.
+/// A brake that reports how many steps are left, and denies a step exactly if none is left.
 #[derive(Drop)]
 pub struct Fuel {
     denials: u64,
@@ -12,7 +12,7 @@ pub struct Fuel {
 }
 
 impl Fuel {
-    /// With no end, and no denial.
+    /// A brake with no limit, which has not denied a step yet.
     pub fn new() -> Fuel
         ensures denials { result.denials ≡ 0 }
         ensures left { result.left ≡ None }

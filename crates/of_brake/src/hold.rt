@@ -1,4 +1,4 @@
-//! Two brakes of which the one waits for the other's caller.
+//! A pair of brakes: one holds its caller until the other's caller has had a call answered.
 
 ghost use Rattle.std.specs.Prelude.{◌≡◌, ◌≤◌, ◌-◌, false, true, None, IfOk};
 ghost use Rattle.of_brake.specs.Stops.{HasRisen};
@@ -8,9 +8,9 @@ use std::alloc::{AllocError, Global};
 use std::sync::Arc;
 use std::sync::atomic::{AtomicBool, Ordering};
 
-/// A brake that allows each ask but one. In that one it looks for its teller's flag a given number
-/// of times, allows the step at the first look that finds it set, and otherwise denies it. It does
-/// not report its steps left.
+/// A brake that grants every ask but one. At that ask it looks at the flag of its `Teller` a given
+/// number of times. If a look finds the flag set, it grants the step; otherwise it denies it. It
+/// doesn't report its steps left.
 #[derive(Drop)]
 pub struct Holder {
     told: Arc<AtomicBool, Global>,
@@ -20,15 +20,15 @@ pub struct Holder {
     denials: u64,
 }
 
-/// A brake that allows each ask, and sets the flag of its holder once a call is answered. It tells
-/// no steps left.
+/// A brake that grants every step, and sets a flag when a call of its caller is answered. Its
+/// `Holder` waits for this flag. It doesn't report its steps left.
 #[derive(Drop)]
 pub struct Teller {
     told: Arc<AtomicBool, Global>,
 }
 
-/// A holder of the ask with number `at`, from 1, which it holds for `turns` looks, and its teller.
-/// The error is that there is no memory.
+/// A `Holder` and its `Teller`. The holder holds the ask with number `at`, counted from 1, and
+/// looks at the flag at most `turns` times. An error means that there is not enough memory.
 pub fn hold_pair(alloc: Global, at: u64, turns: u64) -> Result<(Holder, Teller), AllocError>
     requires at { 1 ≤ at }
     requires turns { 1 ≤ turns }

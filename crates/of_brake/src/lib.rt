@@ -1,4 +1,4 @@
-//! When a caller is stopped.
+//! Brakes, which decide when a caller is stopped.
 
 #![tactic(auto)]
 

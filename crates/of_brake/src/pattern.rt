@@ -1,11 +1,12 @@
-//! A brake that denies the asks of a list.
+//! A brake that denies the asks whose numbers are in a list.
 
 ghost use Rattle.std.specs.Prelude.{◌≡◌, ◌≤◌, false, not, None, Some};
 ghost use Rattle.of_brake.specs.Stops.{HasRisen, saturating_next, is_listed};
 
 use crate::brake::Brake;
 
-/// A brake that denies the asks whose numbers, from 0, are in a list. It tells no steps left.
+/// A brake that denies the asks whose numbers, counted from 0, are in a list. It doesn't report its
+/// steps left.
 #[derive(Drop)]
 pub struct Pattern {
     denied: Vec<u64>,
@@ -14,7 +15,8 @@ pub struct Pattern {
 }
 
 impl Pattern {
-    /// Before its first ask, and with no denial.
+    /// A brake that denies the asks in `denied`. It has not been asked yet, and has not denied a
+    /// step.
     pub fn new(denied: Vec<u64>) -> Pattern
         ensures denied { result.denied ≡ denied }
         ensures asked { result.asked ≡ 0 }

@@ -1,4 +1,4 @@
--- What C is told of a call, and what the call has come to.
+-- What a call answers to C, and what the call has come to.
 use Rattle.std.specs.Prelude.{◌≡◌, ◌≢◌, ℕ, ◌==◌, if◌then◌else◌, List, map, Option, Some, None, Result, Ok, Err}
 use Rattle.of_script.specs.declared.instr.Instr.{Instr}
 use Rattle.of_script.specs.Language.{IsScript, instr_word}
@@ -22,12 +22,12 @@ use Rattle.of_c.specs.declared.reply.CReply.{CReply}
 use Rattle.of_c.specs.Replies.{ShowsAnswer}
 use Rattle.of_c.specs.Slots.{HasHandle, HoldsHandle}
 
--- how many steps C gives: the greatest number is no end
+-- the stop that C gives a call as a number of steps; the greatest number means no stop
 abbrev pub step_limit : ℕ → Option ℕ
 step_limit steps = if steps == 18446744073709551615 then None else Some steps
 
--- The code and the reply tell what a call has come to. The open code tells that a call is open that
--- must not be, or that none is.
+-- The code and the reply tell C what a call has come to. `open_code` is the code of a call that was
+-- refused because a call is open, or because none is.
 abbrev pub Tells : (open_code : ℕ) → Result Answer RunError → (code : ℕ) → CReply → Type 0
 Tells o (Ok a) code r = (code ≡ DONE) × ShowsAnswer a r
 Tells o (Err (Stopped asked)) code r = (code ≡ STOPPED) × (r.steps ≡ asked)
@@ -36,23 +36,23 @@ Tells o (Err InCall) code r = code ≡ o
 Tells o (Err NoCall) code r = code ≡ o
 Tells o (Err NoTicket) code r = code ≡ NO_TICKET
 
--- Unless the call was answered, the reply is as it was: if it was stopped but for the steps, and if
--- it was spent but for the sequence.
+-- A call that was not answered leaves the reply as it was, but for the steps if it was stopped, and
+-- but for the sequence if it was spent.
 pub record LeavesReply (code : ℕ) (before now : CReply) : Type 0 where
   pub stopped : code ≡ STOPPED → now ≡ record before { steps = now.steps }
   pub spent : code ≡ SPENT → now ≡ record before { seq = now.seq }
   pub refused : code ≢ DONE → code ≢ STOPPED → code ≢ SPENT → now ≡ before
 
--- it is as it was but for the place
+-- the reply is as it was, but for the place
 abbrev pub ShowsPlaceAlone : (before now : CReply) → Type 0
 ShowsPlaceAlone before now = now ≡ record before { place = now.place }
 
--- its calls have made no more steps than were given, if a number was
+-- with a stop, the calls of the handle's number have made at most this many steps more
 abbrev pub MakesGiven : (stop : Option ℕ) → (before now : Handle) → Type 0
 MakesGiven None h k = Unit {0}
 MakesGiven (Some steps) h k = MakesAtMost steps h k
 
--- a call of this script has come to this, and the handle to that
+-- a call of this script by handle h has had the result a, and has left the handle as k
 pub record CallsScript (script : List Instr) (stop : Option ℕ) (h : Handle)
     (a : Result Answer RunError) (k : Handle) : Type 0 where
   pub same : IsSame h k
@@ -70,7 +70,7 @@ pub record CallsScript (script : List Instr) (stop : Option ℕ) (h : Handle)
   pub alone : MakesStepsAlone h k
   pub seq : KnowsSeqOf a h k
 
--- so has the call that was open
+-- the open call of handle h has gone on and had the result a, and has left the handle as k
 pub record GoesOn (stop : Option ℕ) (h : Handle) (a : Result Answer RunError) (k : Handle)
     : Type 0 where
   pub same : IsSame h k
@@ -88,11 +88,12 @@ pub record GoesOn (stop : Option ℕ) (h : Handle) (a : Result Answer RunError) 
   pub alone : MakesStepsAlone h k
   pub seq : KnowsSeqOf a h k
 
--- what a call does with a handle
+-- what may be claimed of a call: of the handle before it, its result, and the handle after it
 abbrev pub CallWork : Type 1
 CallWork = Handle → Result Answer RunError → Handle → Type 0
 
--- the caller is held still, and the code and the reply tell what the call has come to
+-- a caller is still held, with its handle after the call, and the code and the reply tell what the
+-- call has come to
 pub record HasCalled (Does : CallWork) (open_code : ℕ) (h : Handle) (now : Held) (reply : CReply)
     (code : ℕ) : Type 0 where
   pub handle : Handle
@@ -101,12 +102,13 @@ pub record HasCalled (Does : CallWork) (open_code : ℕ) (h : Handle) (now : Hel
   pub tells : Tells open_code answer code reply
   pub does : Does h answer handle
 
--- nothing has changed, and the code tells that no caller is held
+-- nothing has changed, and the code says that no caller is held
 pub record HasNoCaller (before now : Held) (code : ℕ) : Type 0 where
   pub code_is : code ≡ EMPTY
   pub same : now ≡ before
 
--- a call of what is held, which may be no caller
+-- if a caller was held, it has made its call; otherwise nothing has changed, and the code says that
+-- no caller is held
 abbrev pub CallsHeld : CallWork → (open_code : ℕ) → (before now : Held) → CReply → (code : ℕ)
     → Type 0
 CallsHeld Does o (Caller s) now reply code = HasCalled Does o s.handle now reply code
@@ -114,38 +116,41 @@ CallsHeld Does o Nothing now reply code = HasNoCaller Nothing now code
 CallsHeld Does o (Memory m) now reply code = HasNoCaller (Memory m) now code
 CallsHeld Does o (Saved d) now reply code = HasNoCaller (Saved d) now code
 
--- something is held still, and was called
+-- something is still held; if it is a caller, the caller has made its call
 pub record CallsSome (Does : CallWork) (open_code : ℕ) (before : Held) (now : Option Held)
     (reply : CReply) (code : ℕ) : Type 0 where
   pub held : Held
   pub is : now ≡ Some held
   pub calls : CallsHeld Does open_code before held reply code
 
--- a call of what a slot holds: if that is no caller, the code tells it and nothing has changed
+-- if the slot held a caller, the caller has made its call; otherwise nothing has changed, and the
+-- code says that no caller is held
 abbrev pub CallsSlot : CallWork → (open_code : ℕ) → (before now : Option Held) → CReply
     → (code : ℕ) → Type 0
 CallsSlot Does o None now reply code = (code ≡ EMPTY) × (now ≡ None)
 CallsSlot Does o (Some before) now reply code = CallsSome Does o before now reply code
 
--- a call of the script with these words, if they are one's
+-- if these are the words of a script, the caller in the slot, if there is one, has made a call of
+-- that script
 abbrev pub CallsWords : List ℕ → (stop : Option ℕ) → (before now : Option Held) → CReply
     → (code : ℕ) → Type 0
 CallsWords words stop before now reply code =
     (script : List Instr) → IsScript script → map instr_word script ≡ words
     → CallsSlot (CallsScript script stop) CALL_OPEN before now reply code
 
--- these are no script's words
+-- no script has these words
 abbrev pub AreNoScript : List ℕ → Type 0
 AreNoScript words = (script : List Instr) → IsScript script → map instr_word script ≡ words → ⊥
 
--- a call of the script that this text spells, if it spells one
+-- if this text spells a script, the caller in the slot, if there is one, has made a call of that
+-- script
 abbrev pub CallsText : List ℕ → (stop : Option ℕ) → (before now : Option Held) → CReply
     → (code : ℕ) → Type 0
 CallsText text stop before now reply code =
     (script : List Instr) → SpellsScript text script
     → CallsSlot (CallsScript script stop) CALL_OPEN before now reply code
 
--- this text spells none
+-- this text spells no script
 abbrev pub IsNoText : List ℕ → Type 0
 IsNoText text = (script : List Instr) → SpellsScript text script → ⊥
 

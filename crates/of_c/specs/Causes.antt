@@ -1,4 +1,4 @@
--- When which code is answered: the causes. That there is no memory may come at any time.
+-- Which code a call from C answers, and why. Any call may run out of memory.
 use Rattle.std.specs.Prelude.{◌≡◌, ◌≢◌, ◌⊎◌, ℕ, ◌<◌, ◌≤◌, List, [], ◌∷◌, Option, Some, None, length}
 use Rattle.std.proofs.Common.{get_or}
 use Rattle.of_cell.specs.declared.word.TheConstants.{GREATEST_LIMIT}
@@ -43,35 +43,35 @@ IsNotSaved (Memory m) = Unit {0}
 IsNotSaved (Caller s) = Unit {0}
 IsNotSaved (Saved d) = ⊥
 
--- the slot is empty, or holds something else
+-- the slot is empty, or what it holds is not of the kind that is wanted
 abbrev pub HoldsNo : (Held → Type 0) → Option Held → Type 0
 HoldsNo HasNone None = Unit {0}
 HoldsNo HasNone (Some h) = HasNone h
 
 -- ---- of memories
 
--- a count or the limit is out of its range
+-- the number of callers, the number of blocks or the limit is out of its range
 abbrev pub AreOutOfRange : (callers blocks limit : ℕ) → Type 0
 AreOutOfRange callers blocks limit =
     ((callers ≡ 0) ⊎ (MOST_CALLERS < callers))
     ⊎ ((MOST_BLOCKS < blocks) ⊎ ((limit ≡ 0) ⊎ (GREATEST_LIMIT < limit)))
 
--- a memory is held, of which this is so
+-- a memory is held, and P holds of it
 pub record HoldsMemoryWith (P : TheMemory → Type 0) (held : Option Held) : Type 0 where
   pub memory : TheMemory
   pub is : HoldsMemory held memory
   pub so : P memory
 
--- the memory has no caller of this number
+-- the memory has no caller with this number
 abbrev pub HasNoNumber : ℕ → TheMemory → Type 0
 HasNoNumber n m = callers_of m ≤ n
 
--- a caller of this number is enrolled
+-- a caller with this number is enrolled, so it is not in the memory
 abbrev pub IsEnrolled : ℕ → TheMemory → Type 0
 IsEnrolled n m = get_or m.cells.callers.items n None ≡ None
 
--- it is the same memory still, each caller is there that was, and it knows of every number what it
--- knew
+-- the memory is still the same: it has the callers in it that it had, and knows of every number
+-- what it knew
 pub record KnowsAll (m k : TheMemory) : Type 0 where
   pub still : IsStill m k
   pub none : TakesNone m k
@@ -79,14 +79,16 @@ pub record KnowsAll (m k : TheMemory) : Type 0 where
   pub orders : (j n x i y : ℕ) → HasOrderOf m j n x i y → HasOrderOf k j n x i y
   pub remembers : RemembersAll m k
 
--- what is held is held still; a memory knows what it knew
+-- what was held is still held: a memory still knows all that it knew, and anything else is
+-- unchanged
 abbrev pub KeepsHeld : (before now : Held) → Type 0
 KeepsHeld (Memory h) now = HoldsMemoryWith (KnowsAll h.memory) (Some now)
 KeepsHeld Nothing now = now ≡ Nothing
 KeepsHeld (Caller s) now = now ≡ Caller s
 KeepsHeld (Saved d) now = now ≡ Saved d
 
--- so it is of what a slot holds
+-- the slot holds what it held: a memory still knows all that it knew, and anything else is
+-- unchanged
 abbrev pub KeepsSlot : (before now : Option Held) → Type 0
 KeepsSlot None now = now ≡ None
 KeepsSlot (Some h) None = ⊥
@@ -94,28 +96,28 @@ KeepsSlot (Some h) (Some k) = KeepsHeld h k
 
 -- ---- of what a memory has left
 
--- something is held that a memory has left, of which this is so
+-- something is held that a memory has left, and P holds of it
 pub record HoldsSavedWith (P : TheSaved → Type 0) (held : Option Held) : Type 0 where
   pub left : TheSaved
   pub is : HoldsSaved held left
   pub so : P left
 
--- it has no caller of this number
+-- what a memory has left has no caller of this number
 abbrev pub HasNoTicketOf : ℕ → TheSaved → Type 0
 HasNoTicketOf n d = saved_callers d ≤ n
 
--- it can't have this limit
+-- what a memory has left can't have this limit
 abbrev pub RefusesLimit : ℕ → TheSaved → Type 0
 RefusesLimit limit d = IsNoLimitOf d limit
 
--- nothing is read of it, since there is none, or no memory
+-- nothing was read: the slot holds nothing that a memory has left, or the call was out of memory
 abbrev pub IsUnread : Option Held → (code : ℕ) → Type 0
 IsUnread held code = ((code ≡ EMPTY) × HoldsNo IsNotSaved held) ⊎ (code ≡ NO_MEMORY)
 
 -- ---- of words
 
--- a count or the limit is out of its range, the number of words is another one, or the limit is
--- below their sequence
+-- a count or the limit is out of its range, there are not as many words as such a memory has, or
+-- the limit is below the sequence that the words hold
 abbrev pub AreOutOfWords : (callers blocks limit : ℕ) → List ℕ → Type 0
 AreOutOfWords callers blocks limit words =
     AreOutOfRange callers blocks limit
@@ -126,7 +128,7 @@ AreOutOfWords callers blocks limit words =
 abbrev pub HasCellAtFault : (callers blocks : ℕ) → List ℕ → Type 0
 HasCellAtFault callers blocks words = (cell : ℕ) × IsFaultIn callers blocks words cell
 
--- the code of why nothing is found in words
+-- the code for the reason why nothing is found in durable words
 abbrev pub words_code : WordsError → ℕ
 words_code OutOfMemory = NO_MEMORY
 words_code (Callers k) = RANGE

@@ -1,4 +1,4 @@
--- What the pointer of a slot leads to.
+-- What the pointer of a slot owns.
 use base.Fml.{Fml, ftrue}
 use base.Stored.{Coded}
 use denote.RawPtr.{Ptr}
@@ -9,7 +9,8 @@ use Rattle.std.specs.Global.{Global}
 use Rattle.std.specs.contracts.impls.GlobalAllocator.TheImpl.{ghosts}
 use Rattle.of_c.specs.contracts.held.Held as held
 
--- if something is held, the block at the pointer with that in it, and the right to free the block
+-- what the pointer of a slot owns: if something is held, the block that it is in, and the right to
+-- free the block
 abbrev pub block_owned : Ptr → Global → Option held.the_row.Denot → Fml
 block_owned at alloc None = ftrue
 block_owned at alloc (Some x) = box_owns (ghosts.dealloc_token alloc) held.the_row at x

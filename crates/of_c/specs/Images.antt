@@ -10,15 +10,16 @@ use Rattle.of_c.specs.declared.codes.TheConstants.{DONE, NO_IMAGE, NO_MEMORY, NO
 use Rattle.of_c.specs.declared.held.Held.{Held}
 use Rattle.of_c.specs.Slots.{HoldsSaved}
 
--- no text is told
+-- with this code C gets neither a text nor its length
 abbrev pub TellsNoText : (code : ℕ) → Type 0
 TellsNoText code = (code ≢ DONE) × (code ≢ NO_ROOM)
 
--- the buffer is the text, and after it as it was
+-- the buffer begins with the text; what comes after the text is as it was
 abbrev pub HoldsText : (text before now : List ℕ) → Type 0
 HoldsText text before now = now ≡ text ++ slice_range before (length text) (length before)
 
--- what is held has a text, of which this is so
+-- Something is held that a memory has left, and P holds of the text that is printed for it. If a
+-- plan may have as many callers and blocks, this text is read as what is held.
 pub record HasText (held : Option Held) (P : List ℕ → Type 0) : Type 0 where
   pub left : Saved
   pub is : HoldsSaved held left
@@ -27,8 +28,8 @@ pub record HasText (held : Option Held) (P : List ℕ → Type 0) : Type 0 where
   pub holds : IsOfPlanSize left → TextHolds text left
   pub so : P text
 
--- what the text holds is held, with the greatest limit: the same words as anything saved had that the
--- text was written of
+-- What the text holds is held, with the greatest limit. If the text was printed for something that
+-- a memory has left, the same words are held.
 pub record HoldsRead (text : List ℕ) (now : Option Held) : Type 0 where
   pub left : Saved
   pub is : HoldsSaved now left
@@ -36,11 +37,11 @@ pub record HoldsRead (text : List ℕ) (now : Option Held) : Type 0 where
   pub limit : saved_limit left ≡ GREATEST_LIMIT
   pub back : (d : Saved) → IsSaved d → TextHolds text d → IsReadBack d left
 
--- the text was written for nothing that a memory has left
+-- the text holds nothing that a memory has left
 abbrev pub IsOfNoneSaved : List ℕ → Type 0
 IsOfNoneSaved text = (d : Saved) → IsSaved d → TextHolds text d → ⊥
 
--- the code of why nothing is read from a text
+-- the code for the reason why nothing is read from a text
 abbrev pub fault_code : ImageTextError → ℕ
 fault_code OutOfMemory = NO_MEMORY
 fault_code (Bad line) = NO_IMAGE

@@ -17,8 +17,8 @@ use Rattle.of_memory.specs.Telling.{KnowsOrdersOf, LeavesOrder, HearsMemory, Tel
 use Rattle.of_c.specs.declared.held.Held.{Held}
 use Rattle.of_c.specs.Slots.{HoldsMemory, HoldsHandle, HoldsSaved}
 
--- an empty memory is held: it has these callers and blocks and this limit, and none of the
--- callers has made a call
+-- an empty memory is held, with this many callers and blocks and this limit; none of its callers
+-- has made a call
 pub record HoldsEmpty (callers blocks limit : ℕ) (now : Option Held) : Type 0 where
   pub memory : Memory
   pub is : HoldsMemory now memory
@@ -30,7 +30,8 @@ pub record HoldsEmpty (callers blocks limit : ℕ) (now : Option Held) : Type 0 
   pub idle : HasNoneOpen memory
   pub seq : seq_known_in memory ≡ 0
 
--- a memory is held that goes on from what is held there
+-- a memory is held that goes on from what the slot `saved` holds; none of its callers has made a
+-- call since
 pub record HoldsNext (saved now : Option Held) : Type 0 where
   pub left : Saved
   pub was : HoldsSaved saved left
@@ -44,9 +45,9 @@ pub record HoldsNext (saved now : Option Held) : Type 0 where
   pub idle : HasNoneOpen memory
   pub seq : seq_known_in memory ≡ saved_seq left
 
--- Of the memory the caller with this number is held. It knows what the memory knew of its number,
--- and has heard of all calls that the memory knew to have ended. The memory still knows these, and
--- of the other numbers what it knew.
+-- The caller with this number has been taken out of the memory, and is held. It knows what the
+-- memory knew of its number, and has heard of all calls that the memory knew to have ended. The
+-- memory still knows of these calls, and knows of the other numbers what it knew.
 pub record HoldsEnrolled (number : ℕ) (before now caller : Option Held) : Type 0 where
   pub memory : Memory
   pub was : HoldsMemory before memory
@@ -69,8 +70,9 @@ pub record HoldsEnrolled (number : ℕ) (before now caller : Option Held) : Type
   pub seq : seq_known_to handle ≡ seq_known_in memory
   pub same_seq : seq_known_in next ≡ seq_known_in memory
 
--- The memory knows of the caller's number what the caller knew, and of the others what it knew. It
--- has heard of all calls that the caller knew to have ended, and forgets none.
+-- The caller is back in the memory, which knows of the caller's number what the caller knew, and of
+-- the other numbers what it knew before. The memory has heard of all calls that the caller knew to
+-- have ended, and forgets none that it knew of.
 pub record HoldsLeft (before caller now : Option Held) : Type 0 where
   pub memory : Memory
   pub was : HoldsMemory before memory
@@ -92,8 +94,8 @@ pub record HoldsLeft (before caller now : Option Held) : Type 0 where
   pub remembers : RemembersAll memory next
   pub seq : seq_known_in next ≡ max (seq_known_in memory) (seq_known_to handle)
 
--- what the memory has left is held: one serial history leads to it, with each call that was
--- answered. Each caller had left
+-- Every caller had left the memory. What the memory has left is held: one serial history, which has
+-- each call that was answered, leads to what is held.
 pub record HoldsClosed (before now : Option Held) : Type 0 where
   pub memory : Memory
   pub was : HoldsMemory before memory

@@ -1,4 +1,4 @@
--- What is held.
+-- What a slot holds.
 use Rattle.std.specs.Prelude.{◌≡◌, Option, Some, None}
 use Rattle.of_memory.specs.declared.memory.Memory.{Memory as TheMemory}
 use Rattle.of_memory.specs.declared.handle.Handle.{Handle}
@@ -7,42 +7,42 @@ use Rattle.of_memory.specs.Memories.{IsFrom}
 use Rattle.of_c.specs.declared.held.Held.{Held}
 use Rattle.of_c.specs.declared.held.Held.TheVariants.{Nothing, Memory, Caller, Saved}
 
--- it is this memory
+-- what is held is this memory
 abbrev pub HasMemory : Held → TheMemory → Type 0
 HasMemory Nothing m = ⊥
 HasMemory (Memory h) m = h.memory ≡ m
 HasMemory (Caller s) m = ⊥
 HasMemory (Saved d) m = ⊥
 
--- it is a caller with this handle
+-- what is held is a caller with this handle
 abbrev pub HasHandle : Held → Handle → Type 0
 HasHandle Nothing k = ⊥
 HasHandle (Memory m) k = ⊥
 HasHandle (Caller s) k = s.handle ≡ k
 HasHandle (Saved d) k = ⊥
 
--- it is this, which a memory has left
+-- what is held is this, which a memory has left
 abbrev pub HasSaved : Held → TheSaved → Type 0
 HasSaved Nothing s = ⊥
 HasSaved (Memory m) s = ⊥
 HasSaved (Caller c) s = ⊥
 HasSaved (Saved d) s = d.saved ≡ s
 
--- a slot that holds that holds this memory
+-- the slot holds this memory
 abbrev pub HoldsMemory : Option Held → TheMemory → Type 0
 HoldsMemory None m = ⊥
 HoldsMemory (Some h) m = HasMemory h m
 
--- and so of a caller with this handle
+-- the slot holds a caller with this handle
 abbrev pub HoldsHandle : Option Held → Handle → Type 0
 HoldsHandle None k = ⊥
 HoldsHandle (Some h) k = HasHandle h k
 
--- and of what a memory has left
+-- the slot holds this, which a memory has left
 abbrev pub HoldsSaved : Option Held → TheSaved → Type 0
 HoldsSaved None s = ⊥
 HoldsSaved (Some h) s = HasSaved h s
 
--- a memory and a caller beside it: the caller is the memory's
+-- if the first slot holds a memory and the second a caller, the caller is one of this memory
 abbrev pub AreOfOne : Option Held → Option Held → Type 0
 AreOfOne x y = (m : TheMemory) (k : Handle) → HoldsMemory x m → HoldsHandle y k → IsFrom m k

@@ -10,7 +10,7 @@ use Rattle.of_c.specs.declared.reply.CReply.{CReply}
 use Rattle.of_c.specs.Replies.{ShowsReply}
 use Rattle.of_c.specs.Slots.{HoldsSaved}
 
--- what is held holds a store of which this is so
+-- something is held that a memory has left, and P holds of the store that it holds
 pub record HoldsStore (held : Option Held) (P : Store → Type 0) : Type 0 where
   pub left : Saved
   pub is : HoldsSaved held left
@@ -18,14 +18,14 @@ pub record HoldsStore (held : Option Held) (P : Store → Type 0) : Type 0 where
   pub holds : SavedHolds left store
   pub so : P store
 
--- what is held has a caller of this number, of which this is so
+-- something is held that a memory has left; it has a caller of this number, and P holds of it
 pub record HasCallerWith (held : Option Held) (number : ℕ) (P : Saved → Type 0) : Type 0 where
   pub left : Saved
   pub is : HoldsSaved held left
   pub there : number < saved_callers left
   pub so : P left
 
--- the reply shows the last call of the caller that is held, and its number
+-- the reply for C shows the reply to the last saved call of this caller, and that call's ticket
 pub record ShowsLast (number : ℕ) (r : CReply) (left : Saved) : Type 0 where
   pub ticket : r.ticket ≡ saved_ticket left number
   pub reply : Reply

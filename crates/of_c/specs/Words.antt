@@ -9,7 +9,7 @@ use Rattle.of_c.specs.declared.held.Held.{Held}
 use Rattle.of_c.specs.declared.words.CSizes.{CSizes}
 use Rattle.of_c.specs.Slots.{HoldsSaved}
 
--- these are the sizes of the table of a memory with such counts
+-- C is shown the sizes of the table of a memory with this many callers and blocks
 pub record ShowsSizes (callers blocks : ℕ) (shown : CSizes) : Type 0 where
   pub sizes : TableSizes
   pub are : AreSizesOf callers blocks sizes
@@ -24,7 +24,7 @@ pub record HoldsWords (callers blocks limit : ℕ) (words : List ℕ) (now : Opt
   pub holds : WordsHold callers blocks words left
   pub limit_is : saved_limit left ≡ limit
 
--- the same is held, with sequences that begin anew
+-- the same store, tickets, replies and limit are held, but the last committed sequence is 0
 pub record HoldsRenumbered (before now : Option Held) : Type 0 where
   pub left : Saved
   pub was : HoldsSaved before left
@@ -34,7 +34,7 @@ pub record HoldsRenumbered (before now : Option Held) : Type 0 where
   pub seq : saved_seq next ≡ 0
   pub limit : saved_limit next ≡ saved_limit left
 
--- the same is held, with this limit
+-- the same store, tickets, replies and sequence are held, but with this limit
 pub record HoldsLimited (limit : ℕ) (before now : Option Held) : Type 0 where
   pub left : Saved
   pub was : HoldsSaved before left

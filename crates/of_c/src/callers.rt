@@ -18,15 +18,16 @@ use of_memory::{Answer, Handle, Instr, RunError, Script, ScriptErr, parse};
 use of_script::from_words_into;
 use std::alloc::Global;
 
-// As many steps as C says; the greatest number is no end.
+// The stop that C gives as a number of steps; the greatest number means no stop.
 fn limit_of(steps: u64) -> Option<u64>
     ensures { result ≡ step_limit steps }
 {
     if steps == u64::MAX { None } else { Some(steps) }
 }
 
-// The code of what a call has come to, which the reply tells. `open_code` is the code if a call is
-// open that must not be, or none is. If it weren't inlined, the answer would be moved for it first.
+// The code of what a call has come to; the reply gets the rest. `open_code` is the code of a call
+// that was refused because a call is open, or because none is. If this weren't inlined, the answer
+// would be moved for it first.
 #[inline(always)]
 fn code_of(ended: &Result<Answer, RunError>, open_code: u32, reply: &mut CReply) -> u32
     ensures tells { Tells open_code ended.now result reply.new }
@@ -60,7 +61,7 @@ impl Seat {
         self.handle.run(script)
     }
 
-    // Runs a script, for at most `steps` steps.
+    // Runs a script, for at most this many steps.
     fn run_within(&mut self, script: &Script, steps: u64) -> Result<Answer, RunError>
         ensures { CallsScript script.now (Some steps) self.old.handle result self.new.handle }
     {
@@ -68,7 +69,7 @@ impl Seat {
         self.handle.run_within(script, steps)
     }
 
-    // Goes on with the open call, for at most `steps` steps.
+    // Goes on with the open call, for at most this many steps.
     fn go_on(&mut self, limit: Option<u64>) -> Result<Answer, RunError>
         ensures { GoesOn limit self.old.handle result self.new.handle }
     {
@@ -127,7 +128,8 @@ fn run_in(
     code
 }
 
-/// Runs the script of 1 to 16 words, for at most `steps` steps.
+/// Runs the script with these 1 to 16 words, for at most `steps` steps. If `steps` is the greatest
+/// number, there is no limit.
 #[unsafe(no_mangle)]
 pub extern "C" fn of_c_call(
     alloc: Global,
@@ -149,8 +151,8 @@ pub extern "C" fn of_c_call(
     run_in(alloc, caller, &script, limit_of(steps), reply)
 }
 
-/// Runs the script that a text spells, for at most `steps` steps. If it spells none, the reply's
-/// `place` is the piece at fault.
+/// Runs the script that a text spells, for at most `steps` steps. If the text spells none, the
+/// reply's `place` is the number of the piece at fault.
 #[unsafe(no_mangle)]
 pub extern "C" fn of_c_call_text(
     alloc: Global,

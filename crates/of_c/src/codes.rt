@@ -1,52 +1,53 @@
-//! What C is answered. The C side answers 1 (a pointer is null) and 2 (a handle is in a call).
+//! The codes that C is answered. The C side adds 1 (a pointer is null) and 2 (a handle is in a
+//! call).
 
-/// It is done.
+/// What was asked for is done.
 pub const DONE: u32 = 0;
 
-/// The slot is empty, or holds something else.
+/// The slot is empty, or holds another kind of thing than the call needs.
 pub const EMPTY: u32 = 3;
 
-/// The slot that is to be filled is full.
+/// The slot that was to be filled holds something already.
 pub const FULL: u32 = 4;
 
-/// There is no memory.
+/// Memory ran out.
 pub const NO_MEMORY: u32 = 5;
 
-/// A number is out of its range.
+/// A number that was given is out of its range.
 pub const RANGE: u32 = 6;
 
-/// The number has a caller already.
+/// A caller with this number is enrolled already.
 pub const TAKEN: u32 = 7;
 
-/// A call is open, and another one was to begin.
+/// The caller has an open call, so no other call can begin.
 pub const CALL_OPEN: u32 = 8;
 
-/// No call is open that could go on.
+/// The caller has no open call that could go on.
 pub const NO_CALL: u32 = 9;
 
-/// The steps that were given are made. The call stays open.
+/// The call has made all steps that it was given. The call stays open.
 pub const STOPPED: u32 = 10;
 
-/// No sequence is left. The call is over, and changed nothing.
+/// No sequence was left for the call. The call is over, and changed nothing.
 pub const SPENT: u32 = 11;
 
-/// The number has made all calls that it may make.
+/// The caller's number has made all calls that it may make.
 pub const NO_TICKET: u32 = 12;
 
-/// The words or the text are no script's.
+/// The words or the text are not those of a script.
 pub const NO_SCRIPT: u32 = 13;
 
-/// A caller of the memory has not left.
+/// The memory can't be closed: a caller of it has not left.
 pub const IN_USE: u32 = 14;
 
-/// There is no such key, item or call.
+/// No such key, item or call is saved.
 pub const ABSENT: u32 = 15;
 
 /// The buffer is too short for the text.
 pub const NO_ROOM: u32 = 16;
 
-/// The text is no image.
+/// The text is not the image of anything that a memory can have left.
 pub const NO_IMAGE: u32 = 17;
 
-/// No memory may start from the words.
+/// No memory may go on from what recovery finds in the words.
 pub const NO_START: u32 = 18;

@@ -6,14 +6,14 @@ ghost use Rattle.of_memory.specs.Saving.{IsSaved};
 
 use of_memory::{Handle, Memory, Saved};
 
-/// A memory that is open.
+/// An open memory.
 #[derive(Drop)]
 pub struct Home {
     pub(crate) memory: Memory,
     ghost is: { ∥ IsMemory memory ∥₁ },
 }
 
-/// A caller that is enrolled.
+/// An enrolled caller.
 #[derive(Drop)]
 pub struct Seat {
     pub(crate) handle: Handle,
@@ -30,7 +30,7 @@ pub struct Kept {
 /// What a slot holds.
 #[derive(Drop)]
 pub enum Held {
-    /// A place that is about to be filled.
+    /// Nothing: a place that is about to be filled.
     Nothing,
     Memory(Home),
     Caller(Seat),

@@ -62,8 +62,8 @@ fn write_text(text: &[u8], buffer: &mut [u8], size: &mut usize) -> u32
     DONE
 }
 
-/// The text of what a memory has left, and how long it is. If the buffer is too short for it, only
-/// the length is written.
+/// Writes the text of what a memory has left into the buffer, and its length into `size`. If the
+/// buffer is too short for the text, only the length is written.
 #[unsafe(no_mangle)]
 pub extern "C" fn of_c_image(
     alloc: Global,
@@ -99,8 +99,8 @@ fn code_of_fault(fault: ImageTextError) -> u32
     }
 }
 
-/// Fills an empty slot with what a text holds that `of_c_image` or the program `onefile` has written.
-/// The limit is the greatest one then.
+/// Reads a text that `of_c_image` or the command line has written, and fills the slot with what a
+/// memory had left. The limit is the greatest one.
 #[unsafe(no_mangle)]
 pub extern "C" fn of_c_from_image(alloc: Global, text: &[u8], saved: &mut Slot) -> u32
     ensures read { result ≡ DONE → HoldsRead text.now saved.new.raw.held }

@@ -19,7 +19,7 @@ use crate::truth::{OfHandle, OfMemory, OfPair, OfSaved, surely};
 use of_memory::{EnrolError, Handle, InUse, Memory, OpenError, Saved};
 use std::alloc::Global;
 
-/// An empty memory: 1 to 64 callers, at most 16,777,216 blocks, sequences up to a limit.
+/// Opens an empty memory: 1 to 64 callers, at most 16,777,216 blocks, sequences up to `limit`.
 #[unsafe(no_mangle)]
 pub extern "C" fn of_c_open(
     alloc: Global,
@@ -63,7 +63,7 @@ fn reopen_held(alloc: Global, held: &Held, memory: &mut Slot) -> u32
     }
 }
 
-/// A memory that goes on from what another one has left.
+/// Opens a memory that goes on from what another one has left.
 #[unsafe(no_mangle)]
 pub extern "C" fn of_c_reopen(alloc: Global, saved: &mut Slot, memory: &mut Slot) -> u32
     ensures reopened { result ≡ DONE → HoldsNext saved.old.raw.held memory.new.raw.held }
@@ -115,8 +115,8 @@ fn enrol_held(held: &mut Held, number: u32, mut place: Box<Held, Global>, caller
     }
 }
 
-/// Enrols the caller with this number. Each call that it begins comes, in the memory's history,
-/// after all ended calls of callers that have left before.
+/// Enrols the caller with this number. In the memory's history, each call that it begins comes
+/// after all ended calls of callers that left before.
 #[unsafe(no_mangle)]
 pub extern "C" fn of_c_enrol(alloc: Global, pair: &mut Pair, number: u32) -> u32
     ensures enrolled { result ≡ DONE → HoldsEnrolled number
@@ -177,7 +177,7 @@ fn leave_held(held: &mut Held, seat: Box<Held, Global>, caller: &mut Slot) -> u3
     }
 }
 
-/// The caller leaves. An open call stays open, and its number is free again.
+/// The caller leaves its memory. An open call of it stays open, and its number is free again.
 #[unsafe(no_mangle)]
 pub extern "C" fn of_c_leave(alloc: Global, pair: &mut Pair) -> u32
     ensures left { result ≡ DONE → HoldsLeft
@@ -228,7 +228,7 @@ fn close_home(home: Home, mut place: Box<Held, Global>, memory: &mut Slot, saved
     }
 }
 
-/// Closes a memory: what is durable is recovered and saved.
+/// Closes a memory: what is durable is recovered, and the slot `saved` holds it.
 #[unsafe(no_mangle)]
 pub extern "C" fn of_c_close(alloc: Global, memory: &mut Slot, saved: &mut Slot) -> u32
     ensures closed { result ≡ DONE → HoldsClosed memory.old.raw.held saved.new.raw.held }
@@ -260,7 +260,7 @@ pub extern "C" fn of_c_close(alloc: Global, memory: &mut Slot, saved: &mut Slot)
     }
 }
 
-/// Lets go what a slot holds.
+/// Frees what a slot holds, and leaves the slot empty.
 #[unsafe(no_mangle)]
 pub extern "C" fn of_c_free(alloc: Global, slot: &mut Slot) -> u32
     ensures gone { slot.new.raw.held ≡ None }

@@ -1,10 +1,10 @@
-//! A memory's slot beside that of one of its callers.
+//! A memory's slot, and that of one of its callers.
 
 ghost use Rattle.of_c.specs.Slots.{AreOfOne};
 
 use crate::slot::Slot;
 
-/// A memory's slot beside that of one of its callers.
+/// The slot of a memory, and the slot of one of its callers.
 #[repr(C)]
 pub struct Pair {
     pub(crate) memory: Slot,

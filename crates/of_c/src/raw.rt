@@ -9,7 +9,7 @@ use std::alloc::Global;
 use std::marker::Model;
 use std::ptr::null_mut;
 
-/// A box of something held, or none, as its pointer.
+/// What a slot holds, in a box that is kept as a pointer; null if it holds nothing.
 #[repr(C)]
 #[derive(Drop)]
 pub struct Raw {
@@ -23,7 +23,7 @@ impl Model for Raw {
 }
 
 impl Raw {
-    /// None.
+    /// A null pointer, for a slot that holds nothing.
     pub(crate) fn none(alloc: Global) -> Raw
         ensures { result.held ≡ None }
     {

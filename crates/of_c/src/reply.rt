@@ -20,13 +20,13 @@ pub struct CReply {
     pub place: u32,
     /// Why the script aborted; 0 if it did not.
     pub cause: u32,
-    /// Of a last reply, the number of its call; 0 of an answer.
+    /// In the reply to a caller's last saved call, the ticket of that call; in an answer, 0.
     pub ticket: u32,
-    /// How many steps the call made; if it was stopped, how many it has asked for.
+    /// How many steps the call made; if it was stopped, how often it asked for a step.
     pub steps: u64,
-    /// 1 for each instruction that answered a number, 0 for the others.
+    /// 1 at the place of each instruction that answered a number, 0 at the others.
     pub given: [u32; MOST_INSTRS],
-    /// The numbers.
+    /// The number that each instruction answered, 0 if it answered none.
     pub values: [u32; MOST_INSTRS],
 }
 

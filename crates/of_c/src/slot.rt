@@ -1,4 +1,4 @@
-//! A slot: what C keeps for each thing that it has.
+//! A slot: where C keeps a memory, a caller, or what a memory has left.
 
 ghost use Rattle.std.specs.Prelude.{◌≡◌, ◌≢◌, ◌↔◌, IfSome, IsNone, IsSome, IsTrue, None, Some};
 ghost use Rattle.std.specs.Coded.{Π_prop, Coded-set};
@@ -11,7 +11,7 @@ use crate::raw::Raw;
 use std::alloc::Global;
 use std::mem::replace;
 
-/// What C keeps for each thing that it has. All zeros are an empty slot.
+/// Where C keeps a memory, a caller, or what a memory has left. All zeros are an empty slot.
 #[repr(C)]
 pub struct Slot {
     state: u32,
@@ -21,14 +21,14 @@ pub struct Slot {
 }
 
 impl Slot {
-    /// Whether it is empty.
+    /// Whether the slot is empty.
     pub(crate) fn is_empty(&self) -> bool
         ensures { IsTrue result ↔ (self.now.raw.held ≡ None) }
     {
         self.state == 0
     }
 
-    /// Holds what is in the box.
+    /// Puts what is in the box into the slot.
     pub(crate) fn put(&mut self, held: Box<Held, Global>)
         ensures { self.new.raw.held ≡ Some held.value }
     {
@@ -36,7 +36,7 @@ impl Slot {
         self.state = 1;
     }
 
-    /// Gives the box away, and is empty.
+    /// Takes what the slot holds out of it, if it holds anything.
     pub(crate) fn take(&mut self, alloc: Global) -> Option<Box<Held, Global>>
         ensures gone { self.new.raw.held ≡ None }
         ensures some { IfSome result (λ held. self.old.raw.held ≡ Some held.value) }
@@ -50,7 +50,7 @@ impl Slot {
         Some(raw.into_box())
     }
 
-    /// Holds this, if there is memory for it.
+    /// Puts this into the slot, or answers that memory ran out.
     pub(crate) fn keep(&mut self, alloc: Global, held: Held) -> u32
         ensures done { result ≡ DONE → self.new.raw.held ≡ Some held }
         ensures refused { result ≢ DONE → self.new.raw.held ≡ self.old.raw.held }

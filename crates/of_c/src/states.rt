@@ -76,7 +76,7 @@ fn item_of(store: &Store, queue: u32, at: u32) -> Option<u32>
     store.queue(queue).get(at as usize).copied()
 }
 
-/// The number in a register.
+/// Reads the number in a register of the saved store.
 #[unsafe(no_mangle)]
 pub extern "C" fn of_c_register(
     alloc: Global,
@@ -104,7 +104,7 @@ pub extern "C" fn of_c_register(
     }
 }
 
-/// The number at a key.
+/// Reads the number at a key of the saved store.
 #[unsafe(no_mangle)]
 pub extern "C" fn of_c_key(alloc: Global, saved: &mut Slot, key: u32, value: &mut u32) -> u32
     ensures read { result ≡ DONE → HoldsStore saved.old.raw.held
@@ -126,7 +126,7 @@ pub extern "C" fn of_c_key(alloc: Global, saved: &mut Slot, key: u32, value: &mu
     }
 }
 
-/// An item of a queue, from the front.
+/// Reads an item of a queue of the saved store; `at` counts from the front.
 #[unsafe(no_mangle)]
 pub extern "C" fn of_c_item(
     alloc: Global,
@@ -175,7 +175,7 @@ fn ticket_held(held: &Held, number: u32, ticket: &mut u32) -> u32
     }
 }
 
-/// The number of the last call of a caller that is held; 0 if none is.
+/// Reads the ticket of a caller's last saved call; 0 if no call of the caller is saved.
 #[unsafe(no_mangle)]
 pub extern "C" fn of_c_ticket(alloc: Global, saved: &mut Slot, number: u32, ticket: &mut u32) -> u32
     ensures read { result ≡ DONE → HasCallerWith saved.old.raw.held number
@@ -224,7 +224,7 @@ fn last_reply_held(held: &Held, number: u32, reply: &mut CReply) -> u32
     }
 }
 
-/// The reply to a caller's last call that is held.
+/// Reads the reply to a caller's last saved call, and that call's ticket.
 #[unsafe(no_mangle)]
 pub extern "C" fn of_c_last_reply(
     alloc: Global,

@@ -1,4 +1,4 @@
-//! What a type keeps as a mere fact.
+//! Facts that a type keeps about its values.
 
 ghost use Rattle.of_memory.specs.Memories.{IsMemory};
 ghost use Rattle.of_memory.specs.Handles.{IsHandle};
@@ -13,35 +13,35 @@ pub(crate) trait Claim<T> {
     ghost claim: { T → Type 0 };
 }
 
-/// A memory is one.
+/// The fact that a memory meets `IsMemory`.
 pub(crate) struct OfMemory;
 
 impl Claim<Memory> for OfMemory {
     ghost claim = { IsMemory };
 }
 
-/// A handle is one.
+/// The fact that a handle meets `IsHandle`.
 pub(crate) struct OfHandle;
 
 impl Claim<Handle> for OfHandle {
     ghost claim = { IsHandle };
 }
 
-/// What was saved is.
+/// The fact that what was saved meets `IsSaved`.
 pub(crate) struct OfSaved;
 
 impl Claim<Saved> for OfSaved {
     ghost claim = { IsSaved };
 }
 
-/// A caller is the memory's beside it.
+/// The fact that the caller of a pair is one of the pair's memory.
 pub(crate) struct OfPair;
 
 impl Claim<Pair> for OfPair {
     ghost claim = { λ p. AreOfOne p.memory.raw.held p.caller.raw.held };
 }
 
-/// What is kept as a mere fact is so.
+/// A fact that a type keeps about a value holds of the value.
 pub(crate) fn surely<T, C: Claim<T>>(_thing: &T)
     requires { ∥ C.claim _thing.now ∥₁ }
     ensures { C.claim _thing.now }

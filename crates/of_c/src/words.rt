@@ -62,8 +62,8 @@ fn code_of_words(cause: WordsError) -> u32
     }
 }
 
-/// What recovery finds in the durable words of a memory's table, which were copied out of it at any
-/// moment.
+/// Fills the slot with what recovery finds in the durable words of a memory's table, which were
+/// copied out of the table at any moment.
 #[unsafe(no_mangle)]
 pub extern "C" fn of_c_from_words(
     alloc: Global,
@@ -79,7 +79,7 @@ pub extern "C" fn of_c_from_words(
     ensures full { (result ≡ FULL) ↔ IsSome saved.old.raw.held }
     ensures range { result ≡ RANGE → AreOutOfWords callers blocks limit words.now }
     ensures fault { result ≡ NO_START → HasCellAtFault callers blocks words.now }
-    // Words from which a table may start are taken, unless there is no memory.
+    // Words from which a table may start are taken, unless memory runs out.
     ensures back { (w : TheScripts) → AreCountsOf w callers blocks
         → AreStartWords w limit words.now
         → IsOneCode (DONE ∷ FULL ∷ NO_MEMORY ∷ []) result }
@@ -115,7 +115,8 @@ fn renumber_held(held: &mut Held) -> u32
     }
 }
 
-/// Begins the sequences of what a memory has left anew. Store, tickets and replies stay.
+/// Sets the last committed sequence to 0 in what a memory has left. Store, tickets and replies
+/// stay.
 #[unsafe(no_mangle)]
 pub extern "C" fn of_c_renumber(alloc: Global, saved: &mut Slot) -> u32
     ensures renumbered { result ≡ DONE
@@ -196,7 +197,7 @@ fn seq_held(held: &Held, seq: &mut u32) -> u32
     }
 }
 
-/// The last sequence that was committed in what a memory has left.
+/// Reads the last sequence that was committed in what a memory has left.
 #[unsafe(no_mangle)]
 pub extern "C" fn of_c_seq(alloc: Global, saved: &mut Slot, seq: &mut u32) -> u32
     ensures read { result ≡ DONE

@@ -7,7 +7,7 @@ use Rattle.of_plan.specs.declared.answer.Answer.{Answer}
 use Rattle.of_plan.specs.declared.answer.Ending.TheVariants.{Done, Stopped, Spent as RanOut}
 use Rattle.of_plan.specs.Plan.{Plan, scripts_of, bound_of}
 use Rattle.of_core.specs.declared.place.Outcome.{Outcome}
-use Rattle.of_core.specs.declared.place.Outcome.TheVariants.{Answered, Spent}
+use Rattle.of_core.specs.declared.place.Outcome.TheVariants.{Answered, Spent, Lost}
 use Rattle.of_core.specs.Machine.{IsOpen}
 use Rattle.of_core.specs.Turn.{IsIdle}
 use Rattle.of_core.specs.Calls.{NoneSpent}
@@ -29,6 +29,7 @@ told_more [] (b ∷ others) s announced raw steps a none told tells = absurd tol
 told_more (Answered t q r k ∷ xs) [] s announced raw steps a none told tells = absurd told
 told_more (Answered t q r k ∷ xs) (b ∷ others) s announced raw steps a none told tells = (told.0, told_more xs others s announced raw steps a none.1 told.1 tells)
 told_more (Spent t ∷ xs) answers s announced raw steps a none told tells = absurd none.0
+told_more (Lost t ∷ xs) answers s announced raw steps a none told tells = absurd none.0
 
 -- ---- scripts
 

@@ -6,7 +6,7 @@ use mathlib.Core.List.{IsPrefix}
 use Rattle.of_mem.specs.Meaning.{Meaning}
 use Rattle.of_mem.proofs.Lists.{prefix_trans}
 use Rattle.of_core.specs.declared.place.Outcome.{Outcome}
-use Rattle.of_core.specs.declared.place.Outcome.TheVariants.{Answered, Spent}
+use Rattle.of_core.specs.declared.place.Outcome.TheVariants.{Answered, Spent, Lost}
 use Rattle.of_core.specs.Table.{Setup}
 use Rattle.of_core.specs.Machine.{CallState, is_idle}
 use Rattle.of_core.specs.Turn.{IsIdle}
@@ -34,11 +34,13 @@ ended_low : (S : Setup) (B : TableStart) (bs : List Batch) (r i t : ℕ) (op : L
 ended_low S B bs r i t op (Answered s true raw steps) h = h.1
 ended_low S B bs r i t op (Answered s false raw steps) h = h.1
 ended_low S B bs r i t op (Spent s) h = h.1
+ended_low S B bs r i t op (Lost s) h = absurd h
 
 higher : (low high : ℕ) (o : Outcome) → low ≤ high → IsNotBefore high o → IsNotBefore low o
 higher low high (Answered s true raw steps) l h = omega arith
 higher low high (Answered s false raw steps) l h = omega arith
 higher low high (Spent s) l h = omega arith
+higher low high (Lost s) l h = omega arith
 
 prefix_short : {X : Type 0} (xs ys : List X) → IsPrefix xs ys → length xs ≤ length ys
 prefix_short xs ys h = omega (arith, ap length h.1, length-append xs h.0)

@@ -24,16 +24,16 @@ use Rattle.of_plan.proofs.HistoriesLists.{each_append}
 use Rattle.of_core.specs.declared.bank.Turn.{Turn}
 use Rattle.of_core.specs.declared.bank.Turn.TheVariants.{Idle as NoCall, Open, Ended as EndedTurn}
 use Rattle.of_core.specs.declared.place.Outcome.{Outcome}
-use Rattle.of_core.specs.declared.place.Outcome.TheVariants.{Answered, Spent}
-use Rattle.of_core.specs.Table.{Setup}
-use Rattle.of_core.specs.Machine.{Call, no_call}
+use Rattle.of_core.specs.declared.place.Outcome.TheVariants.{Answered, Spent, Lost}
+use Rattle.of_core.specs.Table.{Setup, committed_seq}
+use Rattle.of_core.specs.Machine.{Call, no_call, is_idle}
 use Rattle.of_core.specs.TableMoment.{Moment, TableStart}
 use Rattle.of_core.specs.History.{batch_at}
 use Rattle.of_core.specs.Moment.{table_word_count}
 use Rattle.of_core.specs.Turn.{turn_of}
 use Rattle.of_core.specs.WordsMatch.{MayStart}
-use Rattle.of_core.specs.Events.{Event, Begins, Turns, Loads, Evicts, Raises, after_event, machine_in, after_events, IsSchedule, start_ticket}
-use Rattle.of_core.specs.Calls.{if_so, operations_begun, outcomes, outcome_of_step, outcome_of_event, operation_begun, outcome_of_turn, no_outcome, outcome_seq, IsNotBefore, NoneSpent}
+use Rattle.of_core.specs.Events.{Event, Begins, Turns, Loads, Evicts, Raises, Revives, after_event, machine_in, after_events, IsSchedule, start_ticket}
+use Rattle.of_core.specs.Calls.{if_so, operations_begun, outcomes, outcome_of_step, outcome_of_loss, outcome_of_event, operation_begun, outcome_of_turn, no_outcome, outcome_seq, IsNotBefore, NoneSpent}
 use Rattle.of_core.specs.Linear.{HasNotBegunBy as NotYet, CallEndsBefore as Before}
 use Rattle.of_core.specs.Laws.{RealTime, LateCalls}
 use Rattle.of_caller.specs.Tables.{plan_setup, IsLawfulFor, opening_at, operation_of}
@@ -57,6 +57,12 @@ few_marks S w (Begins i op) = inr (BeginsCall i, refl)
 few_marks S w (Loads c) = inl refl
 few_marks S w (Evicts k) = inl refl
 few_marks S w (Raises c) = inl refl
+few_marks S w (Revives i made) = go (is_idle (machine_in w i).place) (is_idle (machine_in (after_event S w (Revives i made)) i).place)
+  where
+    go : (was now : Bool) → (map (λ (o : Outcome). EndsCall i) (outcome_of_loss (committed_seq w.words) was now) ≡ []) ⊎ ((m : Mark) × (map (λ (o : Outcome). EndsCall i) (outcome_of_loss (committed_seq w.words) was now) ≡ m ∷ []))
+    go true now = inl refl
+    go false true = inr (EndsCall i, refl)
+    go false false = inl refl
 few_marks S w (Turns i) = go (turn_of (machine_in w i) (machine_in (after_event S w (Turns i)) i))
   where
     go : (t : Turn) → (map (λ (o : Outcome). EndsCall i) (outcome_of_turn t) ≡ []) ⊎ ((m : Mark) × (map (λ (o : Outcome). EndsCall i) (outcome_of_turn t) ≡ m ∷ []))
@@ -95,33 +101,32 @@ over_few c (suc k) [] = omega arith
 over_few c (suc k) (BeginsCall d ∷ ms) = over_few c k ms
 over_few c (suc k) (EndsCall d ∷ ms) = omega (arith, over_few c k ms)
 
+-- an end begins no call
+no_begins : (c i : ℕ) (os : List Outcome) → begun_in c (map (λ (o : Outcome). EndsCall i) os) ≡ 0
+no_begins c i [] = refl
+no_begins c i (o ∷ os) = no_begins c i os
+
 -- they count the calls of the events
 begun_one : (S : Setup) (w : Moment) (c : ℕ) (e : Event) → begun_in c (marks_of S w e) ≡ length (operation_begun e c)
 begun_one S w c (Loads a) = refl
 begun_one S w c (Evicts k) = refl
 begun_one S w c (Raises a) = refl
+begun_one S w c (Revives i made) = no_begins c i (outcome_of_loss (committed_seq w.words) (is_idle (machine_in w i).place) (is_idle (machine_in (after_event S w (Revives i made)) i).place))
 begun_one S w c (Begins i op) = go (c == i)
   where
     go : (b : Bool) → (if b then 1 else 0) + 0 ≡ length (if_so b (op ∷ []))
     go true = refl
     go false = refl
-begun_one S w c (Turns i) = none (outcome_of_step (machine_in w i) (machine_in (after_event S w (Turns i)) i))
-  where
-    none : (os : List Outcome) → begun_in c (map (λ (o : Outcome). EndsCall i) os) ≡ 0
-    none [] = refl
-    none (o ∷ os) = none os
+begun_one S w c (Turns i) = no_begins c i (outcome_of_step (machine_in w i) (machine_in (after_event S w (Turns i)) i))
 
 -- one for each of these, where it is so
 abbrev ends_with : Bool → List Outcome → ℕ
 ends_with b [] = 0
 ends_with b (o ∷ os) = (if b then 1 else 0) + ends_with b os
 
-over_one : (S : Setup) (w : Moment) (c : ℕ) (e : Event) → over_in c (marks_of S w e) ≡ length (outcome_of_event S w e c)
-over_one S w c (Loads a) = refl
-over_one S w c (Evicts k) = refl
-over_one S w c (Raises a) = refl
-over_one S w c (Begins i op) = refl
-over_one S w c (Turns i) = all (outcome_of_step (machine_in w i) (machine_in (after_event S w (Turns i)) i)) ∙ go (c == i) (outcome_of_step (machine_in w i) (machine_in (after_event S w (Turns i)) i))
+-- and ends one call of its caller
+one_over : (c i : ℕ) (os : List Outcome) → over_in c (map (λ (o : Outcome). EndsCall i) os) ≡ length (if_so (c == i) os)
+one_over c i os = all os ∙ go (c == i) os
   where
     all : (os : List Outcome) → over_in c (map (λ (o : Outcome). EndsCall i) os) ≡ ends_with (c == i) os
     all [] = refl
@@ -132,6 +137,14 @@ over_one S w c (Turns i) = all (outcome_of_step (machine_in w i) (machine_in (af
     go true (o ∷ os) = omega (arith, go true os)
     go false [] = refl
     go false (o ∷ os) = omega (arith, go false os)
+
+over_one : (S : Setup) (w : Moment) (c : ℕ) (e : Event) → over_in c (marks_of S w e) ≡ length (outcome_of_event S w e c)
+over_one S w c (Loads a) = refl
+over_one S w c (Evicts k) = refl
+over_one S w c (Raises a) = refl
+over_one S w c (Begins i op) = refl
+over_one S w c (Turns i) = one_over c i (outcome_of_step (machine_in w i) (machine_in (after_event S w (Turns i)) i))
+over_one S w c (Revives i made) = one_over c i (outcome_of_loss (committed_seq w.words) (is_idle (machine_in w i).place) (is_idle (machine_in (after_event S w (Revives i made)) i).place))
 
 begun_is : (S : Setup) (es : List Event) (w : Moment) (c : ℕ) → begun_in c (marks_in S w es) ≡ length (operations_begun es c)
 begun_is S [] w c = refl
@@ -162,6 +175,7 @@ as_many [] (a ∷ others) told none = absurd told
 as_many (Answered s announced raw steps ∷ outs) [] told none = absurd told
 as_many (Answered s announced raw steps ∷ outs) (a ∷ others) told none = ap suc (as_many outs others told.1 none.1)
 as_many (Spent s ∷ outs) answers told none = absurd none.0
+as_many (Lost s ∷ outs) answers told none = absurd none.0
 
 -- ---- two entries
 
@@ -231,6 +245,7 @@ module _ (p : Plan) (time : KeepsTime (plan_setup p) (IsLawfulFor p)) (s : Start
 
     by_outcome : (o : Outcome) (a : Answer) → TellsAnswer o a → (outcome_seq o ≡ a.seq) × ((k : ℕ) → IsNotBefore k o → (k ≤ a.seq) × (IsTrue a.announced → k < a.seq))
     by_outcome (Spent t) a tells = absurd tells
+    by_outcome (Lost t) a tells = absurd tells
     by_outcome (Answered t true raw steps) a tells = (sym tells.0, λ k b. (omega (arith, b, tells.0), λ announced. omega (arith, b, tells.0)))
     by_outcome (Answered t false raw steps) a tells = (sym tells.0, λ k b. (omega (arith, b, tells.0), λ announced. let z : false ≡ true = sym tells.1 ∙ announced in absurd (cc)))
 

@@ -7,7 +7,7 @@ use Rattle.of_plan.specs.declared.answer.Ending.{Ending}
 use Rattle.of_plan.specs.declared.answer.Ending.TheVariants.{Done, Stopped, Spent as RanOut}
 use Rattle.of_plan.specs.Plan.{Plan, scripts_of, bound_of}
 use Rattle.of_core.specs.declared.place.Outcome.{Outcome}
-use Rattle.of_core.specs.declared.place.Outcome.TheVariants.{Answered, Spent}
+use Rattle.of_core.specs.declared.place.Outcome.TheVariants.{Answered, Spent, Lost}
 use Rattle.of_core.specs.Machine.{IsOpen, is_idle}
 use Rattle.of_core.specs.Turn.{IsIdle}
 use Rattle.of_core.specs.Calls.{NoneSpent, last_outcome_or, last_outcome, total_steps}
@@ -27,11 +27,13 @@ first_answers : (xs : List Outcome) → NoneSpent xs → AnswersStandBeforeSpent
 first_answers [] none = tt
 first_answers (Answered t q r k ∷ xs) none = first_answers xs none.1
 first_answers (Spent t ∷ xs) none = absurd none.0
+first_answers (Lost t ∷ xs) none = absurd none.0
 
 first_then_spent : (xs : List Outcome) (s : ℕ) → NoneSpent xs → AnswersStandBeforeSpent (xs ++ Spent s ∷ [])
 first_then_spent [] s none = tt
 first_then_spent (Answered t q r k ∷ xs) s none = first_then_spent xs s none.1
 first_then_spent (Spent t ∷ xs) s none = absurd none.0
+first_then_spent (Lost t ∷ xs) s none = absurd none.0
 
 told_then_spent : (xs : List Outcome) (answers : List Answer) (s : ℕ) → NoneSpent xs → AreAnswers xs answers → AreAnswers (xs ++ Spent s ∷ []) answers
 told_then_spent [] [] s none told = tt
@@ -39,13 +41,15 @@ told_then_spent [] (b ∷ others) s none told = absurd told
 told_then_spent (Answered t q r k ∷ xs) [] s none told = absurd told
 told_then_spent (Answered t q r k ∷ xs) (b ∷ others) s none told = (told.0, told_then_spent xs others s none.1 told.1)
 told_then_spent (Spent t ∷ xs) answers s none told = absurd none.0
+told_then_spent (Lost t ∷ xs) answers s none told = absurd none.0
 
 pub unspent : (xs : List Outcome) (before : Option Outcome) → is_spent before ≡ false → NoneSpent xs → is_spent (last_outcome_or before xs) ≡ false
 unspent [] before is none = is
 unspent (Answered t q r k ∷ xs) before is none = unspent xs (Some (Answered t q r k)) refl none.1
 unspent (Spent t ∷ xs) before is none = absurd none.0
+unspent (Lost t ∷ xs) before is none = absurd none.0
 
-last_push : (xs : List Outcome) (before : Option Outcome) (o : Outcome) → last_outcome_or before (xs ++ o ∷ []) ≡ Some o
+pub last_push : (xs : List Outcome) (before : Option Outcome) (o : Outcome) → last_outcome_or before (xs ++ o ∷ []) ≡ Some o
 last_push [] before o = refl
 last_push (x ∷ xs) before o = last_push xs (Some x) o
 
@@ -56,6 +60,7 @@ told_steps [] (a ∷ others) told = absurd told
 told_steps (Answered s announced raw steps ∷ outs) [] told = absurd told
 told_steps (Answered s announced raw steps ∷ outs) (a ∷ others) told = omega (arith, told_steps outs others told.1, told.0.3)
 told_steps (Spent s ∷ outs) answers told = omega (arith, told_steps outs answers told)
+told_steps (Lost s ∷ outs) answers told = absurd told
 
 -- ---- what is kept
 

@@ -16,6 +16,7 @@ pub mod RecordsAllowance
 pub mod Records
 pub mod RecordsReports
 pub mod RecordsReplies
+pub mod LastOutcomes
 pub mod LastTickets
 pub mod CallSteps
 pub mod CallerSteps

@@ -15,7 +15,7 @@ use Rattle.of_plan.specs.declared.answer.Answer.{Answer}
 use Rattle.of_plan.specs.declared.answer.Ending.TheVariants.{Done, Stopped as Halted, Spent as RanOut}
 use Rattle.of_plan.specs.Plan.{Plan, scripts_of, bound_of}
 use Rattle.of_core.specs.declared.place.Outcome.{Outcome}
-use Rattle.of_core.specs.declared.place.Outcome.TheVariants.{Answered, Spent}
+use Rattle.of_core.specs.declared.place.Outcome.TheVariants.{Answered, Spent, Lost}
 use Rattle.of_core.specs.Table.{Setup}
 use Rattle.of_core.specs.Machine.{CallState, is_idle, begin_call}
 use Rattle.of_core.specs.TableMoment.{TableStart}
@@ -171,10 +171,12 @@ module _ (p : Plan) (r : Row Scripts) (row : IsPlanRow p r) where
     pub held_of : c < p.callers → (o : Outcome) → IsAnswered o → HasEndedWith S L B d0 (sight_of caller) told.before told.steps (caller_call b) (sight_of b) told.kept o → IsHeldAnswer o
     held_of lt (Answered k announced raw steps) is_one closes = held (Answered k announced raw steps) closes lt k announced raw steps refl
     held_of lt (Spent k) is_one closes = absurd is_one
+    held_of lt (Lost k) is_one closes = absurd is_one
 
     pub goes_of : (o : Outcome) → IsAnswered o → HasEndedWith S L B d0 (sight_of caller) told.before told.steps (caller_call b) (sight_of b) told.kept o → (now : List Answer) → Appends (TellsAnswer o) answers now → CallerHasAnswered p n c r b now (i + 1)
     goes_of (Answered k announced raw steps) is_one closes now more = goes_on (Answered k announced raw steps) closes k announced raw steps refl now more
     goes_of (Spent k) is_one closes now more = absurd is_one
+    goes_of (Lost k) is_one closes now more = absurd is_one
 
     abbrev EndsAs : Result Outcome CallErr → Type 0
     EndsAs z = TellsResult S L B d0 (sight_of caller) told.before told.steps (caller_call b) (sight_of b) told.kept z

@@ -14,7 +14,7 @@ use Rattle.of_plan.specs.Report.{Entry, done, Report, Start, entries_of}
 use Rattle.of_plan.specs.declared.answer.Answer.{Answer}
 use Rattle.of_plan.specs.Ended.{Ended, answers_of}
 use Rattle.of_eval.specs.Shapes.{IsWhole}
-use Rattle.of_core.specs.declared.place.Outcome.TheVariants.{Answered, Spent}
+use Rattle.of_core.specs.declared.place.Outcome.TheVariants.{Answered, Spent, Lost}
 use Rattle.of_caller.specs.Ends.{AreAnswers}
 use Rattle.of_plan.specs.Legal.{IsLegal}
 use Rattle.of_plan.specs.Histories.{history_report}
@@ -49,6 +49,7 @@ told_whole [] (a ∷ others) told = absurd told
 told_whole (Answered s announced raw steps ∷ outs) [] told = absurd told
 told_whole (Answered s announced raw steps ∷ outs) (a ∷ others) told = All-cons (λ (b : Answer). IsWhole b.reply) a others told.0.2.0 (told_whole outs others told.1)
 told_whole (Spent s ∷ outs) answers told = told_whole outs answers told
+told_whole (Lost s ∷ outs) answers told = absurd told
 
 -- a caller's scripts are few
 pub few_scripts : (p : Plan) → IsPlan p → (c : ℕ) → c < p.callers → length (scripts_of p c) ≤ 20000

@@ -30,7 +30,7 @@ use Rattle.of_plan.proofs.HistoriesLists.{each_append}
 use Rattle.of_core.specs.declared.place.Place.{Place}
 use Rattle.of_core.specs.declared.place.Place.TheVariants.{Idle}
 use Rattle.of_core.specs.declared.place.Outcome.{Outcome}
-use Rattle.of_core.specs.declared.place.Outcome.TheVariants.{Answered, Spent}
+use Rattle.of_core.specs.declared.place.Outcome.TheVariants.{Answered, Spent, Lost}
 use Rattle.of_core.specs.Table.{durable_seq}
 use Rattle.of_core.specs.Bound.{bound}
 use Rattle.of_core.specs.Machine.{is_idle, no_call}
@@ -77,6 +77,7 @@ pub stopped_at : (o : Option Outcome) (steps : ℕ) → is_spent o ≡ false →
 stopped_at None steps is = refl
 stopped_at (Some (Answered s announced raw n)) steps is = refl
 stopped_at (Some (Spent s)) steps is = absurd (cc)
+stopped_at (Some (Lost s)) steps is = refl
 
 pub done_at : (outs : List Outcome) (steps n a : ℕ) → a ≡ n → ending_of_calls outs steps n a ≡ Done
 done_at outs steps n a same = elim (eqb_tells a n) [
@@ -166,6 +167,7 @@ module _ (p : Plan) (s : Start) (B : TableStart) (w : Moment) (sound : IsSound (
 
   of_outcome : (x : ℕ) (o : Outcome) (b : Answer) → x < length outs → get_or outs x no_outcome ≡ o → TellsAnswer o b → IsAnswerOf p s B w c (n + x) b
   of_outcome x (Spent k) b among is tells = absurd tells
+  of_outcome x (Lost k) b among is tells = absurd tells
   of_outcome x (Answered k true raw steps) b among is tells =
       let stood : OutcomeStands (plan_setup p) B w c (n + x + 1) (get_or ops x []) (Answered k true raw steps) = subst (λ (o : Outcome). OutcomeStands (plan_setup p) B w c (n + x + 1) (get_or ops x []) o) is (f.calls.each x among) in
       let at = f.announced x k steps raw among is in

@@ -6,7 +6,7 @@ use Rattle.of_eval.specs.Shapes.{IsHeldBy}
 use Rattle.of_plan.specs.Plan.{Plan}
 use Rattle.of_plan.specs.Report.{Start}
 use Rattle.of_core.specs.declared.place.Outcome.{Outcome}
-use Rattle.of_core.specs.declared.place.Outcome.TheVariants.{Answered, Spent}
+use Rattle.of_core.specs.declared.place.Outcome.TheVariants.{Answered, Spent, Lost}
 use Rattle.of_core.specs.TableMoment.{Moment, TableStart}
 use Rattle.of_core.specs.Calls.{no_outcome}
 use Rattle.of_caller.specs.Ends.{OutcomeHoldsReply}
@@ -22,4 +22,5 @@ replies_are_held p s B w ops outs h c x lt among = go (get_or (outs c) x no_outc
   where
     go : (o : Outcome) → get_or (outs c) x no_outcome ≡ o → OutcomeHoldsReply o
     go (Spent k) is = tt
+    go (Lost k) is = tt
     go (Answered k announced raw steps) is = reply_at p s B w c _ k raw announced (outcome_held p s B w ops outs h c x k steps raw lt among announced is)

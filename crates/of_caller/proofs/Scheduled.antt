@@ -15,19 +15,20 @@ use Rattle.of_plan.specs.Report.{Start, finished_of}
 use Rattle.of_plan.specs.Legal.{scripts_left}
 use Rattle.of_plan.specs.Ended.{Ended, answers_of, ending_of}
 use Rattle.of_core.specs.declared.place.Outcome.{Outcome}
-use Rattle.of_core.specs.declared.place.Outcome.TheVariants.{Answered, Spent}
+use Rattle.of_core.specs.declared.place.Outcome.TheVariants.{Answered, Spent, Lost}
 use Rattle.of_core.specs.declared.place.Place.TheVariants.{Idle}
 use Rattle.of_core.specs.Table.{Setup, words_before_members}
 use Rattle.of_core.specs.Machine.{CallState, IsOpen, is_idle}
 use Rattle.of_core.specs.TableMoment.{Moment, TableStart}
 use Rattle.of_core.specs.Turn.{IsIdle}
-use Rattle.of_core.specs.Events.{Event, Begins, Turns, Loads, Evicts, Raises, after_event, machine_in, after_events, IsSchedule, MayHappen, start_ticket}
+use Rattle.of_core.specs.Events.{Event, Begins, Turns, Loads, Evicts, Raises, Revives, after_event, machine_in, after_events, IsSchedule, MayHappen, start_ticket}
 use Rattle.of_core.specs.Calls.{HasCalls, TurnsFindOpenCalls, NoneSpent, if_so, last_outcome, operations_begun, outcomes}
 use Rattle.of_core.proofs.Parts.{run_append, operations_append, outcomes_append, first_part, second_part}
 use Rattle.of_row.specs.Views.{EndedCall, KnownCaller, View}
 use Rattle.of_row.specs.Told.{operations_known, outcomes_of}
 use Rattle.of_row.specs.Runs.{HasRun, RunsAreSchedules}
 use Rattle.of_row.specs.Trail.{IsPrompt, IsToldBy, evictions}
+use Rattle.of_row.proofs.Events.{prompt_replace_none}
 use Rattle.of_caller.specs.Tables.{plan_setup, IsLawfulFor, opening_at, operation_of}
 use Rattle.of_caller.specs.Ends.{AreAnswers, is_spent, ending_if_left, ending_at}
 use Rattle.of_caller.proofs.RecordsOwn.{stopped_at, idle_or_open}
@@ -48,6 +49,7 @@ moves_of (Turns i ∷ es) = Turns i ∷ moves_of es
 moves_of (Loads c ∷ es) = moves_of es
 moves_of (Evicts k ∷ es) = moves_of es
 moves_of (Raises c ∷ es) = Raises c ∷ moves_of es
+moves_of (Revives i made ∷ es) = moves_of es
 
 abbrev items_of : List Event → List Item
 items_of [] = []
@@ -56,6 +58,7 @@ items_of (Turns i ∷ es) = Turns_of i 1 ∷ items_of es
 items_of (Loads c ∷ es) = items_of es
 items_of (Evicts k ∷ es) = items_of es
 items_of (Raises c ∷ es) = Evict c ∷ items_of es
+items_of (Revives i made ∷ es) = items_of es
 
 items_move : (es : List Event) → flat_map item_events (items_of es) ≡ moves_of es
 items_move [] = refl
@@ -64,6 +67,7 @@ items_move (Turns i ∷ es) = ap (λ (fs : List Event). Turns i ∷ fs) (items_m
 items_move (Loads c ∷ es) = items_move es
 items_move (Evicts k ∷ es) = items_move es
 items_move (Raises c ∷ es) = ap (λ (fs : List Event). Raises c ∷ fs) (items_move es)
+items_move (Revives i made ∷ es) = items_move es
 
 items_evict : (es : List Event) → filter_map evicted_by (items_of es) ≡ evictions es
 items_evict [] = refl
@@ -72,6 +76,7 @@ items_evict (Turns i ∷ es) = items_evict es
 items_evict (Loads c ∷ es) = items_evict es
 items_evict (Evicts k ∷ es) = items_evict es
 items_evict (Raises c ∷ es) = ap (λ (cs : List ℕ). c ∷ cs) (items_evict es)
+items_evict (Revives i made ∷ es) = items_evict es
 
 module _ (p : Plan) where
   abbrev S : Setup
@@ -84,6 +89,7 @@ module _ (p : Plan) where
   items_range w (Loads c ∷ es) s = items_range (after_event S w (Loads c)) es s.1
   items_range w (Evicts k ∷ es) s = items_range (after_event S w (Evicts k)) es s.1
   items_range w (Raises c ∷ es) s = (s.0, items_range (after_event S w (Raises c)) es s.1)
+  items_range w (Revives i made ∷ es) s = items_range (after_event S w (Revives i made)) es s.1
 
   -- each begin is that of its caller's next call
   abbrev IsNextCall : Moment → ℕ → List ℕ → Type 0
@@ -96,6 +102,7 @@ module _ (p : Plan) where
   BeginsNext w (Loads c ∷ es) = BeginsNext (after_event S w (Loads c)) es
   BeginsNext w (Evicts k ∷ es) = BeginsNext (after_event S w (Evicts k)) es
   BeginsNext w (Raises c ∷ es) = BeginsNext (after_event S w (Raises c)) es
+  BeginsNext w (Revives i made ∷ es) = BeginsNext (after_event S w (Revives i made)) es
 
   next_is : (w : Moment) (i : ℕ) (op : List ℕ) → IsNextCall w i op → next_begin p i (machine_in w i) ≡ Begins i op ∷ []
   next_is w i op n = ap (λ (b : Bool). if b then Begins i (operation_of (slice_index_or (scripts_of p i) (machine_in w i).made [])) ∷ [] else []) n.0 ∙ ap (λ (z : List ℕ). Begins i z ∷ []) n.1
@@ -111,6 +118,7 @@ module _ (p : Plan) where
   same_events w (Begins i op ∷ Loads c ∷ es) s pr busy next = absurd pr.0
   same_events w (Begins i op ∷ Evicts k ∷ es) s pr busy next = absurd pr.0
   same_events w (Begins i op ∷ Raises c ∷ es) s pr busy next = absurd pr.0
+  same_events w (Begins i op ∷ Revives j made ∷ es) s pr busy next = absurd pr.0
   same_events w (Begins i op ∷ Turns j ∷ es) s pr busy next =
       let e : i ≡ j = sym pr.0 in
       let one : next_begin p j (machine_in w j) ≡ Begins i op ∷ [] = subst (λ (k : ℕ). next_begin p k (machine_in w k) ≡ Begins i op ∷ []) e (next_is w i op next.0) in
@@ -123,6 +131,7 @@ module _ (p : Plan) where
       ap (λ (fs : List Event). Turns i ∷ fs) more ∙ sym (ap (λ (fs : List Event). fs ++ events_from p (after_events S w fs) (moves_of es)) with)
   same_events w (Loads c ∷ es) s pr busy next = absurd pr
   same_events w (Evicts k ∷ es) s pr busy next = absurd pr
+  same_events w (Revives i made ∷ es) s pr busy next = absurd pr
   same_events w (Raises c ∷ es) s pr busy next = ap (λ (fs : List Event). Raises c ∷ fs) (same_events (after_event S w (Raises c)) es s.1 pr (λ k l. (busy k l).1) next)
 
 -- ---- lists of outcomes and operations
@@ -135,6 +144,7 @@ none_front (Answered t q r k ∷ xs) ys (a ∷ zs) us e l n = (tt, none_front xs
     tail_is : Answered t q r k ∷ (xs ++ ys) ≡ a ∷ (zs ++ us) → xs ++ ys ≡ zs ++ us
     tail_is e = cc
 none_front (Spent t ∷ xs) ys (a ∷ zs) us e l n = let same : Spent t ≡ a = cc in absurd (subst (λ (o : Outcome). NoneSpent (o ∷ zs)) (sym same) n).0
+none_front (Lost t ∷ xs) ys (a ∷ zs) us e l n = let same : Lost t ≡ a = cc in absurd (subst (λ (o : Outcome). NoneSpent (o ∷ zs)) (sym same) n).0
 
 at_map : (scripts : List (List Instr)) (k : ℕ) → k < length scripts → get_or (map operation_of scripts) k [] ≡ operation_of (get_or scripts k [])
 at_map [] k l = absurd (omega (arith, l))
@@ -258,7 +268,10 @@ module _ (p : Plan) (laws : KeepsLaws p) (runs : RunsAreSchedules (IsLawfulFor p
       unspent_so = none_spent_before p behind i (answers_of e i) (ending_of e i) (kept i may.0) (keeps p laws runs s B e v t i may.0).2 (outcomes T O done i) (outcomes T w (Begins i op ∷ rest) i) outs (omega (arith, at.0, all_ended))
 
       not_spent : is_spent m.answer ≡ false
-      not_spent = ap is_spent (calls.last may.1) ∙ unspent (outcomes T O done i) None refl unspent_so
+      not_spent = elim (calls.last may.1) [
+        | inl none ↦ ap is_spent none
+        | inr last ↦ ap is_spent last ∙ unspent (outcomes T O done i) None refl unspent_so
+      ]
 
       next : AreNextScripts p behind i (operations_known (kept i may.0))
       next = (tells p laws runs s B e v t i may.0).scripts
@@ -299,6 +312,7 @@ module _ (p : Plan) (laws : KeepsLaws p) (runs : RunsAreSchedules (IsLawfulFor p
       go (Loads a) q m = subst (λ (z : Event). BeginsNext p w (z ∷ rest)) (sym q) (subst (λ (z : Event). BeginsNext p (after_event T w z) rest) q (further m))
       go (Evicts k) q m = subst (λ (z : Event). BeginsNext p w (z ∷ rest)) (sym q) (subst (λ (z : Event). BeginsNext p (after_event T w z) rest) q (further m))
       go (Raises a) q m = subst (λ (z : Event). BeginsNext p w (z ∷ rest)) (sym q) (subst (λ (z : Event). BeginsNext p (after_event T w z) rest) q (further m))
+      go (Revives i made) q m = subst (λ (z : Event). BeginsNext p w (z ∷ rest)) (sym q) (subst (λ (z : Event). BeginsNext p (after_event T w z) rest) q (further m))
 
   abbrev items : List Item
   items = items_of es
@@ -329,8 +343,8 @@ module _ (p : Plan) (laws : KeepsLaws p) (runs : RunsAreSchedules (IsLawfulFor p
       halted_so : (c : ℕ) (l : c < p.callers) → ((kept c l).machine.place ≡ Idle) ⊎ IsOpen (kept c l).machine.place → ending_if_left (last_outcome (outcomes_of (kept c l))) (kept c l).machine.steps ≡ ending_if_left (kept c l).machine.answer (kept c l).machine.steps
       halted_so c l (inl idle) =
           let m = machine_is p laws runs s B e v t c l in
-          let q = calls_of p laws runs s B e v t c l in
-          ap (λ (o : Option Outcome). ending_if_left o (kept c l).machine.steps) (ap last_outcome (told c l).ended ∙ (sym (q.last (ap (λ (d : CallState). d.place) m ∙ idle)) ∙ ap (λ (d : CallState). d.answer) m))
+          let last = laws.last B h.from (words_before_members T + 1) (omega arith) es h.schedule (prompt_replace_none es h.prompt) c l in
+          ap (λ (o : Option Outcome). ending_if_left o (kept c l).machine.steps) (ap last_outcome (told c l).ended ∙ (sym (last (ap (λ (d : CallState). d.place) m ∙ idle)) ∙ ap (λ (d : CallState). d.answer) m))
       halted_so c l (inr o) =
           let m = machine_is p laws runs s B e v t c l in
           let q = calls_of p laws runs s B e v t c l in

@@ -7,7 +7,7 @@ use Rattle.of_mem.specs.Meaning.{WalkEnd, Needs, Gives}
 use Rattle.of_core.specs.declared.place.Place.{Place}
 use Rattle.of_core.specs.declared.place.Place.TheVariants.{Idle, TryCurrent, TryRequest, TryCell, StoreScript, StoreAnnouncement, LoadCurrent, LoadRequest, CopyLog, LookAgain, LoadOwnTicket, LoadShape, LoadReply, LoadAnnouncement, LoadTicket, LoadScript, LoadCell, RaiseOld, StoreLog, RaiseLog, StoreRequest, RaiseRequest, ExchangeCurrent, RaiseCurrent, LoadTarget, ExchangeTarget, ReloadTarget, RaiseTarget, CloseRequest, RaiseClosed}
 use Rattle.of_core.specs.declared.place.Outcome.{Outcome}
-use Rattle.of_core.specs.declared.place.Outcome.TheVariants.{Answered, Spent}
+use Rattle.of_core.specs.declared.place.Outcome.TheVariants.{Answered, Spent, Lost}
 use Rattle.of_core.specs.Table.{Setup, ticket_cell}
 use Rattle.of_core.specs.Machine.{CallState, IsOpen, with_cell_known, log_words, no_cell_known}
 use Rattle.of_core.specs.Steps.{take_word, take_word_at, with_step_counted, after_store_script, after_read_run, begin_reading, end_try, after_try_cell, is_request_open, after_try_request, resume, after_load_request, with_log_word_copied, after_copy_log, after_look_again, after_own_ticket_absent, after_own_ticket_found, after_own_ticket, first_marked_place, next_reply_place, with_shape, after_load_shape, with_reply, after_load_reply, next_scanned_caller, weigh, after_announcement, after_load_ticket, with_call_run, after_script_run, run_script, with_script_word, after_load_script, after_load_cell, after_raise_log, after_commit_exchange, after_raise_current, after_load_target, next_entry, after_raise_closed}
@@ -204,8 +204,10 @@ spent_exactly S m n opened idle o answer =
   where
     in_vain : (o : Outcome) → (take_word_at S (behind m) n m.place).place ≡ Idle → (take_word_at S (behind m) n m.place).answer ≡ Some o → IsSpent o → MissesOwnTicketAtLimit S m n
     in_vain (Answered s announced raw steps) e a is = absurd is
+    in_vain (Lost s) e a is = absurd is
     in_vain (Spent s) e a is = vain_at S (behind m) n m.place refl opened s e a
 
     spent_by : (o : Outcome) → (take_word_at S (behind m) n m.place).answer ≡ Some o → MissesOwnTicketAtLimit S m n → IsSpent o
     spent_by (Spent s) a vain = tt
+    spent_by (Lost s) a vain = absurd (let z : Some (Lost s) ≡ Some (Spent m.seq) = sym a ∙ spent_at S (behind m) n m.place vain.0 vain.1 vain.2 vain.3 in cc)
     spent_by (Answered s announced raw steps) a vain = absurd (let z : Some (Answered s announced raw steps) ≡ Some (Spent m.seq) = sym a ∙ spent_at S (behind m) n m.place vain.0 vain.1 vain.2 vain.3 in cc)

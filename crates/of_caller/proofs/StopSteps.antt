@@ -6,7 +6,7 @@ use Rattle.of_plan.specs.declared.answer.Answer.{Answer}
 use Rattle.of_plan.specs.declared.answer.Ending.{Ending}
 use Rattle.of_plan.specs.declared.answer.Ending.TheVariants.{Done, Stopped, Spent as RanOut}
 use Rattle.of_core.specs.declared.place.Outcome.{Outcome}
-use Rattle.of_core.specs.declared.place.Outcome.TheVariants.{Answered, Spent}
+use Rattle.of_core.specs.declared.place.Outcome.TheVariants.{Answered, Spent, Lost}
 use Rattle.of_core.specs.Calls.{IsAnswered}
 use Rattle.of_row.specs.Turned as turned
 use Rattle.of_caller.specs.Ends.{TellsAnswer}
@@ -21,6 +21,7 @@ told_push (x ∷ xs) a = omega (arith, told_push xs a)
 steps_of_item : (k : ℕ) (o : Outcome) (a : Answer) → IsAnswered o → turned.TellsSteps k o → TellsAnswer o a → a.steps ≡ k
 steps_of_item k (Answered s announced raw steps) a h t q = q.3 ∙ t
 steps_of_item k (Spent s) a h t q = absurd h
+steps_of_item k (Lost s) a h t q = absurd h
 
 pub gave_for : (a b : Option (Option ℕ)) (x y k n : ℕ) (o : Outcome) (xs ys : List Answer) → UsesCountedSteps a b x y → y ≡ x + n → k ≡ n → IsAnswered o → turned.TellsSteps k o → Appends (TellsAnswer o) xs ys → TakesStepsOfAnswers a b xs ys
 gave_for a b x y k n o xs ys u rise same h t q =

@@ -44,7 +44,6 @@ use Rattle.of_caller.proofs.RecordsAllowance.{runs_keep_allowances}
 -- ---- what a list of kept callers says of one
 
 -- the caller that is kept with a number, of which both hold
--- the caller that is kept with a number, of which both hold
 one_of : (c : ℕ) (P Q : KnownCaller → Type 0) (xs : List KnownCaller) → KeepsCallerWith c P xs → EachKept Q xs → (x : KnownCaller) × (x.machine.caller ≡ c) × P x × Q x
 one_of c P Q [] q a = absurd q
 one_of c P Q (x ∷ xs) (inl q) a = (x, q.0, q.1, a.0)

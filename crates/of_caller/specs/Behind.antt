@@ -19,12 +19,12 @@ use Rattle.of_caller.specs.declared.caller.CallErr.TheVariants.{Stopped}
 use Rattle.of_caller.specs.Callers.{caller_call, member_of, sight_of}
 use Rattle.of_caller.specs.CallsTold.{TellsCallOf}
 
--- the second caller has seen all that the first had: it has taken in a pass that knew it
+-- the second caller has seen every batch that the first one has seen
 abbrev pub HasHeard : {W : Type 0} → (told hearer : Caller W) → Type 0
 HasHeard a b = IsPrefix (sight_of a).seen (sight_of b).seen
 
--- The open call m of caller b is answered with p, and leaves the caller as b'. Before that it is
--- stopped this often, and goes on each time.
+-- The open call m of caller b is answered with p, and leaves the caller as b'. Before that the call
+-- is stopped `stops` times, and goes on each time.
 abbrev pub IsAnsweredAfter : {W : Type 0} → (W → Meaning) → (W → List ℕ → Type 0) → Row W
     → (stops : ℕ) → (m : CallState) → (b b' : Caller W) → Outcome → Type 0
 IsAnsweredAfter {W} meaning lawful row zero m b b' p =
@@ -34,9 +34,9 @@ IsAnsweredAfter {W} meaning lawful row (suc stops) m b b' p =
     × TellsCallOf meaning lawful row m b c s t (Err (Stopped asked))
     × IsAnsweredAfter meaning lawful row stops (caller_call c) c b' p
 
--- A call of caller a was answered with o and left it as a'. Caller b has heard of that, and has
--- then begun a call that is answered with p, at once or after stops. So p comes after o: an
--- announced call at a higher sequence, and a read at no lower one.
+-- A call of caller a was answered with o and left the caller as a'. Caller b has then seen all that
+-- a' had seen, and begins a call that is answered with p, at once or after stops. So p comes after
+-- o: at a higher sequence if it was announced, and at no lower one if it was a read.
 abbrev pub ComesBehind : {W : Type 0} → (W → Meaning) → (W → List ℕ → Type 0) → Type 0
 ComesBehind {W} meaning lawful =
     (row : Row W) (m n : CallState) (a a' b b' : Caller W) (s t stops : ℕ) (o p : Outcome)
@@ -45,13 +45,13 @@ ComesBehind {W} meaning lawful =
     → IsAnsweredAfter meaning lawful row stops n b b' p
     → IsNotBefore (outcome_seq o) p
 
--- the second caller's past begins with all that the first's had
+-- the second caller's past begins with all events of the first caller's past
 abbrev pub HasFollowed : {W : Type 0} → (told hearer : Caller W) → Type 0
 HasFollowed a b = IsPrefix (sight_of a).past (sight_of b).past
 
--- A call of caller a has ended and left it as a'. Caller b has taken in a pass that knew of that,
--- and has then made a step of its next call. So in all events that begin with b's past, as those of
--- the row do from then on, a's call has ended before b's begins.
+-- A call of caller a has ended and left the caller as a'. Caller b has then learnt all that a'
+-- knew, and has made a step of its next call. So in all events that begin with the past of b after
+-- that step, the call of a has ended before the call of b begins.
 abbrev pub EndsFirst : {W : Type 0} → (W → Meaning) → (W → List ℕ → Type 0) → Type 0
 EndsFirst {W} meaning lawful =
     (row : Row W) (m n : CallState) (a a' b b' : Caller W) (s t p q : ℕ)

@@ -11,58 +11,62 @@ IsStop (Ok o) = ⊥
 IsStop (Err (Stopped asked)) = Unit {0}
 IsStop (Err (Spent seq)) = ⊥
 
--- of the steps left n were taken; none of no end
+-- n of the steps left were used up; if the steps left had no limit, they still have none
 abbrev pub TakesStepsFrom : (before after : Option ℕ) → (n : ℕ) → Type 0
 TakesStepsFrom None after n = after ≡ None
 TakesStepsFrom (Some left) after n = (rest : ℕ) × (left ≡ n + rest) × (after ≡ Some rest)
 
--- the same of a brake that may report its steps left; whether it does never changes
+-- if the brake reports its steps left, n of them were used up; whether a brake reports its steps
+-- left never changes
 abbrev pub TakesSteps : (before after : Option (Option ℕ)) → (n : ℕ) → Type 0
 TakesSteps None after n = after ≡ None
 TakesSteps (Some left) None n = ⊥
 TakesSteps (Some left) (Some rest) n = TakesStepsFrom left rest n
 
--- the brake gave as many steps as were counted from a to b
+-- the count of steps rose from a to b, and the brake's steps left, if it reports them, fell by the
+-- same number
 abbrev pub UsesCountedSteps : (before after : Option (Option ℕ)) → (a b : ℕ) → Type 0
 UsesCountedSteps before after a b = (n : ℕ) × (b ≡ a + n) × TakesSteps before after n
 
--- the last ask of `asked` is denied exactly if only one step fewer was left at first; without a
--- limit none is
+-- at first `left` steps were left, and the brake denied the ask after these, number `asked`;
+-- without a limit no ask is denied
 abbrev pub StopsWhenUsedUp : (left : Option ℕ) → (asked : ℕ) → Type 0
 StopsWhenUsedUp None asked = ⊥
 StopsWhenUsedUp (Some left) asked = asked ≡ left + 1
 
--- the same of a brake, if it reports its steps left
+-- if the brake reports its steps left: one fewer than `asked` was left at first, and the brake
+-- denied ask number `asked`
 abbrev pub StopsWhenToldUsedUp : (left : Option (Option ℕ)) → (asked : ℕ) → Type 0
 StopsWhenToldUsedUp None asked = Unit {0}
 StopsWhenToldUsedUp (Some left) asked = StopsWhenUsedUp left asked
 
--- a stop comes only when the steps left are used up
+-- a call is stopped only when the steps left are used up, if the brake reports them
 abbrev pub StopsAt : (left : Option (Option ℕ)) → Result Outcome CallErr → Type 0
 StopsAt left (Ok o) = Unit {0}
 StopsAt left (Err (Stopped asked)) = StopsWhenToldUsedUp left asked
 StopsAt left (Err (Spent seq)) = Unit {0}
 
--- a brake that counts answers has heard of one more if the call was answered, and else of no more
+-- a brake that counts answers counts one more if the call was answered, and otherwise no more
 abbrev pub HearsAnswerOnce : (before after : Option ℕ) → Result Outcome CallErr → Type 0
 HearsAnswerOnce before after (Ok o) = HasHeardAnswer before after
 HearsAnswerOnce before after (Err e) = after ≡ before
 
--- a count that went up this many times; it stays at its type's greatest number
+-- a count that went up `more` times; it stays at the greatest number of its type
 unfoldable pub later : (more : ℕ) → ℕ → ℕ
 later zero n = n
 later (suc more) n = saturating_next (later more n)
 
--- a brake that counts its asks was asked this many times
+-- a brake that counts how often it is asked was asked `more` times
 abbrev pub AskedFor : (before after : Option ℕ) → (more : ℕ) → Type 0
 AskedFor None after more = after ≡ None
 AskedFor (Some n) after more = after ≡ Some (later more n)
 
--- the brake was asked once for each step that was counted from a to b
+-- a brake that counts how often it is asked was asked once for each step counted from a to b
 abbrev pub AskedForEach : (before after : Option ℕ) → (a b : ℕ) → Type 0
 AskedForEach before after a b = (n : ℕ) × (b ≡ a + n) × AskedFor before after n
 
--- a stopped call asked the brake as often as it says, and any other once for each of its steps
+-- a stopped call asked the brake as often as its error says, and any other call once for each of
+-- its steps
 abbrev pub AsksOf : (before after : Option ℕ) → (a b : ℕ) → Result Outcome CallErr → Type 0
 AsksOf before after a b (Ok o) = AskedForEach before after a b
 AsksOf before after a b (Err (Stopped asked)) = AskedFor before after asked

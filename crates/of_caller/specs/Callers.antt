@@ -12,7 +12,7 @@ use Rattle.of_row.specs.Rows.{IsRowMember, RunsOnRow, IsMemberOf, HasNoCall}
 use Rattle.of_row.specs.Rows.{view_of_member, calls_of_member}
 use Rattle.of_caller.specs.declared.caller.Caller.{Caller}
 
--- the member that the caller makes its calls with
+-- the member with which the caller makes its calls
 abbrev pub member_of : {W : Type 0} → Caller W → Member
 member_of c = c.member
 
@@ -20,20 +20,20 @@ member_of c = c.member
 abbrev pub sight_of : {W : Type 0} → Caller W → View
 sight_of c = view_of_member (member_of c)
 
--- how many loads it has made that are no step of a call
+-- how many loads the caller has made that are no step of a call
 abbrev pub looks_made_by : {W : Type 0} → Caller W → ℕ
 looks_made_by c = (sight_of c).looks
 
--- its call, as its machine holds it: the open one, or the last one
+-- the caller's call, as its machine holds it: the open one, or the last one
 abbrev pub caller_call : {W : Type 0} → Caller W → CallState
 caller_call c = c.machine.call
 
--- how many calls of its number were begun
+-- how many calls of the caller's number were begun
 abbrev pub calls_begun_by : {W : Type 0} → Caller W → ℕ
 calls_begun_by c = (caller_call c).made
 
--- member and machine are of the row, and the member stands for the machine; an open call has a step
--- left
+-- The caller's member and machine are of the row, and the member stands for the machine. If a call
+-- is open, it has made fewer steps than the bound.
 pub record IsCaller {W : Type 0} (meaning : W → Meaning) (r : Row W) (c : Caller W) : Type 0 where
   pub row : IsRowMember r (member_of c)
   pub machine : RunsOnRow r c.machine
@@ -41,8 +41,8 @@ pub record IsCaller {W : Type 0} (meaning : W → Meaning) (r : Row W) (c : Call
   pub within : IsOpen (caller_call c).place
       → (caller_call c).steps < bound (machine_setup meaning c.machine)
 
--- a caller of some row that has no open call leaves a member that has none, and has made as many
--- calls
+-- if the caller is one of some row and has no open call, the member that it leaves has no open call
+-- either, and has made as many calls as the caller has begun
 abbrev pub LeavesIdleMember : {W : Type 0} → (W → Meaning) → Caller W → Member → Type 0
 LeavesIdleMember {W} meaning c m =
     (r : Row W) → IsCaller meaning r c → IsIdle (caller_call c)

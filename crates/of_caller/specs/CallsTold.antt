@@ -27,32 +27,38 @@ use Rattle.of_caller.specs.Vain.{IsLastStep}
 -- In these definitions a call goes on from the machine m, with the view v that keeps x, and n steps
 -- later it has come to the machine d, with the view w that keeps y.
 
--- it has ended with this outcome
+-- The open call of the machine m has ended with the outcome o, after n more steps. The machine is d
+-- now; the view v, which kept x, is w now, which keeps y.
 pub record HasEndedWith (S : Setup) (Lawful : List ℕ → Type 0) (B : TableStart)
     (m : CallState) (v : View) (x : KnownCaller) (n : ℕ) (d : CallState) (w : View)
     (y : KnownCaller) (o : Outcome) : Type 0 where
-  -- the caller is idle, and its machine holds the outcome
+  -- the caller has no open call, and its machine holds the outcome
   pub idle : IsIdle d
   pub answer : d.answer ≡ Some o
-  -- the member keeps one call more, with this outcome
+  -- the member keeps one ended call more, with this outcome
   pub kept : y.ended ≡ x.ended ++ record { op = m.op; outcome = o } ∷ []
-  -- a batch that was seen has it with its reply; or it only reads, and the reply is the meaning in
-  -- the state at its sequence; or what was seen has come to the limit without it
+  -- a batch that was seen has the call with its reply; or the call only reads, and its reply is its
+  -- meaning in the state at its sequence; or the call is spent, and the batches that were seen come
+  -- up to the limit without it
   pub stands : CallHasEnded S B (seen_history w.seen) (seen_seq B w.seen) m.caller m.made m.op o
   -- a read's reply is its operation's meaning after the batches that were seen up to its sequence
   pub meant : IsMeantReply S B (seen_history w.seen) m.op o
   -- an answer counts the steps of the whole call
   pub steps : TellsSteps (m.steps + n) o
-  -- and those of no call, a spent one neither, are more than the bound
+  -- the call, also a spent one, has made no more steps than the bound
   pub within : m.steps + n ≤ bound S
-  -- or more than what operations of the work touch allows, however large the memory
+  -- the call's steps are within the bound by the cells that each operation of the work reads and
+  -- writes, however large the memory is
   pub touched : IsWithinTouched S Lawful m.op (m.steps + n)
-  -- an announced call is above all that was seen when it began, and no read is below
+  -- an announced call's sequence is above what was seen when the call began; a read's is not below
+  -- it
   pub beyond : IsNotBefore (since_after B v x) o
-  -- it is spent exactly if a round that began at the limit did not find its ticket
+  -- the call is spent exactly if its last step, in a round that began at the limit, did not find
+  -- its ticket
   pub last : IsLastStep S Lawful d o
 
--- the call is still open, and has a step left
+-- the open call of the machine m is still open after n more steps, and has a step left; the machine
+-- is d now, and y is kept of its caller
 pub record IsStillOpen (S : Setup) (m : CallState) (x : KnownCaller) (n : ℕ) (d : CallState)
     (y : KnownCaller) : Type 0 where
   pub open_call : IsOpen d.place
@@ -60,8 +66,8 @@ pub record IsStillOpen (S : Setup) (m : CallState) (x : KnownCaller) (n : ℕ) (
   pub within : d.steps < bound S
   pub kept : y.ended ≡ x.ended
 
--- what the result says: an answer; a stop, for which the brake was asked once more than steps were
--- made, and at most as often as the bound allows; or that the call is spent
+-- What a call's result says: the call was answered; or it was stopped and is still open, and the
+-- brake was asked once more than steps were made, within the bound; or the call is spent.
 abbrev pub TellsResult : Setup → (List ℕ → Type 0) → TableStart
     → CallState → View → KnownCaller → (steps : ℕ) → CallState → View → KnownCaller
     → Result Outcome CallErr → Type 0
@@ -70,10 +76,10 @@ TellsResult S L B m v x n d w y (Err (Stopped asked)) =
     IsStillOpen S m x n d y × (asked ≡ n + 1) × (m.steps + asked ≤ bound S)
 TellsResult S L B m v x n d w y (Err (Spent seq)) = HasEndedWith S L B m v x n d w y (Over seq)
 
--- What is known of steps that were made. The member keeps the machine. What was seen is a legal
--- history. Of the caller's calls it has exactly those that the caller made, as they have ended, and
--- each announced one that was answered in one batch. In the events of its past the caller's calls
--- began and ended in the same way.
+-- What is known after a call has made steps. The member keeps the machine. What the member has seen
+-- is a legal history. In it the caller has only calls that it has begun, as they ended, and each
+-- announced and answered one once. In the events of the member's past the caller's calls began and
+-- ended in the same way.
 pub record TellsStepsMade (S : Setup) (B : TableStart) (d : CallState) (w : View) (y : KnownCaller)
     : Type 0 where
   pub machine : y.machine ≡ d
@@ -82,42 +88,42 @@ pub record TellsStepsMade (S : Setup) (B : TableStart) (d : CallState) (w : View
   pub once : HasOwnOnce S B w.seen y
   pub told : IsToldBy S B w.past d.caller y
 
--- what a call tells with this result; the count of steps went from a to b
+-- what a call with this result tells its caller; the count of steps went from a to b
 pub record TellsCall (S : Setup) (Lawful : List ℕ → Type 0) (B : TableStart)
     (m : CallState) (v : View) (a : ℕ) (d : CallState) (w : View) (b : ℕ)
     (r : Result Outcome CallErr) : Type 0 where
-  -- the steps are counted
+  -- how many steps the call has made since; the count has risen by this number
   pub steps : ℕ
   pub rise : b ≡ a + steps
-  -- nothing that was seen is lost, and the past goes on
+  -- nothing that was seen is lost, and the past only gets longer
   pub seen : IsPrefix v.seen w.seen
   pub past : IsPrefix v.past w.past
-  -- number, ticket and operation stay
+  -- the call's caller, ticket and operation stay
   pub caller : d.caller ≡ m.caller
   pub made : d.made ≡ m.made
   pub op : d.op ≡ m.op
-  -- the member keeps its caller; with no step made it knows what it knew
+  -- the member keeps one caller, as before; if no step was made, the view is as it was
   pub before : KnownCaller
   pub kept : KnownCaller
   pub kept_before : v.kept ≡ before ∷ []
   pub kept_now : w.kept ≡ kept ∷ []
   pub none : steps ≡ 0 → w ≡ v
   pub some : 0 < steps → TellsStepsMade S B d w kept
-  -- before the first step the past had no call of the caller but those that it had begun
+  -- before the first step, the past had no more calls of the caller than the caller had begun
   pub behind : 0 < steps
       → length (operations_begun v.past m.caller) ≤ length (operations_known before)
-  -- each step that is counted was made on the table
+  -- each step that was counted was made on the table
   pub turns : kept.turns ≡ before.turns + steps
-  -- and nothing else was loaded
+  -- besides these steps the caller has made no load
   pub looks : w.looks ≡ v.looks
-  -- the member keeps what was seen when the call began, also if it was stopped
+  -- the member keeps the sequence that was seen when the call began, also if the call was stopped
   pub since : 0 < steps → kept.since ≡ since_after B v before
-  -- also if the call was stopped: with its steps before, it has made no more than what operations
-  -- of the work touch allows
+  -- also if the call was stopped: its steps, with those from before, are within the bound by the
+  -- cells that each operation of the work reads and writes
   pub touched : 0 < steps → IsWithinTouched S Lawful m.op (m.steps + steps)
   pub result : TellsResult S Lawful B m v before steps d w kept r
 
--- what is told of the call m of a caller of the row
+-- what the call m of a caller of the row tells its caller
 abbrev pub TellsCallOf : {W : Type 0} → (W → Meaning) → (W → List ℕ → Type 0) → Row W
     → (m : CallState) → (before now : Caller W) → (a b : ℕ) → Result Outcome CallErr → Type 0
 TellsCallOf meaning lawful r m before now a b result =

@@ -6,11 +6,12 @@ use Rattle.of_plan.specs.Plan.{Plan}
 use Rattle.of_plan.specs.Ended.{Ended}
 use Rattle.of_plan.specs.Report.{Entry, Report, Start, finished_of}
 use Rattle.of_eval.specs.Record.{IsLawfulRecord}
-use Rattle.of_core.specs.Table.{Setup}
+use Rattle.of_core.specs.Table.{Setup, committed_seq}
+use Rattle.of_core.specs.Machine.{is_idle}
 use Rattle.of_core.specs.TableMoment.{Moment, TableStart}
 use Rattle.of_core.specs.WordsMatch.{MayStart}
-use Rattle.of_core.specs.Events.{Event, Begins, Turns, Loads, Evicts, Raises, after_event, machine_in, after_events, IsSchedule}
-use Rattle.of_core.specs.Calls.{outcome_of_step, outcomes}
+use Rattle.of_core.specs.Events.{Event, Begins, Turns, Loads, Evicts, Raises, Revives, after_event, machine_in, after_events, IsSchedule}
+use Rattle.of_core.specs.Calls.{outcome_of_step, outcome_of_loss, outcomes}
 use Rattle.of_row.specs.Views.{View}
 use Rattle.of_caller.specs.Tables.{plan_setup, IsLawfulFor, opening_at}
 use Rattle.of_caller.specs.Scheduled.{events_of_items, IsScheduled}
@@ -44,23 +45,26 @@ EntryHasEnded s ms k e = e.index < finished_of s e.caller + over_in e.caller (ta
 abbrev pub NotBegun : Start → List Mark → (k : ℕ) → Entry → Type 0
 NotBegun s ms k e = finished_of s e.caller + begun_in e.caller (take k ms) ≤ e.index
 
--- the call of e ends before that of f begins: there is a moment between them
+-- the call of e ends before the call of f begins: after the first k marks, for some k, the one has
+-- ended and the other has not begun
 abbrev pub EndsBefore : Start → List Mark → Entry → Entry → Type 0
 EndsBefore s ms e f = (k : ℕ) × EntryHasEnded s ms k e × NotBegun s ms k f
 
--- f comes no earlier than e in the history: its sequence is not lower, and is higher if f was
+-- f comes no earlier than e in the history: its sequence is not lower, and it is higher if f was
 -- announced
 abbrev pub StandsBehind : Entry → Entry → Type 0
 StandsBehind e f = (e.seq ≤ f.seq) × (IsTrue f.announced → e.seq < f.seq)
 
--- an entry comes no earlier than each entry whose call ended before its own call began
+-- each entry comes, in the history, no earlier than the entries whose calls ended before its own
+-- call began
 abbrev pub RespectsTime : Start → List Mark → Report → Type 0
 RespectsTime s ms r =
     All (λ e. All (λ f. EndsBefore s ms e f → StandsBehind e f) r.entries) r.entries
 
 -- ---- the marks of a schedule
 
--- an event that begins a call has a mark, and so has a turn that ends one
+-- the marks of an event at this moment: an event that begins a call has one, and so has a turn that
+-- ends a call, or the loss of a machine that ends one
 abbrev pub marks_of : Setup → Moment → Event → List Mark
 marks_of S w (Begins i op) = BeginsCall i ∷ []
 marks_of S w (Turns i) =
@@ -69,19 +73,24 @@ marks_of S w (Turns i) =
 marks_of S w (Loads c) = []
 marks_of S w (Evicts k) = []
 marks_of S w (Raises c) = []
+marks_of S w (Revives i made) =
+    map (λ o. EndsCall i)
+    (outcome_of_loss (committed_seq w.words) (is_idle (machine_in w i).place)
+    (is_idle (machine_in (after_event S w (Revives i made)) i).place))
 
 -- the marks of these events, the first of which happens at this moment
 abbrev pub marks_in : Setup → Moment → List Event → List Mark
 marks_in S w [] = []
 marks_in S w (e ∷ es) = marks_of S w e ++ marks_in S (after_event S w e) es
 
--- the marks of the plan's callers with these items for a schedule, from this start
+-- the marks of a run of the plan's callers from this start, with these items as the schedule
 abbrev pub course_of : Plan → TableStart → List Item → List Mark
 course_of p B items = marks_in (plan_setup p) (opening_at p B) (events_of_items p B items)
 
 -- ---- what holds of all schedules and teams
 
--- the report of what a schedule of the plan leaves, from any start, respects its real time
+-- if a schedule of the plan, from any start, leaves a record, the record's report respects the real
+-- time of the schedule
 abbrev pub SchedulesRespectTime : Plan → Type 0
 SchedulesRespectTime p =
     (s : Start) (B : TableStart) → MayStart (plan_setup p) (IsLawfulFor p) B
@@ -92,7 +101,8 @@ SchedulesRespectTime p =
     → (r : Report) → IsLawfulRecord p s e r
     → RespectsTime s (marks_in (plan_setup p) (opening_at p B) es) r
 
--- so does the report of what a team leaves, with the schedule that its run was
+-- a team's run is a schedule, and the report of what the team leaves respects the real time of this
+-- schedule
 abbrev pub TeamsRespectTime : Plan → Type 0
 TeamsRespectTime p =
     (s : Start) (B : TableStart) (e : Ended) (v : View) → IsTeamOf p s B e v

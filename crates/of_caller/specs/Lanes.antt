@@ -1,4 +1,5 @@
--- How far a caller of a team has come with its scripts.
+-- How far a caller of a team has come with its scripts. A lane is a caller of a team with its
+-- brake, its answers and its ending.
 use Rattle.std.specs.Prelude.{◌≡◌, ℕ, ◌+◌, ◌-◌, ◌≤◌, ◌<◌, List, [], ◌∷◌, ◌++◌, length, vec_capacity, Option, Some, None}
 use Rattle.of_eval.specs.declared.scripts.Scripts.{Scripts}
 use Rattle.of_eval.specs.Scripts.{scripts_meaning}
@@ -9,7 +10,7 @@ use Rattle.of_plan.specs.declared.answer.Answer.{Answer}
 use Rattle.of_plan.specs.declared.answer.Ending.{Ending}
 use Rattle.of_plan.specs.Plan.{Plan, IsPlan, scripts_of}
 use Rattle.of_core.specs.declared.place.Outcome.{Outcome}
-use Rattle.of_core.specs.declared.place.Outcome.TheVariants.{Answered, Spent}
+use Rattle.of_core.specs.declared.place.Outcome.TheVariants.{Answered, Spent, Lost}
 use Rattle.of_core.specs.Turn.{IsIdle}
 use Rattle.of_row.specs.Views.{KnownCaller}
 use Rattle.of_row.specs.Rows.{IsRowMember}
@@ -22,16 +23,17 @@ use Rattle.of_caller.specs.Callers.{IsCaller, caller_call, member_of, sight_of}
 use Rattle.of_caller.specs.Stops.{KeepsStop, KeepToStop, answer_steps, open_call_steps}
 use Rattle.of_caller.specs.Teams.{AreAnswered, KeepsCaller}
 
--- the row is one of the plan's, which has started where the plan does
+-- the row is one for the plan, and has started at a start of the plan
 pub record IsPlanRow (p : Plan) (r : Row Scripts) : Type 0 where
   pub plan : IsPlan p
   pub row : IsRowOf p r
   pub start : HasStart p r
 
--- it is an answer, and its cells hold a reply
+-- the outcome is an answer, and its raw reply holds a reply of a script
 abbrev pub IsHeldAnswer : Outcome → Type 0
 IsHeldAnswer (Answered k announced raw steps) = (r : Reply) × IsHeldBy raw r
 IsHeldAnswer (Spent k) = ⊥
+IsHeldAnswer (Lost k) = ⊥
 
 -- the list is longer by one item, of which P holds
 pub record Appends {A : Type 0} (P : A → Type 0) (xs ys : List A) : Type 0 where
@@ -46,7 +48,8 @@ pub record HasAnsweredScripts (p : Plan) (behind c : ℕ) (x : KnownCaller) (ans
   pub answered : AreAnswered p behind c x.ended answers
   pub count : length answers ≡ i
 
--- the same of a caller between two calls, whose member shows its machine
+-- the caller is between two calls; i of its scripts after the first `behind` are answered, and its
+-- member keeps its machine
 pub record CallerHasAnswered (p : Plan) (behind c : ℕ) (r : Row Scripts) (caller : Caller Scripts)
     (answers : List Answer) (i : ℕ) : Type 0 where
   pub is_caller : IsCaller scripts_meaning r caller
@@ -57,7 +60,7 @@ pub record CallerHasAnswered (p : Plan) (behind c : ℕ) (r : Row Scripts) (call
   pub shown : kept.machine ≡ caller_call caller
   pub going : HasAnsweredScripts p behind c kept answers i
 
--- a caller has ended so
+-- the caller has made its last call and has ended with these answers and this ending
 pub record CallerHasEnded (p : Plan) (behind c : ℕ) (r : Row Scripts) (caller : Caller Scripts)
     (answers : List Answer) (ending : Ending) : Type 0 where
   pub seat : IsRowMember r (member_of caller)
@@ -66,47 +69,50 @@ pub record CallerHasEnded (p : Plan) (behind c : ℕ) (r : Row Scripts) (caller 
   pub number : kept.machine.caller ≡ c
   pub keeps : KeepsCaller p behind c answers ending kept
 
--- a brake that reports its steps left gave the steps of the answers after `these`, and no others
+-- if a brake reports its steps left, these fell by the steps of the answers in `all` that come
+-- after `these`, and by no others
 abbrev pub TakesStepsOfAnswers : (before after : Option (Option ℕ)) → (these all : List Answer)
     → Type 0
 TakesStepsOfAnswers before after xs ys =
     (n : ℕ) × (answer_steps ys ≡ answer_steps xs + n) × TakesSteps before after n
 
--- the steps of the answers after `these`, and of the open call, are within what such a brake had
--- left
+-- if a brake reports its steps left, the steps of the answers that come after `these`, and of the
+-- open call, are within what it had left
 abbrev pub KeepsToBrake : (left : Option (Option ℕ)) → (these all : List Answer) → Ending → Type 0
 KeepsToBrake None xs ys ending = Unit {0}
 KeepsToBrake (Some stop) xs ys ending =
     (n : ℕ) × (answer_steps ys ≡ answer_steps xs + n)
     × KeepsStop stop (n + open_call_steps ending) (end_state_of ending)
 
--- all answers and the ending keep to what such a brake had left
+-- if a brake reports its steps left, the steps of all answers, and of the open call, are within
+-- what it had left
 abbrev pub KeepsLeft : (left : Option (Option ℕ)) → List Answer → Ending → Type 0
 KeepsLeft None answers ending = Unit {0}
 KeepsLeft (Some stop) answers ending = KeepToStop stop answers ending
 
 module _ {X : Type 0} {Y : X → Type 0} where
-  -- the lane's caller is one of the plan's, and has room for its answers
+  -- the lane has a caller of the plan, and room for an answer to each script that isn't done
   pub record IsLane (p : Plan) (a : TeamCaller X Y) : Type 0 where
     pub number : a.number < p.callers
     pub first : a.first ≤ length (scripts_of p a.number)
     pub room : length (scripts_of p a.number) - a.first ≤ vec_capacity a.answers
 
-  -- i of its scripts after those that were done before are answered
+  -- the lane's caller is between two calls; of its scripts that weren't done before the row's
+  -- start, i are answered
   pub record LaneAt (p : Plan) (r : Row Scripts) (a : TeamCaller X Y) (i : ℕ) : Type 0 where
     pub lane : IsLane p a
     pub caller : CallerHasAnswered p a.first a.number r a.caller a.answers.items i
 
-  -- none is yet
+  -- the lane's caller has made no call yet
   pub record IsReady (p : Plan) (r : Row Scripts) (a : TeamCaller X Y) : Type 0 where
     pub at_first : LaneAt p r a 0
     pub none : a.answers.items ≡ []
 
-  -- it has ended
+  -- the lane's caller has ended with this ending
   abbrev pub LaneEnds : Plan → Row Scripts → TeamCaller X Y → Ending → Type 0
   LaneEnds p r a ending = CallerHasEnded p a.first a.number r a.caller a.answers.items ending
 
-  -- the second lane is the first one when its caller has ended
+  -- lane b is lane a after its caller has made all its calls and has ended
   pub record HasRun (p : Plan) (r : Row Scripts) (a b : TeamCaller X Y) : Type 0 where
     pub number : b.number ≡ a.number
     pub first : b.first ≡ a.first

@@ -1,4 +1,4 @@
--- What events leave of a plan's table.
+-- What events leave on a plan's table of zeros.
 use Rattle.std.specs.Prelude.{◌≡◌, ℕ, ◌≤◌, ◌<◌, List, length, map, take}
 use Rattle.of_plan.specs.Plan.{Plan, scripts_of}
 use Rattle.of_plan.specs.Ended.{Ended, answers_of, ending_of}
@@ -8,11 +8,11 @@ use Rattle.of_core.specs.Calls.{operations_begun, outcomes}
 use Rattle.of_caller.specs.Tables.{plan_setup, opening_for, operation_of}
 use Rattle.of_caller.specs.Ends.{AreAnswers, ending_at}
 
--- the moment that these events leave of a plan's table
+-- the moment that these events leave on a plan's table of zeros
 abbrev pub moment_after : Plan → List Event → Moment
 moment_after p es = after_events (plan_setup p) (opening_for p) es
 
--- what a run leaves is what these events leave of a plan's table
+-- these events, on a plan's table of zeros, leave this record of a run
 pub record IsLeftBy (p : Plan) (es : List Event) (e : Ended) : Type 0 where
   pub answers : length e.answers ≡ p.callers
   pub endings : length e.endings ≡ p.callers
@@ -24,7 +24,7 @@ pub record IsLeftBy (p : Plan) (es : List Event) (e : Ended) : Type 0 where
       ≡ ending_at (machine_in (moment_after p es) c) (length (scripts_of p c))
       (length (answers_of e c))
 
--- the calls of each caller are its first scripts, in their order
+-- the calls that each caller begins in these events are its first scripts, in their order
 abbrev pub IsOfPlan : Plan → List Event → Type 0
 IsOfPlan p es =
     (c : ℕ) → c < p.callers → (n : ℕ) × (n ≤ length (scripts_of p c))

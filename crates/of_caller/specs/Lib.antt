@@ -1,4 +1,5 @@
 pub mod Tables
+pub mod LastOutcomes
 pub mod PlanLaws
 pub mod Ends
 pub mod Left

@@ -14,13 +14,15 @@ use Rattle.of_core.specs.History.{batch_at}
 abbrev pub script_of_ticket : Plan → (caller ticket : ℕ) → List Instr
 script_of_ticket p c t = slice_index_or (scripts_of p c) (t - 1) []
 
+-- the script of this call
 abbrev pub call_script : Plan → Call → List Instr
 call_script p c = script_of_ticket p c.caller c.ticket
 
--- the calls of batch k, and their scripts
+-- the calls of batch k
 abbrev pub batch_calls : TableStart → Moment → ℕ → List Call
 batch_calls B w k = (batch_at B w.batches k).calls
 
+-- the scripts of the calls of batch k
 abbrev pub batch_scripts : Plan → TableStart → Moment → ℕ → List (List Instr)
 batch_scripts p B w k = map (call_script p) (batch_calls B w k)
 
@@ -34,6 +36,6 @@ store_after_batches p B st w (suc j) =
 abbrev pub store_at_seq : Plan → TableStart → Store → Moment → ℕ → Store
 store_at_seq p B st w k = store_after_batches p B st w (k - B.seq)
 
--- a reply to this many instructions, as a work gives it
+-- a script's reply to this many instructions, as data cells hold it
 abbrev pub raw_reply_of : ℕ → Reply → RawReply
 raw_reply_of n r = reply_cells (reply_to n r)

@@ -10,7 +10,7 @@ use Rattle.of_row.specs.declared.row.Row.{Row}
 use Rattle.of_row.specs.Rows.{key_of, row_start}
 use Rattle.of_caller.specs.Starts.{StartsAtPlan}
 
--- the row is one of the plan: its callers, cells, limit and work
+-- the row is one for the plan: it has the plan's callers, cells, limit and work
 pub record IsRowOf (p : Plan) (r : Row Scripts) : Type 0 where
   pub callers : (key_of r).callers ≡ p.callers
   pub cells : (key_of r).cells ≡ plan_data_cells p
@@ -18,14 +18,15 @@ pub record IsRowOf (p : Plan) (r : Row Scripts) : Type 0 where
   pub work_callers : (key_of r).work.callers ≡ p.callers
   pub work_blocks : (key_of r).work.blocks ≡ p.blocks
 
--- where the row has started
+-- the start of the row
 abbrev pub start_of_row : Row Scripts → TableStart
 start_of_row r = row_start scripts_meaning r
 
--- no caller has done more scripts at the start than it has
+-- each caller has at least as many scripts as are done at the start
 abbrev pub HasScripts : Plan → Start → Type 0
 HasScripts p s = (c : ℕ) → c < p.callers → finished_of s c ≤ length (scripts_of p c)
 
--- the row has started where the plan does
+-- the row has started at a start of the plan, at which no caller has more scripts done than it has
+-- scripts in the plan
 abbrev pub HasStart : Plan → Row Scripts → Type 0
 HasStart p r = (s : Start) × StartsAtPlan p s (start_of_row r) × HasScripts p s

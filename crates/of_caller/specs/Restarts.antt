@@ -19,7 +19,7 @@ use Rattle.of_row.specs.Views.{View}
 use Rattle.of_caller.specs.Runs.{IsRunOfPlan}
 use Rattle.of_caller.specs.Teams.{IsTeamOf}
 
--- an announced entry, whose ticket and whose reply the caller's own cells hold
+-- the entry was announced, and the caller's own cells hold its ticket and its reply
 pub record IsHeldIn (m : ℕ → ℕ) (caller : ℕ) (e : Entry) : Type 0 where
   pub announced : IsTrue e.announced
   pub ticket : m (ticket_cell_at MOST_INSTRS caller) ≡ e.index + 1
@@ -27,17 +27,17 @@ pub record IsHeldIn (m : ℕ → ℕ) (caller : ℕ) (e : Entry) : Type 0 where
   pub held : IsHeldBy (reply_in MOST_INSTRS m caller) reply
   pub response : e.reply ≡ reply_value_of reply
 
--- a caller's own cells hold the last announced one of its entries, or the ticket n if none is
+-- a caller's own cells hold the last of its entries that was announced, or the ticket n if none was
 -- announced
 pub record HoldsLastAnnounced (m : ℕ → ℕ) (caller n : ℕ) (es : List Entry) : Type 0 where
   pub from : n ≤ m (ticket_cell_at MOST_INSTRS caller)
   -- no announced entry has a higher ticket
   pub last : All (λ e. IsTrue e.announced → e.index < m (ticket_cell_at MOST_INSTRS caller)) es
-  -- and they hold an announced entry, if the ticket isn't n
+  -- the cells hold an announced entry, if their ticket isn't n
   pub has : (m (ticket_cell_at MOST_INSTRS caller) ≡ n) ⊎ Any (IsHeldIn m caller) es
 
--- a table starts where the report of a run ends: at its sequence and its store, and each caller's
--- own cells hold its last announced entry
+-- a table starts where the report of a run ends: at the report's sequence and store, and each
+-- caller's own cells hold its last announced entry
 pub record StartsAfterReport (p : Plan) (s : Start) (r : Report) (B : TableStart) : Type 0 where
   pub seq : B.seq ≡ r.seq
   pub size : length B.cells ≡ plan_data_cells p
@@ -45,8 +45,8 @@ pub record StartsAfterReport (p : Plan) (s : Start) (r : Report) (B : TableStart
   pub callers : (c : ℕ) → c < p.callers
       → HoldsLastAnnounced (start_number B) c (finished_of s c) (entries_of r c)
 
--- from what recovery makes of the durable words that a run with this report leaves a table may
--- start, and it starts where the report ends
+-- a table may start from what recovery makes of the durable words of a run with this report; this
+-- start is where the report ends
 abbrev pub MayRestartAfter : Plan → Start → Ended → Report → Type 0
 MayRestartAfter p s e r =
     (row : List ℕ) → IsDurable (plan_setup p) e.words row
@@ -54,13 +54,15 @@ MayRestartAfter p s e r =
     IsStartRow (plan_setup p) (IsLawfulFor p) found
     × StartsAfterReport p s r (start_from_durable p.callers (plan_data_cells p) found)
 
--- this holds of each run of a plan
+-- after each run of a plan, a table may start from the recovered durable words, where the run's
+-- report ends
 abbrev pub RunsRestart : Type 0
 RunsRestart =
     (p : Plan) (s : Start) (B : TableStart) (w : Moment) (e : Ended) → IsRunOfPlan p s B w e
     → (r : Report) → IsLawfulRecord p s e r → MayRestartAfter p s e r
 
--- and of each team of a plan
+-- after each team of the plan, a table may start from the recovered durable words, where the report
+-- ends
 abbrev pub TeamsRestart : Plan → Type 0
 TeamsRestart p =
     (s : Start) (B : TableStart) (e : Ended) (v : View) → IsTeamOf p s B e v

@@ -24,20 +24,21 @@ use Rattle.of_caller.specs.Tables.{plan_setup, opening_at, operation_of}
 use Rattle.of_caller.specs.Ends.{OutcomeHoldsReply, AnswersStandBeforeSpent, AreAnswers, ending_if_left}
 use Rattle.of_caller.specs.Starts.{StartsAtPlan}
 
--- these are the first of a caller's scripts after the first `behind`, in their order
+-- these are the operations of a caller's next scripts: of some scripts right after the first
+-- `behind`, in order, with none left out
 pub record AreNextScripts (p : Plan) (behind c : ℕ) (ops : List (List ℕ)) : Type 0 where
   pub count : ℕ
   pub few : count ≤ length (scripts_of p c) - behind
   pub are : ops ≡ map operation_of (take count (drop behind (scripts_of p c)))
 
--- How a caller ends whose calls have these outcomes, of which `answered` are answers. If it has a
--- script left and its last call was spent, it is spent. If it has one left otherwise, it is
--- stopped, and has asked for one step more than its open call has made.
+-- How a caller ends whose calls have these outcomes, of which `answered` are answers. With no
+-- script left it is done. With one left it is spent if its last call was spent; otherwise it is
+-- stopped, and its brake was asked once more than its open call has made steps.
 abbrev pub ending_of_calls : (outs : List Outcome) → (steps scripts_left answered : ℕ) → Ending
 ending_of_calls outs steps n a = if a == n then Done else ending_if_left (last_outcome outs) steps
 
--- the plan's table has come from the start to this moment; each caller has begun these of its
--- scripts, the next ones, and they have these outcomes
+-- The plan's table has come from the start to this moment. Each caller has begun its next scripts,
+-- which have these operations, and its ended calls have these outcomes.
 pub record IsMomentOf (p : Plan) (s : Start) (B : TableStart) (w : Moment) (ops : ℕ → List (List ℕ))
     (outs : ℕ → List Outcome) : Type 0 where
   pub plan : IsPlan p
@@ -47,8 +48,8 @@ pub record IsMomentOf (p : Plan) (s : Start) (B : TableStart) (w : Moment) (ops 
   pub calls : (c : ℕ) → c < p.callers
       → HasCalls (plan_setup p) B (finished_of s c) w c (ops c) (outs c)
 
--- What the run has left of caller c says how its calls have ended. Answers are found by their
--- place, so none comes after a spent call, whose script it would be taken for.
+-- The record's answers and ending of caller c say how its calls have ended. An answer's place in
+-- the list says of which script it is, so no answer may come after a spent call.
 pub record TellsCalls (p : Plan) (s : Start) (w : Moment) (e : Ended) (c : ℕ) (outs : List Outcome)
     : Type 0 where
   pub answers_first : AnswersStandBeforeSpent outs
@@ -56,7 +57,7 @@ pub record TellsCalls (p : Plan) (s : Start) (w : Moment) (e : Ended) (c : ℕ) 
   pub ended : ending_of e c
       ≡ ending_of_calls outs (machine_in w c).steps (scripts_left p s c) (length (answers_of e c))
 
--- a run of the plan from the start has left this, and its table has come to this moment
+-- a run of the plan from the start has left this record, and its table has come to this moment
 pub record IsRunOfPlan (p : Plan) (s : Start) (B : TableStart) (w : Moment) (e : Ended)
     : Type 0 where
   pub operations : ℕ → List (List ℕ)
@@ -70,8 +71,8 @@ pub record IsRunOfPlan (p : Plan) (s : Start) (B : TableStart) (w : Moment) (e :
 
 -- ---- what holds of a plan's starts and moments
 
--- from each start of a plan that a table may have, each schedule in which the callers begin their
--- next scripts leads to a moment of the plan
+-- from each start of a plan at which a table may start, each schedule in which the callers begin
+-- their next scripts leads to a moment of the plan
 abbrev pub SchedulesAreMoments : Plan → Type 0
 SchedulesAreMoments p =
     (s : Start) (B : TableStart) → StartsAtPlan p s B → IsStart (plan_setup p) B → B.seq ≤ p.limit
@@ -80,8 +81,8 @@ SchedulesAreMoments p =
     → IsMomentOf p s B (after_events (plan_setup p) (opening_at p B) es)
     (operations_begun es) (outcomes (plan_setup p) (opening_at p B) es)
 
--- what a start leaves before anything has happened: no answers, and each caller that has a script
--- left is stopped
+-- the record before anything has happened from this start: no answers, and each caller that has a
+-- script left is stopped
 abbrev pub record_at_start : Plan → Start → TableStart → Ended
 record_at_start p s B = record {
   answers = replicate p.callers [];
@@ -90,13 +91,14 @@ record_at_start p s B = record {
   words = (opening_at p B).words;
 }
 
--- each start of a plan that a table may have is left so by a run
+-- from each start of a plan at which a table may start, a run in which nothing happens leaves
+-- `record_at_start`
 abbrev pub StartsAreRuns : Plan → Type 0
 StartsAreRuns p =
     (s : Start) (B : TableStart) → StartsAtPlan p s B → IsStart (plan_setup p) B → B.seq ≤ p.limit
     → IsRunOfPlan p s B (opening_at p B) (record_at_start p s B)
 
--- at each moment of a plan the raw reply of an answered call is that of some reply
+-- at each moment of a plan, the raw reply of an answered call holds some reply of a script
 abbrev pub RepliesAreHeld : Type 0
 RepliesAreHeld =
     (p : Plan) (s : Start) (B : TableStart) (w : Moment)
@@ -106,24 +108,24 @@ RepliesAreHeld =
 
 -- ---- what holds of all runs
 
--- what such a run leaves is a lawful record
+-- each run of a plan leaves a lawful record
 abbrev pub RunsAreLawful : Type 0
 RunsAreLawful =
     (p : Plan) (s : Start) (B : TableStart) (w : Moment) (e : Ended) → IsRunOfPlan p s B w e
     → (r : Report) × IsLawfulRecord p s e r
 
--- what holds of the report of every run holds of its report
+-- the report of each run meets `ReportsRun`, which says what holds of all reports of runs
 abbrev pub RunsAreReported : Type 0
 RunsAreReported =
     (p : Plan) (s : Start) (B : TableStart) (w : Moment) (e : Ended) → IsRunOfPlan p s B w e
     → (r : Report) → IsLawfulRecord p s e r → ReportsRun p s e r
 
--- the steps of the outcomes of caller c, and those of its open call
+-- how many steps caller c has made: those of these outcomes, and those of its open call
 abbrev pub steps_made : Moment → (c : ℕ) → List Outcome → ℕ
 steps_made w c outs = total_steps outs + (machine_in w c).steps
 
--- in the report of a run, a caller that has made at most n steps, and exactly n if it is stopped
--- with no call spent, keeps them as its allowance, if its open call has a step left
+-- A caller of a run whose steps are at most n, and exactly n if it is stopped with no call spent,
+-- keeps n as its allowance in the run's report. Its open call must have a step left.
 abbrev pub RunsKeepAllowances : Type 0
 RunsKeepAllowances =
     (p : Plan) (s : Start) (B : TableStart) (w : Moment) (e : Ended) (run : IsRunOfPlan p s B w e)

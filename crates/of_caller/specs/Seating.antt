@@ -15,8 +15,8 @@ use Rattle.of_caller.specs.declared.team_caller.TeamCaller.{TeamCaller}
 use Rattle.of_caller.specs.Callers.{member_of, sight_of}
 use Rattle.of_caller.specs.Lanes.{IsReady}
 
--- a first pass that has asked for numbers below n alone, keeps no caller, and has evicted nothing
--- and loaded nothing for it
+-- the view of a first pass that has tried to enrol only numbers below n, keeps no caller, and has
+-- evicted and loaded nothing
 pub record HasSeated (n : ℕ) (v : View) : Type 0 where
   pub first : v.first ≡ true
   pub kept : v.kept ≡ []
@@ -24,7 +24,7 @@ pub record HasSeated (n : ℕ) (v : View) : Type 0 where
   pub loaded : v.loaded ≡ []
   pub below : (m : ℕ) → IsAsked m v.asked → m < n
 
--- a pass has evicted these cells, in their order
+-- between these two views a pass has evicted these cells, in their order
 pub record EvictsCells (cells : List ℕ) (v w : View) : Type 0 where
   pub first : w.first ≡ v.first
   pub asked : w.asked ≡ v.asked
@@ -37,13 +37,13 @@ abbrev pub done_at : Row Scripts → ℕ → ℕ
 done_at r c = done_before (setup_at scripts_meaning r) (row_start scripts_meaning r) c
 
 module _ {X : Type 0} {Y : X → Type 0} where
-  -- the lane of a caller that has made no call
+  -- the lane of caller n, which has made no call
   pub record IsSeat (p : Plan) (r : Row Scripts) (n : ℕ) (a : TeamCaller X Y) : Type 0 where
     pub ready : IsReady p r a
     pub number : a.number ≡ n
     pub first : a.first ≡ done_at r n
 
-  -- those of the callers n, n + 1 and so on
+  -- the lanes of the callers n, n + 1 and so on, which have made no call
   abbrev pub Seated : Plan → Row Scripts → (n : ℕ) → List (TeamCaller X Y) → Type 0
   Seated p r n [] = Unit {0}
   Seated p r n (a ∷ others) = IsSeat p r n a × Seated p r (n + 1) others
@@ -52,14 +52,15 @@ module _ {X : Type 0} {Y : X → Type 0} where
   abbrev pub IsAt : Row Scripts → TeamCaller X Y → Type 0
   IsAt r a = IsRowMember r (member_of a.caller)
 
-  -- what a pass knows that has taken in the members of the lanes
+  -- the view of a pass after the members of these lanes were joined to it
   abbrev pub gathered : View → List (TeamCaller X Y) → View
   gathered v [] = v
   gathered v (a ∷ others) = gathered (after_join v (sight_of a.caller)) others
 
-  -- what the lanes leave, in order
+  -- the answers of these lanes, in order
   abbrev pub answers_in : List (TeamCaller X Y) → List (List Answer)
   answers_in lanes = map (λ a. a.answers.items) lanes
 
+  -- the endings of these lanes, in order
   abbrev pub endings_in : List (TeamCaller X Y) → List Ending
   endings_in lanes = map (λ a. a.ending) lanes

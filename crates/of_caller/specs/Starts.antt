@@ -12,12 +12,12 @@ use Rattle.of_core.specs.TableMoment.{TableStart}
 use Rattle.of_core.specs.Events.{zero_start}
 use Rattle.of_caller.specs.Tables.{plan_setup}
 
--- a number of a start's data cell
+-- the number in a data cell of a table's start
 abbrev pub start_number : TableStart → ℕ → ℕ
 start_number B a = memory_of (map payload_of B.cells) a
 
--- a table starts where a plan does: its sequence is the start's, its cells stand for the start's
--- store, and each caller's ticket cell holds how many of its scripts are done
+-- A table's start is that of a plan: it has the same sequence, its cells stand for the same store,
+-- and each caller's ticket cell holds how many of its scripts are done.
 pub record StartsAtPlan (p : Plan) (s : Start) (B : TableStart) : Type 0 where
   pub seq : B.seq ≡ s.seq
   pub size : length B.cells ≡ plan_data_cells p
@@ -26,6 +26,6 @@ pub record StartsAtPlan (p : Plan) (s : Start) (B : TableStart) : Type 0 where
   pub tickets : (c : ℕ) → c < p.callers
       → start_number B (ticket_cell_at MOST_INSTRS c) ≡ finished_of s c
 
--- a table of zeros starts where a plan's empty start is
+-- a table of zeros starts at the plan's empty start
 abbrev pub ZerosAreEmpty : Plan → Type 0
 ZerosAreEmpty p = StartsAtPlan p (empty_start p) (zero_start (plan_setup p))

@@ -13,24 +13,26 @@ abbrev pub answer_steps : List Answer → ℕ
 answer_steps [] = 0
 answer_steps (a ∷ others) = a.steps + answer_steps others
 
--- the steps of a caller's open call: one less than it has asked for
+-- the steps of the open call of a stopped caller: one less than its brake was asked for; 0 if the
+-- caller isn't stopped
 abbrev pub open_call_steps : Ending → ℕ
 open_call_steps Done = 0
 open_call_steps (Stopped asked) = asked - 1
 open_call_steps (Spent seq) = 0
 
--- a caller with this stop that has ended in this state made these steps: as many as the stop if it
--- was stopped, and otherwise no more; without a stop it isn't stopped
+-- A caller that has made this many steps keeps to its stop: it has made at most `stop` steps, and
+-- exactly `stop` if it was stopped. Without a stop it isn't stopped.
 abbrev pub KeepsStop : (stop : Option ℕ) → (steps : ℕ) → EndState → Type 0
 KeepsStop None steps state = state ≡ stopped → ⊥
 KeepsStop (Some most) steps state = (steps ≤ most) × (state ≡ stopped → steps ≡ most)
 
--- the answers and the ending keep to a stop
+-- a caller with these answers and this ending keeps to its stop: the steps of its answers and of
+-- its open call are at most `stop`, and exactly `stop` if it was stopped
 abbrev pub KeepToStop : (stop : Option ℕ) → List Answer → Ending → Type 0
 KeepToStop stop answers ending =
     KeepsStop stop (answer_steps answers + open_call_steps ending) (end_state_of ending)
 
--- the same, if a brake reports its steps left
+-- if a caller's brake reports its steps left, the caller keeps to its stop
 abbrev pub KeepToToldStop : (left : Option (Option ℕ)) → (stop : Option ℕ) → List Answer → Ending
     → Type 0
 KeepToToldStop None stop answers ending = Unit {0}
@@ -40,7 +42,8 @@ KeepToToldStop (Some steps) stop answers ending = KeepToStop stop answers ending
 abbrev pub CallerKeepsStop : Plan → Ended → (caller : ℕ) → (left : Option (Option ℕ)) → Type 0
 CallerKeepsStop p e c left = KeepToToldStop left (stop_of p c) (answers_of e c) (ending_of e c)
 
--- so does each caller from c on, with the brake at its place
+-- each caller from c on, whose brake is at its place in the list and reports its steps left, keeps
+-- to the plan's stop
 abbrev pub KeepStops : {A : Type 0} → (A → Option (Option ℕ)) → Plan → Ended → (c : ℕ) → List A
     → Type 0
 KeepStops left p e c [] = Unit {0}

@@ -14,7 +14,7 @@ use Rattle.of_core.specs.TableMoment.{Moment, TableStart}
 use Rattle.of_core.specs.Events.{opening_moment, zero_start}
 use Rattle.of_core.specs.Moment.{table_word_count}
 
--- what operations do over the cells of a plan
+-- what operations do over the data cells of a plan
 abbrev pub meaning_for : Plan → Meaning
 meaning_for p =
     meaning_of is_success script_reads (script_program (base_of p.callers MOST_INSTRS) p.blocks)
@@ -35,6 +35,6 @@ opening_at p B = opening_moment (plan_setup p) B (table_word_count (plan_setup p
 abbrev pub opening_for : Plan → Moment
 opening_for p = opening_at p (zero_start (plan_setup p))
 
--- the operation of a script
+-- a script as an operation: the words of its instructions
 abbrev pub operation_of : List Instr → List ℕ
 operation_of script = map instr_word script

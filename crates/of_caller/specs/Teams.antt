@@ -35,8 +35,8 @@ use Rattle.of_caller.specs.Scheduled.{IsScheduled}
 abbrev pub script_operation_at : Plan → (caller index : ℕ) → List ℕ
 script_operation_at p c x = operation_of (slice_index_or (scripts_of p c) x [])
 
--- the calls that have ended are those of a caller's scripts after the first `behind`, in order, and
--- these are their answers
+-- the calls that have ended are those of a caller's next scripts after the first `behind`, in
+-- order, each was answered, and these are the answers
 pub record AreAnswered (p : Plan) (behind c : ℕ) (calls : List EndedCall) (answers : List Answer)
     : Type 0 where
   pub few : length answers ≤ length (scripts_of p c) - behind
@@ -45,17 +45,17 @@ pub record AreAnswered (p : Plan) (behind c : ℕ) (calls : List EndedCall) (ans
   pub none_spent : NoneSpent (map (λ e. e.outcome) calls)
   pub told : AreAnswers (map (λ e. e.outcome) calls) answers
 
--- the machine of a stopped caller has the operation open, of which one ask more was made than
--- steps, and at most as many as a call may make; it has none open if the first was denied
+-- A caller was stopped when its brake was asked for the `asked`-th time. Its machine has a call of
+-- this operation open, with one step fewer made. If the first ask was denied, no call is open.
+-- There were at most as many asks as the bound allows.
 pub record IsStopped (p : Plan) (op : List ℕ) (asked : ℕ) (m : CallState) : Type 0 where
   pub some : 1 ≤ asked
   pub within : asked ≤ bound_of p
   pub at_once : asked ≡ 1 → IsIdle m
   pub open_call : 1 < asked → IsOpen m.place × (m.op ≡ op) × (m.steps + 1 ≡ asked)
 
--- what is kept of a caller that ended so beyond its answered calls, the next script of which is
--- number x, of n in all: nothing if it is done; at most the open call if it is stopped; the
--- spent one if no sequence was left
+-- What is kept of a caller beyond its answered calls, if its next script is number x of n: nothing
+-- if it is done; at most the open call if it is stopped; the spent call if no sequence was left.
 abbrev pub KeepsLastCall : Plan → (c x n : ℕ) → CallState → List EndedCall → Ending → Type 0
 KeepsLastCall p c x n m beyond Done = (x ≡ n) × IsIdle m × (beyond ≡ [])
 KeepsLastCall p c x n m beyond (Stopped asked) =
@@ -64,8 +64,8 @@ KeepsLastCall p c x n m beyond (Spent seq) =
     (x < n) × IsIdle m
     × (beyond ≡ record { op = script_operation_at p c x; outcome = RanOut seq } ∷ [])
 
--- what is kept of a caller, of whose scripts the first `behind` were done before, agrees with its
--- answers and its ending
+-- what is kept of a caller agrees with its answers and its ending; the first `behind` of its
+-- scripts were done before
 pub record KeepsCaller (p : Plan) (behind c : ℕ) (answers : List Answer) (ending : Ending)
     (x : KnownCaller) : Type 0 where
   pub calls : List EndedCall
@@ -75,14 +75,14 @@ pub record KeepsCaller (p : Plan) (behind c : ℕ) (answers : List Answer) (endi
   pub last :
       KeepsLastCall p c (behind + length answers) (length (scripts_of p c)) x.machine beyond ending
 
--- a caller of this number is kept, of which this holds
+-- a caller with this number is kept, and P holds of it
 abbrev pub KeepsCallerWith : (c : ℕ) → (KnownCaller → Type 0) → List KnownCaller → Type 0
 KeepsCallerWith c P [] = ⊥
 KeepsCallerWith c P (x ∷ xs) = ((x.machine.caller ≡ c) × P x) ⊎ KeepsCallerWith c P xs
 
 -- ---- a team's record and its pass
 
--- a team of the plan's callers has left this record from the start, and its pass has this view
+-- a team of the plan's callers has left this record, from this start, and its pass has this view
 pub record IsTeamOf (p : Plan) (s : Start) (B : TableStart) (e : Ended) (v : View) : Type 0 where
   pub plan : IsPlan p
   pub starts : StartsAtPlan p s B
@@ -90,26 +90,29 @@ pub record IsTeamOf (p : Plan) (s : Start) (B : TableStart) (e : Ended) (v : Vie
   pub meets : ViewMeetsRule (plan_setup p) (IsLawfulFor p) B e.words v
   pub live : v.spent ≡ false
   pub keeps_all : KeepsAll (plan_setup p) e.words v
-  -- it is the row's first pass; it has evicted the plan's cells in their order
+  -- the pass is the row's first one; it has evicted the plan's cells in their order
   pub first : v.first ≡ true
   pub loaded : v.loaded ≡ []
   pub evicted : map (λ e. e.0) v.evicted ≡ evictions_of p
-  -- and keeps of each caller its answered calls, the open call of a stopped one, and the spent call
+  -- the pass keeps of each caller its answered calls, the open call if it is stopped, and the spent
+  -- call if it is spent
   pub answers : length e.answers ≡ p.callers
   pub endings : length e.endings ≡ p.callers
   pub each : (c : ℕ) → c < p.callers
       → KeepsCallerWith c (KeepsCaller p (finished_of s c) c (answers_of e c) (ending_of e c))
       v.kept
 
--- the entry is of the same caller as the call, and its script is the one of the call's ticket
+-- the entry and the call are of the same caller, and the call's ticket is that of the entry's
+-- script
 abbrev pub IsEntryOf : Entry → Call → Type 0
 IsEntryOf f k = (k.caller ≡ f.caller) × (k.ticket ≡ f.index + 1)
 
--- the calls of the batch at this sequence, as it was seen
+-- the calls of the batch at sequence k, as it was seen
 abbrev pub seen_calls : TableStart → List SeenBatch → ℕ → List Call
 seen_calls B seen k = (batch_at B (seen_history seen) k).calls
 
--- the announced entries of a report are the calls of the batches that were seen, up to its sequence
+-- the announced entries of a report are the calls of the batches that were seen, up to the report's
+-- sequence
 pub record AnnouncesSeen (B : TableStart) (seen : List SeenBatch) (r : Report) : Type 0 where
   pub entries :
       All (λ f. IsTrue f.announced → Any (IsEntryOf f) (seen_calls B seen f.seq)) r.entries
@@ -117,7 +120,7 @@ pub record AnnouncesSeen (B : TableStart) (seen : List SeenBatch) (r : Report) :
       → All (λ d. Any (λ f. IsTrue f.announced × (f.seq ≡ k) × IsEntryOf f d) r.entries)
       (seen_calls B seen k)
 
--- what was handed back is the record of a team, which is lawful, and a spent copy of its pass
+-- what was handed back is a team's record, which is lawful, and a spent copy of the team's pass
 pub record IsHandedBack (p : Plan) (s : Start) (B : TableStart) (e : Ended) (w : View)
     : Type 0 where
   pub sight : View
@@ -126,31 +129,32 @@ pub record IsHandedBack (p : Plan) (s : Start) (B : TableStart) (e : Ended) (w :
   pub report : Report
   pub reported : ReportsRun p s e report
   pub announced : AnnouncesSeen B sight.seen report
-  -- and it is what some turns and the plan's evictions leave, one after the other
+  -- some turns and the plan's evictions, one after the other, leave this record
   pub scheduled : (items : List Item) × IsScheduled p s B items e
 
--- for each start of the plan that is the row's
+-- for each start of the plan at which the row started, a team's record and pass were handed back
 abbrev pub HandsBack : Plan → Row Scripts → Ended → View → Type 0
 HandsBack p r e w =
     (s : Start) → StartsAtPlan p s (start_of_row r) → IsHandedBack p s (start_of_row r) e w
 
 -- ---- what holds of all teams
 
--- what a team of the plan leaves is a lawful record, of which all holds that holds of every run,
--- and its announced entries are the calls that its pass has seen
+-- the record of a team of the plan is lawful, its report has all that the report of a run has, and
+-- its announced entries are the calls that the team's pass has seen
 abbrev pub TeamsAreLawful : Plan → Type 0
 TeamsAreLawful p =
     (s : Start) (B : TableStart) (e : Ended) (v : View) → IsTeamOf p s B e v
     → (r : Report) × ReportsRun p s e r × AnnouncesSeen B v.seen r
 
--- a caller of it that keeps to its stop keeps that as its allowance
+-- in the report of a team of the plan, each caller that keeps to its stop keeps this as its
+-- allowance
 abbrev pub TeamsKeepAllowances : Plan → Type 0
 TeamsKeepAllowances p =
     (s : Start) (B : TableStart) (e : Ended) (v : View) → IsTeamOf p s B e v
     → (r : Report) → IsLawfulRecord p s e r → (c : ℕ) → c < p.callers
     → KeepToStop (stop_of p c) (answers_of e c) (ending_of e c) → KeepsAllowance p r c (stop_of p c)
 
--- each team leaves what some schedule of its plan's callers leaves
+-- what each team of the plan leaves is what some schedule of the plan's callers leaves
 abbrev pub TeamsAreScheduled : Plan → Type 0
 TeamsAreScheduled p =
     (s : Start) (B : TableStart) (e : Ended) (v : View) → IsTeamOf p s B e v

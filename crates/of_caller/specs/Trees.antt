@@ -1,16 +1,16 @@
--- Lists of which each item is worked on by itself, in threads of a tree.
+-- Lists whose items are worked on each by itself, by a tree of threads.
 use Rattle.std.specs.Prelude.{◌≡◌, List, [], ◌∷◌}
 use denote.Ref.{MutBor}
 use denote.Param.Members.{Shared}
 
--- the items of two lists, one by one
+-- the lists are equally long, and P holds of the two items at each place
 abbrev pub AllPaired : {A : Type 0} → (A → A → Type 0) → List A → List A → Type 0
 AllPaired P [] [] = Unit {0}
 AllPaired P [] (y ∷ ys) = ⊥
 AllPaired P (x ∷ xs) [] = ⊥
 AllPaired P (x ∷ xs) (y ∷ ys) = P x y × AllPaired P xs ys
 
--- each item of the second list with the one at its place in the first, which may be longer
+-- the first list is at least as long, and P holds of the two items at each place of the second
 abbrev pub PrefixPaired : {A B : Type 0} → (A → B → Type 0) → List A → List B → Type 0
 PrefixPaired P xs [] = Unit {0}
 PrefixPaired P [] (y ∷ ys) = ⊥

@@ -19,16 +19,16 @@ use thiserror::Error;
 /// Why a call has no answer.
 #[derive(Clone, Copy, Debug, PartialEq, Eq, Error)]
 pub enum CallErr {
-    /// The brake was asked for this many steps in the call, and denied the last of them. The call
-    /// stays open.
+    /// The brake was asked `asked` times, and denied the last time. The call stays open.
     #[error("stopped at step {asked}")]
     Stopped { asked: u64 },
-    /// The sequence has come to the row's limit `seq` without the call, which is over.
+    /// The sequence has come to the row's limit, `seq`, before the call took effect. The call is
+    /// over.
     #[error("no sequence is left after {seq}")]
     Spent { seq: u32 },
 }
 
-/// One caller: a member of a row, and the machine that its calls are made with.
+/// One caller of a row: a member, and the machine with which the caller makes its calls.
 #[derive(Drop)]
 pub struct Caller<W: Work> {
     pub(crate) member: Member,
@@ -42,8 +42,8 @@ impl<W: Work> Caller<W> {
     ghost use Rattle.of_caller.specs.Brakes.{IsStop, StopsAt, UsesCountedSteps, HearsAnswerOnce};
     ghost use Rattle.of_caller.specs.Brakes.{AsksOf};
 
-    /// The caller of a member that has no open call, whether it has made calls or none: it goes on
-    /// with the next ticket. Without memory the error hands the member back.
+    /// Makes a caller of a member that has no open call. The caller goes on with the ticket after
+    /// the member's last call. If memory runs out, the error hands the member back.
     pub fn new(
         alloc: Global,
         row: &Row<W>,
@@ -67,8 +67,9 @@ impl<W: Work> Caller<W> {
         }
     }
 
-    /// Makes a call of 1 to `MOST_INSTRS` words. The brake is asked before each of its steps, and
-    /// told of its answer. A stopped call stays open for `go_on`; a spent one is over.
+    /// Makes a call of an operation of 1 to `MOST_INSTRS` words. The brake is asked before each
+    /// step of the call, and told if the call is answered. A stopped call stays open for `go_on`; a
+    /// spent one is over.
     pub fn call<L: Ledger, B: Brake>(
         &mut self,
         row: &Row<W>,
@@ -98,8 +99,8 @@ impl<W: Work> Caller<W> {
         self.go_on(row, brake, steps)
     }
 
-    /// Goes on with the open call, as `call` does. The steps of its answer are those of the whole
-    /// call.
+    /// Goes on with the open call, with the brake as in `call`. The answer counts the steps of the
+    /// whole call.
     pub fn go_on<L: Ledger, B: Brake>(
         &mut self,
         row: &Row<W>,
@@ -129,6 +130,8 @@ impl<W: Work> Caller<W> {
         }
         match self.machine.answer() {
             Some(Outcome::Spent { seq }) => Err(CallErr::Spent { seq }),
+            // a row replaces no machine
+            Some(Outcome::Lost { .. }) => unreachable!(),
             Some(outcome) => {
                 brake.answered();
                 Ok(outcome)
@@ -144,14 +147,15 @@ impl<W: Work> Caller<W> {
         self.machine.is_idle()
     }
 
-    /// How many calls of its number were begun, those before the row's start with them.
+    /// How many calls of the caller's number were begun, including those before the row's start.
     pub fn made(&self) -> u32
         ensures { result ≡ calls_begun_by self.now }
     {
         self.machine.made()
     }
 
-    /// The member again, with all that it knows. An open call stays open in it.
+    /// Gives up the caller for its member, which has all that the caller knows. An open call stays
+    /// open in the member.
     pub fn leave(self) -> Member
         ensures is { result ≡ member_of self }
         ensures idle { LeavesIdleMember W.meaning self result }

@@ -75,8 +75,8 @@ fn enrol_one(
     }
 }
 
-/// Seats every caller of the plan, each under the brake at its place, which is armed with its stop.
-/// Without memory none has made a step.
+/// Enrols every caller of the plan, each with the brake at its place, which is armed with the
+/// caller's stop. If memory runs out, no caller has made a step.
 pub(crate) fn enrol_all(
     alloc: Global,
     row: &Row<Scripts>,

@@ -25,7 +25,7 @@ fn run_one<T, F: Fn(&mut T)>(task: &F, item: &mut T)
     task(item);
 }
 
-/// The task at each item, all at once: each in a thread of its own if one can be made.
+/// Runs the task on each item, on all at once: each in a thread of its own if one can be made.
 #[cycle(tree)]
 pub(crate) fn run_all<T: Send, F: Fn(&mut T) + Sync, R: Threads + Sync>(
     rt: &R,

@@ -20,9 +20,9 @@ use of_mem::Work;
 use of_plan::Plan;
 use of_row::laws::runs_are_schedules;
 
-/// The laws of the protocol hold at the table of a plan. So from every start of the plan its
-/// schedules lead to moments of it, and what is left before anything has happened is what a run
-/// leaves. A table of zeros is at the plan's empty start.
+/// The laws of the protocol hold for the table of a plan. From every start, the plan's schedules
+/// lead to moments of the plan, and the record before any event is that of a run. A table of zeros
+/// is at the plan's empty start.
 pub fn plan_keeps_laws(plan: &Plan)
     ensures plan { IsPlan plan.now }
     ensures laws { KeepsLaws plan.now }
@@ -40,11 +40,10 @@ pub fn plan_keeps_laws(plan: &Plan)
     machines();
 }
 
-/// What a run of a plan leaves is a lawful record from the run's start, if its table has come to a
-/// moment of the plan and what is left of each caller agrees with how its calls have ended. Its
-/// report says what holds of every run: the sequence is within the limit, an entry beyond a
-/// caller's answers was announced, and each answered call made its least steps. Each caller keeps
-/// to the steps that it has made.
+/// A run of a plan leaves a lawful record, if its table has come to a moment of the plan, and the
+/// answers and ending of each caller agree with how its calls ended. In its report, the sequence is
+/// within the limit, an entry beyond a caller's answers was announced, and each answered call made
+/// its least steps. Each caller keeps to the number of its steps as an allowance.
 pub fn runs_are_lawful()
     ensures replies { RepliesAreHeld }
     ensures lawful { RunsAreLawful }
@@ -52,11 +51,11 @@ pub fn runs_are_lawful()
     ensures allowances { RunsKeepAllowances }
 {}
 
-/// What a team of a plan leaves is a lawful record from the start of its row: the laws of runs hold
-/// of it, its announced entries are the calls of the batches that its pass has seen, and a caller
-/// that keeps to its stop keeps it as its allowance. A table may start from its durable words,
-/// where that record's report ends. And some schedule of the plan's callers, with the plan's
-/// evictions in their order, leaves the same.
+/// A team of a plan leaves a lawful record, of which the laws of runs hold. The announced entries
+/// of its report are the calls of the batches that the team's pass has seen. A caller that keeps to
+/// its stop keeps to this as its allowance in the report. A table may start from the recovered
+/// durable words, where the report ends. Some schedule of the plan's callers, with the plan's
+/// evictions in their order, leaves the same record.
 pub fn teams_are_lawful(plan: &Plan)
     ensures lawful { TeamsAreLawful plan.now }
     ensures allowances { TeamsKeepAllowances plan.now }
@@ -69,24 +68,25 @@ pub fn teams_are_lawful(plan: &Plan)
     runs_are_schedules(limit, scripts);
 }
 
-/// From what recovery makes of the durable words that a run leaves a table may start, and it starts
-/// where the run's report ends: at its sequence and its store, with each caller after its last
+/// A table may start from what recovery makes of the durable words that a run leaves. It starts
+/// where the run's report ends: at the report's sequence and store, with each caller after its last
 /// announced entry.
 pub fn runs_restart()
     ensures { RunsRestart }
 {}
 
-/// A call comes after each answer that its caller had heard of when it began, also if it was
-/// stopped and went on: an announced one at a higher sequence, a read at no lower one. And among
-/// the events that lead to any later moment of the row it begins after that call has ended.
+/// A call comes after each answer that its caller had heard of when the call began: an announced
+/// call at a higher sequence, a read at no lower one. This holds also if the call was stopped and
+/// went on. In the events that lead to any later moment of the row, the call begins after the
+/// answered one has ended.
 pub fn answers_are_behind<W: Work>()
     ensures behind { ComesBehind W.meaning W.lawful }
     ensures events { EndsFirst W.meaning W.lawful }
 {}
 
-/// The report of what a schedule of a plan leaves respects the schedule's real time: each entry
-/// comes after those whose calls ended before its own call began. What a team leaves is what some
-/// schedule leaves, with the plan's evictions in their order, and its report respects the real time
+/// The report of what a plan's schedule leaves respects the schedule's real time: no entry comes
+/// before the entries whose calls ended before its own call began. A team leaves what some schedule
+/// leaves, with the plan's evictions in their order, and the team's report respects the real time
 /// of that schedule.
 pub fn reports_respect_time(plan: &Plan)
     ensures schedules { SchedulesRespectTime plan.now }

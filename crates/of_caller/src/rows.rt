@@ -12,8 +12,7 @@ use of_plan::Plan;
 use of_row::{Pass, Row};
 use std::alloc::{AllocError, Global};
 
-/// A row of zeros for the callers of a plan, with its first pass. The error is that there is no
-/// memory.
+/// A row of zeros for the callers of a plan, with its first pass. The error is that memory ran out.
 pub fn zero_row_for(alloc: Global, plan: &Plan) -> Result<(Row<Scripts>, Pass), AllocError>
     ensures row { IfOk result (λ r. IsRowOf plan.now r.0) }
     ensures zeros { IfOk result (λ r. start_of_row r.0 ≡ zero_start (plan_setup plan.now)) }

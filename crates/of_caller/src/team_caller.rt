@@ -18,20 +18,21 @@ use of_script::{MOST_INSTRS, to_words};
 use std::marker::Brand;
 use std::sync::ledger::{Blank, Ledger};
 
-/// A caller of a plan with its brake, and what it leaves.
+/// A caller of a plan, with its brake, its answers and its ending.
 #[derive(Drop)]
 pub(crate) struct TeamCaller {
     pub(crate) number: u32,
-    /// How many of its scripts were done before the row's start.
+    /// How many of the caller's scripts were done before the row's start.
     pub(crate) first: u32,
     pub(crate) caller: Caller<Scripts>,
     pub(crate) brake: Box<dyn Brake + Send>,
-    /// There is room for an answer to each script that isn't done.
+    /// The answers so far, with room for one to each script that isn't done.
     pub(crate) answers: Vec<Answer>,
-    /// Until it has run, that of a caller whose first step was denied.
+    /// How the caller has ended; before it has run, an ending that says that its first step was
+    /// denied.
     pub(crate) ending: Ending,
-    /// Lanes stand beside each other in memory, and each writes its machine at each step. This
-    /// keeps what the next one reads off that line.
+    /// Unused. Callers of a team are side by side in memory, and each writes its machine at each
+    /// step. This keeps the next caller's fields off the cache line that is written.
     pub(crate) apart: [u64; 16],
 }
 

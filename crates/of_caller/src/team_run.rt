@@ -126,14 +126,15 @@ fn gather(
     pass
 }
 
-/// Runs all callers of a plan at once on a row of it, each with its scripts from the first that
-/// isn't done, and one worker beside them that makes the plan's evictions in their order. The brake
-/// of a caller is the one at its place; it is armed with the plan's stop. A caller ends after its
-/// last script, at its first stop, or if no sequence is left. The members are then joined to the
+/// Runs all callers of a plan at once on a row for it. Each caller runs its scripts from the first
+/// that isn't done. Meanwhile a worker makes the plan's evictions in their order. Each caller has
+/// the brake at its place in `brakes`, which is armed with the plan's stop. A caller ends after its
+/// last script, at its first stop, or if no sequence is left. Then the members are joined to the
 /// pass, and the row is closed.
 ///
-/// The error is that there is no memory. No caller has made a step then: what follows the taking of
-/// memory can't fail. Where no second thread can be made the work is done one after another.
+/// The error is that memory ran out; then no caller has made a step, since all memory is taken
+/// before the first one. If no second thread can be made, one thread does all of this, part by
+/// part.
 pub fn team<R: Threads + Sync>(
     rt: &R,
     alloc: Global,

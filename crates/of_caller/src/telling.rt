@@ -1,4 +1,4 @@
-//! What one caller knows goes to another while both stay: as a pass.
+//! How one caller tells another what it knows, by a pass, while both go on with their calls.
 
 ghost use Rattle.std.specs.Prelude.{◌≡◌, ◌+◌};
 ghost use Rattle.of_row.specs.Rows.{view_of_pass, IsRowPass, KeepsNobody, KnowsBoth};
@@ -11,8 +11,8 @@ use of_row::{Pass, Row};
 impl<W: Work> Caller<W> {
     ghost use Rattle.of_caller.specs.Callers.{IsCaller, caller_call, sight_of, looks_made_by};
 
-    /// A pass that knows all that the caller has seen, for another caller to hear. The caller stays
-    /// as it is, but for the two loads that it makes.
+    /// Makes a pass that knows all that the caller has seen, for another caller to hear. The
+    /// caller's calls stay as they are; it only makes two loads.
     pub fn tell(&mut self, row: &Row<W>) -> Pass
         requires { IsCaller W.meaning row.now self.old }
         ensures caller { IsCaller W.meaning row.now self.new }
@@ -25,8 +25,8 @@ impl<W: Work> Caller<W> {
         row.tell(&mut self.member)
     }
 
-    /// Takes in a pass that keeps no caller: the caller then knows all that either had seen. Its
-    /// calls stay as they are, the open one too.
+    /// Takes in a pass that keeps no caller: the caller then knows all that the caller and the pass
+    /// had seen. The caller's calls stay as they are, the open one too.
     pub fn hear(&mut self, row: &Row<W>, pass: Pass)
         requires caller { IsCaller W.meaning row.now self.old }
         requires pass { IsRowPass row.now pass }

@@ -1,4 +1,5 @@
--- Cells and words of the table by name, so that it can be said that no two of them have one number.
+-- Names for the cells and the words of the table, with which it is stated that no two cells have
+-- the same number, and no two words the same place.
 use Rattle.std.specs.Prelude.{ℕ, ◌≡◌, ◌<◌}
 use Rattle.of_cell.specs.Cells.{log_room, request_cell, data_cell, log_count_cell, log_addr_cell, log_value_cell, durable_cells, durable_place, script_place, announce_place, members_place, table_words}
 
@@ -10,7 +11,7 @@ pub data CellName : Type 0 where
   LogAddr : (caller entry : ℕ) → CellName
   LogValue : (caller entry : ℕ) → CellName
 
--- a cell that the shape has
+-- the shape has a cell of this name: its caller, address and entry are in range
 abbrev pub IsCell : (callers cells : ℕ) → CellName → Type 0
 IsCell callers cells Current = Unit {0}
 IsCell callers cells (Request caller) = caller < callers
@@ -27,13 +28,13 @@ cell_number callers cells (LogCount caller) = log_count_cell callers cells calle
 cell_number callers cells (LogAddr caller entry) = log_addr_cell callers cells caller entry
 cell_number callers cells (LogValue caller entry) = log_value_cell callers cells caller entry
 
--- no two cells have one number
+-- cells with different names have different numbers
 abbrev pub CellsDiffer : (callers cells : ℕ) → Type 0
 CellsDiffer callers cells =
     (c d : CellName) → IsCell callers cells c → IsCell callers cells d
     → cell_number callers cells c ≡ cell_number callers cells d → c ≡ d
 
--- the cells' numbers are below the number of cells
+-- the number of each cell is below the number of cells
 abbrev pub CellsBelow : (callers cells : ℕ) → Type 0
 CellsBelow callers cells =
     (c : CellName) → IsCell callers cells c
@@ -46,7 +47,7 @@ pub data WordName : Type 0 where
   Announcement : (caller : ℕ) → WordName
   Members : WordName
 
--- a word that the shape's table has
+-- the shape's table has a word of this name
 abbrev pub IsWord : (callers instrs cells : ℕ) → WordName → Type 0
 IsWord callers instrs cells (CellWord cell) = cell < durable_cells callers cells
 IsWord callers instrs cells (DurableWord cell) = cell < durable_cells callers cells
@@ -61,13 +62,13 @@ word_place callers instrs cells (ScriptWord caller x) = script_place callers ins
 word_place callers instrs cells (Announcement caller) = announce_place callers instrs cells caller
 word_place callers instrs cells Members = members_place callers instrs cells
 
--- no two words have one place
+-- words with different names have different places in the table
 abbrev pub WordPlacesDiffer : (callers instrs cells : ℕ) → Type 0
 WordPlacesDiffer callers instrs cells =
     (v w : WordName) → IsWord callers instrs cells v → IsWord callers instrs cells w
     → word_place callers instrs cells v ≡ word_place callers instrs cells w → v ≡ w
 
--- the places are below the number of words
+-- the place of each word is below the number of words in the table
 abbrev pub PlacesBelow : (callers instrs cells : ℕ) → Type 0
 PlacesBelow callers instrs cells =
     (w : WordName) → IsWord callers instrs cells w

@@ -1,5 +1,5 @@
-//! What follows from the numbers of cells and places. Nothing here has a body to run: a proof cites
-//! the clauses.
+//! Facts about the numbers of cells and the places of words. The functions here do nothing: each
+//! one's contract is a theorem that proofs cite.
 
 ghost use Rattle.std.specs.Prelude.{◌≡◌, ℕ, ◌^◌, ◌<◌, ◌≤◌, ◌+◌, ◌*◌, ◌⊎◌, ◌↔◌};
 ghost use Rattle.of_cell.specs.Words.{pack, seq_of, payload_of, IsEarlier};
@@ -9,27 +9,30 @@ ghost use Rattle.of_cell.specs.declared.shape.TheConstants.{MOST_CALLERS, MOST_D
 
 use crate::Shape;
 
-/// A word is its sequence and its payload, and words are ordered as these pairs are.
+/// A word is made of its sequence and its payload, and can be taken apart into them again. Words
+/// are ordered by sequence first, and then by payload.
 pub fn words_are_pairs()
     ensures parts { (s p : ℕ) → p < 2 ^ 32 → (seq_of (pack s p) ≡ s) × (payload_of (pack s p) ≡ p) }
     ensures whole { (w : ℕ) → pack (seq_of w) (payload_of w) ≡ w }
     ensures order { (v w : ℕ) → (v < w) ↔ IsEarlier v w }
 {}
 
-/// The cells of a shape have different numbers, below its number of cells.
+/// No two cells of a shape have the same number, and each number is below the number of cells.
 pub fn cells_differ(shape: &Shape)
     ensures differ { CellsDiffer shape.now.callers shape.now.cells }
     ensures below { CellsBelow shape.now.callers shape.now.cells }
 {}
 
-/// The words of a shape's table have different places, below its number of words.
+/// No two words of a shape's table have the same place, and each place is below the number of
+/// words.
 pub fn places_differ(shape: &Shape)
     ensures differ { WordPlacesDiffer shape.now.callers shape.now.instrs shape.now.cells }
     ensures below { PlacesBelow shape.now.callers shape.now.instrs shape.now.cells }
 {}
 
-/// How much room a log has: at most for each data cell, and in a small table for each. In any table
-/// it has room for each data cell or for the shares of all callers.
+/// How many entries a log has room for. It is never more than the number of data cells. With at
+/// most `FEW_DATA_CELLS` data cells it is one entry for each. With more it is `FEW_DATA_CELLS`, and
+/// `LOG_SHARE` for each caller, or one entry for each data cell if these are fewer.
 #[tactic(auto, unfolding(crate::specs::Cells::log_room))]
 pub fn log_rooms()
     ensures most { (n m : ℕ) → log_room n m ≤ m }
@@ -38,8 +41,8 @@ pub fn log_rooms()
     ensures share { (n m : ℕ) → m ≤ log_room n m ⊎ FEW_DATA_CELLS + n * LOG_SHARE ≤ log_room n m }
 {}
 
-/// The greatest numbers of callers, of data cells and of cells, and what a log's room is made of. At the
-/// smallest table whose logs lack room for a data cell, the room is one less.
+/// The limits as plain numbers, and the room of a log in some tables: with 4353 data cells and one
+/// caller it is one entry short of all data cells.
 #[tactic(auto, unfolding(crate::specs::Cells::log_room))]
 pub fn limits()
     ensures data_cells { MOST_DATA_CELLS ≡ 134217728 }
@@ -53,8 +56,8 @@ pub fn limits()
     ensures greatest { log_room MOST_CALLERS MOST_DATA_CELLS ≡ 20480 }
 {}
 
-/// The numbers for sixteen callers with scripts of sixteen and 512 blocks, which make 1887 data
-/// cells.
+/// How many cells, words and steps there are with sixteen callers, sixteen script words each, and
+/// 1887 data cells: those of a store of 512 blocks.
 #[tactic(auto, unfolding(crate::specs::Cells::log_room))]
 pub fn largest()
     ensures cells { durable_cells 16 1887 ≡ 62304 }
@@ -62,7 +65,8 @@ pub fn largest()
     ensures steps { step_bound 16 16 1887 ≡ 138657 }
 {}
 
-/// The numbers for one caller with scripts of sixteen and no blocks, which makes 81 data cells.
+/// How many cells and steps there are with one caller, sixteen script words, and 81 data cells:
+/// those of a store without blocks.
 #[tactic(auto, unfolding(crate::specs::Cells::log_room))]
 pub fn smallest()
     ensures cells { durable_cells 1 81 ≡ 246 }

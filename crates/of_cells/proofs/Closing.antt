@@ -20,7 +20,7 @@ use Rattle.of_recover.specs.Recovered.{recovered_words}
 use Rattle.of_recover.proofs.Agreeing.{recovered_data-same}
 use Rattle.of_recover.proofs.Kept.{data_at}
 use Rattle.of_core.specs.declared.place.Outcome.{Outcome}
-use Rattle.of_core.specs.declared.place.Outcome.TheVariants.{Answered, Spent}
+use Rattle.of_core.specs.declared.place.Outcome.TheVariants.{Answered, Spent, Lost}
 use Rattle.of_core.specs.Table.{Setup, setup_of, durable_word, ticket_cell, shape_cell, reply_cell}
 use Rattle.of_core.specs.TableMoment.{TableStart}
 use Rattle.of_core.specs.Machine.{Call, no_call, is_idle, IsOpen}
@@ -120,6 +120,7 @@ module _ (callers cell_count limit : ℕ) (M : Meaning) (L : List ℕ → Type 0
     ends_as : (c t : ℕ) (op : List ℕ) (o : Outcome) → ExplainsOutcome S h c t op o → ExplainsEnd h c t op o
     ends_as c t op (Answered seq announced raw steps) e = record { place = e.place; among = e.among; caller_is = e.caller; ticket_is = e.ticket; words = e.same; reply = e.reply }
     ends_as c t op (Spent seq) e = e
+    ends_as c t op (Lost seq) e = tt
 
     explained : (x : KnownCaller) → ExplainsEndedCalls S B h x → ExplainsKept S B h x
     explained x all y l = ends_as x.machine.caller (done_before S B x.machine.caller + y + 1) (get_or x.ended y no_ended).op (get_or x.ended y no_ended).outcome (all y l)

@@ -17,19 +17,20 @@ use Rattle.of_cells.specs.History.{IsMeant}
 use Rattle.of_cells.specs.Times.{calls_begun_in}
 use Rattle.of_cells.specs.Serving.{HasStartedIfOpen, cells_at_start, ended_of, events_known_to}
 
--- the outcome that an answer describes
+-- the outcome with the same sequence, flag, reply and steps as the answer
 abbrev pub outcome_of : RawAnswer → Outcome
 outcome_of a = Answered a.seq a.announced a.raw a.steps
 
--- an answer's reply is what its operation gives on some cells that operations, run one after the
--- other, make of the cells with which the row started
+-- If the call was answered, its reply is what the operation gives on some cells. A serial history
+-- of operations leads to these cells from those with which the row started.
 abbrev pub AnswersAsMeant : {W : Type 0} → (W → Meaning) → Row W → (op : List ℕ)
     → Result RawAnswer RunError → Type 0
 AnswersAsMeant meaning r op (Ok a) =
     IsMeant (meaning (key_of r).work) (cells_at_start meaning r) op a.raw
 AnswersAsMeant meaning r op (Err e) = Unit {0}
 
--- the ended calls, if a call of this operation has had this result after them
+-- the ended calls of a caller, after a call of this operation has had this result: that call is
+-- added if it was answered or spent
 abbrev pub made_with : (op : List ℕ) → Result RawAnswer RunError → List EndedCall → List EndedCall
 made_with op (Ok a) es = es ++ record { op = op; outcome = outcome_of a } ∷ []
 made_with op (Err (Stopped asked)) es = es
@@ -38,15 +39,16 @@ made_with op (Err InCall) es = es
 made_with op (Err NoCall) es = es
 made_with op (Err NoTicket) es = es
 
--- a call of the caller is open, of any operation
+-- the caller has an open call, of any operation
 abbrev pub IsInCall : {W : Type 0} → Caller W → Type 0
 IsInCall c = IsOpen (caller_call c).place
 
--- the caller's open call is one of this operation
+-- the caller has an open call of this operation
 abbrev pub IsOpenAt : {W : Type 0} → (op : List ℕ) → Caller W → Type 0
 IsOpenAt op c = IsInCall c × ((caller_call c).op ≡ op)
 
--- a stopped call stays open, and none is open after one that has ended
+-- if the call was stopped, a call of this operation is open; if it was answered or spent, no call
+-- is
 abbrev pub LeavesOpen : {W : Type 0} → (op : List ℕ) → Result RawAnswer RunError → Caller W
     → Type 0
 LeavesOpen op (Ok a) c = IsInCall c → ⊥
@@ -56,11 +58,12 @@ LeavesOpen op (Err InCall) c = Unit {0}
 LeavesOpen op (Err NoCall) c = Unit {0}
 LeavesOpen op (Err NoTicket) c = Unit {0}
 
--- a call that is open now is one of this operation, or was open before
+-- an open call that the caller has now is of the operation `op`, or the caller had an open call of
+-- the same operation before
 abbrev pub CallerOpensOnly : {W : Type 0} → (op : List ℕ) → (before now : Caller W) → Type 0
 CallerOpensOnly op c d = (o : List ℕ) → IsOpenAt o d → (o ≡ op) ⊎ IsOpenAt o c
 
--- a call that is open now was open before
+-- if the caller has an open call now, a call of the same operation was open before
 abbrev pub CallerOpensNone : {W : Type 0} → (before now : Caller W) → Type 0
 CallerOpensNone c d = (o : List ℕ) → IsOpenAt o d → IsOpenAt o c
 
@@ -89,25 +92,27 @@ abbrev pub BeginsAsNext : {W : Type 0} → (number : ℕ) → Result RawAnswer R
 BeginsAsNext n result c =
     HasStarted result → calls_begun_in (events_known_to c) n ≤ length (ended_of c)
 
--- the same for the caller's own number
+-- Before a call that has made a step, the caller knew of no call of its own number but those that
+-- have ended.
 abbrev pub BeginsItsNext : {W : Type 0} → Result RawAnswer RunError → Caller W → Type 0
 BeginsItsNext result c = BeginsAsNext (caller_call c).caller result c
 
--- the same of an open call that had made no step, when it goes on
+-- If an open call had made no step and makes one when it goes on, the caller knew before of no call
+-- of its own number but those that have ended.
 abbrev pub ResumesItsNext : {W : Type 0} → Result RawAnswer RunError → Caller W → Type 0
 ResumesItsNext result c =
     HasStartedIfOpen (last_caller (sight_of c).kept) → (caller_call c).steps ≡ 0
     → BeginsItsNext result c
 
--- the count of the loads of the caller that are no step of a call stays as it was
+-- the caller has made no more loads outside of its calls: the count of these loads stayed
 abbrev pub StepsAlone : {W : Type 0} → (before now : Caller W) → Type 0
 StepsAlone c d = looks_made_by d ≡ looks_made_by c
 
--- the events that the caller knows go on
+-- the caller knows the events that it knew, and maybe more after them
 abbrev pub LearnsMore : {W : Type 0} → (before now : Caller W) → Type 0
 LearnsMore c d = IsPrefix (events_known_to c) (events_known_to d)
 
--- a call that is not made leaves everything as it was
+-- if the call was refused (`InCall`, `NoCall` or `NoTicket`), nothing has changed
 abbrev pub LeavesAsItWas : {A : Type 0} → Result RawAnswer RunError → (before now : A) → Type 0
 LeavesAsItWas (Ok a) before now = Unit {0}
 LeavesAsItWas (Err (Stopped asked)) before now = Unit {0}

@@ -7,7 +7,7 @@ use Rattle.of_mem.specs.Meaning.{Meaning}
 use Rattle.of_mem.specs.declared.work.RawReply.{RawReply}
 use Rattle.of_mem.specs.declared.work.TheConstants.{MOST_INSTRS}
 use Rattle.of_core.specs.declared.place.Outcome.{Outcome}
-use Rattle.of_core.specs.declared.place.Outcome.TheVariants.{Answered, Spent}
+use Rattle.of_core.specs.declared.place.Outcome.TheVariants.{Answered, Spent, Lost}
 use Rattle.of_core.specs.Machine.{Call, no_call}
 use Rattle.of_core.specs.Claim.{IsNewerCall}
 use Rattle.of_core.specs.Linear.{Sequences, HasOwnSequence}
@@ -22,18 +22,19 @@ IsSerial M cells h = CallsHaveReplies M cells h
 abbrev pub cells_after : Meaning → (cells : List ℕ) → List Call → List ℕ
 cells_after M cells h = numbers_after_calls M cells h
 
--- each call is in it at most once, and the calls of each caller are in the order in which it made
--- them
+-- each call is in the history at most once, and the calls of each caller are in the order in which
+-- it made them
 abbrev pub StandsInOrder : List Call → Type 0
 StandsInOrder h =
     (p q : ℕ) → p < q → q < length h → IsNewerCall (get_or h p no_call) (get_or h q no_call)
 
--- the two replies have one shape, and the same numbers
+-- the two replies have one shape and the same numbers
 abbrev pub IsSameReply : RawReply → RawReply → Type 0
 IsSameReply r q =
     (r.shape ≡ q.shape) × ((y : ℕ) → y < MOST_INSTRS → get_or r.values y 0 ≡ get_or q.values y 0)
 
 -- the reply is what the operation gives on cells to which some serial history leads from these
+-- cells
 pub record IsMeant (M : Meaning) (cells op : List ℕ) (raw : RawReply) : Type 0 where
   pub history : List Call
   pub serial : IsSerial M cells history
@@ -49,10 +50,12 @@ pub record HasEntry (h : List Call) (caller ticket : ℕ) (op : List ℕ) (raw :
   pub words : (get_or h place no_call).op ≡ op
   pub reply : IsSameReply raw (get_or h place no_call).raw
 
--- The history has an answered call, with its reply. It does not have a spent one.
+-- The history agrees with how this call ended: if the call was answered, the history has it, with
+-- its reply; if it was spent, the history does not have it. A lost call may be there or not.
 abbrev pub ExplainsEnd : List Call → (caller ticket : ℕ) → (op : List ℕ) → Outcome → Type 0
 ExplainsEnd h c t op (Answered seq announced raw steps) = HasEntry h c t op raw
 ExplainsEnd h c t op (Spent seq) = All (λ (e : Call). e.caller ≡ c → e.ticket ≡ t → ⊥) h
+ExplainsEnd h c t op (Lost seq) = Unit {0}
 
 -- the history explains how these calls of a caller ended; they have the tickets from n + 1 on
 abbrev pub ExplainsAll : List Call → (caller n : ℕ) → List EndedCall → Type 0
@@ -60,13 +63,14 @@ ExplainsAll h c n es =
     (y : ℕ) → y < length es
     → ExplainsEnd h c (n + y + 1) (get_or es y no_ended).op (get_or es y no_ended).outcome
 
--- each of these calls that was answered has its own sequence in the history
+-- each of these calls that was answered has, in the history, the sequence that its answer names,
+-- and is announced there exactly if the answer says so; the tickets are those from n + 1 on
 abbrev pub HaveOwnSequences : List Call → Sequences → (caller n : ℕ) → List EndedCall → Type 0
 HaveOwnSequences h s c n es =
     (y : ℕ) → y < length es → HasOwnSequence h s c (n + y + 1) (get_or es y no_ended).outcome
 
--- the entry is one of these calls, of which the first has ticket n + 1, or it is the call after
--- them, which is open
+-- the entry is one of these ended calls, which have the tickets from n + 1 on, or it is an open
+-- call with the ticket after theirs
 abbrev pub IsOneOf : (n : ℕ) → List EndedCall → (IsOpenCall : List ℕ → Type 0) → Call → Type 0
 IsOneOf n es IsOpenCall e =
     ((y : ℕ) × (y < length es) × (e.ticket ≡ n + y + 1) × (e.op ≡ (get_or es y no_ended).op))
@@ -76,15 +80,16 @@ IsOneOf n es IsOpenCall e =
 abbrev pub HasOnly : List Call → (caller n : ℕ) → List EndedCall → (List ℕ → Type 0) → Type 0
 HasOnly h c n es IsOpenCall = All (λ (e : Call). e.caller ≡ c → IsOneOf n es IsOpenCall e) h
 
--- no call of the caller that may write is later than the one with this ticket
+-- no call of the caller in the history that may write has a ticket above this one
 abbrev pub IsUpTo : Meaning → List Call → (caller ticket : ℕ) → Type 0
 IsUpTo M h c t =
     All (λ (e : Call). e.caller ≡ c → M.reads_only e.op ≡ false → e.ticket ≤ t) h
 
--- the call is one of this caller, up to this ticket, or above it
+-- the call is one of this caller, with this ticket or a lower one
 abbrev pub IsUpToTicket : (caller ticket : ℕ) → Call → Type 0
 IsUpToTicket n t e = (e.caller ≡ n) × (e.ticket ≤ t)
 
+-- the call is one of this caller, with a higher ticket than this
 abbrev pub IsAboveTicket : (caller ticket : ℕ) → Call → Type 0
 IsAboveTicket k u e = (e.caller ≡ k) × (u < e.ticket)
 

@@ -9,20 +9,22 @@ use Rattle.of_cells.specs.Handles.{IsSame, HasCallOpen}
 use Rattle.of_cells.specs.Memories.{IsStill, HasNoneOpen, TakesOut, PutsBack}
 use Rattle.of_cells.specs.Memories.{work_of, callers_of, cells_before, tickets_before}
 
--- a history and one that goes on from its end are one history
+-- a serial history, followed by one that starts from the cells which the first one leaves, is one
+-- serial history
 abbrev pub HistoriesJoin : Meaning → Type 0
 HistoriesJoin M =
     (cells : List ℕ) (h k : List Call) → IsSerial M cells h
     → IsSerial M (cells_after M cells h) k → IsSerial M cells (h ++ k)
     × (cells_after M cells (h ++ k) ≡ cells_after M (cells_after M cells h) k)
 
--- operations lead from lawful cells to lawful cells, and to as many
+-- operations lead from lawful cells to lawful cells, and keep their number
 abbrev pub CellsStayLawful : Meaning → (List ℕ → Type 0) → (size : ℕ) → Type 0
 CellsStayLawful M lawful size =
     (cells : List ℕ) (h : List Call) → length cells ≡ size → lawful cells
     → (length (cells_after M cells h) ≡ size) × lawful (cells_after M cells h)
 
--- it has the same work and as many callers, and was opened with the same cells and the same calls
+-- the memory has the same work and as many callers as before, and the same cells and tickets that
+-- it was opened with
 pub record StaysAsOpened {W : Type 0} (meaning : W → Meaning) (before now : CellMemory W)
     : Type 0 where
   pub work : work_of now ≡ work_of before
@@ -30,11 +32,13 @@ pub record StaysAsOpened {W : Type 0} (meaning : W → Meaning) (before now : Ce
   pub cells : cells_before meaning now ≡ cells_before meaning before
   pub tickets : (n : ℕ) → tickets_before meaning now n ≡ tickets_before meaning before n
 
--- this stays so while handles come and go
+-- while handles come and go, a memory keeps its work and number of callers, and the cells and
+-- tickets that it was opened with
 abbrev pub MemoriesStay : {W : Type 0} → (W → Meaning) → Type 0
 MemoriesStay {W} meaning = (m k : CellMemory W) → IsStill m k → StaysAsOpened meaning m k
 
--- if no call is open, a handle that comes, makes its calls and leaves with none open leaves it so
+-- if no call of a memory is open, and a handle comes, makes its calls and leaves with none open,
+-- then no call of the memory is open
 abbrev pub NoneStaysOpen : Type 0 → Type 0
 NoneStaysOpen W =
     (m k l : CellMemory W) (h g : CellHandle W) → HasNoneOpen m → TakesOut m k h → IsSame h g

@@ -30,7 +30,8 @@ use Rattle.of_cells.specs.Handles.{home_of, number_of_handle, caller_of}
 abbrev pub row_of : {W : Type 0} → CellMemory W → Row W
 row_of m = arc_value m.row
 
--- what holds of an open memory
+-- the memory is open: it has the row's first pass, a place for each caller, what handles that have
+-- left knew, and empty room for the durable words
 pub record IsCellMemory {W : Type 0} (meaning : W → Meaning) (m : CellMemory W) : Type 0 where
   pub pass : IsRowPass (row_of m) m.pass
   pub first : IsFirstPass m.pass
@@ -39,33 +40,33 @@ pub record IsCellMemory {W : Type 0} (meaning : W → Meaning) (m : CellMemory W
   pub known : IsKnowledge (row_of m) m.known
   pub room : IsEmptyWithRoom (durable_count (row_of m)) m.room
 
--- the work whose operations it runs
+-- the work whose operations the memory runs
 abbrev pub work_of : {W : Type 0} → CellMemory W → W
 work_of m = (key_of (row_of m)).work
 
--- how many callers it has
+-- how many callers the memory has
 abbrev pub callers_of : {W : Type 0} → CellMemory W → ℕ
 callers_of m = (key_of (row_of m)).callers
 
--- how many data cells it has
+-- how many data cells the memory has
 abbrev pub cell_count_of : {W : Type 0} → CellMemory W → ℕ
 cell_count_of m = (key_of (row_of m)).cells
 
--- the last sequence that a commit in it may have
+-- the last sequence that a commit in the memory may have
 abbrev pub limit_of : {W : Type 0} → CellMemory W → ℕ
 limit_of m = (key_of (row_of m)).limit
 
--- the numbers of the data cells with which it was opened
+-- the numbers of the data cells with which the memory was opened
 abbrev pub cells_before : {W : Type 0} → (W → Meaning) → CellMemory W → List ℕ
 cells_before meaning m = cells_at_start meaning (row_of m)
 
--- it was opened with lawful cells of its work, and with as many as that work has
+-- the memory was opened with lawful cells of its work, and with as many as this work has
 pub record BeganLawful {W : Type 0} (size : W → ℕ) (meaning : W → Meaning)
     (lawful : W → List ℕ → Type 0) (m : CellMemory W) : Type 0 where
   pub long : length (cells_before meaning m) ≡ size (work_of m)
   pub is_lawful : lawful (work_of m) (cells_before meaning m)
 
--- how many calls of a caller were made before it was opened
+-- how many calls a caller had made before the memory was opened
 abbrev pub tickets_before : {W : Type 0} → (W → Meaning) → CellMemory W → ℕ → ℕ
 tickets_before meaning m n = made_before meaning (row_of m) n
 
@@ -75,7 +76,7 @@ pub record HasMadeOf {W : Type 0} (m : CellMemory W) (n : ℕ) (es : List EndedC
   pub here : get_or m.callers.items n None ≡ Some caller
   pub made : ended_of caller ≡ es
 
--- no handle of number n is out, and its call of this operation is open
+-- no handle of number n is out, and number n has an open call of this operation
 pub record HasOpenOf {W : Type 0} (m : CellMemory W) (n : ℕ) (op : List ℕ) : Type 0 where
   pub caller : Caller W
   pub here : get_or m.callers.items n None ≡ Some caller
@@ -94,30 +95,30 @@ pub record HasOrderOf {W : Type 0} (meaning : W → Meaning) (m : CellMemory W) 
 abbrev pub events_heard : {W : Type 0} → CellMemory W → List Event
 events_heard m = events_in m.known
 
--- the memory knows that `count` calls of this number, or more, have ended since it was opened
+-- the memory knows that at least `count` calls of this number have ended since it was opened
 abbrev pub HasHeardOf : {W : Type 0} → (W → Meaning) → CellMemory W → (number count : ℕ) → Type 0
 HasHeardOf meaning m n count =
     count ≤ calls_ended_in (setup_at meaning (row_of m)) (row_start meaning (row_of m))
     (events_heard m) n
 
--- it still knows of each ended call that it knew of
+-- the memory still knows of each ended call that it knew of
 abbrev pub RemembersAll : {W : Type 0} → (W → Meaning) → (before now : CellMemory W) → Type 0
 RemembersAll meaning m k =
     (n count : ℕ) → HasHeardOf meaning m n count → HasHeardOf meaning k n count
 
--- no number has made a call
+-- no handle is out, and no number has ended a call since the memory was opened
 abbrev pub HasMadeNothing : {W : Type 0} → CellMemory W → Type 0
 HasMadeNothing m = (n : ℕ) → n < callers_of m → HasMadeOf m n []
 
--- no call is open
+-- no caller that is in the memory has an open call
 abbrev pub HasNoneOpen : {W : Type 0} → CellMemory W → Type 0
 HasNoneOpen m = (n : ℕ) (op : List ℕ) → HasOpenOf m n op → ⊥
 
--- no handle is out
+-- no handle is out: the caller of each number is in the memory
 abbrev pub HasNoHandleOut : {W : Type 0} → CellMemory W → Type 0
 HasNoHandleOut m = AllHere m.callers.items (length m.callers.items)
 
--- a handle is out
+-- a handle is out: the caller of some number is not in the memory
 abbrev pub HasHandleOut : {W : Type 0} → CellMemory W → Type 0
 HasHandleOut m = HasNoHandleOut m → ⊥
 
@@ -125,45 +126,48 @@ HasHandleOut m = HasNoHandleOut m → ⊥
 abbrev pub IsFrom : {W : Type 0} → CellMemory W → CellHandle W → Type 0
 IsFrom m h = home_of h ≡ row_of m
 
--- it is still the same memory
+-- both are the same memory at different times: they have the same row
 abbrev pub IsStill : {W : Type 0} → (before now : CellMemory W) → Type 0
 IsStill m k = row_of k ≡ row_of m
 
--- it knows of the calls of all numbers but n what it knew
+-- For each number but n whose caller was in the memory: the caller is still in the memory, with the
+-- same ended calls.
 abbrev pub KnowsOthers : {W : Type 0} → ℕ → (before now : CellMemory W) → Type 0
 KnowsOthers n m k =
     (i : ℕ) (es : List EndedCall) → i ≢ n → HasMadeOf m i es → HasMadeOf k i es
 
--- the open calls of all numbers but n stay open
+-- for each number but n whose caller was in the memory with an open call: the caller is still in
+-- the memory, with this call open
 abbrev pub OthersStayOpen : {W : Type 0} → ℕ → (before now : CellMemory W) → Type 0
 OthersStayOpen n m k =
     (i : ℕ) (op : List ℕ) → i ≢ n → HasOpenOf m i op → HasOpenOf k i op
 
--- all numbers but i still know each order that they knew
+-- for each number but i: its caller in the memory still knows each order of calls that it knew
 abbrev pub OthersKnowOrder : {W : Type 0} → (W → Meaning) → ℕ → (before now : CellMemory W)
     → Type 0
 OthersKnowOrder meaning i m l =
     (j n x k y : ℕ) → j ≢ i → HasOrderOf meaning m j n x k y → HasOrderOf meaning l j n x k y
 
--- The caller of the handle's number was in the memory, and is taken out of it. The handle has its
--- calls, and knows what the caller knew.
+-- The caller of the handle's number was in the memory, and is taken out of it. The handle has this
+-- caller's calls, and knows what the caller knew.
 pub record TakesOut {W : Type 0} (m k : CellMemory W) (h : CellHandle W) : Type 0 where
   pub caller : Caller W
   pub was : get_or m.callers.items (number_of_handle h) None ≡ Some caller
   pub same : KnowsMore caller (caller_of h)
   pub now : k.callers.items ≡ slice_set m.callers.items (number_of_handle h) None
 
--- no caller is taken out
+-- the memory has the same callers in it as before
 abbrev pub TakesNone : {W : Type 0} → (before now : CellMemory W) → Type 0
 TakesNone m k = k.callers.items ≡ m.callers.items
 
--- a caller with the calls of this one, which knows what this one knew, is put into the memory
+-- a caller with the calls of caller c, which knows all that c knew, is put into the memory as
+-- number n
 pub record PutsCaller {W : Type 0} (n : ℕ) (c : Caller W) (m k : CellMemory W) : Type 0 where
   pub caller : Caller W
   pub same : KnowsMore c caller
   pub now : k.callers.items ≡ slice_set m.callers.items n (Some caller)
 
--- the handle's caller is put back into the memory
+-- the handle's caller is put back into the memory, with its calls and all that it knew
 abbrev pub PutsBack : {W : Type 0} → (before now : CellMemory W) → CellHandle W → Type 0
 PutsBack m k h = PutsCaller (number_of_handle h) (caller_of h) m k
 
@@ -171,9 +175,9 @@ PutsBack m k h = PutsCaller (number_of_handle h) (caller_of h) m k
 -- serial: each call has the reply that it gets when they are run one after the other. It has each
 -- call at most once, and the calls of each caller in the order in which it made them. It is ordered
 -- by sequence: sequences do not fall, and of the calls of one sequence the announced ones come
--- first, by caller. It has each call that was answered, with its reply and its own sequence. It has
--- no spent call, and besides the answered ones only open calls. What is saved names the last call
--- of each caller, and no call of it that may write is later.
+-- first, by caller. It has each call that was answered, with its reply, at the sequence that the
+-- answer names. It has no spent call, and besides the answered calls only open ones. What is saved
+-- names the last call of each caller; later calls of the caller only read.
 pub record IsOneHistory {W : Type 0} (meaning : W → Meaning) (m : CellMemory W) (d : SavedCells W)
     (h : List Call) : Type 0 where
   pub serial : IsSerial (meaning (work_of m)) (cells_before meaning m) h
@@ -199,33 +203,33 @@ KeepsTime meaning m h =
     (j n x k y : ℕ) → HasOrderOf meaning m j n x k y
     → ComeInOrder h n (tickets_before meaning m n + x) k (tickets_before meaning m k + y)
 
--- it is one history of the memory, and respects real time
+-- the list is one history of the memory that leads to what is saved, and it respects real time
 pub record LeadsTo {W : Type 0} (meaning : W → Meaning) (m : CellMemory W) (d : SavedCells W)
     (h : List Call) : Type 0 where
   pub one : IsOneHistory meaning m d h
   pub time : KeepsTime meaning m h
 
--- there is such a history
+-- some history of the memory leads to what is saved, and respects real time
 abbrev pub HasHistory : {W : Type 0} → (W → Meaning) → CellMemory W → SavedCells W → Type 0
 HasHistory meaning m d = (h : List Call) × LeadsTo meaning m d h
 
 -- if a caller is saved with no call since the memory was opened, its own cells are as they were
--- then, and so is its last reply
+-- then, with the reply in them
 abbrev pub SavesOwnCells : {W : Type 0} → (W → Meaning) → CellMemory W → SavedCells W → Type 0
 SavesOwnCells meaning m d = KeepsOwnCells meaning (row_of m) d
 
--- why there is no handle
+-- why the memory gives no handle for number n
 abbrev pub IsEnrolCause : {W : Type 0} → CellMemory W → ℕ → EnrolError → Type 0
 IsEnrolCause m n (OutOfMemory e) = Unit {0}
 IsEnrolCause m n (NoCaller k) = (k ≡ n) × (callers_of m ≤ n)
 IsEnrolCause m n (Enrolled k) = (k ≡ n) × (get_or m.callers.items n None ≡ None)
 
--- why no memory is opened
+-- why no memory is opened with this limit
 abbrev pub IsOpenCause : (limit : ℕ) → OpenError → Type 0
 IsOpenCause limit (NoRoom e) = Unit {0}
 IsOpenCause limit (Limit k) = (k ≡ limit) × ((limit ≡ 0) ⊎ (GREATEST_LIMIT < limit))
 
--- sequences may have this limit
+-- the limit is in its range: 1 to `GREATEST_LIMIT`
 pub record IsLimit (limit : ℕ) : Type 0 where
   pub some : 1 ≤ limit
   pub few : limit ≤ GREATEST_LIMIT

@@ -18,13 +18,14 @@ use Rattle.of_cells.specs.Saving.{HistoryLeads, ExplainsView, OwnCellsStay, own_
 abbrev pub numbers_of : TableStart → List ℕ
 numbers_of B = map payload_of B.cells
 
--- and of the start that recovery finds in durable words of a table
+-- the numbers of the data cells of the start that recovery finds in durable words of a table
 abbrev pub numbers_found : (callers cells : ℕ) → (words : List ℕ) → List ℕ
 numbers_found n m words = numbers_of (start_from_durable n m (recovered_words n m words))
 
 -- A table may start from what recovery finds in the durable words, and one serial history leads
--- there. Each view that is not spent finds in it what it knows. A number that is not taken has no
--- call in it, and the own cells of a caller with no call since the row's start are as they were.
+-- there. Each view that is not spent finds in this history what the view knows. A number that is
+-- not taken has no call in it, and the own cells of a caller with no call since the row's start are
+-- as they were.
 pub record HoldsHistory (S : Setup) (Lawful : List ℕ → Type 0) (B : TableStart)
     (s : State (Unit {0}) View) (words : List ℕ) : Type 0 where
   pub row : IsStartRow S Lawful (recovered_words S.callers S.cells words)
@@ -38,8 +39,8 @@ pub record HoldsHistory (S : Setup) (Lawful : List ℕ → Type 0) (B : TableSta
       → own_ticket (numbers_found S.callers S.cells words) n ≡ done_before S B n
       → OwnCellsStay (numbers_of B) (numbers_found S.callers S.cells words) n
 
--- This holds at each moment of a row, also between two steps on it, for the durable words of that
--- moment.
+-- At each moment of a row, also between two steps on it, `HoldsHistory` holds for the durable words
+-- of that moment.
 abbrev pub RowsHoldHistory : (List ℕ → Type 0) → Setup → Type 0
 RowsHoldHistory Lawful S =
     (B : TableStart) (s : State (Unit {0}) View) → MeetsRule S Lawful B s

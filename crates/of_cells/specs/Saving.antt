@@ -27,23 +27,23 @@ use Rattle.of_cells.specs.Serving.{cells_at_start, made_before}
 abbrev pub saved_work : {W : Type 0} → SavedCells W → W
 saved_work d = d.work
 
--- how many callers it has
+-- how many callers are saved
 abbrev pub saved_callers : {W : Type 0} → SavedCells W → ℕ
 saved_callers d = d.shape.callers
 
--- the last sequence that a commit may have, in a memory that goes on from it
+-- the last sequence that a commit may have, in a memory that goes on from what is saved
 abbrev pub saved_limit : {W : Type 0} → SavedCells W → ℕ
 saved_limit d = d.limit
 
--- the numbers of the data cells
+-- the numbers of the saved data cells
 abbrev pub saved_cells : {W : Type 0} → SavedCells W → List ℕ
 saved_cells d = map payload_of (start_on d.shape d.row.items).cells
 
--- its durable words, recovered
+-- the durable words that are saved, recovered
 abbrev pub saved_words : {W : Type 0} → SavedCells W → List ℕ
 saved_words d = d.row.items
 
--- the ticket of caller n in data cells with these numbers: how many calls they know of it
+-- the ticket of caller n in data cells with these numbers: how many calls of this caller they know
 abbrev pub own_ticket : (cells : List ℕ) → (n : ℕ) → ℕ
 own_ticket cells n = get_or cells (ticket_cell_at MOST_INSTRS n) 0
 
@@ -51,34 +51,35 @@ own_ticket cells n = get_or cells (ticket_cell_at MOST_INSTRS n) 0
 abbrev pub saved_ticket : {W : Type 0} → SavedCells W → ℕ → ℕ
 saved_ticket d n = own_ticket (saved_cells d) n
 
--- the own cells of caller n hold the shape of this reply, and its numbers
+-- the own cells of caller n hold this reply: its shape, and its numbers
 pub record HoldReply (cells : List ℕ) (n : ℕ) (raw : RawReply) : Type 0 where
   pub shape : get_or cells (shape_at MOST_INSTRS n) 0 ≡ raw.shape
   pub numbers : (y : ℕ) → y < MOST_INSTRS → is_marked raw.shape y ≡ true
       → get_or cells (reply_at MOST_INSTRS n y) 0 ≡ get_or raw.values y 0
 
--- this is the reply in the own cells of caller n
+-- this is the reply that the saved cells of caller n hold
 pub record IsReplyIn {W : Type 0} (d : SavedCells W) (n : ℕ) (raw : RawReply) : Type 0 where
   pub shape : raw.shape ≡ get_or (saved_cells d) (shape_at MOST_INSTRS n) 0
   pub long : length raw.values ≡ MOST_INSTRS
   pub numbers : (y : ℕ) → y < MOST_INSTRS
       → get_or raw.values y 0 ≡ get_or (saved_cells d) (reply_at MOST_INSTRS n y) 0
 
--- the last sequence that was committed in it
+-- the last sequence that was committed in what is saved
 abbrev pub saved_seq : {W : Type 0} → SavedCells W → ℕ
 saved_seq d = (start_on d.shape d.row.items).seq
 
--- it has the same work and as many callers, and the same numbers in its data cells
+-- the same work, number of callers and numbers of data cells are saved
 pub record SavesSame {W : Type 0} (before now : SavedCells W) : Type 0 where
   pub work : saved_work now ≡ saved_work before
   pub callers : saved_callers now ≡ saved_callers before
   pub cells : saved_cells now ≡ saved_cells before
 
--- the limit is outside its range, or below the last sequence that was committed
+-- the limit is out of its range, or below the last sequence that was committed in what is saved
 abbrev pub IsNoLimitOf : {W : Type 0} → SavedCells W → (limit : ℕ) → Type 0
 IsNoLimitOf d limit = (limit ≡ 0) ⊎ ((GREATEST_LIMIT < limit) ⊎ (limit < saved_seq d))
 
--- a memory may go on from it: its sizes are the work's, and a table may start from its words
+-- a memory may go on from what is saved: its sizes are those of the work, and a table may start
+-- from its words
 pub record IsSavedCells {W : Type 0} (many size : W → ℕ) (meaning : W → Meaning)
     (lawful : W → List ℕ → Type 0) (d : SavedCells W) : Type 0 where
   pub callers : d.shape.callers ≡ many d.work
@@ -87,57 +88,58 @@ pub record IsSavedCells {W : Type 0} (many size : W → ℕ) (meaning : W → Me
   pub few_limit : d.limit ≤ GREATEST_LIMIT
   pub row : MayStartFrom meaning lawful d.shape d.limit d.work d.row.items
 
--- its cells are lawful
+-- the saved data cells are lawful for their work
 abbrev pub HoldsLawful : {W : Type 0} → (W → List ℕ → Type 0) → SavedCells W → Type 0
 HoldsLawful lawful d = lawful (saved_work d) (saved_cells d)
 
--- these cells have these numbers, apart from the cells that are callers' own
+-- data cells have these numbers, apart from the cells that are callers' own
 abbrev pub HoldAfterOwn : (caller_count : ℕ) → (cells numbers : List ℕ) → Type 0
 HoldAfterOwn k cells numbers =
     (a : ℕ) → k * (MOST_INSTRS + 2) ≤ a → a < length cells → get_or cells a 0 ≡ get_or numbers a 0
 
--- so have the saved cells
+-- the saved data cells have these numbers, apart from the cells that are callers' own
 abbrev pub SavedHolds : {W : Type 0} → SavedCells W → List ℕ → Type 0
 SavedHolds d numbers = HoldAfterOwn (saved_callers d) (saved_cells d) numbers
 
--- What data cells know of the last call of caller n, which had made `before` calls: there was none
--- since, or it is a call of the history, and the cells hold its reply.
+-- Caller n had made `before` calls. The data cells show its last call since: there was none, or it
+-- is the call of the history with the ticket in the cells, and the cells hold its reply.
 abbrev pub TellLast : (cells : List ℕ) → List Call → (n before : ℕ) → Type 0
 TellLast xs h n before =
     (own_ticket xs n ≡ before)
     ⊎ ((p : ℕ) × (p < length h) × ((get_or h p no_call).caller ≡ n)
     × ((get_or h p no_call).ticket ≡ own_ticket xs n) × HoldReply xs n (get_or h p no_call).raw)
 
--- the history has the calls of the kept caller as they have ended
+-- the history explains how the kept caller's calls ended
 abbrev pub ExplainsKept : Setup → TableStart → List Call → KnownCaller → Type 0
 ExplainsKept S B h x =
     ExplainsAll h x.machine.caller (done_before S B x.machine.caller) x.ended
 
--- each of them that was answered has its own sequence
+-- each answered call of the kept caller that is in the history has there the sequence that its
+-- answer names, and is announced there exactly if its answer says so
 abbrev pub HaveKeptSequences : Setup → TableStart → List Call → Sequences → KnownCaller → Type 0
 HaveKeptSequences S B h q x =
     HaveOwnSequences h q x.machine.caller (done_before S B x.machine.caller) x.ended
 
--- the kept caller's call of this operation is open
+-- the kept caller has an open call of this operation
 abbrev pub HasOpenOperation : KnownCaller → (op : List ℕ) → Type 0
 HasOpenOperation x op = IsOpen x.machine.place × (x.machine.op ≡ op)
 
--- each call of the kept caller that the history has is one of those that have ended, or its open one
+-- each entry of the kept caller in the history is one of its ended calls or its open call
 abbrev pub HasOnlyKept : Setup → TableStart → List Call → KnownCaller → Type 0
 HasOnlyKept S B h x =
     HasOnly h x.machine.caller (done_before S B x.machine.caller) x.ended (HasOpenOperation x)
 
--- the history has the calls in the order of these events: calls that had ended come before calls
--- that had not begun
+-- if some calls had ended before others began, in these events, the former come before the latter
+-- in the history
 abbrev pub RespectsEvents : Setup → TableStart → List Event → List Call → Type 0
 RespectsEvents S B es h =
     (n x k y : ℕ) → EndBefore S B es n x k y
     → ComeInOrder h n (done_before S B n + x) k (done_before S B k + y)
 
--- A serial history leads from the numbers of data cells `before` to those `now`. Each of its calls
--- is above the number of calls that its caller had made. Each is in it at most once, and those of a
--- caller are in the order in which it made them. It is ordered by sequence. The cells know the last
--- call of each caller, and no call that may write is later.
+-- A serial history leads from the numbers of data cells `before` to those `now`. Each call is in it
+-- at most once, with a ticket above the number of calls that its caller had made, and the calls of
+-- a caller are in the order in which it made them. The history is ordered by sequence. The cells
+-- show the last call of each caller; later calls of the caller only read.
 pub record HistoryLeads (M : Meaning) (caller_count : ℕ) (made : ℕ → ℕ) (before now : List ℕ)
     (h : List Call) (q : Sequences) : Type 0 where
   pub serial : IsSerial M before h
@@ -149,8 +151,9 @@ pub record HistoryLeads (M : Meaning) (caller_count : ℕ) (made : ℕ → ℕ) 
   pub last : (n : ℕ) → n < caller_count → TellLast now h n (made n)
   pub upto : (n : ℕ) → n < caller_count → IsUpTo M h n (own_ticket now n)
 
--- The history has the calls of each caller that the view keeps as they have ended, each with its
--- own sequence, and no others of these callers. It respects what the view knows of real time.
+-- The history explains how the calls of each caller that the view keeps have ended, and gives each
+-- answered call the sequence that its answer names. All other calls of these callers in the history
+-- are open. The history respects real time, as far as the view knows it.
 pub record ExplainsView (S : Setup) (B : TableStart) (h : List Call) (q : Sequences) (v : View)
     : Type 0 where
   pub calls : Each (ExplainsKept S B h) v.kept
@@ -174,7 +177,8 @@ OwnCellsStay before now n =
     (a : ℕ) → ticket_cell_at MOST_INSTRS n ≤ a
     → a < ticket_cell_at MOST_INSTRS n + (MOST_INSTRS + 2) → get_or now a 0 ≡ get_or before a 0
 
--- they do for each caller that is saved with no call since the row's start
+-- if a caller is saved with no call since the row's start, its own cells have the same numbers as
+-- at the start
 abbrev pub KeepsOwnCells : {W : Type 0} → (W → Meaning) → Row W → SavedCells W → Type 0
 KeepsOwnCells meaning r d =
     (n : ℕ) → n < (key_of r).callers → saved_ticket d n ≡ made_before meaning r n

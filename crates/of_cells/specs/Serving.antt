@@ -30,7 +30,7 @@ abbrev pub made_before : {W : Type 0} → (W → Meaning) → Row W → ℕ → 
 made_before meaning r n =
     payload_of (get_or (row_start meaning r).cells (ticket_cell_at MOST_INSTRS n) 0)
 
--- how many durable words it has: one for each of its cells
+-- how many durable words the row has: one for each of its cells
 abbrev pub durable_count : {W : Type 0} → Row W → ℕ
 durable_count r = durable_cells (key_of r).callers (key_of r).cells
 
@@ -38,12 +38,12 @@ durable_count r = durable_cells (key_of r).callers (key_of r).cells
 abbrev pub row_step_bound : {W : Type 0} → (W → Meaning) → Row W → ℕ
 row_step_bound meaning r = bound (setup_at meaning r)
 
--- the calls of the caller that have ended
+-- the ended calls of the caller
 abbrev pub ended_of : {W : Type 0} → Caller W → List EndedCall
 ended_of c = (last_caller (sight_of c).kept).ended
 
--- the calls of its number that were begun are those from before the row's start, those that have
--- ended since, and the open one
+-- the calls of the caller's number that were begun are as many as those from before the row's
+-- start, those that have ended since, and the open one
 abbrev pub CountsCalls : {W : Type 0} → (W → Meaning) → Row W → ℕ → Caller W → Type 0
 CountsCalls meaning r n c =
     calls_begun_by c
@@ -58,20 +58,21 @@ events_known_to c = (sight_of c).past
 abbrev pub steps_made_by : {W : Type 0} → Caller W → ℕ
 steps_made_by c = (last_caller (sight_of c).kept).turns
 
--- From the count `before` to the count `now` the caller's calls have made no more steps than the
--- bound by touched cells allows to a call of this operation, if `made` steps of it were made
--- already.
+-- From the count `before` to the count `now` the caller's calls have made no more steps than one
+-- call of this operation may make, if it had made `made` steps already: at most the bound by the
+-- cells that each operation of the work reads and writes.
 abbrev pub RisesByTouch : {W : Type 0} → (W → Meaning) → (W → List ℕ → Type 0) → Row W
     → (op : List ℕ) → (made before now : ℕ) → Type 0
 RisesByTouch meaning lawful r op made before now =
     (more : ℕ) → 0 < more → now ≡ before + more
     → IsWithinTouched (setup_at meaning r) (lawful (key_of r).work) op (made + more)
 
--- a call that is kept open has made a step
+-- if the kept caller has an open call, this call has made a step
 abbrev pub HasStartedIfOpen : KnownCaller → Type 0
 HasStartedIfOpen x = IsOpen x.machine.place → 0 < x.machine.steps
 
--- a caller of the row with this number, which knows of its own calls that they have ended
+-- The caller serves the row with this number. It counts its calls, knows which of them have ended,
+-- and an open call of it has made a step.
 pub record Serves {W : Type 0} (meaning : W → Meaning) (r : Row W) (n : ℕ) (c : Caller W)
     : Type 0 where
   pub caller : IsCaller meaning r c
@@ -81,24 +82,24 @@ pub record Serves {W : Type 0} (meaning : W → Meaning) (r : Row W) (n : ℕ) (
       ≤ calls_ended_in (setup_at meaning r) (row_start meaning r) (events_known_to c) n
   pub started : HasStartedIfOpen (last_caller (sight_of c).kept)
 
--- it has the same calls, ended and open, and knows as much or more
+-- the caller has the same calls, ended and open, and knows as much as before or more
 pub record KnowsMore {W : Type 0} (before now : Caller W) : Type 0 where
   pub call : caller_call now ≡ caller_call before
   pub kept : (sight_of now).kept ≡ (sight_of before).kept
   pub past : IsPrefix (events_known_to before) (events_known_to now)
 
--- it still serves the number that it served
+-- the caller still serves the number that it served
 abbrev pub KeepsServing : {W : Type 0} → (W → Meaning) → Row W → (before now : Caller W) → Type 0
 KeepsServing meaning r c d = (n : ℕ) → Serves meaning r n c → Serves meaning r n d
 
--- it has made no call on this row
+-- the caller serves the row with this number, and has begun no call on the row
 pub record IsNew {W : Type 0} (meaning : W → Meaning) (r : Row W) (n : ℕ) (c : Caller W)
     : Type 0 where
   pub serves : Serves meaning r n c
   pub none : ended_of c ≡ []
   pub idle : IsIdle (caller_call c)
 
--- the row's first pass; it has asked only for numbers below the next one
+-- this is the row's first pass, and it has tried to enrol only numbers below `next`
 pub record Enrols {W : Type 0} (r : Row W) (next : ℕ) (p : Pass) : Type 0 where
   pub row : IsRowPass r p
   pub first : IsFirstPass p
@@ -109,7 +110,7 @@ abbrev pub AllStand : {C : Type 0} → (ℕ → C → Type 0) → ℕ → List (
 AllStand {C} P count cs =
     (n : ℕ) → n < count → (c : C) × (get_or cs n None ≡ Some c) × P n c
 
--- at each place below the count there is a caller
+-- there is a caller at each place below the count
 abbrev pub AllHere : {C : Type 0} → List (Option C) → ℕ → Type 0
 AllHere {C} cs count = (n : ℕ) → n < count → (c : C) × (get_or cs n None ≡ Some c)
 
@@ -123,28 +124,29 @@ abbrev pub KeepsSo : (n : ℕ) → (KnownCaller → Type 0) → List KnownCaller
 KeepsSo n P [] = ⊥
 KeepsSo n P (x ∷ xs) = ((x.machine.caller ≡ n) × P x) ⊎ KeepsSo n P xs
 
--- what is kept is this caller
+-- what is kept is this caller: its ended calls, and its open call if there is one
 pub record IsKeptOf {W : Type 0} (c : Caller W) (x : KnownCaller) : Type 0 where
   pub ended : x.ended ≡ ended_of c
   pub open_call : IsOpen x.machine.place → x.machine ≡ caller_call c
 
--- each caller in a place below the count is kept
+-- each caller in the list, at a place below the count, is kept, with its number and its calls
 abbrev pub KeepsThose : {W : Type 0} → List (Option (Caller W)) → (count : ℕ) → List KnownCaller
     → Type 0
 KeepsThose {W} cs count xs =
     (n : ℕ) (c : Caller W) → n < count → get_or cs n None ≡ Some c → KeepsSo n (IsKeptOf c) xs
 
--- the events that each caller in a place below the count knows are the first of these events
+-- for each caller in the list, at a place below the count: the events that it knows are the first
+-- of these events
 abbrev pub KnowsPasts : {W : Type 0} → List (Option (Caller W)) → (count : ℕ) → List Event → Type 0
 KnowsPasts {W} cs count es =
     (n : ℕ) (c : Caller W) → n < count → get_or cs n None ≡ Some c → IsPrefix (events_known_to c) es
 
--- it is a pass of the row that keeps no caller, or there is none
+-- there is no pass, or it is a pass of the row that keeps no caller
 abbrev pub IsKnowledge : {W : Type 0} → Row W → Option Pass → Type 0
 IsKnowledge r None = Unit {0}
 IsKnowledge r (Some p) = IsRowPass r p × KeepsNobody p
 
--- the events that are known by it
+-- the events that the pass knows; none if there is no pass
 abbrev pub events_in : Option Pass → List Event
 events_in None = []
 events_in (Some p) = (view_of_pass p).past

@@ -12,59 +12,62 @@ use Rattle.of_cells.specs.Handles.{IsCellHandle, HasOpen, IsSame, caller_of, mad
 use Rattle.of_cells.specs.Memories.{HasMadeOf, HasOpenOf, HasOrderOf, IsFrom, RemembersAll, callers_of}
 use Rattle.of_cells.specs.Telling.{KnowsOrdersOf, LeavesOrder, HearsMemory, TellsMemory}
 
--- the memory knows of the handle's number what the handle knows of its calls, and nothing else
+-- the caller of the handle's number is in the memory, with exactly the calls that the handle has,
+-- ended and open
 pub record KnowsHandle {W : Type 0} (m : CellMemory W) (h : CellHandle W) : Type 0 where
   pub made : HasMadeOf m (number_of_handle h) (made_by h)
   pub only : (es : List EndedCall) → HasMadeOf m (number_of_handle h) es → made_by h ≡ es
   pub open_call : (op : List ℕ) → HasOpen h op → HasOpenOf m (number_of_handle h) op
   pub only_open : (op : List ℕ) → HasOpenOf m (number_of_handle h) op → HasOpen h op
 
--- of this number the memory knows the calls that it knew, and no others
+-- of number n the memory knows exactly the calls that it knew before, ended and open
 pub record KnowsSame {W : Type 0} (n : ℕ) (m k : CellMemory W) : Type 0 where
   pub made : (es : List EndedCall) → HasMadeOf m n es → HasMadeOf k n es
   pub only : (es : List EndedCall) → HasMadeOf k n es → HasMadeOf m n es
   pub open_call : (op : List ℕ) → HasOpenOf m n op → HasOpenOf k n op
   pub only_open : (op : List ℕ) → HasOpenOf k n op → HasOpenOf m n op
 
--- the same of each number from this one on
+-- of each number from `from` on the memory knows exactly the calls that it knew before
 abbrev pub KnowsRest : {W : Type 0} → (from : ℕ) → (before now : CellMemory W) → Type 0
 KnowsRest from m k = (n : ℕ) → from ≤ n → KnowsSame n m k
 
--- each number from this one on knows each order that it knew
+-- for each number from `from` on: its caller in the memory still knows each order of calls that it
+-- knew
 abbrev pub RestKnowsOrder : {W : Type 0} → (W → Meaning) → (from : ℕ)
     → (before now : CellMemory W) → Type 0
 RestKnowsOrder meaning from m l =
     (j : ℕ) → from ≤ j → (n x k y : ℕ) → HasOrderOf meaning m j n x k y
     → HasOrderOf meaning l j n x k y
 
--- what a task promises of its work: the task and its handle before it and after it
+-- what a task promises of its work, about the task and its handle before and after it
 abbrev pub TaskWork : Type 0 → Type 0 → Type 1
 TaskWork W J = J → CellHandle W → J → CellHandle W → Type 0
 
--- a task of this kind works with each handle of a memory
+-- the task can work with each handle of a memory
 abbrev pub TakesAny : {W : Type 0} → (W → Meaning) → (May : CellHandle W → Type 0) → Type 0
 TakesAny {W} meaning May = (h : CellHandle W) → IsCellHandle meaning h → May h
 
--- and what it gives back is a handle of the same memory with the same number
+-- the handle that a task gives back is of the same memory, and has the same number, as the one it
+-- was given
 abbrev pub GivesBack : {W J : Type 0} → (W → Meaning) → TaskWork W J → Type 0
 GivesBack {W} {J} meaning Does =
     (t u : J) (h k : CellHandle W) → IsCellHandle meaning h → Does t h u k
     → IsCellHandle meaning k × IsSame h k
 
--- a handle with its task, or none any more
+-- a place for a handle with its task, or an empty place
 abbrev pub Slot : Type 0 → Type 0 → Type 0
 Slot W J = Option (CellHandle W × J)
 
--- a task has worked with its handle
+-- a task has worked with its handle, and gives back a handle of the same memory and number
 pub record HasWorked {W J : Type 0} (meaning : W → Meaning) (Does : TaskWork W J)
     (p q : CellHandle W × J) : Type 0 where
   pub handle : IsCellHandle meaning q.0
   pub same : IsSame p.0 q.0
   pub done : Does p.1 p.0 q.1 q.0
 
--- A task has worked with the handle of this number, which knew of its number what the memory knew
--- before, and had heard of all calls that the memory knew to have ended. The memory knows what the
--- handle knew when it left, and has heard of all its calls.
+-- A task has worked with the handle of this number. The handle knew what the memory knew of the
+-- number before, and had heard of all calls that the memory knew to have ended. The memory knows
+-- what the handle knew when it left, and has heard of all its calls.
 pub record HasWorkedAs {W J : Type 0} (meaning : W → Meaning) (Does : TaskWork W J) (n : ℕ)
     (m k : CellMemory W) (x y : J) : Type 0 where
   pub begun : CellHandle W
@@ -80,15 +83,15 @@ pub record HasWorkedAs {W J : Type 0} (meaning : W → Meaning) (Does : TaskWork
   pub order : LeavesOrder meaning left k
   pub told : TellsMemory meaning left k
 
--- each task has worked with the handle of the number that is its place
+-- each task has worked with the handle whose number is the place of the task in the list
 pub record HaveWorked {W J : Type 0} (meaning : W → Meaning) (Does : TaskWork W J)
     (m k : CellMemory W) (xs ys : List J) : Type 0 where
   pub count : length ys ≡ length xs
   pub each : (n : ℕ) (d : J) → n < length xs
       → HasWorkedAs meaning Does n m k (get_or xs n d) (get_or ys n d)
 
--- why no task has worked: there is no memory, or one of the numbers has no caller, or its handle is
--- out
+-- why no task has worked: memory ran out, there are more tasks than callers, or a handle with the
+-- number of a task is out
 abbrev pub IsTaskCause : {W : Type 0} → CellMemory W → (count : ℕ) → EnrolError → Type 0
 IsTaskCause m count (OutOfMemory e) = Unit {0}
 IsTaskCause m count (NoCaller n) = (n ≡ callers_of m) × (n < count)
@@ -96,23 +99,23 @@ IsTaskCause m count (Enrolled n) = (n < count) × (get_or m.callers.items n None
 
 -- ---- a task works
 
--- the handle is one of some memory
+-- if the slot holds a handle, it is one of some memory
 abbrev pub MayWork : {W J : Type 0} → (W → Meaning) → Slot W J → Type 0
 MayWork {W} {J} meaning s = (p : CellHandle W × J) → s ≡ Some p → IsCellHandle meaning p.0
 
--- each of the handles is one of some memory
+-- each handle in these slots is one of some memory
 abbrev pub MayAllWork : {W J : Type 0} → (W → Meaning) → List (Slot W J) → Type 0
 MayAllWork {W} {J} meaning ss =
     (i : ℕ) (s : Slot W J) → i < length ss → s ≡ get_or ss i s → MayWork meaning s
 
--- the task has worked with its handle, and both are there still
+-- the task in the slot has worked with its handle, and both are still in the slot
 abbrev pub WorksOn : {W J : Type 0} → (W → Meaning) → TaskWork W J → (before now : Slot W J)
     → Type 0
 WorksOn {W} {J} meaning Does s t =
     (p : CellHandle W × J) → s ≡ Some p
     → (q : CellHandle W × J) × (t ≡ Some q) × HasWorked meaning Does p q
 
--- each task has worked with its handle
+-- the task in each slot has worked with its handle, and both are still in the slot
 abbrev pub AllWorkOn : {W J : Type 0} → (W → Meaning) → TaskWork W J
     → (before now : List (Slot W J)) → Type 0
 AllWorkOn {W} {J} meaning Does ss ts =
@@ -121,20 +124,20 @@ AllWorkOn {W} {J} meaning Does ss ts =
 
 -- ---- how handles are handed out and taken back
 
--- the handle was the memory's caller of its number, and has its calls
+-- the memory had a caller of the handle's number, with the calls that the handle has
 pub record WasIn {W : Type 0} (m : CellMemory W) (h : CellHandle W) : Type 0 where
   pub caller : Caller W
   pub here : get_or m.callers.items (number_of_handle h) None ≡ Some caller
   pub same : KnowsMore caller (caller_of h)
 
--- the handle is the memory's caller of its number now, which has its calls
+-- the memory has a caller of the handle's number, with the calls that the handle had
 pub record IsBackIn {W : Type 0} (m : CellMemory W) (h : CellHandle W) : Type 0 where
   pub caller : Caller W
   pub here : get_or m.callers.items (number_of_handle h) None ≡ Some caller
   pub same : KnowsMore (caller_of h) caller
 
--- the handle of a pair was handed out for the task at the place of its number; the last ones come
--- first
+-- the handle of this pair was handed out for the task whose place is the handle's number; the pair
+-- with the last task comes first
 pub record IsHandedOut {W J : Type 0} (meaning : W → Meaning) (m : CellMemory W) (xs : List J)
     (i : ℕ) (p : CellHandle W × J) : Type 0 where
   pub place : number_of_handle p.0 + i + 1 ≡ length xs
@@ -144,7 +147,7 @@ pub record IsHandedOut {W J : Type 0} (meaning : W → Meaning) (m : CellMemory 
   pub was : WasIn m p.0
   pub heard : HearsMemory meaning m p.0
 
--- handles were handed out for the last of these tasks, and the first ones are left
+-- handles were handed out for the last of these tasks; the first ones are left
 pub record HasHandedOut {W J : Type 0} (meaning : W → Meaning) (m k : CellMemory W)
     (xs left : List J) (ss : List (Slot W J)) : Type 0 where
   pub count : length left + length ss ≡ length xs
@@ -155,14 +158,14 @@ pub record HasHandedOut {W J : Type 0} (meaning : W → Meaning) (m k : CellMemo
       → get_or k.callers.items i None ≡ get_or m.callers.items i None
   pub remembers : RemembersAll meaning m k
 
--- the handle of a pair may leave, and its task go to the place of its number
+-- the handle of this pair may leave; its task then goes to the place that is the handle's number
 pub record MayLeave {W J : Type 0} (meaning : W → Meaning) (m : CellMemory W) (count i : ℕ)
     (p : CellHandle W × J) : Type 0 where
   pub place : number_of_handle p.0 + i + 1 ≡ count
   pub handle : IsCellHandle meaning p.0
   pub from : IsFrom m p.0
 
--- each pair may, and the tasks of these come after this many others
+-- the handle of each pair may leave, and the tasks of these pairs come after this many others
 abbrev pub MayAllLeave : {W J : Type 0} → (W → Meaning) → CellMemory W → (first : ℕ)
     → List (Slot W J) → Type 0
 MayAllLeave {W} {J} meaning m first ss =
@@ -170,14 +173,14 @@ MayAllLeave {W} {J} meaning m first ss =
     → (p : CellHandle W × J) × (get_or ss i None ≡ Some p)
     × MayLeave meaning m (first + length ss) i p
 
--- the handle of a pair has left, and its task is at the place of its number
+-- the handle of this pair has left, and its task is at the place that is the handle's number
 pub record HasLeft {W J : Type 0} (meaning : W → Meaning) (k : CellMemory W) (zs : List J)
     (p : CellHandle W × J) : Type 0 where
   pub task : (d : J) → get_or zs (number_of_handle p.0) d ≡ p.1
   pub known : IsBackIn k p.0
   pub told : TellsMemory meaning p.0 k
 
--- each handle from this place on has left, and its task is back, after the tasks xs
+-- each handle from this place on has left, and its task is back in the list, after the tasks xs
 pub record HasTakenBack {W J : Type 0} (meaning : W → Meaning) (m k : CellMemory W) (xs zs : List J)
     (from : ℕ) (ss : List (Slot W J)) : Type 0 where
   pub count : length zs + from ≡ length xs + length ss

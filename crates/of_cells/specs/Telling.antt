@@ -18,70 +18,73 @@ use Rattle.of_cells.specs.Serving.{KnowsMore, events_known_to}
 use Rattle.of_cells.specs.Handles.{home_of, number_of_handle, caller_of, made_by, steps_so_far}
 use Rattle.of_cells.specs.Memories.{IsFrom, IsStill, HasOrderOf, HasHeardOf as MemoryHasHeardOf, HasHistory, LeadsTo, RemembersAll, tickets_before}
 
--- it knows that the first `count` calls of a number since the memory was opened have ended
+-- the handle knows that the first `count` calls of a number since the memory was opened have ended
 abbrev pub HasHeardOf : {W : Type 0} → (W → Meaning) → CellHandle W → (number count : ℕ) → Type 0
 HasHeardOf meaning h n count =
     count
     ≤ calls_ended_in (setup_at meaning (home_of h)) (row_start meaning (home_of h))
     (events_known_to (caller_of h)) n
 
--- it knows that the first x calls of number n had ended before number k began any call but its
--- first y
+-- the handle knows that the first x calls of number n had ended before number k began its call y +
+-- 1
 abbrev pub KnowsOrder : {W : Type 0} → (W → Meaning) → CellHandle W → (n x k y : ℕ) → Type 0
 KnowsOrder meaning h n x k y =
     EndBefore (setup_at meaning (home_of h)) (row_start meaning (home_of h))
     (events_known_to (caller_of h)) n x k y
 
--- it still knows which calls had ended, and each order that it knew
+-- the handle still knows of each ended call that it knew of, and each order of calls that it knew
 pub record KeepsKnown {W : Type 0} (meaning : W → Meaning) (before now : CellHandle W)
     : Type 0 where
   pub heard : (n count : ℕ) → HasHeardOf meaning before n count → HasHeardOf meaning now n count
   pub order : (n x k y : ℕ) → KnowsOrder meaning before n x k y → KnowsOrder meaning now n x k y
 
--- its calls are as they were, the ended ones and the open one
+-- the handle's calls are as they were, the ended ones and the open one, and it knows as much or
+-- more
 abbrev pub CallsStay : {W : Type 0} → (before now : CellHandle W) → Type 0
 CallsStay h k = KnowsMore (caller_of h) (caller_of k)
 
 -- ---- news
 
--- the events that are in the news
+-- the events that the news tells of
 abbrev pub events_told : CellNews → List Event
 events_told a = (view_of_pass a.pass).past
 
--- it is news of this memory
+-- the news is of the calls of the memory with this row
 pub record IsNews {W : Type 0} (r : Row W) (a : CellNews) : Type 0 where
   pub row : IsRowPass r a.pass
   pub nobody : KeepsNobody a.pass
 
--- the news says that the first `count` calls of a number have ended
+-- the news tells that the first `count` calls of a number have ended
 abbrev pub TellsOf : {W : Type 0} → (W → Meaning) → Row W → CellNews → (number count : ℕ) → Type 0
 TellsOf meaning r a n count =
     count ≤ calls_ended_in (setup_at meaning r) (row_start meaning r) (events_told a) n
 
--- the news has all calls of the handle that have ended
+-- the news tells of each ended call of the handle
 abbrev pub TellsOwn : {W : Type 0} → (W → Meaning) → CellHandle W → CellNews → Type 0
 TellsOwn meaning h a = TellsOf meaning (home_of h) a (number_of_handle h) (length (made_by h))
 
--- the news has all that the handle has heard of
+-- the news tells of each call that the handle has heard of
 abbrev pub TellsHeard : {W : Type 0} → (W → Meaning) → CellHandle W → CellNews → Type 0
 TellsHeard meaning h a =
     (n count : ℕ) → HasHeardOf meaning h n count → TellsOf meaning (home_of h) a n count
 
--- the handle has heard of all that is in the news
+-- the handle has heard of each call that the news tells of
 abbrev pub HearsAll : {W : Type 0} → (W → Meaning) → CellNews → CellHandle W → Type 0
 HearsAll meaning a h =
     (n count : ℕ) → TellsOf meaning (home_of h) a n count → HasHeardOf meaning h n count
 
 -- ---- a call
 
--- the calls that the handle had heard of had ended before its call began, if that has made a step
+-- if the call has made a step, the handle knows that all calls it had heard of had ended before
+-- this call began
 abbrev pub BeginsAfterHeard : {W : Type 0} → (W → Meaning) → Result RawAnswer RunError
     → (before now : CellHandle W) → Type 0
 BeginsAfterHeard meaning result h k =
     HasStarted result → (n count : ℕ) → HasHeardOf meaning h n count
     → KnowsOrder meaning k n count (number_of_handle h) (length (made_by h))
 
--- the same of an open call that had made no step, when it goes on
+-- if an open call that had made no step goes on and makes one, the handle knows that all calls it
+-- had heard of had ended before this call began
 abbrev pub ResumesAfterHeard : {W : Type 0} → (W → Meaning) → Result RawAnswer RunError
     → (before now : CellHandle W) → Type 0
 ResumesAfterHeard meaning result h k =
@@ -89,13 +92,14 @@ ResumesAfterHeard meaning result h k =
 
 -- ---- handles come and go
 
--- the handle knows each order that its number knew
+-- the handle knows each order of calls that the caller of its number knew in the memory
 abbrev pub KnowsOrdersOf : {W : Type 0} → (W → Meaning) → CellMemory W → CellHandle W → Type 0
 KnowsOrdersOf meaning m h =
     (n x k y : ℕ) → HasOrderOf meaning m (number_of_handle h) n x k y
     → KnowsOrder meaning h n x k y
 
--- the memory knows of the handle's number each order that the handle knew when it left
+-- the caller of the handle's number is in the memory, and knows each order of calls that the handle
+-- knew
 abbrev pub LeavesOrder : {W : Type 0} → (W → Meaning) → CellHandle W → CellMemory W → Type 0
 LeavesOrder meaning h m =
     (n x k y : ℕ) → KnowsOrder meaning h n x k y
@@ -106,8 +110,7 @@ abbrev pub HearsMemory : {W : Type 0} → (W → Meaning) → CellMemory W → C
 HearsMemory meaning m h =
     (n count : ℕ) → MemoryHasHeardOf meaning m n count → HasHeardOf meaning h n count
 
--- the memory knows that all calls of the handle have ended that have, and all that the handle has
--- heard of
+-- the memory knows of each ended call of the handle, and of each call that the handle has heard of
 pub record TellsMemory {W : Type 0} (meaning : W → Meaning) (h : CellHandle W) (m : CellMemory W)
     : Type 0 where
   pub own : MemoryHasHeardOf meaning m (number_of_handle h) (length (made_by h))
@@ -115,10 +118,10 @@ pub record TellsMemory {W : Type 0} (meaning : W → Meaning) (h : CellHandle W)
 
 -- ---- the whole
 
--- Handle a tells when it has made its calls. Handle b hears of it, and its next call leaves it as
--- c. It leaves its memory m as e, with all that c knew, and what is saved at the close is d. So
--- each call that a had made comes before that call, and before each later one of b's number, in the
--- history.
+-- Handle a has made its calls and tells of them. Handle b hears the news, and its next call leaves
+-- it as c. Later, as e, it leaves the memory m with all that c knew, and what is saved at the close
+-- is d. Then each call that a had made comes, in the history, before that next call of b and before
+-- each later call of b's number.
 abbrev pub ToldCallsComeFirst : {W : Type 0} → (W → Meaning) → Type 0
 ToldCallsComeFirst {W} meaning =
     (m : CellMemory W) (d : SavedCells W) (a b c e : CellHandle W) (news : CellNews)
@@ -131,10 +134,11 @@ ToldCallsComeFirst {W} meaning =
     (number_of_handle a) (tickets_before meaning m (number_of_handle a) + length (made_by a))
     (number_of_handle b) (tickets_before meaning m (number_of_handle b) + length (made_by b))
 
--- Handle a leaves its memory, which is k then. It forgets nothing until it is l, where handle b
--- comes. The next call of b leaves it as c. It leaves the memory m as e, with all that c knew, and
--- what is saved at the close is d. So each call that a had made comes before that call, and before
--- each later one of b's number, in the history, whatever the two numbers are.
+-- Handle a leaves its memory, which is k then. The memory forgets nothing until it is l. Now handle
+-- b comes, and its next call leaves it as c. Later, as e, it leaves the memory m with all that c
+-- knew, and what is saved at the close is d. Then each call that a had made comes, in the history,
+-- before that next call of b and before each later call of b's number, whatever the two numbers
+-- are.
 abbrev pub CallsComeInTurn : {W : Type 0} → (W → Meaning) → Type 0
 CallsComeInTurn {W} meaning =
     (k l m : CellMemory W) (d : SavedCells W) (a b c e : CellHandle W)

@@ -15,8 +15,8 @@ calls_ended_in S B es n = length (outcomes S (first_of S B) es n)
 abbrev pub calls_begun_in : List Event → (n : ℕ) → ℕ
 calls_begun_in es n = length (operations_begun es n)
 
--- the first x calls of caller n have ended before caller k begins its call y + 1: there is a moment
--- in the events that shows it
+-- the first x calls of caller n have ended before caller k begins its call y + 1: at some moment of
+-- these events x calls of n have ended, and at most y calls of k have begun
 pub record EndBefore (S : Setup) (B : TableStart) (es : List Event) (n x k y : ℕ) : Type 0 where
   pub moment : List Event
   pub early : IsPrefix moment es

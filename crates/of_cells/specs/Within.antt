@@ -14,9 +14,9 @@ IsNeverStopped (Err InCall) = Unit {0}
 IsNeverStopped (Err NoCall) = Unit {0}
 IsNeverStopped (Err NoTicket) = Unit {0}
 
--- A call that had made `before` steps is given `more`, and has made `now` in all. An answer has no
--- more steps than both together. The call is stopped only after it has made them all, at its next
--- ask.
+-- A call that had made `before` steps may make `more` steps, and has made `now` in all. If it is
+-- answered, it has made at most `before + more`. It is stopped only after it has made all of them,
+-- when it asks for one more.
 abbrev pub KeepsWithin : (before more now : ℕ) → Result RawAnswer RunError → Type 0
 KeepsWithin before more now (Ok a) = a.steps ≤ before + more
 KeepsWithin before more now (Err (Stopped asked)) = (asked ≡ more + 1) × (now ≡ before + more)
@@ -25,7 +25,8 @@ KeepsWithin before more now (Err InCall) = Unit {0}
 KeepsWithin before more now (Err NoCall) = Unit {0}
 KeepsWithin before more now (Err NoTicket) = Unit {0}
 
--- the same of a call with this stop; without a stop it is never stopped
+-- A call that had made `before` steps makes at most as many more as its stop allows, and is stopped
+-- only after these. Without a stop it is never stopped.
 abbrev pub KeepsToStop : (before : ℕ) → (stop : Option ℕ) → (now : ℕ)
     → Result RawAnswer RunError → Type 0
 KeepsToStop before None now r = IsNeverStopped r
@@ -49,18 +50,20 @@ IsSpentAtLimit limit (Err InCall) = Unit {0}
 IsSpentAtLimit limit (Err NoCall) = Unit {0}
 IsSpentAtLimit limit (Err NoTicket) = Unit {0}
 
--- A count of steps has risen by no more than the call's stop, if it has one.
+-- A count of steps has risen by no more than the stop of a call, if the call has one.
 abbrev pub RisesWithin : (stop : Option ℕ) → (before now : ℕ) → Type 0
 RisesWithin None before now = Unit {0}
 RisesWithin (Some more) before now = now ≤ before + more
 
--- A call keeps to the steps left of its brake, if the brake reports them.
+-- A call makes no more steps than its brake has left, and is stopped only after these, if the brake
+-- reports its steps left.
 abbrev pub KeepsToStepsLeft : (left : Option (Option ℕ)) → (before now : ℕ)
     → Result RawAnswer RunError → Type 0
 KeepsToStepsLeft left before now r = (stop : Option ℕ) → left ≡ Some stop
     → KeepsToStop before stop now r
 
--- A count of steps has risen by no more than the steps left of a brake, if it reports them.
+-- A count of steps has risen by no more than the brake had left, if the brake reports its steps
+-- left.
 abbrev pub RisesByBrake : (left : Option (Option ℕ)) → (before now : ℕ) → Type 0
 RisesByBrake left before now = (stop : Option ℕ) → left ≡ Some stop → RisesWithin stop before now
 

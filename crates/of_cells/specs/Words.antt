@@ -33,13 +33,14 @@ pub record AreSizesOf (callers cells : ℕ) (s : TableSizes) : Type 0 where
 
 -- ---- what is found
 
--- a table for the work, with this limit, may start from the row, which recovery does not change
+-- a table for the work, with this limit, may start from this row of durable words, which recovery
+-- leaves as it is
 abbrev pub IsStartFor : {W : Type 0} → (many size : W → ℕ) → (W → Meaning)
     → (W → List ℕ → Type 0) → W → (limit : ℕ) → (row : List ℕ) → Type 0
 IsStartFor many size meaning lawful work limit row =
     IsStartRow (setup_of (many work) (size work) limit (meaning work)) (lawful work) row
 
--- what recovery makes of durable words of a table for the work
+-- what recovery makes of the durable words of a table for the work
 abbrev pub words_found : {W : Type 0} → (many size : W → ℕ) → W → (words : List ℕ) → List ℕ
 words_found many size work words = recovered_words (many work) (size work) words
 
@@ -52,11 +53,11 @@ AreDurableWords many size meaning lawful work words =
     → (limit : ℕ)
     × IsStartFor many size meaning lawful work limit (words_found many size work words)
 
--- the start that the row is of a table for the work
+-- the start that this row of durable words is for a table of the work
 abbrev pub start_in : {W : Type 0} → (many size : W → ℕ) → W → (row : List ℕ) → TableStart
 start_in many size work row = start_from_durable (many work) (size work) row
 
--- what is saved is of the work, and has the row's numbers and sequence
+-- what is saved is of this work, and has the numbers and the sequence of this row
 pub record IsSavedRow {W : Type 0} (many size : W → ℕ) (work : W) (row : List ℕ)
     (d : SavedCells W) : Type 0 where
   pub work_is : saved_work d ≡ work
@@ -64,14 +65,14 @@ pub record IsSavedRow {W : Type 0} (many size : W → ℕ) (work : W) (row : Lis
   pub cells : saved_cells d ≡ map payload_of (start_in many size work row).cells
   pub seq : saved_seq d ≡ (start_in many size work row).seq
 
--- what is saved has the words that recovery finds in these
+-- what is saved has the work, numbers and sequence that recovery finds in these words
 abbrev pub WordsHold : {W : Type 0} → (many size : W → ℕ) → W → (words : List ℕ) → SavedCells W
     → Type 0
 WordsHold many size work words d =
     IsSavedRow many size work (words_found many size work words) d
 
--- why nothing is found: there is no memory, the limit is out of its range or below the sequence
--- that is found, or the words are not as many as a table for the work has
+-- why nothing is found in these words: memory ran out, the limit is out of its range or below the
+-- sequence in the words, or a table for the work has another number of words
 abbrev pub IsWordsCause : {W : Type 0} → (many size : W → ℕ) → W → (limit : ℕ) → (words : List ℕ)
     → WordsError → Type 0
 IsWordsCause many size work limit words OutOfMemory = Unit {0}
@@ -85,9 +86,9 @@ IsWordsCause many size work limit words (PastLimit seq) =
 -- ---- moments
 
 -- Recovery finds a start in the durable words, and one serial history leads from the cells with
--- which the memory was opened to what is saved of them. Each view that is not spent finds in it
--- what it knows: each answered call of a caller that its pass or member keeps, with its reply, and
--- besides these only open calls. A number that is not taken has no call in it.
+-- which the memory was opened to what recovery finds. Each view that is not spent finds in the
+-- history what the view knows: each answered call of the callers that its pass or member keeps,
+-- with its reply, and besides these only open calls. A number that is not taken has no call in it.
 pub record MayGoOnFromWords {W : Type 0} (many size : W → ℕ) (meaning : W → Meaning)
     (lawful : W → List ℕ → Type 0) (m : CellMemory W) (s : State (Unit {0}) View)
     (words : List ℕ) : Type 0 where
@@ -102,8 +103,8 @@ pub record MayGoOnFromWords {W : Type 0} (many size : W → ℕ) (meaning : W �
   pub free : EachFree (setup_at meaning (row_of m)) s.words (HasNoneOf history)
   pub own : (d : SavedCells W) → WordsHold many size (work_of m) words d → SavesOwnCells meaning m d
 
--- This holds at each moment of the memory's row, also between two steps on it, for the durable
--- words of that moment.
+-- At each moment of the memory's row, also between two steps on it, `MayGoOnFromWords` holds for
+-- the durable words of that moment.
 abbrev pub HoldsWordsAlways : {W : Type 0} → (many size : W → ℕ) → (W → Meaning)
     → (W → List ℕ → Type 0) → CellMemory W → Type 0
 HoldsWordsAlways many size meaning lawful m =

@@ -11,16 +11,17 @@ use of_mem::RawReply;
 pub struct RawAnswer {
     /// The sequence at which the call took effect.
     pub seq: u32,
-    /// Whether the call was announced; only an operation that writes nothing may be tried first.
+    /// Whether the call was announced. A call that was not announced is a read, which a try has
+    /// answered.
     pub announced: bool,
-    /// The reply of its operation, as cells hold it.
+    /// The reply of the call's operation, as data cells hold it.
     pub raw: RawReply,
     /// How many atomic steps the call made.
     pub steps: u64,
 }
 
 impl RawAnswer {
-    /// The outcome that the call has had.
+    /// The answer as an `Outcome`.
     pub fn outcome(self) -> Outcome
         ensures { result ≡ outcome_of self }
     {

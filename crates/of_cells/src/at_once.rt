@@ -14,13 +14,13 @@ use std::thread::{Threads, for_each_mut};
 
 /// A task that works with a handle of type `H`, and keeps its results.
 pub trait CellTask<H> {
-    /// The handles that it works with.
+    /// Which handles the task can work with.
     ghost may: { H → Type 0 } = { λ _. Unit {0} };
 
     /// What its users may know of its work: the task and the handle before it, and both after it.
     ghost does: { Self → H → Self → H → Type 0 } = { λ _ _ _ _. Unit {0} };
 
-    /// Works with a handle, and gives it back.
+    /// Works with a handle, and gives back the task and the handle.
     fn work(self, handle: H) -> (Self, H)
         requires { may handle }
         ensures { does self handle result.0 result.1 };
@@ -80,10 +80,10 @@ impl<W: Work> CellMemory<W> {
     ghost use Rattle.of_cells.specs.Tasks.{HasHandedOut, MayAllLeave, HasTakenBack};
     ghost use Rattle.of_cells.specs.Tasks.{HaveWorked, KnowsRest, RestKnowsOrder, IsTaskCause};
 
-    /// Works at all tasks at once: each with the handle of the number that is its place, in a
-    /// thread of its own if one can be made. Then the handles leave. If one can't be enrolled, no
-    /// task is begun, and no number stays taken. A task must be able to work with each handle of a
-    /// memory, and gives back one of the same memory and number.
+    /// Works at all tasks at once. Each task has the handle whose number is the task's place in the
+    /// list, and a thread of its own if one can be made. Then the handles leave. If a handle can't
+    /// be enrolled, no task is begun, and no number stays taken. A task must be able to work with
+    /// each handle of a memory, and must give back a handle of the same memory and number.
     pub fn at_once<J: CellTask<CellHandle<W>> + Send + Drop, R: Threads + Sync>(
         &mut self,
         rt: &R,
@@ -124,8 +124,8 @@ impl<W: Work> CellMemory<W> {
         }
     }
 
-    /// Hands out a handle for each task, from the last task to the first. After an error the first
-    /// tasks are left.
+    /// Hands out a handle for each task, from the last task to the first. After an error, the tasks
+    /// that have no handle are left in the list.
     pub fn hand_out<J: Drop>(
         &mut self,
         tasks: &mut Vec<J>,
@@ -156,8 +156,8 @@ impl<W: Work> CellMemory<W> {
         Ok(())
     }
 
-    /// The handles leave, and their tasks are put after those that are there; the last handle comes
-    /// first.
+    /// Each handle leaves, and its task is put after the tasks in the list; the last handle in
+    /// `slots` comes first.
     pub fn take_back<J: Drop>(
         &mut self,
         mut slots: Vec<Option<(CellHandle<W>, J)>>,

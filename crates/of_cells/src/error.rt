@@ -17,14 +17,14 @@ pub enum OpenError {
     Limit { limit: u32 },
 }
 
-/// Why there is no handle.
+/// Why no handle is given out.
 #[derive(Debug, Drop, Error)]
 pub enum EnrolError {
     #[error("out of memory")]
     OutOfMemory(#[from(alloc)] AllocError),
     #[error("there is no caller {number}")]
     NoCaller { number: u32 },
-    /// The number's handle has not left.
+    /// The number has a handle, which has not left.
     #[error("caller {number} has a handle already")]
     Enrolled { number: u32 },
 }
@@ -32,7 +32,7 @@ pub enum EnrolError {
 /// Why a call has no answer.
 #[derive(Clone, Copy, Debug, PartialEq, Eq, Error)]
 pub enum RunError {
-    /// The call has asked for this many steps, and the last one was denied. It stays open, for
+    /// The call has asked for this many steps, and the last one was denied. The call stays open for
     /// `go_on`.
     #[error("stopped at step {asked}")]
     Stopped { asked: u64 },
@@ -45,27 +45,28 @@ pub enum RunError {
     /// `go_on` was called, and no call is open.
     #[error("no call is open")]
     NoCall,
-    /// The number has made all calls that it may make.
+    /// The handle's number has made all calls that it may make.
     #[error("no ticket is left")]
     NoTicket,
 }
 
-/// Why nothing is found in durable words.
+/// Why no `SavedCells` is found in durable words.
 #[derive(Clone, Copy, Debug, PartialEq, Eq, Error)]
 pub enum WordsError {
     #[error("out of memory")]
     OutOfMemory,
     #[error("{limit} is no limit of sequences")]
     Limit { limit: u32 },
-    /// A table of the work has another number of durable words.
+    /// There are `count` words, but the table of the work has another number of durable words.
     #[error("{count} words are not the durable words of such a table")]
     Count { count: usize },
-    /// Recovery finds this sequence in the words, and the limit is below it.
+    /// The last committed sequence that recovery finds in the words is `seq`, and the limit is
+    /// below it.
     #[error("the limit is below sequence {seq}")]
     PastLimit { seq: u32 },
 }
 
-/// What is saved can't have this limit. It is handed back.
+/// What is saved can't have this limit. The error hands back what was saved, unchanged.
 #[derive(Drop)]
 pub struct LimitError<W: Work>(pub SavedCells<W>);
 
@@ -83,7 +84,7 @@ impl<W: Work> fmt::Display for LimitError<W> {
 
 impl<W: Work> StdError for LimitError<W> {}
 
-/// A memory isn't closed while one of its handles is out. It is handed back.
+/// The memory can't be closed, since one of its handles is out. The error hands the memory back.
 #[derive(Drop)]
 pub struct InUse<W: Work>(pub CellMemory<W>);
 

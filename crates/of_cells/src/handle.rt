@@ -62,7 +62,7 @@ impl<W: Work> CellHandle<W> {
     ghost use Rattle.of_cells.specs.Sequences.{KnowsSeqOf, seq_known_to, seq_known_in, left_of_handle};
     ghost use Rattle.std.specs.Prelude.{max};
 
-    /// Its number.
+    /// The handle's number.
     pub fn number(&self) -> u32
         ensures { result ≡ number_of_handle self.now }
     {
@@ -242,8 +242,8 @@ impl<W: Work> CellHandle<W> {
         result
     }
 
-    /// Leaves its memory, which keeps what it has made; a call that is open stays open. Then its
-    /// number is free again.
+    /// Leaves the memory, which keeps the handle's calls. An open call stays open, and the number
+    /// is free again.
     pub fn leave(self, memory: &mut CellMemory<W>)
         requires handle { IsCellHandle W.meaning self }
         requires memory { IsCellMemory W.meaning memory.old }
@@ -259,7 +259,8 @@ impl<W: Work> CellHandle<W> {
         ensures order { LeavesOrder W.meaning self memory.new }
         ensures others_order { OthersKnowOrder W.meaning (number_of_handle self)
             memory.old memory.new }
-        // So a call that begins later comes later in the history, whatever its number.
+        // The memory knows the handle's ended calls, so calls that begin later come later in the
+        // history.
         ensures heard { TellsMemory W.meaning self memory.new }
         ensures remembers { RemembersAll W.meaning memory.old memory.new }
         ensures seq { seq_known_in memory.new ≡ max (seq_known_in memory.old) (seq_known_to self) }

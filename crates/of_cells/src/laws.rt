@@ -20,43 +20,45 @@ pub fn calls_are_counted<W: Work>()
     ensures { CallsAreCounted W.meaning }
 {}
 
-/// The history of a memory, and after it that of the memory that goes on from what the first has
-/// left, are one history.
+/// The history of a memory, followed by that of the memory that goes on from what the first one has
+/// left, is one serial history.
 pub fn histories_join<W: Work>(work: W)
     ensures { HistoriesJoin (W.meaning work) }
 {}
 
-/// Operations lead from lawful cells of a work to lawful cells. So the cells on which an answer was
-/// meant are lawful (`CellHandle::run`: `means`), as those are with which a memory is opened.
+/// Operations lead from lawful cells of a work to lawful cells. A memory is opened with lawful
+/// cells, so the cells on which an operation was answered are lawful too (`CellHandle::run`:
+/// `means`).
 pub fn cells_stay_lawful<W: Work>(work: W)
     ensures { CellsStayLawful (W.meaning work) (W.lawful work) (W.size work) }
 {}
 
-/// A memory has the same work and callers, and was opened with the same cells and tickets, while
-/// handles come and go.
+/// While handles come and go, a memory keeps its work and number of callers, and the cells and
+/// tickets that it was opened with.
 pub fn memories_stay<W: Work>()
     ensures { MemoriesStay W.meaning }
 {}
 
-/// A handle that comes and leaves with no call open leaves none open.
+/// If no call of a memory is open, and a handle comes and leaves with none open, then no call of
+/// the memory is open.
 pub fn none_stays_open<W: Work>()
     ensures { NoneStaysOpen W }
 {}
 
 /// If one handle tells another of its calls, these come first in the history: before each call that
-/// the other begins after it has heard of them.
+/// the other handle begins after it has heard of them.
 pub fn told_calls_come_first<W: Work>()
     ensures { ToldCallsComeFirst W.meaning }
 {}
 
-/// Calls that a program makes one after the other come in that order in the history, whatever their
+/// Calls that a program makes one after the other come in this order in the history, whatever their
 /// numbers: those of a handle that has left come before those of a handle that enrols later.
 pub fn calls_come_in_turn<W: Work>()
     ensures { CallsComeInTurn W.meaning }
 {}
 
-/// At each moment of a row of a work, its durable words hold one serial history of the calls that
-/// were answered, and a table may start from what recovery finds in them.
+/// At each moment of a row, a table may start from what recovery finds in the row's durable words,
+/// and one serial history leads there, which has the calls that were answered.
 pub fn rows_hold_history<W: Work>(work: W, limit: u32)
     ensures { RowsHoldHistory (W.lawful work) (setup_for W.many W.size W.meaning limit work) }
 {
@@ -66,9 +68,8 @@ pub fn rows_hold_history<W: Work>(work: W, limit: u32)
     stops_lose_nothing(limit, work);
 }
 
-/// A process that is killed at any moment loses no call that was answered: `SavedCells::from_words`
-/// takes the durable words of a memory as they are then, and one serial history leads to what it
-/// finds.
+/// A process that is killed at any moment loses no call that was answered. `SavedCells::from_words`
+/// takes the durable words of that moment, and one serial history leads to what it finds in them.
 pub fn words_hold_history<W: Work>(memory: &CellMemory<W>)
     requires { IsCellMemory W.meaning memory.now }
     ensures { HoldsWordsAlways W.many W.size W.meaning W.lawful memory.now }

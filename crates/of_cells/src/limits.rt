@@ -29,7 +29,7 @@ impl<W: Work> SavedCells<W> {
     ghost use Rattle.of_cells.specs.Memories.{IsLimit};
     ghost use Rattle.of_cells.specs.Sequences.{left_of_saved};
 
-    /// The last sequence that was committed in it.
+    /// The last sequence that was committed.
     pub fn seq(&self) -> u32
         requires { IsSavedCells W.many W.size W.meaning W.lawful self.now }
         ensures { result ≡ saved_seq self.now }
@@ -63,8 +63,8 @@ impl<W: Work> SavedCells<W> {
         Ok(SavedCells { limit, ..self })
     }
 
-    /// The same with sequences that begin anew, so that a memory which goes on from it has all of
-    /// them before it.
+    /// Keeps the numbers in the data cells, and sets the last committed sequence to 0. So a memory
+    /// that goes on from this has all sequences up to its limit left.
     pub fn renumbered(mut self) -> SavedCells<W>
         requires { IsSavedCells W.many W.size W.meaning W.lawful self }
         ensures saved { IsSavedCells W.many W.size W.meaning W.lawful result }

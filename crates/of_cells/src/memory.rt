@@ -20,16 +20,16 @@ use std::sync::Arc;
 pub struct CellMemory<W: Work> {
     alloc: Global,
     row: Arc<Row<W>, Global>,
-    /// The row's first pass: it has asked for each number.
+    /// The row's first pass: it has enrolled each number.
     pass: Pass,
-    /// What the handles knew that have left.
+    /// What the handles that have left knew.
     known: Option<Pass>,
     /// The last sequence that they knew, or the one with which the memory was opened.
     seq: u32,
     /// The callers that have no handle, by their numbers.
     callers: Vec<Option<Caller<W>>>,
-    /// The memory into which a close loads the durable words, so that it takes none. It is empty
-    /// before, so that none of it is touched while the memory is in use.
+    /// Room into which a close loads the durable words, so that it allocates nothing. It is empty
+    /// until then, so that its pages are not touched while the memory is in use.
     room: Vec<u64>,
 }
 
@@ -106,7 +106,7 @@ impl<W: Work> CellMemory<W> {
         Ok(memory)
     }
 
-    /// A memory that goes on from what was saved. No call that it holds is run again.
+    /// A memory that goes on from what was saved. No call that is saved is run again.
     pub fn reopen(alloc: Global, saved: &SavedCells<W>) -> Result<CellMemory<W>, AllocError>
         requires { IsSavedCells W.many W.size W.meaning W.lawful saved.now }
         ensures memory { IfOk result (IsCellMemory W.meaning) }
@@ -150,14 +150,14 @@ impl<W: Work> CellMemory<W> {
         })
     }
 
-    /// The work whose operations it runs.
+    /// The work whose operations the memory runs.
     pub fn work(&self) -> W
         ensures { result ≡ work_of self.now }
     {
         self.row.work()
     }
 
-    /// How many callers it has.
+    /// How many callers the memory has.
     pub fn callers(&self) -> u32
         ensures { result ≡ callers_of self.now }
     {
@@ -198,7 +198,7 @@ impl<W: Work> CellMemory<W> {
         ensures refused { OnErr result (TakesNone self.old self.new) }
         ensures order { IfOk result (KnowsOrdersOf W.meaning self.old) }
         ensures others_order { OthersKnowOrder W.meaning number self.old self.new }
-        // So its calls come, in the history, after all calls of handles that have left.
+        // The handle knows of all ended calls of handles that have left, so its calls come later.
         ensures heard { IfOk result (HearsMemory W.meaning self.old) }
         ensures remembers { RemembersAll W.meaning self.old self.new }
         ensures seq { IfOk result (λ h. seq_known_to h ≡ seq_known_in self.old) }
@@ -247,8 +247,8 @@ impl<W: Work> CellMemory<W> {
         put_at(&mut self.callers, number as usize, caller);
     }
 
-    /// Closes the memory: what is durable is recovered and saved, and all else is given up. While a
-    /// handle is out, the memory is handed back. It takes no memory.
+    /// Closes the memory: what is durable is recovered and saved, and all else is given up. If a
+    /// handle is out, the error hands the memory back. A close allocates nothing.
     pub fn close(self) -> Result<SavedCells<W>, InUse<W>>
         requires { IsCellMemory W.meaning self }
         ensures saved { IfOk result (IsSavedCells W.many W.size W.meaning W.lawful) }
@@ -258,7 +258,7 @@ impl<W: Work> CellMemory<W> {
         ensures work { IfOk result (λ d. saved_work d ≡ work_of self) }
         ensures callers { IfOk result (λ d. saved_callers d ≡ callers_of self) }
         ensures limit { IfOk result (λ d. saved_limit d ≡ limit_of self) }
-        // So no call that was answered is missing.
+        // No handle is out, so no call that was answered is missing.
         ensures here { IfOk result (λ d. HasNoHandleOut self) }
         ensures cause { OnErr result (HasHandleOut self) }
         ensures in_use { IfErr result (λ e. e.0 ≡ self) }

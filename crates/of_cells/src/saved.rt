@@ -103,28 +103,28 @@ impl<W: Work> SavedCells<W> {
         }
     }
 
-    /// The work whose cells these are.
+    /// The work whose cells are saved.
     pub fn work(&self) -> W
         ensures { result ≡ saved_work self.now }
     {
         self.work
     }
 
-    /// How many callers it has.
+    /// How many callers are saved.
     pub fn callers(&self) -> u32
         ensures { result ≡ saved_callers self.now }
     {
         self.shape.callers
     }
 
-    /// The last sequence that may be committed.
+    /// The limit of a memory that goes on from what is saved: the last sequence that it may commit.
     pub fn limit(&self) -> u32
         ensures { result ≡ saved_limit self.now }
     {
         self.limit
     }
 
-    /// The numbers of the data cells. The error is that there is no memory.
+    /// The numbers in the data cells. The error is that memory ran out.
     pub fn numbers(&self, alloc: Global) -> Result<Vec<u32>, AllocError>
         requires { IsSavedCells W.many W.size W.meaning W.lawful self.now }
         ensures { IfOk result (λ cells. cells.items ≡ saved_cells self.now) }
@@ -145,7 +145,7 @@ impl<W: Work> SavedCells<W> {
         payload_of(self.row[place as usize])
     }
 
-    /// The number of a data cell.
+    /// The number in a data cell.
     pub fn number(&self, cell: u32) -> u32
         requires saved { IsSavedCells W.many W.size W.meaning W.lawful self.now }
         requires cell { cell < W.size (saved_work self.now) }
@@ -154,8 +154,8 @@ impl<W: Work> SavedCells<W> {
         self.word_number(cell)
     }
 
-    /// How many calls of a caller it holds: the ticket of its last one, also if another caller
-    /// finished it.
+    /// How many calls of a caller are saved: the ticket of its last one, also if another caller
+    /// finished that call.
     pub fn ticket(&self, number: u32) -> u32
         requires saved { IsSavedCells W.many W.size W.meaning W.lawful self.now }
         requires number { number < saved_callers self.now }
@@ -181,8 +181,8 @@ impl<W: Work> SavedCells<W> {
         }
     }
 
-    /// The number of a caller's last call that it holds, and the reply to it as cells hold it, also
-    /// if the caller was stopped before it was answered. None if it holds no call of the caller.
+    /// The ticket of a caller's last saved call, and its reply as data cells hold it, also if the
+    /// caller was stopped before it had the reply. None if no call of the caller is saved.
     pub fn last_reply(&self, number: u32) -> Option<(u32, RawReply)>
         requires saved { IsSavedCells W.many W.size W.meaning W.lawful self.now }
         requires number { number < saved_callers self.now }

@@ -38,7 +38,7 @@ fn seat_one<W: Work>(
     }
 }
 
-/// Seats a caller of each number. The error is that there is no memory.
+/// Seats a caller of each number. The error is that memory ran out.
 pub(crate) fn seat_all<W: Work>(
     alloc: Global,
     row: &Row<W>,
@@ -78,7 +78,7 @@ pub(crate) fn put_at<W: Work>(callers: &mut Vec<Option<Caller<W>>>, at: usize, c
     callers[at] = Some(caller);
 }
 
-/// Whether each caller stands in its place.
+/// Whether each caller is in its place, and no handle is out.
 pub(crate) fn all_here<W: Work>(callers: &[Option<Caller<W>>]) -> bool
     ensures { IsTrue result ↔ AllHere callers.now (length callers.now) }
 {

@@ -1,5 +1,5 @@
-//! What a handle knows goes to another, for another thread, while both stay; and what a caller
-//! knows goes to its memory when it leaves, and the other way when it comes.
+//! How a handle tells another handle what it knows, while both stay; and how a caller and its
+//! memory tell each other what they know, when the caller comes or leaves.
 
 ghost use Rattle.std.specs.Prelude.{◌≡◌, ◌+◌};
 ghost use mathlib.Core.List.{IsPrefix};
@@ -11,7 +11,7 @@ use of_caller::Caller;
 use of_mem::Work;
 use of_row::{Pass, Row};
 
-/// What a handle knew when `tell` was called: which calls of its memory had ended. It goes to
+/// What a handle knew when `tell` was called: which calls of its memory had ended. News goes to
 /// another thread by value.
 #[derive(Drop)]
 pub struct CellNews {
@@ -19,7 +19,7 @@ pub struct CellNews {
 }
 
 /// A caller and its memory tell each other what they know of the calls that have ended. Then both
-/// know all of it. It takes no memory and waits for nothing.
+/// know all of it. This allocates nothing and waits for nothing.
 pub(crate) fn exchange<W: Work>(row: &Row<W>, caller: &mut Caller<W>, known: &mut Option<Pass>)
     requires caller { IsCaller W.meaning row.now caller.old }
     requires known { IsKnowledge row.now known.old }
@@ -42,8 +42,8 @@ impl<W: Work> CellHandle<W> {
     ghost use Rattle.of_cells.specs.Sequences.{KnowsSameSeq};
 
     /// What the handle knows, for another handle of its memory to hear: which of its own calls have
-    /// ended, and all that it has heard of others. It takes no memory and waits for nothing. The
-    /// handle's calls stay as they are.
+    /// ended, and all that it has heard of others. To tell allocates nothing and waits for nothing.
+    /// The handle's calls stay as they are.
     pub fn tell(&mut self) -> CellNews
         requires { IsCellHandle W.meaning self.old }
         ensures handle { IsCellHandle W.meaning self.new }
@@ -61,8 +61,9 @@ impl<W: Work> CellHandle<W> {
         }
     }
 
-    /// Takes in what another handle of its memory knew when it told. Each call that the handle
-    /// begins from now on comes, in the memory's history, after all calls that the news names.
+    /// Takes in what another handle of the memory knew when its `tell` was called. In the memory's
+    /// history, each call that this handle begins from now on comes after all calls that the news
+    /// tells of.
     pub fn hear(&mut self, news: CellNews)
         requires handle { IsCellHandle W.meaning self.old }
         requires news { IsNews (home_of self.old) news }

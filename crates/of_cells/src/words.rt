@@ -37,9 +37,9 @@ impl<W: Work> SavedCells<W> {
     ghost use Rattle.of_cells.specs.Words.{IsWordsCause};
 
     /// What recovery finds in the durable words of a table of this work, which were copied out of
-    /// it at any moment, also in the middle of calls. An open transaction is brought to its end.
-    /// `limit` is the last sequence that may be committed: 1 to `GREATEST_LIMIT`, and not below the
-    /// sequence that is found.
+    /// the table at any moment, also in the middle of calls. An open transaction is brought to its
+    /// end. `limit` is the last sequence that may be committed: 1 to `GREATEST_LIMIT`, and not
+    /// below the sequence that is found.
     pub fn from_words(
         alloc: Global,
         work: W,
@@ -71,7 +71,7 @@ impl<W: Work> SavedCells<W> {
         Ok(SavedCells::of_recovered(work, limit, row))
     }
 
-    /// Its durable words, recovered.
+    /// The durable words that are saved, recovered.
     pub fn words(&self) -> &[u64]
         ensures { result.now ≡ saved_words self.now }
     {
@@ -79,7 +79,7 @@ impl<W: Work> SavedCells<W> {
     }
 
     /// What a recovered row of durable words holds, with this limit: 1 to `GREATEST_LIMIT`. A table
-    /// may start from the row, and recovery changes nothing of it.
+    /// must be able to start from the row, and recovery must leave the row as it is.
     pub fn of_recovered(work: W, limit: u32, row: Vec<u64>) -> SavedCells<W>
         requires few { limit ≤ GREATEST_LIMIT }
         requires row { IsStartFor W.many W.size W.meaning W.lawful work limit row.items }

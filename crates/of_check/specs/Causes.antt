@@ -1,5 +1,6 @@
--- What a cause says of a text that is no legal report of a plan from a start: the first line that
--- breaks a rule, and which. Above it the text is that of the report that its claims make.
+-- What a cause says of a text that is no legal report of a plan from a start: which line is the
+-- first that breaks a rule, and which rule. Above this line the text is that of the report that its
+-- claims make.
 use Rattle.std.specs.Prelude.{◌≡◌, ◌≢◌, ℕ, ◌+◌, ◌≤◌, ◌<◌, ◌⊎◌, List, length, take, false, All, IsTrue, MatchOption, slice_index_or}
 use Rattle.std.specs.declared.vec.Vec.{Vec}
 use Rattle.std.specs.Global.{Global}
@@ -28,7 +29,7 @@ use Rattle.of_check.specs.Verdict.{IsTextOf, IsLegalFrom, IsLegalText}
 
 -- ---- an entry
 
--- the claimed call breaks this rule, and none before it
+-- the claimed call breaks this rule, and none of the rules above it in this list
 abbrev pub BreaksEntry : EntryRule → Plan → Replay → CallClaim → Type 0
 BreaksEntry NoCaller p c q = q.caller < p.callers → ⊥
 BreaksEntry NoScript p c q =
@@ -46,7 +47,7 @@ BreaksEntry Writes p c q =
     × MayFollowWithin c.last.announced q.announced c.last q × (q.announced ≡ false)
     × (All (λ i. IsTrue (reads_only i)) (script_for p c q) → ⊥)
 
--- the claim of an entry
+-- the claim of the entry with this index
 abbrev pub call_at : List CallClaim → ℕ → CallClaim
 call_at calls index = slice_index_or calls index (record {
   seq = 0;
@@ -55,7 +56,8 @@ call_at calls index = slice_index_or calls index (record {
   announced = false;
 })
 
--- the claimed calls before this one may come one after another, and this one breaks the rule
+-- the claimed calls before the one with this index may come one after another, and that one breaks
+-- the rule
 pub record BreaksAt (p : Plan) (s : Start) (calls : List CallClaim) (index : ℕ) (rule : EntryRule)
     : Type 0 where
   pub there : index < length calls
@@ -63,8 +65,8 @@ pub record BreaksAt (p : Plan) (s : Start) (calls : List CallClaim) (index : ℕ
   pub breaks : BreaksEntry rule p (course_end p (replay_at_start s) (take index calls))
       (call_at calls index)
 
--- what comes of running the claimed calls from the start: all of them have run, or those before
--- one that breaks a rule
+-- running the claimed calls from the start has ended so: all of them have run, or those before the
+-- first that breaks a rule
 pub record IsReplayEnd (p : Plan) (s : Start) (calls : List CallClaim) (e : ReplayEnd)
     : Type 0 where
   pub few : e.count ≤ length calls
@@ -74,7 +76,8 @@ pub record IsReplayEnd (p : Plan) (s : Start) (calls : List CallClaim) (e : Repl
 
 -- ---- the line of a caller
 
--- the line of a caller that had this many scripts to do breaks this rule, and none before it
+-- the line of a caller that had this many scripts to do breaks this rule, and none of the rules
+-- above it in this list
 abbrev pub BreaksEnd : EndRule → Plan → (scripts seq : ℕ) → Line → Type 0
 BreaksEnd Missing p scripts seq l = ⊥
 BreaksEnd Answered p scripts seq l = HasOpenCall l.state l.answered l.entries → ⊥
@@ -85,14 +88,14 @@ BreaksEnd Steps p scripts seq l =
     HasOpenCall l.state l.answered l.entries × HasEndState l.state l.answered scripts seq p.limit
     × (LineIsWithinBound p l → ⊥)
 
--- the caller has no line or breaks the rule
+-- the caller has no line, if the rule is `Missing`; otherwise the caller's line breaks the rule
 abbrev pub BreaksClaim : EndRule → Plan → (done : List ℕ) → (seq : ℕ) → (counts : List ℕ)
     → List EndClaim → (caller : ℕ) → Type 0
 BreaksClaim Missing p done seq counts ends caller = length ends ≤ caller
 BreaksClaim rule p done seq counts ends caller =
     BreaksEnd rule p (left_of p done caller) seq (claimed_line_at done counts ends caller)
 
--- this caller's line breaks a rule, and those before it may end as they claim
+-- the line of this caller breaks the rule, and each caller before it may end as its line claims
 pub record BreaksFirst (p : Plan) (done : List ℕ) (seq : ℕ) (counts : List ℕ) (ends : List EndClaim)
     (caller : ℕ) (rule : EndRule) : Type 0 where
   pub there : caller < p.callers
@@ -100,7 +103,8 @@ pub record BreaksFirst (p : Plan) (done : List ℕ) (seq : ℕ) (counts : List �
       → IsEnding p (left_of p done c) seq (claimed_line_at done counts ends c)
   pub breaks : BreaksClaim rule p done seq counts ends caller
 
--- all claimed calls may come one after another, and after them this caller breaks the rule
+-- all claimed calls may come one after another, and this is the first caller whose line breaks a
+-- rule
 pub record BreaksCaller (p : Plan) (s : Start) (calls : List CallClaim) (ends : List EndClaim)
     (caller : ℕ) (rule : EndRule) : Type 0 where
   pub all : AllFollow p (replay_at_start s) calls
@@ -109,7 +113,8 @@ pub record BreaksCaller (p : Plan) (s : Start) (calls : List CallClaim) (ends : 
 
 -- ---- the text that claims make
 
--- the report of claimed calls, with the lines of callers that are claimed
+-- the report that claims make: the entries of the claimed calls, the claimed lines of callers, and
+-- the sequence and the store after the calls
 abbrev pub made_report : Plan → Start → List CallClaim → List EndClaim → Report
 made_report p s calls ends = record {
   entries = entries_from p (replay_at_start s) calls;
@@ -118,21 +123,23 @@ made_report p s calls ends = record {
   store = (course_end p (replay_at_start s) calls).store;
 }
 
--- the text of that of the first claimed calls of a text
+-- the text of the report that is made of a text's first `count` claimed calls and of its claimed
+-- lines of callers
 abbrev pub made_text : Plan → Start → (count : ℕ) → (text : List ℕ) → List ℕ
 made_text p s count text =
     report_text (made_report p s (take count (call_claims_of_text text)) (end_claims_of_text text))
 
--- the lines above are the same
+-- the first `above` lines of the two texts are the same
 abbrev pub SameAbove : (one other : List ℕ) → (above : ℕ) → Type 0
 SameAbove one other above = take above (text_lines one) ≡ take above (text_lines other)
 
--- the first line at which two texts differ is the one with this many lines above it
+-- the two texts differ, first at the line with this many lines above it
 pub record DifferFirst (one other : List ℕ) (above : ℕ) : Type 0 where
   pub same : SameAbove one other above
   pub differ : SameAbove one other (above + 1) → ⊥
 
--- of two causes the one that comes first: this one, or a line above it at which the texts differ
+-- `found` is the cause that comes first: `cause`, on the line with `above` lines above it, or an
+-- earlier line at which the text differs from the wanted one
 pub data ComesFirst (text : List ℕ) (wanted : Vec ℕ Global) (above : ℕ) (cause found : Cause)
     : Type 0 where
   Same : SameAbove text wanted.items above → found ≡ cause
@@ -142,8 +149,8 @@ pub data ComesFirst (text : List ℕ) (wanted : Vec ℕ Global) (above : ℕ) (c
 
 -- ---- causes
 
--- the line is another than in the text of the report that the claims make: of all claims, or of the
--- entries before one that breaks a rule, which comes below the line
+-- the text differs at this line from that of the report that its claims make; if a claimed call
+-- breaks a rule, the report is made of the calls before it, and the line comes before that call's
 pub record DiffersAt (p : Plan) (s : Start) (text wanted : List ℕ) (above : ℕ) : Type 0 where
   pub count : ℕ
   pub follow : AllFollow p (replay_at_start s) (take count (call_claims_of_text text))
@@ -153,7 +160,7 @@ pub record DiffersAt (p : Plan) (s : Start) (text wanted : List ℕ) (above : �
       ⊎ ((above ≤ count)
       × (AllFollow p (replay_at_start s) (call_claims_of_text text) → ⊥))
 
--- why the text is no legal report of the plan from the start: its first line that is wrong
+-- why the text is no legal report of the plan from the start: the first line that is wrong
 abbrev pub IsCauseFrom : Plan → Start → (text : List ℕ) → Cause → Type 0
 IsCauseFrom p s text (Entry index rule) =
     BreaksAt p s (call_claims_of_text text) index rule
@@ -164,13 +171,14 @@ IsCauseFrom p s text (Caller entries caller rule) =
     × SameAbove text (made_text p s entries text) (entries + 1 + caller)
 IsCauseFrom p s text (LineCause above wanted) = DiffersAt p s text wanted.items above
 
--- the text is that of the report, which is legal for the plan from the start; or this is why not
+-- the judgement is true: the text is that of this report, which is legal for the plan from the
+-- start; or it is that of no legal report, for this cause
 abbrev pub IsJudgement : Plan → Start → (text : List ℕ) → Judgement → Type 0
 IsJudgement p s text (Legal report) = IsTextOf p s text (report_value report)
 IsJudgement p s text (Illegal cause) =
     IsCauseFrom p s text cause × (IsLegalFrom p s text → ⊥)
 
--- the same from the empty start
+-- the judgement is true of the text as a report of the plan from the empty start
 abbrev pub IsReportJudgement : Plan → (text : List ℕ) → Judgement → Type 0
 IsReportJudgement p text (Legal report) = IsLegalText p text
 IsReportJudgement p text (Illegal cause) =

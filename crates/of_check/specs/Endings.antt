@@ -8,7 +8,7 @@ use Rattle.of_report.specs.declared.report.EndState.TheVariants.{Done}
 use Rattle.of_report.specs.Lines.{end_state_value}
 use Rattle.of_check.specs.declared.claims.EndClaim.{EndClaim}
 
--- the line of a caller with this many entries
+-- the line of a caller with this claim and this many entries
 abbrev pub claimed_line : ℕ → EndClaim → Line
 claimed_line entries e = record {
   state = end_state_value e.state;
@@ -17,34 +17,35 @@ claimed_line entries e = record {
   longest = e.longest;
 }
 
--- how many scripts a caller has to do, if those in `done` were done before
+-- how many scripts a caller has to do, if `done` says how many of each caller were done before
 abbrev pub left_of : Plan → (done : List ℕ) → ℕ → ℕ
 left_of p done c = length (scripts_of p c) - slice_index done c
 
--- a caller that had this many scripts to do may end so, at the last sequence
+-- the line is possible for a caller that had this many scripts to do, if the last sequence is `seq`
 pub record IsEnding (p : Plan) (scripts seq : ℕ) (l : Line) : Type 0 where
   pub open_call : HasOpenCall l.state l.answered l.entries
   pub ended : HasEndState l.state l.answered scripts seq p.limit
   pub within : LineIsWithinBound p l
 
--- the claim of a caller
+-- the claim of a caller; without one it is done, with nothing answered
 abbrev pub end_at : List EndClaim → ℕ → EndClaim
 end_at ends c = slice_index_or ends c (record { state = Done; answered = 0; longest = 0 })
 
--- the line of a caller that had done as many scripts at the start as `done` says, and has done as
--- many now as `counts` says
+-- the line of a caller, by its claim: `done` says how many scripts of each caller were done at the
+-- start, `counts` how many are done now, and the entries are those in between
 abbrev pub claimed_line_at : (done counts : List ℕ) → List EndClaim → ℕ → Line
 claimed_line_at done counts ends c =
     claimed_line (slice_index counts c - slice_index done c) (end_at ends c)
 
--- there is a claim for each caller, and each may end so; the lines after them are no caller's
+-- each caller has a claim, and may end as it claims; further claims are not looked at
 pub record AreEndings (p : Plan) (done : List ℕ) (seq : ℕ) (counts : List ℕ) (ends : List EndClaim)
     : Type 0 where
   pub each_caller : p.callers ≤ length ends
   pub each : (c : ℕ) → c < p.callers
       → IsEnding p (left_of p done c) seq (claimed_line_at done counts ends c)
 
--- the lines of all callers; one that claims nothing is done with nothing answered
+-- the lines of all callers, as they are claimed; a caller without a claim is done, with nothing
+-- answered
 abbrev pub claimed_lines : Plan → (done counts : List ℕ) → List EndClaim → List Line
 claimed_lines p done counts ends =
     map (claimed_line_at done counts ends) (range_with_len 0 p.callers)

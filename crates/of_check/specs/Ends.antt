@@ -16,29 +16,30 @@ use Rattle.of_check.specs.declared.ends.LeftRule.TheVariants.{Callers, Blocks, S
 
 -- ---- the last call that a caller announced
 
--- the last announced of these entries, or else the one before them
+-- the last announced one of these entries, or `before` if none is announced
 abbrev pub last_announced : (before : Option Entry) → List Entry → Option Entry
 last_announced before [] = before
 last_announced before (e ∷ es) = last_announced (if e.announced then Some e else before) es
 
--- the last one of a caller in a report
+-- the last announced entry of a caller in a report, if there is one
 abbrev pub last_call : Report → (caller : ℕ) → Option Entry
 last_call r c = last_announced None (entries_of r c)
 
--- the entry that the code has, if it has one
+-- the code's entry as contracts see it, if there is one
 abbrev pub entry_in : Option TheEntry → Option Entry
 entry_in None = None
 entry_in (Some e) = Some (entry_value e)
 
--- the ticket after this last call, if `before` calls were made before. A read that wasn't announced
--- leaves no ticket
+-- a caller's ticket after its last announced call; if it has announced none, the ticket is still
+-- `before`
 abbrev pub ticket_after : (before : ℕ) → Option Entry → ℕ
 ticket_after before None = before
 ticket_after before (Some e) = e.index + 1
 
 -- ---- what an image has of it
 
--- the ticket of a caller in the image is that of its last announced entry
+-- the ticket of a caller in the image is that of its last announced entry; if it has none, that of
+-- the start
 abbrev pub HasTicket : Start → Report → Image → (caller : ℕ) → Type 0
 HasTicket s r i c = image_ticket i c ≡ ticket_after (finished_of s c) (last_call r c)
 
@@ -52,7 +53,7 @@ pub record CellsHoldReply (i : Image) (c : ℕ) (response : Reply) : Type 0 wher
 abbrev pub HasReply : Report → Image → (caller : ℕ) → Type 0
 HasReply r i c = IfSome (last_call r c) (λ e. CellsHoldReply i c e.reply)
 
--- a caller's own cells are those of its last announced entry
+-- a caller's ticket and reply in the image are those of its last announced entry
 pub record HoldsLastCall (s : Start) (r : Report) (i : Image) (c : ℕ) : Type 0 where
   pub ticket : HasTicket s r i c
   pub reply : HasReply r i c
@@ -74,21 +75,23 @@ pub record HasSizes (p : Plan) (r : Report) (i : Image) : Type 0 where
   pub blocks : i.row.blocks ≡ p.blocks
   pub seq : i.seq ≡ r.seq
 
--- of this caller the cells are wrong so, and of none before it
+-- `Wrong` holds for this caller, and each caller before it has the right ticket and reply in the
+-- image
 pub record BreaksCall (p : Plan) (s : Start) (r : Report) (i : Image) (caller : ℕ)
     (Wrong : Type 0) : Type 0 where
   pub there : caller < p.callers
   pub before : (c : ℕ) → c < caller → HoldsLastCall s r i c
   pub breaks : Wrong
 
--- the cells of a caller break this rule, and those of none before it
+-- the ticket or the reply of this caller is wrong in the image, and each caller before it has the
+-- right ones
 abbrev pub BreaksCalls : Plan → Start → Report → Image → LeftRule → Type 0
 BreaksCalls p s r i (Ticket c) = BreaksCall p s r i c (HasTicket s r i c → ⊥)
 BreaksCalls p s r i (ReplyRule c) =
     BreaksCall p s r i c (HasTicket s r i c × (HasReply r i c → ⊥))
 BreaksCalls p s r i rule = ⊥
 
--- the image breaks this rule, and none of those that are asked before it
+-- the image breaks this rule, and none of the rules above it in this list
 abbrev pub BreaksLeft : Plan → Start → Report → Image → LeftRule → Type 0
 BreaksLeft p s r i Callers = i.row.callers ≢ p.callers
 BreaksLeft p s r i Blocks = (i.row.callers ≡ p.callers) × (i.row.blocks ≢ p.blocks)

@@ -1,54 +1,54 @@
--- What a line of a text is, beside the line of a report that has to be there instead. It is another
--- line; what is said of it is true of these two.
+-- What is wrong with a line that was found in a text where a report must have another, the wanted
+-- one.
 use Rattle.std.specs.Prelude.{◌≡◌, ◌≢◌, ℕ, ◌≤◌, ◌<◌, ◌⊎◌, List, [], length, take, ◌==◌, codes, slice_index_or}
 use Rattle.std.specs.List.{slice_split}
 use Rattle.of_check.specs.declared.line_rule.LineRule.{LineRule}
 use Rattle.of_check.specs.declared.line_rule.LineRule.TheVariants.{AfterEnd, Store, Reply, Caller, Entries, Sequence, TooMany, Spelling}
 
--- a line is cut at each space; the piece after the last one is a piece too
+-- the pieces of a line, which is cut at each space; the bytes after the last space are a piece too
 abbrev pub line_pieces : List ℕ → List (List ℕ)
 line_pieces line = slice_split (λ b. b == 32) line
 
--- the piece with this many before it, and nothing if there is none
+-- the piece of a line with this many pieces before it; empty if there is none
 abbrev pub piece_at : List ℕ → (before : ℕ) → List ℕ
 piece_at line before = slice_index_or (line_pieces line) before []
 
--- there is such a piece, and it is this one
+-- the line has a piece with this many pieces before it, and it is `piece`
 pub record IsPiece (line : List ℕ) (before : ℕ) (piece : List ℕ) : Type 0 where
   pub there : before < length (line_pieces line)
   pub is : piece ≡ piece_at line before
 
--- both lines have this many pieces, and these are the same
+-- both lines have at least this many pieces, and the first `count` are the same
 pub record SharePieces (count : ℕ) (one other : List ℕ) : Type 0 where
   pub first : count ≤ length (line_pieces one)
   pub second : count ≤ length (line_pieces other)
   pub same : take count (line_pieces one) ≡ take count (line_pieces other)
 
--- both lines have this many pieces before this one, and it is a word that the other doesn't have
--- there
+-- both lines have a piece with this many before it; the found line's isn't empty, and is not the
+-- wanted line's
 pub record HasOtherPiece (found wanted : List ℕ) (before : ℕ) : Type 0 where
   pub there : before < length (line_pieces found)
   pub wants : before < length (line_pieces wanted)
   pub word : piece_at found before ≢ []
   pub other : piece_at found before ≢ piece_at wanted before
 
--- lines of a store begin with these words
+-- the word is the first of a line of a store
 abbrev pub IsStoreName : List ℕ → Type 0
 IsStoreName name = (name ≡ codes "register") ⊎ (name ≡ codes "key") ⊎ (name ≡ codes "queue")
 
--- the wanted line begins with this word, and the lines share the pieces before this one, which is
--- another
+-- the wanted line begins with this word; the lines share the first `before` pieces, and differ in
+-- the next one
 pub record IsOtherIn (kind : List ℕ) (before : ℕ) (found wanted : List ℕ) : Type 0 where
   pub name : piece_at wanted 0 ≡ kind
   pub same : SharePieces before found wanted
   pub other : HasOtherPiece found wanted before
 
--- the line has more pieces than its name
+-- the line has another piece after its name
 abbrev pub HasMorePieces : List ℕ → Type 0
 HasMorePieces line = 1 < length (line_pieces line)
 
--- What each reason but the coarse one says of a line. An entry is the wanted one up to its reply,
--- which is its sixth piece and those after it.
+-- What a reason other than `Spelling` says of a line that was found in place of the wanted one. The
+-- reply of an entry is its sixth piece and those after it.
 abbrev pub SaysOfLine : LineRule → (found wanted : List ℕ) → Type 0
 SaysOfLine AfterEnd found wanted = wanted ≡ []
 SaysOfLine Store found wanted =
@@ -62,7 +62,7 @@ SaysOfLine TooMany found wanted =
     (piece_at wanted 0 ≡ codes "seq") × (piece_at found 0 ≡ codes "caller") × HasMorePieces found
 SaysOfLine Spelling found wanted = ⊥
 
--- the reason is true of the line; the coarse one is given only if no other is true
+-- the reason is true of the line; `Spelling` is true if no other reason is
 abbrev pub IsTrueOfLine : LineRule → (found wanted : List ℕ) → Type 0
 IsTrueOfLine Spelling found wanted = (r : LineRule) → SaysOfLine r found wanted → ⊥
 IsTrueOfLine r found wanted = SaysOfLine r found wanted

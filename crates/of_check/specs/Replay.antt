@@ -17,7 +17,8 @@ pub record Replay : Type 0 where
   pub last : CallClaim
   pub store : Store
 
--- at a start: what was done before has run, and only a read may come at the start's sequence
+-- the replay at a start: the calls that were done before have run, and only a read may come next at
+-- the start's sequence
 abbrev pub replay_at_start : Start → Replay
 replay_at_start s = record {
   counts = s.finished;
@@ -25,15 +26,15 @@ replay_at_start s = record {
   store = s.store;
 }
 
--- how many calls of a claim's caller have run: the index of the claimed call
+-- the index of a claimed call: how many calls of its caller have run
 abbrev pub index_for : Replay → CallClaim → ℕ
 index_for c q = slice_index c.counts q.caller
 
--- the next script of its caller
+-- the script of a claimed call: the next one of its caller
 abbrev pub script_for : Plan → Replay → CallClaim → List Instr
 script_for p c q = slice_index_or (scripts_of p q.caller) (index_for c q) []
 
--- the entry of a claimed call: the next script of its caller, with its reply
+-- the entry of a claimed call: its claim, with the reply of the next script of its caller
 abbrev pub entry_for : Plan → Replay → CallClaim → Entry
 entry_for p c q = record {
   seq = q.seq;
@@ -43,7 +44,7 @@ entry_for p c q = record {
   reply = (run c.store (script_for p c q)).1;
 }
 
--- once it has run
+-- the replay after a claimed call has run
 abbrev pub after_claimed_call : Plan → Replay → CallClaim → Replay
 after_claimed_call p c q = record {
   counts = slice_set c.counts q.caller (index_for c q + 1);
@@ -51,12 +52,12 @@ after_claimed_call p c q = record {
   store = (run c.store (script_for p c q)).0;
 }
 
--- the entries of claimed calls
+-- the entries of claimed calls that run one after another
 abbrev pub entries_from : Plan → Replay → List CallClaim → List Entry
 entries_from p c [] = []
 entries_from p c (q ∷ qs) = entry_for p c q ∷ entries_from p (after_claimed_call p c q) qs
 
--- what is left of the store and the callers once the claims have run
+-- the replay after these claimed calls have run
 abbrev pub course_end : Plan → Replay → List CallClaim → Replay
 course_end p c [] = c
 course_end p c (q ∷ qs) = course_end p (after_claimed_call p c q) qs
@@ -71,8 +72,8 @@ MayFollowWithin true false last q = q.seq ≡ last.seq
 MayFollowWithin false true last q = q.seq ≡ last.seq + 1
 MayFollowWithin false false last q = (q.seq ≡ last.seq) × (last.caller ≤ q.caller)
 
--- the claimed call may come next: its caller has a script more, the call is of that script and at a
--- place where it may be, and the script of a read only reads
+-- the claimed call may come next: its caller has a script left, the call has the index of that
+-- script and a sequence that may come next, and the script of a read only reads
 pub record MayFollow (p : Plan) (c : Replay) (q : CallClaim) : Type 0 where
   pub caller : q.caller < p.callers
   pub script : index_for c q < length (scripts_of p q.caller)
@@ -80,35 +81,35 @@ pub record MayFollow (p : Plan) (c : Replay) (q : CallClaim) : Type 0 where
   pub place : MayFollowWithin c.last.announced q.announced c.last q
   pub reads : q.announced ≡ false → All (λ i. IsTrue (reads_only i)) (script_for p c q)
 
--- each of them may come next
+-- each of these claimed calls may come after the ones before it
 abbrev pub AllFollow : Plan → Replay → List CallClaim → Type 0
 AllFollow p c [] = Unit {0}
 AllFollow p c (q ∷ qs) = MayFollow p c q × AllFollow p (after_claimed_call p c q) qs
 
 -- ---- the code's replay
 
--- how far it has come
+-- the code's replay as contracts see it
 abbrev pub replay_value : RustReplay → Replay
 replay_value r = record { counts = r.counts.items; last = r.last; store = r.store }
 
--- the entries of the calls that have run
+-- the entries of the calls that the code's replay has run
 abbrev pub entries_so_far : RustReplay → List Entry
 entries_so_far r = map entry_value r.entries.items
 
--- one call more has run, and it was one that may come next
+-- one more call has run, which was one that might come next
 pub record HasRunCall (p : Plan) (before now : RustReplay) (q : CallClaim) : Type 0 where
   pub follows : MayFollow p (replay_value before) q
   pub course : replay_value now ≡ after_claimed_call p (replay_value before) q
   pub entries : entries_so_far now
       ≡ entries_so_far before ++ entry_for p (replay_value before) q ∷ []
 
--- all have run, from a start
+-- all these calls have run from the start, and each was one that might come next
 pub record HasRunCalls (p : Plan) (s : Start) (qs : List CallClaim) (r : RustReplay) : Type 0 where
   pub follow : AllFollow p (replay_at_start s) qs
   pub course : replay_value r ≡ course_end p (replay_at_start s) qs
   pub entries : entries_so_far r ≡ entries_from p (replay_at_start s) qs
 
--- the report of these, with the lines of callers that are claimed
+-- the report of the calls that have run, with the claimed lines of callers
 abbrev pub report_so_far : Plan → (done : List ℕ) → RustReplay → List EndClaim → Report
 report_so_far p done r ends = record {
   entries = entries_so_far r;

@@ -4,10 +4,11 @@ use Rattle.of_store.specs.Store.{Store}
 use Rattle.of_plan.specs.Report.{Start}
 use Rattle.of_check.specs.declared.start.Start.{Start as TheStart}
 
--- the start at this sequence and this store, at which each caller has done these many scripts
+-- the start with this sequence and this store, at which each caller has done as many scripts as
+-- `done` says
 abbrev pub start_where_done : (seq : ℕ) (done : List ℕ) (store : Store) → Start
 start_where_done seq done store = record { store = store; seq = seq; finished = done }
 
--- the start that the code has
+-- the code's start as contracts see it
 abbrev pub start_of : TheStart → Start
 start_of s = start_where_done s.seq s.finished.items s.store

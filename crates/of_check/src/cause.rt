@@ -2,63 +2,64 @@
 
 use of_report::Report;
 
-/// What is wrong with an entry; the entries before it may stand there.
+/// Which rule an entry breaks. The entries before it break none.
 #[derive(Clone, Copy, Debug, PartialEq, Eq)]
 pub enum EntryRule {
-    /// The plan has no such caller.
+    /// The plan has no caller of the entry's number.
     NoCaller,
-    /// The caller has no script left.
+    /// The caller has no script left for this entry.
     NoScript,
-    /// Its index is not that of its caller's next script.
+    /// The entry's index is not that of its caller's next script.
     Turn,
-    /// Its sequence or its caller may not come after the entry before.
+    /// An entry with this sequence and this caller may not come after the entry before it.
     Place,
-    /// It is a `read`, and its script writes.
+    /// The entry is a `read`, but its script writes.
     Writes,
 }
 
-/// What is wrong with the line of a caller; the entries and the lines of callers before it are
-/// right.
+/// Which rule the line of a caller breaks. The entries, and the lines of callers before it, break
+/// none.
 #[derive(Clone, Copy, Debug, PartialEq, Eq)]
 pub enum EndRule {
-    /// The line that comes here can't be read as one of a caller.
+    /// The line at this place can't be read as the line of a caller.
     Missing,
-    /// It has more entries than answered calls, or fewer, and no open call explains it.
+    /// The caller has more entries than answered calls, or fewer, and no open call explains it.
     Answered,
-    /// It may not end so: done with scripts left, or stopped or spent with none, or spent below the
-    /// limit.
+    /// The caller cannot end like this: done with scripts left, stopped or spent with none left, or
+    /// spent below the limit.
     Ending,
-    /// Its longest call has more steps than a call can have, or none was answered.
+    /// The longest call has more steps than a call can have, or it has some though no call was
+    /// answered.
     Steps,
 }
 
 /// Why a text is no legal report of a plan: its first line that is wrong.
 #[derive(Debug, Drop)]
 pub enum Cause {
-    /// The entry with this index, from 0. It is on the line with one line more above it.
+    /// The entry with this index, from 0, breaks a rule. Its line has `index + 1` lines above it.
     Entry {
         index: usize,
         rule: EntryRule,
     },
-    /// The line of this caller, after its entries.
+    /// The line of this caller breaks a rule. The text has this many entries.
     Caller {
         entries: usize,
         caller: u32,
         rule: EndRule,
     },
-    /// The line with this many lines above it differs from that of this text, which is the text of
-    /// the report that the entries and the lines of callers claim.
+    /// The line with `above` lines above it is not the one in `wanted`: the text of the report that
+    /// the entries and the lines of callers claim.
     Line {
         above: u64,
         wanted: Vec<u8>,
     },
 }
 
-/// What a text is judged to be.
+/// The judgement on a text.
 #[derive(Drop)]
 pub enum Judgement {
-    /// The text of this report, which is legal for the plan.
+    /// The text is that of this report, which is legal for the plan.
     Legal(Report),
-    /// No such text, and this is why.
+    /// The text is that of no legal report, and this is why.
     Illegal(Cause),
 }

@@ -140,7 +140,7 @@ fn read_calls(
     Ok((calls, rest))
 }
 
-// Reads the lines of callers in front of these lines. The error is out of memory.
+// Reads the lines of callers in front of these lines. An error means out of memory.
 fn read_ends(alloc: Global, lines: Option<&[u8]>) -> Result<Vec<EndClaim>, AllocError>
     ensures { IfOk result (λ ends.
         ends.items ≡ read_lines claimed.end_of_line (lines_of lines.entry)) }
@@ -161,7 +161,7 @@ fn read_ends(alloc: Global, lines: Option<&[u8]>) -> Result<Vec<EndClaim>, Alloc
 impl Claims {
     ghost use Rattle.of_check.specs.Claims.{call_claims_of_text, end_claims_of_text};
 
-    /// What a text claims. The error is out of memory.
+    /// What a text claims. An error means out of memory.
     pub(crate) fn read(alloc: Global, text: &[u8]) -> Result<Claims, AllocError>
         ensures calls { IfOk result (λ claims. claims.calls.items ≡ call_claims_of_text text.now) }
         ensures ends { IfOk result (λ claims. claims.ends.items ≡ end_claims_of_text text.now) }

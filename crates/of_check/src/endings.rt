@@ -44,7 +44,7 @@ fn end_at(ends: &[EndClaim], caller: u32) -> EndClaim
 }
 
 // The lines of callers as they are claimed, from what each caller had done at the start and has
-// done now. The error is out of memory.
+// done now. An error means out of memory.
 pub(crate) fn lines(
     alloc: Global,
     plan: &Plan,

@@ -17,22 +17,23 @@ use of_script::{QUEUES, Reply};
 use of_store::Store;
 use std::collections::BTreeMap;
 
-/// What is wrong with an image that is not where a report ends; what is asked before it is right.
-/// The callers' own cells are asked caller by caller.
+/// What is wrong with an image that should be where a report ends. The rules are tried in this
+/// order, and the first that the image breaks counts; tickets and replies are tried caller by
+/// caller.
 #[derive(Clone, Copy, Debug, PartialEq, Eq)]
 pub enum LeftRule {
-    /// It has another number of callers than the plan.
+    /// The image has another number of callers than the plan.
     Callers,
-    /// It has another number of blocks than the plan.
+    /// The image has another number of blocks than the plan.
     Blocks,
-    /// Its sequence is not the report's.
+    /// The image's sequence is not the report's.
     Sequence,
-    /// The ticket of this caller is not that of its last announced entry, or of the start if it has
-    /// none.
+    /// The ticket of this caller in the image is not that of its last announced entry; or, if it
+    /// has none, not that of the start.
     Ticket { caller: u32 },
     /// The reply in this caller's own cells is not that of its last announced entry.
     Reply { caller: u32 },
-    /// Its store is not the report's.
+    /// The image's store is not the report's.
     Store,
 }
 
@@ -135,8 +136,8 @@ fn same_store(one: &Store, other: &Store) -> bool
     true
 }
 
-// What is wrong with the own cells of the first caller of which they aren't those of its last
-// announced entry; None if all are.
+// The first caller whose own cells don't hold the ticket and the reply of its last announced entry,
+// and which of the two is wrong; None if there is no such caller.
 fn wrong_call(plan: &Plan, done: &[u32], report: &Report, image: &Image) -> Option<LeftRule>
     requires done { length done.now ≡ plan.now.callers }
     requires image { IsImage MOST_INSTRS image.now }
@@ -158,8 +159,8 @@ fn wrong_call(plan: &Plan, done: &[u32], report: &Report, image: &Image) -> Opti
     None
 }
 
-/// What is wrong with an image as the end of a report, from a start at which `done` says how many
-/// scripts of each caller are done; nothing exactly if the image is the report's end.
+/// The first rule that an image breaks as the end of a report. None means that the report ends with
+/// this image. `done` says how many scripts of each caller were done at the report's start.
 pub fn why_left(plan: &Plan, done: &[u32], report: &Report, image: &Image) -> Option<LeftRule>
     requires done { length done.now ≡ plan.now.callers }
     requires image { IsImage MOST_INSTRS image.now }

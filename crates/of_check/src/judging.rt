@@ -22,11 +22,11 @@ use std::alloc::{AllocError, Global};
 // What comes of claimed calls that are run one after another.
 #[derive(Drop)]
 struct ReplayEnd {
-    // What those that have run have left.
+    // What the calls that have run have left.
     replay: Replay,
-    // How many these are.
+    // How many calls have run.
     count: usize,
-    // The rule that the next one breaks; None if all have run.
+    // The rule that the next call breaks; None if all have run.
     broken: Option<EntryRule>,
 }
 
@@ -84,7 +84,7 @@ fn replayed(
     })
 }
 
-// Whether the entries are those of answered calls and an open one.
+// Whether the caller has an entry for each answered call, and at most one more for an open call.
 fn has_open_call(entries: u32, end: EndClaim) -> bool
     ensures { IsTrue result ↔ HasOpenCall (end_state_value end.state) end.answered entries }
 {
@@ -180,8 +180,8 @@ fn first_difference(one: &[u8], other: &[u8]) -> Option<u64>
     }
 }
 
-// The one that comes first: the cause, on the line with this many lines above it, or the first line
-// at which the text differs from that of the report that it claims.
+// The cause that comes first in the text: `cause`, on the line with this many lines above it, or an
+// earlier line at which the text differs from that of the report that it claims.
 fn first_of(text: &[u8], wanted: Vec<u8>, above: u64, cause: Cause) -> Cause
     ensures { ComesFirst text.now wanted above cause result }
 {
@@ -204,12 +204,12 @@ fn has_32_bits(seq: u32)
     ensures { seq ≤ greatest_seq }
 {}
 
-/// The report that is legal for the plan from a start and has this text; or the first line of the
-/// text that is wrong, and then there is no such report. The error is out of memory.
+/// Judges a text as a report of a plan from a start: the report, if one that is legal has this text;
+/// otherwise the first line of the text that is wrong. An error means out of memory.
 ///
-/// Given the plan and the start, a legal report is determined by little of its text. These claims
-/// are read, the one report that they can be is made by running its calls, and the text must be
-/// that report's.
+/// The text's entries and lines of callers claim which calls ran, and how callers ended. Running
+/// these calls makes the only report that can be legal, and the text must be the text of that
+/// report.
 pub fn judge_from(
     alloc: Global,
     plan: &Plan,
@@ -251,8 +251,8 @@ pub fn judge_from(
     }
 }
 
-/// The report that is legal for the plan from the empty start and has this text; or the first line
-/// of the text that is wrong, and then there is no such report. The error is out of memory.
+/// Judges a text as a report of a plan from the empty start: the report, if one that is legal has
+/// this text; otherwise the first line of the text that is wrong. An error means out of memory.
 pub fn judge(alloc: Global, plan: &Plan, text: &[u8]) -> Result<Judgement, AllocError>
     ensures { IfOk result (IsReportJudgement plan.now text.now) }
 {

@@ -1,33 +1,33 @@
-//! What is wrong with a line of a report that is another than the one that has to be there.
+//! What is wrong with a line of a text where a report must have another, the wanted one.
 
 ghost use Rattle.std.specs.Prelude.{◌≡◌, ◌≤◌, ◌↔◌, ℕ, length, IsTrue, MatchOption};
 ghost use Rattle.of_check.specs.LineRules.{line_pieces, piece_at, IsPiece, SharePieces, HasOtherPiece, IsStoreName, IsOtherIn, HasMorePieces, SaysOfLine, IsTrueOfLine};
 
 use of_script::text::cut;
 
-/// What is wrong with a line that is another than is wanted.
+/// What is wrong with a line that is not the wanted one.
 #[derive(Clone, Copy, Debug, PartialEq, Eq)]
 pub(crate) enum LineRule {
     /// The text has ended.
     AfterEnd,
-    /// It is of a store, or the wanted one is: the store is another.
+    /// The line or the wanted one is of a store, which is another.
     Store,
-    /// It is the wanted entry, with another reply.
+    /// The line is the wanted entry, but has another reply.
     Reply,
-    /// It is of another caller.
+    /// The line is of another caller.
     Caller,
-    /// It has another number of entries.
+    /// The line has another number of entries.
     Entries,
-    /// It has another sequence.
+    /// The line has another sequence.
     Sequence,
-    /// It is of one caller more than there are.
+    /// The line is of one caller more than there are.
     TooMany,
-    /// It isn't spelled as a report prints it.
+    /// The line isn't spelled as a report prints it.
     Spelling,
 }
 
 impl LineRule {
-    /// What is said of it.
+    /// What is printed of the reason.
     pub(crate) fn text(self) -> &'static str {
         match self {
             LineRule::AfterEnd => "nothing comes after the line `end`",
@@ -115,8 +115,8 @@ fn has_name(line: &[u8], word: &[u8]) -> bool
     name(line) == word
 }
 
-// Whether this piece of a line is another than that of the wanted one. A line that ends before it
-// has none, and so has one with two spaces there.
+// Whether both lines have a piece with this many before it, and the found one is not empty and not
+// the wanted one. A line that ends before has no such piece, and so has one with two spaces there.
 fn has_other(found: &[u8], wanted: &[u8], before: usize) -> bool
     ensures { IsTrue result ↔ HasOtherPiece found.now wanted.now before }
 {
@@ -129,8 +129,8 @@ fn has_other(found: &[u8], wanted: &[u8], before: usize) -> bool
     }
 }
 
-// Whether the wanted line begins with this word, and the lines have the same pieces before this
-// one, which is another.
+// Whether the wanted line begins with this word, and the lines share the first `before` pieces and
+// differ in the next one.
 fn is_other_in(kind: &[u8], before: usize, found: &[u8], wanted: &[u8]) -> bool
     ensures { IsTrue result ↔ IsOtherIn kind.now before found.now wanted.now }
 {
@@ -193,7 +193,7 @@ impl LineRule {
     }
 }
 
-/// What is wrong with a line that is another than the wanted one.
+/// What is wrong with a line that is not the wanted one.
 pub(crate) fn line_rule(found: &[u8], wanted: &[u8]) -> LineRule
     ensures { IsTrueOfLine result found.now wanted.now }
 {

@@ -220,7 +220,8 @@ fn missing_reason(report: &[u8], above: u64, caller: u32) -> &'static str {
 }
 
 impl Cause {
-    /// What is said of it, where this is the text of the report. The error is out of memory.
+    /// What is printed of the cause; `report` is the text that was judged. An error means out of
+    /// memory.
     pub fn print(&self, alloc: Global, report: &[u8]) -> Result<Vec<u8>, AllocError> {
         match self {
             Cause::Entry { index, rule } => {

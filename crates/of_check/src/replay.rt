@@ -14,8 +14,8 @@ use of_report::{Entry, Report};
 use of_store::Store;
 use std::alloc::{AllocError, Global};
 
-/// The calls that have run, how many of each caller, the claim of the last, and the store that it
-/// left.
+/// The entries of the calls that have run, how many calls of each caller, the claim of the last
+/// call, and the store that it left.
 #[derive(Drop)]
 pub(crate) struct Replay {
     pub entries: Vec<Entry>,
@@ -69,7 +69,7 @@ impl Replay {
         }
     }
 
-    // Runs a claimed call that may come next. The error is out of memory.
+    // Runs a claimed call that may come next. An error means out of memory.
     pub(crate) fn run_call(&mut self, plan: &Plan, call: CallClaim) -> Result<(), AllocError>
         requires counts { length self.old.counts.items ≡ plan.now.callers }
         requires follows { MayFollow plan.now (replay_value self.old) call }
@@ -91,7 +91,7 @@ impl Replay {
     }
 
     // The report of what has run, with the lines of callers that are claimed. `done` says how many
-    // scripts of each were done at the start. The error is out of memory.
+    // scripts of each were done at the start. An error means out of memory.
     pub(crate) fn report(
         self,
         alloc: Global,

@@ -12,18 +12,18 @@ use of_report::Image;
 use of_store::Store;
 use std::alloc::{AllocError, Global};
 
-/// Where a report begins: what was there before its first entry.
+/// Where a report begins: what there was before its first entry.
 #[derive(Drop)]
 pub struct Start {
-    /// The sequence.
+    /// The sequence before the first entry.
     pub seq: u32,
-    /// For each caller how many of its scripts are done.
+    /// How many scripts of each caller were done before.
     pub finished: Vec<u32>,
-    /// The store.
+    /// The store before the first entry.
     pub store: Store,
 }
 
-/// The tickets of an image, caller by caller. The error is out of memory.
+/// The ticket of each caller in an image, from caller 0 on. An error means out of memory.
 pub fn tickets(alloc: Global, image: &Image) -> Result<Vec<u32>, AllocError>
     requires { IsImage MOST_INSTRS image.now }
     ensures { IfOk result (λ tickets. tickets.items
@@ -33,8 +33,8 @@ pub fn tickets(alloc: Global, image: &Image) -> Result<Vec<u32>, AllocError>
 }
 
 impl Start {
-    /// Where a plan with this many callers and blocks begins: nothing is stored, and nothing is
-    /// done. The error is out of memory.
+    /// The empty start of a plan with this many callers and blocks: the sequence is 0, nothing is
+    /// stored, and no script is done. An error means out of memory.
     pub fn empty(alloc: Global, callers: u32, blocks: u32) -> Result<Start, AllocError>
         requires { blocks ≤ MOST_BLOCKS }
         ensures { IfOk result (λ start. start_of start
@@ -47,7 +47,8 @@ impl Start {
         })
     }
 
-    /// Where an image left: its sequence, its tickets and its store. The error is out of memory.
+    /// The start after an image: the image's sequence and store; a caller's ticket says how many of
+    /// its scripts are done. An error means out of memory.
     pub fn behind(alloc: Global, image: Image) -> Result<Start, AllocError>
         requires { IsImage MOST_INSTRS image }
         ensures { IfOk result (λ start. start_of start ≡ image_start image) }

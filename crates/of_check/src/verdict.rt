@@ -11,14 +11,14 @@ use std::alloc::{AllocError, Global};
 /// Whether a text is a legal report.
 #[derive(Clone, Copy, Debug, PartialEq, Eq)]
 pub enum Verdict {
-    /// It is the text of a report that is legal for the plan.
+    /// The text is that of a report that is legal for the plan.
     Legal,
-    /// It is no such text.
+    /// The text is that of no report that is legal for the plan.
     Illegal,
 }
 
-/// Whether a text is that of a report which is legal for the plan from the empty start: `Legal`
-/// exactly if it is, and `Illegal` exactly if it isn't. The error is out of memory.
+/// Whether a text is that of a report that is legal for the plan from the empty start. An error
+/// means out of memory.
 pub fn check(alloc: Global, plan: &Plan, text: &[u8]) -> Result<Verdict, AllocError>
     ensures { IfOk result (IsVerdict plan.now text.now) }
 {

@@ -21,7 +21,8 @@ use Rattle.of_core.specs.History.{batch_at, numbers_after}
 use Rattle.of_core.specs.WordsMatch.{MayStart}
 use Rattle.of_core.specs.Invariant.{HoldsAtPlace, MeetsCore, MeetsInvariant}
 use Rattle.of_core.specs.Claim.{knows_state, IsSound}
-use Rattle.of_core.specs.Events.{Event, Begins, Turns, Loads, Evicts, Raises, after_event, MayHappen, machine_in, after_events, IsSchedule, opening_moment, idle_machines, start_ticket}
+use Rattle.of_core.specs.Remains.{remains_of, announces_open_call, revived_if, revived_machine}
+use Rattle.of_core.specs.Events.{Event, Begins, Turns, Loads, Evicts, Raises, Revives, after_event, MayHappen, machine_in, after_events, IsSchedule, opening_moment, idle_machines, start_ticket}
 use Rattle.of_core.specs.Needed.{NeedsCell}
 use Rattle.of_core.specs.Written.{RunOf, with_call, LeadTo, IsLogOf, HasOwnCall}
 use Rattle.of_core.proofs.States.{state_same, batch_same, batch_new}
@@ -375,6 +376,23 @@ module _ (S : Setup) (Lawful : List ℕ → Type 0) (sound : IsSoundMeaning S.me
   event w g c (Loads x) may = record { machines = c.machines; history = c.history }
   event w g c (Evicts k) may = record { machines = c.machines; history = c.history }
   event w g c (Raises x) may = record { machines = c.machines; history = c.history }
+  event w g c (Revives i made) may = record { machines = λ j l. machines j l (cases_eq j i); history = c.history }
+    where
+      v : Moment
+      v = after_event S w (Revives i made)
+
+      next : CallState
+      next = revived_machine S (remains_of S w.words i) i made
+
+      at_if : (b : Bool) → Collects S B w.batches (revived_if S (remains_of S w.words i) i made b) (revived_if S (remains_of S w.words i) i made b).place
+      at_if true = tt
+      at_if false = tt
+
+      machines : (j : ℕ) → j < S.callers → (j ≡ i) ⊎ (j ≡ i → ⊥) → Collects S B w.batches (machine_in v j) (machine_in v j).place
+      machines j l (inr away) = subst (λ (d : CallState). Collects S B w.batches d d.place) (sym (get_or-set_other w.machines i j next no_machine away)) (c.machines j l)
+      machines j l (inl e) =
+          subst (λ (k : ℕ). Collects S B w.batches (machine_in v k) (machine_in v k).place) (sym e)
+          (subst (λ (d : CallState). Collects S B w.batches d d.place) (sym (get_or-set_same w.machines i next no_machine (omega (arith, g.core.members, may.0)))) (at_if (announces_open_call (remains_of S w.words i))))
   event w g c (Begins i op) may = record { machines = λ j l. machines j l (cases_eq j i); history = c.history }
     where
       v : Moment

@@ -1,9 +1,9 @@
 -- A call that a batch has run comes behind all calls that its caller has made before it.
 use Rattle.std.proofs.Common.{◌≡◌, ℕ, ◌+◌, ◌<◌, ◌≤◌, ◌⊎◌, inl, inr, List, length, get_or, sym, ◌∙◌, ap, subst, arith, true, false}
-use Rattle.std.proofs.lemmas.Bool.{cases_order}
+use Rattle.std.proofs.lemmas.Bool.{cases_order, cases_lt}
 use Rattle.of_mem.specs.declared.work.RawReply.{RawReply}
 use Rattle.of_core.specs.declared.place.Outcome.{Outcome}
-use Rattle.of_core.specs.declared.place.Outcome.TheVariants.{Answered, Spent}
+use Rattle.of_core.specs.declared.place.Outcome.TheVariants.{Answered, Spent, Lost}
 use Rattle.of_core.specs.Table.{Setup, durable_seq}
 use Rattle.of_core.specs.Machine.{Call, no_call}
 use Rattle.of_core.specs.TableMoment.{Moment, TableStart, Read}
@@ -65,3 +65,8 @@ module _ (S : Setup) (Lawful : List ℕ → Type 0) (B : TableStart) (v : Moment
       omega (arith, seq_is, behind_read s x k.2.place k.0 (omega (arith, k.1, reach)) k.2.among h.1.1 k.2.caller (ap (λ (a : Read). a.caller) is) (omega (arith, l, k.2.ticket, ap (λ (a : Read). a.ticket) is)))
   announced_beyond t u s steps p q raw (Spent z) l h k =
       absurd (omega (arith, l, k.2.ticket, h.2 s k.0 (omega (arith, k.1, reach)) k.2.place no_call k.2.among k.2.caller))
+  announced_beyond t u s steps p q raw (Lost z) l h k = go (cases_lt z s)
+    where
+      go : (z < s) ⊎ (s ≤ z) → z < s
+      go (inl a) = a
+      go (inr a) = absurd (omega (arith, l, k.2.ticket, (h.1 s k.0 (omega (arith, k.1, reach)) k.2.place no_call k.2.among k.2.caller).1 a))

@@ -1,5 +1,5 @@
 -- What a step of any machine leaves of the calls of each caller.
-use Rattle.std.proofs.Common.{◌≡◌, ℕ, ◌+◌, ◌<◌, ◌≤◌, ◌⊎◌, inl, inr, List, [], ◌∷◌, ◌++◌, length, get_or, refl, sym, ◌∙◌, ap, subst, arith, Option, Some, None, Bool, true, false}
+use Rattle.std.proofs.Common.{◌≡◌, ℕ, ◌+◌, ◌<◌, ◌≤◌, ◌⊎◌, inl, inr, List, [], ◌∷◌, ◌++◌, length, get_or, refl, sym, ◌∙◌, ap, subst, arith, Option, Some, None, Bool, true, false, ◌-◌}
 use Rattle.std.specs.List.{All}
 use Rattle.std.proofs.lemmas.List.{append-nil, length-append, get_or_push, get_or_append_left, get_or-set_same, get_or-set_other, get_or_default}
 use Rattle.of_cell.proofs.Order.{seq_mono}
@@ -7,7 +7,7 @@ use Rattle.of_mem.specs.Meaning.{IsSoundMeaning}
 use Rattle.of_core.specs.declared.place.Place.{Place}
 use Rattle.of_core.specs.declared.place.Place.TheVariants.{Idle}
 use Rattle.of_core.specs.declared.place.Outcome.{Outcome}
-use Rattle.of_core.specs.declared.place.Outcome.TheVariants.{Answered, Spent}
+use Rattle.of_core.specs.declared.place.Outcome.TheVariants.{Answered, Spent, Lost}
 use Rattle.of_core.specs.Table.{Setup, first_operation_cell, durable_word, committed_seq, durable_seq}
 use Rattle.of_core.specs.Machine.{Call, CallState, IsOpen, is_idle, no_machine}
 use Rattle.of_core.specs.Steps.{want, take_word, IsFoundBy}
@@ -24,7 +24,7 @@ use Rattle.of_core.specs.Facts.{IsStep, TellsOutcome}
 use Rattle.of_core.specs.MachineValue.{ended_outcome, ended_outcome_at}
 use Rattle.of_core.specs.Turn.{turn_of_outcome, turn_at}
 use Rattle.of_core.specs.Events.{machine_in}
-use Rattle.of_core.specs.Calls.{outcome_of_turn, outcome_of_step, no_outcome, outcome_seq, IsNotBefore, OutcomeStands, IsOutcome, WasBegun, HasCalls, NoneSpent, total_steps}
+use Rattle.of_core.specs.Calls.{outcome_of_turn, outcome_of_step, no_outcome, outcome_seq, IsNotBefore, OutcomeStands, IsOutcome, HasCalls, NoneSpent, total_steps}
 use Rattle.of_core.specs.Laws.{IsOpenCall}
 use Rattle.of_core.proofs.Tickets.{ticket_upto}
 use Rattle.of_core.proofs.Idle.{idle_stays}
@@ -35,7 +35,7 @@ use Rattle.of_core.proofs.NewCalls.{new_calls}
 use Rattle.of_core.proofs.Benches.{turn_is}
 use Rattle.of_core.proofs.OpenCalls.{caller_at}
 use Rattle.of_core.proofs.CallOrder.{announced_beyond}
-use Rattle.of_core.proofs.Calls.{all_one, none_ended, Grows, stood_grows, stood_low, stays, ends_one}
+use Rattle.of_core.proofs.Calls.{all_one, none_ended, Grows, HasNewCalls, later_calls, stood_grows, stood_low, stays, ends_one}
 
 module _ (S : Setup) (Lawful : List ℕ → Type 0) (B : TableStart) (w : Moment) (g : MeetsInvariant S Lawful B w) where
   pub own : (i : ℕ) → i < S.callers → get_or w.machines i (machine_in w i) ≡ machine_in w i
@@ -79,6 +79,7 @@ module _ (S : Setup) (Lawful : List ℕ → Type 0) (sound : IsSoundMeaning S.me
       rise = seq_mono (durable_word S w.words 0) (durable_word S v.words 0) (moves.durs 0 (omega arith));
       limit = omega (arith, reached S Lawful B v good, few S Lawful B v good);
       few = few S Lawful B v good;
+      longer = omega (arith, length-append w.batches (step_batches S w.words m n));
       batches = λ k l u. moves.batches k l (omega (arith, last_is S Lawful B w g));
       reads = (omega (arith, length-append w.reads (step_reads m d)), λ x e l. get_or_append_left w.reads (step_reads m d) e x l);
     }
@@ -101,14 +102,17 @@ module _ (S : Setup) (Lawful : List ℕ → Type 0) (sound : IsSoundMeaning S.me
     none_idle q = ap (step_reads m) (same_idle q) ∙ (idle_stays S m n q).1
 
     -- a call of caller i in a new batch is one that it has begun
-    new_words : (i : ℕ) → i < S.callers → (before : ℕ) (ops : List (List ℕ)) (outs : List Outcome) → HasCalls S B before w i ops outs → (k : ℕ) → B.seq + length w.batches < k → k ≤ B.seq + length v.batches → All (WasBegun before i ops) (batch_at B v.batches k).calls
-    new_words i member before ops outs c k l u y e z q =
-        let x : Call = get_or (batch_at B v.batches k).calls y e in
-        let p : IsOpenCall w x = new_calls S Lawful sound B w g j m h (own S Lawful B w g j h) n found k l u y e z in
-        let o = c.open_call (subst (λ (a : ℕ). IsOpen (machine_in w a).place) q p.0) in
-        let made : x.ticket ≡ (machine_in w i).made = p.1 ∙ ap (λ (a : ℕ). (machine_in w a).made) q in
-        let number : x.ticket ≡ before + length outs + 1 = let t = made ∙ c.made in omega (arith, t, o.0) in
-        (omega (arith, number), omega (arith, number, o.0), p.2 ∙ ap (λ (a : ℕ). (machine_in w a).op) q ∙ o.1 ∙ ap (λ (a : ℕ). get_or ops a []) (omega (arith, number)))
+    new_words : (i : ℕ) → i < S.callers → (before : ℕ) (ops : List (List ℕ)) (outs : List Outcome) (c : HasCalls S B before w i ops outs) → HasNewCalls S B before w i ops outs c v
+    new_words i member before ops outs c k l u y e z = (λ q. (is q).0, λ q. (is q).1)
+      where
+        is : (get_or (batch_at B v.batches k).calls y e).caller ≡ i → ((before < (get_or (batch_at B v.batches k).calls y e).ticket) × ((get_or (batch_at B v.batches k).calls y e).ticket ≤ before + length ops) × ((get_or (batch_at B v.batches k).calls y e).op ≡ get_or ops ((get_or (batch_at B v.batches k).calls y e).ticket - before - 1) [])) × (before + length outs < (get_or (batch_at B v.batches k).calls y e).ticket)
+        is q =
+            let x : Call = get_or (batch_at B v.batches k).calls y e in
+            let p : IsOpenCall w x = new_calls S Lawful sound B w g j m h (own S Lawful B w g j h) n found k l u y e z in
+            let o = c.open_call (subst (λ (a : ℕ). IsOpen (machine_in w a).place) q p.0) in
+            let made : x.ticket ≡ (machine_in w i).made = p.1 ∙ ap (λ (a : ℕ). (machine_in w a).made) q in
+            let number : x.ticket ≡ before + length outs + 1 = let t = made ∙ c.made in omega (arith, t, o.0) in
+            ((omega (arith, number), omega (arith, number, o.0), p.2 ∙ ap (λ (a : ℕ). (machine_in w a).op) q ∙ o.1 ∙ ap (λ (a : ℕ). get_or ops a []) (omega (arith, number))), omega (arith, number))
 
     -- what the step has read is the caller's
     own_reads : All (λ (r : Read). r.caller ≡ j) (step_reads m d)
@@ -124,6 +128,7 @@ module _ (S : Setup) (Lawful : List ℕ → Type 0) (sound : IsSoundMeaning S.me
         told_by (Answered s true raw steps) t = none t.2
         told_by (Answered s false raw steps) t = subst (λ (rs : List Read). All (λ (r : Read). r.caller ≡ j) rs) (sym t.2) (all_one (λ (r : Read). r.caller ≡ j) _ mine)
         told_by (Spent s) t = none t.2
+        told_by (Lost s) t = absurd t
 
         ends : (b : Bool) → IsOpen m.place → is_idle d.place ≡ b → All (λ (r : Read). r.caller ≡ j) (step_reads m d)
         ends true o e = let t = (taken o).ends (idle_is d.place e) in told_by t.0 t.2
@@ -177,6 +182,7 @@ module _ (S : Setup) (Lawful : List ℕ → Type 0) (sound : IsSoundMeaning S.me
 
               placed : get_or (w.reads ++ step_reads m d) (length w.reads) no_read ≡ record { caller = j; ticket = d.made; op = d.op; raw = raw; seq = s }
               placed = ap (λ (rs : List Read). get_or (w.reads ++ rs) (length w.reads) no_read) u.2 ∙ get_or_push w.reads r no_read (length w.reads) refl ∙ same
+          go (Lost s) a b l u = absurd a
           go (Spent s) a b l u = (a.limit, omega (arith, a.limit, a.durable, step_grows.limit), not_run)
             where
               not_run : (k : ℕ) → B.seq < k → k ≤ B.seq + length v.batches → (y : ℕ) (e : Call) → y < length (batch_at B v.batches k).calls → (get_or (batch_at B v.batches k).calls y e).caller ≡ j → (get_or (batch_at B v.batches k).calls y e).ticket < d.made
@@ -189,11 +195,12 @@ module _ (S : Setup) (Lawful : List ℕ → Type 0) (sound : IsSoundMeaning S.me
       beyond_now : IsOpen m.place → (o : Outcome) → TellsOutcome S m d o → OutcomeStands S B v j d.made d.op o → (x : ℕ) → x < length outs → IsNotBefore (outcome_seq (get_or outs x no_outcome)) o
       beyond_now live (Answered s false raw steps) t stood x l = t.3 (outcome_seq (get_or outs x no_outcome)) (c.reads_from x l)
       beyond_now live (Spent s) t stood x l =
-          let low = stood_low S B w j (before + x + 1) (get_or ops x []) (get_or outs x no_outcome) (c.each x l) in
-          omega (arith, t.1, low, step_grows.rise, step_grows.limit)
+          let low = stood_low S B w j (before + x + 1) (get_or ops x []) (get_or outs x no_outcome) (reached S Lawful B w g) (c.each x l) in
+          omega (arith, t.1, low, few S Lawful B w g)
+      beyond_now live (Lost s) t stood x l = absurd t
       beyond_now live (Answered s true raw steps) t stood x l =
           announced_beyond S Lawful B v good (reached S Lawful B v good) j (before + x + 1) d.made s steps (get_or ops x []) d.op raw (get_or outs x no_outcome) (let made = (taken live).made ∙ c.made in omega (arith, made, l, (c.open_call live).0))
-          (stood_grows S B w v step_grows j (before + x + 1) (get_or ops x []) (get_or outs x no_outcome) (c.each x l)) stood
+          (stood_grows S B w v step_grows j (before + x + 1) (get_or ops x []) (get_or outs x no_outcome) (later_calls S B before w j ops outs c v (new_words j h before ops outs c) x l) (c.each x l)) stood
 
       -- one's own step
       pub own_step : HasCalls S B before v j ops (outs ++ outcome_of_step m d)
@@ -208,6 +215,7 @@ module _ (S : Setup) (Lawful : List ℕ → Type 0) (sound : IsSoundMeaning S.me
           of_reads : (o : Outcome) → IsOpen m.place → TellsOutcome S m d o → All (λ (r : Read). (r.ticket ≡ d.made) × (r.op ≡ d.op) × ((steps : ℕ) × (o ≡ Answered r.seq false r.raw steps))) (step_reads m d)
           of_reads (Answered s true raw steps) live t = rw t.2 (λ k r l. absurd (omega arith))
           of_reads (Spent s) live t = rw t.2 (λ k r l. absurd (omega arith))
+          of_reads (Lost s) live t = absurd t
           of_reads (Answered s false raw steps) live t = rw t.2 (all_one (λ (r : Read). (r.ticket ≡ d.made) × (r.op ≡ d.op) × ((steps' : ℕ) × (Answered s false raw steps ≡ Answered r.seq false r.raw steps'))) _ (sym (taken live).made, sym (taken live).op, (steps, refl)))
 
           ended_now : (b : Bool) → IsOpen m.place → is_idle d.place ≡ b → HasCalls S B before v j ops (outs ++ outcome_of_step m d)
@@ -218,7 +226,7 @@ module _ (S : Setup) (Lawful : List ℕ → Type 0) (sound : IsSoundMeaning S.me
               let t = (taken live).ends rest in
               let stood = stood_now t.0 rest t.1 live t.2 in
               subst (λ (os : List Outcome). HasCalls S B before v j ops (outs ++ os)) (sym (says_ended live (Some t.0) (ap (λ (p : Place). ended_outcome_at p d) rest ∙ t.1)))
-              (ends_one S B before w j ops outs c v step_grows (step_reads m d) refl (new_words j h before ops outs c) live d now (taken live).made (taken live).op rest t.0 t.1 stood (beyond_now live t.0 t.2 stood) (of_reads t.0 live t.2))
+              (ends_one S B before w j ops outs c v step_grows (step_reads m d) refl (new_words j h before ops outs c) live d now (taken live).made d.op (taken live).op rest t.0 (inr t.1) stood (beyond_now live t.0 t.2 stood) (of_reads t.0 live t.2))
 
           go : (b : Bool) → is_idle m.place ≡ b → HasCalls S B before v j ops (outs ++ outcome_of_step m d)
           go false e = ended_now (is_idle d.place) e refl
@@ -237,6 +245,7 @@ module _ (S : Setup) (Lawful : List ℕ → Type 0) (sound : IsSoundMeaning S.me
         of_end (Answered s true raw steps) z t = (omega (arith, t.1), λ q u. omega (arith, t.1))
         of_end (Answered s false raw steps) z t = (omega (arith, t.1), λ q u. omega (arith, t.1))
         of_end (Spent s) z t = (omega arith, λ q u. absurd u.0)
+        of_end (Lost s) z t = absurd t
 
         ended_now : (b : Bool) → IsOpen m.place → is_idle d.place ≡ b → Counts (outcome_of_step m d) d.steps
         ended_now false live e = subst (λ (os : List Outcome). Counts os d.steps) (sym (says_ended live None (none_ended d d.place e))) (omega (arith, ((taken live).goes_on e).0), λ q u. omega (arith, ((taken live).goes_on e).0))

@@ -8,7 +8,7 @@ use Rattle.of_recover.specs.Recovered.{recovered_data}
 use Rattle.of_core.specs.declared.place.Place.{Place}
 use Rattle.of_core.specs.declared.place.Place.TheVariants.{Idle, TryCell, LoadOwnTicket, LoadShape, LoadReply, LoadAnnouncement, LoadTicket, LoadScript, LoadCell, RaiseOld, StoreLog, RaiseLog, StoreRequest, RaiseRequest, ExchangeCurrent}
 use Rattle.of_core.specs.declared.place.Outcome.{Outcome}
-use Rattle.of_core.specs.declared.place.Outcome.TheVariants.{Answered, Spent}
+use Rattle.of_core.specs.declared.place.Outcome.TheVariants.{Answered, Spent, Lost}
 use Rattle.of_core.specs.Table.{Setup, first_operation_cell, durable_word, durable_cell, committed_seq, durable_seq}
 use Rattle.of_core.specs.Machine.{CallState, Call, no_machine}
 use Rattle.of_core.specs.TableMoment.{Moment, TableStart}
@@ -96,6 +96,7 @@ module _ (S : Setup) (Lawful : List ℕ → Type 0) (sound : IsSoundMeaning S.me
         told_is i m h None v t = tt
         told_is i m h (Some (Answered s true raw n)) v t = (v, t.from, t.durable, t.call)
         told_is i m h (Some (Answered s false raw n)) v t = (v, t.from, t.durable, t.reply, t.reads)
+        told_is i m h (Some (Lost s)) v0 t = absurd t
         told_is i m h (Some (Spent s)) v0 t = (
           t.limit,
           sym g.shared.counted.count ∙ t.last,

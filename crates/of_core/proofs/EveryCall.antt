@@ -1,5 +1,5 @@
 -- The calls of one caller at every moment of every schedule.
-use Rattle.std.proofs.Common.{◌≡◌, ℕ, ◌+◌, ◌*◌, ◌<◌, ◌≤◌, List, [], ◌∷◌, ◌++◌, refl, sym, ◌∙◌, ap, subst, arith, true, false}
+use Rattle.std.proofs.Common.{◌≡◌, ℕ, ◌+◌, ◌*◌, ◌<◌, ◌≤◌, List, [], ◌∷◌, ◌++◌, refl, sym, ◌∙◌, ap, subst, arith, true, false, inl}
 use Rattle.std.proofs.lemmas.List.{append_assoc, append-nil}
 use Rattle.of_mem.specs.declared.work.TheConstants.{MOST_INSTRS}
 use Rattle.of_cell.specs.declared.word.TheConstants.{PAYLOADS}
@@ -67,7 +67,7 @@ module _ (S : Setup) (Lawful : List ℕ → Type 0) (sound : IsSoundMeaning S.me
       idle = λ q. refl;
       open_call = λ q. let z : true ≡ false = sym (ap (λ (d : CallState). is_idle d.place) here) ∙ q in cc;
       unanswered = λ q. ap (λ (d : CallState). d.answer) here;
-      last = λ q. ap (λ (d : CallState). d.answer) here;
+      last = λ q. inl (ap (λ (d : CallState). d.answer) here);
       each = λ x l. absurd (omega arith);
       reads = λ k r l. absurd (omega arith);
       calls = λ k l u. absurd (omega (arith, l, u));

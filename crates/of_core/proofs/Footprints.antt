@@ -15,7 +15,7 @@ use Rattle.of_core.specs.Machine.{CallState, IsOpen, is_idle, no_machine, no_cel
 use Rattle.of_core.specs.Steps.{read_on, after_read_run, begin_reading, resume, after_try_request, end_try, after_try_cell, want, want_at, word_of, word_found, take_word, take_word_at, with_step_counted, after_store_script, after_load_request, after_copy_log, after_look_again, after_own_ticket, after_load_shape, with_shape, after_load_reply, with_reply, next_reply_place, first_marked_place, after_announcement, weigh, after_load_ticket, after_load_script, with_script_word, after_script_run, next_scanned_caller, with_call_run, after_load_cell, after_raise_log, after_commit_exchange, after_raise_current, after_load_target, next_entry, after_raise_closed, is_request_open, with_log_word_copied}
 use Rattle.of_core.specs.TableMoment.{Moment, TableStart}
 use Rattle.of_core.specs.Invariant.{HoldsAtPlace, MeetsCore, MeetsInvariant}
-use Rattle.of_core.specs.Events.{Event, Begins, Turns, Loads, Evicts, Raises, after_event, MayHappen, machine_in, after_events, turn_count, turns_in_event, IsSchedule, StaysOpen}
+use Rattle.of_core.specs.Events.{Event, Begins, Turns, Loads, Evicts, Raises, Revives, after_event, MayHappen, machine_in, after_events, turn_count, turns_in_event, IsSchedule, KeepsMachine, StaysOpen}
 use Rattle.of_core.specs.Footprint.{knowns, next_load, Touches, TouchesOnly, apply_steps, help_steps, store_steps, try_steps, round_steps, footprint, HasFootprint}
 use Rattle.of_core.proofs.KnownCells.{knowns_none, knowns_set}
 use Rattle.of_core.proofs.Logs.{length-log_words}
@@ -501,17 +501,18 @@ module _ (S : Setup) (Lawful : List ℕ → Type 0) (sound : IsSoundMeaning S.me
       subst (λ (d : CallState). Spares S W R d d.place) (sym x) (own_turn w g (machine_in w i) (of_machine S Lawful sound B i h w g) o u (subst (λ (d : CallState). Touches d W R) x v) t)
 
   -- no event of a schedule lets the call make more
-  kept : (w : Moment) → MeetsInvariant S Lawful B w → (e : Event) → MayHappen S w e → IsOpen (machine_in w i).place → Touches (machine_in w i) W R
+  kept : (w : Moment) → MeetsInvariant S Lawful B w → (e : Event) → MayHappen S w e → KeepsMachine e i → IsOpen (machine_in w i).place → Touches (machine_in w i) W R
       → Touches (machine_in (after_event S w e) i) W R → Sparing w → Sparing (after_event S w e)
-  kept w g (Loads c) may o u v t = t
-  kept w g (Evicts k) may o u v t = t
-  kept w g (Raises c) may o u v t = t
-  kept w g (Begins j op) may o u v t = go (cases_eq j i)
+  kept w g (Loads c) may same o u v t = t
+  kept w g (Evicts k) may same o u v t = t
+  kept w g (Raises c) may same o u v t = t
+  kept w g (Revives j made) may same o u v t = subst (λ (d : CallState). Spares S W R d d.place) (sym (get_or-set_other w.machines j i _ no_machine (λ e. same (sym e)))) t
+  kept w g (Begins j op) may same o u v t = go (cases_eq j i)
     where
       go : (j ≡ i) ⊎ (j ≡ i → ⊥) → Sparing (after_event S w (Begins j op))
       go (inl e) = let z : true ≡ false = sym (ap is_idle may.1) ∙ ap (λ (k : ℕ). is_idle (machine_in w k).place) e ∙ o in cc
       go (inr n) = subst (λ (d : CallState). Spares S W R d d.place) (sym (get_or-set_other w.machines j i _ no_machine (λ e. n (sym e)))) t
-  kept w g (Turns j) may o u v t = go (cases_eq j i)
+  kept w g (Turns j) may same o u v t = go (cases_eq j i)
     where
       go : (j ≡ i) ⊎ (j ≡ i → ⊥) → Sparing (after_event S w (Turns j))
       go (inl e) = subst (λ (k : ℕ). Sparing (after_event S w (Turns k))) (sym e) (own_kept w g o u (subst (λ (k : ℕ). Touches (machine_in (after_event S w (Turns k)) i) W R) e v) t)
@@ -542,9 +543,9 @@ module _ (S : Setup) (Lawful : List ℕ → Type 0) (sound : IsSoundMeaning S.me
   at_last (e ∷ es) w g s o u t =
       let good : MeetsInvariant S Lawful B (after_event S w e) = event_good S Lawful B w g sound e s.0 in
       let still : IsOpen (machine_in (after_event S w e) i).place = now_open S Lawful sound B i h (after_event S w e) es o.1 in
-      let more : (machine_in (after_event S w e) i).steps ≡ (machine_in w i).steps + turns_in_event i e = steps_rise S Lawful sound B i h w g e s.0 o.0 still in
+      let more : (machine_in (after_event S w e) i).steps ≡ (machine_in w i).steps + turns_in_event i e = steps_rise S Lawful sound B i h w g e s.0 o.2 o.0 still in
       subst (HasFootprint S W R (machine_in (after_events S (after_event S w e) es) i)) (sum (machine_in w i).steps (turns_in_event i e) (turn_count i es) (machine_in (after_event S w e) i).steps more)
-      (at_last es (after_event S w e) good s.1 o.1 u.1 (kept w g e s.0 o.0 u.0 (touches_now (after_event S w e) es u.1) t))
+      (at_last es (after_event S w e) good s.1 o.1 u.1 (kept w g e s.0 o.2 o.0 u.0 (touches_now (after_event S w e) es u.1) t))
     where
       sum : (x y z v : ℕ) → v ≡ x + y → v + z ≡ x + (y + z)
       sum x y z v e = omega arith

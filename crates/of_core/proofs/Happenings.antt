@@ -20,10 +20,11 @@ use Rattle.of_core.specs.Least.{HasMadeLeastSteps}
 use Rattle.of_core.specs.Order.{KeepsCallOrder, HasBegunTry, IsOlder}
 use Rattle.of_core.specs.Steps.{word_found}
 use Rattle.of_core.specs.Facts.{rests_on_seq, rests_on_seq_at}
+use Rattle.of_core.proofs.Revived.{counted_good}
 use Rattle.of_core.proofs.Ordering.{Orderly, older_upto, order_after, order_same}
 use Rattle.of_core.proofs.Raises.{current_same, rises}
 use Rattle.of_core.proofs.Found.{found_now}
-use Rattle.of_core.specs.Events.{Event, Begins, Turns, Loads, Evicts, Raises, after_begin, after_raise, machine_in, after_event, MayHappen}
+use Rattle.of_core.specs.Events.{Event, Begins, Turns, Loads, Evicts, Raises, Revives, after_begin, after_raise, machine_in, after_event, MayHappen}
 use Rattle.of_core.proofs.Assembling.{assemble, moves_not}
 use Rattle.of_core.proofs.StepBound.{opened_within}
 use Rattle.of_core.proofs.Least.{opened_late}
@@ -144,4 +145,5 @@ module _ (S : Setup) (Lawful : List ℕ → Type 0) (B : TableStart) (w : Moment
   event_good sound (Loads c) h = load_good c h
   event_good sound (Evicts k) h = evict_kept (get_or w.loaded k (0, 0)) (g.core.loaded k (0, 0) h)
   event_good sound (Raises c) h = evict_kept (c, get_or w.words c 0) (load_kept c h)
+  event_good sound (Revives i made) h = counted_good g i h.0 h.1 made h.2
   event_good sound (Begins i op) h = begin_kept i (machine_in w i) h.0 (get_or_default w.machines i (machine_in w i) no_machine (omega (arith, g.core.members, h.0))) h.1 (machine_in w i) (inl refl) op h.2 h.3 h.4

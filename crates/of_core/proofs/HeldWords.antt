@@ -13,7 +13,7 @@ use Rattle.of_core.specs.Steps.{word_found}
 use Rattle.of_core.specs.TableMoment.{Moment, TableStart}
 use Rattle.of_core.specs.WordsMatch.{MayStart}
 use Rattle.of_core.specs.Invariant.{MeetsInvariant}
-use Rattle.of_core.specs.Events.{Event, Begins, Turns, Loads, Evicts, Raises, after_raise, machine_in, after_event, MayHappen, after_events, HasStood, IsSchedule, opening_moment}
+use Rattle.of_core.specs.Events.{Event, Begins, Turns, Loads, Evicts, Raises, Revives, after_raise, machine_in, after_event, MayHappen, after_events, HasStood, IsSchedule, opening_moment}
 use Rattle.of_core.proofs.Parts.{run_append}
 use Rattle.of_core.proofs.Starts.{words_hold}
 use Rattle.of_core.proofs.Openings.{start_good}
@@ -91,6 +91,11 @@ module _ (S : Setup) (first : Moment) where
       is = is_now Lawful sound B es w g h (Raises x);
       durables = raised Lawful sound B es w g h (Raises x) (x, get_or w.words x 0) may (cell_before Lawful sound B es w g h (Raises x) x (get_or w.words x 0) refl);
       loaded = loaded_before Lawful sound B es w g h (Raises x);
+    }
+    stood_after es w g h (Revives i made) may = record {
+      is = is_now Lawful sound B es w g h (Revives i made);
+      durables = λ c l. durable_before Lawful sound B es w g h (Revives i made) c (durable_word S w.words c) l refl;
+      loaded = loaded_before Lawful sound B es w g h (Revives i made);
     }
     stood_after es w g h (Turns i) may = record {
       is = is_now Lawful sound B es w g h (Turns i);

@@ -11,7 +11,7 @@ use Rattle.of_core.specs.Steps.{word_found, take_word}
 use Rattle.of_core.specs.TableMoment.{Moment, TableStart}
 use Rattle.of_core.specs.Invariant.{HoldsAtPlace, MeetsInvariant}
 use Rattle.of_core.specs.Bound.{bound, steps_left_at}
-use Rattle.of_core.specs.Events.{one_if, Event, Begins, Turns, Loads, Evicts, Raises, after_event, MayHappen, machine_in, after_events, turn_count, turns_in_event, IsSchedule, StaysOpen}
+use Rattle.of_core.specs.Events.{one_if, Event, Begins, Turns, Loads, Evicts, Raises, Revives, after_event, MayHappen, machine_in, after_events, turn_count, turns_in_event, IsSchedule, KeepsMachine, StaysOpen}
 use Rattle.of_core.proofs.Happenings.{event_good}
 use Rattle.of_core.proofs.StepTaken.{step_taken}
 use Rattle.of_core.proofs.Found.{found_now}
@@ -30,11 +30,15 @@ module _ (S : Setup) (Lawful : List ℕ → Type 0) (sound : IsSoundMeaning S.me
         ap (λ (d : CallState). d.steps) x ∙ (t.goes_on now).0 ∙ ap (λ (k : ℕ). (machine_in w i).steps + k) (sym (ap one_if (eq-eqb i i refl)))
 
     -- each turn of the caller is a step of its open call, and no other event changes its machine
-    pub steps_rise : (w : Moment) (g : MeetsInvariant S Lawful B w) (e : Event) → MayHappen S w e → IsOpen (machine_in w i).place → IsOpen (machine_in (after_event S w e) i).place → (machine_in (after_event S w e) i).steps ≡ (machine_in w i).steps + turns_in_event i e
-    steps_rise w g (Loads c) m o q = omega arith
-    steps_rise w g (Evicts k) m o q = omega arith
-    steps_rise w g (Raises c) m o q = omega arith
-    steps_rise w g (Begins j op) m o q = go (cases_eq j i)
+    pub steps_rise : (w : Moment) (g : MeetsInvariant S Lawful B w) (e : Event) → MayHappen S w e → KeepsMachine e i → IsOpen (machine_in w i).place → IsOpen (machine_in (after_event S w e) i).place → (machine_in (after_event S w e) i).steps ≡ (machine_in w i).steps + turns_in_event i e
+    steps_rise w g (Loads c) m k o q = omega arith
+    steps_rise w g (Evicts x) m k o q = omega arith
+    steps_rise w g (Raises c) m k o q = omega arith
+    steps_rise w g (Revives j made) m k o q = ap (λ (d : CallState). d.steps) (get_or-set_other w.machines j i _ no_machine (λ e. k (sym e))) ∙ plus_zero (machine_in w i).steps
+      where
+        plus_zero : (x : ℕ) → x ≡ x + 0
+        plus_zero x = omega arith
+    steps_rise w g (Begins j op) m k o q = go (cases_eq j i)
       where
         go : (j ≡ i) ⊎ (j ≡ i → ⊥) → (machine_in (after_event S w (Begins j op)) i).steps ≡ (machine_in w i).steps + 0
         go (inl e) = let z : true ≡ false = sym (ap is_idle m.1) ∙ ap (λ (k : ℕ). is_idle (machine_in w k).place) e ∙ o in cc
@@ -42,7 +46,7 @@ module _ (S : Setup) (Lawful : List ℕ → Type 0) (sound : IsSoundMeaning S.me
           where
             plus_zero : (x : ℕ) → x ≡ x + 0
             plus_zero x = omega arith
-    steps_rise w g (Turns j) m o q = go (cases_eq j i)
+    steps_rise w g (Turns j) m k o q = go (cases_eq j i)
       where
         go : (j ≡ i) ⊎ (j ≡ i → ⊥) → (machine_in (after_event S w (Turns j)) i).steps ≡ (machine_in w i).steps + one_if (i == j)
         go (inr n) = ap (λ (d : CallState). d.steps) (get_or-set_other w.machines j i _ no_machine (λ e. n (sym e))) ∙ plus_none (machine_in w i).steps (one_if (i == j)) (ap one_if (ne_eqb i j (λ e. n (sym e))))
@@ -101,7 +105,7 @@ module _ (S : Setup) (Lawful : List ℕ → Type 0) (sound : IsSoundMeaning S.me
     fewer_steps [] w g s q = omega (arith, under w g q)
     fewer_steps (e ∷ es) w g s q =
         let g1 : MeetsInvariant S Lawful B (after_event S w e) = event_good S Lawful B w g sound e s.0 in
-        omega (arith, fewer_steps es (after_event S w e) g1 s.1 q.1, steps_rise w g e s.0 q.0 (now_open (after_event S w e) es q.1))
+        omega (arith, fewer_steps es (after_event S w e) g1 s.1 q.1, steps_rise w g e s.0 q.2 q.0 (now_open (after_event S w e) es q.1))
 
     pub run_good : (es : List Event) (w : Moment) → MeetsInvariant S Lawful B w → IsSchedule S w es → MeetsInvariant S Lawful B (after_events S w es)
     run_good [] w g s = g

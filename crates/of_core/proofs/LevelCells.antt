@@ -22,7 +22,7 @@ use Rattle.of_core.specs.History.{batch_at, data_word_after}
 use Rattle.of_core.specs.WordsMatch.{IsLastOpen, MayStart}
 use Rattle.of_core.specs.Invariant.{HoldsAtPlace, MeetsCore, MeetsInvariant, IsLoaded}
 use Rattle.of_core.specs.Guarantees.{Guarantees}
-use Rattle.of_core.specs.Events.{Event, Begins, Turns, Loads, Evicts, Raises, after_raise, machine_in, after_event, MayHappen, after_events, IsSchedule, opening_moment}
+use Rattle.of_core.specs.Events.{Event, Begins, Turns, Loads, Evicts, Raises, Revives, after_raise, machine_in, after_event, MayHappen, after_events, IsSchedule, opening_moment, ReplacesNone, AllReplaceNone}
 use Rattle.of_core.specs.Raised.{lower_changes, pending_among, pending}
 use Rattle.of_core.proofs.States.{later_by}
 use Rattle.of_core.proofs.Logs.{length-log_words}
@@ -321,15 +321,16 @@ module _ (S : Setup) where
           loaded k e (inl q) l = inl (omega (arith, q, up (get_or w.loaded k e).0))
           loaded k e (inr q) l = inr (q ∙ sym (cell_stays (get_or w.loaded k e).0 l))
 
-      event_level : (e : Event) → MayHappen S w e → Level (after_event S w e)
-      event_level (Turns i) may = turn_level i may
-      event_level (Evicts k) may = evicted_level (get_or w.loaded k (0, 0)) (g.core.loaded k (0, 0) may)
-      event_level (Raises c) may = evicted_level (c, get_or w.words c 0) (load_kept S Lawful B w g c may)
-      event_level (Loads c) may = record {
+      event_level : (e : Event) → ReplacesNone e → MayHappen S w e → Level (after_event S w e)
+      event_level (Revives i made) none may = absurd none
+      event_level (Turns i) none may = turn_level i may
+      event_level (Evicts k) none may = evicted_level (get_or w.loaded k (0, 0)) (g.core.loaded k (0, 0) may)
+      event_level (Raises c) none may = evicted_level (c, get_or w.words c 0) (load_kept S Lawful B w g c may)
+      event_level (Loads c) none may = record {
         logs = v.logs;
         loaded = All-push (λ (e : ℕ × ℕ). (e.1 ≤ durable_word S w.words e.0) ⊎ (e.1 ≡ get_or w.words e.0 0)) w.loaded (c, get_or w.words c 0) v.loaded (inr refl);
       }
-      event_level (Begins i op) may = record { logs = λ j x l u. logs j x l u (cases_eq j i); loaded = v.loaded }
+      event_level (Begins i op) none may = record { logs = λ j x l u. logs j x l u (cases_eq j i); loaded = v.loaded }
         where
           z : Moment
           z = after_event S w (Begins i op)
@@ -347,6 +348,7 @@ module _ (S : Setup) where
       event_settles (Turns i) may c l = cells_turn i may c l
       event_settles (Begins i op) may c l = inl refl
       event_settles (Loads x) may c l = inl refl
+      event_settles (Revives i made) may c l = inl refl
       event_settles (Evicts k) may c l = inl (get_or-set_other w.words (durable_at S (get_or w.loaded k (0, 0)).0) c _ 0 (λ e. omega (arith, e, l)))
       event_settles (Raises x) may c l = inl (get_or-set_other w.words (durable_at S x) c _ 0 (λ e. omega (arith, e, l)))
 
@@ -362,11 +364,11 @@ module _ (S : Setup) where
           go is u l (inl q) = omega (arith, u, q, ap (λ (k : ℕ). durable_word S w.words k) is)
           go is u l (inr q) = omega (arith, l, q, t, ap (λ (k : ℕ). get_or w.words k 0) is)
 
-    level_run : (es : List Event) (w : Moment) → MeetsInvariant S Lawful B w → Level w → IsSchedule S w es → MeetsInvariant S Lawful B (after_events S w es) × Level (after_events S w es)
-    level_run [] w g v s = (g, v)
-    level_run (e ∷ es) w g v s = level_run es (after_event S w e) (event_good S Lawful B w g sound e s.0) (event_level w g v e s.0) s.1
+    level_run : (es : List Event) (w : Moment) → MeetsInvariant S Lawful B w → Level w → IsSchedule S w es → AllReplaceNone es → MeetsInvariant S Lawful B (after_events S w es) × Level (after_events S w es)
+    level_run [] w g v s n = (g, v)
+    level_run (e ∷ es) w g v s n = level_run es (after_event S w e) (event_good S Lawful B w g sound e s.0) (event_level w g v e n.0 s.0) s.1 n.1
 
-    module _ (may : MayStart S Lawful B) (some : 0 < S.callers) (few : S.callers < PAYLOADS) (own_in : first_operation_cell S ≤ S.cells) (total : ℕ) (room : cell_count S + cell_count S + S.callers * (S.instrs + 1) ≤ total) (narrow : S.instrs ≤ MOST_INSTRS) (little : S.cells < PAYLOADS) (es : List Event) (s : IsSchedule S (opening_moment S B total) es) where
+    module _ (may : MayStart S Lawful B) (some : 0 < S.callers) (few : S.callers < PAYLOADS) (own_in : first_operation_cell S ≤ S.cells) (total : ℕ) (room : cell_count S + cell_count S + S.callers * (S.instrs + 1) ≤ total) (narrow : S.instrs ≤ MOST_INSTRS) (little : S.cells < PAYLOADS) (es : List Event) (s : IsSchedule S (opening_moment S B total) es) (kept : AllReplaceNone es) where
       first_level : Level (opening_moment S B total)
       first_level = record {
         logs = λ j x l u. inl ((words_hold S B may.start total (omega arith)).durable (log_at S j x) (log_in S j x l u));
@@ -374,7 +376,7 @@ module _ (S : Setup) where
       }
 
       reached : MeetsInvariant S Lawful B (after_events S (opening_moment S B total) es) × Level (after_events S (opening_moment S B total) es)
-      reached = level_run es (opening_moment S B total) (start_good S Lawful sound B may some few own_in total room narrow little) first_level s
+      reached = level_run es (opening_moment S B total) (start_good S Lawful sound B may some few own_in total room narrow little) first_level s kept
 
       pub settles : (e : Event) → MayHappen S (after_events S (opening_moment S B total) es) e → (c : ℕ) → c < cell_count S
           → (get_or (after_event S (after_events S (opening_moment S B total) es) e).words c 0 ≡ get_or (after_events S (opening_moment S B total) es).words c 0) ⊎ (get_or (after_events S (opening_moment S B total) es).words c 0 ≤ durable_word S (after_events S (opening_moment S B total) es).words c)

@@ -10,7 +10,7 @@ use Rattle.of_mem.specs.Meaning.{Meaning, IsSoundMeaning, Agrees, WalkFits, Walk
 use Rattle.of_mem.specs.Meaning.WalkEnd.{Needs, Gives}
 use Rattle.of_mem.specs.declared.work.RawReply.{RawReply}
 use Rattle.of_core.specs.declared.place.Outcome.{Outcome}
-use Rattle.of_core.specs.declared.place.Outcome.TheVariants.{Answered, Spent}
+use Rattle.of_core.specs.declared.place.Outcome.TheVariants.{Answered, Spent, Lost}
 use Rattle.of_core.specs.Table.{Setup, first_operation_cell, ticket_cell, shape_cell, reply_cell, durable_seq}
 use Rattle.of_core.specs.Machine.{Call, no_call}
 use Rattle.of_core.specs.TableMoment.{Moment, TableStart, Batch, Read}
@@ -228,6 +228,7 @@ module _ (S : Setup) (Lawful : List ℕ → Type 0) (sound : IsSoundMeaning S.me
           let r = h.1.2 in
           told i (start_ticket S B i + x + 1) (call_of (get_or w.reads h.1.0 no_read)) s false (h.1.0, h.1.1, refl, ap (λ (q : Read). q.seq) r) (ap (λ (q : Read). q.caller) r) (ap (λ (q : Read). q.ticket) r)
       own i x member (Spent s) h = tt
+      own i x member (Lost s) h = tt
 
   -- None stands before one that ended before it began.
   abbrev InTime : Call → Call → Type 0
@@ -303,6 +304,7 @@ module _ (S : Setup) (Lawful : List ℕ → Type 0) (sound : IsSoundMeaning S.me
           let r = h.1.2 in
           has (call_of (get_or w.reads h.1.0 no_read)) i t op raw (read_stands h.1.0 h.1.1) (ap (λ (q : Read). q.caller) r) (ap (λ (q : Read). q.ticket) r) (ap (λ (q : Read). q.op) r)
           (subst (λ (q : Read). SameReply S raw q.raw) (sym r) (refl, λ y u. refl))
+      go (Lost s) e h = tt
       go (Spent s) e h = each_call (λ (c : Call). c.caller ≡ i → c.ticket ≡ t → ⊥) (λ k u v y d z a b. omega (arith, h.2 k u (omega (arith, v, claim.reaches)) y d z a, b)) of_reads
         where
           of_reads : (a : ℕ) → a < length w.reads → (get_or w.reads a no_read).caller ≡ i → (get_or w.reads a no_read).ticket ≡ t → ⊥

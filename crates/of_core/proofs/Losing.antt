@@ -10,7 +10,7 @@ use Rattle.of_mem.specs.Part.{overlaid}
 use Rattle.of_core.specs.declared.place.Place.{Place}
 use Rattle.of_core.specs.declared.place.Place.TheVariants.{Idle, TryCurrent, TryRequest, TryCell, StoreScript, StoreAnnouncement, LoadCurrent, LoadRequest, CopyLog, LookAgain, LoadOwnTicket, LoadShape, LoadReply, LoadAnnouncement, LoadTicket, LoadScript, LoadCell, RaiseOld, StoreLog, RaiseLog, StoreRequest, RaiseRequest, ExchangeCurrent, RaiseCurrent, LoadTarget, ExchangeTarget, ReloadTarget, RaiseTarget, CloseRequest, RaiseClosed}
 use Rattle.of_core.specs.declared.place.Outcome.{Outcome}
-use Rattle.of_core.specs.declared.place.Outcome.TheVariants.{Answered, Spent}
+use Rattle.of_core.specs.declared.place.Outcome.TheVariants.{Answered, Spent, Lost}
 use Rattle.of_core.specs.Table.{Setup, ticket_cell}
 use Rattle.of_core.specs.Machine.{CallState, no_cell_known, with_cell_known, log_words}
 use Rattle.of_core.specs.Steps.{take_word_at, with_step_counted, after_read_run, resume, first_round_seq, after_try_request, end_try, after_try_cell, after_store_script, after_load_request, after_copy_log, after_look_again, after_own_ticket, after_load_shape, after_load_reply, after_announcement, after_load_ticket, after_load_script, after_load_cell, after_raise_log, after_commit_exchange, after_raise_current, after_load_target, next_entry, after_raise_closed, after_script_run, weigh, next_scanned_caller, with_call_run, next_reply_place, with_shape, with_reply, with_log_word_copied, with_script_word, first_marked_place, is_request_open}
@@ -27,6 +27,7 @@ IsReadAnswer None = ⊥
 IsReadAnswer (Some (Answered s true raw steps)) = ⊥
 IsReadAnswer (Some (Answered s false raw steps)) = Unit {0}
 IsReadAnswer (Some (Spent s)) = ⊥
+IsReadAnswer (Some (Lost s)) = ⊥
 
 module _ (S : Setup) (B : TableStart) (w : Moment) (i : ℕ) (m : CallState) (n : ℕ) where
   -- with the step counted

@@ -10,8 +10,8 @@ use Rattle.of_core.specs.declared.machine.trying.TheConstants.{MOST_TRIES}
 use Rattle.of_core.specs.declared.place.Place.{Place}
 use Rattle.of_core.specs.declared.place.Place.TheVariants.{Idle, TryCurrent, TryRequest, LoadCurrent, LoadRequest}
 use Rattle.of_core.specs.declared.place.Outcome.{Outcome}
-use Rattle.of_core.specs.declared.place.Outcome.TheVariants.{Answered, Spent}
-use Rattle.of_core.specs.Table.{Setup, first_operation_cell, ticket_cell}
+use Rattle.of_core.specs.declared.place.Outcome.TheVariants.{Answered, Spent, Lost as LostCall}
+use Rattle.of_core.specs.Table.{Setup, first_operation_cell, ticket_cell, announcement_of, committed_seq}
 use Rattle.of_core.specs.Machine.{CallState, no_call, IsOpen, is_idle, no_machine, begin_call, first_place}
 use Rattle.of_core.specs.Steps.{want, take_word, word_found, first_round_seq, IsFoundBy}
 use Rattle.of_core.specs.TableMoment.{Moment, TableStart, Batch, step_batches, after_step}
@@ -23,9 +23,10 @@ use Rattle.of_core.specs.Rounds.{IsInTry}
 use Rattle.of_core.specs.Places.{IsAtRest, LastOutcomeStands}
 use Rattle.of_core.specs.Invariant.{HoldsAtPlace, MeetsInvariant}
 use Rattle.of_core.specs.MachineValue.{ended_outcome_at}
-use Rattle.of_core.specs.Events.{Event, Begins, Turns, Loads, Evicts, Raises, after_event, machine_in, after_events, MayHappen, IsSchedule}
+use Rattle.of_core.specs.Remains.{remains_of, announces_open_call, revived_machine}
+use Rattle.of_core.specs.Events.{Event, Begins, Turns, Loads, Evicts, Raises, Revives, after_event, machine_in, after_events, MayHappen, IsSchedule}
 use Rattle.of_core.specs.Turn.{IsIdle}
-use Rattle.of_core.specs.Calls.{if_so, operation_begun, outcome_of_event, outcome_of_step, operations_begun, outcomes, no_outcome, HasCalls}
+use Rattle.of_core.specs.Calls.{if_so, operation_begun, outcome_of_event, outcome_of_step, outcome_of_loss, operations_begun, outcomes, no_outcome, HasCalls}
 use Rattle.of_core.specs.Commits.{begins_at, announces_at, HasLost}
 use Rattle.of_core.proofs.States.{state_same}
 use Rattle.of_core.proofs.Tickets.{tickets_grow}
@@ -35,6 +36,7 @@ use Rattle.of_core.proofs.StepKept.{step_kept}
 use Rattle.of_core.proofs.StepTaken.{opened_reads}
 use Rattle.of_core.proofs.Found.{found_now}
 use Rattle.of_core.proofs.Happenings.{event_good}
+use Rattle.of_core.proofs.Revived.{op_if, says_if, reads_if, none_lost}
 use Rattle.of_core.proofs.Moments.{run_good}
 use Rattle.of_core.proofs.Calls.{all_one, none_ended}
 use Rattle.of_core.proofs.CallSteps.{own, last_is, few, now, not_now, taken, same_idle, says_ended, says_idle}
@@ -86,11 +88,13 @@ abbrev pub IsLate : (low : ℕ) → Outcome → Type 0
 IsLate low (Answered s true raw steps) = low + MOST_TRIES < s
 IsLate low (Answered s false raw steps) = Unit {0}
 IsLate low (Spent s) = low + MOST_TRIES ≤ s
+IsLate low (LostCall s) = Unit {0}
 
 late_if_read : (low : ℕ) (o : Outcome) → IsReadAnswer (Some o) → IsLate low o
 late_if_read low (Answered s true raw steps) q = absurd q
 late_if_read low (Answered s false raw steps) q = tt
 late_if_read low (Spent s) q = absurd q
+late_if_read low (LostCall s) q = absurd q
 
 -- how a call ends that has begun since batch low: its answer is of no older state, and if it only
 -- reads, it was announced after the tries that it lost
@@ -98,6 +102,7 @@ abbrev pub EndsLate : Setup → (low : ℕ) → (op : List ℕ) → Outcome → 
 EndsLate S low op (Answered s true raw steps) = S.meaning.reads_only op ≡ true → low + MOST_TRIES < s
 EndsLate S low op (Answered s false raw steps) = low ≤ s
 EndsLate S low op (Spent s) = S.meaning.reads_only op ≡ true → low + MOST_TRIES ≤ s
+EndsLate S low op (LostCall s) = low ≤ s
 
 -- The turn of the caller's own machine, with a call open.
 module _ (S : Setup) (Lawful : List ℕ → Type 0) (sound : IsSoundMeaning S.meaning Lawful (first_operation_cell S) S.cells) (B : TableStart) (w : Moment) (g : MeetsInvariant S Lawful B w) (j : ℕ) (h : j < S.callers) (n : ℕ) (found : IsFoundBy (want S (machine_in w j)) w.words n)
@@ -246,6 +251,7 @@ module _ (S : Setup) (Lawful : List ℕ → Type 0) (sound : IsSoundMeaning S.me
 
       by_outcome : HasTried S B low j w.batches m → (x : Outcome) → LastOutcomeStands S B v.words v.batches j d (Some x) → IsLate low x
       by_outcome a (Answered s false raw steps) t = tt
+      by_outcome a (LostCall s) t = absurd t
       by_outcome a (Spent s) t = omega (arith, a.0, t.limit, few S Lawful B w g)
       by_outcome a (Answered s true raw steps) t = at (cases_lt (low + MOST_TRIES) s)
         where
@@ -288,6 +294,7 @@ module _ (S : Setup) (Lawful : List ℕ → Type 0) (sound : IsSoundMeaning S.me
   ends_late rest (Answered s true raw steps) told t = is_late rest (Answered s true raw steps) told
   ends_late rest (Answered s false raw steps) told t = t.3 low l.reads_from
   ends_late rest (Spent s) told t = is_late rest (Spent s) told
+  ends_late rest (LostCall s) told t = absurd t
 
 -- Events. The caller j is idle, or its open call has lost no more than this.
 module _ (S : Setup) (Lawful : List ℕ → Type 0) (sound : IsSoundMeaning S.meaning Lawful (first_operation_cell S) S.cells) (B : TableStart) (j : ℕ) (member : j < S.callers) (low : ℕ) (start : B.seq ≤ low) where
@@ -366,10 +373,93 @@ module _ (S : Setup) (Lawful : List ℕ → Type 0) (sound : IsSoundMeaning S.me
                 late = λ l. all_one (EndsLate S low m.op) t.0 (ends_late S Lawful sound B w g j member n found live low start (l live) rest t.0 t.1 t.2);
               })
 
+  -- a new machine takes the place of the caller's
+  revival : (w : Moment) → MeetsInvariant S Lawful B w → low ≤ B.seq + length w.batches → (made : ℕ) → MayHappen S w (Revives j made)
+      → Leads w (after_event S w (Revives j made)) [] (outcome_of_loss (committed_seq w.words) (is_idle (machine_in w j).place) (is_idle (machine_in (after_event S w (Revives j made)) j).place))
+  revival w g u made may = record {
+    few = few_of m_idle v_idle;
+    open_before = λ z. open_of m_idle v_idle refl z;
+    keeps = λ l o. subst (Lost S B low j w.batches) (sym here) (lost_next l (subst (λ (x : CallState). IsOpen x.place) here o));
+    begins = λ z. absurd (omega arith);
+    late = λ l. late_of m_idle v_idle;
+  }
+    where
+      m : CallState
+      m = machine_in w j
+
+      v : Moment
+      v = after_event S w (Revives j made)
+
+      b : Bool
+      b = announces_open_call (remains_of S w.words j)
+
+      next : CallState
+      next = revived_machine S (remains_of S w.words j) j made
+
+      here : machine_in v j ≡ next
+      here = get_or-set_same w.machines j next no_machine (omega (arith, g.core.members, member))
+
+      held : HoldsAtPlace S B w.words w.batches j m m.place
+      held = g.core.each j m member (own S Lawful B w g j member)
+
+      m_idle : Bool
+      m_idle = is_idle m.place
+
+      v_idle : Bool
+      v_idle = is_idle (machine_in v j).place
+
+      few_of : (x y : Bool) → length (outcome_of_loss (committed_seq w.words) x y) ≤ 1
+      few_of true y = omega arith
+      few_of false true = omega arith
+      few_of false false = omega arith
+
+      open_of : (x y : Bool) → is_idle m.place ≡ x → 0 < length (outcome_of_loss (committed_seq w.words) x y) → IsOpen m.place
+      open_of true y e z = absurd (omega (arith, z))
+      open_of false y e z = e
+
+      late_of : (x y : Bool) → All (EndsLate S low m.op) (outcome_of_loss (committed_seq w.words) x y)
+      late_of true y = none_late m.op
+      late_of false true = all_one (EndsLate S low m.op) (LostCall (committed_seq w.words)) (omega (arith, u, last_is S Lawful B w g))
+      late_of false false = none_late m.op
+
+      -- a read that goes on has tried: it is announced
+      tried : seq_of (announcement_of S w.words j) ≡ m.made → Stage S B low j w.batches m → HasTried S B low j w.batches next
+      tried says (inl a) = absurd (omega (arith, says, (subst (λ (p : Place). HoldsAtPlace S B w.words w.batches j m p) a.0 held).fresh.newer))
+      tried says (inr (inl a)) = absurd (omega (arith, says, (tries_at S Lawful B w.words w.batches g.core.shared j m m.place held a.0).0.fresh.newer))
+      tried says (inr (inr a)) = (a.0, omega (arith, a.1, may.2.0))
+
+      lost_next : LostAt w → IsOpen next.place → Lost S B low j w.batches next
+      lost_next l o =
+          let p : Lost S B low j w.batches m = l (may.2.1 o) in
+          let none = none_lost g.core j member may.1 made b in
+          let says = says_if g.core j member may.1 made b may.2 o in
+          record {
+            from = p.from;
+            tries = omega (arith, p.from, none.0);
+            rounds = omega (arith, p.from, none.1);
+            first = λ z. absurd (omega (arith, z, none.1));
+            stage = λ r. inr (inr (tried says (p.stage (ap S.meaning.reads_only (sym (op_if g.core j member may.1 made b refl may.2 o)) ∙ r))));
+            reads_from = reads_if g.core j member may.1 made b low;
+          }
+
   leads_on : (w : Moment) → MeetsInvariant S Lawful B w → low ≤ B.seq + length w.batches → (e : Event) → MayHappen S w e → Leads w (after_event S w e) (operation_begun e j) (outcome_of_event S w e j)
   leads_on w g u (Loads c) may = quiet w (after_event S w (Loads c)) refl [] (sym (append-nil w.batches))
   leads_on w g u (Evicts k) may = quiet w (after_event S w (Evicts k)) refl [] (sym (append-nil w.batches))
   leads_on w g u (Raises c) may = quiet w (after_event S w (Raises c)) refl [] (sym (append-nil w.batches))
+  leads_on w g u (Revives i made) may = go (cases_eq i j)
+    where
+      v : Moment
+      v = after_event S w (Revives i made)
+
+      go : (i ≡ j) ⊎ (i ≡ j → ⊥) → Leads w v [] (outcome_of_event S w (Revives i made) j)
+      go (inr away) =
+          subst (λ (b : Bool). Leads w v [] (if_so b (outcome_of_loss (committed_seq w.words) (is_idle (machine_in w i).place) (is_idle (machine_in v i).place)))) (sym (ne_eqb j i (λ e. away (sym e))))
+          (quiet w v (get_or-set_other w.machines i j (revived_machine S (remains_of S w.words i) i made) no_machine (λ e. away (sym e))) [] (sym (append-nil w.batches)))
+      go (inl same) =
+          let at_j : Leads w (after_event S w (Revives j made)) [] (outcome_of_event S w (Revives j made) j) =
+          subst (λ (b : Bool). Leads w (after_event S w (Revives j made)) [] (if_so b (outcome_of_loss (committed_seq w.words) (is_idle (machine_in w j).place) (is_idle (machine_in (after_event S w (Revives j made)) j).place)))) (sym (eq-eqb j j refl))
+          (revival w g u made (subst (λ (x : ℕ). MayHappen S w (Revives x made)) same may)) in
+          subst (λ (x : ℕ). Leads w (after_event S w (Revives x made)) [] (outcome_of_event S w (Revives x made) j)) (sym same) at_j
   leads_on w g u (Begins i op) may = go (cases_eq i j)
     where
       v : Moment

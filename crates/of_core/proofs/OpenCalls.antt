@@ -17,7 +17,7 @@ use Rattle.of_core.proofs.Ordering.{idle_is}
 
 module _ (S : Setup) (Lawful : List ℕ → Type 0) (B : TableStart) (w : Moment) (g : MeetsCore S Lawful B w) (i : ℕ) (m : CallState) (h : i < S.callers) where
   -- an open call isn't announced yet, or is announced, or its own batch is applied
-  abbrev Holds : Type 0
+  abbrev pub Holds : Type 0
   Holds = IsUnannounced S B w.words w.batches i m ⊎ (IsAnnounced S B w.words w.batches i m ⊎ (OwnsTransaction S B w.words w.batches i m × (B.seq < m.seq) × (m.seq ≤ committed_seq w.words)))
 
   helping : MayHelp S B w.words w.batches i m → Holds
@@ -31,7 +31,7 @@ module _ (S : Setup) (Lawful : List ℕ → Type 0) (B : TableStart) (w : Moment
       go true d = helping d.helper
       go false d = inr (inr (d, a.after, a.upto))
 
-  open_holds : (p : Place) → IsOpen p → HoldsAtPlace S B w.words w.batches i m p → Holds
+  pub open_holds : (p : Place) → IsOpen p → HoldsAtPlace S B w.words w.batches i m p → Holds
   open_holds Idle o a = cc
   open_holds TryCurrent o a = inl a.fresh
   open_holds TryRequest o a = inl a.trying.fresh

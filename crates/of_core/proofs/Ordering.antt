@@ -9,7 +9,7 @@ use Rattle.of_cell.proofs.Order.{seq_word, seq_mono}
 use Rattle.of_core.specs.declared.place.Place.{Place}
 use Rattle.of_core.specs.declared.place.Place.TheVariants.{Idle, TryCurrent, TryRequest, TryCell, StoreScript, StoreAnnouncement, LoadCurrent, LoadRequest, CopyLog, LookAgain, LoadOwnTicket, LoadShape, LoadReply, LoadAnnouncement, LoadTicket, LoadScript, LoadCell, RaiseOld, StoreLog, RaiseLog, StoreRequest, RaiseRequest, ExchangeCurrent, RaiseCurrent, LoadTarget, ExchangeTarget, ReloadTarget, RaiseTarget, CloseRequest, RaiseClosed}
 use Rattle.of_core.specs.declared.place.Outcome.{Outcome}
-use Rattle.of_core.specs.declared.place.Outcome.TheVariants.{Answered, Spent}
+use Rattle.of_core.specs.declared.place.Outcome.TheVariants.{Answered, Spent, Lost}
 use Rattle.of_core.specs.Table.{Setup, committed_seq, durable_seq, announcement_of}
 use Rattle.of_core.specs.Machine.{Call, CallState, IsOpen, is_idle}
 use Rattle.of_core.specs.TableMoment.{Moment, Batch, TableStart, Read, read_of, step_reads_if, step_reads_at}
@@ -403,6 +403,7 @@ module _ (S : Setup) (Lawful : List ℕ → Type 0) (B : TableStart) (w : Moment
       ended : (x : Option Outcome) → LastStepTells S m m.place x → LastOutcomeStands S B vs (w.batches ++ added) i d x → (read_of d x ≡ []) ⊎ ((r : Read) × (read_of d x ≡ r ∷ []) × Answer S B i w.words m d vs (w.batches ++ added) r)
       ended None c t = absurd c
       ended (Some (Spent s)) c t = inl refl
+      ended (Some (Lost s)) c t = absurd t
       ended (Some (Answered s true raw k)) c t = inl refl
       ended (Some (Answered s false raw k)) c t = inr (
         record { caller = d.caller; ticket = d.made; op = d.op; raw = raw; seq = s },

@@ -7,7 +7,7 @@ use Rattle.of_core.specs.Steps.{word_found}
 use Rattle.of_core.specs.TableMoment.{Moment, TableStart, Batch, Read, step_batches, step_reads}
 use Rattle.of_core.specs.History.{batch_at}
 use Rattle.of_core.specs.Order.{no_read}
-use Rattle.of_core.specs.Events.{Event, Begins, Turns, Loads, Evicts, Raises, after_event, after_events, machine_in, IsSchedule}
+use Rattle.of_core.specs.Events.{Event, Begins, Turns, Loads, Evicts, Raises, Revives, after_event, after_events, machine_in, IsSchedule}
 use Rattle.of_core.specs.Calls.{operation_begun, operations_begun, outcome_of_event, outcomes}
 use Rattle.of_core.specs.Machine.{CallState}
 use Rattle.of_core.proofs.States.{batch_same}
@@ -58,6 +58,7 @@ event_goes_on S w (Begins i op) = goes_nowhere w (after_event S w (Begins i op))
 event_goes_on S w (Loads c) = goes_nowhere w (after_event S w (Loads c)) refl refl
 event_goes_on S w (Evicts k) = goes_nowhere w (after_event S w (Evicts k)) refl refl
 event_goes_on S w (Raises c) = goes_nowhere w (after_event S w (Raises c)) refl refl
+event_goes_on S w (Revives i made) = goes_nowhere w (after_event S w (Revives i made)) refl refl
 event_goes_on S w (Turns i) =
     let m : CallState = machine_in w i in
     let n : ℕ = word_found S w.words m in

@@ -5,14 +5,14 @@ use Rattle.std.proofs.lemmas.Bool.{cases_lt, cases_eq, ne_eqb}
 use Rattle.std.proofs.lemmas.List.{append_assoc, append-nil, length-append, get_or_append_left, get_or-append_right}
 use Rattle.of_mem.specs.Meaning.{IsSoundMeaning}
 use Rattle.of_core.specs.declared.place.Outcome.{Outcome}
-use Rattle.of_core.specs.declared.place.Outcome.TheVariants.{Answered, Spent}
+use Rattle.of_core.specs.declared.place.Outcome.TheVariants.{Answered, Spent, Lost}
 use Rattle.of_core.specs.Table.{Setup, first_operation_cell, durable_seq}
 use Rattle.of_core.specs.Machine.{Call, no_call}
 use Rattle.of_core.specs.TableMoment.{Moment, TableStart, Batch, Read}
 use Rattle.of_core.specs.History.{batch_at}
 use Rattle.of_core.specs.Order.{no_read}
 use Rattle.of_core.specs.Invariant.{MeetsInvariant}
-use Rattle.of_core.specs.Events.{Event, Begins, Turns, Loads, Evicts, Raises, after_event, after_events, machine_in, MayHappen, IsSchedule, start_ticket}
+use Rattle.of_core.specs.Events.{Event, Begins, Turns, Loads, Evicts, Raises, Revives, after_event, after_events, machine_in, MayHappen, IsSchedule, start_ticket}
 use Rattle.of_core.specs.Turn.{IsIdle}
 use Rattle.of_core.proofs.Happenings.{event_good}
 use Rattle.of_core.proofs.CallEvents.{calls_kept}
@@ -30,11 +30,13 @@ beyond_lower : (a b : ℕ) → a ≤ b → (o : Outcome) → IsNotBefore b o →
 beyond_lower a b l (Answered s true raw steps) h = omega (arith, h, l)
 beyond_lower a b l (Answered s false raw steps) h = omega (arith, h, l)
 beyond_lower a b l (Spent s) h = omega (arith, h, l)
+beyond_lower a b l (Lost s) h = omega (arith, h, l)
 
 is_since : (S : Setup) (from : ℕ) (op : List ℕ) (o : Outcome) → IsNotBefore from o → EndsLate S from op o → IsSince S from op o
 is_since S from op (Answered s true raw steps) b l = (b, l)
 is_since S from op (Answered s false raw steps) b l = b
 is_since S from op (Spent s) b l = (b, l)
+is_since S from op (Lost s) b l = b
 
 module _ (S : Setup) (Lawful : List ℕ → Type 0) (sound : IsSoundMeaning S.meaning Lawful (first_operation_cell S) S.cells) (B : TableStart) (first : Moment) (good_first : MeetsInvariant S Lawful B first)
     (none : (i : ℕ) → i < S.callers → HasCalls S B (start_ticket S B i) first i [] []) (es : List Event) (schedule : IsSchedule S first es) where
@@ -91,9 +93,9 @@ module _ (S : Setup) (Lawful : List ℕ → Type 0) (sound : IsSoundMeaning S.me
     stood : (i x : ℕ) → i < S.callers → x < length (outcomes S first us i) → Was i x (ended i x)
     stood i x member l = (calls_between i member).each x l
 
-    -- at no sequence above the durable one
-    pub ended_low : (i x : ℕ) → i < S.callers → x < length (outcomes S first us i) → outcome_seq (ended i x) ≤ durable_seq S between.words
-    ended_low i x member l = stood_low S B between i (start_ticket S B i + x + 1) (get_or (operations_begun us i) x []) (ended i x) (stood i x member l)
+    -- at no sequence above the last one
+    pub ended_low : (i x : ℕ) → i < S.callers → x < length (outcomes S first us i) → outcome_seq (ended i x) ≤ B.seq + length between.batches
+    ended_low i x member l = stood_low S B between i (start_ticket S B i + x + 1) (get_or (operations_begun us i) x []) (ended i x) (reached S Lawful B between good_between) (stood i x member l)
 
     pub durable_between : durable_seq S between.words ≤ B.seq + length between.batches
     durable_between = reached S Lawful B between good_between
@@ -124,9 +126,9 @@ module _ (S : Setup) (Lawful : List ℕ → Type 0) (sound : IsSoundMeaning S.me
             let here = (subst (λ (b : Batch). (z : ℕ) (c : Call) → z < length b.calls → (get_or b.calls z c).caller ≡ i → (start_ticket S B i < (get_or b.calls z c).ticket) × ((get_or b.calls z c).ticket ≤ start_ticket S B i + length (operations_begun us i)) × ((get_or b.calls z c).op ≡ get_or (operations_begun us i) ((get_or b.calls z c).ticket - start_ticket S B i - 1) [])) (sym same) all) y d v refl in
             absurd (omega (arith, here.1, not_begun))
 
-    -- one that has ended is in a durable one
+    -- one that has ended is in none after the last one
     pub ended_call : (k y : ℕ) (d : Call) → B.seq < k → k ≤ B.seq + length last_world.batches → y < length (batch_at B last_world.batches k).calls
-        → (call k y d).ticket ≤ start_ticket S B (call k y d).caller + length (outcomes S first us (call k y d).caller) → k ≤ durable_seq S between.words
+        → (call k y d).ticket ≤ start_ticket S B (call k y d).caller + length (outcomes S first us (call k y d).caller) → k ≤ B.seq + length between.batches
     ended_call k y d l u v has_ended = go (ended i x) (subst (OutcomeStands S B last_world i t (get_or (operations_begun es i) x [])) (still i x x_in) ((last_calls i member).each x (omega (arith, x_in, ap length (outcomes_are i), length-append (outcomes S first us i) (outcomes S between vs i))))) (ended_low i x member x_in)
       where
         i : ℕ
@@ -150,10 +152,10 @@ module _ (S : Setup) (Lawful : List ℕ → Type 0) (sound : IsSoundMeaning S.me
         x_in : x < length (outcomes S first us i)
         x_in = omega (arith, from, has_ended)
 
-        go : (o : Outcome) → OutcomeStands S B last_world i t (get_or (operations_begun es i) x []) o → outcome_seq o ≤ durable_seq S between.words → k ≤ durable_seq S between.words
+        go : (o : Outcome) → OutcomeStands S B last_world i t (get_or (operations_begun es i) x []) o → outcome_seq o ≤ B.seq + length between.batches → k ≤ B.seq + length between.batches
         go (Answered s true raw steps) h low = at (cases_lt s k)
           where
-            at : (s < k) ⊎ (k ≤ s) → k ≤ durable_seq S between.words
+            at : (s < k) ⊎ (k ≤ s) → k ≤ B.seq + length between.batches
             at (inl a) = absurd (omega (arith, tickets_rise S Lawful B last_world.batches good_last.core.shared.stands s k h.0 a u h.2.place no_call h.2.among y d v (sym h.2.caller), h.2.ticket, t_is))
             at (inr a) = omega (arith, a, low)
         go (Answered s false raw steps) h low = at (good_last.order.ordered.apart k l u y d v h.1.0 no_read h.1.1 (sym (ap (λ (r : Read). r.caller) h.1.2)))
@@ -161,10 +163,11 @@ module _ (S : Setup) (Lawful : List ℕ → Type 0) (sound : IsSoundMeaning S.me
             same : (get_or last_world.reads h.1.0 no_read).ticket ≡ t
             same = ap (λ (r : Read). r.ticket) h.1.2
 
-            at : (((call k y d).ticket < (get_or last_world.reads h.1.0 no_read).ticket) × (k ≤ (get_or last_world.reads h.1.0 no_read).seq)) ⊎ (((get_or last_world.reads h.1.0 no_read).ticket < (call k y d).ticket) × ((get_or last_world.reads h.1.0 no_read).seq < k)) → k ≤ durable_seq S between.words
+            at : (((call k y d).ticket < (get_or last_world.reads h.1.0 no_read).ticket) × (k ≤ (get_or last_world.reads h.1.0 no_read).seq)) ⊎ (((get_or last_world.reads h.1.0 no_read).ticket < (call k y d).ticket) × ((get_or last_world.reads h.1.0 no_read).seq < k)) → k ≤ B.seq + length between.batches
             at (inl a) = absurd (omega (arith, a.0, same, t_is))
             at (inr a) = absurd (omega (arith, a.0, same, t_is))
         go (Spent s) h low = absurd (omega (arith, h.2 k l u y d v refl, t_is))
+        go (Lost s) h low = omega (arith, (h.1 k l u y d v refl).0 (omega (arith, t_is)), low)
 
     -- the read a
     abbrev read : ℕ → Read
@@ -284,6 +287,7 @@ module _ (S : Setup) (Lawful : List ℕ → Type 0) (sound : IsSoundMeaning S.me
         go (Answered s true raw steps) e h = late_call s h.2.place no_call h.0 (omega (arith, h.1, reached S Lawful B last_world good_last)) h.2.among (rw (h.2.caller, h.2.ticket) (omega (arith, not_begun)))
         go (Answered s false raw steps) e h = e
         go (Spent s) e h = omega (arith, h.0, few S Lawful B between good_between)
+        go (Lost s) e h = e
 
     -- so a call comes after one that had ended before it began
     pub beyond : (i x j y : ℕ) → i < S.callers → j < S.callers → x < length (outcomes S first us i) → length (operations_begun us j) ≤ y → y < length (outcomes S first es j)
@@ -324,6 +328,7 @@ module _ (S : Setup) (Lawful : List ℕ → Type 0) (sound : IsSoundMeaning S.me
       begins_idle (Loads j) may a = absurd (omega arith)
       begins_idle (Evicts j) may a = absurd (omega arith)
       begins_idle (Raises j) may a = absurd (omega arith)
+      begins_idle (Revives j made) may a = absurd (omega arith)
 
       few : (d : Event) → length (operation_begun d i) ≤ 1
       few (Begins j op) = at (i == j)
@@ -335,6 +340,7 @@ module _ (S : Setup) (Lawful : List ℕ → Type 0) (sound : IsSoundMeaning S.me
       few (Loads j) = omega arith
       few (Evicts j) = omega arith
       few (Raises j) = omega arith
+      few (Revives j made) = omega arith
 
       later : Between (after_event S w e) es (ops ++ operation_begun e i) (outs ++ outcome_of_event S w e i) x → Between w (e ∷ es) ops outs x
       later h = (

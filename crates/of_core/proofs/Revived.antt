@@ -1,7 +1,7 @@
 -- A new machine takes the place of one that is lost: what it relies on holds of the words, and of what the lost one relied on.
-use Rattle.std.proofs.Common.{◌≡◌, ℕ, zero, suc, ◌+◌, ◌-◌, ◌*◌, ◌<◌, ◌≤◌, ◌⊎◌, inl, inr, List, [], ◌∷◌, length, get_or, set, take, max, refl, sym, ◌∙◌, ap, subst, arith, length-append, Bool, true, false, nat_lt}
+use Rattle.std.proofs.Common.{◌≡◌, ℕ, zero, suc, ◌+◌, ◌-◌, ◌*◌, ◌<◌, ◌≤◌, ◌⊎◌, inl, inr, List, [], ◌∷◌, length, get_or, set, take, max, refl, sym, ◌∙◌, ap, subst, arith, length-append, Bool, true, false, nat_lt, ◌==◌, None}
 use Rattle.std.specs.List.{All}
-use Rattle.std.proofs.lemmas.Bool.{cases_eq, cases_lt, cases_order}
+use Rattle.std.proofs.lemmas.Bool.{cases_eq, cases_lt, cases_order, ne_eqb}
 use Rattle.std.proofs.lemmas.List.{get_or-set_same, get_or-set_other, get_or_default, take-append-le, take_all}
 use Rattle.std.proofs.Math.Nat.{mul_comm}
 use Rattle.of_cell.specs.Words.{pack, seq_of, payload_of}
@@ -9,7 +9,7 @@ use Rattle.of_cell.proofs.Order.{seq_word, pay_word, pay_small, seq_mono, seq_fr
 use Rattle.of_core.specs.declared.place.Place.{Place}
 use Rattle.of_core.specs.declared.place.Place.TheVariants.{Idle, TryCurrent, TryRequest, TryCell, StoreScript, StoreAnnouncement, LoadCurrent, LoadRequest, CopyLog, LookAgain, LoadOwnTicket, LoadShape, LoadReply, LoadAnnouncement, LoadTicket, LoadScript, LoadCell, RaiseOld, StoreLog, RaiseLog, StoreRequest, RaiseRequest, ExchangeCurrent, RaiseCurrent, LoadTarget, ExchangeTarget, ReloadTarget, RaiseTarget, CloseRequest, RaiseClosed}
 use Rattle.of_core.specs.Table.{most_entries, Setup, ticket_cell, request_at, current_word, request_of, data_word, log_word_of, durable_request, script_word, script_words_of, announcement_of, committed_seq, committed_owner}
-use Rattle.of_core.specs.Machine.{Call, no_call, CallState, IsOpen, no_machine, log_words}
+use Rattle.of_core.specs.Machine.{Call, no_call, CallState, IsOpen, no_machine, log_words, is_idle}
 use Rattle.of_core.specs.TableMoment.{Moment, TableStart, Batch}
 use Rattle.of_core.specs.History.{batch_at, data_word_after, last_ticket_by, HasNoCallBetween, IsCellOfCaller, IsNewestCall}
 use Rattle.of_core.specs.WordsMatch.{WordsMatchHistory, IsLastOpen}
@@ -18,26 +18,29 @@ use Rattle.of_core.specs.Transaction.{IsApplying, AppliesAs, OwnsTransaction, Ha
 use Rattle.of_core.specs.Invariant.{MeetsInvariant, MeetsCore, HoldsAtPlace}
 use Rattle.of_core.specs.Order.{KeepsCallOrder, HasOnlyOlderCalls, HasBegunTry, WasMadeBefore}
 use Rattle.of_core.specs.Bound.{MachineIsWithinBound}
-use Rattle.of_core.specs.Least.{HasMadeLeastSteps}
+use Rattle.of_core.specs.Least.{HasMadeLeastSteps, made_helping, made_applying, least_steps_at}
 use Rattle.of_core.specs.Guarantees.{Guarantees}
 use Rattle.of_core.specs.Events.{machine_in}
-use Rattle.of_core.specs.Remains.{remains_of, MayRevive, IsOwnOpen, announces_open_call, revived_if, revived_machine, after_revival}
+use Rattle.of_core.specs.Facts.{ReadsFrom}
+use Rattle.of_core.specs.Calls.{IsSplitAt}
+use Rattle.of_core.specs.Remains.{remains_of, MayRevive, IsOwnOpen, announces_open_call, revived_if, revived_machine, CountsOn, after_revival}
 use Rattle.of_core.specs.Revived.{HasOlderReads, CountsReads}
 use Rattle.of_core.proofs.Assembling.{assemble, moves_not, logs_of, small_words}
 use Rattle.of_core.proofs.Idle.{idle_or_open}
 use Rattle.of_core.proofs.Least.{idle_late}
+use Rattle.of_core.proofs.OpenCalls.{Holds, open_holds as held_how, upto_at}
 use Rattle.of_core.proofs.Ordering.{announces_at}
 use Rattle.of_core.proofs.Rounds.{own_seq, row_in}
 use Rattle.of_core.proofs.States.{old}
 use Rattle.of_core.proofs.Tests.{is_newer, not_newer}
 use Rattle.of_core.proofs.Tickets.{tickets_grow, ticket_upto}
 
-said_length : (S : Setup) (ws : List ℕ) (i n : ℕ) → length (script_words_of S ws i n) ≡ n
+pub said_length : (S : Setup) (ws : List ℕ) (i n : ℕ) → length (script_words_of S ws i n) ≡ n
 said_length S ws i zero = refl
 said_length S ws i (suc n) = length-append (script_words_of S ws i n) (script_word S ws i n ∷ []) ∙ ap (λ (k : ℕ). k + 1) (said_length S ws i n) ∙ (let e : n + 1 ≡ suc n = omega arith in e)
 
 -- the first words of a script that is read as far as n
-said_front : (S : Setup) (ws : List ℕ) (i k n : ℕ) → k ≤ n → take k (script_words_of S ws i n) ≡ script_words_of S ws i k
+pub said_front : (S : Setup) (ws : List ℕ) (i k n : ℕ) → k ≤ n → take k (script_words_of S ws i n) ≡ script_words_of S ws i k
 said_front S ws i k zero l = let e : k ≡ 0 = omega arith in rw e refl
 said_front S ws i k (suc n) l = go (cases_lt n k) (said_front S ws i k n)
   where
@@ -334,6 +337,15 @@ module _ {S : Setup} {Lawful : List ℕ → Type 0} {B : TableStart} where
           let p : IsAnnounced S B w.words w.batches i m × IsOpen m.place = behind (omega (arith, v, t, ap (last_ticket_by S B w.batches n) q)) in
           p.0.mine s l u y e z q (t ∙ own_seq g h m p.0) ∙ lost_op p.0
 
+      -- the lost machine's open call, if it is the announced one, has these words
+      holds_op : a ≡ m.made → Holds S Lawful B w g i m h → m.op ≡ d.op
+      holds_op says (inl f) = absurd (omega (arith, says, f.newer))
+      holds_op says (inr (inl p)) = lost_op p
+      holds_op says (inr (inr q)) = let c = q.0.call in sym c.same ∙ one_op m.seq q.1 q.2 c.place no_call c.among c.caller (c.ticket ∙ sym says)
+
+      pub same_op : a ≡ m.made → IsOpen m.place → m.op ≡ d.op
+      same_op says o = holds_op says (held_how S Lawful B w g i m h m.place o held)
+
       begun : IsAnnounced S B w.words w.batches i d
       begun = record {
         caller = refl;
@@ -446,10 +458,45 @@ module _ {S : Setup} {Lawful : List ℕ → Type 0} {B : TableStart} where
         go (inl q) = omega (arith, ap payload_of q, is_newer (payload_of cell) a e)
         go (inr q) = absurd (closed q.0)
 
+    -- if it counts on, an open call is the announced one of the lost machine, with its words
+    pub op_if : (made : ℕ) (b : Bool) → nat_lt (payload_of cell) a ≡ b → CountsOn m (revived_if S (remains_of S w.words i) i made b) → IsOpen (revived_if S (remains_of S w.words i) i made b).place → (revived_if S (remains_of S w.words i) i made b).op ≡ m.op
+    op_if made true e c o = sym (same_op made (is_newer (payload_of cell) a e) c.0 (c.1 o))
+    op_if made false e c o = cc
+
+    pub says_if : (made : ℕ) (b : Bool) → CountsOn m (revived_if S (remains_of S w.words i) i made b) → IsOpen (revived_if S (remains_of S w.words i) i made b).place → a ≡ m.made
+    says_if made true c o = c.0
+    says_if made false c o = cc
+
+    -- it has no answer, and has lost nothing
+    pub silent_if : (made : ℕ) (b : Bool) → (revived_if S (remains_of S w.words i) i made b).answer ≡ None
+    silent_if made true = refl
+    silent_if made false = refl
+
+    pub none_lost : (made : ℕ) (b : Bool) → ((revived_if S (remains_of S w.words i) i made b).tries ≡ 0) × ((revived_if S (remains_of S w.words i) i made b).rounds ≡ 0)
+    none_lost made true = (refl, refl)
+    none_lost made false = (refl, refl)
+
     -- it has begun no try
     no_try : (made : ℕ) (b : Bool) → HasBegunTry (revived_if S (remains_of S w.words i) i made b) (revived_if S (remains_of S w.words i) i made b).place → ⊥
     no_try made true t = t
     no_try made false t = t
+
+    pub reads_if : (made : ℕ) (b : Bool) (s : ℕ) → ReadsFrom s (revived_if S (remains_of S w.words i) i made b)
+    unfolding ReadsFrom
+    reads_if made b s t = absurd (no_try made b t)
+
+    -- the calls of the caller so far are in the batches so far
+    pub split_now : (t : ℕ) → t ≡ m.made → IsSplitAt B w i t n
+    split_now t e x l u y z f q = (
+      λ v. omega (arith, u, n_is),
+      λ v. omega (
+        arith,
+        ticket_upto S Lawful B w.batches g.shared.stands x n l (omega (arith, u, n_is)) (omega (arith, n_is)) y z f,
+        ap (λ (j : ℕ). last_ticket_by S B w.batches n j) q,
+        upto_at S Lawful B w g i m h m.place held,
+        e,
+      ),
+    )
 
   -- the whole invariant
   module _ {w : Moment} (g : MeetsInvariant S Lawful B w) (i : ℕ) (h : i < S.callers) (may : MayRevive (remains_of S w.words i) i) (made : ℕ) where
@@ -468,6 +515,19 @@ module _ {S : Setup} {Lawful : List ℕ → Type 0} {B : TableStart} where
             subst (λ (y : CallState). P j y) same (rw e own)
         go (inr e) = others j x l (sym (get_or-set_other w.machines i j next x e) ∙ q)
 
+    -- it counts the answered reads of its caller if it counts the lost machine's calls
+    counts_reads : CountsOn (machine_in w i) next → CountsReads S w i made
+    counts_reads c y r l q = go (is_idle (machine_in w i).place) (is_idle next.place) refl refl ((g.order.behind i (machine_in w i) h own).older y r l q)
+      where
+        own : get_or w.machines i (machine_in w i) ≡ machine_in w i
+        own = get_or_default w.machines i (machine_in w i) no_machine (omega (arith, g.core.members))
+
+        go : (a b : Bool) → is_idle (machine_in w i).place ≡ a → is_idle next.place ≡ b → WasMadeBefore (machine_in w i) (get_or w.reads y r) a → WasMadeBefore next (get_or w.reads y r) b
+        go true true e f p = omega (arith, p, c.0)
+        go false true e f p = omega (arith, p, c.0)
+        go false false e f p = omega (arith, p, c.0)
+        go true false e f p = let z : true ≡ false = sym e ∙ c.1 f in cc
+
     order_now : HasOlderReads w i next → KeepsCallOrder S B (after_revival S i made w)
     order_now older = record {
       ordered = g.order.ordered;
@@ -482,6 +542,73 @@ module _ {S : Setup} {Lawful : List ℕ → Type 0} {B : TableStart} where
       within = each_now (λ (j : ℕ) (x : CallState). MachineIsWithinBound S x x.place) g.within (within_if g.core i h may made (announces_open_call (remains_of S w.words i)) refl);
       late = each_now (λ (j : ℕ) (x : CallState). HasMadeLeastSteps S x x.place) g.late (late_if g.core i h may made (announces_open_call (remains_of S w.words i)) refl);
     }
+
+    pub counted_good : CountsOn (machine_in w i) next → MeetsInvariant S Lawful B (after_revival S i made w)
+    counted_good c = revived_good (counts_reads c)
+
+    -- an announced call has made the steps of its announcement
+    announced_steps : (m : CallState) → seq_of (announcement_of S w.words i) ≡ m.made → (p : Place) → IsOpen p → HoldsAtPlace S B w.words w.batches i m p → length m.op + 1 ≤ least_steps_at m p
+    announced_steps m says p o a = at p o a
+      where
+        helper_steps : MayHelp S B w.words w.batches i m → length m.op + 1 ≤ made_helping m.op (m.rounds == 0)
+        helper_steps (inl r) = rw (ne_eqb m.rounds 0 (λ e. omega (arith, e, r.begun_one))) (omega arith)
+        helper_steps (inr t) = absurd (omega (arith, says, t.fresh.newer))
+
+        mode_steps : (b : Bool) → AppliesAs S B w.words w.batches i m b → length m.op + 1 ≤ made_applying m.op (m.rounds == 0) b
+        mode_steps true q = helper_steps q.helper
+        mode_steps false q = omega arith
+
+        at : (p : Place) → IsOpen p → HoldsAtPlace S B w.words w.batches i m p → length m.op + 1 ≤ least_steps_at m p
+        at Idle o a = cc
+        at TryCurrent o a = absurd (omega (arith, says, a.fresh.newer))
+        at TryRequest o a = absurd (omega (arith, says, a.trying.fresh.newer))
+        at (TryCell x) o a = absurd (omega (arith, says, a.trying.fresh.newer))
+        at (StoreScript j) o a = absurd (omega (arith, says, a.fresh.newer))
+        at StoreAnnouncement o a = absurd (omega (arith, says, a.fresh.newer))
+        at LoadCurrent o a = omega arith
+        at LoadRequest o a = omega arith
+        at (CopyLog x) o a = helper_steps a.copies.helping.helper
+        at LookAgain o a = helper_steps a.copies.helping.helper
+        at LoadOwnTicket o a = omega arith
+        at LoadShape o a = omega arith
+        at (LoadReply j) o a = omega arith
+        at LoadAnnouncement o a = omega arith
+        at LoadTicket o a = omega arith
+        at (LoadScript j) o a = omega arith
+        at (LoadCell x) o a = omega arith
+        at RaiseOld o a = omega arith
+        at (StoreLog x) o a = omega arith
+        at (RaiseLog x) o a = omega arith
+        at StoreRequest o a = omega arith
+        at RaiseRequest o a = omega arith
+        at ExchangeCurrent o a = omega arith
+        at RaiseCurrent o a = mode_steps m.helps a.mode
+        at (LoadTarget j) o a = mode_steps m.helps a.applies.mode
+        at (ExchangeTarget j f) o a = mode_steps m.helps a.entry.applies.mode
+        at (ReloadTarget j) o a = mode_steps m.helps a.entry.applies.mode
+        at (RaiseTarget j f) o a = mode_steps m.helps a.entry.applies.mode
+        at CloseRequest o a = mode_steps m.helps a.applies.mode
+        at RaiseClosed o a = mode_steps m.helps a.applies.mode
+
+    -- so it has made no more steps than the lost machine
+    pub fewer_steps : CountsOn (machine_in w i) next → next.steps ≤ (machine_in w i).steps
+    fewer_steps c = go (announces_open_call (remains_of S w.words i)) refl c
+      where
+        own : get_or w.machines i (machine_in w i) ≡ machine_in w i
+        own = get_or_default w.machines i (machine_in w i) no_machine (omega (arith, g.core.members))
+
+        go : (b : Bool) → announces_open_call (remains_of S w.words i) ≡ b → CountsOn (machine_in w i) (revived_if S (remains_of S w.words i) i made b) → (revived_if S (remains_of S w.words i) i made b).steps ≤ (machine_in w i).steps
+        go false e c = omega arith
+        go true e c =
+            let o : IsOpen (machine_in w i).place = c.1 refl in
+            let op : (machine_in w i).op ≡ (revived_if S (remains_of S w.words i) i made true).op = sym (op_if g.core i h may made true e c refl) in
+            omega (
+              arith,
+              announced_steps (machine_in w i) c.0 (machine_in w i).place o (g.core.each i (machine_in w i) h own),
+              (g.late i (machine_in w i) h own).steps,
+              ap length op,
+              many g.core i h may made (is_newer (payload_of (data_word S w.words (ticket_cell S i))) (seq_of (announcement_of S w.words i)) e),
+            )
 
     -- below the limit an open call is newer than all reads of its caller
     pub open_counts : announces_open_call (remains_of S w.words i) ≡ true → committed_seq w.words < S.limit → CountsReads S w i made
@@ -500,3 +627,16 @@ module _ {S : Setup} {Lawful : List ℕ → Type 0} {B : TableStart} where
         older y r l q =
             let p : WasMadeBefore (machine_in w i) (get_or w.reads y r) false = subst (λ (b : Bool). WasMadeBefore (machine_in w i) (get_or w.reads y r) b) was.0 ((g.order.behind i (machine_in w i) h own).older y r l q) in
             omega (arith, p, was.1)
+
+    -- below the limit it counts on from the lost machine's number
+    pub counts_on : made ≡ (machine_in w i).made → committed_seq w.words < S.limit → CountsOn (machine_in w i) next
+    counts_on e under = go (announces_open_call (remains_of S w.words i)) refl
+      where
+        cell : ℕ
+        cell = payload_of (data_word S w.words (ticket_cell S i))
+
+        go : (b : Bool) → announces_open_call (remains_of S w.words i) ≡ b → CountsOn (machine_in w i) (revived_if S (remains_of S w.words i) i made b)
+        go true q =
+            let p = lost_open g.core i h may made (is_newer cell (seq_of (announcement_of S w.words i)) q) under in
+            (p.1, λ o. p.0)
+        go false q = (omega (arith, e, high g.core i h may, upto_at S Lawful B w g.core i (machine_in w i) h (machine_in w i).place (held g.core i h may)), λ o. cc)

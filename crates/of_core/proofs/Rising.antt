@@ -13,7 +13,7 @@ use Rattle.of_core.specs.Steps.{want, want_at, word_of, words_after, word_found}
 use Rattle.of_core.specs.TableMoment.{Moment, TableStart}
 use Rattle.of_core.specs.Invariant.{HoldsAtPlace, MeetsCore, MeetsInvariant}
 use Rattle.of_core.specs.Guarantees.{Guarantees}
-use Rattle.of_core.specs.Events.{Event, Begins, Turns, Loads, Evicts, Raises, machine_in, after_event, MayHappen, after_events, IsSchedule}
+use Rattle.of_core.specs.Events.{Event, Begins, Turns, Loads, Evicts, Raises, Revives, machine_in, after_event, MayHappen, after_events, IsSchedule}
 use Rattle.of_core.proofs.Found.{found_now}
 use Rattle.of_core.proofs.Stability.{owner_in, entry_in}
 use Rattle.of_core.proofs.StepKept.{step_moves}
@@ -91,6 +91,7 @@ module _ (S : Setup) (Lawful : List ℕ → Type 0) (sound : IsSoundMeaning S.me
   event_rises w g (Begins i op) may = inl refl
   event_rises w g (Loads c) may = inl refl
   event_rises w g (Evicts k) may = inl (get_or-set_other w.words (durable_at S (get_or w.loaded k (0, 0)).0) (data_at S a) _ 0 (λ e. omega (arith, e, l)))
+  event_rises w g (Revives i made) may = inl refl
   event_rises w g (Raises c) may = inl (get_or-set_other w.words (durable_at S c) (data_at S a) _ 0 (λ e. omega (arith, e, l)))
 
   pub cells_rise : (es : List Event) (w : Moment) → MeetsInvariant S Lawful B w → IsSchedule S w es → Rises S a w.words (after_events S w es).words

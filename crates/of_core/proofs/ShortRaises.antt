@@ -12,7 +12,7 @@ use Rattle.of_core.specs.Steps.{want, word_found, words_after}
 use Rattle.of_core.specs.TableMoment.{Moment, TableStart, after_step}
 use Rattle.of_core.specs.Invariant.{MeetsInvariant, IsLoaded}
 use Rattle.of_core.specs.Guarantees.{Guarantees}
-use Rattle.of_core.specs.Events.{Event, Begins, Turns, Loads, Evicts, Raises, one_if, after_raise, machine_in, after_event, MayHappen, after_events, IsSchedule}
+use Rattle.of_core.specs.Events.{Event, Begins, Turns, Loads, Evicts, Raises, Revives, one_if, after_raise, machine_in, after_event, MayHappen, after_events, IsSchedule}
 use Rattle.of_core.specs.Raised.{goes_round, lower_changes, is_pending, pending_among, pending}
 use Rattle.of_core.proofs.Found.{found_now}
 use Rattle.of_core.proofs.Durables.{step_durables}
@@ -228,6 +228,7 @@ module _ (S : Setup) (Lawful : List ℕ → Type 0) (sound : IsSoundMeaning S.me
 
     leaves : (e : Event) → MayHappen S w e → Leaves (after_event S w e)
     leaves (Begins i op) may = (let a = stays_not (durable_word S w.words c) (durable_word S w.words c) v (inl refl) in omega (arith, a), t)
+    leaves (Revives i made) may = (let a = stays_not (durable_word S w.words c) (durable_word S w.words c) v (inl refl) in omega (arith, a), t)
     leaves (Turns i) may = turn_leaves i may
     leaves (Loads x) may = (
       let a = stays_not (durable_word S w.words c) (durable_word S w.words c) v (inl refl) in

@@ -9,7 +9,7 @@ use Rattle.of_mem.specs.declared.work.RawReply.{RawReply}
 use Rattle.of_core.specs.declared.place.Place.{Place}
 use Rattle.of_core.specs.declared.place.Place.TheVariants.{Idle, TryCurrent, TryRequest, TryCell, StoreScript, StoreAnnouncement, LoadCurrent, LoadRequest, CopyLog, LookAgain, LoadOwnTicket, LoadShape, LoadReply, LoadAnnouncement, LoadTicket, LoadScript, LoadCell, RaiseOld, StoreLog, RaiseLog, StoreRequest, RaiseRequest, ExchangeCurrent, RaiseCurrent, LoadTarget, ExchangeTarget, ReloadTarget, RaiseTarget, CloseRequest, RaiseClosed}
 use Rattle.of_core.specs.declared.place.Outcome.{Outcome}
-use Rattle.of_core.specs.declared.place.Outcome.TheVariants.{Answered, Spent}
+use Rattle.of_core.specs.declared.place.Outcome.TheVariants.{Answered, Spent, Lost}
 use Rattle.of_core.specs.Table.{most_entries, Setup, ticket_cell, cell_count, request_at, data_at, log_at, script_words_of, script_word, announcement_of, current_word, request_of, data_word, log_word_of, durable_word, durable_request, durable_cell, committed_seq, committed_owner, durable_seq}
 use Rattle.of_core.specs.Machine.{CallState, Call, log_entry, log_words}
 use Rattle.of_core.specs.TableMoment.{Batch, TableStart}
@@ -541,6 +541,7 @@ module _ (S : Setup) (Lawful : List ℕ → Type 0) (B : TableStart) (i : ℕ) (
     told_stable m None a h = tt
     told_stable m (Some (Answered s false raw steps)) a h = record { from = h.from; durable = omega (arith, h.durable, risen_up); upto = omega (arith, h.upto, grows); reply = rw (v.states s h.from h.upto) h.reply; reads = h.reads }
     told_stable m (Some (Answered s true raw steps)) a h = record { from = h.from; durable = omega (arith, h.durable, risen_up); upto = omega (arith, h.upto, grows); call = rw (v.batches s h.from h.upto) h.call }
+    told_stable m (Some (Lost s)) a h = absurd h
     told_stable m (Some (Spent s)) a h =
         let e : committed_seq vs ≡ committed_seq ws = omega (arith, h.limit, h.last, v.limit, grows) in record {
           left = rw (ap (λ (k : ℕ). last_ticket_by S B cs k j) e, tick_same (committed_seq ws) j from_start (omega arith)) h.left;

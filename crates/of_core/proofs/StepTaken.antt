@@ -6,7 +6,7 @@ use Rattle.of_cell.proofs.Order.{seq_word}
 use Rattle.of_core.specs.declared.place.Place.{Place}
 use Rattle.of_core.specs.declared.place.Place.TheVariants.{Idle, TryCurrent, TryRequest, TryCell, StoreScript, StoreAnnouncement, LoadCurrent, LoadRequest, CopyLog, LookAgain, LoadOwnTicket, LoadShape, LoadReply, LoadAnnouncement, LoadTicket, LoadScript, LoadCell, RaiseOld, StoreLog, RaiseLog, StoreRequest, RaiseRequest, ExchangeCurrent, RaiseCurrent, LoadTarget, ExchangeTarget, ReloadTarget, RaiseTarget, CloseRequest, RaiseClosed}
 use Rattle.of_core.specs.declared.place.Outcome.{Outcome}
-use Rattle.of_core.specs.declared.place.Outcome.TheVariants.{Answered, Spent}
+use Rattle.of_core.specs.declared.place.Outcome.TheVariants.{Answered, Spent, Lost}
 use Rattle.of_core.specs.Table.{Setup, committed_seq}
 use Rattle.of_core.specs.Machine.{CallState, IsOpen, is_idle, begin_call, first_place}
 use Rattle.of_core.specs.Steps.{want, want_at, take_word, take_word_at, with_step_counted, IsFoundBy}
@@ -118,6 +118,7 @@ module _ (S : Setup) (Lawful : List ℕ → Type 0) (B : TableStart) (w : Moment
         e,
         (omega (arith, t.1, c.1), t.2, answer (Some (Answered s false raw k)) e ∙ same_read d.caller d.made d.op (record { caller = m.caller; ticket = m.made; op = m.op; raw = raw; seq = s }) facts.caller facts.made facts.op, λ low r. omega (arith, r t.0, t.1)),
       )
+      go (Some (Lost s)) e t = absurd t
       go (Some (Spent s)) e t = (Spent s, e, (omega (arith, t.0, c.1), t.1, answer (Some (Spent s)) e))
 
   -- a try goes on at the state that it loaded, and a new one loads the last

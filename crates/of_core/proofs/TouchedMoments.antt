@@ -1,6 +1,6 @@
 -- If operations touch few cells, no call makes more steps than the bound by that, in each schedule
 -- from a start.
-use Rattle.std.proofs.Common.{◌≡◌, ◌⊎◌, inl, inr, ℕ, ◌+◌, ◌*◌, ◌-◌, ◌<◌, ◌≤◌, List, [], ◌∷◌, length, get_or, max, refl, sym, ◌∙◌, ap, subst, arith, Bool, true, false}
+use Rattle.std.proofs.Common.{◌≡◌, ◌⊎◌, inl, inr, ℕ, ◌+◌, ◌*◌, ◌-◌, ◌<◌, ◌≤◌, List, [], ◌∷◌, length, get_or, set, take, max, refl, sym, ◌∙◌, ap, subst, arith, Bool, true, false}
 use Rattle.std.proofs.lemmas.Bool.{cases_eq}
 use Rattle.std.proofs.lemmas.List.{get_or-set_same, get_or-set_other}
 use Rattle.of_cell.specs.declared.word.TheConstants.{PAYLOADS}
@@ -16,8 +16,11 @@ use Rattle.of_core.specs.Steps.{take_word_at, with_step_counted, word_found}
 use Rattle.of_core.specs.TableMoment.{Moment, TableStart, after_step_at}
 use Rattle.of_core.specs.WordsMatch.{MayStart}
 use Rattle.of_core.specs.Invariant.{MeetsInvariant}
-use Rattle.of_core.specs.Events.{Event, Begins, Turns, Loads, Evicts, Raises, after_event, after_raise, MayHappen, machine_in, after_events, IsSchedule, opening_moment, start_ticket}
-use Rattle.of_core.specs.Footprint.{Touches, HasFootprint, try_steps, round_steps, apply_steps}
+use Rattle.of_core.specs.declared.remains.Remains.{Remains}
+use Rattle.of_core.specs.Remains.{remains_of, announces_open_call, revived_if, revived_machine}
+use Rattle.of_core.proofs.Revived.{said_front, said_length}
+use Rattle.of_core.specs.Events.{Event, Begins, Turns, Loads, Evicts, Raises, Revives, after_event, after_raise, MayHappen, machine_in, after_events, IsSchedule, opening_moment, start_ticket}
+use Rattle.of_core.specs.Footprint.{Touches, HasFootprint, footprint, try_steps, round_steps, apply_steps}
 use Rattle.of_core.specs.Touched.{longest_log, most_loads, most_tries, IsWithinTouched, TouchedBoundOfWrites, TouchedBoundOfTransfers}
 use Rattle.of_core.proofs.Stability.{log_in}
 use Rattle.of_core.proofs.Found.{found_now, stepped_is}
@@ -44,6 +47,19 @@ module _ (S : Setup) (R W : ℕ) where
 
   idle_spares : (i made : ℕ) → Spares S (longest_log S W) (most_loads S R) (idle_machine S i made) Idle
   idle_spares i made = record { steps = omega arith; few = (omega arith, omega arith, λ q. refl); copies = tt }
+
+  -- a new machine in the place of a lost one
+  revived_frugal : (r : Remains) (i made : ℕ) (b : Bool) → Frugal S R W (revived_if S r i made b) (revived_if S r i made b).place
+  revived_frugal r i made true = record { log = omega arith; copy = omega arith; at = omega (arith, knowns_none S.cells) }
+  revived_frugal r i made false = idle_frugal i (max made (payload_of r.ticket))
+
+  revived_spares : (r : Remains) (i made : ℕ) (b : Bool) → length (take (payload_of r.announcement) r.script) ≡ payload_of r.announcement
+      → Spares S (longest_log S W) (most_loads S R) (revived_if S r i made b) (revived_if S r i made b).place
+  revived_spares r i made true e = record { copies = tt; few = (omega arith, omega arith, λ q. refl); steps = sum (payload_of r.announcement) (length (take (payload_of r.announcement) r.script)) (apply_steps (longest_log S W)) (try_steps (longest_log S W) (most_loads S R)) (round_steps S (longest_log S W) (most_loads S R)) e }
+    where
+      sum : (k o a q r : ℕ) → o ≡ k → k + 1 + a ≤ 0 * q + (o + 1) + (0 * r + a)
+      sum k o a q r e = omega (arith, e)
+  revived_spares r i made false e = idle_spares i (max made (payload_of r.ticket))
 
   module _ (Lawful : List ℕ → Type 0) (sound : IsSoundMeaning S.meaning Lawful (first_operation_cell S) S.cells) (few : TouchesFew S.meaning Lawful S.cells R W) (B : TableStart) where
     abbrev Fits : CallState → Type 0
@@ -110,6 +126,27 @@ module _ (S : Setup) (R W : ℕ) where
       event (Loads x) may = record { counts = c.counts; frugal = c.frugal; spares = c.spares }
       event (Evicts k) may = raised (get_or w.loaded k (0, 0))
       event (Raises x) may = raised (x, get_or w.words x 0)
+      event (Revives i made) may = record { counts = c.counts; frugal = λ j l. frugal_to j l (cases_eq j i); spares = λ j l. spares_to j l (cases_eq j i) }
+        where
+          r : Remains
+          r = remains_of S w.words i
+
+          d : CallState
+          d = revived_machine S r i made
+
+          new : machine_in (after_event S w (Revives i made)) i ≡ d
+          new = get_or-set_same w.machines i d no_machine (omega (arith, g.core.members, may.0))
+
+          long : length (take (payload_of r.announcement) r.script) ≡ payload_of r.announcement
+          long = ap length (said_front S w.words i (payload_of r.announcement) S.instrs (g.core.shared.heard.small i may.0)) ∙ said_length S w.words i (payload_of r.announcement)
+
+          frugal_to : (j : ℕ) → j < S.callers → (j ≡ i) ⊎ (j ≡ i → ⊥) → Frugal S R W (machine_in (after_event S w (Revives i made)) j) (machine_in (after_event S w (Revives i made)) j).place
+          frugal_to j l (inr away) = subst (λ (d : CallState). Frugal S R W d d.place) (sym (get_or-set_other w.machines i j _ no_machine away)) (c.frugal j l)
+          frugal_to j l (inl e) = rw e (subst (λ (d : CallState). Frugal S R W d d.place) (sym new) (revived_frugal r i made (announces_open_call r)))
+
+          spares_to : (j : ℕ) → j < S.callers → (j ≡ i) ⊎ (j ≡ i → ⊥) → Fits (machine_in (after_event S w (Revives i made)) j)
+          spares_to j l (inr away) = subst Fits (sym (get_or-set_other w.machines i j _ no_machine away)) (c.spares j l)
+          spares_to j l (inl e) = rw e (subst Fits (sym new) (revived_spares r i made (announces_open_call r) long))
       event (Begins i op) may = record { counts = c.counts; frugal = λ j l. frugal_to j l (cases_eq j i); spares = λ j l. spares_to j l (cases_eq j i) }
         where
           d : CallState

@@ -13,7 +13,7 @@ use Rattle.of_core.specs.History.{batch_at, last_ticket_by, OwnCellsShowLast}
 use Rattle.of_core.specs.Rounds.{AnnouncesNothingNew}
 use Rattle.of_core.specs.Invariant.{MeetsInvariant}
 use Rattle.of_core.specs.Guarantees.{Guarantees}
-use Rattle.of_core.specs.Events.{Event, Begins, Turns, Loads, Evicts, Raises, after_event, machine_in, after_events, after_raise, MayHappen, IsSchedule, start_ticket}
+use Rattle.of_core.specs.Events.{Event, Begins, Turns, Loads, Evicts, Raises, Revives, after_event, machine_in, after_events, after_raise, MayHappen, IsSchedule, start_ticket}
 use Rattle.of_core.specs.Commits.{BatchHasCall}
 use Rattle.of_core.proofs.States.{state_start, later}
 use Rattle.of_core.proofs.Assembling.{logs_of}
@@ -51,6 +51,7 @@ module _ (S : Setup) (Lawful : List ℕ → Type 0) (sound : IsSoundMeaning S.me
 
   event_stays : (e : Event) → MayHappen S w e → Stays (after_event S w e) ⊎ AnnouncesNothingNew S B w.words w.batches i
   event_stays (Begins j op) may = inl (refl, λ k a b. absurd (omega (arith, a, b)))
+  event_stays (Revives j made) may = inl (refl, λ k a b. absurd (omega (arith, a, b)))
   event_stays (Loads c) may = inl (refl, λ k a b. absurd (omega (arith, a, b)))
   event_stays (Raises c) may = inl (raise_stays (c, get_or w.words c 0) may)
   event_stays (Evicts k) may = inl (raise_stays (get_or w.loaded k (0, 0)) (g.core.loaded k (0, 0) may).place)

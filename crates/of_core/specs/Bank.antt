@@ -8,6 +8,7 @@ use Rattle.of_core.specs.Table.{setup_of}
 use Rattle.of_core.specs.Starts.{start_from_durable}
 use Rattle.of_core.specs.Moment.{Bank, IsReached, RunSameWork, call_states, table_word_count}
 
+-- what contracts see of a bank: its work, its sizes, its start, its words and its machines
 abbrev pub bank_value : {W : Type 0} → Inside W → Bank W
 bank_value b = record {
   work = b.work;

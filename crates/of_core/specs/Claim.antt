@@ -8,7 +8,7 @@ use Rattle.of_recover.specs.Recovered.{recovered_data}
 use Rattle.of_core.specs.declared.place.Place.{Place}
 use Rattle.of_core.specs.declared.place.Place.TheVariants.{Idle, TryCell, LoadOwnTicket, LoadShape, LoadReply, LoadAnnouncement, LoadTicket, LoadScript, LoadCell, RaiseOld, StoreLog, RaiseLog, StoreRequest, RaiseRequest, ExchangeCurrent}
 use Rattle.of_core.specs.declared.place.Outcome.{Outcome}
-use Rattle.of_core.specs.declared.place.Outcome.TheVariants.{Answered, Spent}
+use Rattle.of_core.specs.declared.place.Outcome.TheVariants.{Answered, Spent, Lost}
 use Rattle.std.specs.List.{All}
 use Rattle.of_core.specs.Table.{most_entries, Setup, first_operation_cell, cell_count, request_at, data_at, log_at, durable_word, announcement_of, committed_seq, durable_seq}
 use Rattle.of_core.specs.Machine.{Call, CallState, IsOpen}
@@ -21,7 +21,7 @@ use Rattle.of_core.specs.History.{state_after, batch_at, EachBatch, EachCall, Is
 use Rattle.of_core.specs.Bound.{bound}
 use Rattle.of_core.specs.Events.{machine_in}
 
--- the places of a round or a try at which the known cells are those of its state
+-- whether, at this place of a round or a try, the known cells must be those of its state
 abbrev pub knows_state : Place → Bool
 knows_state (TryCell a) = true
 knows_state LoadOwnTicket = true
@@ -39,7 +39,8 @@ knows_state RaiseRequest = true
 knows_state ExchangeCurrent = true
 knows_state p = false
 
--- what was loaded of the own cells of caller i, for its answer, is of this state
+-- at `LoadShape` and `LoadReply`: what the machine m of caller i has loaded from the caller's own
+-- cells is what this state has there
 abbrev pub OwnCellsAreOfState : Setup → (state_after : List ℕ) → (i : ℕ) → CallState → Place
     → Type 0
 OwnCellsAreOfState S st i m LoadShape = FindsOwnTicket S st i m
@@ -64,16 +65,17 @@ pub record HasHeld (S : Setup) (B : TableStart) (ws : List ℕ) (bs : List Batch
   pub log : (j x : ℕ) → j < S.callers → x < 2 * most_entries S + 1 → c ≡ log_at S j x
       → IsLogWord B ws bs j x v
 
--- the numbers after the first n batches, by replay of their calls
+-- the numbers of the data cells after the first n batches, by replay of their calls
 abbrev pub numbers_by_replay : Setup → TableStart → List Batch → (n : ℕ) → List ℕ
 numbers_by_replay S B bs n = numbers_after_batches S.meaning (map payload_of B.cells) (take n bs)
 
--- the read's reply is its meaning on the replay of the batches up to its sequence
+-- the read's reply is what its operation answers after a replay of the batches up to its sequence
 abbrev pub ReadIsLegal : Setup → TableStart → List Batch → Read → Type 0
 ReadIsLegal S B bs r = S.meaning.reply (numbers_by_replay S B bs (r.seq - B.seq)) r.op ≡ r.raw
 
--- what the last answer of caller i says of the history: a read's is the meaning on the state at its
--- sequence, a batch has an announced call, and a spent call is in no batch
+-- what the last outcome of caller i says of the history: a read's reply is what its operation
+-- answers on the state at its sequence, an announced call is in the batch of its sequence, and a
+-- spent call is in no batch
 abbrev pub OutcomeIsInHistory : Setup → TableStart → Moment → ℕ → CallState → Option Outcome
     → Type 0
 OutcomeIsInHistory S B w i m None = Unit {0}
@@ -88,23 +90,24 @@ OutcomeIsInHistory S B w i m (Some (Spent s)) =
     (s ≡ S.limit) × (B.seq + length w.batches ≡ s)
     × ((k : ℕ) → B.seq < k → k ≤ s → All (IsOlderCall i m.made) (batch_at B w.batches k).calls)
     × (s ≤ durable_seq S w.words)
+OutcomeIsInHistory S B w i m (Some (Lost s)) = ⊥
 
--- a call in a batch is one that its caller has begun; if it is the caller's open call, it is
--- there with that call's words
+-- a call in a batch was begun by its caller; if it is the caller's open call, it is in the batch
+-- with that call's words
 abbrev pub WasBegunByCaller : Setup → TableStart → Moment → Call → Type 0
 WasBegunByCaller S B w c =
     let m : CallState = machine_in w c.caller in
     (c.caller < S.callers) × (last_ticket_by S B w.batches B.seq c.caller < c.ticket)
     × (c.ticket ≤ m.made) × (IsOpen m.place → c.ticket ≡ m.made → c.op ≡ m.op)
 
--- of two calls of one caller the second is the newer
+-- if both calls are of one caller, the second has the higher ticket
 abbrev pub IsNewerCall : Call → Call → Type 0
 IsNewerCall c d = d.caller ≡ c.caller → c.ticket < d.ticket
 
--- what is claimed of a moment
+-- all that is claimed of a moment
 pub record IsSound (S : Setup) (B : TableStart) (w : Moment) : Type 0 where
-  -- the history is legal: the calls of the batches, in order, have the replies that they meet, and
-  -- the reads theirs
+  -- the history is legal: run in order, the calls of the batches give the replies that they have,
+  -- and so does each read on the state at its sequence
   pub legal : IsLegalHistory S.meaning (map payload_of B.cells) w.batches
   pub reads : All (ReadIsLegal S B w.batches) w.reads
   -- apart from the callers' own cells the state after each batch is what the calls up to it lead to
@@ -125,31 +128,31 @@ pub record IsSound (S : Setup) (B : TableStart) (w : Moment) : Type 0 where
   pub recovers : (a : ℕ) → a < S.cells
       → recovered_data S.callers S.cells (durable_word S w.words) a
       ≡ data_word_after B w.batches (durable_seq S w.words) a
-  -- in which each caller's own cells hold its last call
+  -- in the state at the durable sequence, each caller's own cells hold its last call
   pub own : (i : ℕ) → i < S.callers → OwnCellsShowLast S B w.batches (durable_seq S w.words) i
-  -- and no word is newer
+  -- no word that recovery gives is newer than the durable sequence
   pub old : (a : ℕ) → a < S.cells
       → seq_of (recovered_data S.callers S.cells (durable_word S w.words) a) ≤ durable_seq S w.words
   -- the durable sequence is no older than the start, and no newer than the last batch
   pub from : B.seq ≤ durable_seq S w.words
   pub reaches : durable_seq S w.words ≤ B.seq + length w.batches
-  -- its owner is a caller
+  -- the owner that the durable current-transaction word names is a caller
   pub owner : payload_of (durable_word S w.words 0) < S.callers
   -- no batch is above the limit
   pub limit : B.seq + length w.batches ≤ S.limit
-  -- an announcement that stood when a batch was committed is run by the next batch at the latest:
-  -- a call is in a batch after at most two commits that follow its announcement
+  -- a call that was already announced when a batch was committed is run by the next batch at the
+  -- latest: a call is in a batch after at most two commits that follow its announcement
   pub met : (k i : ℕ) → B.seq < k → k < B.seq + length w.batches → i < S.callers
       → (batch_at B w.batches k).announcements i ≡ announcement_of S w.words i
       → seq_of (announcement_of S w.words i) ≤ last_ticket_by S B w.batches (k + 1) i
-  -- batches are the callers'
+  -- the owner of each batch is a caller
   pub owners : (k : ℕ) → B.seq < k → k ≤ B.seq + length w.batches
       → (batch_at B w.batches k).owner < S.callers
-  -- the current-transaction word counts the batches, and the table's data cells are those of the
-  -- last state, or, while its transaction is open, of the one before
+  -- the current-transaction word counts the batches. Each data cell is of the last state; while the
+  -- last transaction is open, it may still be of the state before
   pub count : committed_seq w.words ≡ B.seq + length w.batches
   pub data_cells : DataCellsMatchState S B w.words w.batches
-  -- no durable word is above its cell's, and each is one that its cell has held
+  -- no durable word is above its cell's word, and each may have been held by its cell
   pub low : (c : ℕ) → c < cell_count S → durable_word S w.words c ≤ get_or w.words c 0
   pub held : (c : ℕ) → c < cell_count S → HasHeld S B w.words w.batches c (durable_word S w.words c)
   -- each round and each try has used the cells of only one state
@@ -157,7 +160,7 @@ pub record IsSound (S : Setup) (B : TableStart) (w : Moment) : Type 0 where
   -- each caller has a machine, and no call makes more steps than the bound
   pub members : length w.machines ≡ S.callers
   pub within : (i : ℕ) → i < S.callers → (machine_in w i).steps ≤ bound S
-  -- an idle machine has made no step of an open call
+  -- an idle machine counts no steps, as it has no open call
   pub at_rest : (i : ℕ) → i < S.callers → (machine_in w i).place ≡ Idle → (machine_in w i).steps ≡ 0
   -- each idle machine's last outcome is in the history, at the durable sequence at most
   pub answered : (i : ℕ) → i < S.callers → (machine_in w i).place ≡ Idle

@@ -1,5 +1,5 @@
--- Calls beside commits: an announced call is done after at most two of them, a try or a round is
--- lost only to one of them, and an outcome is no older than its call.
+-- How calls depend on commits: an announced call is done after at most two commits, a try or a
+-- round is lost only to a commit, and an outcome is no older than its call.
 use Rattle.std.specs.Prelude.{ℕ, ◌+◌, ◌-◌, List, [], length, ◌≡◌, ◌≤◌, ◌<◌, Bool, true, false}
 use Rattle.std.proofs.Common.{get_or, take}
 use Rattle.of_cell.specs.Words.{seq_of}
@@ -7,7 +7,7 @@ use Rattle.of_core.specs.declared.machine.trying.TheConstants.{MOST_TRIES}
 use Rattle.of_core.specs.declared.place.Place.{Place}
 use Rattle.of_core.specs.declared.place.Place.TheVariants.{TryCurrent, StoreScript, StoreAnnouncement, LoadCurrent}
 use Rattle.of_core.specs.declared.place.Outcome.{Outcome}
-use Rattle.of_core.specs.declared.place.Outcome.TheVariants.{Answered, Spent}
+use Rattle.of_core.specs.declared.place.Outcome.TheVariants.{Answered, Spent, Lost}
 use Rattle.of_core.specs.Table.{Setup, announcement_of}
 use Rattle.of_core.specs.Machine.{CallState, IsOpen, no_call}
 use Rattle.of_core.specs.Steps.{take_word}
@@ -29,7 +29,7 @@ last_batch B w = B.seq + length w.batches
 abbrev pub announced_ticket : Setup → Moment → (i : ℕ) → ℕ
 announced_ticket S w i = seq_of (announcement_of S w.words i)
 
--- a batch, the batch n at the latest, has the call t of caller i
+-- one of the batches up to batch n has the call of caller i with ticket t
 pub record BatchHasCall (B : TableStart) (bs : List Batch) (n i t : ℕ) : Type 0 where
   pub number : ℕ
   pub from : B.seq < number
@@ -52,35 +52,37 @@ DoneAfterTwoCommits S Lawful = EachSchedule S Lawful (λ B n es.
 
 -- Lost tries and rounds.
 
--- a try or a round begins at these places, and so does the announcement after the last try
+-- whether a try or a round begins at this place, or a script word is stored, as after the last try
 abbrev pub begins_at : Place → Bool
 begins_at TryCurrent = true
 begins_at (StoreScript j) = true
 begins_at LoadCurrent = true
 begins_at p = false
 
--- at these places a call is being announced, and its first round comes next
+-- whether a call is being announced at this place, so that its first round comes next
 abbrev pub announces_at : Place → Bool
 announces_at (StoreScript j) = true
 announces_at StoreAnnouncement = true
 announces_at p = false
 
--- a try or a round is given up only after a batch was committed since it began
+-- a try or a round is given up only if a batch was committed since it began
 abbrev pub GivenUp : Setup → (List ℕ → Type 0) → Type 0
 GivenUp S Lawful = EachStep S Lawful (λ B w i m n.
     announces_at m.place ≡ false → begins_at (take_word S m n).place ≡ true → IsOpen m.place
     → m.seq < last_batch B w)
 
--- Beside these commits since it began, a call has lost at most one try and one round for each: it
--- has begun at most one more. If its operation only reads, it has begun a round, and so was
--- announced, only after as many commits as lose the most tries.
+-- What a call may have lost while `commits` batches were committed. Each commit loses it at most
+-- one try and one round, so it has begun at most one try and one round more than there were
+-- commits. A call that only reads has begun a round only after as many commits as a call may make
+-- tries.
 pub record HasLost (S : Setup) (m : CallState) (commits : ℕ) : Type 0 where
   pub tries : m.tries ≤ commits + 1
   pub rounds : m.rounds ≤ commits + 1
   pub tried : S.meaning.reads_only m.op ≡ true → 1 ≤ m.rounds → MOST_TRIES ≤ commits
 
--- the same of each open call, of the commits since a moment at which its caller was idle: if there
--- is none, a read ends in its first try, and any other call in its first round
+-- if a caller was idle at an earlier moment, its open call has lost tries and rounds only to the
+-- commits since then. Without a commit, a read ends in its first try, and any other call in its
+-- first round
 abbrev pub LostToCommits : Setup → (List ℕ → Type 0) → Type 0
 LostToCommits S Lawful =
     (B : TableStart) (w : Moment) → MeetsInvariant S Lawful B w → (es : List Event)
@@ -101,6 +103,7 @@ IsSince S from op (Answered s true raw steps) =
 IsSince S from op (Answered s false raw steps) = from ≤ s
 IsSince S from op (Spent s) =
     (from ≤ s) × (S.meaning.reads_only op ≡ true → from + MOST_TRIES ≤ s)
+IsSince S from op (Lost s) = from ≤ s
 
 -- every outcome is no older than the last batch at any moment before its call began
 abbrev pub OutcomesAreNew : Setup → (List ℕ → Type 0) → Type 0

@@ -9,29 +9,36 @@ use Rattle.of_core.specs.Machine.{CallState, IsOpen, no_machine, idle_machine, b
 use Rattle.of_core.specs.Steps.{word_found}
 use Rattle.of_core.specs.TableMoment.{Moment, TableStart, after_step}
 use Rattle.of_core.specs.Starts.{first_words}
+use Rattle.of_core.specs.Remains.{remains_of, MayRevive, revived_machine, CountsOn, after_revival}
 
 -- what may happen to a table
 pub data Event : Type 0 where
-  -- a caller begins a call, and makes its next step
+  -- a caller begins a call of this operation
   Begins : ℕ → List ℕ → Event
+  -- a caller makes its next step
   Turns : ℕ → Event
-  -- a cell is loaded for an eviction, and then the loaded word is raised
+  -- a cell is loaded for an eviction
   Loads : ℕ → Event
+  -- the durable word of a cell is raised to a word that was loaded from the cell for an eviction:
+  -- the number is the index, from 0, among the words that were loaded so
   Evicts : ℕ → Event
-  -- both in one step: the durable word of a cell is raised to the word that the cell holds
+  -- a whole eviction in one step: the durable word of a cell is raised to the word that the cell
+  -- holds
   Raises : ℕ → Event
+  -- a new machine takes the place of a caller's lost one, and is given the number of its calls
+  Revives : ℕ → (made : ℕ) → Event
 
 -- the machine of caller i
 abbrev pub machine_in : Moment → ℕ → CallState
 machine_in w i = get_or w.machines i no_machine
 
--- the durable word of a cell is raised to a word
+-- the moment after the durable word of the cell e.0 is raised to the word e.1
 abbrev pub after_raise : Setup → Moment → ℕ × ℕ → Moment
 after_raise S w e = record w {
   words = set w.words (durable_at S e.0) (max (get_or w.words (durable_at S e.0) 0) e.1);
 }
 
--- the machine m of caller i begins a call
+-- the moment after the machine m of caller i begins a call of this operation
 abbrev pub after_begin : Setup → ℕ → CallState → List ℕ → Moment → Moment
 after_begin S i m op w = record w { machines = set w.machines i (begin_call S m op) }
 
@@ -41,11 +48,13 @@ after_event S w (Begins i op) = after_begin S i (machine_in w i) op w
 after_event S w (Loads c) = record w { loaded = w.loaded ++ (c, get_or w.words c 0) ∷ [] }
 after_event S w (Evicts k) = after_raise S w (get_or w.loaded k (0, 0))
 after_event S w (Raises c) = after_raise S w (c, get_or w.words c 0)
+after_event S w (Revives i made) = after_revival S i made w
 after_event S w (Turns i) =
     after_step S i (machine_in w i) (word_found S w.words (machine_in w i)) w
 
--- when an event may happen: a call begins only if none of the caller's is open, with at least one
--- word and at most as many as an operation may have
+-- when an event may happen. A call begins only if its caller has no open call, with at least one
+-- word and at most as many as an operation may have. A machine is replaced only if its caller has
+-- nothing under way, and the new machine counts the same calls
 abbrev pub MayHappen : Setup → Moment → Event → Type 0
 MayHappen S w (Begins i op) =
     (i < S.callers) × ((machine_in w i).place ≡ Idle) × (1 ≤ length op) × (length op ≤ S.instrs)
@@ -54,6 +63,9 @@ MayHappen S w (Loads c) = c < cell_count S
 MayHappen S w (Evicts k) = k < length w.loaded
 MayHappen S w (Raises c) = c < cell_count S
 MayHappen S w (Turns i) = i < S.callers
+MayHappen S w (Revives i made) =
+    (i < S.callers) × MayRevive (remains_of S w.words i) i
+    × CountsOn (machine_in w i) (revived_machine S (remains_of S w.words i) i made)
 
 -- the moment that a list of events leaves
 abbrev pub after_events : Setup → Moment → List Event → Moment
@@ -98,20 +110,45 @@ abbrev pub one_if : Bool → ℕ
 one_if true = 1
 one_if false = 0
 
--- how many turns of caller i an event is
+-- 1 if the event is a turn of caller i, and otherwise 0
 abbrev pub turns_in_event : ℕ → Event → ℕ
 turns_in_event i (Begins j op) = 0
 turns_in_event i (Turns j) = one_if (i == j)
 turns_in_event i (Loads c) = 0
 turns_in_event i (Evicts k) = 0
 turns_in_event i (Raises c) = 0
+turns_in_event i (Revives j made) = 0
 
--- how many turns of caller i these events are
+-- how many of the events are turns of caller i
 abbrev pub turn_count : ℕ → List Event → ℕ
 turn_count i [] = 0
 turn_count i (e ∷ es) = turns_in_event i e + turn_count i es
 
--- caller i has an open call, and has it after each of the events
+-- the event replaces no machine
+abbrev pub ReplacesNone : Event → Type 0
+ReplacesNone (Begins j op) = Unit {0}
+ReplacesNone (Turns j) = Unit {0}
+ReplacesNone (Loads c) = Unit {0}
+ReplacesNone (Evicts k) = Unit {0}
+ReplacesNone (Raises c) = Unit {0}
+ReplacesNone (Revives j made) = ⊥
+
+-- none of the events replaces a machine
+abbrev pub AllReplaceNone : List Event → Type 0
+AllReplaceNone [] = Unit {0}
+AllReplaceNone (e ∷ es) = ReplacesNone e × AllReplaceNone es
+
+-- the event doesn't replace the machine of caller i
+abbrev pub KeepsMachine : Event → ℕ → Type 0
+KeepsMachine (Begins j op) i = Unit {0}
+KeepsMachine (Turns j) i = Unit {0}
+KeepsMachine (Loads c) i = Unit {0}
+KeepsMachine (Evicts k) i = Unit {0}
+KeepsMachine (Raises c) i = Unit {0}
+KeepsMachine (Revives j made) i = j ≡ i → ⊥
+
+-- caller i has an open call, and has it after each of the events, with the same machine
 abbrev pub StaysOpen : Setup → Moment → List Event → ℕ → Type 0
 StaysOpen S w [] i = IsOpen (machine_in w i).place
-StaysOpen S w (e ∷ es) i = IsOpen (machine_in w i).place × StaysOpen S (after_event S w e) es i
+StaysOpen S w (e ∷ es) i =
+    IsOpen (machine_in w i).place × StaysOpen S (after_event S w e) es i × KeepsMachine e i

@@ -10,17 +10,19 @@ use Rattle.of_mem.specs.CellMap.{value_for}
 use Rattle.of_core.specs.Table.{most_entries, Setup, first_operation_cell, ticket_cell}
 use Rattle.of_core.specs.Machine.{CallState, log_words}
 
--- the scan is at a caller, has run no more calls than it has passed callers, and may still commit
+-- the scan has come to a caller, and has run at most one call for each caller that it has passed;
+-- its sequence is below the limit
 pub record IsScanning (S : Setup) (m : CallState) : Type 0 where
   pub scan : m.scan < S.callers
   pub few : length m.calls ≤ m.scan
   pub under : m.seq < S.limit
 
--- no call that it has run so far has written the ticket cell of that caller
+-- no call that the scan has run so far has written the ticket cell of the caller that it has come
+-- to
 abbrev pub LeavesTicket : Setup → CallState → Type 0
 LeavesTicket S m = value_for m.log (ticket_cell S m.scan) ≡ None
 
--- what a place asks of its machine
+-- what must hold of a machine at this place, so that its next step is a step on the table
 abbrev pub FitsPlace : Setup → CallState → Place → Type 0
 FitsPlace S m Idle = Unit {0}
 FitsPlace S m TryCurrent = Unit {0}
@@ -56,7 +58,7 @@ FitsPlace S m (RaiseTarget j f) = j < length m.log
 FitsPlace S m CloseRequest = Unit {0}
 FitsPlace S m RaiseClosed = Unit {0}
 
--- the sizes and numbers that hold at every place
+-- what holds of the machine's sizes and numbers at every place
 pub record FitsSizes (many size : ℕ) (S : Setup) (m : CallState) : Type 0 where
   pub callers : many ≡ S.callers
   pub cells : size ≡ S.cells
@@ -70,7 +72,8 @@ pub record FitsSizes (many size : ℕ) (S : Setup) (m : CallState) : Type 0 wher
   pub known : length m.known ≡ S.cells
   pub place : FitsPlace S m m.place
 
--- whether the place is one of a scan, where the batch's writes lie over what is known
+-- whether the place is one of a scan, where a run sees the known cells with the writes of the batch
+-- so far
 abbrev pub is_scanning : Place → Bool
 is_scanning LoadOwnTicket = true
 is_scanning LoadAnnouncement = true
@@ -79,7 +82,8 @@ is_scanning (LoadScript j) = true
 is_scanning (LoadCell a) = true
 is_scanning p = false
 
--- whether it is one of a try's run, where nothing lies over what is known
+-- whether the place is `TryCell`, where a try runs its operation; a run sees the known cells there
+-- as they were loaded, with no writes of a batch
 abbrev pub is_reading : Place → Bool
 is_reading (TryCell a) = true
 is_reading p = false
@@ -88,7 +92,8 @@ is_reading p = false
 abbrev pub IsEmptyWithRoom : {A G : Type 0} → ℕ → Vec A G → Type 0
 IsEmptyWithRoom n v = (v.items ≡ []) × (n ≤ vec_capacity v)
 
--- the room that the machine's parts have, and what lies over the known cells
+-- the room that the machine's lists have, and the writes that a run sees over the known cells:
+-- those of the log in a scan, and none in a try
 pub record HasRoomInParts (S : Setup) (m : CallState) (logs words scripts copies runs : ℕ)
     (batch script : List (ℕ × ℕ)) : Type 0 where
   pub log : logs ≡ S.cells

@@ -17,9 +17,9 @@ knowns [] = 0
 knowns (None ∷ ks) = knowns ks
 knowns (Some v ∷ ks) = suc (knowns ks)
 
--- 1 if the next step loads a data cell that the try or the round is to know, and 0 otherwise.
--- The loads of one's own shape and reply are not among them: they come in place of a scan, and are
--- no more than the words that it loads of one caller.
+-- 1 if the next step loads a data cell that the try or the round is to know, and 0 otherwise. The
+-- loads of the shape and the numbers of one's own reply do not count: they come in place of a scan,
+-- and are no more than the words that a scan loads of one caller.
 abbrev pub next_load : Place → ℕ
 next_load (TryCell a) = 1
 next_load LoadOwnTicket = 1
@@ -27,17 +27,18 @@ next_load LoadTicket = 1
 next_load (LoadCell a) = 1
 next_load p = 0
 
--- what a machine touches at a moment: no log of it has more than `longest` entries, and its try or
+-- no log that the machine writes, copies or applies has more than `longest` entries, and its try or
 -- round has loaded no more than `most` data cells
 pub record Touches (m : CallState) (longest most : ℕ) : Type 0 where
-  -- its write-set, or the log that it applies
+  -- the machine's write-set, or the log that it applies
   pub log : length m.log ≤ longest
-  -- the log that it copies: the first word is the number of entries
+  -- the log that the machine copies: its first word is the number of entries
   pub copy : get_or m.copy 0 0 ≤ longest
   -- the cells that are known, and the one that is loaded next
   pub cells : knowns m.known + next_load m.place ≤ most
 
--- this holds of caller i now and after each of the events
+-- now and after each of the events, caller i's machine touches no more than `longest` and `most`
+-- allow (`Touches`)
 abbrev pub TouchesOnly : Setup → Moment → List Event → (i longest most : ℕ) → Type 0
 TouchesOnly S w [] i longest most = Touches (machine_in w i) longest most
 TouchesOnly S w (e ∷ es) i longest most =
@@ -45,32 +46,36 @@ TouchesOnly S w (e ∷ es) i longest most =
 
 -- The steps of each part of a call.
 
--- to apply a log: raise the current-transaction word, load, exchange, load again and raise the cell
--- of each entry, and exchange and raise the request
+-- the most steps to apply a log: raise the current-transaction word, load, exchange, load again and
+-- raise the cell of each entry, and exchange and raise the request
 abbrev pub apply_steps : (longest : ℕ) → ℕ
 apply_steps longest = 1 + 4 * longest + 2
 
--- to help: copy the count and the two words of each entry, look at the request again, and apply
+-- the most steps of a help: copy the count and the two words of each entry, look at the request
+-- again, and apply
 abbrev pub help_steps : (longest : ℕ) → ℕ
 help_steps longest = 1 + 2 * longest + 1 + apply_steps longest
 
--- to store a log and try to commit it: raise the old request, store and raise the count and the two
--- words of each entry, store and raise the new request, and exchange the current-transaction word
+-- the most steps to store a log and try to commit it: raise the old request, store and raise the
+-- count and the two words of each entry, store and raise the new request, and exchange the
+-- current-transaction word
 abbrev pub store_steps : (longest : ℕ) → ℕ
 store_steps longest = 1 + 2 * (1 + 2 * longest) + 2 + 1
 
--- a try: load the current-transaction word and the request, help, and load the data cells
+-- the most steps of a try: load the current-transaction word and the request, help, and load the
+-- data cells
 abbrev pub try_steps : (longest most : ℕ) → ℕ
 try_steps longest most = 2 + help_steps longest + most
 
--- a round: the same, the announcement and the script words of each caller, and the log. A round
--- that finds its call in the history loads its reply in place of these
+-- the most steps of a round: load the current-transaction word and the request, help, load the data
+-- cells and each caller's announcement and script words, and store the log. A round that finds its
+-- call in the history loads its reply in place of the scan
 abbrev pub round_steps : Setup → (longest most : ℕ) → ℕ
 round_steps S longest most =
     2 + help_steps longest + most + S.callers * (S.instrs + 1) + store_steps longest
 
--- the steps of a call with these words that has begun these tries and rounds: those of the tries
--- and rounds, of the announcement, and of applying its own log
+-- the most steps of a call with these words that has begun these tries and rounds: those of the
+-- tries and rounds, of the announcement, and of applying its own log
 abbrev pub footprint : Setup → List ℕ → (longest most tries rounds : ℕ) → ℕ
 footprint S op longest most tries rounds =
     tries * try_steps longest most + (length op + 1)

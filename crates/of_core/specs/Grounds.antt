@@ -12,12 +12,12 @@ use Rattle.of_core.specs.Invariant.{MeetsInvariant}
 -- what holds of the start, the states and the sizes at each moment
 pub record HasGrounds (S : Setup) (Lawful : List ℕ → Type 0) (B : TableStart) (w : Moment)
     : Type 0 where
-  -- it has begun at a start that a table may have
+  -- the table has begun at a start that a table may have
   pub may_start : MayStart S Lawful B
   -- the state after each batch is lawful
   pub states : (k : ℕ) → B.seq ≤ k → k ≤ B.seq + length w.batches
       → Lawful (numbers_after B w.batches k)
-  -- and each batch's log has entries of data cells, none twice
+  -- each batch's log has entries of data cells, none twice
   pub logs : (k : ℕ) → B.seq < k → k ≤ B.seq + length w.batches
       → IsLog S (batch_at B w.batches k).log
   -- the table has room for all its words, and its numbers fit a word
@@ -27,7 +27,8 @@ pub record HasGrounds (S : Setup) (Lawful : List ℕ → Type 0) (B : TableStart
   pub cells : S.cells < PAYLOADS
   pub own_in : first_operation_cell S ≤ S.cells
 
--- whatever meets the invariant has these grounds
+-- each moment that meets the invariant has grounds: a start that a table may have, lawful states,
+-- and sizes that fit (`HasGrounds`)
 abbrev pub GoodGrounds : Setup → (List ℕ → Type 0) → Type 0
 GoodGrounds S Lawful =
     (B : TableStart) (w : Moment) → MeetsInvariant S Lawful B w → HasGrounds S Lawful B w

@@ -11,19 +11,21 @@ use Rattle.of_core.specs.Rounds.{AnnouncesNothingNew}
 use Rattle.of_core.specs.Scan.{IsAnnouncedCall}
 use Rattle.of_core.specs.Invariant.{MeetsCore}
 
--- What others may rely on after a step of machine i led from these words and batches to those: what
--- was there stays, a new batch is i's and of calls that are announced, and a word of another
--- machine changes only by closing the last batch's request.
+-- What other machines may rely on after a step of machine i, from words ws and batches bs to words
+-- vs and batches cs. Earlier batches and states stay, and a new batch is caller i's and has only
+-- announced calls. Another caller's log words and announcement stay, and its request changes only
+-- if the step closes the last batch's request.
 pub record Guarantees (S : Setup) (B : TableStart) (i : ℕ) (ws : List ℕ) (bs : List Batch)
     (vs : List ℕ) (cs : List Batch) : Type 0 where
-  -- while the last sequence stays so does its owner
+  -- if the last sequence stays, its owner stays too
   pub same : committed_seq vs ≡ committed_seq ws → committed_owner vs ≡ committed_owner ws
-  -- the states and batches stay that were there
+  -- all states and batches from before the step stay
   pub states : (k : ℕ) → B.seq ≤ k → k ≤ committed_seq ws → state_after B cs k ≡ state_after B bs k
   pub batches : (k : ℕ) → B.seq < k → k ≤ committed_seq ws → batch_at B cs k ≡ batch_at B bs k
   -- nothing is committed above the limit
   pub limit : committed_seq vs ≤ S.limit
-  -- each new call is one that its caller announces, and changes its caller's ticket cell alone
+  -- each call of a new batch is one that its caller announces; the batch leaves each ticket cell as
+  -- it was, or raises it to the ticket that its caller announces
   pub newer : (k : ℕ) → committed_seq ws < k → k ≤ committed_seq vs
       → All (λ (c : Call). IsAnnouncedCall S ws c × (length c.op ≤ S.instrs))
       (batch_at B cs k).calls
@@ -32,34 +34,37 @@ pub record Guarantees (S : Setup) (B : TableStart) (i : ℕ) (ws : List ℕ) (bs
       ⊎ ((last_ticket_by S B cs k j ≡ seq_of (announcement_of S ws j))
       × (last_ticket_by S B bs (committed_seq ws) j < seq_of (announcement_of S ws j))
       × (committed_seq ws < S.limit))
-  -- a new batch remembers the announcements of its moment
+  -- a new batch records the announcements of the moment at which it was committed
   pub snapshot : (k j : ℕ) → committed_seq ws < k → k ≤ committed_seq vs → j < S.callers
       → (batch_at B cs k).announcements j ≡ announcement_of S ws j
-  -- script words and announcements are i's to store, if what it announced is done
+  -- a script word or an announcement changes only if its caller is i, and the call that i announced
+  -- was run or the limit is reached
   pub script_of : (j x : ℕ) → j < S.callers → x < S.instrs + 1
       → (script_word S vs j x ≡ script_word S ws j x) ⊎ ((j ≡ i) × AnnouncesNothingNew S B ws bs j)
-  -- and one that it changes is not among those of any batch
+  -- if i's announcement changes, no batch has recorded the new one
   pub announcements : (j : ℕ) → j < S.callers
       → (announcement_of S vs j ≡ announcement_of S ws j)
       ⊎ ((j ≡ i)
       × ((k : ℕ) → B.seq < k → k ≤ committed_seq ws
       → (batch_at B bs k).announcements j ≡ announcement_of S vs j → ⊥))
-  -- a new batch is the stepper's
+  -- a new batch is caller i's
   pub newer_owner : (k : ℕ) → committed_seq ws < k → k ≤ committed_seq vs
       → (batch_at B cs k).owner ≡ i
-  -- another's request stays, or the last batch's is closed
+  -- the request of another caller stays, or the step closes it, if it is the open request of the
+  -- last batch
   pub requests : (j : ℕ) → j < S.callers → (j ≡ i → ⊥)
       → (request_of vs j ≡ request_of ws j)
       ⊎ ((B.seq < committed_seq ws) × ((batch_at B bs (committed_seq ws)).owner ≡ j)
       × (request_of ws j ≡ pack (committed_seq ws) 0)
       × (request_of vs j ≡ pack (committed_seq ws) 1))
-  -- a data cell stays, or gets a word of the last transaction at least
+  -- a data cell stays, or its new word is of the last transaction or of a later one
   pub changes : (a : ℕ) → a < S.cells
       → (data_word S vs a ≡ data_word S ws a) ⊎ (committed_seq ws ≤ seq_of (data_word S vs a))
-  -- another's log words stay
+  -- the log words of the other callers stay
   pub logs : (j : ℕ) → j < S.callers → (j ≡ i → ⊥) → (x : ℕ) → x < 2 * most_entries S + 1
       → log_word_of S vs j x ≡ log_word_of S ws j x
-  -- a log word stays or gets a higher sequence, and i's are of at most the new batch's
+  -- a log word stays or gets a higher sequence; if a batch is new, i's log words have at most its
+  -- sequence
   pub log_how : (j x : ℕ) → j < S.callers → x < 2 * most_entries S + 1
       → (log_word_of S vs j x ≡ log_word_of S ws j x)
       ⊎ (seq_of (log_word_of S ws j x) < seq_of (log_word_of S vs j x))
@@ -70,7 +75,8 @@ pub record Guarantees (S : Setup) (B : TableStart) (i : ℕ) (ws : List ℕ) (bs
   pub durs : (c : ℕ) → c < cell_count S → durable_word S ws c ≤ durable_word S vs c
   pub low : (c : ℕ) → c < cell_count S → durable_word S vs c ≤ get_or vs c 0
 
--- what a step of machine i from w to v keeps, and what it leaves true of the others
+-- a step of machine i from w to v keeps the core of the invariant, and guarantees to the other
+-- machines what they rely on
 pub record KeepsGuarantee (S : Setup) (Lawful : List ℕ → Type 0) (B : TableStart) (i : ℕ)
     (w v : Moment) : Type 0 where
   pub core : MeetsCore S Lawful B v

@@ -7,5 +7,6 @@ abbrev pub helped_by : (helps : Bool) → (owner : ℕ) → Option ℕ
 helped_by true owner = Some owner
 helped_by false owner = None
 
+-- the owner of the log that the machine copies or applies as a helper; None if it does not help
 abbrev pub helped_owner : CallState → Option ℕ
 helped_owner m = helped_by m.helps m.owner

@@ -14,7 +14,7 @@ abbrev pub with_log_applied : ℕ → List ℕ → List (ℕ × ℕ) → List �
 with_log_applied k ws [] = ws
 with_log_applied k ws (e ∷ es) = with_log_applied k (set ws e.0 (pack k e.1)) es
 
--- the data words after these batches, from sequence s on
+-- the data words after these batches, if the words before them are ws, at sequence s
 abbrev pub words_after_batches : ℕ → List ℕ → List Batch → List ℕ
 words_after_batches s ws [] = ws
 words_after_batches s ws (b ∷ bs) =
@@ -28,7 +28,7 @@ state_after B bs k = words_after_batches B.seq B.cells (take (k - B.seq) bs)
 abbrev pub no_batch : Batch
 no_batch = record { owner = 0; log = []; calls = []; announcements = λ c. 0 }
 
--- batch k of these batches
+-- the batch of sequence k: the first of these batches has the sequence after the start's
 unfoldable pub batch_at : TableStart → List Batch → ℕ → Batch
 batch_at B bs k = get_or bs (k - B.seq - 1) no_batch
 
@@ -40,11 +40,11 @@ EachBatch B bs P = (k : ℕ) → B.seq < k → k ≤ B.seq + length bs → P (ba
 abbrev pub EachCall : TableStart → List Batch → (Call → Type 0) → Type 0
 EachCall B bs P = EachBatch B bs (All P)
 
--- a call of caller i is older than the one with this ticket
+-- if the call is caller i's, its ticket is below `ticket`
 abbrev pub IsOlderCall : (i ticket : ℕ) → Call → Type 0
 IsOlderCall i ticket c = c.caller ≡ i → c.ticket < ticket
 
--- a data word after batch k
+-- the word of the data cell a after batch k
 abbrev pub data_word_after : TableStart → List Batch → ℕ → ℕ → ℕ
 data_word_after B bs k a = get_or (state_after B bs k) a 0
 
@@ -52,47 +52,48 @@ data_word_after B bs k a = get_or (state_after B bs k) a 0
 abbrev pub numbers_after : TableStart → List Batch → ℕ → List ℕ
 numbers_after B bs k = map payload_of (state_after B bs k)
 
--- the numbers after the calls, run in order
+-- the numbers of the data cells after the calls, run in order on the numbers xs
 abbrev pub numbers_after_calls : Meaning → List ℕ → List Call → List ℕ
 numbers_after_calls W xs [] = xs
 numbers_after_calls W xs (c ∷ cs) = numbers_after_calls W (W.cells xs c.op) cs
 
--- the calls, run in order, give the replies that they have
+-- run in order on the numbers xs, the calls give the replies that they have
 abbrev pub CallsHaveReplies : Meaning → List ℕ → List Call → Type 0
 CallsHaveReplies W xs [] = Unit {0}
 CallsHaveReplies W xs (c ∷ cs) = (W.reply xs c.op ≡ c.raw) × CallsHaveReplies W (W.cells xs c.op) cs
 
--- the numbers after the batches, from those of the start
+-- the numbers of the data cells after the calls of all batches, run in order on the numbers xs
 abbrev pub numbers_after_batches : Meaning → List ℕ → List Batch → List ℕ
 numbers_after_batches W xs [] = xs
 numbers_after_batches W xs (b ∷ bs) = numbers_after_batches W (numbers_after_calls W xs b.calls) bs
 
--- in the replay of the batches each call gives the reply that it has
+-- the history is legal: when the calls of all batches are run again in order, from the numbers xs,
+-- each gives the reply that it has
 abbrev pub IsLegalHistory : Meaning → List ℕ → List Batch → Type 0
 IsLegalHistory W xs [] = Unit {0}
 IsLegalHistory W xs (b ∷ bs) =
     CallsHaveReplies W xs b.calls × IsLegalHistory W (numbers_after_calls W xs b.calls) bs
 
--- the number of caller i's ticket cell
+-- the number in caller i's ticket cell, in the data words st
 abbrev pub ticket_in_state : Setup → List ℕ → ℕ → ℕ
 ticket_in_state S st i = payload_of (get_or st (ticket_cell S i) 0)
 
--- the ticket of caller i after batch k
+-- the number in caller i's ticket cell after batch k: the ticket of its last call that was run
 abbrev pub last_ticket_by : Setup → TableStart → List Batch → ℕ → ℕ → ℕ
 last_ticket_by S B bs k i = payload_of (data_word_after B bs k (ticket_cell S i))
 
--- the cell is caller i's own
+-- the data cell a is one of caller i's own cells
 abbrev pub IsCellOfCaller : Setup → ℕ → ℕ → Type 0
 IsCellOfCaller S i a = (ticket_cell S i ≤ a) × (a < ticket_cell S i + (S.instrs + 2))
 
--- state k shows the call c of batch j in its caller's own cells
+-- after batch k, the own cells of c's caller hold the ticket and the reply of c, a call of batch j
 pub record ShowsCall (S : Setup) (B : TableStart) (bs : List Batch) (k j : ℕ) (c : Call)
     : Type 0 where
   pub ticket : data_word_after B bs k (ticket_cell S c.caller) ≡ pack j c.ticket
   pub shape : payload_of (data_word_after B bs k (shape_cell S c.caller)) ≡ c.raw.shape
   pub replies : (y : ℕ) → y < S.instrs → is_marked c.raw.shape y ≡ true
       → payload_of (data_word_after B bs k (reply_cell S c.caller y)) ≡ get_or c.raw.values y 0
-  -- the numbers that are not marked are 0
+  -- a number of the reply that the shape does not mark is 0
   pub rest : (y : ℕ) → y < S.instrs → is_marked c.raw.shape y ≡ false
       → get_or c.raw.values y 0 ≡ 0
 
@@ -101,7 +102,7 @@ abbrev pub HasNoCallBetween : TableStart → List Batch → ℕ → ℕ → ℕ 
 HasNoCallBetween B bs i lo hi = (k : ℕ) → lo < k → k ≤ hi
     → All (λ (c : Call). c.caller ≡ i → ⊥) (batch_at B bs k).calls
 
--- the last call of caller i in the batches up to k, which its own cells show
+-- the last call of caller i in the batches up to k, which the caller's own cells hold after batch k
 pub record IsNewestCall (S : Setup) (B : TableStart) (bs : List Batch) (k i : ℕ) : Type 0 where
   pub number : ℕ
   pub from : B.seq < number
@@ -121,23 +122,23 @@ OwnCellsShowLast S B bs k i =
     × ((a : ℕ) → IsCellOfCaller S i a → data_word_after B bs k a ≡ data_word_after B bs B.seq a))
     ⊎ IsNewestCall S B bs k i
 
--- the callers of a batch's calls rise
+-- the calls are ordered by caller, and each caller has at most one
 abbrev pub CallersRise : List Call → Type 0
 CallersRise cs = (j k : ℕ) → j < k → k < length cs
     → (get_or cs j no_call).caller < (get_or cs k no_call).caller
 
--- the two replies have one shape, and the same number at each place that it marks
+-- the two replies have the same shape, and the same number at each place that this shape marks
 abbrev pub SameWhereMarked : Setup → RawReply → RawReply → Type 0
 SameWhereMarked S r q = (r.shape ≡ q.shape)
     × ((y : ℕ) → y < S.instrs → is_marked r.shape y ≡ true
     → get_or r.values y 0 ≡ get_or q.values y 0)
 
--- the two replies have one shape, and the same numbers
+-- the two replies have the same shape and the same numbers
 abbrev pub SameReply : Setup → RawReply → RawReply → Type 0
 SameReply S r q = (r.shape ≡ q.shape)
     × ((y : ℕ) → y < S.instrs → get_or r.values y 0 ≡ get_or q.values y 0)
 
--- the calls have this one, with this reply
+-- one of the calls is caller i's with ticket t, this operation and this reply
 pub record HasCall (S : Setup) (cs : List Call) (i t : ℕ) (op : List ℕ) (r : RawReply)
     : Type 0 where
   pub place : ℕ

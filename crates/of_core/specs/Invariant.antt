@@ -16,7 +16,7 @@ use Rattle.of_core.specs.Order.{KeepsCallOrder}
 use Rattle.of_core.specs.Bound.{MachineIsWithinBound}
 use Rattle.of_core.specs.Least.{HasMadeLeastSteps}
 
--- what a place says of its machine
+-- what the invariant says of a machine at this place
 abbrev pub HoldsAtPlace : Setup → TableStart → List ℕ → List Batch → ℕ → CallState → Place → Type 0
 HoldsAtPlace S B ws bs i m Idle = IsAtRest S B ws bs i m
 HoldsAtPlace S B ws bs i m TryCurrent = IsTryingCurrent S B ws bs i m
@@ -56,7 +56,8 @@ WasHeldByCurrent B ws bs w =
     (B.seq ≤ seq_of w) × (B.seq < seq_of w → payload_of w ≡ (batch_at B bs (seq_of w)).owner)
     × (seq_of w ≡ B.seq → payload_of w ≡ B.owner)
 
--- a word that its cell has held, and that isn't above it: such a one is loaded for an eviction
+-- the cell e.0 has held the word e.1, and does not hold a lower one now; a word that is loaded for
+-- an eviction is of this kind
 pub record IsLoaded (S : Setup) (B : TableStart) (ws : List ℕ) (bs : List Batch) (e : ℕ × ℕ)
     : Type 0 where
   pub place : e.0 < cell_count S
@@ -64,12 +65,13 @@ pub record IsLoaded (S : Setup) (B : TableStart) (ws : List ℕ) (bs : List Batc
   pub was_cur : e.0 ≡ 0 → WasHeldByCurrent B ws bs e.1
   pub held : (a : ℕ) → a < S.cells → e.0 ≡ S.callers + 1 + a → WasHeldByCell B ws bs a e.1
   pub request : (j : ℕ) → j < S.callers → e.0 ≡ j + 1 → IsRequest B ws bs j e.1
-  -- one that has the sequence of its log cell is its word
+  -- a word with the present sequence of its log cell is the present word of that cell
   pub log : (j x : ℕ) → j < S.callers → x < 2 * most_entries S + 1 → e.0 ≡ log_at S j x
       → IsLogWord B ws bs j x e.1
       × (seq_of e.1 ≡ seq_of (log_word_of S ws j x) → e.1 ≡ log_word_of S ws j x)
 
--- words and history, the words loaded for evictions, and each machine at its place
+-- the core of the invariant: it is about words and history, the words loaded for evictions, and
+-- each machine at its place
 pub record MeetsCore (S : Setup) (Lawful : List ℕ → Type 0) (B : TableStart) (w : Moment)
     : Type 0 where
   pub shared : WordsMatchHistory S Lawful B w.words w.batches

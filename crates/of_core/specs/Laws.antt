@@ -45,20 +45,22 @@ EachMachine S Lawful Law =
     (B : TableStart) (w : Moment) → MeetsInvariant S Lawful B w
     → (i : ℕ) (m : CallState) → i < S.callers → get_or w.machines i m ≡ m → Law B w i m
 
--- at each step of each machine, which finds n
+-- the law holds of each step of each machine, which finds n, at each moment that meets the
+-- invariant
 abbrev pub EachStep : Setup → (List ℕ → Type 0) → (TableStart → Moment → ℕ → CallState → ℕ → Type 0)
     → Type 0
 EachStep S Lawful Law =
     EachMachine S Lawful (λ B w i m. (n : ℕ) → IsFoundBy (want S m) w.words n → Law B w i m n)
 
--- at each begin of a call with these words, by each idle machine, or by a fresh one in its place
+-- the law holds of each begin of a call with these words, by an idle machine or by a fresh one in
+-- its place
 abbrev pub EachBegin : Setup → (List ℕ → Type 0)
     → (TableStart → Moment → ℕ → CallState → List ℕ → Type 0) → Type 0
 EachBegin S Lawful Law = EachMachine S Lawful (λ B w i m. m.place ≡ Idle
     → (d : CallState) → MayReplace S m d → (op : List ℕ) → 1 ≤ length op → length op ≤ S.instrs
     → d.made + 1 < PAYLOADS → Law B w i d op)
 
--- at each word that was loaded for an eviction
+-- the law holds of each word that may have been loaded for an eviction, with its cell
 abbrev pub EachLoaded : Setup → (List ℕ → Type 0) → (TableStart → Moment → ℕ × ℕ → Type 0) → Type 0
 EachLoaded S Lawful Law =
     (B : TableStart) (w : Moment) → MeetsInvariant S Lawful B w
@@ -71,12 +73,12 @@ EachBeside S Lawful Law =
     (B : TableStart) (w : Moment) → MeetsInvariant S Lawful B w → (c v : ℕ)
     → words_before_members S ≤ c → Law B w c v
 
--- at each table of n words that begins at a start
+-- the law holds of each table of n words that begins at a start that it may have
 abbrev pub EachStart : Setup → (List ℕ → Type 0) → (TableStart → (n : ℕ) → Type 0) → Type 0
 EachStart S Lawful Law =
     (B : TableStart) → MayStart S Lawful B → (n : ℕ) → words_before_members S ≤ n → Law B n
 
--- at each schedule from each start
+-- the law holds of each schedule from each start
 abbrev pub EachSchedule : Setup → (List ℕ → Type 0)
     → (TableStart → (n : ℕ) → List Event → Type 0) → Type 0
 EachSchedule S Lawful Law =
@@ -95,7 +97,7 @@ abbrev pub StepsGuarantee : Setup → (List ℕ → Type 0) → Type 0
 StepsGuarantee S Lawful = EachStep S Lawful (λ B w i m n.
     Guarantees S B i w.words w.batches (after_step S i m n w).words (after_step S i m n w).batches)
 
--- a step of an open call is a step, whatever its kind
+-- each step of an open call is as `IsStep` says, whatever its kind
 abbrev pub OpenStepsAreSteps : Setup → (List ℕ → Type 0) → Type 0
 OpenStepsAreSteps S Lawful = EachMachine S Lawful (λ B w i m. IsOpen m.place
     → (n : ℕ) → IsFoundBy (want S m) w.words n
@@ -114,13 +116,15 @@ IsRaise (Store c v) = ⊥
 IsRaise (Exchange c old new) = ⊥
 IsRaise (Raise c v) = Unit {0}
 
--- the step is a raise, which leaves the same machine whatever it finds, and commits nothing
+-- the machine's next step is a raise, which leads to the same machine whatever it finds, and
+-- commits nothing
 abbrev pub GoesBlindly : Setup → CallState → Type 0
 GoesBlindly S m =
     IsRaise (want S m) × ((n k : ℕ) → take_word S m n ≡ take_word S m k)
     × ((ws : List ℕ) (n : ℕ) → step_batches S ws m n ≡ [])
 
--- no step on a durable word makes a machine go on in another way, whatever it finds there
+-- a machine goes on in the same way whatever its step on a durable word finds: each such step is a
+-- raise, and commits nothing
 abbrev pub StepBlind : Setup → (List ℕ → Type 0) → Type 0
 StepBlind S Lawful = EachMachine S Lawful (λ B w i m.
     ((c : ℕ) → c < cell_count S → word_of (want S m) ≡ durable_at S c → ⊥) ⊎ GoesBlindly S m)
@@ -131,83 +135,86 @@ IsOpenCall w c =
     let m : CallState = machine_in w c.caller in
     IsOpen m.place × (c.ticket ≡ m.made) × (c.op ≡ m.op)
 
--- a call in a batch that a step commits is the open call of its caller
+-- each call in a batch that a step commits was the open call of its caller
 abbrev pub NewCallsWereOpen : Setup → (List ℕ → Type 0) → Type 0
 NewCallsWereOpen S Lawful = EachStep S Lawful (λ B w i m n.
     (k : ℕ) → B.seq + length w.batches < k → k ≤ B.seq + length (after_step S i m n w).batches
     → All (IsOpenCall w) (batch_at B (after_step S i m n w).batches k).calls)
 
--- to begin a call keeps the invariant; the call rests on nothing yet, and no try of it has read
+-- to begin a call keeps the invariant; the new call goes by no sequence yet (`rests_on_seq` is 0),
+-- and has loaded no current-transaction word in a try
 abbrev pub BeginsKeepInvariant : Setup → (List ℕ → Type 0) → Type 0
 BeginsKeepInvariant S Lawful =
     EachBegin S Lawful (λ B w i d op. MeetsInvariant S Lawful B (after_begin S i d op w)
     × (rests_on_seq (begin_call S d op) ≡ 0) × ((low : ℕ) → ReadsFrom low (begin_call S d op)))
 
--- a word that was loaded from its cell may be raised at any later time: it is such a word
--- when it is loaded
+-- the word that a cell holds may be loaded for an eviction, and raised at any later time
 abbrev pub LoadsMayBeRaised : Setup → (List ℕ → Type 0) → Type 0
 LoadsMayBeRaised S Lawful =
     (B : TableStart) (w : Moment) → MeetsInvariant S Lawful B w
     → (c : ℕ) → c < cell_count S → IsLoaded S B w.words w.batches (c, get_or w.words c 0)
 
--- each step leaves it such a word
+-- a word that was loaded for an eviction may still be raised after any step
 abbrev pub StepsKeepLoaded : Setup → (List ℕ → Type 0) → Type 0
 StepsKeepLoaded S Lawful = EachStep S Lawful (λ B w i m n.
     (e : ℕ × ℕ) → IsLoaded S B w.words w.batches e
     → IsLoaded S B (after_step S i m n w).words (after_step S i m n w).batches e)
 
--- and to raise the durable word of its cell to it keeps the invariant, and all other such words
+-- an eviction raises the durable word of a cell to a word that was loaded before. This keeps the
+-- invariant, and other words that were loaded for evictions may still be raised
 abbrev pub RaisesKeepInvariant : Setup → (List ℕ → Type 0) → Type 0
 RaisesKeepInvariant S Lawful =
     EachLoaded S Lawful (λ B w e. MeetsInvariant S Lawful B (after_raise S w e)
     × ((d : ℕ × ℕ) → IsLoaded S B w.words w.batches d
     → IsLoaded S B (after_raise S w e).words w.batches d))
 
--- no durable word falls by that
+-- an eviction that raises a durable word lowers no durable word
 abbrev pub RaisesNeverLower : Setup → (List ℕ → Type 0) → Type 0
 RaisesNeverLower S Lawful = EachLoaded S Lawful (λ B w e.
     (c : ℕ) → durable_word S w.words c ≤ durable_word S (after_raise S w e).words c)
 
--- words after the table's own may be anything
+-- a number that is stored after the table's own words changes nothing of the invariant, nor of the
+-- words that were loaded for evictions
 abbrev pub WordsBehindAreFree : Setup → (List ℕ → Type 0) → Type 0
 WordsBehindAreFree S Lawful = EachBeside S Lawful (λ B w c v.
     MeetsInvariant S Lawful B (record w { words = set w.words c v })
     × ((e : ℕ × ℕ) → IsLoaded S B w.words w.batches e
     → IsLoaded S B (set w.words c v) w.batches e))
 
--- a table at its start, with idle machines, meets the invariant, and an idle machine rests on
--- nothing
+-- a table at its start, with idle machines, meets the invariant, and an idle machine goes by no
+-- sequence (`rests_on_seq` is 0)
 abbrev pub StartsMeetInvariant : Setup → (List ℕ → Type 0) → Type 0
 StartsMeetInvariant S Lawful =
     EachStart S Lawful (λ B n. MeetsInvariant S Lawful B (opening_moment S B n)
     × ((i made : ℕ) → rests_on_seq (idle_machine S i made) ≡ 0))
 
--- whatever meets the invariant has a legal history, and recovery gives the state that its
--- durable words name
+-- each moment that meets the invariant is sound: its history is legal, and recovery gives the state
+-- at the durable sequence
 abbrev pub InvariantIsSound : Setup → (List ℕ → Type 0) → Type 0
 InvariantIsSound S Lawful =
     (B : TableStart) (w : Moment) → MeetsInvariant S Lawful B w → IsSound S B w
 
 -- The calls of one caller, step by step.
 
--- from w to v caller i begins these calls, and these of its calls end
+-- between the moments w and v caller i begins calls of the operations `more`, and its calls end
+-- with the outcomes `ended`
 abbrev pub GainsCalls : Setup → TableStart → (i : ℕ)
     → List (List ℕ) → List Outcome → (w v : Moment) → Type 0
 GainsCalls S B i more ended w v =
     (before : ℕ) (ops : List (List ℕ)) (outs : List Outcome)
     → HasCalls S B before w i ops outs → HasCalls S B before v i (ops ++ more) (outs ++ ended)
 
--- from w to v the calls of caller i stay as they are
+-- between the moments w and v caller i begins no call, and no call of it ends
 abbrev pub KeepsCalls : Setup → TableStart → (i : ℕ) → (w v : Moment) → Type 0
 KeepsCalls S B i w v =
     (before : ℕ) (ops : List (List ℕ)) (outs : List Outcome)
     → HasCalls S B before w i ops outs → HasCalls S B before v i ops outs
 
--- from w to v the calls of all callers but i stay as they are
+-- between the moments w and v no caller but i begins a call, and no call of another caller ends
 abbrev pub KeepsOthersCalls : Setup → TableStart → (i : ℕ) → (w v : Moment) → Type 0
 KeepsOthersCalls S B i w v = (j : ℕ) → j < S.callers → (i ≡ j → ⊥) → KeepsCalls S B j w v
 
--- at a start each caller has made the calls that its ticket counts, and no others
+-- at a start each caller has made the calls that its ticket cell counts, and no others
 abbrev pub StartsHaveNoCalls : Setup → (List ℕ → Type 0) → Type 0
 StartsHaveNoCalls S Lawful = EachStart S Lawful (λ B n.
     (i : ℕ) → i < S.callers → HasCalls S B (start_ticket S B i) (opening_moment S B n) i [] [])
@@ -224,12 +231,12 @@ BeginsAddOneCall S Lawful = EachBegin S Lawful (λ B w i d op.
     GainsCalls S B i (op ∷ []) [] w (after_begin S i d op w)
     × KeepsOthersCalls S B i w (after_begin S i d op w))
 
--- to raise a word that was loaded changes no caller's calls
+-- an eviction that raises a durable word changes no caller's calls
 abbrev pub RaisesKeepCalls : Setup → (List ℕ → Type 0) → Type 0
 RaisesKeepCalls S Lawful = EachLoaded S Lawful (λ B w e.
     (i : ℕ) → i < S.callers → KeepsCalls S B i w (after_raise S w e))
 
--- nor do words after the table's own
+-- a number that is stored after the table's own words changes no caller's calls
 abbrev pub WordsBehindKeepCalls : Setup → (List ℕ → Type 0) → Type 0
 WordsBehindKeepCalls S Lawful = EachBeside S Lawful (λ B w c v.
     (i : ℕ) → i < S.callers → KeepsCalls S B i w (record w { words = set w.words c v }))
@@ -248,7 +255,16 @@ SchedulesKeepInvariant S Lawful =
     (B : TableStart) (w : Moment) → MeetsInvariant S Lawful B w
     → (es : List Event) → IsSchedule S w es → MeetsInvariant S Lawful B (after_events S w es)
 
--- every moment of every schedule from every start has what each moment claims
+-- if an event commits a batch, each call of the batch is the open call of its caller's present
+-- machine. So a call that a lost machine had begun and not announced is never run
+abbrev pub LostCallsNeverRun : Setup → (List ℕ → Type 0) → Type 0
+LostCallsNeverRun S Lawful = EachSchedule S Lawful (λ B n es.
+    let w : Moment = after_events S (opening_moment S B n) es in
+    (e : Event) → MayHappen S w e → (k : ℕ) → B.seq + length w.batches < k
+    → k ≤ B.seq + length (after_event S w e).batches
+    → All (IsOpenCall w) (batch_at B (after_event S w e).batches k).calls)
+
+-- every schedule from every start leaves a moment that is sound
 abbrev pub EveryMomentIsSound : Setup → (List ℕ → Type 0) → Type 0
 EveryMomentIsSound S Lawful =
     EachSchedule S Lawful (λ B n es. IsSound S B (after_events S (opening_moment S B n) es))
@@ -259,7 +275,8 @@ DurablesWereHeld S Lawful = EachSchedule S Lawful (λ B n es.
     let w : Moment = opening_moment S B n in
     (c : ℕ) → c < cell_count S → HasStood S w es c (durable_word S (after_events S w es).words c))
 
--- every schedule from every start leaves each caller's calls as its events begin and end them
+-- after every schedule from every start, each caller has the calls that the events have begun, with
+-- the outcomes by which the events have ended them
 abbrev pub EveryCallStands : Setup → (List ℕ → Type 0) → Type 0
 EveryCallStands S Lawful = EachSchedule S Lawful (λ B n es.
     let w : Moment = opening_moment S B n in
@@ -267,7 +284,8 @@ EveryCallStands S Lawful = EachSchedule S Lawful (λ B n es.
     → HasCalls S B (start_ticket S B i) (after_events S w es) i (operations_begun es i)
     (outcomes S w es i))
 
--- each event leads from the calls before it to those after it
+-- each event adds to a caller's calls the call that it begins, and to the outcomes the outcome of
+-- the call that it ends
 abbrev pub EventsLeadCalls : Setup → (List ℕ → Type 0) → Type 0
 EventsLeadCalls S Lawful =
     (B : TableStart) (w : Moment) → MeetsInvariant S Lawful B w
@@ -287,15 +305,16 @@ abbrev pub EveryOrder : Setup → (List ℕ → Type 0) → Type 0
 EveryOrder S Lawful =
     EachSchedule S Lawful (λ B n es. IsDurablyLinearizable S B (opening_moment S B n) es)
 
--- and detectable: what recovery finds shows each caller whether its last call took effect, by each
--- order that linearizes the schedule and that recovery finds
+-- every schedule is detectable: what recovery finds shows each caller whether its last call took
+-- effect. This holds by each order that linearizes the schedule and leads to what recovery finds
 abbrev pub Detectable : Setup → (List ℕ → Type 0) → Type 0
 Detectable S Lawful = EachSchedule S Lawful (λ B n es.
     let w : Moment = opening_moment S B n in
     (order : List Call) → Linearizes S B w es order → IsRecovered S B (after_events S w es) order
     → (i : ℕ) → i < S.callers → IsDetectable S B w es order i)
 
--- of two calls of any callers, one that begins after the other has ended has a later outcome
+-- if call y of caller j begins after call x of caller i has ended, and ends too, its outcome is not
+-- before the sequence that the outcome of call x names (`IsNotBefore`)
 abbrev pub RealTime : Setup → (List ℕ → Type 0) → Type 0
 RealTime S Lawful = EachSchedule S Lawful (λ B n es.
     let w : Moment = opening_moment S B n in
@@ -304,8 +323,8 @@ RealTime S Lawful = EachSchedule S Lawful (λ B n es.
     → IsNotBefore (outcome_seq (get_or (outcomes S w es i) x no_outcome))
     (get_or (outcomes S w es j) y no_outcome))
 
--- if a call has ended after the first k events, then each call that has not begun by then is in a
--- later batch, answered or open, or in none
+-- if call x of caller i has ended after the first k events, then a call that has not begun after
+-- these events is in no batch up to the sequence that the outcome of call x names
 abbrev pub LateCalls : Setup → (List ℕ → Type 0) → Type 0
 LateCalls S Lawful = EachSchedule S Lawful (λ B n es.
     let w : Moment = opening_moment S B n in
@@ -321,13 +340,13 @@ OwnTime S Lawful = EachSchedule S Lawful (λ B n es.
     (i x : ℕ) → i < S.callers → x + 1 < length (operations_begun es i)
     → CallEndsBefore S (opening_moment S B n) es i x i (x + 1))
 
--- and lives one after the other, any number of them, are durably linearizable together
+-- lives one after the other, any number of them, are durably linearizable together
 abbrev pub EveryLife : Setup → (List ℕ → Type 0) → Type 0
 EveryLife S Lawful = EachStart S Lawful (λ B n.
     (lives : List (List Event)) → AreScheduleLives S n B lives → AreDurablyLinearizable S n B lives)
 
--- a call that stays open has made fewer steps than the bound, so its last one comes in time;
--- and it never begins a fourth round
+-- if a call stays open through a schedule, its steps before the schedule and its turns in the
+-- schedule are together fewer than the bound; and the call never begins a fourth round
 abbrev pub CallsEndInTime : Setup → (List ℕ → Type 0) → Type 0
 CallsEndInTime S Lawful =
     (B : TableStart) (w : Moment) → MeetsInvariant S Lawful B w
@@ -338,8 +357,8 @@ CallsEndInTime S Lawful =
 
 -- Starts.
 
--- the n words hold a start: its current-transaction word and its data words, the same durably, and
--- 0 after the durable words
+-- the n words hold the start B: its current-transaction word and its data words, for each cell a
+-- durable word that is equal to the cell's word, and 0 after the durable words
 pub record HoldsStart (S : Setup) (B : TableStart) (ws : List ℕ) (n : ℕ) : Type 0 where
   pub long : length ws ≡ n
   pub current : get_or ws 0 0 ≡ pack B.seq B.owner
@@ -352,7 +371,8 @@ abbrev pub FirstWordsHoldStart : Setup → Type 0
 FirstWordsHoldStart S = (B : TableStart) → IsStart S B → (n : ℕ) → words_before_members S ≤ n
     → HoldsStart S B (first_words S.callers S.cells B n) n
 
--- its machines are idle, one for each caller, which has made the calls that its ticket counts
+-- a table opens with one idle machine for each caller, which counts the calls that the caller's
+-- ticket cell counts at the start
 abbrev pub FirstMachinesAreIdle : Setup → Type 0
 FirstMachinesAreIdle S = (B : TableStart) (n : ℕ) →
     let ms : List CallState = (opening_moment S B n).machines in
@@ -370,7 +390,7 @@ ZeroTablesAreZeros S =
     (n : ℕ) → words_before_members S ≤ n
     → first_words S.callers S.cells (zero_start S) n ≡ replicate n 0
 
--- and at such a start no caller has made a call
+-- at a start of zeros no caller has made a call
 abbrev pub ZeroTablesHaveNoCalls : Setup → Type 0
 ZeroTablesHaveNoCalls S = (i : ℕ) → start_ticket S (zero_start S) i ≡ 0
 
@@ -383,8 +403,9 @@ RecoveredRowsMayStart S Lawful =
     let found : List ℕ = recovered_words S.callers S.cells row in
     IsStartRow S Lawful found × (start_from_durable S.callers S.cells found ≡ recovered_start S B w)
 
--- So it is also after a recovery that has stopped between two of its writes: a recovery of what it
--- left gives the same row.
+-- If a recovery has stopped between two of its writes, a second recovery, of what the first one
+-- left, also gives a row from which a table may start, at the state after the batch of the durable
+-- sequence.
 abbrev pub RestartsMidway : Setup → (List ℕ → Type 0) → Type 0
 RestartsMidway S Lawful =
     (B : TableStart) (w : Moment) → MeetsInvariant S Lawful B w → (row : List ℕ)
@@ -395,8 +416,8 @@ RestartsMidway S Lawful =
     (words_after_writes (take made writes) row) in
     IsStartRow S Lawful found × (start_from_durable S.callers S.cells found ≡ recovered_start S B w)
 
--- what a renumbering of such a row leaves, stopped between two of its writes, is a row from
--- which a table may start with the same numbers
+-- what a renumbering of a start row leaves, stopped between two of its writes, is a row from which
+-- a table may start with the same numbers
 abbrev pub RenumbersMidway : Setup → (List ℕ → Type 0) → Type 0
 RenumbersMidway S Lawful = (row : List ℕ) → IsStartRow S Lawful row → (made : ℕ) →
     let writes : List (ℕ × ℕ) = renumbering_writes S.callers S.cells row in
@@ -421,57 +442,59 @@ TurnsKeepIdle =
     (S : Setup) (m : CallState) (n : ℕ) → m.place ≡ Idle
     → (take_word S m n ≡ m) × (step_reads m m ≡ [])
 
--- an idle machine rests on nothing, and no try of it has read
+-- an idle machine goes by no sequence (`rests_on_seq` is 0), and is in no try
 abbrev pub IdleRestsOnNothing : Type 0
 IdleRestsOnNothing =
     (m : CallState) → m.place ≡ Idle → (rests_on_seq m ≡ 0) × ((low : ℕ) → ReadsFrom low m)
 
--- a step finds the word that is there
+-- a machine's next step finds the word that `word_found` gives: the table's word that the step is
+-- on
 abbrev pub StepsFindTheirWord : Type 0
 StepsFindTheirWord =
     (S : Setup) (ws : List ℕ) (m : CallState) → IsFoundBy (want S m) ws (word_found S ws m)
 
--- a turn is the step of its caller's machine, whatever number a store is said to find
+-- a turn of a caller is the next step of its machine, for any number that this step may find
 abbrev pub TurnsAreSteps : Type 0
 TurnsAreSteps = (S : Setup) (w : Moment) (i n : ℕ) → IsFoundBy (want S (machine_in w i)) w.words n
     → after_event S w (Turns i) ≡ after_step S i (machine_in w i) n w
 
 -- Histories by themselves.
 
--- the first state is the start's
+-- the state at the start's sequence is the start's cells, whatever batches follow
 abbrev pub FirstStateIsStart : Type 0
 FirstStateIsStart = (B : TableStart) (bs : List Batch) → state_after B bs B.seq ≡ B.cells
 
--- the batches are numbered from the start's sequence on
+-- the batches are numbered in order, the first with the number after the start's sequence
 abbrev pub BatchesAreNumbered : Type 0
 BatchesAreNumbered = (B : TableStart) (bs : List Batch) (d : ℕ)
     → batch_at B bs (B.seq + d + 1) ≡ get_or bs d no_batch
 
--- the next batch has the next number
+-- a batch that is added to a history has the next number
 abbrev pub NextBatchIsNumberedNext : Type 0
 NextBatchIsNumberedNext = (B : TableStart) (bs : List Batch) (b : Batch) (k : ℕ)
     → k ≡ B.seq + length bs + 1 → batch_at B (bs ++ b ∷ []) k ≡ b
 
--- a longer history has the same batches, as far as the shorter one goes
+-- if batches are added to a history, its earlier batches keep their numbers
 abbrev pub LongerKeepsBatches : Type 0
 LongerKeepsBatches = (B : TableStart) (bs cs : List Batch) (k : ℕ)
     → B.seq < k → k ≤ B.seq + length bs → batch_at B (bs ++ cs) k ≡ batch_at B bs k
 
--- a longer history has the same states
+-- if batches are added to a history, the states after its earlier batches stay the same
 abbrev pub LongerKeepsStates : Type 0
 LongerKeepsStates = (B : TableStart) (bs cs : List Batch) (k : ℕ)
     → k ≤ B.seq + length bs → state_after B (bs ++ cs) k ≡ state_after B bs k
 
--- the beginning of a history keeps its batches
+-- the first n batches of a history have the same numbers if the later batches are left out
 abbrev pub PrefixKeepsBatches : Type 0
 PrefixKeepsBatches = (B : TableStart) (bs : List Batch) (n k : ℕ)
     → B.seq < k → k ≤ B.seq + n → batch_at B (take n bs) k ≡ batch_at B bs k
 
+-- the states after the first n batches of a history are the same if the later batches are left out
 abbrev pub PrefixKeepsStates : Type 0
 PrefixKeepsStates = (B : TableStart) (bs : List Batch) (n k : ℕ)
     → k ≤ B.seq + n → state_after B (take n bs) k ≡ state_after B bs k
 
--- and the beginning of a legal history is legal
+-- the beginning of a legal history is legal
 abbrev pub PrefixIsLegal : Type 0
 PrefixIsLegal = (M : Meaning) (xs : List ℕ) (bs : List Batch) (n : ℕ)
     → IsLegalHistory M xs bs → IsLegalHistory M xs (take n bs)

@@ -4,11 +4,12 @@ use Rattle.of_mem.specs.Meaning.{WalkEnd, Needs, Gives}
 use Rattle.of_core.specs.declared.place.Place.{Place}
 use Rattle.of_core.specs.declared.place.Place.TheVariants.{Idle, TryCurrent, TryRequest, TryCell, StoreScript, StoreAnnouncement, LoadCurrent, LoadRequest, CopyLog, LookAgain, LoadOwnTicket, LoadShape, LoadReply, LoadAnnouncement, LoadTicket, LoadScript, LoadCell, RaiseOld, StoreLog, RaiseLog, StoreRequest, RaiseRequest, ExchangeCurrent, RaiseCurrent, LoadTarget, ExchangeTarget, ReloadTarget, RaiseTarget, CloseRequest, RaiseClosed}
 use Rattle.of_core.specs.declared.place.Outcome.{Outcome}
-use Rattle.of_core.specs.declared.place.Outcome.TheVariants.{Answered, Spent}
+use Rattle.of_core.specs.declared.place.Outcome.TheVariants.{Answered, Spent, Lost}
 use Rattle.of_core.specs.Table.{Setup}
 use Rattle.of_core.specs.Machine.{CallState, no_cell_known}
 
--- the two loads of a try, and one more if its run with nothing known needs a cell
+-- the least steps of a try by how its run goes with no cell known: its two loads, and one more if
+-- the run needs a cell
 abbrev pub least_of : WalkEnd → ℕ
 least_of (Needs a) = 3
 least_of (Gives es r) = 2
@@ -17,22 +18,23 @@ least_of (Gives es r) = 2
 abbrev pub least_read : Setup → List ℕ → ℕ
 least_read S op = least_of (S.meaning.walk (no_cell_known S) op)
 
--- the least steps of an announced call: its words, the announcement, the two loads of a round, its
--- ticket and its shape
+-- the least steps of an announced call: the stores of its words and of the announcement, the two
+-- loads with which a round begins, and the loads of the ticket cell and of the reply's shape
 abbrev pub least_call : List ℕ → ℕ
 least_call op = length op + 5
 
--- the steps that a try or a round has made when it helps: it has made its two loads
+-- the least steps that a call has made when its try or its round helps: those up to the two loads
+-- with which it began
 abbrev pub made_helping : List ℕ → (in_try : Bool) → ℕ
 made_helping op true = 2
 made_helping op false = length op + 3
 
--- the steps made at an apply: those of a helper, or all up to the caller's own exchange
+-- the least steps that a call has made when it applies a log: as a helper, or as the owner
 abbrev pub made_applying : List ℕ → (in_try helps : Bool) → ℕ
 made_applying op in_try true = made_helping op in_try
 made_applying op in_try false = length op + 4
 
--- how many steps are made at a place at least
+-- the least steps that a call has made when it is at this place
 abbrev pub least_steps_at : CallState → Place → ℕ
 least_steps_at m Idle = 0
 least_steps_at m TryCurrent = 0
@@ -71,9 +73,10 @@ TellsLeastSteps S op None = Unit {0}
 TellsLeastSteps S op (Some (Answered s true raw steps)) = least_call op ≤ steps
 TellsLeastSteps S op (Some (Answered s false raw steps)) = least_read S op ≤ steps
 TellsLeastSteps S op (Some (Spent s)) = Unit {0}
+TellsLeastSteps S op (Some (Lost s)) = Unit {0}
 
--- the steps made are at least those; an idle machine has none of an open call, and its last answer
--- has at least the steps that its call must make
+-- m has made at least the least steps of its place; if it is idle, it counts no steps, and its last
+-- answer names at least the steps that its call must make
 pub record HasMadeLeastSteps (S : Setup) (m : CallState) (p : Place) : Type 0 where
   pub steps : least_steps_at m p ≤ m.steps
   pub rests : p ≡ Idle → m.steps ≡ 0

@@ -19,12 +19,12 @@ use Rattle.of_core.specs.Linear.{Linearizes, IsBySequence, IsRecovered}
 abbrev pub start_after : Setup → (n : ℕ) → TableStart → List Event → TableStart
 start_after S n B es = recovered_start S B (after_events S (opening_moment S B n) es)
 
--- and after all of these lives
+-- the start that recovery finds after the last of these lives
 abbrev pub start_after_all : Setup → (n : ℕ) → TableStart → List (List Event) → TableStart
 start_after_all S n B [] = B
 start_after_all S n B (es ∷ lives) = start_after_all S n (start_after S n B es) lives
 
--- each is a schedule from what recovery finds after the one before
+-- each life is a schedule that starts from what recovery finds after the life before
 abbrev pub AreScheduleLives : Setup → (n : ℕ) → TableStart → List (List Event) → Type 0
 AreScheduleLives S n B [] = Unit {0}
 AreScheduleLives S n B (es ∷ lives) =
@@ -42,23 +42,25 @@ AreLinearized S n B (es ∷ lives) (order ∷ orders) =
     × IsRecovered S B (after_events S (opening_moment S B n) es) order
     × AreLinearized S n (start_after S n B es) lives orders
 
--- the orders one after the other
+-- the whole order: the orders of the lives, one after the other
 abbrev pub whole_order : List (List Call) → List Call
 whole_order orders = flat_map (λ order. order) orders
 
--- the lives have such orders, which together are one serial run from the first start: so each call
--- comes after all calls of the lives before its own
+-- each life has an order, as `AreLinearized` says, and these orders one after the other are one
+-- serial run from the first start: so each call comes after all calls of earlier lives
 pub record AreDurablyLinearizable (S : Setup) (n : ℕ) (B : TableStart) (lives : List (List Event))
     : Type 0 where
   pub orders : List (List Call)
   pub each : AreLinearized S n B lives orders
-  -- all of its calls have their replies, and it leads to the start after the last life
+  -- run in the whole order, the calls give the replies that they have, and lead to the start after
+  -- the last life
   pub legal : CallsHaveReplies S.meaning (map payload_of B.cells) (whole_order orders)
   pub leads : SameFrom (first_operation_cell S) (map payload_of (start_after_all S n B lives).cells)
       (numbers_after_calls S.meaning (map payload_of B.cells) (whole_order orders))
-  -- no call that may write is in it twice: only newer calls of its caller come after it
+  -- no call that may write is in the whole order twice: only newer calls of its caller come after
+  -- it
   pub once : (p q : ℕ) → p < q → q < length (whole_order orders)
       → S.meaning.reads_only (get_or (whole_order orders) p no_call).op ≡ false
       → IsNewerCall (get_or (whole_order orders) p no_call) (get_or (whole_order orders) q no_call)
-  -- and none was done before the first start
+  -- no call of the whole order was done before the first start
   pub newer : All (λ (c : Call). start_ticket S B c.caller < c.ticket) (whole_order orders)

@@ -1,5 +1,5 @@
--- What lets a machine take a word: with these words, machines and history it meets the invariant,
--- and its wanted step finds this word.
+-- When a machine may take a word: at some moment that meets the invariant, the machine's next step
+-- finds this word.
 use Rattle.std.specs.Prelude.{◌≡◌, ℕ, ◌<◌, List}
 use Rattle.std.proofs.Common.{get_or}
 use Rattle.of_core.specs.Table.{Setup}
@@ -8,6 +8,8 @@ use Rattle.of_core.specs.Steps.{want, IsFoundBy}
 use Rattle.of_core.specs.TableMoment.{Moment, TableStart}
 use Rattle.of_core.specs.Invariant.{MeetsInvariant}
 
+-- at some moment that meets the invariant, m is the machine of a caller, and its next step finds
+-- the word `found`
 pub record MayTake (S : Setup) (Lawful : List ℕ → Type 0) (m : CallState) (found : ℕ) : Type 0 where
   pub start : TableStart
   pub world : Moment

@@ -24,15 +24,15 @@ pub record Bank (X : Type 0) : Type 0 where
   pub words : List ℕ
   pub machines : List CallState
 
--- what its machines have in common; the first argument gives the meaning of a work
+-- what a bank's machines have in common; the first argument gives the meaning of a work
 abbrev pub bank_setup : {X : Type 0} → (X → Meaning) → Bank X → Setup
 bank_setup meaning b = setup_of b.callers b.cells b.limit (meaning b.work)
 
--- how many words it has: those of the table, and one for the members
+-- how many words a table has, with one for the members
 abbrev pub table_word_count : Setup → ℕ
 table_word_count S = cells.table_words S.callers S.instrs S.cells
 
--- the moment at which it opens, if it begins at this start
+-- the moment at which a bank opens, if its table starts at B
 abbrev pub bank_opening : {X : Type 0} → (X → Meaning) → TableStart → Bank X → Moment
 bank_opening meaning B b =
     opening_moment (bank_setup meaning b) B (table_word_count (bank_setup meaning b))
@@ -41,13 +41,13 @@ bank_opening meaning B b =
 abbrev pub machine_of : {X : Type 0} → Bank X → ℕ → CallState
 machine_of b i = get_or b.machines i no_machine
 
--- the moment with a bank's words and machines, and no history
+-- the moment with a bank's words and machines, an empty history and no word loaded for an eviction
 abbrev pub moment_of_bank : {X : Type 0} → Bank X → Moment
 moment_of_bank b =
     record { words = b.words; machines = b.machines; batches = []; reads = []; loaded = [] }
 
--- What events leave. No event's words and machines depend on the history, nor on what was loaded
--- before.
+-- The bank after these events. The history before them is left out, as neither words nor machines
+-- depend on it.
 abbrev pub bank_after : {X : Type 0} → (X → Meaning) → List Event → Bank X → Bank X
 bank_after meaning es b = record b {
   words = (after_events (bank_setup meaning b) (moment_of_bank b) es).words;
@@ -75,6 +75,6 @@ RunSameWork {X} work callers cells limit ms =
       call = (get_or ms k d).call;
     }
 
--- what machines hold
+-- the call states of the machines
 abbrev pub call_states : {X : Type 0} → List (Machine X) → List CallState
 call_states ms = map (λ m. m.call) ms

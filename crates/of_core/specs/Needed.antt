@@ -13,21 +13,22 @@ use Rattle.of_core.specs.TableMoment.{Moment}
 use Rattle.of_core.specs.Events.{machine_in, opening_moment, after_events}
 use Rattle.of_core.specs.Laws.{EachStep, EachSchedule}
 
--- at a place that loads a cell for a run, the run on what is known so far names that cell: of a try
--- the run of the call itself, and of a round that of the call that the scan has come to, with the
--- writes of the calls before it over what is known
+-- if the machine is about to load a cell for a run, that run needs this cell. In a try it is the
+-- run of the machine's own call, over the known cells. In a round it is the run of the call that
+-- the scan has come to, over the known cells and the writes of the calls before
 abbrev pub NeedsCell : Setup → CallState → Place → Type 0
 NeedsCell S m (TryCell a) = S.meaning.walk m.known m.op ≡ Needs a
 NeedsCell S m (LoadCell a) = S.meaning.walk (overlaid m.known m.log) m.script ≡ Needs a
 NeedsCell S m p = Unit {0}
 
--- this holds of each caller at every moment of every schedule
+-- at every moment of every schedule, if a machine is about to load a cell for a run, the run needs
+-- that cell (`NeedsCell`)
 abbrev pub LoadsNeeded : Setup → (List ℕ → Type 0) → Type 0
 LoadsNeeded S Lawful = EachSchedule S Lawful (λ B n es.
     let w : Moment = after_events S (opening_moment S B n) es in
     (i : ℕ) → i < S.callers → NeedsCell S (machine_in w i) (machine_in w i).place)
 
--- a step leads to the first word of a log only if the request of its owner is open
+-- a machine begins to copy a log only if it has found the request of the log's owner open
 abbrev pub CopiesOpenLogs : Setup → (List ℕ → Type 0) → Type 0
 CopiesOpenLogs S Lawful = EachStep S Lawful (λ B w i m n.
     IsOpen m.place → (take_word S m n).place ≡ CopyLog 0

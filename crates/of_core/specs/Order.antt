@@ -10,8 +10,8 @@ use Rattle.of_core.specs.Machine.{Call, CallState, is_idle}
 use Rattle.of_core.specs.TableMoment.{Moment, TableStart, Batch, Read}
 use Rattle.of_core.specs.History.{batch_at, last_ticket_by, numbers_after}
 
--- the read is of an operation that only reads, and its reply is the meaning on the state at its
--- sequence, which is at most d
+-- the read is of an operation that only reads, and its reply is what the operation answers on the
+-- state at the read's sequence, which is at most d
 pub record IsRead (S : Setup) (B : TableStart) (bs : List Batch) (d : ℕ) (r : Read) : Type 0 where
   pub caller : r.caller < S.callers
   pub from : B.seq ≤ r.seq
@@ -19,11 +19,12 @@ pub record IsRead (S : Setup) (B : TableStart) (bs : List Batch) (d : ℕ) (r : 
   pub only : S.meaning.reads_only r.op ≡ true
   pub reply : S.meaning.reply (numbers_after B bs r.seq) r.op ≡ r.raw
 
+-- the read that stands for a place beyond the end of a list of reads
 abbrev pub no_read : Read
 no_read =
     record { caller = 0; ticket = 0; op = []; raw = record { shape = 0; values = [] }; seq = 0 }
 
--- of two reads of one caller the second is the later made, and has read no older state
+-- if both reads are of one caller, the second was made later and has read no older state
 abbrev pub IsLaterRead : (first second : Read) → Type 0
 IsLaterRead r q = r.caller ≡ q.caller → (r.ticket < q.ticket) × (r.seq ≤ q.seq)
 
@@ -32,13 +33,14 @@ abbrev pub AreInAnswerOrder : List Read → Type 0
 AreInAnswerOrder rs =
     (j k : ℕ) → j < k → k < length rs → IsLaterRead (get_or rs j no_read) (get_or rs k no_read)
 
--- of a call in batch k and a read of one caller, the one made first comes first; a batch comes
--- before the reads of its state
+-- if the call c of batch k and the read r are of one caller, the one that was made first comes
+-- first in the history, where a batch comes before the reads of its state
 abbrev pub StandInCallOrder : ℕ → Call → Read → Type 0
 StandInCallOrder k c r = c.caller ≡ r.caller
     → ((c.ticket < r.ticket) × (k ≤ r.seq)) ⊎ ((r.ticket < c.ticket) × (r.seq < k))
 
--- each read is lawful, and the calls of each caller are in the order in which it made them
+-- each read has the right reply, and the calls of each caller, in batches and read, are in the
+-- order in which it made them
 pub record AreInCallOrder (S : Setup) (B : TableStart) (ws : List ℕ) (bs : List Batch)
     (rs : List Read) : Type 0 where
   pub reads : All (IsRead S B bs (durable_seq S ws)) rs
@@ -46,7 +48,7 @@ pub record AreInCallOrder (S : Setup) (B : TableStart) (ws : List ℕ) (bs : Lis
   pub apart : (k : ℕ) → B.seq < k → k ≤ B.seq + length bs
       → All (λ (c : Call). All (StandInCallOrder k c) rs) (batch_at B bs k).calls
 
--- a machine that has loaded the current-transaction word for a try of its read
+-- the machine is in a try, at a place after the load of the current-transaction word
 abbrev pub HasBegunTry : CallState → Place → Type 0
 HasBegunTry m TryRequest = Unit {0}
 HasBegunTry m (TryCell a) = Unit {0}
@@ -61,16 +63,19 @@ HasBegunTry m CloseRequest = (m.helps ≡ true) × (m.rounds ≡ 0)
 HasBegunTry m RaiseClosed = (m.helps ≡ true) × (m.rounds ≡ 0)
 HasBegunTry m p = ⊥
 
--- the read's call was made before the open one, or is not newer than an idle machine's last
+-- the read was made before the machine's open call or, if the machine is idle, no later than its
+-- last call
 abbrev pub WasMadeBefore : CallState → Read → (idle : Bool) → Type 0
 WasMadeBefore m r true = r.ticket ≤ m.made
 WasMadeBefore m r false = r.ticket < m.made
 
+-- the read was made before the machine's open call or, if the place is Idle, no later than the
+-- machine's last call
 abbrev pub IsOlder : CallState → Place → Read → Type 0
 IsOlder m p r = WasMadeBefore m r (is_idle p)
 
 -- the reads of the machine's caller are older than its open call. Nothing that the caller has made,
--- a read or a call in a batch, is newer than the state that a try of it reads
+-- a read or a call in a batch, is newer than the state that its try reads
 pub record HasOnlyOlderCalls (S : Setup) (B : TableStart) (ws : List ℕ) (bs : List Batch)
     (rs : List Read) (i : ℕ) (m : CallState) (p : Place) : Type 0 where
   pub older : All (λ (r : Read). r.caller ≡ i → IsOlder m p r) rs
@@ -78,7 +83,8 @@ pub record HasOnlyOlderCalls (S : Setup) (B : TableStart) (ws : List ℕ) (bs : 
   pub still : HasBegunTry m p
       → last_ticket_by S B bs m.seq i ≡ last_ticket_by S B bs (committed_seq ws) i
 
--- the order of calls at a moment, and what each machine needs to keep it
+-- the calls of each caller are in order at this moment, and the answered reads of each machine's
+-- caller are older than its open call (`HasOnlyOlderCalls`)
 pub record KeepsCallOrder (S : Setup) (B : TableStart) (w : Moment) : Type 0 where
   pub ordered : AreInCallOrder S B w.words w.batches w.reads
   pub behind : (i : ℕ) (m : CallState) → i < S.callers → get_or w.machines i m ≡ m

@@ -12,19 +12,19 @@ pub record CallOnTable : Type 0 where
   pub call : CallState
   pub words : List ℕ
 
--- both after the call's next step
+-- the call and the words after the call's next step
 abbrev pub after_own_step : Setup → CallOnTable → CallOnTable
 after_own_step S x = record {
   call = take_word S x.call (word_found S x.words x.call);
   words = words_after (want S x.call) x.words;
 }
 
--- and after n of its steps
+-- the call and the words after n steps of the call
 abbrev pub after_own_steps : Setup → ℕ → CallOnTable → CallOnTable
 after_own_steps S zero x = x
 after_own_steps S (suc n) x = after_own_step S (after_own_steps S n x)
 
--- however many steps the call has made, it may take the word that the next one finds
+-- after any number of its own steps, the call may take the word that its next step finds
 abbrev pub MayGoOn : Setup → (List ℕ → Type 0) → CallOnTable → Type 0
 MayGoOn S Lawful x =
     (k : ℕ) → let y = after_own_steps S k x in MayTake S Lawful y.call (word_found S y.words y.call)
@@ -33,6 +33,6 @@ MayGoOn S Lawful x =
 abbrev pub IsOpenBefore : Setup → ℕ → CallOnTable → Type 0
 IsOpenBefore S n x = (k : ℕ) → k < n → IsIdle (after_own_steps S k x).call → ⊥
 
--- a machine's call, and words
+-- the call of a machine, on these words
 abbrev pub call_on : {X : Type 0} → Machine X → List ℕ → CallOnTable
 call_on m ws = record { call = m.call; words = ws }

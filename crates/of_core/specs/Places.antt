@@ -7,7 +7,7 @@ use Rattle.of_mem.specs.Meaning.{is_marked}
 use Rattle.of_core.specs.declared.machine.trying.TheConstants.{MOST_TRIES}
 use Rattle.of_cell.specs.Words.{pack, seq_of, payload_of}
 use Rattle.of_core.specs.declared.place.Outcome.{Outcome}
-use Rattle.of_core.specs.declared.place.Outcome.TheVariants.{Answered, Spent}
+use Rattle.of_core.specs.declared.place.Outcome.TheVariants.{Answered, Spent, Lost}
 use Rattle.of_core.specs.Table.{most_entries, Setup, ticket_cell, request_of, data_word, durable_request, announcement_of, script_words_of, committed_seq, durable_seq}
 use Rattle.of_core.specs.Machine.{CallState, log_entry, log_words, no_cell_known}
 use Rattle.of_core.specs.TableMoment.{Batch, TableStart}
@@ -18,7 +18,7 @@ use Rattle.of_core.specs.Scan.{HasScannedUpTo, HasLoadedAnnouncement, HasLoadedS
 use Rattle.of_core.specs.Transaction.{IsApplying, IsCopyingLog, HasStoredLog, HasClosedDurably, IsStoringLog}
 
 module _ (S : Setup) (B : TableStart) (ws : List ℕ) (bs : List Batch) (i : ℕ) (m : CallState) where
-  -- its call has read the state of s
+  -- the last call of m has read the state at sequence s, and has this reply
   pub record WasReadAt (s : ℕ) (raw : RawReply) : Type 0 where
     pub from : B.seq ≤ s
     pub durable : s ≤ durable_seq S ws
@@ -26,28 +26,29 @@ module _ (S : Setup) (B : TableStart) (ws : List ℕ) (bs : List Batch) (i : ℕ
     pub reply : S.meaning.reply (numbers_after B bs s) m.op ≡ raw
     pub reads : S.meaning.reads_only m.op ≡ true
 
-  -- its call is in batch s
+  -- the last call of m is in batch s, with this reply
   pub record WasRunInBatch (s : ℕ) (raw : RawReply) : Type 0 where
     pub from : B.seq < s
     pub durable : s ≤ durable_seq S ws
     pub upto : s ≤ committed_seq ws
     pub call : HasCall S (batch_at B bs s).calls i m.made m.op raw
 
-  -- its call was not run, and s is the last sequence
+  -- the last call of m was not run, and s, the limit, is the last sequence
   pub record WasSpentAt (s : ℕ) : Type 0 where
     pub left : last_ticket_by S B bs (committed_seq ws) i < m.made
     pub limit : s ≡ S.limit
     pub last : committed_seq ws ≡ s
     pub durable : s ≤ durable_seq S ws
 
-  -- what its last answer says
+  -- what the last outcome of m says of the history
   abbrev pub LastOutcomeStands : Option Outcome → Type 0
   LastOutcomeStands None = Unit {0}
   LastOutcomeStands (Some (Answered s false raw steps)) = WasReadAt s raw
   LastOutcomeStands (Some (Answered s true raw steps)) = WasRunInBatch s raw
   LastOutcomeStands (Some (Spent s)) = WasSpentAt s
+  LastOutcomeStands (Some (Lost s)) = ⊥
 
-  -- Idle: nothing of it is under way, and its last answer is in the history
+  -- Idle: the caller has nothing under way, and the last outcome of m stands in the history
   pub record IsAtRest : Type 0 where
     pub caller : m.caller ≡ i
     pub calm : HasNothingUnderWay S B ws bs i (committed_seq ws)
@@ -71,7 +72,8 @@ module _ (S : Setup) (B : TableStart) (ws : List ℕ) (bs : List Batch) (i : ℕ
     pub current_word : WasCurrent S B ws bs m.seq m.owner
     pub calm : HasNothingUnderWay S B ws bs i m.seq
 
-  -- TryCell a: the transaction of the try isn't open, and its run needs the cell a
+  -- TryCell a: the transaction at which the try began isn't open, and the run of the call needs the
+  -- cell a
   pub record IsTryingCell (a : ℕ) : Type 0 where
     pub trying : IsInTry S B ws bs i m
     pub current_word : WasCurrent S B ws bs m.seq m.owner
@@ -111,7 +113,7 @@ module _ (S : Setup) (B : TableStart) (ws : List ℕ) (bs : List Batch) (i : ℕ
         → x < length (log_words (batch_at B bs m.seq).log)
     pub in_log : x < 2 * most_entries S + 1
 
-  -- LookAgain: if the transaction is still open, its whole log is copied
+  -- LookAgain: if the transaction is still open, the copy has its whole log
   pub record IsLookingAgain : Type 0 where
     pub copies : IsCopyingLog S B ws bs i m (length m.copy)
     pub whole : request_of ws m.owner ≡ pack m.seq 0
@@ -126,13 +128,14 @@ module _ (S : Setup) (B : TableStart) (ws : List ℕ) (bs : List Batch) (i : ℕ
     pub no_calls : m.calls ≡ []
     pub no_scan : m.scan ≡ 0
 
-  -- LoadShape: the ticket cell of the round's state has the call
+  -- LoadShape: in the round's state, the caller's ticket cell has the ticket of the call
   pub record IsLoadingShape : Type 0 where
     pub looks : IsPastRequest S B ws bs i m
     pub calm : HasNothingUnderWay S B ws bs i m.seq
     pub finds : FindsOwnTicket S (state_after B bs m.seq) i m
 
-  -- LoadReply j: the shape is read too, and the marked replies below j; it marks j
+  -- LoadReply j: the shape of the reply is loaded, and so are the numbers below j that the shape
+  -- marks; the shape marks j too
   pub record IsLoadingReply (j : ℕ) : Type 0 where
     pub looks : IsPastRequest S B ws bs i m
     pub calm : HasNothingUnderWay S B ws bs i m.seq
@@ -141,27 +144,30 @@ module _ (S : Setup) (B : TableStart) (ws : List ℕ) (bs : List Batch) (i : ℕ
     pub in_reply : j < S.instrs
     pub marked : is_marked m.raw.shape j ≡ true
 
-  -- LoadAnnouncement: the round's state hasn't run the call, and its scan has come to a caller
+  -- LoadAnnouncement: the call was not run by the round's state, and the scan has come to a caller
   pub record IsAtCaller : Type 0 where
     pub past : IsPastOwnTicket S B ws bs i m
     pub calm : HasNothingUnderWay S B ws bs i m.seq
     pub scan : IsInScan S B ws bs i m
     pub in_range : m.scan < S.callers
 
-  -- LoadTicket: that caller's announcement is loaded, and its ticket cell isn't known
+  -- LoadTicket: the announcement of the caller that the scan has come to is loaded, and the ticket
+  -- cell of this caller isn't known
   pub record IsLoadingTicket : Type 0 where
     pub scanning : IsAtCaller
     pub heard : HasLoadedAnnouncement S B ws bs i m.seq m.scan m.heard
     pub unknown : get_or m.known (ticket_cell S m.scan) None ≡ None
 
-  -- LoadScript j: what it announces is new, and the first j words of it are loaded
+  -- LoadScript j: the caller that the scan has come to announces a new call, and the first j words
+  -- of this call are loaded
   pub record IsLoadingScript (j : ℕ) : Type 0 where
     pub scanning : IsAtCaller
     pub heard : HasLoadedAnnouncement S B ws bs i m.seq m.scan m.heard
     pub loaded : HasLoadedScript S (state_after B bs m.seq) ws m.seq m.scan m.heard m.script j
     pub more : j < payload_of m.heard
 
-  -- LoadCell a: all words of it are loaded, and its run needs the cell a
+  -- LoadCell a: all words of the new call of the caller that the scan has come to are loaded, and
+  -- the run of this call needs the cell a
   pub record IsLoadingCell (a : ℕ) : Type 0 where
     pub scanning : IsAtCaller
     pub heard : HasLoadedAnnouncement S B ws bs i m.seq m.scan m.heard
@@ -176,18 +182,20 @@ module _ (S : Setup) (B : TableStart) (ws : List ℕ) (bs : List Batch) (i : ℕ
     pub calm : HasNothingUnderWay S B ws bs i m.seq
     pub scan : HasScannedUpTo S B ws bs i m.seq m.made m.op m.raw m.calls m.log S.callers
 
-  -- StoreLog and RaiseLog: x words of the log are stored and z durable, and there is a word z
+  -- StoreLog and RaiseLog: the first x words of the log are stored, the first z are durable, and
+  -- the log has a word z
   pub record IsAtLogWord (x z : ℕ) : Type 0 where
     pub storing : IsStoringLog S B ws bs i m x z
     pub more : z < length (log_words m.log)
 
-  -- RaiseRequest: the request asks for the next sequence, and the durable one closes each batch
+  -- RaiseRequest: the request is open with the next sequence, and the durable request closes each
+  -- batch of the caller
   pub record IsRaisingRequest : Type 0 where
     pub stored : HasStoredLog S B ws bs i m (length (log_words m.log)) (length (log_words m.log))
     pub asks : request_of ws i ≡ pack (m.seq + 1) 0
     pub shut : HasClosedDurably S B ws bs i
 
-  -- ExchangeCurrent: the request asks for the next sequence, and is durable
+  -- ExchangeCurrent: the request is open with the next sequence, and durable
   pub record IsExchangingCurrent : Type 0 where
     pub stored : HasStoredLog S B ws bs i m (length (log_words m.log)) (length (log_words m.log))
     pub asks : request_of ws i ≡ pack (m.seq + 1) 0
@@ -199,19 +207,20 @@ module _ (S : Setup) (B : TableStart) (ws : List ℕ) (bs : List Batch) (i : ℕ
     pub more : j < length m.log
     pub durable : m.seq ≤ durable_seq S ws
 
-  -- ExchangeTarget j f: its cell held the older word f, and holds it still or is applied
+  -- ExchangeTarget j f: the cell of entry j held f, which is older than the transaction. The cell
+  -- still holds f, or its word is no older than the transaction now
   pub record IsExchangingTarget (j f : ℕ) : Type 0 where
     pub entry : IsAtEntry j
     pub older : seq_of f < m.seq
     pub found : (data_word S ws (log_entry m j).0 ≡ f)
         ⊎ (m.seq ≤ seq_of (data_word S ws (log_entry m j).0))
 
-  -- ReloadTarget j: its cell is no older than the transaction
+  -- ReloadTarget j: the cell of entry j is no older than the transaction
   pub record IsReloadingTarget (j : ℕ) : Type 0 where
     pub entry : IsAtEntry j
     pub newer : m.seq ≤ seq_of (data_word S ws (log_entry m j).0)
 
-  -- RaiseTarget j f: its cell has held f, and f is no older than the transaction
+  -- RaiseTarget j f: the cell of entry j has held f, and f is no older than the transaction
   pub record IsRaisingTarget (j f : ℕ) : Type 0 where
     pub entry : IsAtEntry j
     pub newer : m.seq ≤ seq_of f
@@ -223,7 +232,7 @@ module _ (S : Setup) (B : TableStart) (ws : List ℕ) (bs : List Batch) (i : ℕ
     pub applies : IsApplying S B ws bs i m (length m.log)
     pub durable : m.seq ≤ durable_seq S ws
 
-  -- RaiseClosed: and the owner's request is closed
+  -- RaiseClosed: all entries are applied, and the owner's request is closed
   pub record IsRaisingClosed : Type 0 where
     pub applies : IsApplying S B ws bs i m (length m.log)
     pub durable : m.seq ≤ durable_seq S ws

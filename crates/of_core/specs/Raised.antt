@@ -7,10 +7,11 @@ use Rattle.of_core.specs.Table.{Setup, cell_count, durable_at, durable_word}
 use Rattle.of_core.specs.Steps.{want}
 use Rattle.of_core.specs.TableMoment.{Moment, TableStart}
 use Rattle.of_core.specs.Invariant.{MeetsInvariant, IsLoaded}
-use Rattle.of_core.specs.Events.{Event, after_event, MayHappen, after_events, opening_moment, one_if, machine_in, IsSchedule}
+use Rattle.of_core.specs.Events.{Event, after_event, MayHappen, after_events, opening_moment, one_if, machine_in, IsSchedule, AllReplaceNone}
 use Rattle.of_core.specs.Laws.{EachSchedule}
 
--- it goes round again if the loaded word x has become another word y that is still below v
+-- a raise to v goes round again if the word x that it has loaded has become another word y that is
+-- still below v
 abbrev pub goes_round : (x y v : ℕ) → Bool
 goes_round x y v = if x == y then false else nat_lt y v
 
@@ -26,7 +27,7 @@ lower_changes S w (e ∷ es) c v =
 abbrev pub is_pending : (x c v : ℕ) → ℕ × ℕ → Bool
 is_pending x c v e = (e.0 == c) && (nat_lt x e.1 && nat_lt e.1 v)
 
--- how many of these can
+-- how many of these loaded words can change the durable word x of the cell c to one below v
 abbrev pub pending_among : (x c v : ℕ) → List (ℕ × ℕ) → ℕ
 pending_among x c v [] = 0
 pending_among x c v (e ∷ es) = one_if (is_pending x c v e) + pending_among x c v es
@@ -36,8 +37,8 @@ pending_among x c v (e ∷ es) = one_if (is_pending x c v e) + pending_among x c
 abbrev pub pending : Setup → Moment → (c v : ℕ) → ℕ
 pending S w c v = pending_among (durable_word S w.words c) c v w.loaded
 
--- While a caller is about to raise a durable word to v, no call changes that word to one that is
--- still below v. An eviction that has loaded its word before does it at most once.
+-- While a caller is about to raise a durable word to v, no call changes the durable word to another
+-- one below v. Only evictions may, at most once for each word that they have loaded before.
 abbrev pub RaisesAreShort : Setup → (List ℕ → Type 0) → Type 0
 RaisesAreShort S Lawful =
     (B : TableStart) (w : Moment) → MeetsInvariant S Lawful B w
@@ -45,7 +46,9 @@ RaisesAreShort S Lawful =
     → want S (machine_in w i) ≡ Raise (durable_at S c) v
     → (es : List Event) → IsSchedule S w es → lower_changes S w es c v ≤ pending S w c v
 
--- the same of the raise of an eviction
+-- While an eviction is about to raise a durable word to the word e.1, no call changes the durable
+-- word to another one below e.1. Only other evictions may, at most once for each word that they
+-- have loaded before.
 abbrev pub EvictionsAreShort : Setup → (List ℕ → Type 0) → Type 0
 EvictionsAreShort S Lawful =
     (B : TableStart) (w : Moment) → MeetsInvariant S Lawful B w
@@ -60,35 +63,39 @@ RaisesHeld S Lawful =
     → want S (machine_in w i) ≡ Raise (durable_at S c) v
     → v ≤ get_or w.words c 0
 
--- In schedules from a start a cell changes only if its durable word is at least its word. So of all
--- the words that a cell has held, only the present one may not be durable.
+-- In schedules from a start, as long as no machine is replaced, a cell changes only if its durable
+-- word is at least the word that the cell holds. So of all the words that a cell has held, only the
+-- present one may not be durable. A machine that was lost may leave a log word that is not durable.
 abbrev pub CellsLevel : Setup → (List ℕ → Type 0) → Type 0
-CellsLevel S Lawful = EachSchedule S Lawful (λ B n es.
+CellsLevel S Lawful = EachSchedule S Lawful (λ B n es. AllReplaceNone es →
     let w : Moment = after_events S (opening_moment S B n) es in
     (e : Event) → MayHappen S w e → (c : ℕ) → c < cell_count S
     → (get_or (after_event S w e).words c 0 ≡ get_or w.words c 0)
     ⊎ (get_or w.words c 0 ≤ durable_word S w.words c))
 
--- so in them nothing changes a durable word to one below the word that a caller is about to raise
+-- In schedules from a start, as long as no machine is replaced, nothing changes a durable word to
+-- one below the word that a caller is about to raise it to.
 abbrev pub RaisesUndisturbed : Setup → (List ℕ → Type 0) → Type 0
-RaisesUndisturbed S Lawful = EachSchedule S Lawful (λ B n es.
+RaisesUndisturbed S Lawful = EachSchedule S Lawful (λ B n es. AllReplaceNone es →
     let w : Moment = after_events S (opening_moment S B n) es in
     (i c v : ℕ) → i < S.callers → c < cell_count S
     → want S (machine_in w i) ≡ Raise (durable_at S c) v
     → (ds : List Event) → IsSchedule S w ds → lower_changes S w ds c v ≡ 0)
 
--- nor below a word that was loaded for an eviction
+-- In schedules from a start, as long as no machine is replaced, nothing changes a durable word to
+-- one below a word that was loaded from its cell for an eviction.
 abbrev pub EvictionsUndisturbed : Setup → (List ℕ → Type 0) → Type 0
-EvictionsUndisturbed S Lawful = EachSchedule S Lawful (λ B n es.
+EvictionsUndisturbed S Lawful = EachSchedule S Lawful (λ B n es. AllReplaceNone es →
     let w : Moment = after_events S (opening_moment S B n) es in
     (k : ℕ) → k < length w.loaded
     → (ds : List Event) → IsSchedule S w ds
     → lower_changes S w ds (get_or w.loaded k (0, 0)).0 (get_or w.loaded k (0, 0)).1 ≡ 0)
 
--- that is, the durable word stays as it is until it is at least v: when the exchange of the loop
--- has failed, the next load ends it
+-- In schedules from a start, as long as no machine is replaced, a durable word that a caller is
+-- about to raise to v stays as it is until it is at least v. If the exchange of the loop has
+-- failed, the next load ends the loop.
 abbrev pub RaisesStand : Setup → (List ℕ → Type 0) → Type 0
-RaisesStand S Lawful = EachSchedule S Lawful (λ B n es.
+RaisesStand S Lawful = EachSchedule S Lawful (λ B n es. AllReplaceNone es →
     let w : Moment = after_events S (opening_moment S B n) es in
     (i c v : ℕ) → i < S.callers → c < cell_count S
     → want S (machine_in w i) ≡ Raise (durable_at S c) v

@@ -9,19 +9,20 @@ use Rattle.of_core.specs.History.{last_ticket_by}
 use Rattle.of_core.specs.WordsMatch.{IsLastOpen}
 use Rattle.of_core.specs.Order.{IsOlder}
 use Rattle.of_core.specs.Invariant.{MeetsInvariant, MeetsCore}
-use Rattle.of_core.specs.Events.{after_raise}
+use Rattle.of_core.specs.Events.{after_raise, machine_in}
 use Rattle.of_core.specs.Laws.{EachStep, EachLoaded, KeepsOthersCalls}
-use Rattle.of_core.specs.Remains.{remains_of, MayRevive, announces_open_call, revived_machine, after_revival}
+use Rattle.of_core.specs.Remains.{remains_of, MayRevive, announces_open_call, revived_machine, CountsOn, after_revival}
 
--- at each caller whose machine may be replaced, and each number of calls that the new one is given
+-- the law holds of each caller whose machine may be replaced, and of each number of calls that the
+-- new machine is given
 abbrev pub EachRevival : Setup → (List ℕ → Type 0)
     → (TableStart → Moment → (i made : ℕ) → Type 0) → Type 0
 EachRevival S Lawful Law =
     (B : TableStart) (w : Moment) → MeetsInvariant S Lawful B w
     → (i made : ℕ) → i < S.callers → MayRevive (remains_of S w.words i) i → Law B w i made
 
--- the answered reads of caller i are older than its machine's open call, or no newer than the last
--- call of an idle machine
+-- the answered reads of caller i are older than the open call of the machine d or, if d is idle, no
+-- newer than its last call
 abbrev pub HasOlderReads : Moment → ℕ → CallState → Type 0
 HasOlderReads w i d = All (λ (r : Read). r.caller ≡ i → IsOlder d d.place r) w.reads
 
@@ -29,21 +30,32 @@ HasOlderReads w i d = All (λ (r : Read). r.caller ≡ i → IsOlder d d.place r
 abbrev pub CountsReads : Setup → Moment → (i made : ℕ) → Type 0
 CountsReads S w i made = HasOlderReads w i (revived_machine S (remains_of S w.words i) i made)
 
--- a new machine keeps what the invariant says of words, history and machines, whatever that number
+-- a new machine keeps what the invariant says of words, history and machines, whatever number of
+-- calls it is given
 abbrev pub RevivalsKeepCore : Setup → (List ℕ → Type 0) → Type 0
 RevivalsKeepCore S Lawful =
     EachRevival S Lawful (λ B w i made. MeetsCore S Lawful B (after_revival S i made w))
 
--- and it keeps the whole invariant if the number is large enough for the answered reads
+-- a new machine keeps the whole invariant if its number of calls is large enough for the answered
+-- reads
 abbrev pub RevivalsKeepInvariant : Setup → (List ℕ → Type 0) → Type 0
 RevivalsKeepInvariant S Lawful = EachRevival S Lawful (λ B w i made.
     CountsReads S w i made → MeetsInvariant S Lawful B (after_revival S i made w))
 
--- below the limit it is, if the call is open: its ticket is the announced one
+-- below the limit, a new machine that goes on with an announced call has a number of calls that is
+-- large enough for the answered reads: it is the announced ticket
 abbrev pub OpenCallsCountReads : Setup → (List ℕ → Type 0) → Type 0
 OpenCallsCountReads S Lawful = EachRevival S Lawful (λ B w i made.
     announces_open_call (remains_of S w.words i) ≡ true → committed_seq w.words < S.limit
     → CountsReads S w i made)
+
+-- below the limit, a new machine that is given the number of calls of the lost one has begun as
+-- many calls, and has an open call only if the lost one had an open call
+abbrev pub RevivalsCountOn : Setup → (List ℕ → Type 0) → Type 0
+RevivalsCountOn S Lawful = EachRevival S Lawful (λ B w i made.
+    let m : CallState = machine_in w i in
+    made ≡ m.made → committed_seq w.words < S.limit
+    → CountsOn m (revived_machine S (remains_of S w.words i) i made))
 
 -- a new machine is idle only if the announced call has run; and if no transaction is open, the call
 -- that it goes on with has not run
@@ -55,18 +67,21 @@ RevivalsMissNoCall S Lawful = EachRevival S Lawful (λ B w i made.
     × (announces_open_call (remains_of S w.words i) ≡ true
     → (IsLastOpen B w.words → ⊥) → ran < ticket))
 
--- a new machine changes no other caller's calls
+-- a new machine whose number of calls is large enough for its caller's answered reads changes no
+-- other caller's calls
 abbrev pub RevivalsKeepOthers : Setup → (List ℕ → Type 0) → Type 0
 RevivalsKeepOthers S Lawful = EachRevival S Lawful (λ B w i made.
     CountsReads S w i made → KeepsOthersCalls S B i w (after_revival S i made w))
 
--- a machine that may be replaced still may be after each step of another caller
+-- if the machine of a caller may be replaced, it may still be replaced after each step of another
+-- caller
 abbrev pub StepsLeaveRevivable : Setup → (List ℕ → Type 0) → Type 0
 StepsLeaveRevivable S Lawful = EachStep S Lawful (λ B w j m n.
     (i : ℕ) → i < S.callers → (i ≡ j → ⊥) → MayRevive (remains_of S w.words i) i
     → MayRevive (remains_of S (after_step S j m n w).words i) i)
 
--- and after each raise of a loaded word
+-- if the machine of a caller may be replaced, it may still be replaced after an eviction raises a
+-- word that was loaded before
 abbrev pub RaisesLeaveRevivable : Setup → (List ℕ → Type 0) → Type 0
 RaisesLeaveRevivable S Lawful = EachLoaded S Lawful (λ B w e.
     (i : ℕ) → i < S.callers → MayRevive (remains_of S w.words i) i

@@ -11,16 +11,17 @@ use Rattle.of_core.specs.Laws.{EachStep}
 
 -- the call of the machine m of caller i is spent at s by its next step
 pub record IsSpentInRound (S : Setup) (w : Moment) (i : ℕ) (m : CallState) (s : ℕ) : Type 0 where
-  -- which loads the caller's own ticket cell
+  -- the step loads the caller's own ticket cell
   pub place : m.place ≡ LoadOwnTicket
-  -- in one of its rounds, at this sequence
+  -- the call is in one of its rounds, at the sequence s
   pub begun : 1 ≤ m.rounds
   pub few : m.rounds ≤ 3
   pub seq : m.seq ≡ s
-  -- while its announcement is on the table
+  -- the call's announcement is on the table
   pub says : announcement_of S w.words i ≡ pack m.made (length m.op)
 
--- a step that ends a call as spent looks for the call's ticket in a round
+-- a step that ends a call as spent is the load of the caller's own ticket cell, in one of the
+-- call's rounds
 abbrev pub SpentInRounds : Setup → (List ℕ → Type 0) → Type 0
 SpentInRounds S Lawful = EachStep S Lawful (λ B w i m n.
     (s : ℕ) → IsOpen m.place → (take_word S m n).place ≡ Idle

@@ -23,14 +23,15 @@ first_cells callers cells B =
     (pack B.seq B.owner ∷ set (replicate callers 0) B.owner (closed_request B.seq))
     ++ (B.cells ++ replicate (callers * (2 * log_room callers cells + 1)) 0)
 
--- the words at a start: the cells, their durable words, which are the same, and 0 after them
+-- the n words of a table at a start: the cells, then their durable words, which are the same, and
+-- then 0
 unfoldable pub first_words : (callers cells : ℕ) → TableStart → (words : ℕ) → List ℕ
 first_words callers cells B n =
     first_cells callers cells B
     ++ (first_cells callers cells B
     ++ replicate (n - (durable_cells callers cells + durable_cells callers cells)) 0)
 
--- the start that a durable row is
+-- the start of a table that begins with this durable row
 abbrev pub start_from_durable : (callers cells : ℕ) → List ℕ → TableStart
 start_from_durable callers cells row = record {
   seq = seq_of (get_or row 0 0);
@@ -38,11 +39,11 @@ start_from_durable callers cells row = record {
   cells = slice_range row (data_cell callers 0) (data_cell callers 0 + cells);
 }
 
--- the start that it is on a table of this shape
+-- the start of a table of this shape that begins with this durable row
 abbrev pub start_on : Shape → List ℕ → TableStart
 start_on shape row = start_from_durable shape.callers shape.cells row
 
--- the row is the durable words, cell by cell
+-- the list `row` has the durable words of the table, cell by cell
 pub record IsDurable (S : Setup) (ws row : List ℕ) : Type 0 where
   pub long : length row ≡ cell_count S
   pub each : (c : ℕ) → c < cell_count S → get_or row c 0 ≡ durable_word S ws c

@@ -1,5 +1,5 @@
--- The order of steps: what a machine asks for at each place, and how it goes on with the word that
--- was found.
+-- The order of steps: which step a machine makes at each place, and how it goes on with the word
+-- that the step found.
 use Rattle.std.specs.Prelude.{◌≡◌, ◌<◌, ℕ, ◌+◌, ◌*◌, ◌==◌, nat_lt, max, ◌-◌, List, [], ◌∷◌, ◌++◌, length, Option, Some, None, Bool, true, false, if◌then◌else◌, ◌&&◌}
 use Rattle.std.proofs.Common.{get_or, set, replicate, zero, suc}
 use Rattle.of_core.specs.declared.machine.trying.TheConstants.{MOST_TRIES}
@@ -16,7 +16,7 @@ use Rattle.of_core.specs.declared.place.Outcome.TheVariants.{Answered, Spent}
 use Rattle.of_core.specs.Table.{Setup, words_before_members, request_at, data_at, log_at, durable_at, script_word_at, ticket_cell, shape_cell, reply_cell}
 use Rattle.of_core.specs.Machine.{Call, CallState, log_entry, log_words, log_of, entries_going_round, no_cell_known, with_cell_known, own_cells}
 
--- what the machine m asks for at a place
+-- the step that the machine m makes next if it is at this place
 abbrev pub want_at : Setup → CallState → Place → Op
 want_at S m Idle = Load 0
 want_at S m TryCurrent = Load 0
@@ -53,7 +53,7 @@ want_at S m (RaiseTarget j found) = Raise (durable_at S (data_at S (log_entry m 
 want_at S m CloseRequest = Exchange (request_at m.owner) (pack m.seq 0) (pack m.seq 1)
 want_at S m RaiseClosed = Raise (durable_at S (request_at m.owner)) (pack m.seq 1)
 
--- the step that the machine asks for next
+-- the step that the machine makes next
 unfoldable pub want : Setup → CallState → Op
 want S m = want_at S m m.place
 
@@ -64,17 +64,18 @@ word_of (Store c v) = c
 word_of (Exchange c old new) = c
 word_of (Raise c v) = c
 
--- it is on a word of the table
+-- the step is on a word of the table
 abbrev pub IsOnTable : Setup → Op → Type 0
 IsOnTable S o = word_of o < words_before_members S
 
--- what a step leaves in its word, in which it found this
+-- the number that a step leaves in its word, if it found `found` there
 abbrev pub word_left : Op → ℕ → ℕ
 word_left (Load c) found = found
 word_left (Store c v) found = v
 word_left (Exchange c old new) found = if found == old then new else found
 word_left (Raise c v) found = max found v
 
+-- the words of the table after the step
 abbrev pub words_after : Op → List ℕ → List ℕ
 words_after o ws = set ws (word_of o) (word_left o (get_or ws (word_of o) 0))
 
@@ -85,16 +86,18 @@ IsFoundBy (Store c v) ws n = Unit {0}
 IsFoundBy (Exchange c old new) ws n = n ≡ get_or ws c 0
 IsFoundBy (Raise c v) ws n = n ≡ get_or ws c 0
 
+-- the word of the table that the machine's next step is on, as the step finds it
 abbrev pub word_found : Setup → List ℕ → CallState → ℕ
 word_found S ws m = get_or ws (word_of (want S m)) 0
 
--- Announcing: the script words in order, and then the announcement.
+-- Announcing. After the store of a script word comes the store of the next script word, or, after
+-- the last one, the store of the announcement.
 abbrev pub after_store_script : CallState → ℕ → (more : Bool) → CallState
 after_store_script m j true = record m { place = StoreScript (j + 1) }
 after_store_script m j false = record m { place = StoreAnnouncement }
 
--- Trying a read: its run goes on as far as the cells of the state are known, and the call is
--- answered at its end.
+-- Trying a read. After a run on the known cells, the machine loads the cell that the run needs, or
+-- the call is answered with the run's reply.
 abbrev pub after_read_run : CallState → WalkEnd → CallState
 after_read_run m (Needs a) = record m { place = TryCell a }
 after_read_run m (Gives es r) =
@@ -103,11 +106,12 @@ after_read_run m (Gives es r) =
 abbrev pub read_on : Setup → CallState → CallState
 read_on S m = after_read_run m (S.meaning.walk m.known m.op)
 
--- after the look at the request, or the help
+-- a try begins its run, after the load of the owner's request or after the help
 abbrev pub begin_reading : Setup → CallState → CallState
 begin_reading S m = read_on S (record m { known = no_cell_known S; helps = false })
 
--- a try that met a newer cell is over; after the last the call is announced
+-- a try that has met a newer cell is over: the next try begins if there may be `more` tries, and
+-- otherwise the call is announced
 abbrev pub end_try : CallState → (more : Bool) → CallState
 end_try m true = record m { place = TryCurrent }
 end_try m false = record m { place = StoreScript 0 }
@@ -116,7 +120,7 @@ abbrev pub after_try_cell : Setup → CallState → (a found : ℕ) → (newer :
 after_try_cell S m a found true = end_try m (nat_lt m.tries MOST_TRIES)
 after_try_cell S m a found false = read_on S (record m { known = with_cell_known S m a found })
 
--- a transaction is open if its owner's request says so
+-- whether the request `found` says that the transaction s is open
 abbrev pub is_request_open : (s found : ℕ) → Bool
 is_request_open s found = nat_lt 0 s && (found == pack s 0)
 
@@ -124,15 +128,17 @@ abbrev pub after_try_request : Setup → CallState → (opened : Bool) → CallS
 after_try_request S m true = record m { place = CopyLog 0; copy = []; helps = true }
 after_try_request S m false = begin_reading S m
 
--- A round: the current-transaction word and the request of its owner.
+-- A round. Each round begins at the load of the current-transaction word.
 abbrev pub next_round : CallState → CallState
 next_round m = record m { place = LoadCurrent }
 
+-- the sequence at which the call's first round began: s, if the round at s is the first
 abbrev pub first_round_seq : CallState → ℕ → (none_yet : Bool) → ℕ
 first_round_seq m s true = s
 first_round_seq m s false = m.first
 
--- after the look at the request, or the help: one's own ticket comes next
+-- after the load of the owner's request, or after the help, a round goes on with the load of the
+-- caller's own ticket cell
 abbrev pub enter : Setup → CallState → CallState
 enter S m = record m {
   place = LoadOwnTicket;
@@ -151,8 +157,7 @@ abbrev pub after_load_request : Setup → CallState → (opened : Bool) → Call
 after_load_request S m true = record m { place = CopyLog 0; copy = []; helps = true }
 after_load_request S m false = enter S m
 
--- Helping: the owner's log words are copied, as many as the count says, and its request is looked
--- at again.
+-- Helping. The log words copied so far, and after them the payload of the log word that was found.
 abbrev pub with_log_word_copied : CallState → ℕ → List ℕ
 with_log_word_copied m found = m.copy ++ payload_of found ∷ []
 
@@ -168,8 +173,8 @@ after_look_again S m true in_try = record m {
 }
 after_look_again S m false in_try = resume S m in_try
 
--- One's own ticket: if the ticket cell has it, the call is in the history, and its reply is loaded;
--- if not, at the limit the call is spent.
+-- The caller's own ticket. If the ticket cell doesn't have the call's ticket, and the limit is
+-- reached, the call ends as spent.
 abbrev pub end_spent : CallState → CallState
 end_spent m = record m { place = Idle; answer = Some (Spent m.seq); steps = 0 }
 
@@ -195,7 +200,7 @@ abbrev pub after_own_ticket : Setup → CallState → ℕ → (newer there at_li
 after_own_ticket S m found true there at_limit = next_round m
 after_own_ticket S m found false there at_limit = after_own_ticket_found S m found there at_limit
 
--- the first marked place from j on, of n
+-- the first place that the shape marks, among the n places from j on
 abbrev pub first_marked_place : (shape j n : ℕ) → Option ℕ
 first_marked_place shape j zero = None
 first_marked_place shape j (suc n) =
@@ -225,8 +230,8 @@ after_load_reply S m j found false =
     next_reply_place (with_reply m j found)
     (first_marked_place m.raw.shape (j + 1) (S.instrs - j - 1))
 
--- The scan: the announcement of each caller in turn, and its ticket cell if that isn't known. A
--- call with a new ticket is run.
+-- The scan. After a caller comes the load of the next caller's announcement, or, after the last
+-- caller, the raise of the old request, which comes before the stores of the log.
 abbrev pub place_behind : (more : Bool) → Place
 place_behind true = LoadAnnouncement
 place_behind false = RaiseOld
@@ -249,12 +254,11 @@ after_load_ticket S m found false =
     weigh S (record m { known = with_cell_known S m (ticket_cell S m.scan) found })
     (nat_lt (payload_of found) (seq_of m.heard))
 
--- the call that the scan has come to, as it was run: its writes come after those of the calls
--- before it, and its own cells after its writes
+-- the call that the scan has run for the caller that it has come to, with its reply
 abbrev pub call_as_run : CallState → RawReply → Call
 call_as_run m r = record { caller = m.scan; ticket = seq_of m.heard; op = m.script; raw = r }
 
--- the reply of one's own call: the new one if the call that was run is one's own
+-- the reply of the machine's own call: a new one if the call that was just run is its own
 abbrev pub own_reply_or : (new old : RawReply) → (own : Bool) → RawReply
 own_reply_or new old true = new
 own_reply_or new old false = old
@@ -266,7 +270,8 @@ with_call_run S m es r = record m {
   raw = own_reply_or r m.raw (m.scan == m.caller);
 }
 
--- a run that needs a cell begins again when the cell is known
+-- after a run of the scanned call, the machine loads the cell that the run needs, or the scan goes
+-- on to the next caller
 abbrev pub after_script_run : Setup → CallState → WalkEnd → CallState
 after_script_run S m (Needs a) = record m { place = LoadCell a }
 after_script_run S m (Gives es r) =
@@ -287,8 +292,8 @@ abbrev pub after_load_cell : Setup → CallState → (a found : ℕ) → (newer 
 after_load_cell S m a found true = next_round m
 after_load_cell S m a found false = run_script S (record m { known = with_cell_known S m a found })
 
--- The log: each word is stored and raised, and then the request; the current-transaction word is
--- exchanged last.
+-- The log. After the raise of a log word comes the store of the next log word, or, after the last
+-- one, the store of the request.
 abbrev pub after_raise_log : CallState → ℕ → (more : Bool) → CallState
 after_raise_log m x true = record m { place = StoreLog (x + 1) }
 after_raise_log m x false = record m { place = StoreRequest }
@@ -298,8 +303,8 @@ after_commit_exchange m true =
     record m { place = RaiseCurrent; helps = false; seq = m.seq + 1; owner = m.caller }
 after_commit_exchange m false = next_round m
 
--- Applying: the current-transaction word is raised, each entry's cell is exchanged if it is
--- older, and raised; then the request is closed.
+-- Applying. After the raise of the current-transaction word comes the first entry of the log, or
+-- the close of the request if the log is empty.
 abbrev pub after_raise_current : CallState → (some : Bool) → CallState
 after_raise_current m true = record m { place = LoadTarget 0 }
 after_raise_current m false = record m { place = CloseRequest }
@@ -312,7 +317,8 @@ abbrev pub next_entry : CallState → ℕ → (more : Bool) → CallState
 next_entry m j true = record m { place = LoadTarget (j + 1) }
 next_entry m j false = record m { place = CloseRequest }
 
--- a helper goes on with its round or try, and an owner is answered
+-- after the raise of the closed request, a helper goes on with its round or try, and an owner's
+-- call is answered
 abbrev pub after_raise_closed : Setup → CallState → (helps in_try : Bool) → CallState
 after_raise_closed S m true in_try = resume S m in_try
 after_raise_closed S m false in_try = record m {
@@ -322,7 +328,8 @@ after_raise_closed S m false in_try = record m {
   steps = 0;
 }
 
--- the machine after its step from a place found this number; the step is counted before
+-- the machine after its step from this place, which has found this number; the step is counted
+-- already
 abbrev pub take_word_at : Setup → CallState → (found : ℕ) → Place → CallState
 take_word_at S m found Idle = m
 take_word_at S m found TryCurrent = record m {
@@ -373,11 +380,11 @@ take_word_at S m found (RaiseTarget j f) = next_entry m j (nat_lt (j + 1) (lengt
 take_word_at S m found CloseRequest = record m { place = RaiseClosed }
 take_word_at S m found RaiseClosed = after_raise_closed S m m.helps (m.rounds == 0)
 
--- each step of an open call is counted
+-- the machine with its step from this place counted, if a call is open
 abbrev pub with_step_counted : Place → CallState → CallState
 with_step_counted Idle m = m
 with_step_counted p m = record m { steps = m.steps + 1 }
 
--- the machine after its next step found this number
+-- the machine after its next step, which has found this number
 unfoldable pub take_word : Setup → CallState → (found : ℕ) → CallState
 take_word S m found = take_word_at S (with_step_counted m.place m) found m.place

@@ -6,7 +6,7 @@ use Rattle.of_core.specs.declared.place.Place.{Place}
 use Rattle.of_core.specs.declared.place.Place.TheVariants.{ExchangeCurrent}
 use Rattle.of_mem.specs.declared.work.RawReply.{RawReply}
 use Rattle.of_core.specs.declared.place.Outcome.{Outcome}
-use Rattle.of_core.specs.declared.place.Outcome.TheVariants.{Answered, Spent}
+use Rattle.of_core.specs.declared.place.Outcome.TheVariants.{Answered, Spent, Lost}
 use Rattle.of_core.specs.Table.{Setup, announcement_of}
 use Rattle.of_core.specs.Machine.{Call, CallState, is_idle}
 use Rattle.of_core.specs.Steps.{want, take_word, words_after, want_at, word_of, word_left, take_word_at, with_step_counted}
@@ -16,9 +16,9 @@ pub record Batch : Type 0 where
   pub owner : ℕ
   -- the write-set, in order of first writing
   pub log : List (ℕ × ℕ)
-  -- the calls that it runs, by caller
+  -- the calls that the batch runs, by caller
   pub calls : List Call
-  -- the announcements at the moment when it was committed
+  -- the announcements at the moment when the batch was committed
   pub announcements : ℕ → ℕ
 
 -- a call that was answered without being announced: it read the state at this sequence
@@ -29,8 +29,8 @@ pub record Read : Type 0 where
   pub raw : RawReply
   pub seq : ℕ
 
--- the words, each caller's machine, and the history: the batches in order, and beside them the
--- reads in the order of their answers
+-- the words, each caller's machine, and the history: the batches in order, and the reads in the
+-- order of their answers
 pub record Moment : Type 0 where
   pub words : List ℕ
   pub machines : List CallState
@@ -45,7 +45,7 @@ pub record TableStart : Type 0 where
   pub owner : ℕ
   pub cells : List ℕ
 
--- what an exchange commits, if it wins
+-- the batch that the machine's exchange of the current-transaction word commits, if it wins
 abbrev pub one_batch : Setup → List ℕ → CallState → Bool → List Batch
 one_batch S ws m true = record {
   owner = m.caller;
@@ -55,21 +55,23 @@ one_batch S ws m true = record {
 } ∷ []
 one_batch S ws m false = []
 
--- what a step from a place commits: an exchange of the current-transaction word its batch, and
--- any other nothing
+-- the batches that a step from this place commits: an exchange of the current-transaction word that
+-- wins commits one, and any other step none
 abbrev pub step_batches_at : Setup → List ℕ → CallState → ℕ → Place → List Batch
 step_batches_at S ws m found ExchangeCurrent = one_batch S ws m (found == pack m.seq m.owner)
 step_batches_at S ws m found p = []
 
--- the read that an outcome of the machine is
+-- the read that the history gets by this outcome, if it is an unannounced answer
 abbrev pub read_of : CallState → Option Outcome → List Read
 read_of d None = []
 read_of d (Some (Answered s false raw n)) =
     record { caller = d.caller; ticket = d.made; op = d.op; raw = raw; seq = s } ∷ []
 read_of d (Some (Answered s true raw n)) = []
 read_of d (Some (Spent s)) = []
+read_of d (Some (Lost s)) = []
 
--- an open call's last step may answer a read
+-- the read that a step has answered, if it has led to the machine d: a list of one read, or of
+-- none; only a call's last step may answer a read
 abbrev pub step_reads_if : CallState → (was_idle now_idle : Bool) → List Read
 step_reads_if d true now_idle = []
 step_reads_if d false true = read_of d d.answer
@@ -79,7 +81,8 @@ step_reads_if d false false = []
 abbrev pub step_reads_at : CallState → Place → List Read
 step_reads_at d p = step_reads_if d (is_idle p) (is_idle d.place)
 
--- what the machine's next step commits
+-- the batches that the machine's next step commits if it finds `found`: a list of one batch, or of
+-- none
 unfoldable pub step_batches : Setup → List ℕ → CallState → ℕ → List Batch
 step_batches S ws m found = step_batches_at S ws m found m.place
 
@@ -87,7 +90,7 @@ step_batches S ws m found = step_batches_at S ws m found m.place
 unfoldable pub step_reads : CallState → CallState → List Read
 step_reads m d = step_reads_at d m.place
 
--- the next step of the machine m of caller i, which finds n
+-- the moment after the next step of caller i's machine m, which finds n
 abbrev pub after_step : Setup → ℕ → CallState → ℕ → Moment → Moment
 after_step S i m n w = record {
   words = words_after (want S m) w.words;
@@ -97,7 +100,8 @@ after_step S i m n w = record {
   loaded = w.loaded;
 }
 
--- the same with the place p as an argument of its own
+-- the moment after the step of caller i's machine m from the place p, which finds the word that is
+-- there
 abbrev pub after_step_at : Setup → ℕ → CallState → Place → Moment → Moment
 after_step_at S i m p w =
     let c = word_of (want_at S m p) in
@@ -110,7 +114,8 @@ after_step_at S i m p w =
       loaded = w.loaded;
     }
 
--- the same of a machine that has counted its step
+-- the moment after the step of caller i's machine m from the place p, if m has counted this step
+-- already
 abbrev pub after_counted_step : Setup → ℕ → CallState → Place → Moment → Moment
 after_counted_step S i m p w =
     let c = word_of (want_at S m p) in

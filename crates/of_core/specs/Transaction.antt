@@ -1,5 +1,6 @@
--- What the invariant says of one's own log and request, and of a transaction that is copied or
--- applied. The words are ws, the history is bs, from the start B, and m is the machine of caller i.
+-- What the invariant says of a machine's own log and request, and of a transaction that is copied
+-- or applied. The words are ws, the history is bs, from the start B, and m is the machine of caller
+-- i.
 use Rattle.std.specs.Prelude.{ℕ, ◌+◌, ◌*◌, List, length, Bool, true, false, ◌≡◌, ◌≤◌, ◌<◌, ◌⊎◌}
 use Rattle.std.proofs.Common.{get_or, take}
 use Rattle.of_cell.specs.Words.{pack, seq_of}
@@ -10,7 +11,7 @@ use Rattle.of_core.specs.History.{batch_at, last_ticket_by, HasCall}
 use Rattle.of_core.specs.Rounds.{WasCurrent, MayHelp, IsPastOwnTicket, HasNothingUnderWay}
 use Rattle.of_core.specs.Scan.{HasScannedUpTo}
 
--- the second list has the entries of the first, in some order
+-- the two lists have the same length and the same entries, in any order
 pub record IsReorderingOf (es ds : List (ℕ × ℕ)) : Type 0 where
   pub many : length ds ≡ length es
   pub each : (j : ℕ) → j < length ds
@@ -24,7 +25,7 @@ pub record IsApplied (S : Setup) (ws : List ℕ) (s a : ℕ) : Type 0 where
   pub durable : s ≤ seq_of (durable_cell S ws a)
 
 module _ (S : Setup) (B : TableStart) (ws : List ℕ) (bs : List Batch) (i : ℕ) where
-  -- the owner of batch m.seq, after its exchange
+  -- m is the machine of the owner of batch m.seq, and its exchange has committed this batch
   pub record OwnsTransaction (m : CallState) : Type 0 where
     pub caller : m.caller ≡ i
     pub owner : m.owner ≡ i
@@ -36,18 +37,18 @@ module _ (S : Setup) (B : TableStart) (ws : List ℕ) (bs : List Batch) (i : ℕ
     pub unowned : (k : ℕ) → m.seq < k → k ≤ committed_seq ws → (batch_at B bs k).owner ≡ i → ⊥
     pub logs : (y : ℕ) → y < 2 * most_entries S + 1 → seq_of (log_word_of S ws i y) ≤ m.seq
 
-  -- a helper: in a round or a try, with nothing of its own under way
+  -- m helps in a round or a try, and caller i has nothing under way itself
   pub record IsHelping (m : CallState) : Type 0 where
     pub helper : MayHelp S B ws bs i m
     pub current_word : WasCurrent S B ws bs m.seq m.owner
     pub calm : HasNothingUnderWay S B ws bs i m.seq
 
-  -- who applies: a helper, or the owner
+  -- m applies a transaction as a helper if the flag is set, and otherwise as the owner
   abbrev pub AppliesAs : CallState → Bool → Type 0
   AppliesAs m true = IsHelping m
   AppliesAs m false = OwnsTransaction m
 
-  -- m.log has the entries of batch m.seq's log, and those below j are applied
+  -- m applies batch m.seq: m.log has the entries of the batch's log, and those below j are applied
   pub record IsApplying (m : CallState) (j : ℕ) : Type 0 where
     pub mode : AppliesAs m m.helps
     pub after : B.seq < m.seq
@@ -56,8 +57,8 @@ module _ (S : Setup) (B : TableStart) (ws : List ℕ) (bs : List Batch) (i : ℕ
     pub log : IsReorderingOf (batch_at B bs m.seq).log m.log
     pub done : (k : ℕ) → k < j → IsApplied S ws m.seq (log_entry m k).0
 
-  -- a helper has loaded x log words of m.owner. While the request is still open, they are those of
-  -- the batch's log
+  -- the helper m has loaded x log words of m.owner. While the owner's request is still open, they
+  -- are the first x words of the batch's log
   pub record IsCopyingLog (m : CallState) (x : ℕ) : Type 0 where
     pub helping : IsHelping m
     pub helps : m.helps ≡ true
@@ -68,7 +69,7 @@ module _ (S : Setup) (B : TableStart) (ws : List ℕ) (bs : List Batch) (i : ℕ
         → (x ≤ length (log_words (batch_at B bs m.seq).log))
         × (m.copy ≡ take x (log_words (batch_at B bs m.seq).log))
 
-  -- the first x log words are stored, and the first z are durable
+  -- the first x words of m's log are stored, and the first z of them are durable
   pub record HasStoredLog (m : CallState) (x z : ℕ) : Type 0 where
     pub past : IsPastOwnTicket S B ws bs i m
     pub over : HasScannedUpTo S B ws bs i m.seq m.made m.op m.raw m.calls m.log S.callers
@@ -78,12 +79,14 @@ module _ (S : Setup) (B : TableStart) (ws : List ℕ) (bs : List Batch) (i : ℕ
         → durable_log S ws i y ≡ pack (m.seq + 1) (get_or (log_words m.log) y 0)
     pub rest : (y : ℕ) → x ≤ y → y < 2 * most_entries S + 1 → seq_of (log_word_of S ws i y) ≤ m.seq
 
-  -- each of caller i's batches is closed durably
+  -- the durable request of caller i closes each batch that the caller has committed
   abbrev pub HasClosedDurably : Type 0
   HasClosedDurably = (k : ℕ) → B.seq < k → k ≤ committed_seq ws
       → (batch_at B bs k).owner ≡ i → pack k 0 < durable_request S ws i
 
-  -- a machine that stores its log still has its old request
+  -- m has stored the first x words of its log, of which the first z are durable. Its caller's
+  -- request is still the old one, which is durable and closes all batches that the caller has
+  -- committed
   pub record IsStoringLog (m : CallState) (x z : ℕ) : Type 0 where
     pub stored : HasStoredLog m x z
     pub own : seq_of (request_of ws i) ≤ m.seq

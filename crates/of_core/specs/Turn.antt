@@ -11,24 +11,26 @@ use Rattle.of_core.specs.MachineValue.{ended_outcome}
 use Rattle.of_core.specs.Events.{Turns}
 use Rattle.of_core.specs.Moment.{Bank, bank_after, machine_of}
 
--- the turn has ended the call with an outcome, or the call is still open
+-- what a turn of an open call answers: the call has ended with this outcome, or it is still open
 abbrev pub turn_of_outcome : Option Outcome → Turn
 turn_of_outcome None = Open
 turn_of_outcome (Some o) = Ended o
 
--- what a step from this place says, if it led to this machine
+-- what a turn answers if it found its machine at this place, and the machine is m after the turn
 abbrev pub turn_at : Place → CallState → Turn
 turn_at Idle m = NoCall
 turn_at p m = turn_of_outcome (ended_outcome m)
 
--- what a turn says that led from one machine to the other
+-- what a turn answers if its machine is `before` before the turn and `now` after it
 abbrev pub turn_of : (before now : CallState) → Turn
 turn_of before now = turn_at before.place now
 
+-- no call of the machine is open
 abbrev pub IsIdle : CallState → Type 0
 IsIdle m = m.place ≡ Idle
 
--- This many turns of a caller lead from one bank to the other, and its call is open before each.
+-- n turns of caller c lead from the bank `before` to the bank `now`, and the caller's call is open
+-- before each of these turns
 pub record MakesTurns {X : Type 0} (meaning : X → Meaning) (c n : ℕ) (before now : Bank X)
     : Type 0 where
   pub after : now ≡ bank_after meaning (replicate n (Turns c)) before

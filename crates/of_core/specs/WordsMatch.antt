@@ -1,4 +1,4 @@
--- What the invariant says of words and history, and of no machine, in groups.
+-- What the invariant says of words and history, in groups of facts. None of them is about machines.
 use Rattle.std.specs.Prelude.{ℕ, ◌+◌, ◌*◌, ◌-◌, List, length, ◌≡◌, ◌≤◌, ◌<◌, ◌⊎◌, max, map}
 use Rattle.std.proofs.Common.{get_or}
 use Rattle.of_mem.specs.declared.work.TheConstants.{MOST_INSTRS}
@@ -11,21 +11,22 @@ use Rattle.of_core.specs.Machine.{Call, log_words}
 use Rattle.of_core.specs.TableMoment.{Batch, TableStart}
 use Rattle.of_core.specs.History.{batch_at, data_word_after, numbers_after, numbers_after_calls, CallsHaveReplies, last_ticket_by, OwnCellsShowLast, CallersRise}
 
--- an entry of a log that may be: a data cell, and a number that a word holds
+-- a possible entry of a log: a data cell, and a number that fits into a word
 abbrev pub IsEntry : Setup → ℕ × ℕ → Type 0
 IsEntry S e = (e.0 < S.cells) × (e.1 < PAYLOADS)
 
--- a batch's log: entries that may be, each cell once
+-- a possible log of a batch: possible entries, no cell twice, and no more entries than there is
+-- room for
 pub record IsLog (S : Setup) (es : List (ℕ × ℕ)) : Type 0 where
   pub entries : All (IsEntry S) es
   pub once : HasDistinctCells es
   pub few : length es ≤ most_entries S
 
--- the words are those of such a log
+-- the words `copy` are the log words of a possible log
 abbrev pub AreLogWords : Setup → List ℕ → Type 0
 AreLogWords S copy = (es : List (ℕ × ℕ)) × (copy ≡ log_words es) × IsLog S es
 
--- a start that may be: no data word is newer than its sequence
+-- a possible start: its owner is a caller, and no data word is newer than its sequence
 pub record IsStart (S : Setup) (B : TableStart) : Type 0 where
   pub owner_in : B.owner < S.callers
   pub size : length B.cells ≡ S.cells
@@ -37,49 +38,50 @@ pub record MayStart (S : Setup) (Lawful : List ℕ → Type 0) (B : TableStart) 
   pub lawful : Lawful (map payload_of B.cells)
   pub limit : B.seq ≤ S.limit
 
--- the sequence counts the batches, and names the last one's owner
+-- the current-transaction word counts the batches, and names the owner of the last one
 pub record CountsBatches (S : Setup) (B : TableStart) (ws : List ℕ) (bs : List Batch) : Type 0 where
-  -- the last sequence counts the batches from the start on
+  -- the last sequence is the start's sequence plus the number of batches
   pub count : committed_seq ws ≡ B.seq + length bs
-  -- and is at most the limit
+  -- the last sequence is at most the limit
   pub limit : committed_seq ws ≤ S.limit
   -- the current-transaction word names who committed the last batch
   pub owner : B.seq < committed_seq ws
       → committed_owner ws ≡ (batch_at B bs (committed_seq ws)).owner
-  -- or the start's owner if there is none
+  -- if there is no batch, the current-transaction word names the start's owner
   pub first : committed_seq ws ≡ B.seq → committed_owner ws ≡ B.owner
-  -- owners are callers
+  -- the owners of all batches are callers
   pub owner_in : committed_owner ws < S.callers
   pub owners : (k : ℕ) → B.seq < k → k ≤ committed_seq ws → (batch_at B bs k).owner < S.callers
-  -- each batch's log is one that may be
+  -- each batch's log is a possible one
   pub logs : (k : ℕ) → B.seq < k → k ≤ committed_seq ws → IsLog S (batch_at B bs k).log
 
 -- the last transaction is open
 pub record IsLastOpen (B : TableStart) (ws : List ℕ) : Type 0 where
   -- a batch was committed
   pub any : B.seq < committed_seq ws
-  -- and its owner's request is stored and not closed
+  -- the request of the last batch's owner is open
   pub asks : request_of ws (committed_owner ws) ≡ pack (committed_seq ws) 0
 
--- the data cells are of the state after the last batch, or, if it is open, of the one before
+-- each data cell has its word after the last batch, or, if the last transaction is open, its word
+-- after the batch before
 pub record DataCellsMatchState (S : Setup) (B : TableStart) (ws : List ℕ) (bs : List Batch)
     : Type 0 where
-  -- an open transaction may have reached a cell or not
+  -- while the last transaction is open, a cell may still have its older word
   pub each : (a : ℕ) → a < S.cells
       → (data_word S ws a ≡ data_word_after B bs (committed_seq ws) a)
       ⊎ (IsLastOpen B ws × (data_word S ws a ≡ data_word_after B bs (committed_seq ws - 1) a))
 
--- the requests of the batches: that of each batch below the last one is closed, and that of the
--- last one is stored
+-- the requests of the batches' owners: each closes all of its owner's batches but the last batch of
+-- the history, which it may still have open
 pub record RequestsMatchBatches (S : Setup) (B : TableStart) (ws : List ℕ) (bs : List Batch)
     : Type 0 where
-  -- if there is a later batch, the request is above the open one
+  -- the request of a batch's owner closes the batch, if there is a later batch
   pub closed : (k : ℕ) → B.seq < k → k < committed_seq ws
       → pack k 0 < request_of ws (batch_at B bs k).owner
-  -- the last batch's request is the open one at least
+  -- the request of the last batch's owner is the one that opens that batch, or a greater one
   pub latest : B.seq < committed_seq ws
       → pack (committed_seq ws) 0 ≤ request_of ws (committed_owner ws)
-  -- the start's transaction isn't open
+  -- the request of the start's owner closes the start's transaction
   pub floor : 0 < B.seq → pack B.seq 0 < request_of ws B.owner
 
 -- a word that the data cell a has held
@@ -87,52 +89,57 @@ abbrev pub WasHeldByCell : TableStart → List ℕ → List Batch → ℕ → �
 WasHeldByCell B ws bs a w =
     (k : ℕ) × (B.seq ≤ k) × (k ≤ committed_seq ws) × (w ≡ data_word_after B bs k a)
 
--- the durable words: each is at most its cell's, and names no newer transaction; if the last
--- transaction is open its log is durable, and where it isn't its cells are
+-- no durable word is above its cell's word. While the durable request of a batch's owner opens the
+-- batch, the batch's log is durable. The durable data cells are of the state at the durable
+-- sequence or, while that transaction is open, of the state before
 pub record DurableWordsMatch (S : Setup) (B : TableStart) (ws : List ℕ) (bs : List Batch)
     : Type 0 where
   -- no durable word is above its cell's
   pub low : (c : ℕ) → c < cell_count S → durable_word S ws c ≤ get_or ws c 0
   -- the durable sequence is never below the start
   pub from : B.seq ≤ durable_seq S ws
-  -- the durable current-transaction word names that batch's owner
+  -- the durable current-transaction word names the owner of the batch of its sequence
   pub owner : B.seq < durable_seq S ws
       → payload_of (durable_word S ws 0) ≡ (batch_at B bs (durable_seq S ws)).owner
-  -- or the start's
+  -- if the durable sequence is the start's, the durable current-transaction word names the start's
+  -- owner
   pub first : durable_seq S ws ≡ B.seq → payload_of (durable_word S ws 0) ≡ B.owner
-  -- the durable sequence is the last one, or one below it if the last transaction is open
+  -- the durable sequence is the last committed one, or the one before it if the last transaction is
+  -- open
   pub step : (committed_seq ws ≡ durable_seq S ws)
       ⊎ ((committed_seq ws ≡ durable_seq S ws + 1) × IsLastOpen B ws)
-  -- no cell is newer than it
+  -- no data cell is newer than the durable sequence
   pub fresh : (a : ℕ) → a < S.cells → seq_of (data_word S ws a) ≤ durable_seq S ws
-  -- the durable data cells are of its state, or, if that transaction is open, of the one before
+  -- each durable data cell is of the state at the durable sequence, or, if that transaction is
+  -- open, of the state before
   pub cells : (a : ℕ) → a < S.cells
       → (durable_cell S ws a ≡ data_word_after B bs (durable_seq S ws) a)
       ⊎ (IsLastOpen B ws × (committed_seq ws ≡ durable_seq S ws)
       × (durable_cell S ws a ≡ data_word_after B bs (durable_seq S ws - 1) a))
-  -- the start's request is closed durably too
+  -- the durable request of the start's owner closes the start's transaction, if there was one
   pub begun : 0 < B.seq → pack B.seq 0 < durable_request S ws B.owner
-  -- a batch's owner has stored its request durably before it committed
+  -- the durable request of each batch's owner is the one that opens that batch, or a greater one
   pub floor : (k : ℕ) → B.seq < k → k ≤ committed_seq ws
       → pack k 0 ≤ durable_request S ws (batch_at B bs k).owner
-  -- and while that request isn't closed durably, its log words are the batch's log, on the table
-  -- and durably
+  -- while the durable request of a batch's owner opens that batch, the owner's log words, on the
+  -- table and durable, are those of the batch's log
   pub logs : (k : ℕ) → B.seq < k → k ≤ committed_seq ws → (i : ℕ) → (batch_at B bs k).owner ≡ i
       → durable_request S ws i ≡ pack k 0 → (x v : ℕ) → x < length (log_words (batch_at B bs k).log)
       → get_or (log_words (batch_at B bs k).log) x 0 ≡ v
       → (log_word_of S ws i x ≡ pack k v) × (durable_log S ws i x ≡ pack k v)
 
--- each state is lawful, and its batch's calls lead from the state before to it. The own cells hold
--- each caller's last call
+-- the state after each batch is lawful, and the calls of the batch lead from the state before the
+-- batch to the state after it. The own cells of each caller hold its last call
 pub record StatesFollowBatches (S : Setup) (Lawful : List ℕ → Type 0) (B : TableStart)
     (bs : List Batch) : Type 0 where
   -- each state is lawful
   pub lawful : (k : ℕ) → B.seq ≤ k → k ≤ B.seq + length bs → Lawful (numbers_after B bs k)
-  -- apart from the callers' own cells the calls of a batch lead from the state before to its own
+  -- apart from the callers' own cells, the calls of a batch lead from the state before the batch to
+  -- the state after it
   pub leads : (k : ℕ) → B.seq ≤ k → k < B.seq + length bs
       → SameFrom (first_operation_cell S) (numbers_after B bs (k + 1))
       (numbers_after_calls S.meaning (numbers_after B bs k) (batch_at B bs (k + 1)).calls)
-  -- and, run on the state before it, give the replies that they have
+  -- run on the state before their batch, the calls give the replies that they have
   pub replies : (k : ℕ) → B.seq ≤ k → k < B.seq + length bs
       → CallsHaveReplies S.meaning (numbers_after B bs k) (batch_at B bs (k + 1)).calls
   -- each caller's own cells show its last call
@@ -142,45 +149,49 @@ pub record StatesFollowBatches (S : Setup) (Lawful : List ℕ → Type 0) (B : T
   pub rises : (k : ℕ) → B.seq ≤ k → k < B.seq + length bs
       → All (λ (c : Call). last_ticket_by S B bs k c.caller < c.ticket)
       (batch_at B bs (k + 1)).calls
-  -- and its caller's ticket cell then has that ticket
+  -- after a batch, the ticket cells of its calls' callers have the tickets of these calls
   pub now : (k : ℕ) → B.seq < k → k ≤ B.seq + length bs
       → All (λ (c : Call). (c.caller < S.callers) × (last_ticket_by S B bs k c.caller ≡ c.ticket))
       (batch_at B bs k).calls
-  -- no ticket falls
+  -- a batch lowers the number in no ticket cell
   pub grow : (k i : ℕ) → B.seq ≤ k → k < B.seq + length bs → i < S.callers
       → last_ticket_by S B bs k i ≤ last_ticket_by S B bs (k + 1) i
   -- a batch's calls are ordered by caller
   pub ordered : (k : ℕ) → B.seq < k → k ≤ B.seq + length bs → CallersRise (batch_at B bs k).calls
-  -- and each batch has at least one call
+  -- each batch has at least one call
   pub some : (k : ℕ) → B.seq < k → k ≤ B.seq + length bs → 0 < length (batch_at B bs k).calls
 
--- announcements are of 1 to K words, rise, and are in the history at most two batches after the
--- first one that saw them
+-- an announcement is of at least one word and at most as many as an operation may have, a caller's
+-- announced tickets rise, and a call that was already announced when a batch was committed is run
+-- by the next batch at the latest
 pub record AnnouncementsAreServed (S : Setup) (B : TableStart) (ws : List ℕ) (bs : List Batch)
     : Type 0 where
   -- an announcement is of at most as many words as an operation may have
   pub small : (i : ℕ) → i < S.callers → payload_of (announcement_of S ws i) ≤ S.instrs
-  -- its ticket is a word
+  -- the ticket of an announcement fits into a word
   pub tickets : (i : ℕ) → i < S.callers → seq_of (announcement_of S ws i) < PAYLOADS
-  -- and a ticket above 0 is of one word at least
+  -- an announcement with a ticket above 0 is of at least one word
   pub some : (i : ℕ) → i < S.callers → 0 < seq_of (announcement_of S ws i)
       → 1 ≤ payload_of (announcement_of S ws i)
-  -- announcements only rise
+  -- announced tickets only rise: no batch has recorded a higher one than the present one
   pub before : (k i : ℕ) → B.seq < k → k ≤ committed_seq ws → i < S.callers
       → seq_of ((batch_at B bs k).announcements i) ≤ seq_of (announcement_of S ws i)
-  -- one that was there when a batch was committed is run by the next batch at the latest
+  -- a call that was already announced when a batch was committed is run by the next batch at the
+  -- latest
   pub met : (k i : ℕ) → B.seq < k → k < committed_seq ws → i < S.callers
       → (batch_at B bs k).announcements i ≡ announcement_of S ws i
       → seq_of (announcement_of S ws i) ≤ last_ticket_by S B bs (k + 1) i
-  -- no caller has run a ticket that was not announced, but for those before the start
+  -- the ticket of a caller's last call that was run is at most the announced one, or the one at the
+  -- start
   pub reached : (i : ℕ) → i < S.callers
       → last_ticket_by S B bs (committed_seq ws) i
       ≤ max (last_ticket_by S B bs B.seq i) (seq_of (announcement_of S ws i))
-  -- a log has no more entries than it has room for, also if its round was lost
+  -- a caller's log has no more entries than there is room for, also if the round that stored the
+  -- log has not committed it
   pub counts : (i : ℕ) → i < S.callers → payload_of (log_word_of S ws i 0) ≤ most_entries S
 
--- a word of caller j's request above the start is open or closed, and closed only if j owned
--- that batch
+-- if the word w of caller j's request is newer than the start, it opens a transaction, or it closes
+-- a batch that j has committed
 abbrev pub IsRequest : TableStart → List ℕ → List Batch → ℕ → ℕ → Type 0
 IsRequest B ws bs j w =
     B.seq < seq_of w
@@ -188,31 +199,34 @@ IsRequest B ws bs j w =
     ⊎ ((payload_of w ≡ 1) × (seq_of w ≤ committed_seq ws)
     × ((batch_at B bs (seq_of w)).owner ≡ j))
 
--- log word x of caller j is that of the batch's log, if j owned the batch of its sequence
+-- if caller j has committed the batch of w's sequence, then w is word x of that batch's log
 abbrev pub IsLogWord : TableStart → List ℕ → List Batch → ℕ → ℕ → ℕ → Type 0
 IsLogWord B ws bs j x w =
     B.seq < seq_of w → seq_of w ≤ committed_seq ws → (batch_at B bs (seq_of w)).owner ≡ j
     → (x < length (log_words (batch_at B bs (seq_of w)).log))
     × (payload_of w ≡ get_or (log_words (batch_at B bs (seq_of w)).log) x 0)
 
--- what requests and log words are, on the table and durably
+-- requests and log words, on the table and durable, have the form that they must have
 pub record WordsHaveTheirKind (S : Setup) (B : TableStart) (ws : List ℕ) (bs : List Batch)
     : Type 0 where
-  -- requests are open or closed
+  -- each request that is newer than the start opens a transaction or closes one of its caller's
+  -- batches
   pub requests : (j : ℕ) → j < S.callers → IsRequest B ws bs j (request_of ws j)
-  -- also durably
+  -- each durable request that is newer than the start opens a transaction or closes one of its
+  -- caller's batches
   pub dur_requests : (j : ℕ) → j < S.callers → IsRequest B ws bs j (durable_request S ws j)
-  -- a log word of a batch's sequence is that batch's
+  -- a log word with the sequence of one of its caller's batches is that of the batch's log
   pub logs : (j x : ℕ) → j < S.callers → x < 2 * most_entries S + 1
       → IsLogWord B ws bs j x (log_word_of S ws j x)
-  -- also durably
+  -- a durable log word with the sequence of one of its caller's batches is that of the batch's log
   pub dur_logs : (j x : ℕ) → j < S.callers → x < 2 * most_entries S + 1
       → IsLogWord B ws bs j x (durable_log S ws j x)
-  -- and the cell of an entry is one, also if its round was lost
+  -- each entry in a caller's log names a data cell, also if the round that stored the log has not
+  -- committed it
   pub sized : (j y : ℕ) → j < S.callers → y < most_entries S
       → payload_of (log_word_of S ws j (2 * y + 1)) < S.cells
 
--- all that is said of words and history, and of no machine
+-- all that the invariant says of words and history, and not of machines
 pub record WordsMatchHistory (S : Setup) (Lawful : List ℕ → Type 0) (B : TableStart) (ws : List ℕ)
     (bs : List Batch) : Type 0 where
   pub start : IsStart S B

@@ -16,23 +16,26 @@ abbrev pub reply_with : List ℕ → RawReply
 reply_with vs =
     record { shape = 2 ^ length vs - 1; values = vs ++ replicate (MOST_INSTRS - length vs) 0 }
 
--- the walk asks for the cell a if it isn't known, and goes on with its number
+-- a walk that needs the cell a: if the cell isn't known, the walk ends and says that it needs a;
+-- otherwise it goes on by `next` with the cell's number
 abbrev pub known_or : ℕ → (ℕ → WalkEnd) → Option ℕ → WalkEnd
 known_or a next None = Needs a
 known_or a next (Some v) = next v
 
--- the walk loads n cells from a on, and ends with their numbers
+-- a walk that loads the n cells from a on, and then ends as `end` says for vs with the numbers of
+-- these cells after it
 abbrev pub loaded_more : List (Option ℕ) → (a n : ℕ) → List ℕ → (List ℕ → WalkEnd) → WalkEnd
 loaded_more known a zero vs end = end vs
 loaded_more known a (suc n) vs end =
     known_or a (λ v. loaded_more known (a + 1) n (vs ++ v ∷ []) end) (get_or known a None)
 
+-- the numbers of the n cells from a on
 abbrev pub numbers_from : List ℕ → (a n : ℕ) → List ℕ
 numbers_from xs a zero = []
 numbers_from xs a (suc n) = get_or xs a 0 ∷ numbers_from xs (a + 1) n
 
--- Two registers from the cell a on. The operation v ∷ [] stores v in the second, and n zeros read
--- the first n.
+-- Two registers, which are the cells a and a + 1. The operation v ∷ [] stores v in the second, and
+-- n zeros read the first n: an operation reads if its first word is 0.
 abbrev pub is_read : List ℕ → Bool
 is_read op = get_or op 0 0 == 0
 
@@ -74,7 +77,7 @@ first_key_meaning a = record {
 abbrev pub table_with : ℕ → (ℕ → Meaning) → Setup
 table_with n meaning = setup_of n (n * (MOST_INSTRS + 2) + 10) 100 (meaning (n * (MOST_INSTRS + 2)))
 
--- such a table of zeros, before anything has happened
+-- the moment at which a table of zeros opens, before anything has happened
 abbrev pub opening_of_zeros : Setup → Moment
 opening_of_zeros S = opening_moment S (zero_start S) (words_before_members S)
 
@@ -84,7 +87,7 @@ moment_alone n meaning op k =
     after_events (table_with n meaning) (opening_of_zeros (table_with n meaning))
     (Begins 0 op ∷ replicate k (Turns 0))
 
--- caller 1 begins to store v, and ends it
+-- caller 1 makes a whole call, which stores v
 abbrev pub other_stores : ℕ → List Event
 other_stores v = Begins 1 (v ∷ []) ∷ replicate 50 (Turns 1)
 
@@ -103,7 +106,7 @@ abbrev pub read_and_store : List Event
 read_and_store =
     Begins 0 (0 ∷ []) ∷ replicate 3 (Turns 0) ++ Begins 0 (7 ∷ []) ∷ replicate 48 (Turns 0)
 
--- how these two calls end, from zeros
+-- the outcomes of the two calls of `read_and_store`, from zeros
 abbrev pub two_calls : List Outcome
 two_calls =
     outcomes (table_with 1 register_meaning)
@@ -118,7 +121,7 @@ one_done s = record {
   cells = pack s 1 ∷ pack s 65536 ∷ (replicate MOST_INSTRS 0 ++ (0 ∷ pack s 7 ∷ replicate 8 0));
 }
 
--- from that start, with this limit, the caller begins to store and makes this many turns
+-- from the start `one_done`, with this limit, caller 0 begins to store and makes this many turns
 abbrev pub behind_one : (seq limit turns : ℕ) → Moment
 behind_one s l k =
     let S : Setup = setup_of 1 (MOST_INSTRS + 12) l (register_meaning (MOST_INSTRS + 2)) in

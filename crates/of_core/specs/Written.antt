@@ -15,33 +15,37 @@ use Rattle.of_core.specs.Invariant.{MeetsInvariant}
 use Rattle.of_core.specs.Events.{Event, IsSchedule, opening_moment, after_events}
 use Rattle.of_core.specs.Laws.{EachSchedule}
 
--- how the call has run on a state, with the log so far over it
+-- a run of the call c on the state, with the numbers that the log `before` gives to cells in place
+-- of theirs
 pub record RunOf (S : Setup) (state : List ℕ) (before : List (ℕ × ℕ)) (c : Call) : Type 0 where
-  -- what was known of the state's cells
+  -- the cells of the state that the run knew
   pub known : List (Option ℕ)
   pub agrees : Agrees known state
-  -- what the run wrote; its reply is the call's
+  -- what the run wrote; the reply that it gave is the call's
   pub writes : List (ℕ × ℕ)
   pub gives : S.meaning.walk (overlaid known before) c.op ≡ Gives writes c.raw
 
--- the log after a call: over what was there its writes, and then its caller's own cells
+-- the log after a call: to the entries `before` are added the call's writes, and then its caller's
+-- own cells
 abbrev pub with_call : Setup → (before writes : List (ℕ × ℕ)) → Call → List (ℕ × ℕ)
 with_call S before writes c =
     put_all before (writes ++ own_cells (ticket_cell S c.caller) c.ticket (length c.op) c.raw)
 
--- the calls, run one after the other on the state, lead from one log to another
+-- the calls, run one after the other on the state, turn the log `before` into the log `after`
 abbrev pub LeadTo : Setup → (state : List ℕ) → (before : List (ℕ × ℕ)) → List Call
     → (after : List (ℕ × ℕ)) → Type 0
 LeadTo S state before [] after = before ≡ after
 LeadTo S state before (c ∷ cs) after =
     (r : RunOf S state before c) × LeadTo S state (with_call S before r.writes c) cs after
 
--- the log is what the calls write, in order, and nothing besides; it has no cell twice
+-- the log has what the calls write, run in order, and their callers' own cells, and nothing else;
+-- it has no cell twice
 pub record IsLogOf (S : Setup) (state : List ℕ) (cs : List Call) (log : List (ℕ × ℕ)) : Type 0 where
   pub writes : LeadTo S state [] cs log
   pub is_log : IsLog S log
 
--- in every schedule from every start each batch's log is what its calls write on the state before
+-- in every schedule from every start, each batch's log is what its calls write on the state before
+-- the batch (`IsLogOf`)
 abbrev pub LogsAreWrites : Setup → (List ℕ → Type 0) → Type 0
 LogsAreWrites S Lawful = EachSchedule S Lawful (λ B n es.
     let bs : List Batch = (after_events S (opening_moment S B n) es).batches in
@@ -53,14 +57,14 @@ abbrev pub HasOwnCall : Batch → Type 0
 HasOwnCall b =
     (y : ℕ) × (y < length b.calls) × ((get_or b.calls y no_call).caller ≡ b.owner)
 
--- and each batch has a call of its owner, who committed it
+-- in every schedule from every start each batch has a call of its owner
 abbrev pub OwnersTakePart : Setup → (List ℕ → Type 0) → Type 0
 OwnersTakePart S Lawful = EachSchedule S Lawful (λ B n es.
     let bs : List Batch = (after_events S (opening_moment S B n) es).batches in
     (k : ℕ) → B.seq < k → k ≤ B.seq + length bs → HasOwnCall (batch_at B bs k))
 
--- between any two moments a data cell keeps its word, or gets one of a later transaction: a helper
--- never writes an older number, however late it comes
+-- from one moment to a later one, a data cell keeps its word or gets one of a later transaction: a
+-- helper never writes an older number, however late it comes
 abbrev pub CellsRise : Setup → (List ℕ → Type 0) → Type 0
 CellsRise S Lawful =
     (B : TableStart) (w : Moment) → MeetsInvariant S Lawful B w → (es : List Event)

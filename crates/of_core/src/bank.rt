@@ -28,19 +28,19 @@ use std::snapshot::Snapshot;
 mod inspect;
 mod own_steps;
 
-/// What a turn says of its caller's call.
+/// What a turn answers about its caller's call.
 #[derive(Clone, Copy)]
 pub enum Turn {
-    /// None was open, and nothing was done.
+    /// The caller had no open call, and nothing was done.
     Idle,
-    /// It has made a step and stays open.
+    /// The call has made a step and is still open.
     Open,
-    /// It has made its last step.
+    /// The call has made its last step and ended with this outcome.
     Ended(Outcome),
 }
 
-/// The words of a table, and a machine for each caller. A contract sees them and where the table
-/// started; they are those of a moment, which a schedule leaves from there.
+/// The words of a table, and a machine for each caller. Both are always what some schedule leaves
+/// from the table's start.
 #[derive(Drop)]
 pub struct Bank<W: Work> {
     work: W,
@@ -64,7 +64,8 @@ impl<W: Work> Model for Bank<W> {
     ghost invariant = { IsBank W.many W.size W.meaning W.lawful };
 }
 
-/// What a turn says of a call that was open before it.
+/// What a turn says of a call that was open before the turn: ended if there is an answer, and still
+/// open otherwise.
 fn turn_of_answer(answer: Option<Outcome>) -> Turn
     ensures { result ≡ turn_of_outcome answer }
 {
@@ -74,8 +75,8 @@ fn turn_of_answer(answer: Option<Outcome>) -> Turn
     }
 }
 
-/// How many calls a caller has made before the start that a row's first words are: the number of
-/// its ticket cell.
+/// How many calls a caller has made before a start with these first words: the number in the
+/// caller's ticket cell.
 fn start_ticket(shape: &Shape, words: &[u64], caller: u32) -> u32
     requires caller { caller < shape.now.callers }
     requires own { shape.now.callers * (MOST_INSTRS + 2) ≤ shape.now.cells }
@@ -87,8 +88,8 @@ fn start_ticket(shape: &Shape, words: &[u64], caller: u32) -> u32
     payload_of(words[shape.data_cell(ticket) as usize])
 }
 
-/// An idle machine for each caller, which has made the calls that the first words count. The error
-/// is that there is no memory.
+/// An idle machine for each caller. It counts the calls that the caller has made by the first
+/// words. The error is that there is no memory.
 fn idle_machines<W: Work>(
     alloc: Global,
     shape: Shape,
@@ -141,9 +142,9 @@ impl<W: Work> Bank<W> {
         Ok(bank)
     }
 
-    /// A bank that starts from a durable row of which recovery changes nothing, with an idle
-    /// machine for each caller, which has made the row's calls. `limit` is the last sequence that
-    /// may be committed. The error is that there is no memory.
+    /// A bank that starts from a durable row that recovery would not change. Each caller's machine
+    /// is idle, and has the number of calls that the caller's ticket cell has in the row. `limit`
+    /// is the last sequence that may be committed. The error is that there is no memory.
     pub fn start(
         alloc: Global,
         shape: Shape,
@@ -172,8 +173,8 @@ impl<W: Work> Bank<W> {
         Ok(bank)
     }
 
-    /// A bank over these first words, with an idle machine for each caller. The error is that there
-    /// is no memory.
+    /// A bank whose table has these first words, with an idle machine for each caller. The error is
+    /// that there is no memory.
     fn over(
         alloc: Global,
         shape: Shape,
@@ -210,7 +211,7 @@ impl<W: Work> Bank<W> {
         })
     }
 
-    /// Whether no call of a caller is open.
+    /// Whether a caller has no open call.
     #[inline(always)]
     pub fn is_idle(&self, caller: u32) -> bool
         requires { caller < self.now.callers }
@@ -219,7 +220,7 @@ impl<W: Work> Bank<W> {
         self.machines[caller as usize].is_idle()
     }
 
-    /// How many calls of a caller were begun.
+    /// How many calls a caller has begun, including those before the start.
     pub fn made(&self, caller: u32) -> u32
         requires { caller < self.now.callers }
         ensures { result ≡ (machine_of self.now caller).made }
@@ -235,7 +236,7 @@ impl<W: Work> Bank<W> {
         self.machines[caller as usize].steps()
     }
 
-    /// Opens a call of 1 to `MOST_INSTRS` words.
+    /// Opens a call of a caller: the operation `op`, which has 1 to `MOST_INSTRS` words.
     pub fn begin(&mut self, caller: u32, op: &[u64])
         requires caller { caller < self.old.callers }
         requires idle { IsIdle (machine_of self.old caller) }
@@ -248,7 +249,8 @@ impl<W: Work> Bank<W> {
         machine.begin(op);
     }
 
-    /// Makes the next step of a caller's call. If none is open nothing changes.
+    /// Makes the next step of a caller's open call. If the caller has no open call, nothing
+    /// changes.
     #[inline(always)]
     pub fn turn(&mut self, caller: u32) -> Turn
         requires { caller < self.old.callers }
@@ -265,8 +267,8 @@ impl<W: Work> Bank<W> {
         turn_of_answer(machine.answer())
     }
 
-    /// Makes turns of a caller while its call is open: `most` of them, or fewer if the call ends.
-    /// It answers how many.
+    /// Makes up to `most` steps of a caller's open call; fewer if the call ends before. The result
+    /// is how many steps were made.
     #[inline(always)]
     pub fn turns(&mut self, caller: u32, most: u32) -> u32
         requires { caller < self.old.callers }
@@ -287,7 +289,8 @@ impl<W: Work> Bank<W> {
         self.words[durable] = self.words[durable].max(self.words[cell as usize]);
     }
 
-    /// The words and machines are those that a schedule leaves from the start. It does nothing.
+    /// Does nothing. Its contract says that the words and machines are what some schedule leaves
+    /// from the table's start.
     pub fn stands(&self)
         ensures { IsReached (bank_setup W.meaning self.now) (W.lawful self.now.work)
             self.now.start self.now.words self.now.machines }
@@ -296,7 +299,7 @@ impl<W: Work> Bank<W> {
         let _limit = self.limit;
     }
 
-    /// Hands the words out.
+    /// Consumes the bank, and gives the words of its table.
     pub fn words(self) -> Vec<u64>
         ensures { result.items ≡ self.words }
     {

@@ -2,7 +2,8 @@
 
 use of_mem::{MOST_INSTRS, RawReply};
 
-/// A call as it was run: whose and the how manieth it is, the first `words` of `op`, and its reply.
+/// A call that was run. `ticket` is its number among the calls of its caller, its operation is the
+/// first `words` words of `op`, and `raw` is its reply.
 #[derive(Clone, Copy)]
 pub struct Call {
     pub caller: u32,

@@ -6,7 +6,7 @@ ghost use Rattle.of_core.specs.Laws.{StepsKeepInvariant, StepsGuarantee, OpenSte
 ghost use Rattle.of_core.specs.Laws.{NewCallsWereOpen, BeginsKeepInvariant, LoadsMayBeRaised, StepsKeepLoaded, RaisesKeepInvariant};
 ghost use Rattle.of_core.specs.Laws.{RaisesNeverLower, WordsBehindAreFree, StartsMeetInvariant, InvariantIsSound};
 ghost use Rattle.of_core.specs.Laws.{StartsHaveNoCalls, StepsEndOwnCall, BeginsAddOneCall, RaisesKeepCalls, WordsBehindKeepCalls};
-ghost use Rattle.of_core.specs.Laws.{EventsKeepInvariant, SchedulesKeepInvariant, DurablesWereHeld, EveryMomentIsSound};
+ghost use Rattle.of_core.specs.Laws.{EventsKeepInvariant, SchedulesKeepInvariant, DurablesWereHeld, EveryMomentIsSound, LostCallsNeverRun};
 ghost use Rattle.of_core.specs.Laws.{EveryCallStands, TurnsCountSteps, EventsLeadCalls, CallsEndInTime};
 ghost use Rattle.of_core.specs.Laws.{EveryOrder, Detectable, RealTime, LateCalls, OwnTime, EveryLife};
 ghost use Rattle.of_core.specs.Commits.{DoneAfterTwoCommits, GivenUp, LostToCommits, OutcomesAreNew};
@@ -16,8 +16,7 @@ ghost use Rattle.of_core.specs.Written.{LogsAreWrites, OwnersTakePart, CellsRise
 ghost use Rattle.of_core.specs.Needed.{LoadsNeeded, CopiesOpenLogs};
 ghost use Rattle.of_core.specs.SpentRound.{SpentInRounds};
 ghost use Rattle.of_core.specs.Grounds.{GoodGrounds};
-ghost use Rattle.of_core.specs.Losses.{LossesKeepInvariant, LossesLeaveSound, LostCallsNeverRun};
-ghost use Rattle.of_core.specs.Revived.{RevivalsKeepCore, RevivalsKeepInvariant, OpenCallsCountReads, RevivalsMissNoCall, RevivalsKeepOthers, StepsLeaveRevivable, RaisesLeaveRevivable};
+ghost use Rattle.of_core.specs.Revived.{RevivalsKeepCore, RevivalsKeepInvariant, OpenCallsCountReads, RevivalsCountOn, RevivalsMissNoCall, RevivalsKeepOthers, StepsLeaveRevivable, RaisesLeaveRevivable};
 ghost use Rattle.of_core.specs.Raised.{RaisesHeld, RaisesAreShort, EvictionsAreShort, CellsLevel};
 ghost use Rattle.of_core.specs.Raised.{RaisesUndisturbed, EvictionsUndisturbed, RaisesStand};
 ghost use Rattle.of_core.specs.Laws.{FirstWordsHoldStart, FirstMachinesAreIdle, ZerosMayStart};
@@ -29,11 +28,11 @@ ghost use Rattle.of_core.specs.Laws.{LongerKeepsStates, PrefixKeepsBatches, Pref
 
 use of_mem::Work;
 
-/// From whatever meets the invariant each step, each begin of a call and each eviction leads to
-/// what meets it. A fresh machine may begin an idle one's next call in its place, if it is given as
-/// many calls: all else that the protocol needs is on the table. A table at a start meets the
-/// invariant, and whatever meets it has what every moment claims: it has begun at a start that a
-/// table may have, and its states are lawful.
+/// A table at its start meets the invariant, and each step, each begin of a call and each eviction
+/// keeps it. In place of an idle machine, a fresh one may begin its caller's next call, if it is
+/// given how many calls the caller has begun. Each moment that meets the invariant is sound: its
+/// history is legal, and recovery of its durable words gives the state at the durable sequence. The
+/// table has begun at a start that a table may have, and all states of the history are lawful.
 pub fn step_kept<W: Work>(limit: u32, work: W)
     ensures kept { StepsKeepInvariant
         (setup_for W.many W.size W.meaning limit work) (W.lawful work) }
@@ -63,19 +62,20 @@ pub fn step_kept<W: Work>(limit: u32, work: W)
     ensures grounds { GoodGrounds (setup_for W.many W.size W.meaning limit work) (W.lawful work) }
 {}
 
-/// A caller's machine may be lost, with the thread or the process that had it. A new machine may
-/// take its place if the words say that the caller has nothing under way: no log and no request of
-/// a transaction that isn't committed, no open transaction, and a durable request. This keeps the
-/// invariant, if the new machine's number of calls is large enough for the reads that its caller
-/// was answered; below the limit it is, if the new machine goes on with the announced call. No
-/// other caller's calls change. A machine that may be replaced still may be until its caller makes
-/// a step.
+/// A new machine may take the place of a caller's machine that is lost, with the thread or the
+/// process that had it, if the words say that the caller has nothing under way: no log and no
+/// request of a transaction that isn't committed, no open transaction, and a durable request. This
+/// keeps the invariant if the new machine counts all reads that its caller was answered. Below the
+/// limit, a new machine that goes on with the announced call counts all of them. No other caller's
+/// calls change. Once a machine may be replaced, this stays so until its caller makes a step.
 pub fn taken_over_stands<W: Work>(limit: u32, work: W)
     ensures core { RevivalsKeepCore
         (setup_for W.many W.size W.meaning limit work) (W.lawful work) }
     ensures kept { RevivalsKeepInvariant
         (setup_for W.many W.size W.meaning limit work) (W.lawful work) }
     ensures newest { OpenCallsCountReads
+        (setup_for W.many W.size W.meaning limit work) (W.lawful work) }
+    ensures counted { RevivalsCountOn
         (setup_for W.many W.size W.meaning limit work) (W.lawful work) }
     ensures ran { RevivalsMissNoCall
         (setup_for W.many W.size W.meaning limit work) (W.lawful work) }
@@ -87,22 +87,9 @@ pub fn taken_over_stands<W: Work>(limit: u32, work: W)
         (setup_for W.many W.size W.meaning limit work) (W.lawful work) }
 {}
 
-/// Schedules in which machines are lost and replaced, any number of times, each at any moment at
-/// which its words allow it. Each such schedule keeps the invariant. From every start it leaves a
-/// moment with a legal history, of which recovery gives the state that its durable words name. A
-/// batch has only calls that its callers' present machines have open: a call that a lost machine
-/// had begun and not announced is never run.
-pub fn taken_over_moments<W: Work>(limit: u32, work: W)
-    ensures kept { LossesKeepInvariant
-        (setup_for W.many W.size W.meaning limit work) (W.lawful work) }
-    ensures sound { LossesLeaveSound
-        (setup_for W.many W.size W.meaning limit work) (W.lawful work) }
-    ensures never { LostCallsNeverRun
-        (setup_for W.many W.size W.meaning limit work) (W.lawful work) }
-{}
-
-/// The calls of one caller, from a start on: a step ends its caller's open call or none, and a
-/// begin adds one, also if a fresh machine makes it. Nothing else changes any caller's calls.
+/// Which steps and events change a caller's calls. At a start there are no calls. A step may end
+/// the open call of its own caller. A begin adds a call of its own caller, also if a fresh machine
+/// begins the call. Nothing else changes a caller's calls.
 pub fn calls_kept<W: Work>(limit: u32, work: W)
     ensures start { StartsHaveNoCalls
         (setup_for W.many W.size W.meaning limit work) (W.lawful work) }
@@ -115,9 +102,11 @@ pub fn calls_kept<W: Work>(limit: u32, work: W)
         (setup_for W.many W.size W.meaning limit work) (W.lawful work) }
 {}
 
-/// Each event, and so each schedule, keeps the invariant. From every start every schedule leaves a
-/// moment with a legal history, of which recovery gives the state that its durable words name; and
-/// no durable word is other than one that its cell has held.
+/// Each event, and so each schedule, keeps the invariant. From every start, every schedule leaves a
+/// moment whose history is legal, and recovery of its durable words gives the state at the durable
+/// sequence. Each durable word is one that its cell has held. Machines may be lost and replaced on
+/// the way: when a batch is committed, its calls are the open calls of their callers' present
+/// machines. So a call that a lost machine had begun and not announced is never run.
 pub fn every_moment<W: Work>(limit: u32, work: W)
     ensures kept { EventsKeepInvariant
         (setup_for W.many W.size W.meaning limit work) (W.lawful work) }
@@ -127,24 +116,27 @@ pub fn every_moment<W: Work>(limit: u32, work: W)
         (setup_for W.many W.size W.meaning limit work) (W.lawful work) }
     ensures sound { EveryMomentIsSound
         (setup_for W.many W.size W.meaning limit work) (W.lawful work) }
+    ensures never { LostCallsNeverRun
+        (setup_for W.many W.size W.meaning limit work) (W.lawful work) }
 {}
 
-/// In every schedule the calls of each caller are those that its events begin. Each ends with an
-/// outcome that is in the history, none has an older one than the call before it, and each turn of
-/// an open call is a step of it.
+/// In every schedule, each caller has the calls that the events begin. The history has the outcome
+/// of each call that has ended, and no outcome is older than the outcome of the caller's previous
+/// call. Each turn of a caller that has an open call is a step of that call.
 pub fn every_call<W: Work>(limit: u32, work: W)
     ensures calls { EveryCallStands (setup_for W.many W.size W.meaning limit work) (W.lawful work) }
     ensures turns { TurnsCountSteps (setup_for W.many W.size W.meaning limit work) (W.lawful work) }
     ensures kept { EventsLeadCalls (setup_for W.many W.size W.meaning limit work) (W.lawful work) }
 {}
 
-/// Every schedule is durably linearizable: one serial order of all calls that were answered, and of
-/// some open ones, has all replies, and each call comes after those that had ended when it began.
-/// The order is by sequence, of one sequence the announced calls first and by caller, and each
-/// answered call has the sequence of its answer. Recovery at any moment finds what that order leads
-/// to, and shows each caller whether its last call took effect, and its reply. Lives that go on one
-/// from the other have such orders, which together are one from the first start. No outcome is
-/// older than its call.
+/// Every schedule is durably linearizable. One serial order has all calls that were answered, and
+/// some open ones. Run in this order, the calls give the replies that they have, and each call
+/// comes after all calls that had ended before it began. The order is by sequence; among calls of
+/// one sequence the announced ones come first, by caller. An answered call has the sequence of its
+/// answer. Recovery at any moment finds what the order leads to. It shows each caller whether its
+/// last call took effect, and the call's reply. If each life starts from what recovery finds after
+/// the life before, their orders make up one serial order from the first start. No outcome is older
+/// than the last batch before its call began.
 pub fn every_order<W: Work>(limit: u32, work: W)
     ensures order { EveryOrder (setup_for W.many W.size W.meaning limit work) (W.lawful work) }
     ensures detectable { Detectable (setup_for W.many W.size W.meaning limit work) (W.lawful work) }
@@ -156,10 +148,10 @@ pub fn every_order<W: Work>(limit: u32, work: W)
 {}
 
 /// Every call is answered or spent within the step bound of its own steps, in three rounds at most.
-/// It also ends within a bound that doesn't grow with the memory: that one is by the longest log
-/// that the call writes, copies or applies, the most cells that one of its tries or rounds loads,
-/// and the tries and rounds that it has begun. These load a cell only if a run needs it, and copy a
-/// log only if its transaction is open. An announced call is done after at most two commits that
+/// A second bound doesn't grow with the memory: it counts the longest log that the call writes,
+/// copies or applies, the most cells that one of its tries or rounds loads, and the tries and
+/// rounds that it has begun. A try or a round loads a cell only if a run needs it, and copies a log
+/// only if its transaction is open. An announced call is in a batch after at most two commits that
 /// follow its announcement. A try or a round is lost only to a commit: without one, a read ends in
 /// its first try and any other call in its first round. A call is spent only in one of its rounds.
 pub fn ends_in_time<W: Work>(limit: u32, work: W)
@@ -176,26 +168,28 @@ pub fn ends_in_time<W: Work>(limit: u32, work: W)
     ensures spent { SpentInRounds (setup_for W.many W.size W.meaning limit work) (W.lawful work) }
 {}
 
-/// How many steps the bound by what operations touch allows a call that may write. The second is a
-/// worked case: three callers whose operations read and write at most two cells.
+/// The formula of the step bound by what operations touch, for a call that may write, and a worked
+/// case: three callers have operations that read and write at most two cells.
 pub fn touched_bounds()
     ensures writes { TouchedBoundOfWrites }
     ensures transfers { TouchedBoundOfTransfers }
 {}
 
-/// What batches write, in every schedule. A batch's log is the writes of its calls, in order, with
-/// their callers' own cells, and nothing besides. One of the calls is its owner's. A data cell
-/// keeps its word or gets one of a later transaction, so no helper writes an older number.
+/// In every schedule, a batch's log has the writes of the batch's calls, run in order, and entries
+/// for their callers' own cells, and nothing else. One of the calls is by the batch's owner. A step
+/// leaves a data cell's word or gives the cell a word of a later transaction, so no helper writes
+/// an older number.
 pub fn batches<W: Work>(limit: u32, work: W)
     ensures logs { LogsAreWrites (setup_for W.many W.size W.meaning limit work) (W.lawful work) }
     ensures owners { OwnersTakePart (setup_for W.many W.size W.meaning limit work) (W.lawful work) }
     ensures rise { CellsRise (setup_for W.many W.size W.meaning limit work) (W.lawful work) }
 {}
 
-/// A raise is a loop of a load and an exchange. While a caller is about to raise a durable word, no
-/// call changes that word to one below the word that is raised. Only an eviction may, once, by a
-/// word that it has loaded before. In schedules from a start no eviction does: a cell changes only
-/// if its durable word is at least its word.
+/// A raise is a loop of a load and an exchange, and the loop is short: while a caller is about to
+/// raise a durable word to v, no call changes that word to another one below v. Only an eviction
+/// may, at most once, with a word that it has loaded before. In schedules from a start in which no
+/// machine is replaced, no eviction does so: a cell changes only if its durable word is at least
+/// the word that the cell holds.
 pub fn raises_are_short<W: Work>(limit: u32, work: W)
     ensures held { RaisesHeld (setup_for W.many W.size W.meaning limit work) (W.lawful work) }
     ensures calls { RaisesAreShort (setup_for W.many W.size W.meaning limit work) (W.lawful work) }
@@ -209,10 +203,11 @@ pub fn raises_are_short<W: Work>(limit: u32, work: W)
         (setup_for W.many W.size W.meaning limit work) (W.lawful work) }
 {}
 
-/// A table's first words hold its start, and its machines are idle. Zeros are a start that a table
-/// may have, at which no caller has made a call; so is what recovery makes of the durable words of
-/// any moment. A recovery that has stopped between two of its writes changes nothing of that, and a
-/// renumbering that has stopped leaves a start with the same numbers.
+/// The first words of a table hold its start, and its first machines are idle. A table may start
+/// with zeros, and then no caller has made a call. A table may start from what recovery makes of
+/// the durable words of any moment, also if an earlier recovery has stopped between two of its
+/// writes. A renumbering that has stopped between two of its writes leaves a start with the same
+/// numbers.
 pub fn starts<W: Work>(limit: u32, work: W)
     ensures words { FirstWordsHoldStart (setup_for W.many W.size W.meaning limit work) }
     ensures machines { FirstMachinesAreIdle (setup_for W.many W.size W.meaning limit work) }
@@ -226,7 +221,8 @@ pub fn starts<W: Work>(limit: u32, work: W)
         (setup_for W.many W.size W.meaning limit work) (W.lawful work) }
 {}
 
-/// What holds of a machine by itself, on any table.
+/// What holds of each machine by itself, on any table: it is idle or has an open call, a turn
+/// leaves an idle machine as it is, and a turn of a caller is the next step of its machine.
 pub fn machines()
     ensures idle_or_open { IsIdleOrOpen }
     ensures idle_is { IdleTestIsExact }
@@ -236,8 +232,8 @@ pub fn machines()
     ensures turns { TurnsAreSteps }
 {}
 
-/// What holds of a history by itself: how its batches are numbered, that a longer one keeps them,
-/// and that the beginning of a legal history is legal.
+/// What holds of every history by itself: how its batches are numbered, that a longer history keeps
+/// the batches and states of a shorter one, and that the beginning of a legal history is legal.
 pub fn histories()
     ensures first { FirstStateIsStart }
     ensures numbered { BatchesAreNumbered }

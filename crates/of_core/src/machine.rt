@@ -38,15 +38,15 @@ use std::marker::Model;
 /// numbers.
 const OWN_CELLS: u32 = MOST_INSTRS as u32 + 2;
 
-/// One call as a machine of atomic steps on the words of a shared table. It makes no step itself:
-/// it names the next one, and takes the word which that step found.
+/// One call as a machine of atomic steps on the words of a shared table. The machine makes no step
+/// itself: it names its next step, and goes on when it is given the word that the step found.
 #[derive(Drop)]
 pub struct Machine<W: Work> {
     work: W,
     shape: Shape,
     /// How many cells there are; a cell's durable word comes this many words after the cell.
     durable: u32,
-    /// The first word of one's own log.
+    /// The first word of the caller's own log.
     own_log: u32,
     limit: u32,
     caller: u32,
@@ -55,17 +55,18 @@ pub struct Machine<W: Work> {
     place: Place,
     seq: u32,
     owner: u32,
-    /// What is known of the data cells; in a scan the log lies over it as the batch.
+    /// The data cells that were loaded; in a scan also the writes of the log over them.
     part: Workspace<W>,
     log: WriteSet,
     /// The log words that a helper has loaded.
     copy: Vec<u32>,
     helps: bool,
     raw: RawReply,
-    /// Where a run writes its reply, so that no run has to clear one.
+    /// The reply into which a run writes, kept so that no run has to make an empty one.
     spare: RawReply,
     answer: Option<Outcome>,
-    /// The last value that one knows one's request's durable word to have.
+    /// The word to which this call last raised the durable word of its caller's request; 0 if this
+    /// call has not raised it yet.
     kept: u64,
     steps: u64,
     rounds: u32,
@@ -157,8 +158,8 @@ impl<W: Work> Machine<W> {
         })
     }
 
-    /// Opens a call of 1 to `MOST_INSTRS` words: one that only reads is tried first, any other is
-    /// announced.
+    /// Opens a call of the operation `op`, which has 1 to `MOST_INSTRS` words. If the operation
+    /// only reads, the call begins with a try; otherwise it is announced at once.
     pub fn begin(&mut self, op: &[u64])
         requires idle { self.old.call.place ≡ Place.Idle }
         requires some { 1 ≤ length op.now }
@@ -177,8 +178,8 @@ impl<W: Work> Machine<W> {
         };
     }
 
-    /// Nothing of the calls before is kept but their number: a call begins as that of a fresh
-    /// machine does.
+    /// Forgets all of the calls before but their number, so that the next call begins as on a fresh
+    /// machine.
     fn forget(&mut self)
         ensures { self.new ≡ machine_after W.meaning fresh_call self.old }
     {
@@ -205,7 +206,7 @@ impl<W: Work> Machine<W> {
         self.calls.clear();
     }
 
-    /// How many calls were begun, with those before the machine was made.
+    /// How many calls the caller has begun, including those from before this machine was made.
     pub fn made(&self) -> u32
         ensures { result ≡ self.now.call.made }
     {
@@ -237,7 +238,8 @@ impl<W: Work> Machine<W> {
     }
 
     #[tactic(auto, using(crate::proofs::LogWords::word_laws))]
-    /// Word `at` of one's log: the number of entries, and then cell and number of each.
+    /// Word `at` of the machine's log. Word 0 is the number of entries; then come the cell and the
+    /// number of each entry.
     fn log_word(&self, at: u32) -> u32
         requires { at < length (log_words self.now.call.log) }
         ensures { result ≡ get_or (log_words self.now.call.log) at 0 }
@@ -249,7 +251,7 @@ impl<W: Work> Machine<W> {
         if at % 2 == 1 { addr } else { value }
     }
 
-    /// The place of a cell's durable word.
+    /// The index in the table of a cell's durable word.
     #[tactic(auto, using(of_cell::proofs::Rooms::cells_small))]
     fn durable_word(&self, cell: u32) -> u32
         requires { cell < cell_count (machine_setup W.meaning self.now) }
@@ -260,7 +262,7 @@ impl<W: Work> Machine<W> {
     }
 
     #[tactic(auto, using(crate::proofs::Stability::log_in, of_cell::proofs::Rooms::cells_small))]
-    /// The cell of word `at` of one's own log.
+    /// The cell in which word `at` of the caller's own log is stored.
     fn own_log_cell(&self, at: u32) -> u32
         requires { at < 2 * log_room self.now.callers self.now.cells + 1 }
         ensures value { result ≡ log_at (machine_setup W.meaning self.now) self.now.call.caller at }
@@ -269,7 +271,7 @@ impl<W: Work> Machine<W> {
         self.own_log + at
     }
 
-    /// The word of a caller's ticket cell.
+    /// The index in the table of a caller's ticket cell.
     fn ticket_word(&self, caller: u32) -> u32
         requires { caller < self.now.callers }
         ensures value { result ≡ ticket_word_at (machine_setup W.meaning self.now) caller }
@@ -278,7 +280,7 @@ impl<W: Work> Machine<W> {
         self.shape.data_cell(caller * OWN_CELLS)
     }
 
-    /// The word of the shape of one's reply.
+    /// The index in the table of the cell with the shape of the caller's own reply.
     fn shape_word(&self) -> u32
         ensures value { result
             ≡ shape_word_at (machine_setup W.meaning self.now) self.now.call.caller }
@@ -287,7 +289,7 @@ impl<W: Work> Machine<W> {
         self.shape.data_cell(self.caller * OWN_CELLS + 1)
     }
 
-    /// The word of a number of one's reply.
+    /// The index in the table of the cell with number `at` of the caller's own reply.
     fn reply_word(&self, at: u32) -> u32
         requires { at < MOST_INSTRS }
         ensures value { result
@@ -297,7 +299,7 @@ impl<W: Work> Machine<W> {
         self.shape.data_cell(self.caller * OWN_CELLS + 2 + at)
     }
 
-    /// The next atomic step.
+    /// The next atomic step of the open call.
     #[inline(always)]
     #[tactic(auto, unfolding(crate::specs::Steps::want))]
     pub fn want(&self) -> Op
@@ -308,7 +310,8 @@ impl<W: Work> Machine<W> {
         self.perform(self.place, &NameStep, &mut ())
     }
 
-    /// Has the next atomic step performed: that of `place`, where the machine stands.
+    /// Performs the machine's next atomic step by the performer `by`, with `hand`. `place` is the
+    /// place of the machine.
     // in line, and with an arm for each place: it performs its own form of step and goes straight
     // on from there, with one jump by the place
     #[inline(always)]
@@ -414,7 +417,8 @@ impl<W: Work> Machine<W> {
         }
     }
 
-    /// Goes on with the word that the wanted step found, for a store with any number.
+    /// Goes on after the step that `want` named, which found the word `found`. If the step is a
+    /// store, `found` may be any number.
     #[inline(always)]
     #[tactic(auto, unfolding(crate::specs::Steps::take_word))]
     pub fn take(&mut self, found: u64)
@@ -426,7 +430,8 @@ impl<W: Work> Machine<W> {
         self.take_at(self.place, found)
     }
 
-    /// Goes on from `place`, where the machine stands, with the word that its step found.
+    /// Goes on after the step that `place`, the machine's place, names, and which found the word
+    /// `found`. If the step is a store, `found` may be any number.
     #[inline(always)]
     pub fn take_at(&mut self, place: Place, found: u64)
         requires here { place ≡ self.old.call.place }

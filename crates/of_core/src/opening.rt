@@ -34,10 +34,9 @@ fn first_cells(alloc: Global, shape: &Shape, durable: &[u64]) -> Result<Vec<u64>
     Ok(cells)
 }
 
-/// The words of a table that starts from a durable row: its cells, with the request of the owner
-/// closed, the cells' durable words, which are the same, and 0 after them. The row has a word for
-/// each cell, and the owner that its first word names is a caller. The error is that there is no
-/// memory.
+/// The words of a table that starts from a durable row. First come the cells: the row's
+/// current-transaction word and data cells, the owner's request as closed, and 0 elsewhere. Then
+/// come their durable words, which are the same, and then 0. The error is that there is no memory.
 pub fn first_words(alloc: Global, shape: &Shape, durable: &[u64]) -> Result<Vec<u64>, AllocError>
     requires row { length durable.now ≡ durable_cells shape.now.callers shape.now.cells }
     requires owner { payload_of (get_or durable.now 0 0) < shape.now.callers }

@@ -9,42 +9,43 @@ ghost use Rattle.of_core.specs.Steps.{word_of, words_after};
 
 use crate::place::Op;
 
-/// Performs the steps that a machine wants. The table of steps is written once, for each way to
-/// perform them.
+/// A way to perform the steps that a machine names, such as on the words of a bank.
+/// `Machine::perform`, which has the step of each place, is written once for all performers.
 pub trait Performer {
-    /// What it gives for a step.
+    /// What the performer gives for a step, such as the word that the step found.
     type Given;
 
-    /// What it makes steps with, which they change.
+    /// What the performer makes its steps on, such as the words of a bank. A step may change it.
     type Hand;
 
-    // which steps it may be asked for, and what holds after one of what it gave and left
+    // `takes` says which steps the performer may be given, and `made` what holds after a step: of
+    // what the performer gave, and of the hand before and after the step
     ghost takes: { Self → Self.Hand → Op → Type 0 };
 
     ghost made: { Self → Self.Hand → Op → Self.Given → Self.Hand → Type 0 };
 
-    /// A load.
+    /// Performs a load of a word.
     fn load(&self, hand: &mut Self::Hand, word: u32) -> Self::Given
         requires { takes self.now hand.old (Load word) }
         ensures { made self.now hand.old (Load word) result hand.new };
 
-    /// A store.
+    /// Performs a store: the word becomes `value`.
     fn store(&self, hand: &mut Self::Hand, word: u32, value: u64) -> Self::Given
         requires { takes self.now hand.old (Store word value) }
         ensures { made self.now hand.old (Store word value) result hand.new };
 
-    /// An exchange.
+    /// Performs an exchange: the word becomes `new` if it is `old`, and stays otherwise.
     fn exchange(&self, hand: &mut Self::Hand, word: u32, old: u64, new: u64) -> Self::Given
         requires { takes self.now hand.old (Exchange word old new) }
         ensures { made self.now hand.old (Exchange word old new) result hand.new };
 
-    /// A raise.
+    /// Performs a raise: the word becomes the greater of itself and `value`.
     fn raise(&self, hand: &mut Self::Hand, word: u32, value: u64) -> Self::Given
         requires { takes self.now hand.old (Raise word value) }
         ensures { made self.now hand.old (Raise word value) result hand.new };
 }
 
-/// Makes no step, and gives the step itself.
+/// The performer that makes no step, and gives the step itself.
 #[derive(Clone, Copy)]
 pub(crate) struct NameStep;
 
@@ -78,7 +79,7 @@ impl Performer for NameStep {
     }
 }
 
-/// Makes the step on words, and gives the word that it found.
+/// The performer that makes the step on a list of words, and gives the word that the step found.
 #[derive(Clone, Copy)]
 pub(crate) struct OnWords;
 
@@ -113,7 +114,7 @@ impl Performer for OnWords {
     }
 }
 
-/// Makes a load, which leaves the words as they are.
+/// Makes a load, and gives the word that it found. The words stay as they are.
 #[inline(always)]
 fn load_on(words: &mut [u64], word: u32) -> u64
     requires { word < length words.old }

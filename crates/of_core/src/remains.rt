@@ -15,36 +15,37 @@ pub struct Remains {
     pub current: u64,
     /// The caller's request.
     pub request: u64,
-    /// The durable word of its request.
+    /// The durable word of the caller's request.
     pub durable: u64,
-    /// The first word of its log, which is stored before the others.
+    /// The first word of the caller's log, which is stored before the log's other words.
     pub log: u64,
-    /// Its announcement.
+    /// The caller's announcement.
     pub announcement: u64,
-    /// Its ticket cell.
+    /// The word of the caller's ticket cell.
     pub ticket: u64,
-    /// Its script words.
+    /// The caller's script words.
     pub script: [u64; MOST_INSTRS],
 }
 
 /// Why no new machine may take a caller's place yet.
 #[derive(Clone, Copy)]
 pub enum NotYet {
-    /// Its log is of a transaction that isn't committed, and may be half written. The next commit
-    /// of any caller ends this.
+    /// The caller's log is of a transaction that isn't committed, and may be half written. This
+    /// ends with the next commit, by any caller.
     LogAhead,
-    /// Its request is for a transaction that isn't committed. The next commit of any caller ends
-    /// this, and so does the exchange that the lost machine was about to make.
+    /// The caller's request is for a transaction that isn't committed. This ends with the next
+    /// commit, by any caller, also if the machine that seemed lost makes it.
     RequestAhead,
-    /// Its transaction is open. The next caller that begins a round finishes it first.
+    /// The caller's transaction is open. The next caller that begins a round applies and closes it.
     TransactionOpen,
-    /// Its request is not durable. An eviction of the request makes it so.
+    /// The durable word of the caller's request is older than the request. An eviction of the
+    /// request ends this.
     RequestNotDurable,
 }
 
 impl Remains {
-    /// Why no new machine may take the caller's place yet; none, if one may. Once one may, that
-    /// stays so until the caller makes a step.
+    /// The reason why no new machine may take the place of the caller's machine yet; None if one
+    /// may. Once a new machine may, this stays so until the caller makes a step.
     pub fn hindrance(&self, caller: u32) -> Option<NotYet>
         ensures may { result ≡ None → MayRevive self.now caller }
         ensures must { MayRevive self.now caller → result ≡ None }

@@ -9,7 +9,7 @@ use Rattle.of_row.specs.Rows.{row_start, view_of_member, number_of_member, calls
 use Rattle.of_door.specs.declared.door.Door.{Door}
 use Rattle.of_door.specs.declared.door.Hand.{Hand}
 
--- the row that the door is on, and the number of the member that goes through it
+-- the row that the door is on
 abbrev pub row_of_door : {W : Type 0} → Door W → Row W
 row_of_door d = d.table.shared.key.row.value
 
@@ -20,25 +20,27 @@ number_of_door d = d.table.shared.key.number
 abbrev pub IsHandOf : {W : Type 0} → Door W → Hand → Type 0
 IsHandOf d h = h.seat.table_id ≡ d.table.shared.table_id
 
--- the words that its exchanges found, and those that it stored
+-- the words that the hand's exchanges found, in order
 abbrev pub found_by : Hand → List ℕ
 found_by h = h.seat.me.0.found
 
 abbrev pub stored_by : Hand → List ℕ
 stored_by h = h.seat.me.0.stored
 
--- between these the hand has exchanged the word once, from w, and found it so, and has then stored
--- n
+-- from `before` to `now` the hand has made one exchange, which found the word w, and has then
+-- stored n
 abbrev pub WentThrough : (w n : ℕ) → (before now : Hand) → Type 0
 WentThrough w n before now =
     (found_by now ≡ found_by before ++ w ∷ []) × (stored_by now ≡ stored_by before ++ n ∷ [])
 
--- or it has found the word n, which isn't w, and stored nothing
+-- from `before` to `now` the hand has made one exchange, which found the word n and not w, and has
+-- stored nothing
 abbrev pub WasRefused : (w n : ℕ) → (before now : Hand) → Type 0
 WasRefused w n before now =
     (n ≢ w) × (found_by now ≡ found_by before ++ n ∷ []) × (stored_by now ≡ stored_by before)
 
--- each of the member's calls in what it has seen has a ticket that it has begun
+-- each call of the member's caller, in the batches that the member has seen, is one that the member
+-- counts as begun: its ticket is at most the number of these
 abbrev pub TicketsUpTo : {W : Type 0} → (W → Meaning) → Row W → Member → Type 0
 TicketsUpTo meaning r m =
     let B = row_start meaning r in

@@ -12,16 +12,17 @@ use Rattle.of_door.specs.Hands.{HandLog, log_after_exchange, after_store}
 abbrev pub IsMemberAtDoor : {W : Type 0} → Row W → ℕ → Member → Type 0
 IsMemberAtDoor r number m = IsRowMember r m × (number_of_member m ≡ number) × HasNoCall m
 
--- the same, if the row is known
+-- the member may be in a door of this row, if a row is given
 abbrev pub IsMemberAtToldDoor : {W : Type 0} → Option (Row W) → ℕ → Member → Type 0
 IsMemberAtToldDoor None number m = Unit {0}
 IsMemberAtToldDoor (Some r) number m = IsMemberAtDoor r number m
 
--- what a slot holds whose word is w: no member at 0, and at 1 a member that may be here
+-- the slot of a door whose word is w holds x: no member at 0, and at 1 a member that may be here
 abbrev pub SlotHolds : (Member → Type 0) → (w : ℕ) → Option Member → Type 0
 SlotHolds May w x = (w ≡ 0 → x ≡ None) × (w ≡ 1 → (m : Member) × (x ≡ Some m) × May m)
 
--- the slot is at home and holds what the word says, or at 2 it is out
+-- at the words 0 and 1 the slot is in the table and holds what the word says; at 2 a hand has taken
+-- it out
 abbrev pub SlotMatchesWord : (Member → Type 0) → (w : ℕ) → List (maybe.Option (Option Member))
     → Type 0
 SlotMatchesWord May w homes =
@@ -29,8 +30,8 @@ SlotMatchesWord May w homes =
     ⊎ ((w ≡ 1) × ((m : Member) × May m × (homes ≡ maybe.some (Some m) ∷ [])))
     ⊎ ((w ≡ 2) × (homes ≡ maybe.none ∷ []))
 
--- The rule: one word and one slot, as the word says; if a hand holds the slot the word is 2, and
--- one hand does.
+-- The rule: the door has one word, and one slot that matches it. If a hand holds the slot, the word
+-- is 2, and no other hand holds it.
 pub record DoorMeetsRule (May : Member → Type 0) (s : State (Option Member) HandLog) : Type 0 where
   pub word : ℕ
   pub words : s.words ≡ word ∷ []
@@ -40,8 +41,8 @@ pub record DoorMeetsRule (May : Member → Type 0) (s : State (Option Member) Ha
       → get_elem? s.views k ≡ maybe.some w
       → v.holds ≡ true → w.holds ≡ true → j ≡ k
 
--- An exchange from the word old to 2 has found n: if they are the same the hand has got the
--- slot, with what the word says, and else nothing has changed.
+-- A hand's exchange of the word `old` for 2 has found n. If n is `old`, the hand has got the slot,
+-- which holds what that word says; otherwise only the hand's log has changed.
 abbrev pub TakesSlot : (Member → Type 0) → (old : ℕ) → Me (Option Member) HandLog → (n : ℕ)
     → Me (Option Member) HandLog → Type 0
 TakesSlot May old me n after =

@@ -1,4 +1,4 @@
-//! The door: a member is left in its slot, and comes out of it.
+//! The door: one thread leaves a member in it, and another thread takes the member out.
 
 ghost use Rattle.std.specs.Prelude.{◌≡◌, ◌<◌, [], false, Some, IfOk, IfErr};
 ghost use mathlib.Core.List.{IsPrefix};
@@ -24,15 +24,16 @@ const MEMBER: u64 = 1;
 
 const HELD: u64 = 2;
 
-/// A place in which a member of one number waits for another thread.
+/// A slot in which the member of one number waits for another thread.
 #[derive(Drop)]
 pub struct Door<W: Work> {
     table: Table<Option<Member>, HandLog, DoorKey<W>, DoorRule<W>, Global>,
     ghost counts: { (table.shared.table_id.words ≡ 1) × (table.shared.table_id.slots ≡ 1) },
 }
 
-/// What a thread has that leaves or comes. Contracts see the words that its exchanges found, and
-/// those that it stored. Between calls it doesn't hold the slot.
+/// What a thread needs to leave a member in a door or to take it out. Contracts see the words that
+/// the hand's exchanges found, and the words that it stored. Between calls the hand doesn't hold
+/// the slot.
 #[derive(Drop)]
 pub struct Hand {
     seat: Seat<Option<Member>, HandLog>,
@@ -43,8 +44,8 @@ impl<W: Work> Door<W> {
     ghost use Rattle.of_door.specs.Doors.{row_of_door, number_of_door, IsHandOf};
     ghost use Rattle.of_door.specs.Doors.{found_by, stored_by, WentThrough, WasRefused, TicketsUpTo};
 
-    /// A door of a row, for the member of a number, with its first hand. The error is that there is
-    /// no memory.
+    /// An empty door of `row` for the member of this number, with the door's first hand. The error
+    /// is that there is no memory.
     pub fn new(alloc: Global, row: &Row<W>, number: u32) -> Result<(Door<W>, Hand), AllocError>
         ensures row { IfOk result (λ d. row_of_door d.0 ≡ row.now) }
         ensures number { IfOk result (λ d. number_of_door d.0 ≡ number) }
@@ -59,7 +60,7 @@ impl<W: Work> Door<W> {
         Ok((Door { table }, Hand { seat }))
     }
 
-    /// A second hand, with the same lists, for another thread.
+    /// A second hand on the door, for another thread. It starts with the lists of the first hand.
     pub fn split(&self, hand: &mut Hand) -> Hand
         requires { IsHandOf self.now hand.old }
         ensures hands { IsHandOf self.now hand.new × IsHandOf self.now result }
@@ -88,9 +89,9 @@ impl<W: Work> Door<W> {
             .compare_exchange::<TakePlay<W, O>>(seat, 0, old, HELD)
     }
 
-    /// Leaves a member in the door, if none is in it, and gives a pass that knows all that it had
-    /// seen. Otherwise the error hands the member back, with the word found. The exchange is tried
-    /// once.
+    /// Leaves a member in the door, if the door is empty, and gives a pass that knows all that the
+    /// member had seen. Otherwise the error hands the member back, with the door's word that was
+    /// found. The exchange is tried once.
     pub fn leave(
         &self,
         row: &Row<W>,
@@ -121,9 +122,9 @@ impl<W: Work> Door<W> {
         Ok(pass)
     }
 
-    /// Takes the member out of the door, if one is in it, and has it take the pass in: it then
-    /// knows all that the pass had seen, and goes on after all its calls. Otherwise the error hands
-    /// the pass back, with the word found. The exchange is tried once.
+    /// Takes the member out of the door, if one is in it. The member takes the pass in, so it knows
+    /// all that the pass had seen, and goes on after all its own calls. Otherwise the error hands
+    /// the pass back, with the door's word that was found. The exchange is tried once.
     pub fn come(&self, row: &Row<W>, hand: &mut Hand, pass: Pass) -> Result<Member, (Pass, u64)>
         requires row { row_of_door self.now ≡ row.now }
         requires hand { IsHandOf self.now hand.old }

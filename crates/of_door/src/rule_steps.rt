@@ -23,7 +23,7 @@ impl<W: Work> TableRule<Option<Member>, HandLog, DoorKey<W>> for DoorRule<W> {
     ghost first = { λ _. no_exchange };
 }
 
-/// The row and the number of the member that may stand here, for the proof alone.
+/// The row and the number of the member that may be in the door; given for the proof alone.
 pub trait AdmitArgs<W> {
     ghost at_row: { Option (TheRow W) };
 
@@ -36,7 +36,7 @@ impl<W> AdmitArgs<W> for Brand {
     ghost number = { 0 };
 }
 
-/// An exchange of the word to 2.
+/// An exchange of the door's word for 2, by which a hand takes the slot.
 pub struct TakePlay<W, O> {
     admits: PhantomData<(W, O)>,
 }
@@ -46,14 +46,14 @@ impl<W, O: AdmitArgs<W>> Play<Option<Member>, HandLog> for TakePlay<W, O> {
         TakesSlot (IsMemberAtToldDoor O.at_row O.number) st.first me found after };
 }
 
-/// A store of 0 or 1.
+/// A store of 0 or 1 in the door's word, by which a hand gives the slot back.
 pub struct PutPlay;
 
 impl Play<Option<Member>, HandLog> for PutPlay {
     ghost then = { λ st me found after. GivesSlotBack st.first me after };
 }
 
-/// A second hand is made, with the same lists.
+/// A second hand is made, with the lists of the first one.
 pub struct SplitHand;
 
 impl Split<HandLog> for SplitHand {

@@ -12,7 +12,7 @@ pub struct DoorKey<W: Work> {
     pub row: Snapshot<Row<W>>,
 }
 
-/// What a hand knows. No value of it is made.
+/// What a hand knows, as contracts see it. No value of this type is made.
 pub struct HandLog {
     of: PhantomData<()>,
 }

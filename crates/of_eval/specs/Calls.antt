@@ -1,4 +1,4 @@
--- The programs of the calls that run scripts on a plot.
+-- The programs of the calls that run instructions and scripts on the cells of a plot.
 use Rattle.std.specs.Prelude.{ℕ, Bool, List, Result, Ok, Err}
 use Rattle.of_mem.specs.declared.part.Need.{Need}
 use Rattle.of_mem.specs.declared.plot.Plot.{Plot}
@@ -17,7 +17,7 @@ run_word plot w = word_program (base plot) plot.blocks w
 abbrev pub script : Plot → List ℕ → Program RawReply
 script plot op = script_program (base plot) plot.blocks op
 
--- the same result, with the reply that cells hold in the place of Ok's word
+-- the same result, but Ok holds `raw`, the reply as cells hold it
 abbrev pub in_cells : RawReply → Result Bool Need → Result RawReply Need
 in_cells raw (Ok ended) = Ok raw
 in_cells raw (Err need) = Err need

@@ -1,5 +1,6 @@
--- Scripts write few cells, if there are more blocks than instructions on keys in their order run
--- with. These lemmas are in specs/ since SoundScripts, the law of an impl, is proved with them.
+-- Scripts write few cells if the store has more than MOST_ORDERED_BLOCKS blocks, since `first`,
+-- `next` and `drop-below` don't run then. These lemmas are in specs/ since SoundScripts, the law of
+-- an impl, is proved with them.
 use Rattle.std.proofs.Common.{◌≡◌, ℕ, ◌+◌, ◌-◌, ◌*◌, ◌<◌, true, false, Bool, Option, Some, None, Ok, Err, List, [], ◌∷◌, ◌++◌, length, take, length-take, arith}
 use Rattle.std.specs.Prelude.{nat_lt}
 use Rattle.std.proofs.lemmas.Bool.{lt-ltb}
@@ -24,7 +25,7 @@ use Rattle.of_store.specs.declared.store.TheConstants.{MOST_ORDERED_BLOCKS}
 use Rattle.of_store.specs.Store.{is_there}
 use Rattle.of_eval.specs.ScriptPrograms.{InstrResult, answer_program, put_answers, answers_if, need_answers, add_unless, sub_unless, ordered_program, instr_program, program_of, word_program, go_on, words_program, script_program}
 
--- the most cells that an instruction writes: a put with a new key, or a push
+-- the most cells that an instruction writes; a put with a new key and a push write as many
 abbrev pub most_instr_writes : ℕ
 most_instr_writes = 6
 

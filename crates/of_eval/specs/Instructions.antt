@@ -34,12 +34,13 @@ use Rattle.of_eval.specs.Stored.{cell_store, IsStored}
 use Rattle.of_eval.specs.ScriptPrograms.{InstrResult, abort_program, ordered_program, answer_program, answers_number, put_answers, answers_if, need_answers, add_to, add_unless, sub_from, sub_unless, instr_program}
 use Rattle.of_eval.specs.Registers.{register_stands}
 
--- the answer and the cells are those of this effect; an abort's cells are not asked
+-- The instruction's answer r and the memory n after it are those of this effect on the store. After
+-- an abort only the cause counts, and n may be anything.
 abbrev pub GivesEffect : ℕ → ℕ → InstrEffect → InstrResult → (ℕ → ℕ) → Type 0
 GivesEffect o blocks (Ok e) r n = (r ≡ Ok e.1) × StandsForStore o blocks n (cell_store e.0)
 GivesEffect o blocks (Err cause) r n = r ≡ Err cause
 
--- a program gives this effect, and stays among the cells of the store
+-- run on the memory m, the program has this effect on the store, and uses only cells of the store
 abbrev pub HasEffect : ℕ → ℕ → (ℕ → ℕ) → Program InstrResult → InstrEffect → Type 0
 HasEffect o blocks m f e =
     StaysBetween o (cells_at o blocks) f m
@@ -56,11 +57,12 @@ four (a ∷ b ∷ c ∷ []) e = absurd (omega arith)
 four (a ∷ b ∷ c ∷ d ∷ []) e = omega arith
 four (a ∷ b ∷ c ∷ d ∷ x ∷ l) e = absurd (omega arith)
 
--- as many things are kept
+-- both kinds of store count the same number of keys and items
 pub things_kept : (s : Store) → IsState s → thing_count (cell_store s) ≡ stored_count s
 things_kept s h = let e = four s.queues h.queues in omega (arith, e)
 
--- a queue with other items, both ways to say it
+-- changing a queue's items gives the same store, whether it is done on a store of scripts or on a
+-- store of cells
 pub queue_plain : (s : Store) (q : ℕ) (items : List ℕ) → q < length s.queues
     → cell_store (with_queue s q items)
     ≡ record (cell_store s) { queues = with_value (λ x. queue s x) q items }
@@ -75,7 +77,7 @@ queue_plain s q items l =
           rw (changed_other (λ y. queue s y) q items x n) (get_or-set_other s.queues q x items [] n)
     ]
 
--- a program, and then an answer by what it answered
+-- a program that is followed by another one has the effect of both
 after_first : {A : Type 0} (o blocks : ℕ) (m : ℕ → ℕ) (f : Program A) (g : A → Program InstrResult)
     (e : InstrEffect) → StaysBetween o (cells_at o blocks) f m
     → HasEffect o blocks (memory_after f m) (g (program_answer f m)) e
@@ -169,7 +171,7 @@ module _ (o blocks : ℕ) (few : blocks ≤ MOST_BLOCKS) (m : ℕ → ℕ) (s : 
       (need_answers v x) (instr_effect s (Need k v))) (sym g.0)
       (need_case v (is_there (fin.get s.keys k) v) (memory_after (get_program o blocks k) m) stay))
 
-  -- there is room exactly if the store is not full
+  -- the store of cells is full exactly if the store of scripts is
   full : ltb (thing_count (cell_store s)) blocks ≡ false → leb s.room (stored_count s) ≡ true
   full e =
       le-leb s.room (stored_count s)
@@ -274,7 +276,8 @@ module _ (o blocks : ℕ) (few : blocks ≤ MOST_BLOCKS) (m : ℕ → ℕ) (s : 
   ordered_case true f e d = (tt, refl)
   ordered_case false f e d = d
 
-  -- the cells have as many blocks as the store has room
+  -- an instruction on keys in their order has its effect: the cells have as many blocks as the
+  -- store has room
   ordered : (f : Program InstrResult) (e : InstrEffect) → Does f e
       → Does (ordered_program blocks f) (ordered_effect s e)
   ordered f e d =
@@ -308,7 +311,7 @@ module _ (o blocks : ℕ) (few : blocks ≤ MOST_BLOCKS) (m : ℕ → ℕ) (s : 
       after_first o blocks m (drop_program o blocks k) answers_number (dropped k)
       d.0 (tt, (ap (λ (v : ℕ). Ok (Some v)) d.1, d.2))
 
-  -- every instruction does to the cells what it does to the store
+  -- every instruction does to cells that stand for a store what it does to the store
   pub instr_acts : (i : Instr) → IsInstrInRange i
       → HasEffect o blocks m (instr_program o blocks i) (instr_effect s i)
   instr_acts (Load r) k = load r k

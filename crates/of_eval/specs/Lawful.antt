@@ -1,5 +1,5 @@
--- When data cells stand for a store, the callers' own cells included. The cells are a function from
--- their numbers.
+-- When data cells, with the callers' own cells among them, stand for a store. A memory m is a
+-- function from addresses to numbers.
 use Rattle.std.specs.Prelude.{◌≡◌, ◌≢◌, ℕ, ◌≤◌, ◌<◌, nat_lt, if◌then◌else◌, map}
 use Rattle.std.specs.List.{range_with_len}
 use Rattle.of_mem.specs.declared.work.RawReply.{RawReply}
@@ -10,29 +10,29 @@ use Rattle.of_store.specs.Store.{Store}
 use Rattle.of_eval.specs.Shapes.{IsHeldBy}
 use Rattle.of_eval.specs.Stored.{IsStored}
 
--- the number in a caller's reply cell j, or 0 if there is no such cell
+-- the number at place j of a caller's reply, or 0 if a reply has no such place
 abbrev pub reply_number : (instrs : ℕ) → (ℕ → ℕ) → (caller j : ℕ) → ℕ
 reply_number instrs m c j = if nat_lt j instrs then m (reply_at instrs c j) else 0
 
--- the reply in a caller's own cells, as they hold it
+-- the reply in a caller's own cells, as they hold it: the shape and the numbers
 abbrev pub reply_in : (instrs : ℕ) → (ℕ → ℕ) → (caller : ℕ) → RawReply
 reply_in instrs m c = record {
   shape = m (shape_at instrs c);
   values = map (reply_number instrs m c) (range_with_len 0 MOST_INSTRS);
 }
 
--- a caller's own cells hold a reply to a script of at most this many instructions
+-- the caller's own cells hold a whole reply to a script of at most `instrs` instructions
 pub record OwnCellsHoldReply (instrs : ℕ) (m : ℕ → ℕ) (caller : ℕ) : Type 0 where
   pub reply : Reply
   pub held : IsHeldBy (reply_in instrs m caller) reply
   pub few : reply.len ≤ instrs
 
--- a caller's own cells are those of no call, or hold the reply to its last one
+-- a caller's own cells have no shape if there was no call, and hold a reply if there was one
 pub record OwnCellsAreSound (instrs : ℕ) (m : ℕ → ℕ) (caller : ℕ) : Type 0 where
   pub none : m (ticket_cell_at instrs caller) ≡ 0 → m (shape_at instrs caller) ≡ 0
   pub some : m (ticket_cell_at instrs caller) ≢ 0 → OwnCellsHoldReply instrs m caller
 
--- the data cells stand for this store
+-- the data cells stand for the store s, and the own cells of every caller are sound
 pub record DataCellsStandFor (callers instrs blocks : ℕ) (m : ℕ → ℕ) (s : Store) : Type 0 where
   pub own : (c : ℕ) → c < callers → OwnCellsAreSound instrs m c
   pub stored : IsStored (base_of callers instrs) blocks m s

@@ -1,6 +1,6 @@
--- The reply of words is a reply of a work: it is made of words, and it marks numbers of its own
--- instructions alone. These lemmas are in specs/ since SoundScripts, the law of an impl, is
--- proved with them.
+-- The reply to a script's words keeps the rules for replies of a work: it fits into cells, and it
+-- marks only places of its own instructions. These lemmas are in specs/ since SoundScripts, the law
+-- of an impl, is proved with them.
 use Rattle.std.proofs.Common.{◌≡◌, ℕ, zero, suc, ◌+◌, ◌-◌, ◌*◌, ◌<◌, ◌≤◌, ◌/◌, ◌%◌, ◌^◌, ◌==◌, true, false, refl, sym, ◌∙◌, ap, subst, arith, Option, Some, None, Ok, Err, List, [], ◌∷◌, ◌++◌, length, get_or, map, replicate, length-append}
 use Rattle.std.specs.List.{AllByRecursion as Each}
 use Rattle.std.specs.Option.{unwrap_or}
@@ -114,7 +114,7 @@ mask_all vs e =
     let q : mask_of vs < 2 ^ MOST_INSTRS = subst (λ (n : ℕ). mask_of vs < 2 ^ n) e k in
     omega (arith, q)
 
--- a reply to the words ws fits an operation that has at least as many
+-- a reply to the words ws is also a reply to an operation with at least as many words
 pub reply_fits : (op ws : List ℕ) (x : ScriptOutcome) → length ws ≤ MOST_INSTRS
     → length ws ≤ length op → AnswerInRange ws x
     → IsReplyTo op (reply_cells (reply_to (length ws) (reply_behind [] x)))

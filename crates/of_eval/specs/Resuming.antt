@@ -1,5 +1,5 @@
--- What is kept of a script whose run lacked a cell. The two lemmas at the end are laws of
--- `impl MaySuspend for Scripts`, which may cite specs/ alone.
+-- What is kept of a script whose run stopped because a cell was not known. The two lemmas at the
+-- end are laws of `impl MaySuspend for Scripts`, which may cite specs/ alone.
 use Rattle.std.specs.Prelude.{◌≡◌, ℕ, ◌≤◌, ◌<◌, List, [], length, take, drop, Option, Some, None}
 use Rattle.std.proofs.Common.{get_or, arith, ap}
 use Rattle.of_mem.specs.declared.work.TheConstants.{MOST_INSTRS}
@@ -13,22 +13,24 @@ use Rattle.of_store.specs.Replies.{IsSmall}
 use Rattle.of_eval.specs.ScriptPrograms.{word_program, words_program}
 use Rattle.of_eval.specs.Scripts.{StandsForSome}
 
--- partial memory with these writes of a script
+-- the partial memory with these known cells, and these writes of batch and script
 abbrev pub part_with : List (Option ℕ) → List (ℕ × ℕ) → List (ℕ × ℕ) → Part
 part_with known batch script = record { known = known; batch = batch; script = script }
 
--- the partial memory is part of one that stands for some store
+-- the partial memory agrees with some memory that stands for a store
 abbrev pub IsOfStore : ℕ → ℕ → Part → Type 0
 IsOfStore o blocks p = (m : ℕ → ℕ) × StandsForSome o blocks m × IsPartOf p m
 
--- if the walk to the key lacks a cell, the word lacks it too
+-- wherever the walk to this key stops because a cell is not known, a run of the word w stops for
+-- the same cell
 abbrev pub LooksFor : ℕ → ℕ → ℕ → ℕ → Type 0
 LooksFor o blocks w key =
     (p : Part) (a : ℕ) → run_program (seek_program o blocks key) p ≡ Lacks a
     → run_program (word_program o blocks w) p ≡ Lacks a
 
--- whatever else is known, the script goes on after the words that have run, with what these
--- answered and wrote
+-- The script may go on from what is kept, however many more cells become known: a run from its
+-- first word is the same as a run of the words that are left, with the answers and writes that are
+-- kept.
 pub record MayResume (o blocks : ℕ) (k : SuspendedRun) (p : Part) : Type 0 where
   pub runs : (more : List (Option ℕ)) → Extends more p.known
       → run_program (words_program o blocks (length k.words) [] k.words) (part_with more p.batch [])
@@ -38,15 +40,15 @@ pub record MayResume (o blocks : ℕ) (k : SuspendedRun) (p : Part) : Type 0 whe
   pub stands : (more : List (Option ℕ)) → Extends more p.known
       → IsOfStore o blocks (part_with more p.batch [])
       → IsOfStore o blocks (part_with more p.batch k.writes)
-  -- a word is left to run
+  -- at least one word has not run yet
   pub left : k.done < length k.words
   pub width : length k.values ≡ MOST_INSTRS
   pub past : (i : ℕ) → k.done ≤ i → get_or k.values i None ≡ None
   pub small : (i : ℕ) → IsSmall (get_or k.values i None)
-  -- the next word looks for the key that is kept
+  -- the next word looks first for the key that is kept
   pub looks : (key : ℕ) → k.sought ≡ Some key → LooksFor o blocks (get_or k.words k.done 0) key
 
--- if a script is kept, it goes on so on the cells of the work that kept it
+-- if a script is kept, it may go on from what is kept, on the cells of the work that kept it
 abbrev pub HoldsScript : SuspendedRun → Part → Type 0
 HoldsScript k p = 1 ≤ length k.words → MayResume (base_of k.callers MOST_INSTRS) k.blocks k p
 

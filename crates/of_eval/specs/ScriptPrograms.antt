@@ -1,4 +1,4 @@
--- What scripts read and write, and in which order.
+-- Which cells scripts read and write, and in which order.
 use Rattle.std.specs.Prelude.{ℕ, ◌+◌, ◌-◌, Bool, true, false, List, [], ◌∷◌, ◌++◌, length, take, nat_lt, if◌then◌else◌, Option, Some, None, Result, Ok, Err}
 use Rattle.of_mem.specs.declared.work.RawReply.{RawReply}
 use Rattle.of_mem.specs.Places.{register_at}
@@ -20,7 +20,7 @@ use Rattle.of_store.specs.Store.{is_there, Answered, Aborted}
 use Rattle.of_eval.specs.Shapes.{reply_cells}
 use Rattle.of_eval.specs.Words.{reply_to}
 
--- a number or none, or the cause for which the script aborts
+-- what one instruction answers: Ok with a number or none, or the cause for which the script aborts
 abbrev pub InstrResult : Type 0
 InstrResult = Result (Option ℕ) Cause
 
@@ -33,7 +33,8 @@ answers_number v = Done (Ok (Some v))
 abbrev pub abort_program : Cause → Program InstrResult
 abort_program cause = Done (Err cause)
 
--- Registers: by whether the sum is too great, and whether too much is taken off.
+-- Instructions on registers. `add` aborts if the sum is above the greatest number, and `sub` if
+-- more is taken off than the register has.
 
 abbrev pub write_register : ℕ → ℕ → ℕ → Program InstrResult
 write_register o r v = Write (register_at o r) v (Done (Ok (Some v)))
@@ -52,7 +53,8 @@ sub_unless o r v false = write_register o r v
 abbrev pub sub_from : ℕ → ℕ → ℕ → ℕ → Program InstrResult
 sub_from o r v n = sub_unless o r (n - v) (nat_lt n v)
 
--- Keys and queues: no room, and a value that differs.
+-- Instructions on keys and queues. `put` and `push` abort if there is no room, and `need` aborts if
+-- the value differs.
 
 abbrev pub put_answers : PutAnswer → Program InstrResult
 put_answers Full = abort_program NoRoom
@@ -66,8 +68,8 @@ answers_if cause false = abort_program cause
 abbrev pub need_answers : ℕ → Option ℕ → Program InstrResult
 need_answers v found = answers_if Differs (is_there found v)
 
--- Keys in their order: with more blocks than this such an instruction aborts as a word that is
--- none.
+-- Instructions on keys in their order. With more than MOST_ORDERED_BLOCKS blocks they abort, with
+-- the cause of a word that is no instruction.
 
 abbrev pub ordered_program : ℕ → Program InstrResult → Program InstrResult
 ordered_program blocks f = if nat_lt MOST_ORDERED_BLOCKS blocks then abort_program BadOp else f
@@ -99,20 +101,22 @@ program_of o blocks (Some i) = instr_program o blocks i
 abbrev pub word_program : ℕ → ℕ → ℕ → Program InstrResult
 word_program o blocks w = program_of o blocks (instr_at w)
 
--- the script goes on after these values, or aborts
+-- the script goes on with the instruction's answer, or it ends with the reply that it aborted at
+-- this place
 abbrev pub go_on : ℕ → List (Option ℕ) → (Option ℕ → Program RawReply) → InstrResult
     → Program RawReply
 go_on n done further (Ok v) = further v
 go_on n done further (Err cause) = Done (reply_cells (reply_to n (Aborted (length done) cause)))
 
--- the words of a script of n, after these values
+-- the program of the words that are left of a script of n words; `done` has the answers of the
+-- words before
 abbrev pub words_program : ℕ → ℕ → ℕ → List (Option ℕ) → List ℕ → Program RawReply
 words_program o blocks n done [] = Done (reply_cells (reply_to n (Answered done)))
 words_program o blocks n done (w ∷ ws) =
     then_do (word_program o blocks w)
     (go_on n done (λ v. words_program o blocks n (done ++ v ∷ []) ws))
 
--- words past the most of a script are not looked at
+-- the program of an operation's words; only the first MOST_INSTRS words are looked at
 abbrev pub script_program : ℕ → ℕ → List ℕ → Program RawReply
 script_program o blocks op =
     words_program o blocks (length (take MOST_INSTRS op)) [] (take MOST_INSTRS op)

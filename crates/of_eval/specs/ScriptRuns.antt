@@ -1,5 +1,5 @@
--- What the words of an operation do to cells that stand for a store is what they do to the store.
--- These lemmas are in specs/ since SoundScripts, the law of an impl, is proved with them.
+-- The words of an operation do to cells that stand for a store what they do to the store. These
+-- lemmas are in specs/ since SoundScripts, the law of an impl, is proved with them.
 use Rattle.std.proofs.Common.{◌≡◌, ℕ, suc, ◌+◌, ◌<◌, ◌≤◌, refl, sym, ◌∙◌, ap, subst, arith, Option, Some, None, Ok, Err, List, [], ◌∷◌, ◌++◌, length, length-append}
 use Rattle.std.specs.List.{AllByRecursion as Each}
 use Rattle.std.proofs.lemmas.List.{append_assoc, append-nil}
@@ -21,17 +21,19 @@ use Rattle.of_eval.specs.Words.{effect_of, word_effect, words_outcome, reply_to}
 use Rattle.of_eval.specs.ScriptPrograms.{InstrResult, word_program, program_of, go_on, words_program}
 use Rattle.of_eval.specs.Instructions.{GivesEffect, HasEffect, instr_acts}
 
--- the response to a script of which these values were answered before
+-- the reply to a whole script, from the answers `done` of its first words and the outcome of the
+-- others
 abbrev pub reply_behind : List (Option ℕ) → ScriptOutcome → Reply
 reply_behind done (Ok e) = Answered (done ++ e.1)
 reply_behind done (Err p) = Aborted (length done + p.0) p.1
 
--- the cells are those of the outcome's store; after an abort they are not asked
+-- the memory n stands for the store of the outcome; after an abort, n may be anything
 abbrev pub LeadsToOutcome : ℕ → ℕ → ScriptOutcome → (ℕ → ℕ) → Type 0
 LeadsToOutcome o blocks (Ok e) n = IsStored o blocks n e.0
 LeadsToOutcome o blocks (Err p) n = Unit {0}
 
--- after these values, a program does what this outcome says
+-- After the answers `done`, the program f has the outcome x on the memory m: it uses only cells of
+-- the store, it gives the reply of x, and its memory stands for the store of x.
 pub record DoesOutcome (o blocks n : ℕ) (f : Program RawReply) (m : ℕ → ℕ) (done : List (Option ℕ))
     (x : ScriptOutcome) : Type 0 where
   pub inside : StaysBetween o (cells_at o blocks) f m
@@ -69,7 +71,7 @@ runs_then o blocks n f g m done x i h = record {
   leads = subst (LeadsToOutcome o blocks x) (sym (after_then f g m)) h.leads;
 }
 
--- by what the first word did
+-- the words have their outcome if the first one has its effect and the others have their outcome
 first_word_does : (o blocks n : ℕ) (further : Option ℕ → Program RawReply)
     (others : Store → ScriptOutcome) (done : List (Option ℕ)) (m : ℕ → ℕ) (r : InstrResult)
     (e : InstrEffect) → GivesEffect o blocks e r m → Leaves e
@@ -125,7 +127,8 @@ module _ (o blocks : ℕ) (few : blocks ≤ MOST_BLOCKS) where
       (program_answer (word_program o blocks w) m) (word_effect s w) a.1 l
       (λ t v k. words_run n ws (done ++ v ∷ []) (memory_after (word_program o blocks w) m) t k))
 
--- what words answer: a number of a store for each, or an abort at one of them
+-- the outcome fits these words: Ok has an answer for each word, None or a number of stores, and an
+-- abort is at one of the words
 abbrev pub AnswerInRange : List ℕ → ScriptOutcome → Type 0
 AnswerInRange ws (Ok e) = (length e.1 ≡ length ws) × Each IsSmall e.1
 AnswerInRange ws (Err p) = p.0 < length ws

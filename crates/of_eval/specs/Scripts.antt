@@ -1,4 +1,4 @@
--- Scripts as a work: what is lawful, and what an operation means.
+-- Scripts as a work: which cells are lawful, and what an operation means.
 use Rattle.std.specs.Prelude.{ℕ, Bool, true, false, ◌&&◌, List, [], ◌∷◌, length, nat_lt, nat_le, Option, Some, None}
 use Rattle.of_mem.specs.declared.work.RawReply.{RawReply}
 use Rattle.of_mem.specs.declared.work.TheConstants.{MOST_INSTRS, LEAST_ABORT}
@@ -13,21 +13,21 @@ use Rattle.of_eval.specs.declared.scripts.Scripts.{Scripts}
 use Rattle.of_eval.specs.Stored.{IsStored}
 use Rattle.of_eval.specs.ScriptPrograms.{script_program}
 
--- the first cell of the store
+-- the address of the first cell of the store, after the callers' own cells
 abbrev pub store_at : Scripts → ℕ
 store_at w = base_of w.callers MOST_INSTRS
 
 abbrev pub scripts_data_cells : Scripts → ℕ
 scripts_data_cells w = cells_at (store_at w) w.blocks
 
--- a memory stands for some store
+-- the memory m stands for some store, from cell o on
 abbrev pub StandsForSome : ℕ → ℕ → (ℕ → ℕ) → Type 0
 StandsForSome o blocks m = (s : Store) × IsStored o blocks m s
 
 abbrev pub LawfulCells : Scripts → List ℕ → Type 0
 LawfulCells w xs = StandsForSome (store_at w) w.blocks (memory_of xs)
 
--- the reply is no abort
+-- the reply is not an abort
 abbrev pub is_success : RawReply → Bool
 is_success r = nat_lt r.shape LEAST_ABORT
 
@@ -39,10 +39,10 @@ abbrev pub words_read : List ℕ → Bool
 words_read [] = true
 words_read (w ∷ ws) = instr_reads (instr_at w) && words_read ws
 
--- the words are a script whose instructions leave every store as it is
+-- the words are 1 to MOST_INSTRS words of instructions that leave every store as it is
 abbrev pub script_reads : List ℕ → Bool
 script_reads op = nat_le 1 (length op) && (nat_le (length op) MOST_INSTRS && words_read op)
 
--- each operation is the program of its script
+-- the meaning of scripts as a work: each operation runs the program of its words
 abbrev pub scripts_meaning : Scripts → Meaning
 scripts_meaning w = meaning_of is_success script_reads (script_program (store_at w) w.blocks)

@@ -1,5 +1,5 @@
--- How great the parts of a shape are.
--- These lemmas are in specs/ since SoundScripts, the law of an impl, is proved with them.
+-- Bounds for the parts of a shape. These lemmas are in specs/ since SoundScripts, the law of an
+-- impl, is proved with them.
 use Rattle.std.proofs.Common.{◌≡◌, ℕ, zero, suc, ◌<◌, ◌≤◌, ◌^◌, List, [], ◌∷◌, length, get_or, Option, Some, None, refl, arith}
 use Rattle.of_script.specs.declared.instr.Cause.{Cause}
 use Rattle.of_script.specs.declared.instr.Cause.TheVariants.{Overflow, Short, NoRoom, Differs, BadOp}
@@ -9,7 +9,7 @@ pub mark_small : (v : Option ℕ) → mark_bit v ≤ 1
 mark_small None = omega arith
 mark_small (Some v) = omega arith
 
--- a mask is below the bit of the first place from which on there is no number
+-- if no place from n on has a number, the mask is below 2 ^ n
 pub mask_below : (vs : List (Option ℕ)) (n : ℕ) → ((i : ℕ) → n ≤ i → get_or vs i None ≡ None)
     → mask_of vs < 2 ^ n
 mask_below [] zero h = omega arith

@@ -1,5 +1,5 @@
--- Scripts keep the rules of a work. `impl Work for Scripts` cites these lemmas as its laws, and an
--- impl may cite specs/ alone.
+-- The meaning of scripts keeps the rules of a work. `impl Work for Scripts` cites these lemmas as
+-- its laws, and an impl may cite specs/ alone.
 use Rattle.std.proofs.Common.{◌≡◌, ℕ, inl, inr, zero, suc, ◌*◌, ◌≤◌, true, leb, ◌&&◌, refl, sym, ◌∙◌, ap, subst, arith, List, [], ◌∷◌, length, take, replicate, get_or, Ok, Err, length-take, ◌+◌}
 use Rattle.std.proofs.lemmas.Bool.{ltb-true, cases_lt}
 use Rattle.of_mem.specs.declared.plot.TheConstants.{MOST_BLOCKS}
@@ -30,7 +30,7 @@ use Rattle.of_eval.specs.ScriptsStay.{words_stay, words_only}
 use Rattle.of_eval.specs.FewWrites.{script_few}
 use Rattle.of_eval.specs.ShapeLaws.{code_some}
 
--- memory of zeros stands for the empty store
+-- a memory in which every cell is 0 stands for the empty store
 pub empty_is_stored : (o blocks : ℕ) → blocks ≤ MOST_BLOCKS → (m : ℕ → ℕ) → ((a : ℕ) → m a ≡ 0)
     → IsStored o blocks m (empty_store blocks)
 empty_is_stored o blocks few m z = record {
@@ -71,7 +71,7 @@ module _ (o blocks : ℕ) (few : blocks ≤ MOST_BLOCKS) where
       (words_outcome s (first op))
   script_run op m s h = words_run o blocks few (length (first op)) (first op) [] m s h
 
-  -- an abort is no success
+  -- if the reply is a success, the cells still stand for a store
   success : (n : ℕ) (x : ScriptOutcome) (m : ℕ → ℕ) → LeadsToOutcome o blocks x m
       → is_success (reply_cells (reply_to n (reply_behind [] x))) ≡ true → StandsForSome o blocks m
   success n (Ok e) m h k = (e.0, h)

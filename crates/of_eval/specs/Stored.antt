@@ -1,4 +1,4 @@
--- The store of scripts for which data cells stand.
+-- When data cells stand for a store of scripts.
 use Rattle.std.specs.Prelude.{◌≡◌, ℕ, length}
 use Rattle.of_mem.specs.declared.plot.Plot.{Plot}
 use Rattle.of_mem.specs.Plots.{base, data_cell_count}
@@ -7,7 +7,7 @@ use Rattle.of_mem.specs.Programs.{IsPartOf}
 use Rattle.of_mem.specs.Stores.{CellStore, StandsForStore}
 use Rattle.of_store.specs.Store.{Store, IsState, queue}
 
--- the same store as cells see it
+-- the store s as plain data, in the form in which cells stand for it
 abbrev pub cell_store : Store → CellStore
 cell_store s = record {
   registers = s.registers;
@@ -16,12 +16,13 @@ cell_store s = record {
   room = s.room;
 }
 
--- The cells from o on stand for this store, which has room for this many blocks.
+-- The cells from `o` on stand for the store s, which has room for `blocks` keys and items.
 pub record IsStored (o blocks : ℕ) (m : ℕ → ℕ) (s : Store) : Type 0 where
   pub state : IsState s
   pub stands : StandsForStore o blocks m (cell_store s)
 
--- the partial memory has the plot's cells, and is part of a memory that stands for some store
+-- the partial memory has as many cells as the plot, and agrees with some memory that stands for a
+-- store
 pub record HasState (plot : Plot) (p : Part) : Type 0 where
   pub fits : length p.known ≡ data_cell_count plot
   pub memory : ℕ → ℕ

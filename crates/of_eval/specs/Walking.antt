@@ -1,5 +1,5 @@
--- How far the walk through the chains came: what its owners table and its store say of the blocks
--- that were met.
+-- How far the walk through the chains came. Its owners table says which blocks were met and in
+-- which chain; its store has what these blocks hold.
 use Rattle.std.specs.Prelude.{◌≡◌, ◌≢◌, ◌⊎◌, ℕ, ◌+◌, ◌%◌, ◌<◌, ◌≤◌, cond, eqb, Option, Some, None, List, [], ◌∷◌, length, map}
 use Rattle.std.specs.FinMap as fin
 use Rattle.std.proofs.Common.{get_or, set}
@@ -15,41 +15,42 @@ use Rattle.of_eval.specs.declared.lawful_cells.LawErr.TheVariants.{Memory, Unlaw
 use Rattle.of_eval.specs.Lawful.{OwnCellsAreSound, DataCellsStandFor}
 use Rattle.of_eval.specs.Faults.{OwnFault, AllOwnCellsAreSound, AreNumbers, IsFirstFault, HasSoundHead, HasPassed, HasRightCounts, ContainsNumber, IsMet, NamesCellWith}
 
--- an error that names a cell names the first one at fault
+-- if the error names a cell, this is the first cell at fault
 abbrev pub NamesFault : Plot → List ℕ → LawErr → Type 0
 NamesFault p cells e = NamesCellWith (IsFirstFault p.callers p.instrs p.blocks (memory_of cells)) e
 
--- the caller's own cells are those of no call, or hold the reply to its last one
+-- the caller's own cells have no shape if there was no call, and hold a reply if there was one
 abbrev pub CallerIsSound : Plot → List ℕ → (caller : ℕ) → Type 0
 CallerIsSound p cells caller = OwnCellsAreSound p.instrs (memory_of cells) caller
 
--- an error that names a cell names the first fault of the caller's own cells
+-- if the error names a cell, this is the first one at fault among the caller's own cells
 abbrev pub NamesOwnFault : Plot → List ℕ → (caller : ℕ) → LawErr → Type 0
 NamesOwnFault p cells caller e = NamesCellWith (OwnFault p.instrs (memory_of cells) caller) e
 
--- every caller's own cells are sound
+-- the own cells of every caller are sound
 abbrev pub CallersAreSound : Plot → List ℕ → Type 0
 CallersAreSound p cells = AllOwnCellsAreSound p.instrs (memory_of cells) p.callers
 
--- no register is too great
+-- each register holds a number of stores, below 2 ^ 31
 abbrev pub RegistersAreNumbers : Plot → List ℕ → Type 0
 RegistersAreNumbers p cells = AreNumbers (base p) (memory_of cells) REGISTERS
 
--- the cells stand for this store, those of the callers included
+-- the cells stand for the store s, and the own cells of every caller are sound
 abbrev pub CellsStandFor : Plot → List ℕ → Store → Type 0
 CellsStandFor p cells s = DataCellsStandFor p.callers p.instrs p.blocks (memory_of cells) s
 
--- what is looked at before the chains is sound
+-- what is looked at before the chains is sound: callers' own cells, registers, count of taken
+-- blocks
 abbrev pub HasBegun : Plot → List ℕ → Type 0
 HasBegun p cells = HasSoundHead p.callers p.instrs p.blocks (memory_of cells)
 
--- how many blocks have no owner yet
+-- how many entries of the owners table are 0: blocks that were not met yet
 abbrev pub unmet_count : List ℕ → ℕ
 unmet_count [] = 0
 unmet_count (x ∷ owners) = cond (eqb x 0) 1 0 + unmet_count owners
 
--- The owners table has 1 more than its chain's number for each block that was met, and 0 for the
--- others.
+-- The owners table has an entry for each block below `fresh`: the number of the block's chain plus
+-- 1 if the block was met, and otherwise 0.
 pub record OwnersMatchChains (blocks fresh : ℕ) (chains : ℕ → List ℕ) (owners : List ℕ)
     : Type 0 where
   pub sized : length owners ≡ fresh
@@ -57,8 +58,8 @@ pub record OwnersMatchChains (blocks fresh : ℕ) (chains : ℕ → List ℕ) (o
   pub met : (b : ℕ) → get_or owners b 0 ≢ 0 → IsMet chains b
   pub counted : blocks_in_chains chains (out_chain blocks) + unmet_count owners ≡ fresh
 
--- the walk met these blocks, the last of them in chain n, and what it counted after the chains
--- before chain k is right
+-- The walk met the blocks in `chains`, up to chain n. The owners table shows them, and what is
+-- counted after the chains before chain k is right.
 pub record HasWalked (p : Plot) (cells : List ℕ) (n k : ℕ) (chains : ℕ → List ℕ) (owners : List ℕ) :
     Type 0 where
   pub begun : HasBegun p cells
@@ -66,7 +67,7 @@ pub record HasWalked (p : Plot) (cells : List ℕ) (n k : ℕ) (chains : ℕ →
   pub counted : HasRightCounts (base p) p.blocks (memory_of cells) k chains
   pub painted : OwnersMatchChains p.blocks (memory_of cells (fresh_at (base p))) chains owners
 
--- the store has the registers, and what the blocks that were met hold
+-- the store s has the registers, and the keys, values and items of the blocks met so far
 pub record HoldsWhatWasMet (p : Plot) (cells : List ℕ) (chains : ℕ → List ℕ) (s : Store)
     : Type 0 where
   pub state : IsState s
@@ -82,7 +83,8 @@ pub record HoldsWhatWasMet (p : Plot) (cells : List ℕ) (chains : ℕ → List 
       → map (λ b. memory_of cells (first_at (base p) b)) (chains (queue_chain p.blocks q))
       ≡ queue s q
 
--- the walk is before chain n, and what was counted after the chains before chain k is right
+-- The walk has met all chains before chain n and no block of chain n. What is counted after the
+-- chains before chain k is right.
 pub record IsBeforeChain (p : Plot) (cells : List ℕ) (n k : ℕ) (owners : List ℕ) (s : Store)
     : Type 0 where
   pub chains : ℕ → List ℕ
@@ -90,13 +92,13 @@ pub record IsBeforeChain (p : Plot) (cells : List ℕ) (n k : ℕ) (owners : Lis
   pub kept : HoldsWhatWasMet p cells chains s
   pub start : chains n ≡ []
 
--- the walk is before the buckets, and no store has been made yet
+-- the walk has met the free list and no other chain, and no store has been made yet
 pub record HasWalkedFreeList (p : Plot) (cells : List ℕ) (owners : List ℕ) : Type 0 where
   pub chains : ℕ → List ℕ
   pub walked : HasWalked p cells 1 1 chains owners
   pub start : chains 1 ≡ []
 
--- a store with nothing in it but the first n registers
+-- the store s has the first n registers, no key and no item
 pub record HasRegisters (p : Plot) (cells : List ℕ) (n : ℕ) (s : Store) : Type 0 where
   pub state : IsState s
   pub room : s.room ≡ p.blocks
@@ -105,39 +107,42 @@ pub record HasRegisters (p : Plot) (cells : List ℕ) (n : ℕ) (s : Store) : Ty
   pub keys : s.keys ≡ fin.empty
   pub queues : (q : ℕ) → queue s q ≡ []
 
--- the pointer ends its chain, or leads to a block with no owner, which gets this chain
+-- The pointer in this cell is 0 and ends its chain, or it leads to a block without an owner; then
+-- the block's owner becomes this chain.
 abbrev pub LinkLeadsOn : List ℕ → ℕ → ℕ → List ℕ → List ℕ → Option ℕ → Type 0
 LinkLeadsOn cells cell chain before after None = (memory_of cells cell ≡ 0) × (after ≡ before)
 LinkLeadsOn cells cell chain before after (Some b) =
     (memory_of cells cell ≡ b + 1) × (b < length before) × (get_or before b 0 ≡ 0)
     × (after ≡ set before b (chain + 1))
 
--- the pointer leads beyond the table, or to a block that has an owner
+-- the error names this cell, whose pointer leads to a block that has an owner or is not in the
+-- owners table
 abbrev pub LinkIsAtFault : List ℕ → ℕ → List ℕ → LawErr → Type 0
 LinkIsAtFault cells cell owners Memory = ⊥
 LinkIsAtFault cells cell owners (Unlawful at) =
     (at ≡ cell)
     × ((b : ℕ) × (memory_of cells cell ≡ b + 1) × ((length owners ≤ b) ⊎ (get_or owners b 0 ≢ 0)))
 
--- a walk that came to the queues found the keys counted rightly
+-- if the walk came to the queues, the count of keys was compared with the keys met, and is right
 abbrev pub KeysAreCounted : Plot → List ℕ → Store → Type 0
 KeysAreCounted p cells s =
     (owners : List ℕ) → IsBeforeChain p cells (queue_chain p.blocks 0) 0 owners s
     → IsBeforeChain p cells (queue_chain p.blocks 0) (queue_chain p.blocks 0) owners s
 
--- or wrongly
+-- if the walk came to the queues, the error names the first cell at fault
 abbrev pub KeysAreMiscounted : Plot → List ℕ → Store → LawErr → Type 0
 KeysAreMiscounted p cells s e =
     (owners : List ℕ) → IsBeforeChain p cells (queue_chain p.blocks 0) 0 owners s
     → NamesFault p cells e
 
--- a walk through all chains met every block
+-- if the walk went through all chains, it met every block, and the cells stand for its store
 abbrev pub AllAreMet : Plot → List ℕ → List ℕ → Type 0
 AllAreMet p cells owners =
     (s : Store) → IsBeforeChain p cells (out_chain p.blocks) (out_chain p.blocks) owners s
     → CellsStandFor p cells s
 
--- or not every one
+-- if the walk went through all chains, the error names the first cell at fault, since some block
+-- was not met
 abbrev pub SomeAreUnmet : Plot → List ℕ → List ℕ → LawErr → Type 0
 SomeAreUnmet p cells owners e =
     (s : Store) → IsBeforeChain p cells (out_chain p.blocks) (out_chain p.blocks) owners s

@@ -1,4 +1,4 @@
-//! The store for which data cells stand.
+//! Making the store for which data cells stand.
 
 ghost use Rattle.std.specs.Prelude.{◌≡◌, IfOk, IfErr, MatchResult, length};
 ghost use Rattle.of_mem.specs.Plots.{data_cell_count};
@@ -19,8 +19,8 @@ use of_store::Store;
 use std::alloc::{AllocError, Global};
 use thiserror::Error;
 
-/// Why cells are answered with no store: there is no memory, or they stand for none, and this is
-/// the first cell at fault.
+/// Why `lawful` answers no store: there is not enough memory, or the cells stand for no store and
+/// this is the first cell at fault.
 #[derive(Clone, Copy, Debug, PartialEq, Eq, Error)]
 pub enum LawErr {
     #[error("out of memory")]
@@ -40,7 +40,7 @@ impl From<AllocError> for LawErr {
     }
 }
 
-/// Looks at the cells in their order, and makes the store that they stand for.
+/// Looks at the cells in order, and makes the store for which they stand.
 fn read_store(alloc: Global, plot: &Plot, cells: &[u32]) -> Result<Store, LawErr>
     requires { length cells.now ≡ data_cell_count plot.now }
     ensures ok { IfOk result (CellsStandFor plot.now cells.now) }
@@ -63,9 +63,9 @@ fn read_store(alloc: Global, plot: &Plot, cells: &[u32]) -> Result<Store, LawErr
     Ok(store)
 }
 
-/// The store for which the data cells stand, each caller's own cells included. An error that names
-/// a cell says that they stand for no store; the cell is the first at fault: the callers' own cells
-/// are looked at first, then registers, the free list, buckets and queues.
+/// The store for which the data cells stand; the callers' own cells must be sound too. An error
+/// `Unlawful` names the first cell at fault, and the cells stand for no store. They are looked at
+/// in this order: the callers' own cells, registers, the free list, buckets, queues.
 pub fn lawful(alloc: Global, plot: &Plot, cells: &[u32]) -> Result<Store, LawErr>
     requires { length cells.now ≡ data_cell_count plot.now }
     // What is answered is what the cells stand for.

@@ -1,4 +1,5 @@
-//! Scripts over cells.
+//! Scripts run on cells: the work of scripts, replies as cells hold them, and the store for which
+//! cells stand.
 #![tactic(auto)]
 
 mod lawful_cells;

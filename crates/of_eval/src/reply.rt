@@ -13,7 +13,7 @@ ghost use Rattle.std.proofs.Common.{get_or, set};
 use of_mem::{RawReply, SuspendedRun};
 use of_script::{Abort, Cause, GREATEST, MOST_INSTRS, Reply};
 
-/// The number of a cause in a shape.
+/// The code that stands for a cause in a shape.
 fn code(cause: Cause) -> u32
     ensures value { result ≡ code_of cause }
     ensures small { result ≤ 5 }
@@ -27,7 +27,7 @@ fn code(cause: Cause) -> u32
     }
 }
 
-/// The cause with this number.
+/// The cause for which a code stands.
 fn cause(code: u32) -> Option<Cause>
     ensures { MatchOption result ((c : TheCause) → code_of c ≢ code) (λ c. code_of c ≡ code) }
 {
@@ -53,7 +53,8 @@ fn abort_part(abort: Option<Abort>) -> u32
     }
 }
 
-/// A reply as cells hold it: its shape, and its number at each place, 0 for none.
+/// A reply as it is written into cells: its shape and its numbers, with 0 at places that have no
+/// number.
 pub fn reply_cells(reply: &Reply) -> RawReply
     requires { IsWhole reply.now }
     ensures { result ≡ reply_cells reply.now }
@@ -82,8 +83,8 @@ fn answer_at(kept: &SuspendedRun, last: Option<u32>, place: usize) -> Option<u32
     }
 }
 
-/// Writes the reply of a script that ran to its end: what `kept` has of the words before the last
-/// one, and `last` of this.
+/// Writes the reply of a script that ran to its end: `kept` has the answers of all words but the
+/// last, and `last` is the answer of the last.
 // out of line, so that a run that lacks a cell doesn't clear this frame
 #[inline(never)]
 pub(crate) fn answers_in_cells(kept: &SuspendedRun, last: Option<u32>, out: &mut RawReply)
@@ -124,8 +125,8 @@ pub(crate) fn abort_in_cells(len: usize, place: usize, cause: Cause, out: &mut R
     });
 }
 
-/// The reply that these cells hold. None comes exactly if they hold none: their shape is that of no
-/// reply, or a number that it marks is above `GREATEST`.
+/// The reply that these cells hold. None exactly if they hold no reply: the shape is not the shape
+/// of any reply, or a number that it marks is above `GREATEST`.
 pub fn reply_of(raw: &RawReply) -> Option<Reply>
     ensures some { IfSome result (IsHeldBy raw.now) }
     ensures only { (r : TheReply) → IsHeldBy raw.now r → result ≡ Some r }
@@ -143,7 +144,7 @@ pub fn reply_of(raw: &RawReply) -> Option<Reply>
     aborted_reply(raw, len)
 }
 
-/// The numbers that a mask marks. None if one of them is above `GREATEST`.
+/// The numbers at the places that a mask marks. None if one of them is above `GREATEST`.
 fn marked_values(
     mask: u32,
     cells: &[u32; MOST_INSTRS],
@@ -168,7 +169,7 @@ fn marked_values(
     Some(values)
 }
 
-/// The reply of a script that ran to its end.
+/// The reply that these cells hold, if it is of a script that ran to its end.
 fn answered_reply(raw: &RawReply, len: u32) -> Option<Reply>
     requires len { len ≡ raw.now.shape / 2 ^ 16 % 32 }
     requires some { 1 ≤ len }
@@ -189,7 +190,7 @@ fn answered_reply(raw: &RawReply, len: u32) -> Option<Reply>
     })
 }
 
-/// The reply of a script that aborted.
+/// The reply that these cells hold, if it is of a script that aborted.
 fn aborted_reply(raw: &RawReply, len: u32) -> Option<Reply>
     requires len { len ≡ raw.now.shape / 2 ^ 16 % 32 }
     requires some { 1 ≤ len }

@@ -9,10 +9,10 @@ use crate::walk::{reach, resume, run_to_reply};
 use of_mem::{MOST_INSTRS, MaySuspend, Need, Part, Plot, RawReply, SuspendedRun, Work};
 use of_plan::Plan;
 
-/// What runs scripts on cells: 1 to `MOST_CALLERS` callers, and room for keys and items, at most
-/// `MOST_BLOCKS`. An operation is the words of a script; a word that is no instruction aborts at
-/// its place. With room for more than `of_store::MOST_ORDERED_BLOCKS` so does an instruction on
-/// keys in their order.
+/// The work that runs scripts on cells: an operation is the words of a script. A word that is no
+/// instruction aborts at its place. If there are more than `of_store::MOST_ORDERED_BLOCKS` blocks,
+/// an instruction on keys in their order aborts in the same way. There are 1 to `MOST_CALLERS`
+/// callers and at most `MOST_BLOCKS` blocks, one for each key and item.
 #[derive(Clone, Copy, Debug, PartialEq, Eq)]
 pub struct Scripts {
     pub callers: u32,
@@ -25,7 +25,7 @@ pub struct Scripts {
 impl Scripts {
     ghost use Rattle.of_plan.specs.Plan.{IsPlan};
 
-    /// Those of a plan.
+    /// The work for the scripts of a plan, with the plan's callers and blocks.
     pub fn of_plan(plan: &Plan) -> Scripts
         ensures plan { IsPlan plan.now }
         ensures callers { result.callers ≡ plan.now.callers }
@@ -37,7 +37,7 @@ impl Scripts {
         }
     }
 
-    /// Where the data cells stand.
+    /// The addresses of the data cells.
     pub fn plot(&self) -> Plot
         ensures callers { result.callers ≡ self.now.callers }
         ensures instrs { result.instrs ≡ MOST_INSTRS }

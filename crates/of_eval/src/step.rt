@@ -17,14 +17,14 @@ use of_mem::{Need, Part, Plot};
 use of_script::{Cause, GREATEST, Instr, from_word};
 use of_store::MOST_ORDERED_BLOCKS;
 
-/// The word of a `get` of key 0. The words below it are those of instructions on registers.
+/// The word of a `get` of key 0. Words below it stand for instructions on registers, if for any.
 const FIRST_ON_KEYS: u64 = 80 << 31;
 
-/// A number or none, or the cause for which the script aborts.
+/// What an instruction answers: a number or none, or the cause for which the script aborts.
 pub(crate) type InstrResult = Result<Option<u32>, Cause>;
 
-/// Runs one word, which aborts if it is no instruction. The error names a cell that is read and
-/// isn't known.
+/// Runs the instruction for which a word stands; a word that stands for none aborts. An error names
+/// a cell that must be read and is not known.
 pub(crate) fn run_word(plot: &Plot, part: &mut Part, word: u64) -> Result<InstrResult, Need>
     requires { HasStore plot.now part.old }
     ensures { RunsProgram (run_word plot.now word) part.old part.new result }
@@ -35,7 +35,7 @@ pub(crate) fn run_word(plot: &Plot, part: &mut Part, word: u64) -> Result<InstrR
     }
 }
 
-/// Whether a word is that of an instruction that leaves every store as it is.
+/// Whether a word stands for an instruction that leaves every store as it is.
 pub(crate) fn word_reads(word: u64) -> bool
     ensures { result ≡ instr_reads (instr_at word) }
 {
@@ -45,7 +45,7 @@ pub(crate) fn word_reads(word: u64) -> bool
     }
 }
 
-/// The key that a word looks for before all else, if it is that of an instruction which does.
+/// The key for which the instruction of this word looks first, if it looks for a key first.
 pub(crate) fn word_seeks(word: u64) -> Option<u32>
     ensures { IfSome result (λ key. (o blocks : ℕ) → LooksFor o blocks word key) }
 {
@@ -61,7 +61,7 @@ pub(crate) fn word_seeks(word: u64) -> Option<u32>
     }
 }
 
-/// Runs one instruction.
+/// Runs one instruction on the cells.
 fn step(plot: &Plot, part: &mut Part, instr: Instr) -> Result<InstrResult, Need>
     requires stands { HasStore plot.now part.old }
     requires range { IsInstrInRange instr }
@@ -86,7 +86,7 @@ fn step(plot: &Plot, part: &mut Part, instr: Instr) -> Result<InstrResult, Need>
     }
 }
 
-/// Answers a register.
+/// Answers the number in a register.
 #[tactic(auto, using(of_mem::proofs::Runs::run_then_gives, of_mem::proofs::Runs::run_then_needs))]
 fn load(plot: &Plot, part: &Part, reg: u8) -> Result<InstrResult, Need>
     requires stands { HasStore plot.now part.now }
@@ -259,7 +259,7 @@ fn first(plot: &Plot, part: &mut Part) -> Result<InstrResult, Need>
     Ok(Ok(key))
 }
 
-/// Answers the least key above one.
+/// Answers the least key above `key`.
 #[tactic(auto, using(of_mem::proofs::Runs::run_then_gives, of_mem::proofs::Runs::run_then_needs))]
 fn next(plot: &Plot, part: &mut Part, key: u32) -> Result<InstrResult, Need>
     requires { HasStore plot.now part.old }
@@ -272,7 +272,7 @@ fn next(plot: &Plot, part: &mut Part, key: u32) -> Result<InstrResult, Need>
     Ok(Ok(next))
 }
 
-/// Drops the keys below one.
+/// Drops the keys below `key`.
 #[tactic(auto, using(of_mem::proofs::Runs::run_then_gives, of_mem::proofs::Runs::run_then_needs))]
 fn drop_below(plot: &Plot, part: &mut Part, key: u32) -> Result<InstrResult, Need>
     requires { HasStore plot.now part.old }

@@ -1,4 +1,4 @@
-//! Tables for scripts.
+//! The shape of tables for scripts.
 
 ghost use Rattle.std.specs.Prelude.{◌≡◌};
 ghost use Rattle.of_mem.specs.declared.work.TheConstants.{MOST_INSTRS};
@@ -8,7 +8,7 @@ use crate::scripts::Scripts;
 use of_cell::Shape;
 use of_plan::table_shape;
 
-/// The shape of a table for these scripts.
+/// The shape of a table on which these scripts run.
 pub fn shape_of(scripts: Scripts) -> Shape
     ensures callers { result.callers ≡ scripts.callers }
     ensures instrs { result.instrs ≡ MOST_INSTRS }

@@ -20,7 +20,8 @@ use crate::reply::{abort_in_cells, answers_in_cells};
 use crate::step::{run_word, word_seeks};
 use of_mem::{Need, Part, Plot, RawReply, SuspendedRun};
 
-/// Goes back to where `kept` stopped if it is of these words, and else begins them there.
+/// If `kept` keeps an operation with these words, goes back to where it stopped. Otherwise makes
+/// `kept` begin this operation.
 pub(crate) fn resume(plot: &Plot, part: &mut Part, kept: &mut SuspendedRun, op: &[u64])
     requires instrs { plot.now.instrs ≡ MOST_INSTRS }
     requires words { IsOperation op.now }
@@ -37,9 +38,9 @@ pub(crate) fn resume(plot: &Plot, part: &mut Part, kept: &mut SuspendedRun, op: 
     kept.restore(part);
 }
 
-/// Walks towards the key that the next word looks for, if `kept` has one. The error names a cell
-/// that is read and isn't known. A run that lacks one cell after the other of a bucket so costs the
-/// walk alone.
+/// Walks towards the key for which the next word looks first, if `kept` has one. An error names a
+/// cell that must be read and is not known. So a run that stops for each cell of a bucket repeats
+/// only the walk.
 pub(crate) fn reach(plot: &Plot, part: &mut Part, kept: &SuspendedRun) -> Result<(), Need>
     requires stands { HasState plot.now (record part.old { script = [] }) }
     requires goes { MayResume (base plot.now) plot.now.blocks kept.now
@@ -57,9 +58,9 @@ pub(crate) fn reach(plot: &Plot, part: &mut Part, kept: &SuspendedRun) -> Result
     }
 }
 
-/// Runs the words from the first that hasn't run. Ok leaves their writes with the script, none
-/// after an abort, and the reply in `out`. The error names the cell that the run needs next; then
-/// the script has no writes and `out` is as before.
+/// Runs the words that have not run yet. Ok leaves their writes as the script's, none after an
+/// abort, and the reply in `out`. An error names the cell that the run needs next; then the script
+/// has no writes and `out` is as before.
 // out of line, so that a run that lacks a cell in `reach` doesn't clear the frame of one that ends
 #[inline(never)]
 pub(crate) fn run_to_reply(
@@ -103,9 +104,9 @@ pub(crate) fn run_to_reply(
     }
 }
 
-/// Runs the words in order, to their end or to the first abort, from the first that hasn't run.
-/// Ok leaves the reply in `out`, and says whether they ran to their end. The error names a cell that
-/// is read and isn't known; then `out` is as before.
+/// Runs the words that have not run yet, in order, to the last one or to the first abort. Ok leaves
+/// the reply in `out`, and says whether no word aborted. An error names a cell that must be read
+/// and is not known; then `out` is as before.
 fn run_words(
     plot: &Plot,
     part: &mut Part,
@@ -148,7 +149,7 @@ fn run_words(
     unreachable!()
 }
 
-/// Keeps the key that the next of these words looks for, if that comes first.
+/// Keeps the key for which the next of these words looks first, if it looks for a key first.
 fn keep_sought(kept: &mut SuspendedRun, op: &[u64])
     requires { kept.old.words ≡ op.now }
     ensures holds { (p : Part) → HoldsScript kept.old p → HoldsScript kept.new p }

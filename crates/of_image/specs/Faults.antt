@@ -1,4 +1,4 @@
--- What a fault of a text is that has no image.
+-- What a fault says of a text that has no image.
 use Rattle.std.specs.Prelude.{ℕ, List}
 use Rattle.of_report.specs.ImageRow.{DurableRow, recovered_row}
 use Rattle.of_report.specs.Image.{Image}
@@ -14,29 +14,31 @@ use Rattle.of_image.specs.RowFault.{Breaks}
 use Rattle.of_image.specs.Parsed.{ReadsImage}
 use Rattle.of_image.specs.Reasons.{IsLineFault}
 
--- the text has an image
+-- the text of this version has an image
 abbrev pub HasImage : Version → List ℕ → Type 0
 HasImage v text = (image : Image) × ReadsImage v text image
 
--- the text is in the grammar, and this is the first cell at fault of what recovery finds in its
--- row, and the law that it breaks
+-- the text is in the grammar; in what recovery finds in its row this cell is the first at fault,
+-- and it breaks this law
 pub record IsCellFault (v : Version) (text : List ℕ) (cell : ℕ) (law : Law) : Type 0 where
   pub raw : DurableRow
   pub spelled : SpellsImage v text raw
   pub breaks : Breaks law (instrs_of v) (recovered_row (instrs_of v) raw) cell
 
--- what is wrong with a text
+-- the fault is true of the text: a bad line, or a cell of what recovery finds
 abbrev pub IsImageFaultOf : Version → List ℕ → ImageFault → Type 0
 IsImageFaultOf v text (Line p) = IsLineFault v text p
 IsImageFaultOf v text (Cell cell law) = IsCellFault v text cell law
 
--- why a text has no row; after a lack of memory nothing is said
+-- the refusal is true of a text that has no row: it names the bad line; if memory ran out, nothing
+-- is promised
 abbrev pub HasLineFault : Version → List ℕ → Refusal → Type 0
 HasLineFault v text Memory = Unit {0}
 HasLineFault v text (Fault (Line piece)) = IsLineFault v text piece
 HasLineFault v text (Fault (Cell cell law)) = ⊥
 
--- why a text has no image; after a lack of memory nothing is said
+-- the refusal is true of a text that has no image: it names the fault; if memory ran out, nothing
+-- is promised
 abbrev pub HasImageFault : Version → List ℕ → Refusal → Type 0
 HasImageFault v text Memory = Unit {0}
 HasImageFault v text (Fault fault) = IsImageFaultOf v text fault

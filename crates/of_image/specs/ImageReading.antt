@@ -16,7 +16,7 @@ use Rattle.of_plan.specs.Reader.{Language, Reader}
 
 -- ---- a line
 
--- the ranges of a line's numbers, whatever lines stand before it
+-- the numbers of a line are in the ranges that hold whatever lines come before it
 abbrev pub IsImageLineInRange : ImageLine → Type 0
 IsImageLineInRange (Title v) = v ≤ 4294967295
 IsImageLineInRange (Callers n) = n ≤ MOST_PLAN_CALLERS
@@ -24,7 +24,7 @@ IsImageLineInRange (Blocks n) = n ≤ MOST_PLAN_BLOCKS
 IsImageLineInRange (Cell c s p) = (c ≤ 4294967295) × (s ≤ 4294967295) × (p ≤ 4294967295)
 IsImageLineInRange End = Unit {0}
 
--- images, as they are read
+-- the lines of images, the words of each, and the ranges of its numbers
 abbrev pub image_language : Language
 image_language = record {
   Line = ImageLine;
@@ -34,7 +34,8 @@ image_language = record {
 
 -- ---- what a line leads to
 
--- the row so far, and the first cell that may come next
+-- what has been read of an image: the stage, the sizes, the word of each cell, and the first cell
+-- whose line may still come
 pub record RowReading : Type 0 where
   pub stage : Stage
   pub callers : ℕ
@@ -42,6 +43,7 @@ pub record RowReading : Type 0 where
   pub words : List ℕ
   pub from : ℕ
 
+-- what contracts see of the code's reading
 abbrev pub row_reading_value : RustReading → RowReading
 row_reading_value r = record {
   stage = r.stage;
@@ -51,14 +53,16 @@ row_reading_value r = record {
   from = r.from;
 }
 
+-- the reading before the first line
 abbrev pub no_row_read : RowReading
 no_row_read = record { stage = Start; callers = 0; blocks = 0; words = []; from = 0 }
 
--- the row that has been read
+-- the row of the words that have been read
 abbrev pub row_read : RowReading → DurableRow
 row_read p = record { callers = p.callers; blocks = p.blocks; words = p.words }
 
--- a cell's line: no cell before it, a cell that there is, and a word that isn't 0
+-- the reading with one more cell, if its line may come next: it is not before `from`, the row has
+-- this cell, and its word isn't 0
 abbrev pub with_cell : RowReading → (cell seq payload : ℕ) → Option RowReading
 with_cell p c s x =
     if nat_lt c p.from then None
@@ -66,6 +70,7 @@ with_cell p c s x =
     else if pack s x == 0 then None
     else Some (record p { words = slice_set p.words c (pack s x); from = c + 1 })
 
+-- the reading after one more line, by what was read last; None if the line may not come next
 abbrev pub after_line_at : Version → Stage → RowReading → ImageLine → Option RowReading
 after_line_at v Start p (Title x) =
     if x == version_number v then Some (record p { stage = Named }) else None
@@ -80,5 +85,6 @@ after_line_at v Body p (Cell c s x) = with_cell p c s x
 after_line_at v Body p End = Some (record p { stage = Ended })
 after_line_at v _ p l = None
 
+-- how the lines of an image are read, one after the other
 abbrev pub image_reader : Version → Reader image_language
 image_reader v = record { Progress = RowReading; next = λ p l. after_line_at v p.stage p l }

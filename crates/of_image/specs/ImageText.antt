@@ -12,6 +12,7 @@ use Rattle.of_image.specs.declared.line.ImageLine.TheVariants.{Title, Callers, B
 use Rattle.of_report.specs.ImageRow.{DurableRow, IsRow, row_in}
 use Rattle.of_image.specs.Version.{version_number, instrs_of}
 
+-- the words that spell a line
 abbrev pub image_line_words : ImageLine → List (List ℕ)
 image_line_words (Title v) = codes "onefile" ∷ codes "image" ∷ decimal v ∷ []
 image_line_words (Callers n) = codes "callers" ∷ decimal n ∷ []
@@ -28,38 +29,39 @@ abbrev pub cell_lines : (cell : ℕ) → List ℕ → List ImageLine
 cell_lines c [] = []
 cell_lines c (w ∷ ws) = cell_line c w ++ cell_lines (c + 1) ws
 
--- the lines that aren't skipped: version, sizes, a line for each cell whose word isn't 0, in order,
--- and the end
+-- the lines of a row's text that aren't skipped: version, sizes, a line for each cell whose word
+-- isn't 0, in order, and the end
 abbrev pub image_lines : Version → DurableRow → List ImageLine
 image_lines v r =
     Title (version_number v) ∷ Callers r.callers ∷ Blocks r.blocks
     ∷ (cell_lines 0 r.words ++ End ∷ [])
 
--- the text is in the grammar, and has this row
+-- the text is in the grammar of this version, and has this row
 pub record SpellsImage (v : Version) (text : List ℕ) (r : DurableRow) : Type 0 where
   pub row : IsRow (instrs_of v) r
   pub each : unskipped_words (text_lines text) ≡ map image_line_words (image_lines v r)
 
--- the text is in the grammar
+-- the text is in the grammar of this version
 abbrev pub IsImageText : Version → List ℕ → Type 0
 IsImageText v text = (r : DurableRow) × SpellsImage v text r
 
--- one space between words
+-- the text of a line with its newline, with one space between words
 abbrev pub image_line_text : ImageLine → List ℕ
 image_line_text l = join_with_byte 32 (image_line_words l) ++ codes "\n"
 
+-- the text that is printed of a row
 abbrev pub image_text : Version → DurableRow → List ℕ
 image_text v r = flat_map image_line_text (image_lines v r)
 
--- what is printed of a cell and its word
+-- the text of the line of a cell with this word; empty if the word is 0
 abbrev pub image_cell_text : ℕ × ℕ → List ℕ
 image_cell_text (c, w) = flat_map image_line_text (cell_line c w)
 
--- what is printed of these words, from cell 0 on
+-- the text of the lines of these words, from cell 0 on
 abbrev pub image_cells_text : List ℕ → List ℕ
 image_cells_text words = flat_map image_cell_text (enumerate_from 0 words)
 
--- the row of the durable words of a table
+-- the row of the durable words of a table, if `ws` are all words of the table
 abbrev pub table_row : Plot → List ℕ → DurableRow
 table_row p ws =
     let cells = durable_cells p.callers (data_cell_count p) in

@@ -11,26 +11,26 @@ use Rattle.of_image.specs.ImageText.{image_text}
 use Rattle.of_report.specs.Image.{Image}
 use Rattle.of_image.specs.Parsed.{ReadsImage}
 
--- the own cell of a caller with the same meaning, where scripts have fewer instructions; a number
--- of a reply that there isn't one for has none
+-- the caller's own data cell with the same meaning in the layout of shorter scripts; None for a
+-- number of a reply that has no place there
 abbrev pub earlier_own_address : (few many addr : ℕ) → Option ℕ
 earlier_own_address few many a =
     if nat_lt (a % (many + 2)) (few + 2) then Some (a / (many + 2) * (few + 2) + a % (many + 2))
     else None
 
--- the data cell with the same meaning there
+-- the data cell with the same meaning in the layout of shorter scripts, if there is one
 abbrev pub earlier_address : (few many callers addr : ℕ) → Option ℕ
 earlier_address few many callers a =
     if nat_lt a (base_of callers many) then earlier_own_address few many a
     else Some (base_of callers few + (a - base_of callers many))
 
--- the word of that data cell, or 0
+-- the word of this data cell in the old row; 0 if there is no such cell
 abbrev pub word_from : (callers : ℕ) → (ℕ → ℕ) → Option ℕ → ℕ
 word_from callers row None = 0
 word_from callers row (Some a) = row (data_cell callers a)
 
--- the current transaction and the requests keep their words, data cells get theirs, and there are
--- no logs
+-- the word of a cell in the moved row: the current transaction and the requests keep their words,
+-- data cells get that of the same meaning, and logs are 0
 abbrev pub moved_word : (few many callers blocks : ℕ) → (ℕ → ℕ) → (cell : ℕ) → ℕ
 moved_word few many callers blocks row c =
     if nat_le c callers then row c
@@ -38,23 +38,26 @@ moved_word few many callers blocks row c =
     then word_from callers row (earlier_address few many callers (c - (callers + 1)))
     else 0
 
+-- the words of the moved row
 unfoldable pub moved_words : (few many callers blocks : ℕ) → List ℕ → List ℕ
 moved_words few many callers blocks words =
     map (moved_word few many callers blocks (slice_index words))
     (range_with_len 0 (durable_cells callers (data_cell_count_for many callers blocks)))
 
--- the same from one layout to another of as many callers and blocks
+-- the word of a cell in a row that is moved from one plot to another
 abbrev pub moved_word_to : (old new : Plot) → List ℕ → (cell : ℕ) → ℕ
 moved_word_to old new words c =
     moved_word old.instrs new.instrs old.callers old.blocks (slice_index words) c
 
+-- the words of a row that is moved from one plot to another
 abbrev pub moved_words_to : (old new : Plot) → List ℕ → List ℕ
 moved_words_to old new words = moved_words old.instrs new.instrs old.callers old.blocks words
 
+-- the row in the layout of scripts of `many` instructions, from that of scripts of `few`
 abbrev pub moved_row : (few many : ℕ) → DurableRow → DurableRow
 moved_row few many r = record r { words = moved_words few many r.callers r.blocks r.words }
 
--- no transaction is open in a row that was recovered
+-- the image of the moved row; no transaction is open in it, since the row was recovered
 abbrev pub moved_image : (few many : ℕ) → Image → Image
 moved_image few many i = record {
   row = moved_row few many i.row;
@@ -63,8 +66,8 @@ moved_image few many i = record {
   store = i.store;
 }
 
--- the words of a row in the layout of many instructions are those of the same meaning in a row of
--- few
+-- each word of the new row, for scripts of `many` instructions, is that of the same meaning in the
+-- old row, for scripts of `few`
 pub record HasMoved (few many : ℕ) (old new : DurableRow) : Type 0 where
   pub callers : new.callers ≡ old.callers
   pub blocks : new.blocks ≡ old.blocks
@@ -80,10 +83,10 @@ pub record HasMoved (few many : ℕ) (old new : DurableRow) : Type 0 where
   pub replies : (c j : ℕ) → c < old.callers → j < few
       → slice_index new.words (data_cell old.callers (reply_at many c j))
       ≡ slice_index old.words (data_cell old.callers (reply_at few c j))
-  -- a reply has no more numbers than it had
+  -- the places for further numbers of a reply are 0
   pub no_more : (c j : ℕ) → c < old.callers → few ≤ j → j < many
       → slice_index new.words (data_cell old.callers (reply_at many c j)) ≡ 0
-  -- the cells of the store, behind those of the callers
+  -- the cells of the store come after those of the callers
   pub store : (k : ℕ)
       → base_of old.callers many + k < data_cell_count_for many old.callers old.blocks
       → slice_index new.words (data_cell old.callers (base_of old.callers many + k))
@@ -91,8 +94,8 @@ pub record HasMoved (few many : ℕ) (old new : DurableRow) : Type 0 where
   pub logs : (c : ℕ) → data_cell old.callers (data_cell_count_for many old.callers old.blocks) ≤ c
       → slice_index new.words c ≡ 0
 
--- the text is that of a version 1 image's recovered row, moved to the layout of version 2; its
--- image has the same sequence, store and tickets
+-- `after` is the text of a version 1 image's recovered row, moved to the layout of version 2; it
+-- has an image with the same sequence, store and tickets
 pub record Migrates (before after : List ℕ) : Type 0 where
   pub image : Image
   pub read : ReadsImage One before image

@@ -1,4 +1,5 @@
--- Which image a text has, and why another text has none.
+-- How the text of an image is read: what recovery finds in its words, and which line or cell is at
+-- fault in a text that is refused.
 use Rattle.std.specs.Prelude.{◌≡◌, ℕ, List}
 use Rattle.of_plan.specs.BadLine.{HasBadLine}
 use Rattle.of_script.specs.declared.instr.TheConstants.{MOST_INSTRS}
@@ -14,60 +15,64 @@ use Rattle.of_image.specs.declared.refusal.Refusal.{Refusal}
 use Rattle.of_image.specs.declared.refusal.Refusal.TheVariants.{Memory as NoMemory, Fault}
 use Rattle.of_image.specs.RowFault.{Breaks, IsRowFault}
 
--- the text is in the grammar, and what recovery finds in its row is the image
+-- the text is in the grammar of this version, and what recovery finds in its row is the image
 pub record ReadsImage (v : Version) (text : List ℕ) (i : Image) : Type 0 where
   pub raw : DurableRow
   pub spelled : SpellsImage v text raw
   pub restored : IsRestored (instrs_of v) raw i
 
--- the text is in the grammar, and this is the first cell at fault of what recovery finds in its row
+-- the text is in the grammar, and this is the first cell at fault in what recovery finds in its row
 pub record IsUnlawful (v : Version) (text : List ℕ) (cell : ℕ) : Type 0 where
   pub raw : DurableRow
   pub spelled : SpellsImage v text raw
   pub fault : IsRowFault (instrs_of v) (recovered_row (instrs_of v) raw) cell
 
--- why a text is refused; after a lack of memory nothing is said
+-- the error is true of a text that has no image: it names the bad line or the cell at fault; if
+-- memory ran out, nothing is promised
 abbrev pub ImageIsRefused : Version → List ℕ → ImageErr → Type 0
 ImageIsRefused v text Memory = Unit {0}
 ImageIsRefused v text (Bad line) = HasBadLine (IsImageText v) text line
 ImageIsRefused v text (Unlawful cell) = IsUnlawful v text cell
 
--- why a text has no row
+-- the error is true of a text that has no row: it names the bad line; if memory ran out, nothing is
+-- promised
 abbrev pub IsNoImage : Version → List ℕ → ImageErr → Type 0
 IsNoImage v text Memory = Unit {0}
 IsNoImage v text (Bad line) = HasBadLine (IsImageText v) text line
 IsNoImage v text (Unlawful cell) = ⊥
 
--- why durable words have no image; after a lack of memory nothing is said
+-- the error is true of durable words that have no image: it names the cell at fault; if memory ran
+-- out, nothing is promised
 abbrev pub WordsAreRefused : DurableRow → ImageErr → Type 0
 WordsAreRefused r Memory = Unit {0}
 WordsAreRefused r (Bad line) = ⊥
 WordsAreRefused r (Unlawful cell) = IsRowFault MOST_INSTRS (recovered_row MOST_INSTRS r) cell
 
--- why no store is found in a row; after a lack of memory nothing is said
+-- the refusal is true of a row that stands for no store: it names the cell and the law; if memory
+-- ran out, nothing is promised
 abbrev pub NamesRowFault : (instrs : ℕ) → DurableRow → Refusal → Type 0
 NamesRowFault instrs r NoMemory = Unit {0}
 NamesRowFault instrs r (Fault (Line piece)) = ⊥
 NamesRowFault instrs r (Fault (Cell cell law)) = Breaks law instrs r cell
 
--- the same as an error that names a line or a cell
+-- the error for a refusal; it names only the line or the cell
 abbrev pub refusal_err : Refusal → ImageErr
 refusal_err NoMemory = Memory
 refusal_err (Fault (Line piece)) = Bad piece.line
 refusal_err (Fault (Cell cell law)) = Unlawful cell
 
--- an unlawful text has no image
+-- a text with a cell at fault has no image
 abbrev pub UnlawfulHaveNone : Type 0
 UnlawfulHaveNone =
     (v : Version) (text : List ℕ) (cell : ℕ) (image : Image) → IsUnlawful v text cell
     → ReadsImage v text image → ⊥
 
--- and one cell at fault
+-- a text has at most one first cell at fault
 abbrev pub HasOneFault : Type 0
 HasOneFault =
     (v : Version) (text : List ℕ) (c d : ℕ) → IsUnlawful v text c → IsUnlawful v text d → c ≡ d
 
--- a text has one image
+-- a text has at most one image
 abbrev pub OneImage : Type 0
 OneImage =
     (v : Version) (text : List ℕ) (i j : Image) → ReadsImage v text i → ReadsImage v text j → i ≡ j

@@ -1,10 +1,10 @@
--- The reasons in words.
+-- The text that is printed of each reason.
 use Rattle.std.specs.Prelude.{ℕ, List, ◌++◌, codes, decimal}
 use Rattle.of_plan.specs.FlawText.{flaw_text}
 use Rattle.of_image.specs.declared.reason.Reason.{Reason}
 use Rattle.of_image.specs.declared.reason.Reason.TheVariants.{Flawed, TitleExpected, OtherVersion, CallersExpected, BlocksExpected, AfterEnd, UnknownLine, NoCell, CellPassed, OutOfOrder, EmptyCell, HeadingOver, EndMissing}
 
--- what is printed of a reason
+-- the text that is printed of a reason
 abbrev pub image_reason_text : Reason → List ℕ
 image_reason_text (Flawed flaw) = flaw_text flaw
 image_reason_text (TitleExpected version) =

@@ -25,7 +25,8 @@ use Rattle.of_image.specs.Version.{version_number, instrs_of}
 
 -- ---- what comes next after the words of a line
 
--- a number up to the most: the version, a count of the heading, or one of a cell's three numbers
+-- after these words of a line a number up to `most` comes next: the version, a count of the
+-- heading, or one of a cell's three numbers
 abbrev pub WantsImageNumber : (before : List (List ℕ)) (most : ℕ) → Type 0
 WantsImageNumber before most =
     ((before ≡ codes "onefile" ∷ codes "image" ∷ []) × (most ≡ 4294967295))
@@ -34,13 +35,14 @@ WantsImageNumber before most =
     ⊎ ((numbers : List ℕ) × (length numbers ≤ 2)
     × (before ≡ codes "cell" ∷ map decimal numbers) × (most ≡ 4294967295))))
 
--- nothing: the words before are a whole line
+-- these words are a whole line, after which nothing comes
 pub record IsWholeLine (before : List (List ℕ)) : Type 0 where
   pub line : ImageLine
   pub range : IsImageLineInRange line
   pub words : before ≡ image_line_words line
 
--- what comes next there is what the flaw of the piece speaks of
+-- after these words a line goes on with what the flaw speaks of: a number, one that may not be 0,
+-- or nothing
 abbrev pub IsPlaceInImage : Flaw → (before : List (List ℕ)) → Type 0
 IsPlaceInImage NumberMissing before = (most : ℕ) × WantsImageNumber before most
 IsPlaceInImage NoNumber before = (most : ℕ) × WantsImageNumber before most
@@ -51,25 +53,25 @@ IsPlaceInImage _ before = ⊥
 
 -- ---- reasons
 
--- the piece begins a line of the heading
+-- the piece is the first word of a line of the heading
 abbrev pub IsHeadingName : List ℕ → Type 0
 IsHeadingName piece =
     (piece ≡ codes "onefile") ⊎ ((piece ≡ codes "callers") ⊎ (piece ≡ codes "blocks"))
 
--- the piece begins no line of an image
+-- no line of an image begins with the piece
 pub record IsNoName (piece : List ℕ) : Type 0 where
   pub heading : IsHeadingName piece → ⊥
   pub cell : piece ≡ codes "cell" → ⊥
   pub «end» : piece ≡ codes "end" → ⊥
 
--- the words before the piece begin a title, and it does not go on with the piece
+-- the words before the piece begin a title, and the piece is not its next word
 abbrev pub IsNoImageTitleWord : (before : List (List ℕ)) (piece : List ℕ) → Type 0
 IsNoImageTitleWord before piece =
     ((before ≡ []) × (piece ≡ codes "onefile" → ⊥))
     ⊎ ((before ≡ codes "onefile" ∷ []) × (piece ≡ codes "image" → ⊥))
 
--- what a reason says of a piece of a line, of the words before it, and of what the lines above lead
--- to
+-- the reason is true of a piece of a line, of the words before it, and of the reading `p` to which
+-- the lines above lead
 abbrev pub IsTrueOfImage : Version → Reason → RowReading → (before : List (List ℕ))
     (piece : List ℕ) → Type 0
 IsTrueOfImage v (Flawed flaw) p before piece = HasFlaw flaw piece × IsPlaceInImage flaw before
@@ -98,21 +100,21 @@ IsTrueOfImage v EndMissing p before piece = ⊥
 
 -- ---- the fault of a text
 
--- what the first lines of a text say leads to this reading
+-- the first `count` lines of the text are lines of an image, or skipped, and lead to this reading
 pub record ImageLinesLeadTo (v : Version) (text : List ℕ) (count : ℕ) (p : RowReading)
     : Type 0 where
   pub said : List ImageLine
   pub says : unskipped_words (take count (text_lines text)) ≡ map image_line_words said
   pub leads : after_lines image_language (image_reader v) no_row_read said ≡ Some p
 
--- the text is at its end, and has no end line yet
+-- the text has `above + 1` lines, which can all be read, and none of them is an end line
 pub record IsUnendedImage (v : Version) (text : List ℕ) (above : ℕ) : Type 0 where
   pub last : length (text_lines text) ≡ above + 1
   pub reading : RowReading
   pub leads : ImageLinesLeadTo v text (above + 1) reading
   pub unended : reading.stage ≡ Ended → ⊥
 
--- the line above of this number has the cell that the piece names or a later one
+-- the piece names a cell, and the line of this number, further up, has the same cell or a later one
 pub record IsOutOfOrder (text : List ℕ) (above : ℕ) (before : List (List ℕ)) (piece : List ℕ)
     (number : ℕ) : Type 0 where
   pub place : before ≡ codes "cell" ∷ []
@@ -123,7 +125,8 @@ pub record IsOutOfOrder (text : List ℕ) (above : ℕ) (before : List (List ℕ
   pub says : Says (text_lines text) above (Cell cell) at other
   pub is : number ≡ at + 1
 
--- what a reason says of a piece of a text with this many lines above its line
+-- the reason is true of a piece of a text, and of the words before it, in a line with this many
+-- lines above it
 abbrev pub IsTrueInImage : Version → Reason → (text : List ℕ) (above : ℕ) (before : List (List ℕ))
     (piece : List ℕ) → Type 0
 IsTrueInImage v EndMissing text above before piece = IsUnendedImage v text above × (piece ≡ [])
@@ -132,7 +135,7 @@ IsTrueInImage v (OutOfOrder number) text above before piece =
 IsTrueInImage v reason text above before piece =
     (p : RowReading) × ImageLinesLeadTo v text above p × IsTrueOfImage v reason p before piece
 
--- the piece is a whole word, or the end of the line
+-- the piece at fault is a whole word or the end of the line, and the reason is true of it
 pub record IsImageWordFault (v : Version) (text : List ℕ) (f : BadPiece) : Type 0 where
   pub before : List (List ℕ)
   pub whole :
@@ -142,7 +145,7 @@ pub record IsImageWordFault (v : Version) (text : List ℕ) (f : BadPiece) : Typ
       let line = line_at (text_lines text) (f.line - 1) in
       IsTrueInImage v f.reason text (f.line - 1) before (slice_range line f.start f.end)
 
--- the piece is a byte that looks like nothing, in a line that isn't skipped
+-- the piece at fault is a byte order mark, a carriage return or a tab, in a line that isn't skipped
 pub record IsHiddenImageFault (text : List ℕ) (f : BadPiece) : Type 0 where
   pub flaw : Flaw
   pub reason : f.reason ≡ Flawed flaw
@@ -150,7 +153,7 @@ pub record IsHiddenImageFault (text : List ℕ) (f : BadPiece) : Type 0 where
   pub is : IsHiddenByte (f.line - 1) (line_at (text_lines text) (f.line - 1))
       (record { start = f.start; end = f.end; flaw = flaw })
 
--- the bad line of a text, the piece of it at fault, and a reason that is true of it
+-- `f` is the bad line of the text, the piece of it at fault, and a reason that is true of the piece
 pub record IsLineFault (v : Version) (text : List ℕ) (f : BadPiece) : Type 0 where
   pub bad : HasBadLine (IsImageText v) text f.line
   pub order : f.start ≤ f.end

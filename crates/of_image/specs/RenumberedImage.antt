@@ -8,13 +8,14 @@ use Rattle.of_image.specs.declared.version.Version.TheVariants.{Two}
 use Rattle.of_image.specs.ImageText.{image_text}
 use Rattle.of_image.specs.Parsed.{ReadsImage}
 
--- each data cell keeps its number, at sequence 0, and every other cell is 0
+-- the row in which each data cell keeps its number, with sequence 0, and every other cell is 0
 abbrev pub renumbered_row : (instrs : ℕ) → DurableRow → DurableRow
 renumbered_row instrs r = record r {
   words = renumbered_words r.callers (row_cell_count instrs r) r.words;
 }
 
--- the sequence is 0, no transaction is open, and the store is the same
+-- the image of the renumbered row: its sequence is 0, no transaction is open, and the store is the
+-- same
 abbrev pub renumbered_image : Image → Image
 renumbered_image i = record {
   row = renumbered_row MOST_INSTRS i.row;
@@ -23,9 +24,8 @@ renumbered_image i = record {
   store = i.store;
 }
 
--- the text is that of the image with its sequences begun anew: it is read again with sequence 0 and
--- the same store, and the numbers of its data cells, tickets, shapes and replies among them, are
--- the same
+-- the text is that of the image with its sequences begun anew; its own image has sequence 0, the
+-- same store, and the same numbers in the data cells: tickets, shapes and replies too
 pub record Renumbers (i : Image) (text : List ℕ) : Type 0 where
   pub text_is : text ≡ image_text Two (renumbered_image i).row
   pub again : ReadsImage Two text (renumbered_image i)

@@ -10,17 +10,17 @@ use Rattle.of_report.specs.ImageLaw.{IsOwned, NoneNewer}
 use Rattle.of_image.specs.declared.law.Law.{Law}
 use Rattle.of_image.specs.declared.law.Law.TheVariants.{Owner, Newest, Store}
 
--- this data cell is newer than the current transaction, and none before it
+-- data cell `a` is newer than the current transaction, and no data cell before it is
 pub record IsFirstNewer (callers : ℕ) (words : List ℕ) (a : ℕ) : Type 0 where
   pub before : NoneNewer callers words a
   pub newer : current_seq (slice_index words) < seq_of (slice_index words (data_cell callers a))
 
--- no caller owns the current transaction, as cell 0 says
+-- cell 0 names an owner of the current transaction that is no caller, so cell 0 is at fault
 pub record IsUnowned (r : DurableRow) (cell : ℕ) : Type 0 where
   pub unowned : r.callers ≤ current_owner (slice_index r.words)
   pub is : cell ≡ 0
 
--- the first data cell that is newer than the current transaction
+-- this is the first data cell that is newer than the current transaction
 pub record HasNewerCell (instrs : ℕ) (r : DurableRow) (cell : ℕ) : Type 0 where
   pub owned : IsOwned r
   pub at : ℕ
@@ -36,13 +36,14 @@ pub record HasNoStore (instrs : ℕ) (r : DurableRow) (cell : ℕ) : Type 0 wher
   pub first : IsFirstFault r.callers instrs r.blocks (memory_of (data_numbers_in instrs r)) at
   pub is : cell ≡ data_cell r.callers at
 
--- the first cell at fault and the law that it breaks. The laws before it are kept
+-- this is the first cell at fault of the row, and it breaks this law; the laws above it in this
+-- list are kept
 abbrev pub Breaks : Law → (instrs : ℕ) → DurableRow → (cell : ℕ) → Type 0
 Breaks Owner instrs r cell = IsUnowned r cell
 Breaks Newest instrs r cell = HasNewerCell instrs r cell
 Breaks Store instrs r cell = HasNoStore instrs r cell
 
--- the first cell at fault
+-- this is the first cell at fault of the row
 pub record IsRowFault (instrs : ℕ) (r : DurableRow) (cell : ℕ) : Type 0 where
   pub law : Law
   pub breaks : Breaks law instrs r cell

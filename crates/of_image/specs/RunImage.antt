@@ -15,17 +15,18 @@ use Rattle.of_image.specs.declared.version.Version.TheVariants.{Two}
 use Rattle.of_image.specs.ImageText.{image_text, SpellsImage}
 use Rattle.of_image.specs.Parsed.{ReadsImage}
 
--- the durable words that a run leaves, recovered
+-- the row that recovery makes of the durable words that a run leaves
 abbrev pub row_left_by_run : Plan → Ended → DurableRow
 row_left_by_run p e = recovered_row MOST_INSTRS (durable_row p e)
 
--- in it a caller owns the current transaction, and no data cell is newer
+-- in the row that a run leaves a caller owns the current transaction, and no data cell is newer
+-- than it
 pub record HasOwnerAndNoneNewer (p : Plan) (e : Ended) : Type 0 where
   pub owned : IsOwned (row_left_by_run p e)
   pub none_newer : NoneNewer p.callers (row_left_by_run p e).words (plan_data_cells p)
 
--- where a run is left: the store and the sequence of its report, and each caller's ticket that
--- recovery finds
+-- the start that a run leaves: the store and the sequence of its report, and the ticket of each
+-- caller that recovery finds
 abbrev pub start_left : Plan → Ended → Report → Start
 start_left p e r = record {
   store = r.store;
@@ -34,8 +35,8 @@ start_left p e r = record {
       map (λ c. record_number p e (ticket_cell_at MOST_INSTRS c)) (range_with_len 0 p.callers);
 }
 
--- the text is that of the durable words that a run leaves, and its image has what the run's report
--- says: the sequence and the store. It starts where the run is left
+-- the text is that of the durable words that a run leaves; its image has the sequence and the store
+-- of the run's report, and is the start that the run leaves
 pub record IsImageOf (p : Plan) (e : Ended) (r : Report) (text : List ℕ) : Type 0 where
   pub text_is : text ≡ image_text Two (durable_row p e)
   pub image : Image
@@ -45,8 +46,8 @@ pub record IsImageOf (p : Plan) (e : Ended) (r : Report) (text : List ℕ) : Typ
   pub store : image.store ≡ r.store
   pub start : start_of_image image ≡ start_left p e r
 
--- from whatever start: the text of the durable words of a lawful record has an image, where
--- recovery leaves an owner and no newer cell
+-- from any start: if the durable words of a lawful record leave, after recovery, an owner and no
+-- newer cell, their text has an image
 abbrev pub RecordsHaveImages : Type 0
 RecordsHaveImages =
     (p : Plan) (s : Start) (e : Ended) (r : Report) → IsPlan p → IsLawfulRecord p s e r

@@ -12,11 +12,11 @@ use crate::printing::print_row;
 use crate::version::Version;
 use std::alloc::Global;
 
-/// The text that `image_print` gives for the row that a text spells, without skipped lines and with
+/// The text that `image_print` gives for the row that a text spells: it has no skipped lines, and
 /// one space between words. The row is not recovered.
 pub fn image_again(alloc: Global, text: &[u8]) -> Result<Vec<u8>, ImageErr>
     ensures ok { IfOk result (λ again. PrintsAgain text.now again.items) }
-    // A line that is named is the bad one of a text that is not in the grammar.
+    // If the error names a line, it is the bad one of a text that is not in the grammar.
     ensures err { IfErr result (IsNoImage Two text.now) }
 {
     let reading = read_row(alloc, Version::Two, text)?;

@@ -9,11 +9,11 @@ use std::fmt;
 pub enum ImageErr {
     /// Memory ran out.
     Memory,
-    /// The text isn't in the grammar, and this is its first line with which no image's text begins,
-    /// or its last where it only stops too early. Lines count from 1.
+    /// The text isn't in the grammar, and this is its bad line: the first with which no image's
+    /// text begins, or the last one if the text only stops too early. Lines count from 1.
     Bad { line: u64 },
-    /// The text is in the grammar, and this is the first cell, by its number, that is at fault in
-    /// what recovery finds in its row.
+    /// The text is in the grammar, but in what recovery finds in its row this cell is the first at
+    /// fault.
     Unlawful { cell: u32 },
 }
 

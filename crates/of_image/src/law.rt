@@ -2,8 +2,8 @@
 
 use std::fmt;
 
-/// A law of recovered rows that a cell breaks. What each of them says of its cell is defined in
-/// `specs/RowFault.antt`.
+/// A law of recovered rows that a cell breaks. `specs/RowFault.antt` defines what each law says of
+/// the cell.
 #[derive(Clone, Copy, Debug, PartialEq, Eq)]
 pub enum Law {
     /// A caller owns the current transaction.

@@ -4,7 +4,7 @@ ghost use Rattle.of_image.specs.Parsed.{HasOneFault, OneImage, UnlawfulHaveNone}
 ghost use Rattle.of_image.specs.RunImage.{RecordsHaveImages};
 
 /// The text of the durable words that a run leaves has an image, with the sequence and the store of
-/// the run's report. It starts there, and each caller with the ticket that recovery finds.
+/// the run's report. A start from this image has the tickets that recovery finds.
 pub fn records_have_images()
     ensures { RecordsHaveImages }
 {}
@@ -14,7 +14,7 @@ pub fn one_image()
     ensures { OneImage }
 {}
 
-/// A text with a first cell at fault has no image, and no other such cell.
+/// A text with a cell at fault has no image, and only one cell of it is the first at fault.
 pub fn unlawful_have_none()
     ensures none { UnlawfulHaveNone }
     ensures one { HasOneFault }

@@ -22,7 +22,7 @@ use of_plan::table_shape;
 use of_report::Image;
 use std::alloc::{AllocError, Global};
 
-/// The data cell of the same meaning in the layout of shorter scripts, where it has one.
+/// The data cell with the same meaning in the layout of shorter scripts, if there is one.
 fn source(old: &Plot, new: &Plot, at: u32) -> Option<u32>
     requires callers { old.now.callers ≡ new.now.callers }
     requires blocks { old.now.blocks ≡ new.now.blocks }
@@ -42,7 +42,7 @@ fn source(old: &Plot, new: &Plot, at: u32) -> Option<u32>
     }
 }
 
-/// The word of a cell in the layout of longer scripts.
+/// The word that a cell gets in the layout of longer scripts.
 fn moved_word(old: &Plot, new: &Plot, words: &[u64], cell: u32) -> u64
     requires callers { old.now.callers ≡ new.now.callers }
     requires blocks { old.now.blocks ≡ new.now.blocks }
@@ -90,13 +90,12 @@ fn moved_text(alloc: Global, image: &Image) -> Result<Vec<u8>, AllocError>
     print_row(alloc, Version::Two, &new, &words)
 }
 
-/// The version 2 text of a version 1 text: the recovered row in the layout of longer scripts, with
-/// the same sequence, store and tickets.
+/// The version 2 text of a version 1 text: the recovered row is moved to the layout of longer
+/// scripts, and keeps its sequence, store and tickets.
 pub fn migrate(alloc: Global, text: &[u8]) -> Result<Vec<u8>, ImageErr>
-    // What is answered is the text of the moved row, which has the same sequence and the same
-    // store.
+    // The result is the text of the moved row, which has the same sequence and the same store.
     ensures ok { IfOk result (λ moved. Migrates text.now moved.items) }
-    // A line or a cell that is named is that of the version 1 text.
+    // The line or the cell that an error names is one of the version 1 text.
     ensures err { IfErr result (ImageIsRefused One text.now) }
     // A text that has an image is answered by its moved row, unless memory runs out.
     ensures only { (image : PlainImage) → ReadsImage One text.now image →

@@ -20,7 +20,7 @@ use of_plan::{MOST_PLAN_BLOCKS, MOST_PLAN_CALLERS};
 use of_report::Image;
 use std::alloc::Global;
 
-/// Where the data cells of an image stand.
+/// Where the data cells of an image are.
 pub(crate) fn plot_of(version: Version, callers: u32, blocks: u32) -> Plot
     requires some_callers { 1 ≤ callers }
     requires few_callers { callers ≤ MOST_PLAN_CALLERS }
@@ -38,10 +38,10 @@ pub(crate) fn plot_of(version: Version, callers: u32, blocks: u32) -> Plot
 
 /// The image that a text of a version has, or what is wrong with it.
 pub fn read(alloc: Global, version: Version, text: &[u8]) -> Result<Image, Refusal>
-    // What is answered is what recovery finds in the row that the text spells, and it is lawful.
+    // The image is what recovery finds in the row that the text spells, and it is lawful.
     ensures ok { IfOk result (λ image. ReadsImage version text.now image) }
-    // The piece is of the bad line, and the reason is true of it; or the cell is the first at
-    // fault. Then the text has no image.
+    // The piece is in the bad line, and the reason is true of it; or the cell is the first at
+    // fault. In both cases the text has no image.
     ensures bad { IfErr result (HasImageFault version text.now) }
     // A text that has an image is answered by it, unless memory runs out.
     ensures only { (image : PlainImage) → ReadsImage version text.now image →
@@ -54,11 +54,11 @@ pub fn read(alloc: Global, version: Version, text: &[u8]) -> Result<Image, Refus
 
 /// The image that a text has: what recovery finds in its durable words.
 pub fn image_parse(alloc: Global, text: &[u8]) -> Result<Image, ImageErr>
-    // What is answered is what recovery finds in the row that the text spells, and it is lawful.
+    // The image is what recovery finds in the row that the text spells, and it is lawful.
     ensures ok { IfOk result (λ image. ReadsImage Two text.now image) }
     ensures image { IfOk result (λ image. IsImage MOST_INSTRS image) }
-    // A line that is named is the bad one of a text that is not in the grammar; a cell that is
-    // named is the first at fault.
+    // If the error names a line, it is the bad one of a text that is not in the grammar; if it
+    // names a cell, this is the first at fault.
     ensures err { IfErr result (ImageIsRefused Two text.now) }
     // A text that has an image is answered by it, unless memory runs out.
     ensures only { (image : PlainImage) → ReadsImage Two text.now image →

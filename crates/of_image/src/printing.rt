@@ -89,14 +89,15 @@ pub(crate) fn print_row(
     Ok(out.into_bytes())
 }
 
-/// The text of the durable words of a table. The error is want of memory.
+/// The text of the durable words of a table; `words` are all its words. An error means out of
+/// memory.
 pub fn image_print(alloc: Global, plot: &Plot, words: &[u64]) -> Result<Vec<u8>, AllocError>
     requires instrs { plot.now.instrs ≡ MOST_INSTRS }
     requires size { length words.now
         ≡ table_words plot.now.callers MOST_INSTRS (data_cell_count plot.now) }
     ensures text { IfOk result (λ text.
         text.items ≡ image_text Two (table_row plot.now words.now)) }
-    // If a plan may have as many callers and blocks, it is read again as that row.
+    // If a plan may have as many callers and blocks, the text spells the row of these words.
     ensures again { plot.now.callers ≤ MOST_PLAN_CALLERS → plot.now.blocks ≤ MOST_PLAN_BLOCKS →
         IfOk result (λ text. SpellsImage Two text.items (table_row plot.now words.now)) }
 {
@@ -125,8 +126,8 @@ fn put_tickets(out: &mut String, image: &Image) -> Result<(), AllocError>
     Ok(())
 }
 
-/// The text of what recovery found: the sequence, the tickets that are not 0, and the store. The
-/// error is want of memory.
+/// The text of what recovery found: the sequence, the tickets that are not 0, and the store. An
+/// error means out of memory.
 pub fn recovered_print(alloc: Global, image: &Image) -> Result<Vec<u8>, AllocError>
     requires { IsImage MOST_INSTRS image.now }
     ensures { IfOk result (λ text. text.items ≡ recovered_text image.now) }

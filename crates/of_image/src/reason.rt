@@ -3,35 +3,35 @@
 use of_plan::Flaw;
 use std::fmt;
 
-/// Why a line is the bad line of an image's text. What each of them says of its line is defined in
-/// `specs/Reasons.antt`.
+/// Why a line is the bad line of an image's text. `specs/Reasons.antt` defines what each reason
+/// says of it.
 #[derive(Clone, Copy, Debug, PartialEq, Eq)]
 pub enum Reason {
     /// A piece of the line is wrong by itself.
     Flawed { flaw: Flaw },
     /// The title of this version should come here.
     TitleExpected { version: u32 },
-    /// The title is that of another version than is read.
+    /// The title is that of version `found`, but version `read` is read.
     OtherVersion { found: u32, read: u32 },
     /// The number of callers should come here.
     CallersExpected,
     /// The number of blocks should come here.
     BlocksExpected,
-    /// The image has ended before.
+    /// This line comes after the end of the image.
     AfterEnd,
-    /// No line begins with this word.
+    /// No line of an image begins with this word.
     UnknownLine,
-    /// The image has fewer cells.
+    /// The image has no cell of this number.
     NoCell { cell: u32, cells: u32 },
-    /// A line above has this cell or one after it.
+    /// A line above has this cell or a later one.
     CellPassed { cell: u32 },
-    /// That line above has this cell or one after it.
+    /// Line `line`, which is above this one, has this cell or a later one.
     OutOfOrder { line: u64 },
     /// The cell's sequence and payload are both 0.
     EmptyCell,
-    /// A line of the heading, after the heading.
+    /// A line of the heading comes after the heading.
     HeadingOver,
-    /// The text is at its end, and no line of it is `end`.
+    /// The text is over, and no line of it is `end`.
     EndMissing,
 }
 

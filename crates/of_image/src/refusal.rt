@@ -22,8 +22,8 @@ use of_plan::pieces::hidden;
 use of_plan::point_out;
 use std::alloc::{AllocError, Global};
 
-/// What is wrong with a text that is not in the grammar: its bad line, counted from 1, the piece of
-/// it at fault, from the byte `start` to before `end`, and the reason.
+/// Where a text is no image, and why: the bad line, counted from 1; the piece of it at fault, from
+/// the byte `start` to before `end`; and the reason.
 #[derive(Clone, Copy, Debug, PartialEq, Eq)]
 pub struct BadPiece {
     pub line: u64,
@@ -35,10 +35,10 @@ pub struct BadPiece {
 /// What is wrong with a text that has no image.
 #[derive(Clone, Copy, Debug, PartialEq, Eq)]
 pub enum ImageFault {
-    /// The text isn't in the grammar.
+    /// The text isn't in the grammar, and this piece of it is at fault.
     Line { piece: BadPiece },
-    /// The text is in the grammar, and this is the first cell at fault of what recovery finds in
-    /// its row, and the law that it breaks.
+    /// The text is in the grammar, but in what recovery finds in its row this cell is the first at
+    /// fault, and it breaks this law.
     Cell { cell: u32, law: Law },
 }
 
@@ -47,7 +47,7 @@ pub enum ImageFault {
 pub enum Refusal {
     /// Memory ran out.
     Memory,
-    /// The text has no image, and this is at fault.
+    /// The text has no image, for this fault.
     Fault { fault: ImageFault },
 }
 
@@ -62,9 +62,9 @@ impl From<AllocError> for Refusal {
     }
 }
 
-/// What is wrong with a text; nothing exactly where it has an image, so where `image_parse` or
-/// `migrate`, for its version, refuses it. The line or the cell is the one that they name. The
-/// error is want of memory.
+/// The fault of a text that has no image; None if the text has one, so that it is read: in version
+/// 2 by `image_parse`, in version 1 by `migrate`. The line or the cell is the one that these name.
+/// An error means out of memory.
 pub fn fault(alloc: Global, version: Version, text: &[u8]) -> Result<Option<ImageFault>, AllocError>
     ensures { IfOk result (λ found.
         MatchOption found (HasImage version text.now) (IsImageFaultOf version text.now)) }
@@ -160,7 +160,7 @@ impl ImageFault {
     ghost use Rattle.of_image.specs.Faults.{IsImageFaultOf};
     ghost use Rattle.of_image.specs.Messages.{fault_message};
 
-    /// What is printed of the fault of a text. The error is want of memory.
+    /// What is printed of the fault of a text. An error means out of memory.
     pub fn print(&self, alloc: Global, text: &[u8]) -> Result<Vec<u8>, AllocError>
         requires { (v : TheVersion) × IsImageFaultOf v text.now self.now }
         ensures { IfOk result (λ out. out.items ≡ fault_message text.now self.now) }

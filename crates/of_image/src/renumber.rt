@@ -16,7 +16,7 @@ use of_recover::renumber;
 use of_report::Image;
 use std::alloc::{AllocError, Global};
 
-/// The words of a recovered row whose sequences begin anew.
+/// The words of a recovered row after its sequences have begun anew.
 fn renumbered(alloc: Global, shape: &Shape, durable: &[u64]) -> Result<Vec<u64>, AllocError>
     requires row { IsDurableRow shape.now.callers shape.now.cells durable.now }
     requires closed { is_open shape.now.callers (slice_index durable.now) ≡ false }
@@ -28,8 +28,8 @@ fn renumbered(alloc: Global, shape: &Shape, durable: &[u64]) -> Result<Vec<u64>,
     Ok(words)
 }
 
-/// The text of an image whose sequences begin anew, with the same store, tickets, shapes and
-/// replies. The error is want of memory.
+/// The text of an image after its sequences have begun anew: the store, the tickets, the shapes and
+/// the replies stay the same. An error means out of memory.
 #[tactic(auto, using(of_cell::proofs::Rooms::cells_small))]
 pub fn renumbered_print(alloc: Global, image: &Image) -> Result<Vec<u8>, AllocError>
     requires { IsImage MOST_INSTRS image.now }

@@ -25,7 +25,7 @@ use of_report::Image;
 use of_store::Store;
 use std::alloc::{AllocError, Global};
 
-/// The first data cell that is newer than the current transaction.
+/// The first data cell that is newer than the current transaction, if there is one.
 fn first_newer(shape: &Shape, words: &[u64]) -> Option<u32>
     requires { IsDurableRow shape.now.callers shape.now.cells words.now }
     ensures { MatchOption result

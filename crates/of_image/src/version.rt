@@ -8,12 +8,13 @@ use of_script::MOST_INSTRS;
 /// The most instructions of a script in a version 1 image.
 const EARLIER_INSTRS: u32 = 8;
 
-/// A version of the text of images: it says for how long scripts the callers' own cells have room.
+/// A version of the text of images. It says how many instructions scripts have at most, and so how
+/// large a caller's own cells are.
 #[derive(Clone, Copy, Debug, PartialEq, Eq)]
 pub enum Version {
-    /// Scripts of eight instructions.
+    /// Scripts have at most eight instructions.
     One,
-    /// Scripts of `MOST_INSTRS` instructions.
+    /// Scripts have at most `MOST_INSTRS` instructions.
     Two,
 }
 
@@ -21,7 +22,7 @@ impl Version {
     ghost use Rattle.std.specs.Prelude.{◌≡◌, ◌≤◌};
     ghost use Rattle.of_image.specs.Version.{version_number, instrs_of};
 
-    /// The number in the title.
+    /// The number of the version in the title of a text.
     pub fn number(self) -> u32
         ensures { result ≡ version_number self }
     {
@@ -31,7 +32,7 @@ impl Version {
         }
     }
 
-    /// The most instructions of a script.
+    /// How many instructions a script has at most.
     pub fn instrs(self) -> u32
         ensures value { result ≡ instrs_of self }
         ensures some { 1 ≤ result }

@@ -12,23 +12,24 @@ use Rattle.of_caller.specs.Teams.{IsHandedBack}
 use Rattle.of_lives.specs.Lives.{start_behind}
 use Rattle.of_lives.specs.Restarts.{start_from_row}
 
--- A team has run the plan over a table that starts so, and has handed back this run and a pass with
--- this view; the report is that of its lawful record.
+-- a team has run the plan over a table that starts at `B`, and has handed back the run `e` and a
+-- pass with the view `w`; `r` is the report of its lawful record
 pub record IsReportOfTeam (p : Plan) (s : Start) (B : TableStart) (e : Ended) (w : View)
     (r : Report)
     : Type 0 where
   pub handed : IsHandedBack p s B e w
   pub report : handed.report ≡ r
 
--- this holds over the table that starts from an image's row
+-- a life that goes on from the image leaves the run `e`, the view `w` and the report `r`: a team
+-- has run the plan over a table that starts from the image's row
 abbrev pub IsLifeOf : Image → Plan → Ended → View → Report → Type 0
 IsLifeOf i p e w r = IsReportOfTeam p (start_of_image i) (start_from_row p i.row.words) e w r
 
--- recovery finds this image in the durable words that a life with this report, from this start, has
--- left: it is where the life ends, so the next one goes on from there
+-- Recovery finds the image `next` in the durable words that a life with this report has left. The
+-- next life starts from this image, where the life ends.
 pub record LeavesImage (p : Plan) (s : Start) (e : Ended) (r : Report) (next : Image) : Type 0 where
   pub restored : IsRestored MOST_INSTRS (durable_row p e) next
   pub start : start_of_image next ≡ start_behind s (record { plan = p; report = r })
-  -- each caller's own cells hold its last announced call, with the reply that is in the report
+  -- each caller's own cells hold its last announced call, with the reply that the report has
   pub last_calls : (c : ℕ) → c < p.callers
       → HoldsLastAnnounced (image_number next) c (finished_of s c) (entries_of r c)

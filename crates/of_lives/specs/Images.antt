@@ -9,13 +9,13 @@ use Rattle.of_report.specs.Image.{Image, image_number, start_of_image}
 use Rattle.of_caller.specs.PlanRows.{HasScripts}
 
 -- the plan can go on from the image: it has as many callers and blocks, its limit isn't below the
--- image's sequence, and each caller has the scripts that are done
+-- image's sequence, and each caller has at least as many scripts as the image counts as done
 pub record PlanFitsImage (i : Image) (p : Plan) : Type 0 where
   pub callers : p.callers ≡ i.row.callers
   pub blocks : p.blocks ≡ i.row.blocks
   pub limit : i.seq ≤ p.limit
   pub scripts : HasScripts p (start_of_image i)
 
--- a caller's own cells hold this reply
+-- the caller's own cells in the image hold this reply
 abbrev pub CallerHoldsReply : Image → (caller : ℕ) → Reply → Type 0
 CallerHoldsReply i c r = IsHeldBy (reply_in MOST_INSTRS (image_number i) c) r

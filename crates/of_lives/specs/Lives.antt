@@ -1,4 +1,4 @@
--- Lives: runs of plans one after the other, each from where the one before has left.
+-- Lives: runs of plans one after the other, each from the start that the one before has left.
 use Rattle.std.specs.Prelude.{ℕ, ◌+◌, max, List, [], ◌∷◌, length, map, if◌then◌else◌}
 use Rattle.std.specs.List.{range_with_len}
 use Rattle.of_plan.specs.Plan.{Plan}
@@ -10,13 +10,13 @@ pub record Life : Type 0 where
   pub plan : Plan
   pub report : Report
 
--- how many scripts of a caller are done after these entries of it, if n were done before: those up
--- to its last announced one. A read that wasn't announced leaves no ticket
+-- how many scripts of a caller are done after these entries of the caller, if `n` were done before:
+-- all up to its last announced entry, and still `n` if none was announced
 abbrev pub done_behind : (n : ℕ) → List Entry → ℕ
 done_behind n [] = n
 done_behind n (e ∷ es) = done_behind (if e.announced then e.index + 1 else n) es
 
--- as many callers as the start or the plan has: the greater number
+-- the number of callers of the start or that of the life's plan, whichever is greater
 abbrev pub callers_with : Start → Life → ℕ
 callers_with s l = max (length s.finished) l.plan.callers
 
@@ -26,8 +26,8 @@ finished_behind s l =
     map (λ c. done_behind (finished_of s c) (entries_of l.report c))
     (range_with_len 0 (callers_with s l))
 
--- the start that a life leaves: its last store, its sequence, and each caller after its last
--- announced call
+-- the start that a life leaves: the life's last store and sequence, and for each caller how many
+-- scripts are done, up to its last announced call
 abbrev pub start_behind : Start → Life → Start
 start_behind s l = record {
   store = l.report.store;
@@ -35,12 +35,13 @@ start_behind s l = record {
   finished = finished_behind s l;
 }
 
--- where they leave all together
+-- the start that the last of these lives leaves, if each goes on from the start that the one before
+-- leaves, the first from `s`
 abbrev pub start_behind_all : Start → List Life → Start
 start_behind_all s [] = s
 start_behind_all s (l ∷ ls) = start_behind_all (start_behind s l) ls
 
--- this holds of each life and of where the one before it has left
+-- `P` holds of each life and of the start that the lives before it leave
 abbrev pub EachLife : (Start → Life → Type 0) → Start → List Life → Type 0
 EachLife P s [] = Unit {0}
 EachLife P s (l ∷ ls) = P s l × EachLife P (start_behind s l) ls
@@ -49,28 +50,29 @@ EachLife P s (l ∷ ls) = P s l × EachLife P (start_behind s l) ls
 abbrev pub IsLifeFrom : Start → Life → Type 0
 IsLifeFrom s l = IsLegal l.plan s l.report
 
--- each life has a legal report from where the one before has left
+-- each life has a report that is legal from the start that the life before it leaves; the first
+-- life's is legal from `s`
 abbrev pub AreLives : Start → List Life → Type 0
 AreLives s ls = EachLife IsLifeFrom s ls
 
--- the same start, with sequences that begin anew
+-- the start `s` with sequence 0 instead of its own
 abbrev pub renumbered_start : Start → Start
 renumbered_start s = record s { seq = 0 }
 
--- A span is a list of lives whose sequences go on. After each span they begin anew, at the start
--- that all its lives leave
+-- The start that these spans leave. A span is a list of lives whose sequences go on from life to
+-- life. After each span the sequences begin anew.
 abbrev pub start_behind_spans : Start → List (List Life) → Start
 start_behind_spans s [] = s
 start_behind_spans s (ls ∷ spans) =
     start_behind_spans (renumbered_start (start_behind_all s ls)) spans
 
--- this holds of each span and of where it begins
+-- `P` holds of each span and of the start from which it begins
 abbrev pub EachSpan : (Start → List Life → Type 0) → Start → List (List Life) → Type 0
 EachSpan P s [] = Unit {0}
 EachSpan P s (ls ∷ spans) =
     P s ls × EachSpan P (renumbered_start (start_behind_all s ls)) spans
 
--- the lives of each span have legal reports, each from where the one before has left, with other
--- sequences if that was in the span before
+-- each life has a legal report from the start that the life before it leaves; between two spans
+-- this start gets sequence 0
 abbrev pub AreSpans : Start → List (List Life) → Type 0
 AreSpans s spans = EachSpan AreLives s spans

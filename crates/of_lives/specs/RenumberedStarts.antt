@@ -1,19 +1,21 @@
--- An image whose sequences begin anew starts where the first one does, at sequence 0.
+-- Renumbered images: a life from such an image starts where a life from the first image does, but
+-- at sequence 0.
 use Rattle.std.specs.Prelude.{◌≡◌}
 use Rattle.of_script.specs.declared.instr.TheConstants.{MOST_INSTRS}
 use Rattle.of_report.specs.ImageRow.{data_numbers_in}
 use Rattle.of_report.specs.Image.{Image, IsImage, start_of_image}
 use Rattle.of_lives.specs.Lives.{renumbered_start}
 
--- the second image has the callers, the store and the numbers of the data cells of the first, and
--- sequence 0: so it is of what `renumber` prints
+-- The second image has the callers, the store and the numbers of the data cells of the first, and
+-- sequence 0. The text that `renumber` prints has such an image.
 pub record IsRenumberedImage (i j : Image) : Type 0 where
   pub callers : j.row.callers ≡ i.row.callers
   pub store : j.store ≡ i.store
   pub numbers : data_numbers_in MOST_INSTRS j.row ≡ data_numbers_in MOST_INSTRS i.row
   pub seq : j.seq ≡ 0
 
--- a life from it starts at the store and the tickets of the first
+-- a life from a renumbered image starts at sequence 0, with the store and the tickets of the first
+-- image
 abbrev pub RenumberedImagesStart : Type 0
 RenumberedImagesStart =
     (i j : Image) → IsImage MOST_INSTRS i → IsImage MOST_INSTRS j → IsRenumberedImage i j

@@ -1,5 +1,5 @@
--- A life leaves where the next one begins: what recovery makes of the durable words of its run is a
--- row from which a table may start, at the start after the life.
+-- A life leaves a start for the next one: recovery makes of the durable words of its run a row from
+-- which a table may start, at the start after the life.
 use Rattle.std.specs.Prelude.{List, ℕ, ◌<◌}
 use Rattle.of_recover.specs.Recovered.{recovered_words}
 use Rattle.of_eval.specs.Record.{plan_data_cells, IsLawfulRecord}
@@ -14,22 +14,23 @@ use Rattle.of_caller.specs.Restarts.{HoldsLastAnnounced}
 use Rattle.of_caller.specs.Runs.{IsRunOfPlan}
 use Rattle.of_lives.specs.Lives.{start_behind}
 
--- the start that a durable row is, of a plan's table
+-- the start of a plan's table from this durable row
 abbrev pub start_from_row : Plan → List ℕ → TableStart
 start_from_row p row = start_from_durable p.callers (plan_data_cells p) row
 
--- a life with this report, from this start, has left this durable row
+-- a life with this report, from the start `s`, has left this durable row
 pub record LeavesRow (p : Plan) (s : Start) (r : Report) (found : List ℕ) : Type 0 where
-  -- a table may start from it, at the start after the life
+  -- a table may start from the row, at the start that the life leaves
   pub row : IsStartRow (plan_setup p) (IsLawfulFor p) found
   pub start : StartsAtPlan p (start_behind s (record { plan = p; report = r }))
       (start_from_row p found)
-  -- and each caller's own cells hold its last announced call, with the reply that is in the report
+  -- each caller's own cells hold its last announced call, with the reply that the report has
   pub last_calls : (c : ℕ) → c < p.callers
       → HoldsLastAnnounced (start_number (start_from_row p found)) c (finished_of s c)
       (entries_of r c)
 
--- this holds of what recovery makes of the durable words of each run of a plan from a start
+-- any run of a plan whose record is lawful leaves, after recovery, a row from which the next life
+-- may start
 abbrev pub LivesRestart : Type 0
 LivesRestart =
     (p : Plan) (s : Start) (B : TableStart) (w : Moment) (e : Ended) → IsRunOfPlan p s B w e

@@ -1,4 +1,5 @@
--- Two worked lives, and four that can't be the second, each a number or an entry away from it.
+-- Two worked lives, and four lives that can't be the second one, each different from it in a number
+-- or an entry.
 use Rattle.std.specs.Prelude.{ℕ, true, false, Option, Some, List, [], ◌∷◌, map}
 use Rattle.of_script.specs.declared.instr.Instr.TheVariants.{Load, Store, Add}
 use Rattle.of_store.specs.Store.{Reply, Answered, empty_store, with_register}
@@ -12,11 +13,12 @@ use Rattle.of_lives.specs.OneHistory.{own_in}
 abbrev pub worked_start : Start
 worked_start = empty_start two_callers
 
--- the first caller stores, and then reads a 6 that isn't announced; the second reads, and then adds
+-- the first life: one caller stores, and then reads a 6 without announcing it; the other reads, and
+-- then adds
 abbrev pub first_life : Life
 first_life = record { plan = two_callers; report = legal_report }
 
--- the same scripts, and one more of the second caller that adds again
+-- the plan of the first life, with one more script of the second caller, which adds again
 abbrev pub one_more_script : Plan
 one_more_script = record two_callers {
   scripts =
@@ -33,7 +35,8 @@ done_with calls longest = record {
   longest = longest;
 }
 
--- the second caller adds, by its script x at sequence k, and answers v; and then there are reads
+-- a life in which the second caller adds, by its script `x` at sequence `k`, and answers `v`; then
+-- come these reads
 abbrev pub adds : (x k v : ℕ) → List Entry → Line → Life
 adds x k v reads line = record {
   plan = one_more_script;
@@ -45,54 +48,56 @@ adds x k v reads line = record {
   };
 }
 
--- and then the first caller asks for its read again, and is answered the same
+-- a life in which the second caller adds, by its script `x` at sequence `k`, and the first caller
+-- then reads again; both are answered `v`
 abbrev pub adds_and_reads : (x k v : ℕ) → Life
 adds_and_reads x k v = adds x k v (worked_entry k 0 1 false (Some v) ∷ []) (done_with 1 60)
 
--- the second life goes on after the announced calls: with the third script of the second caller
+-- the second life goes on after the announced calls of the first: with the third script of the
+-- second caller
 abbrev pub second_life : Life
 second_life = adds_and_reads 2 2 7
 
--- one life, and then the other
+-- the first life and then the second
 abbrev pub both_lives : List Life
 both_lives = first_life ∷ second_life ∷ []
 
--- which scripts of a caller are entries of both, in their order
+-- the indices of a caller's entries in both lives, in order
 abbrev pub asked_by : (caller : ℕ) → List ℕ
 asked_by c = map (λ e. e.index) (own_in both_lives c)
 
--- and their replies
+-- the replies of a caller's entries in both lives, in order
 abbrev pub replies_to : (caller : ℕ) → List Reply
 replies_to c = map (λ e. e.reply) (own_in both_lives c)
 
--- how many scripts of each caller are done after both
+-- how many scripts of each caller are done after both lives
 abbrev pub done_in_both : List ℕ
 done_in_both = (start_behind_all worked_start both_lives).finished
 
--- the answer of a script of one instruction
+-- the reply to a script of one instruction, which answers a number or none
 abbrev pub one_number_reply : Option ℕ → Reply
 one_number_reply v = Answered (v ∷ [])
 
--- a call that was announced is run again
+-- no second life: a call that was announced is run again
 abbrev pub runs_again : Life
 runs_again = adds_and_reads 1 2 7
 
--- a life that begins at sequence 0 again
+-- no second life: it begins at sequence 0 again
 abbrev pub begins_anew : Life
 begins_anew = adds_and_reads 2 1 7
 
--- a life that begins with an empty store
+-- no second life: it begins with an empty store
 abbrev pub forgets_store : Life
 forgets_store = adds_and_reads 2 2 1
 
--- the read is taken for done, and isn't asked for again
+-- no second life: the read of the first life isn't made again, as if it counted as done
 abbrev pub skips_read : Life
 skips_read = adds 2 2 7 [] (done_with 0 0)
 
--- it goes on from where the first life has left
+-- the life may come after the first one
 abbrev pub FollowsFirst : Life → Type 0
 FollowsFirst l = AreLives worked_start (first_life ∷ l ∷ [])
 
--- and with sequences that were begun anew in between
+-- the life may come after the first one, if sequences begin anew between them
 abbrev pub FollowsRenumbered : Life → Type 0
 FollowsRenumbered l = AreSpans worked_start ((first_life ∷ []) ∷ (l ∷ []) ∷ [])

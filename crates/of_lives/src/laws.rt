@@ -9,39 +9,39 @@ ghost use Rattle.of_lives.specs.Worked.{FollowsFirst, FollowsRenumbered, second_
 use of_caller::laws::runs_restart;
 use of_plan::laws::worked_reports;
 
-/// The entries of any number of lives are one history together, if each life has a report that
-/// is legal from where the one before has left: serial replay of them all gives all replies and the
-/// last store, each announced call stands once, in its caller's order, and a read that was not
-/// announced leaves no ticket, so a later life may ask for it again.
+/// The entries of any number of lives are one history, if each life has a report that is legal from
+/// the start that the life before it has left. Serial replay of all entries gives all replies and
+/// the last store. Each announced call is there once, in its caller's order. A read that was not
+/// announced leaves no ticket, so a later life may make it again.
 pub fn any_lives()
     ensures { LivesAreOneHistory }
 {}
 
-/// Lives are one history also if sequences begin anew between them, as `renumber` does it: replay
-/// gives all replies and the last store, no announced call is run again, and each that is done is
-/// there. Sequences order the entries of the lives between two renumberings.
+/// Lives are one history also if `renumber` lets sequences begin anew between them: replay gives
+/// all replies and the last store, no announced call is run again, and each call that is done is an
+/// entry. Sequences order only the entries between two renumberings.
 pub fn renumbered_lives()
     ensures { SpansAreOneHistory }
 {}
 
-/// A life from an image whose sequences begin anew starts at the store and the tickets of the image
-/// that was renumbered, at sequence 0.
+/// A life from a renumbered image starts at sequence 0, with the store and the tickets of the image
+/// that was renumbered.
 pub fn renumbered_images_start()
     ensures { RenumberedImagesStart }
 {}
 
-/// A life leaves where the next one begins: from what recovery makes of the durable words of its
-/// run a table may start. It starts after the life, at its sequence and its store, with each caller
-/// after its last announced call.
+/// Recovery makes of the durable words of a life a row from which a table may start: at the life's
+/// last sequence and store, with each caller after its last announced call. So the next life begins
+/// where this one ends.
 pub fn lives_restart()
     ensures { LivesRestart }
 {
     runs_restart();
 }
 
-/// A worked second life asks again for a read of the first, finds what was added in between, and
-/// runs no announced call again. Four that are a number or an entry away from it are refused. The
-/// one that begins at sequence 0 is legal if the first was renumbered, and then no other one is.
+/// A worked second life makes a read of the first life again, finds what was added in between, and
+/// runs no announced call again. Four lives that differ from the second life in a number or an
+/// entry are refused. After a renumbering, only the one that begins at sequence 0 is legal.
 pub fn worked_lives()
     ensures follows { FollowsFirst second_life }
     ensures asked_again { asked_by 0 ≡ 0 ∷ 1 ∷ 1 ∷ [] }

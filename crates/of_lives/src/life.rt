@@ -21,24 +21,24 @@ use of_row::{Pass, Row};
 use std::alloc::{AllocError, Global};
 use std::thread::Threads;
 
-/// What a life leaves.
+/// What a life that went on from an image leaves.
 #[derive(Drop)]
 pub struct Life {
-    /// Its history, from where the image left.
+    /// The report of the run, which started from the image.
     pub report: Report,
-    /// What its callers were answered and how each ended, and the words of their table.
+    /// What the callers were answered, how each ended, and the words of their table.
     pub ended: Ended,
-    /// The row's pass, which has seen all of it.
+    /// The pass of the row, which has seen the whole run.
     pub pass: Pass,
 }
 
-/// Goes on from an image: runs all callers of the plan at once, each from its first script after
-/// its ticket on, over a table that starts from the image's row. No script that was announced
-/// before is run again. The brake of a caller is the one at its place; it is armed with the plan's
-/// stop.
+/// Goes on from an image: runs all callers of the plan at once, over a table that starts from the
+/// image's row. Each caller begins with the first script after its ticket, so no script that was
+/// announced before is run again. `brakes` has a brake for each caller; it is armed with the stop
+/// that the plan has for the caller.
 ///
-/// Recovery finds in the durable words that the life leaves an image from which the next one can go
-/// on. The error is that there is no memory.
+/// The life leaves durable words in which recovery finds an image, and the next life can go on from
+/// this image. An error means out of memory.
 pub fn continue_from<R: Threads + Sync>(
     rt: &R,
     alloc: Global,
@@ -62,7 +62,7 @@ pub fn continue_from<R: Threads + Sync>(
     // Each caller whose brake tells its steps left keeps its allowance.
     ensures allowances { IfOk result (λ l.
         KeepAllowances (λ b. left b) plan.now (report_value l.report) 0 brakes.items) }
-    // The next life can be given the image of the durable words, which is where this report ends.
+    // The next life can go on from the image of the durable words, which is where this report ends.
     ensures leaves { let start = start_of_image image.now in
         IfOk result (λ l. (next : PlainImage) × LeavesImage plan.now start
         l.ended (report_value l.report) next) }

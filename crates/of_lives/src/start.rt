@@ -1,5 +1,5 @@
-//! The start that an image is: which plans can go on from it, and what the last calls of its
-//! callers were answered.
+//! Images as starts: which plans can go on from an image, and what the last calls of its callers
+//! were answered.
 
 ghost use Rattle.std.specs.Prelude.{◌≡◌, ◌<◌, ◌≤◌, ◌↔◌, ℕ, length, IsTrue, IsNone, IfSome};
 ghost use Rattle.of_mem.specs.declared.work.TheConstants.{MOST_INSTRS};
@@ -29,7 +29,7 @@ fn has_scripts(image: &Image, plan: &Plan) -> bool
 }
 
 /// Whether a plan can go on from an image: it has as many callers and blocks, its limit is no lower
-/// than the image's sequence, and each caller has at least as many scripts as its ticket says.
+/// than the image's sequence, and no caller has fewer scripts than its ticket says.
 pub fn fits(image: &Image, plan: &Plan) -> bool
     requires { IsImage MOST_INSTRS image.now }
     ensures { IsTrue result ↔ PlanFitsImage image.now plan.now }
@@ -40,16 +40,16 @@ pub fn fits(image: &Image, plan: &Plan) -> bool
         && has_scripts(image, plan)
 }
 
-/// The ticket of a caller's last announced call and the reply to it, also if the caller was
-/// stopped before it was answered: no later life runs it again. None if no call of the caller
-/// was announced.
+/// The ticket of a caller's last announced call, and the reply to this call; None if no call of the
+/// caller was announced. The caller may have been stopped before it got the reply. No later life
+/// runs the call again.
 pub fn last_reply(image: &Image, caller: u32) -> Option<(u32, Reply)>
     requires image { IsImage MOST_INSTRS image.now }
     requires caller { caller < image.now.row.callers }
     ensures none { IsNone result ↔ (image_ticket image.now caller ≡ 0) }
     ensures ticket { IfSome result (λ r. r.0 ≡ image_ticket image.now caller) }
     ensures reply { IfSome result (λ r. CallerHoldsReply image.now caller r.1) }
-    // No other reply is held.
+    // The caller's own cells hold no other reply.
     ensures only { (r : TheReply) → CallerHoldsReply image.now caller r
         → IfSome result (λ given. given.1 ≡ r) }
 {

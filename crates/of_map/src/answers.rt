@@ -18,13 +18,13 @@ pub(crate) enum Look {
     Past(u32),
 }
 
-/// What a put answers.
+/// The answer of a put.
 #[derive(Clone, Copy, Debug, PartialEq, Eq)]
 pub enum Put {
-    /// The key was absent, and no block is free: nothing was written.
+    /// The key was absent and no block is free, so nothing was written.
     Full,
-    /// The key was absent.
+    /// The key was absent, and it has the new value now.
     New,
-    /// The key had this value.
+    /// The key had this value before, and it has the new value now.
     Over(u32),
 }

@@ -1,4 +1,5 @@
-//! The map over cells: buckets of blocks.
+//! The map from keys to values over cells: each bucket is a chain of blocks, and a block holds a
+//! key and its value.
 #![tactic(auto)]
 
 ghost use Rattle.std.specs.Prelude.{◌≡◌, ◌≢◌, ◌%◌, ◌<◌, ◌≤◌, ℕ, Some, length, IfOk, MatchResult};
@@ -70,8 +71,8 @@ fn look(plot: &Plot, part: &Part, key: u32, cell: u32) -> Result<Look, Need>
     Ok(Look::Past(plot.block(block, 2)))
 }
 
-/// Walks towards a key as far as cells are known. The error names a cell that is read and isn't
-/// known.
+/// Walks towards a key as far as cells are known, and changes nothing that contracts see. An error
+/// names a cell that must be read and is not known.
 pub fn reach(plot: &Plot, part: &mut Part, key: u32) -> Result<(), Need>
     requires { HasStore plot.now part.old }
     ensures part { part.new ≡ part.old }
@@ -82,8 +83,8 @@ pub fn reach(plot: &Plot, part: &mut Part, key: u32) -> Result<(), Need>
     Ok(())
 }
 
-/// The value at a key, None if the key is absent. The error names a cell that is read and isn't
-/// known.
+/// The value at a key. None if the key is absent. An error names a cell that must be read and is
+/// not known.
 #[tactic(auto, using(of_mem::proofs::Runs::run_then_needs))]
 pub fn get(plot: &Plot, part: &mut Part, key: u32) -> Result<Option<u32>, Need>
     requires { HasStore plot.now part.old }
@@ -107,9 +108,9 @@ fn read_value(plot: &Plot, part: &Part, block: u32) -> Result<Option<u32>, Need>
     Ok(Some(value))
 }
 
-/// Puts a value at a key, and answers what was there before. `Full` comes exactly if the key is
-/// absent and no block is free, and then nothing is written. The error names a cell that is read
-/// and isn't known.
+/// Puts a value at a key. The answer says which value was there before, if any. It is `Full`
+/// exactly if the key is absent and no block is free, and then nothing is written. An error names a
+/// cell that must be read and is not known.
 #[tactic(auto, using(of_mem::proofs::Runs::run_then_needs))]
 pub fn put(plot: &Plot, part: &mut Part, key: u32, value: u32) -> Result<Put, Need>
     requires stands { HasStore plot.now part.old }
@@ -166,8 +167,8 @@ fn fill(plot: &Plot, part: &mut Part, key: u32, value: u32, block: u32) -> Resul
     Ok(Put::New)
 }
 
-/// Deletes a key, and answers its value, None if the key was absent. The error names a cell that
-/// is read and isn't known.
+/// Deletes a key, and answers the value that it had. None if the key was absent. An error names a
+/// cell that must be read and is not known.
 #[tactic(auto, using(of_mem::proofs::Runs::run_then_needs))]
 pub fn del(plot: &Plot, part: &mut Part, key: u32) -> Result<Option<u32>, Need>
     requires { HasStore plot.now part.old }
@@ -213,7 +214,7 @@ fn count_down(plot: &Plot, part: &mut Part, value: u32) -> Result<Option<u32>, N
     Ok(Some(value))
 }
 
-/// The number of keys. The error names the cell that counts them if it isn't known.
+/// The number of keys. An error names the cell that counts them, if it is not known.
 pub fn count(plot: &Plot, part: &Part) -> Result<u32, Need>
     requires { HasStore plot.now part.now }
     ensures runs { RunsProgram (count plot.now) part.now part.now result }

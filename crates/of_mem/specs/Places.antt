@@ -1,8 +1,10 @@
--- The place of each data cell. o is the first cell after those of the callers.
+-- The address of each data cell, by what the cell is for. `o` is the address of the first cell
+-- after the callers' own cells.
 use Rattle.std.specs.Prelude.{ℕ, ◌+◌, ◌-◌, ◌*◌, ◌/◌, if◌then◌else◌, nat_le}
 use Rattle.of_mem.specs.declared.plot.TheConstants.{FEW_BLOCKS, BUCKETS, FRESH, FREE, KEYS, FIRST_BUCKET, FIRST_QUEUE, FIRST_BLOCK}
 
--- the first cell after the cells of the callers
+-- the address of the first cell after the callers' own cells: a caller has a ticket, a shape and
+-- `instrs` numbers
 abbrev pub base_of : ℕ → ℕ → ℕ
 base_of callers instrs = callers * (instrs + 2)
 
@@ -27,25 +29,28 @@ free_at o = o + FREE
 abbrev pub keys_at : ℕ → ℕ
 keys_at o = o + KEYS
 
--- how many buckets the keys are spread over: with many blocks an odd number, some one a block
+-- How many buckets the keys of a store with this many blocks are spread over: BUCKETS with at most
+-- FEW_BLOCKS blocks, otherwise an odd number, about one for each block.
 unfoldable pub bucket_count : (blocks : ℕ) → ℕ
 bucket_count blocks =
     if nat_le blocks FEW_BLOCKS then BUCKETS
     else (BUCKETS + (blocks - FEW_BLOCKS)) / 2 * 2 + 1
 
--- how far from o the buckets begin: with many blocks they come after all other cells
+-- How many cells after `o` the first bucket is. With more than FEW_BLOCKS blocks, the buckets come
+-- after all other cells.
 unfoldable pub first_bucket : (blocks : ℕ) → ℕ
 first_bucket blocks =
     if nat_le blocks FEW_BLOCKS then FIRST_BUCKET else FIRST_BLOCK + 3 * blocks
 
--- how many buckets come after the blocks
+-- how many buckets come after the blocks: none with at most FEW_BLOCKS blocks, otherwise all of
+-- them
 unfoldable pub buckets_behind : (blocks : ℕ) → ℕ
 buckets_behind blocks = if nat_le blocks FEW_BLOCKS then 0 else bucket_count blocks
 
 abbrev pub bucket_at : (o blocks b : ℕ) → ℕ
 bucket_at o blocks b = o + first_bucket blocks + b
 
--- with few blocks
+-- the address of bucket b in a store with at most FEW_BLOCKS blocks
 abbrev pub few_bucket_at : (o b : ℕ) → ℕ
 few_bucket_at o b = o + FIRST_BUCKET + b
 

@@ -1,4 +1,4 @@
--- What it means that the programs of a work make few reads and writes.
+-- Works whose programs make few reads and writes.
 use Rattle.std.proofs.Common.{◌≡◌, ℕ, zero, suc, ◌≤◌, Bool, List, length, arith}
 use Rattle.of_mem.specs.declared.work.RawReply.{RawReply}
 use Rattle.of_mem.specs.Meaning.{Meaning}
@@ -6,8 +6,8 @@ use Rattle.of_mem.specs.Programs.{Program, Done, Read, Write, with_value, StaysB
 use Rattle.of_mem.specs.ProgramWork.{memory_of, meaning_of}
 use Rattle.of_mem.specs.Touching.{program_reads, ReadsAtMost, WritesAtMost}
 
--- The meaning is that of programs. On each lawful list of this size each program uses only cells
--- from `low` on, and makes at most `reads` reads and `writes` writes.
+-- The operations of the meaning M are programs. On each lawful list of `size` cells, each program
+-- uses only cells from `low` on, and makes at most `reads` reads and `writes` writes.
 pub record HasSmallPrograms (M : Meaning) (lawful : List ℕ → Type 0) (low size reads writes : ℕ)
     : Type 0 where
   pub keeps : RawReply → Bool
@@ -21,9 +21,11 @@ pub record HasSmallPrograms (M : Meaning) (lawful : List ℕ → Type 0) (low si
   pub few_writes : (xs op : List ℕ) → length xs ≡ size → lawful xs
       → length (program_writes (program op) (memory_of xs)) ≤ writes
 
--- A work cites these two as its laws, and an impl may cite specs/ alone.
+-- The two lemmas below are here, not in proofs/, since works cite them as laws, and an impl may
+-- cite specs/ alone.
 
--- a program that makes at most n reads on every memory, whatever it reads, does so on this one
+-- if a program makes at most n reads whatever the cells hold, then it makes at most n reads on the
+-- memory m
 pub few_reads : {A : Type 0} (n : ℕ) (f : Program A) (m : ℕ → ℕ) → ReadsAtMost n f
     → length (program_reads f m) ≤ n
 few_reads n (Done r) m h = omega arith
@@ -33,7 +35,8 @@ few_reads (suc n) (Read a k) m h =
     omega (arith, rest)
 few_reads n (Write a v f) m h = few_reads n f (with_value m a v) h
 
--- a program that makes at most n writes on every memory does so on this one
+-- if a program makes at most n writes whatever the cells hold, then it makes at most n writes on
+-- the memory m
 pub few_writes : {A : Type 0} (n : ℕ) (f : Program A) (m : ℕ → ℕ) → WritesAtMost n f
     → length (program_writes f m) ≤ n
 few_writes n (Done r) m h = omega arith

@@ -1,5 +1,5 @@
--- How far a walk through the buckets came: that of a key through its bucket, or that of the least
--- key from one on through all of them.
+-- How far a walk through the buckets came. A walk to a key goes through the key's bucket. A walk to
+-- the least key from some key on goes through all buckets.
 use Rattle.std.specs.Prelude.{◌≡◌, ◌≢◌, ◌≤◌, ◌<◌, ◌⊎◌, ◌%◌, ℕ, zero, suc, nat_lt, if◌then◌else◌, true, Option, Some, None}
 use Rattle.of_mem.specs.declared.plot.Plot.{Plot}
 use Rattle.of_mem.specs.declared.walk.Sought.{Sought}
@@ -11,8 +11,8 @@ use Rattle.of_mem.specs.Places.{bucket_count, bucket_at}
 use Rattle.of_mem.specs.Plots.{base}
 use Rattle.of_mem.specs.Stores.{first_at, link_at}
 
--- from this cell n blocks with other keys lead to that cell, and what leads there is known; o is
--- the first cell of the store
+-- From the pointer cell `from`, n blocks lead to the pointer cell `to`. Their keys are not `key`,
+-- and all cells on the way are known. `o` is the first cell of the store.
 abbrev pub Passes : ℕ → ℕ → Part → ℕ → ℕ → ℕ → Type 0
 Passes o key p zero from to = from ≡ to
 Passes o key p (suc n) from to =
@@ -20,17 +20,19 @@ Passes o key p (suc n) from to =
     × (newest_at p from ≡ Some (suc b)) × (newest_at p (first_at o b) ≡ Some k) × (k ≢ key)
     × Passes o key p n (link_at o b) to
 
--- the less of a key and the best so far
+-- the less of key k and the best key so far
 abbrev pub lesser_of : ℕ → Option ℕ → Option ℕ
 lesser_of k None = Some k
 lesser_of k (Some b) = if nat_lt b k then Some b else Some k
 
--- if the key is not below the lowest that is sought
+-- the best key after key k: the less of k and the best key so far, or only the best so far if k is
+-- below `low`
 abbrev pub better_of : ℕ → ℕ → Option ℕ → Option ℕ
 better_of low k best = if nat_lt k low then best else lesser_of k best
 
--- from this cell n blocks lead to that cell, their keys make this of the best so far, and what
--- leads there is known
+-- From the pointer cell `from`, n blocks lead to the pointer cell `to`, and all cells on the way
+-- are known. `best` is the least key from `low` on before these blocks, and `result` is the least
+-- one with their keys.
 abbrev pub Weighs : ℕ → ℕ → Part → ℕ → ℕ → Option ℕ → ℕ → Option ℕ → Type 0
 Weighs o low p zero from best to result = (from ≡ to) × (best ≡ result)
 Weighs o low p (suc n) from best to result =
@@ -38,8 +40,9 @@ Weighs o low p (suc n) from best to result =
     × (newest_at p from ≡ Some (suc b)) × (newest_at p (first_at o b) ≡ Some k)
     × Weighs o low p n (link_at o b) (better_of low k best) to result
 
--- the bucket is known, and its keys make this of the best so far; no more blocks are passed than
--- there are
+-- All pointers and keys of bucket i are known. `best` is the least key from `low` on before this
+-- bucket, and `result` is the least one with the keys of the bucket. No more blocks are passed than
+-- there are.
 pub record WeighsBucket (o blocks low : ℕ) (p : Part) (i : ℕ) (best result : Option ℕ)
     : Type 0 where
   pub passed : ℕ
@@ -50,14 +53,17 @@ pub record WeighsBucket (o blocks low : ℕ) (p : Part) (i : ℕ) (best result :
   pub few : passed ≤ blocks
   pub ends : (last ≡ 0) ⊎ (passed ≡ blocks)
 
--- this is the best key of the first n buckets
+-- `result` is the least key from `low` on in the first buckets, as many as the fifth argument says;
+-- all their pointers and keys are known
 abbrev pub WeighsBuckets : ℕ → ℕ → ℕ → Part → ℕ → Option ℕ → Type 0
 WeighsBuckets o blocks low p zero result = result ≡ None
 WeighsBuckets o blocks low p (suc i) result =
     (best : Option ℕ)
     × WeighsBuckets o blocks low p i best × WeighsBucket o blocks low p i best result
 
--- the walk from the front came so far
+-- The walk w is right. From the front of its bucket, known cells lead through as many blocks as it
+-- passed, to its cell. None of these blocks has the key that is sought; if the least key is sought,
+-- the walk's best key is the least one so far.
 abbrev pub CameTo : ℕ → ℕ → Sought → Part → Walk → Type 0
 CameTo o blocks (Key key) p w =
     (w.passed ≤ blocks)
@@ -67,15 +73,15 @@ CameTo o blocks (LeastFrom low) p w =
     × (best : Option ℕ) × WeighsBuckets o blocks low p w.bucket best
     × Weighs o low p w.passed (bucket_at o blocks w.bucket) best w.cell w.best
 
--- on the cells of a plot
+-- the walk w is right on the known cells of the plot
 abbrev pub HasCome : Plot → Sought → Part → Walk → Type 0
 HasCome plot s p w = CameTo (base plot) plot.blocks s p w
 
--- if a walk is kept, it came so far
+-- if a walk is kept, it is right on the known cells
 abbrev pub IsSoundWalk : KeptWalk → Part → Type 0
 IsSoundWalk k p = k.is_kept ≡ true → CameTo k.base k.blocks k.sought p k.walk
 
--- one is kept of this, on the cells of this plot
+-- a walk is kept, it looks for s, and it is on the cells of this plot
 abbrev pub IsWalkOf : KeptWalk → Plot → Sought → Type 0
 IsWalkOf k plot s =
     (k.is_kept ≡ true) × (k.base ≡ base plot) × (k.blocks ≡ plot.blocks) × (k.sought ≡ s)

@@ -1,15 +1,15 @@
--- What was written.
+-- Write-sets: the addresses that were written, and their numbers.
 use Rattle.std.specs.Prelude.{◌≡◌, ℕ, ◌<◌, ◌≤◌, List, length}
 use Rattle.of_mem.specs.CellMap.{entry_address}
 use Rattle.of_mem.specs.Numbers.{FitsCell}
 
 pub record WriteSet : Type 0 where
-  -- addresses are below it
+  -- each address is below this
   pub room : ℕ
   -- each address and its number, in order of first writing
   pub entries : List (ℕ × ℕ)
 
--- no address is there twice, and each is below the room
+-- no address is in two entries, and each address is below the room
 pub record IsWriteSet (p : WriteSet) : Type 0 where
   pub once : (j k : ℕ) → j < length p.entries → k < length p.entries
       → entry_address p.entries j ≡ entry_address p.entries k → j ≡ k

@@ -1,26 +1,28 @@
-//! Where addresses are among entries, found by the chains of their homes.
+//! How an address is found among entries: by the chain of the entries with the same home.
 
 ghost use Rattle.std.specs.Prelude.{◌≡◌, ◌<◌, ◌%◌, length, MatchOption};
 ghost use Rattle.of_mem.specs.declared.index.TheConstants.{HOMES};
 ghost use Rattle.of_mem.specs.CellMap.{IsAbsent, IsEntryFor};
 ghost use Rattle.of_mem.specs.Chains.{pairs_of, olders_of, latest, HasFronts, HasChains};
 
-/// How many homes there are. The home of an address is what is left of it when it is divided by
-/// their number, a power of two, so that this is a mask.
+/// How many homes there are. The home of an address is its remainder by this number. The number is
+/// a power of two, so the remainder is a mask.
 pub const HOMES: u32 = 1024;
 
-/// An entry. All of it stands in one list, so that an entry is one place in memory.
+/// An entry of a write-set. Its fields are kept together, so that reading an entry touches one
+/// place in memory.
 #[derive(Clone, Copy, Drop)]
 pub struct Entry {
-    /// An address and its number.
+    /// The address, and the number written there.
     pub pair: (u32, u32),
-    /// The number of the entry before it with the same home. The number of an entry is its place
-    /// and one more; 0 says that there is none.
+    /// The number of the last earlier entry with the same home, 0 if there is none. An entry's
+    /// number is its place plus 1.
     pub older: u32,
 }
 
-/// The number of the last entry of a home, 0 if none has it: its place and one more. A note that
-/// names no entry, or one with another home, is left over.
+/// The number of the last entry with this home, 0 if there is none. An entry's number is its place
+/// plus 1. A note that names no entry, or an entry with another home, is out of date and counts as
+/// 0.
 pub fn front(fronts: &[u32], entries: &[Entry], home: u32) -> u32
     requires home { home < HOMES }
     requires all { length fronts.now ≡ HOMES }
@@ -39,7 +41,8 @@ pub fn front(fronts: &[u32], entries: &[Entry], home: u32) -> u32
     }
 }
 
-/// The place of an address. Mostly it is the last one of its home, and then no chain is followed.
+/// The place of the entry with this address, if there is one. Mostly it is the last entry of its
+/// home, and no chain is followed.
 #[inline(always)]
 pub fn find(fronts: &[u32], entries: &[Entry], addr: u32) -> Option<usize>
     requires all { length fronts.now ≡ HOMES }
@@ -73,7 +76,8 @@ fn find_elsewhere(fronts: &[u32], entries: &[Entry], addr: u32) -> Option<usize>
     search(entries, last, addr)
 }
 
-/// The place of an address, from the number of the last entry of its home.
+/// The place of the entry with this address, if there is one, from the number of the last entry of
+/// its home.
 pub fn search(entries: &[Entry], last: u32, addr: u32) -> Option<usize>
     requires last { last
         ≡ latest HOMES (pairs_of entries.now) (addr % HOMES) (length (pairs_of entries.now)) }
@@ -92,7 +96,7 @@ pub fn search(entries: &[Entry], last: u32, addr: u32) -> Option<usize>
     }
 }
 
-/// The same along the whole chain.
+/// The place of the entry with this address, if there is one, found by following the whole chain.
 // out of line, so that what is called often is small
 #[cold]
 #[inline(never)]

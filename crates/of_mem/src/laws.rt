@@ -1,5 +1,5 @@
-//! What holds of every plot, and of works of programs: functions that do nothing, whose contracts
-//! are the theorems.
+//! Theorems about every plot, and about works whose operations are programs: functions that do
+//! nothing, whose contracts are the theorems.
 
 ghost use Rattle.std.specs.Prelude.{◌≡◌, ◌<◌, ◌≤◌, ◌+◌, ◌-◌, ◌*◌, ◌%◌};
 ghost use Rattle.of_mem.specs.declared.work.TheConstants.{MOST_INSTRS, MOST_DATA_CELLS};
@@ -12,13 +12,13 @@ ghost use Rattle.of_mem.specs.Touching.{TouchesFew};
 use crate::plot::Plot;
 use crate::work::Work;
 
-/// Each place of a plot has a cell of its own, below the number of data cells.
+/// Data cells for different uses have different addresses, all below the number of data cells.
 pub fn places_differ(plot: Plot)
     ensures { CellPlacesDiffer plot }
 {}
 
-/// A store of at most 512 blocks has 32 buckets. One of more has an odd number of buckets, one for
-/// each block above 512 and 32 at least besides.
+/// How many buckets a store has. With at most 512 blocks it has 32. With more it has an odd number
+/// of them: at least 32, and one more for each block above 512.
 #[tactic(auto, using(crate::proofs::BucketPlaces::some_buckets, crate::proofs::BucketPlaces::few_count, crate::proofs::BucketPlaces::many_count))]
 pub fn buckets_follow_blocks(blocks: u32)
     ensures some { 1 ≤ bucket_count blocks }
@@ -27,15 +27,15 @@ pub fn buckets_follow_blocks(blocks: u32)
     ensures odd { 512 < blocks → bucket_count blocks % 2 ≡ 1 }
 {}
 
-/// How many blocks a store has at most: with them and the cells of all callers it has fewer cells
-/// than a table may have.
+/// The greatest number of blocks, and that every plot has at most as many data cells as a table may
+/// have.
 pub fn numbers(plot: Plot)
     ensures blocks { MOST_BLOCKS ≡ 16777216 }
     ensures cells { data_cell_count plot ≤ MOST_DATA_CELLS }
 {}
 
-/// A work of programs that make at most `reads` reads and `writes` writes needs at most as many
-/// cells for an operation, and writes at most as many.
+/// If the programs of a work make at most `reads` reads and `writes` writes, then each operation of
+/// the work reads at most `reads` cells and writes at most `writes`.
 pub fn programs_touch_few<W: Work>(work: W, reads: u32, writes: u32)
     requires { HasSmallPrograms (W.meaning work) (W.lawful work)
         (W.many work * (MOST_INSTRS + 2)) (W.size work) reads writes }

@@ -1,4 +1,4 @@
-//! Partial memory, the places of data cells, and what runs operations on cells.
+//! Partial memory, the addresses of data cells, and works, which run operations on cells.
 #![tactic(auto)]
 
 mod index;

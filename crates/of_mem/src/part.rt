@@ -14,15 +14,15 @@ use std::alloc::{AllocError, Global};
 use std::marker::Model;
 use std::mem;
 
-/// The cell that a run needs next, and that isn't known.
+/// The error of a run: the address of a cell that the run must read and that is not known.
 #[derive(Clone, Copy, Debug, PartialEq, Eq)]
 pub struct Need {
     pub addr: u32,
 }
 
-/// Partial memory: the cells that are known, what a batch of scripts wrote over them, and what a
-/// script wrote over both. A contract sees what is known of each cell, and the writes of batch and
-/// script, each in order of first writing. Only `new` takes memory.
+/// Partial memory: the known numbers of cells, a batch's writes over them, and a script's writes
+/// over both. A contract sees the known number of each cell, and the writes of batch and script,
+/// each in order of first writing. Only `new` takes memory.
 #[derive(Drop)]
 pub struct Part {
     // What is known of each cell, and beside it what it holds under batch and script, so that a
@@ -55,8 +55,8 @@ impl Model for Part {
 
 #[tactic(auto, unfolding(crate::specs::Part::newest_at, crate::specs::Part::write))]
 impl Part {
-    /// A memory of the cells below `cells` of which nothing is known. The error is that there is no
-    /// memory.
+    /// The partial memory of `cells` cells, in which none is known and nothing is written. An error
+    /// means that there is not enough memory.
     pub fn new(alloc: Global, cells: u32) -> Result<Self, AllocError>
         ensures { IfOk result (λ p. p ≡ empty_part cells) }
     {
@@ -72,7 +72,7 @@ impl Part {
         })
     }
 
-    /// Makes a cell's number known.
+    /// Makes `value` the known number of a cell.
     pub fn learn(&mut self, addr: u32, value: u32)
         requires { addr < length self.old.known }
         ensures { self.new ≡ learn self.old addr value }
@@ -109,8 +109,8 @@ impl Part {
         before
     }
 
-    /// What a cell holds: the script's number, else the batch's, else the known one. The error
-    /// names the cell where there is none.
+    /// The newest number of a cell: the script's write, or else the batch's, or else the known
+    /// number. The error names the cell if there is none of these.
     #[inline(always)]
     pub fn read(&self, addr: u32) -> Result<u32, Need>
         requires { addr < length self.now.known }
@@ -139,7 +139,7 @@ impl Part {
         }
     }
 
-    /// Writes a number for the script.
+    /// Adds a write of the script: the cell `addr` gets the number `value`.
     pub fn write(&mut self, addr: u32, value: u32)
         requires { addr < length self.old.known }
         ensures writes { self.new ≡ write self.old addr value }
@@ -155,7 +155,7 @@ impl Part {
         self.cells.hold(addr, Some(value));
     }
 
-    /// How many cells the script wrote.
+    /// The number of cells that the script has written.
     pub fn pending_len(&self) -> u32
         ensures value { result ≡ length self.now.script }
         ensures few { length self.now.script ≤ length self.now.known }
@@ -163,7 +163,8 @@ impl Part {
         if self.undone { 0 } else { self.script.len() }
     }
 
-    /// A cell that the script wrote and its number, in order of first writing.
+    /// The script's write `i`, from 0: the cell and its number. The writes are in order of first
+    /// writing.
     pub fn pending(&self, i: u32) -> (u32, u32)
         requires { i < length self.now.script }
         ensures value { result ≡ slice_index_or self.now.script i (0, 0) }
@@ -172,7 +173,7 @@ impl Part {
         self.script.entry(i)
     }
 
-    /// Hands what the script wrote to the batch.
+    /// Moves the script's writes to the batch.
     pub fn keep(&mut self)
         ensures { self.new ≡ keep self.old }
     {
@@ -193,14 +194,14 @@ impl Part {
         self.script.clear();
     }
 
-    /// Forgets what the script wrote.
+    /// Forgets the script's writes.
     pub fn undo(&mut self)
         ensures { self.new ≡ record self.old { script = [] } }
     {
         self.undone = true;
     }
 
-    /// Forgets everything.
+    /// Forgets all known numbers and all writes.
     pub fn clear(&mut self)
         ensures { self.new ≡ empty_part (length self.old.known) }
     {
@@ -211,7 +212,8 @@ impl Part {
         self.last.is_kept = false;
     }
 
-    /// How far the walk to this came that was kept; if none was, it is at the front.
+    /// How far the walk to `sought` came, if it was kept; otherwise a walk at the front of its
+    /// first bucket.
     #[inline(always)]
     pub fn walk(&self, plot: &Plot, sought: Sought) -> Walk
         ensures { HasCome plot.now sought self.now result }
@@ -222,7 +224,8 @@ impl Part {
         front(plot, sought)
     }
 
-    /// Keeps how far the walk to this came, until the script writes or a cell changes.
+    /// Keeps how far the walk to `sought` came, until the script writes or a known cell gets
+    /// another number.
     #[inline(always)]
     pub fn keep_walk(&mut self, plot: &Plot, sought: Sought, walk: Walk)
         requires { HasCome plot.now sought self.old walk }

@@ -1,4 +1,4 @@
-//! Where the data cells stand.
+//! The addresses of data cells.
 
 ghost use Rattle.std.specs.Prelude.{◌≡◌, ◌<◌, ◌≤◌, ◌+◌, ◌*◌};
 ghost use Rattle.of_mem.specs.declared.work.TheConstants.{MOST_CALLERS, MOST_INSTRS};
@@ -7,13 +7,14 @@ ghost use Rattle.of_mem.specs.declared.plot.TheConstants.{REGISTERS, BUCKETS, QU
 /// How many registers a store has.
 pub const REGISTERS: u32 = 16;
 
-/// How many buckets its keys are spread over, if it has no more blocks than a plan may have.
+/// How many buckets the keys of a store are spread over, if the store has no more blocks than a
+/// plan may have.
 pub const BUCKETS: u32 = 32;
 
-/// How many queues it has.
+/// How many queues a store has.
 pub const QUEUES: u32 = 4;
 
-/// The most blocks that it has.
+/// The most blocks that a store may have.
 pub const MOST_BLOCKS: u32 = 16_777_216;
 
 // Up to this many blocks it has `BUCKETS` buckets, in front of the queues. A store with more blocks
@@ -34,16 +35,16 @@ const FIRST_QUEUE: u32 = FIRST_BUCKET + BUCKETS;
 
 const FIRST_BLOCK: u32 = FIRST_QUEUE + 3 * QUEUES;
 
-/// Where the data cells stand: first those of each caller (its ticket, its reply's shape and its
-/// reply's numbers), then the store (registers, what the allocator counts, buckets, queues) and
-/// last the blocks.
+/// The addresses of data cells. First come the own cells of each caller: its ticket, the shape of
+/// its reply and the numbers of its reply. Then come the cells of the store: registers, counts,
+/// buckets, queues and blocks. In a store with many blocks the buckets come last.
 #[derive(Clone, Copy, Debug, PartialEq, Eq)]
 pub struct Plot {
-    /// How many callers there are, 1 to `MOST_CALLERS`.
+    /// The number of callers, 1 to `MOST_CALLERS`.
     pub callers: u32,
     /// The most instructions of a script, 1 to `MOST_INSTRS`.
     pub instrs: u32,
-    /// How many blocks there are, at most `MOST_BLOCKS`.
+    /// The number of blocks of the store, at most `MOST_BLOCKS`.
     pub blocks: u32,
     pub ghost some_callers: { 1 ≤ callers },
     pub ghost few_callers: { callers ≤ MOST_CALLERS },
@@ -65,7 +66,7 @@ impl Plot {
         caller * (self.instrs + 2)
     }
 
-    /// The first cell after those of the callers.
+    /// The address of the first cell after the callers' own cells.
     pub fn base(&self) -> u32
         ensures value { result ≡ base self.now }
         ensures small { result ≤ MOST_CALLERS * (MOST_INSTRS + 2) }
@@ -73,7 +74,7 @@ impl Plot {
         self.row(self.callers)
     }
 
-    /// How many buckets the keys are spread over.
+    /// How many buckets the keys of the store are spread over.
     #[tactic(auto, using(crate::proofs::BucketPlaces::few_count, crate::proofs::BucketPlaces::many_count))]
     pub fn buckets(&self) -> u32
         ensures value { result ≡ bucket_count self.now.blocks }
@@ -113,14 +114,14 @@ impl Plot {
         }
     }
 
-    /// The number of data cells.
+    /// The number of data cells: the callers' own cells and the cells of the store.
     pub fn cells(&self) -> u32
         ensures { result ≡ data_cell_count self.now }
     {
         self.base() + FIRST_BLOCK + 3 * self.blocks + self.buckets_behind()
     }
 
-    /// The cell of a caller's ticket.
+    /// The address of the cell that holds a caller's ticket.
     pub fn ticket(&self, caller: u32) -> u32
         requires { caller < self.now.callers }
         ensures { result ≡ ticket_cell_at self.now.instrs caller }
@@ -128,7 +129,7 @@ impl Plot {
         self.row(caller)
     }
 
-    /// The cell of the shape of a caller's reply.
+    /// The address of the cell that holds the shape of a caller's reply.
     pub fn shape(&self, caller: u32) -> u32
         requires { caller < self.now.callers }
         ensures { result ≡ shape_at self.now.instrs caller }
@@ -136,7 +137,7 @@ impl Plot {
         self.row(caller) + 1
     }
 
-    /// The cell of a number of a caller's reply.
+    /// The address of the cell that holds the number at a place of a caller's reply.
     pub fn reply(&self, caller: u32, place: u32) -> u32
         requires caller { caller < self.now.callers }
         requires place { place < self.now.instrs }
@@ -145,7 +146,7 @@ impl Plot {
         self.row(caller) + 2 + place
     }
 
-    /// The cell of a register.
+    /// The address of the cell that holds a register.
     pub fn register(&self, r: u32) -> u32
         requires { r < REGISTERS }
         ensures { result ≡ register_at (base self.now) r }
@@ -153,28 +154,28 @@ impl Plot {
         self.base() + r
     }
 
-    /// The cell that counts the blocks that were taken at least once.
+    /// The address of the cell that counts the blocks that were taken at least once.
     pub fn fresh(&self) -> u32
         ensures { result ≡ fresh_at (base self.now) }
     {
         self.base() + FRESH
     }
 
-    /// The front of the free list.
+    /// The address of the cell that points to the first block of the free list.
     pub fn free(&self) -> u32
         ensures { result ≡ free_at (base self.now) }
     {
         self.base() + FREE
     }
 
-    /// The cell that counts the keys.
+    /// The address of the cell that counts the keys of the map.
     pub fn keys(&self) -> u32
         ensures { result ≡ keys_at (base self.now) }
     {
         self.base() + KEYS
     }
 
-    /// The front of a bucket.
+    /// The address of the cell that points to the first block of a bucket.
     #[tactic(auto, using(crate::proofs::BucketPlaces::most_buckets))]
     pub fn bucket(&self, b: u32) -> u32
         requires { b < bucket_count self.now.blocks }
@@ -183,7 +184,7 @@ impl Plot {
         self.base() + self.first_bucket() + b
     }
 
-    /// The front of a queue.
+    /// The address of the cell that points to the first block of a queue.
     pub fn head(&self, q: u32) -> u32
         requires { q < QUEUES }
         ensures { result ≡ head_at (base self.now) q }
@@ -191,7 +192,7 @@ impl Plot {
         self.base() + FIRST_QUEUE + 3 * q
     }
 
-    /// The cell that points to a queue's last block.
+    /// The address of the cell that points to a queue's last block.
     pub fn tail(&self, q: u32) -> u32
         requires { q < QUEUES }
         ensures { result ≡ tail_at (base self.now) q }
@@ -199,7 +200,7 @@ impl Plot {
         self.base() + FIRST_QUEUE + 3 * q + 1
     }
 
-    /// The cell that counts a queue's items.
+    /// The address of the cell that counts a queue's items.
     pub fn length(&self, q: u32) -> u32
         requires { q < QUEUES }
         ensures { result ≡ length_at (base self.now) q }
@@ -207,7 +208,8 @@ impl Plot {
         self.base() + FIRST_QUEUE + 3 * q + 2
     }
 
-    /// A cell of a block: its first, its second or its link, fields 0, 1 and 2.
+    /// The address of a cell of a block. Field 0 holds a key or an item, field 1 the value at the
+    /// key, and field 2 is the link to the next block.
     pub fn block(&self, b: u32, field: u32) -> u32
         requires block { b < self.now.blocks }
         requires field { field < 3 }

@@ -1,4 +1,4 @@
-//! What a work keeps between two runs.
+//! What a work keeps of an operation between two runs.
 
 ghost use Rattle.std.specs.Prelude.{◌≡◌, ◌≤◌, ◌<◌, ◌+◌, ◌↔◌, IsTrue, length, IfOk, None};
 ghost use Rattle.std.proofs.Common.{get_or, set};
@@ -11,10 +11,10 @@ use crate::write_set::WriteSet;
 use std::alloc::{AllocError, Global};
 use std::marker::Model;
 
-/// What a work keeps of an operation whose run lacked a cell: the work's own numbers, the
-/// operation's words, how many of the first words have run, what these answered and wrote, and the
-/// key that the next word looks for before all else, if it does.
-/// There are no words if nothing is kept. Only `new` takes memory.
+/// What a work keeps of an operation whose run stopped because a cell was not known: the work's
+/// numbers of callers and blocks, the operation's words, how many of them have run, what these
+/// answered and wrote, and the key for which the next word looks first. There are no words if
+/// nothing is kept. Only `new` takes memory.
 #[derive(Drop)]
 pub struct SuspendedRun {
     callers: u32,
@@ -52,8 +52,8 @@ impl Model for SuspendedRun {
 }
 
 impl SuspendedRun {
-    /// Nothing is kept, in room for the writes of cells below `cells`. The error is that there is
-    /// no memory.
+    /// A value that keeps no operation, with room for the writes of `cells` cells. An error means
+    /// that there is not enough memory.
     pub fn new(alloc: Global, cells: u32) -> Result<Self, AllocError>
         ensures { IfOk result (λ k. k ≡ nothing_suspended cells) }
     {
@@ -70,7 +70,7 @@ impl SuspendedRun {
         })
     }
 
-    /// Keeps nothing.
+    /// Forgets the operation that was kept.
     pub fn forget(&mut self)
         ensures { self.new ≡ nothing_suspended self.old.room }
     {
@@ -82,7 +82,7 @@ impl SuspendedRun {
         self.sought = None;
     }
 
-    /// Keeps an operation of at most `MOST_INSTRS` words of which nothing has run.
+    /// Keeps an operation of at most `MOST_INSTRS` words, none of which has run.
     pub fn begin(&mut self, callers: u32, blocks: u32, words: &[u64])
         requires { length words.now ≤ MOST_INSTRS }
         ensures { self.new ≡ begin_run self.old.room callers blocks words.now }
@@ -96,7 +96,8 @@ impl SuspendedRun {
         self.sought = None;
     }
 
-    /// Whether it is kept of this operation, by the work with these numbers.
+    /// Whether the operation that is kept has these words, and was kept by a work with these
+    /// numbers of callers and blocks.
     pub fn is_of(&self, callers: u32, blocks: u32, words: &[u64]) -> bool
         ensures { IsTrue result ↔ IsSuspensionOf self.now callers blocks words.now }
     {
@@ -105,7 +106,7 @@ impl SuspendedRun {
             && are_same(&self.words[..self.count], words)
     }
 
-    /// How many of the first words have run.
+    /// How many words of the operation have run.
     pub fn done(&self) -> usize
         ensures value { result ≡ self.now.done }
         ensures few { self.now.done ≤ length self.now.words }
@@ -114,7 +115,7 @@ impl SuspendedRun {
         self.done as usize
     }
 
-    /// What the word at a place answered, of those that have run.
+    /// What the word at `place` answered, which is one of those that have run.
     pub fn value(&self, place: usize) -> Option<u32>
         requires ran { place < self.now.done }
         requires few { place < MOST_INSTRS }
@@ -123,7 +124,8 @@ impl SuspendedRun {
         self.values[place]
     }
 
-    /// One word more has run: it answered `value`, and the script has written what `part` says.
+    /// Notes that the next word has run: it answered `value`, and the script's writes are now those
+    /// in `part`.
     pub fn advance(&mut self, value: Option<u32>, part: &Part)
         requires more { self.old.done < length self.old.words }
         requires room { self.old.room ≡ length part.now.known }
@@ -140,21 +142,21 @@ impl SuspendedRun {
         part.copy_script(&mut self.writes);
     }
 
-    /// The key that the next word looks for before all else, if that was kept.
+    /// The key for which the next word looks first, if a key was kept.
     pub fn sought(&self) -> Option<u32>
         ensures { result ≡ self.now.sought }
     {
         self.sought
     }
 
-    /// Keeps the key that the next word looks for before all else, or that there is none.
+    /// Keeps the key for which the next word looks first, or None if no key is known.
     pub fn seek(&mut self, key: Option<u32>)
         ensures { self.new ≡ record self.old { sought = key } }
     {
         self.sought = key;
     }
 
-    /// Lets the script have written what the words wrote that have run.
+    /// Sets the script's writes in `part` to the writes of the words that have run.
     pub fn restore(&self, part: &mut Part)
         requires { self.now.room ≡ length part.old.known }
         ensures { part.new ≡ record part.old { script = self.now.writes } }
@@ -190,21 +192,21 @@ fn are_same(words: &[u64], others: &[u64]) -> bool
     true
 }
 
-/// What a work may keep between two runs. What is kept tells itself which work and which operation
-/// it is of.
+/// A work that may keep, between two runs, how far an operation came. This trait says for which
+/// partial memories what is kept is right. What is kept names its work and its operation itself.
 pub trait MaySuspend: Copy + Send + Sync {
     ghost use Rattle.std.specs.Prelude.{◌≡◌, ℕ, [], None};
     ghost use Rattle.std.proofs.Common.{get_or};
     ghost use Rattle.of_mem.specs.SuspendedRun.{SuspendedRun};
     ghost use Rattle.of_mem.specs.Part.{Part, learn};
 
-    /// What is kept is so of this partial memory, in which the script has written nothing.
+    /// Whether what is kept is right for a partial memory in which the script has written nothing.
     ghost holds: { SuspendedRun → Part → Type 0 };
 
-    /// Where nothing is kept it is so of each.
+    /// If no operation is kept, what is kept is right for every partial memory.
     ghost nothing: { (k : SuspendedRun) (p : Part) → k.words ≡ [] → holds k p };
 
-    /// Learning a cell that wasn't known leaves it so.
+    /// What is kept stays right if a cell becomes known that was not known before.
     ghost learns: { (k : SuspendedRun) (p : Part) (a v : ℕ) → get_or p.known a None ≡ None →
         holds k p → holds k (learn p a v) };
 }

@@ -1,4 +1,4 @@
-//! What is known of cells and what they hold, by the cells that were touched.
+//! The known number and the newest number of each cell, kept only for cells that were touched.
 
 ghost use Rattle.std.specs.Prelude.{◌≡◌, ◌<◌, length, IfOk, None};
 ghost use Rattle.std.proofs.Common.{get_or, set};
@@ -8,14 +8,14 @@ use crate::write_set::WriteSet;
 use std::alloc::{AllocError, Global};
 use std::marker::Model;
 
-/// A known number or none for each of some cells, and beside it what the cell holds. Only `new`
-/// takes memory. Each call takes the same time, however many cells there are, and the memory that
-/// is touched is that of the cells that were set.
+/// The known number and the newest number of each of some cells, or none. Only `new` takes memory.
+/// Each call takes the same time however many cells there are, and touches only the memory of cells
+/// that were set.
 #[derive(Drop)]
 pub struct TouchedCells {
-    /// The cells that were set, each with a number that says nothing.
+    /// The cells that were set. The number of each entry means nothing.
     index: WriteSet,
-    /// For each of them its known number, and what it holds.
+    /// The known and the newest number of each cell that was set.
     held: Vec<(Option<u32>, Option<u32>)>,
 }
 
@@ -35,7 +35,8 @@ impl Model for TouchedCells {
 }
 
 impl TouchedCells {
-    /// No number for any of `cells` cells. The error is that there is no memory.
+    /// A value for `cells` cells, none of which has a number. An error means that there is not
+    /// enough memory.
     pub fn new(alloc: Global, cells: u32) -> Result<Self, AllocError>
         ensures { IfOk result (λ c. c ≡ no_cells cells) }
     {
@@ -44,7 +45,7 @@ impl TouchedCells {
         Ok(TouchedCells { index, held })
     }
 
-    /// The number of a cell that is known.
+    /// The known number of a cell, or None.
     pub fn known(&self, addr: u32) -> Option<u32>
         requires { addr < length self.now.known }
         ensures { result ≡ get_or self.now.known addr None }
@@ -53,7 +54,7 @@ impl TouchedCells {
         self.held[place].0
     }
 
-    /// What a cell holds.
+    /// The newest number of a cell, or None.
     #[inline(always)]
     pub fn newest(&self, addr: u32) -> Option<u32>
         requires { addr < length self.now.known }
@@ -63,7 +64,8 @@ impl TouchedCells {
         self.held[place].1
     }
 
-    /// Gives a cell a known number, which it holds too, if the cell was not set before.
+    /// Makes `value` the known and the newest number of a cell, if the cell was not set before.
+    /// Otherwise it changes nothing and answers false.
     pub fn meet(&mut self, addr: u32, value: u32) -> bool
         requires { addr < length self.old.known }
         ensures { Meets self.old self.new addr value result }
@@ -78,7 +80,7 @@ impl TouchedCells {
         }
     }
 
-    /// Gives a cell a known number, and what it holds.
+    /// Sets the known and the newest number of a cell.
     pub fn set(&mut self, addr: u32, known: Option<u32>, newest: Option<u32>)
         requires { addr < length self.old.known }
         ensures { self.new ≡ record {
@@ -92,7 +94,7 @@ impl TouchedCells {
         }
     }
 
-    /// Says what a cell holds.
+    /// Sets the newest number of a cell.
     pub fn hold(&mut self, addr: u32, newest: Option<u32>)
         requires { addr < length self.old.known }
         ensures { self.new ≡ record self.old { newest = set self.old.newest addr newest } }
@@ -103,7 +105,7 @@ impl TouchedCells {
         }
     }
 
-    /// Takes all numbers away.
+    /// Forgets the numbers of all cells.
     pub fn clear(&mut self)
         ensures { self.new ≡ no_cells (length self.old.known) }
     {

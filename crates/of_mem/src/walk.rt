@@ -8,15 +8,17 @@ ghost use Rattle.of_mem.specs.Walks.{HasCome, IsWalkOf};
 
 use crate::plot::Plot;
 
-/// What a walk looks for: a key, in its bucket, or the least key from one on, in all buckets.
+/// What a walk looks for: a key, in the key's bucket, or the least key that is not below a number,
+/// in all buckets.
 #[derive(Clone, Copy, Debug, PartialEq, Eq)]
 pub enum Sought {
     Key(u32),
     LeastFrom(u64),
 }
 
-/// How far a walk came: how many blocks of a bucket it passed, and the cell that points to the next
-/// one. A walk to the least key has passed the buckets before, and keeps the best key so far.
+/// How far a walk came: its bucket, how many blocks of this bucket it passed, and the cell that
+/// points to the next block. A walk to the least key has gone through all earlier buckets, and
+/// keeps the best key so far.
 #[derive(Clone, Copy, Debug, PartialEq, Eq)]
 pub struct Walk {
     pub bucket: u32,
@@ -26,7 +28,7 @@ pub struct Walk {
 }
 
 impl Walk {
-    /// The walk at the front of a bucket, with the best key of those before.
+    /// A walk at the front of a bucket, with the best key of the earlier buckets.
     #[inline(always)]
     pub fn at_front(plot: &Plot, bucket: u32, best: Option<u32>) -> Walk
         requires { bucket < bucket_count plot.now.blocks }

@@ -1,4 +1,4 @@
-//! What runs operations on cells.
+//! Works: they run operations on cells.
 
 ghost use Rattle.std.specs.Prelude.{◌≡◌, ◌+◌, ◌*◌, ◌≤◌, ℕ, List, [], length};
 ghost use Rattle.of_mem.specs.declared.work.TheConstants.{MOST_INSTRS};
@@ -9,59 +9,61 @@ use crate::part::{Need, Part};
 use crate::suspended_run::{MaySuspend, SuspendedRun};
 use crate::workspace::Workspace;
 
-/// The most words of an operation, and the most numbers of a reply.
+/// The most words that an operation may have, and the most numbers that a reply may have.
 pub const MOST_INSTRS: usize = 16;
 
-/// The most callers, as many as a table of cell words has.
+/// The most callers of a work; a table of cell words has as many at most.
 pub const MOST_CALLERS: u32 = 64;
 
-/// The most data cells, as many as such a table has.
+/// The most data cells of a work; a table of cell words has as many at most.
 pub const MOST_DATA_CELLS: u32 = 134_217_728;
 
-/// Over at most this number of data cells an operation may write all of them.
+/// With at most this number of data cells, an operation may write all of them.
 pub const FEW_DATA_CELLS: u32 = 4096;
 
-/// Over more data cells an operation writes at most this number of them.
+/// With more than `FEW_DATA_CELLS` data cells, an operation writes at most this number of them.
 pub const MOST_WRITES: u32 = 238;
 
-/// The least shape of a script that was aborted: the cause stands in the bits above it.
+/// The least shape of the reply of a script that was aborted: the bits from this one on hold the
+/// cause.
 pub const LEAST_ABORT: u32 = 1 << 26;
 
-/// A reply as cells hold it: its shape, and a number at each place, 0 if the shape marks none.
+/// A reply as a caller's own cells hold it: its shape, and a number at each place, which is 0 if
+/// the shape marks no number there.
 #[derive(Clone, Copy, Debug, PartialEq, Eq)]
 pub struct RawReply {
     pub shape: u32,
     pub values: [u32; MOST_INSTRS],
 }
 
-/// What runs operations on cells: the first `callers * (MOST_INSTRS + 2)` cells are the callers'
+/// A work runs operations on cells. The first `callers * (MOST_INSTRS + 2)` cells are the callers'
 /// own, and no operation reads or writes them.
 pub trait Work: MaySuspend {
-    /// How many callers there are.
+    /// How many callers the work has.
     ghost many: { Self → ℕ };
 
-    /// How many data cells there are.
+    /// How many data cells the work has.
     ghost size: { Self → ℕ };
 
-    /// Which lists of cells are lawful.
+    /// Which lists of cells are lawful: operations run on them, and leave lawful ones.
     ghost lawful: { Self → List ℕ → Type 0 };
 
-    /// What an operation does to a list of cells, what it answers, and how it runs where only some
+    /// What an operation does to a list of cells, what it replies, and how it runs if only some
     /// cells are known.
     ghost meaning: { Self → Meaning };
 
-    /// The number of callers.
+    /// The number of callers of the work.
     fn callers(&self) -> u32
         ensures { result ≡ many self.now };
 
-    /// The number of data cells.
+    /// The number of data cells of the work.
     fn cells(&self) -> u32
         ensures { result ≡ size self.now };
 
-    /// Runs an operation of 1 to `MOST_INSTRS` words on what is known, the batch's writes over the
-    /// known cells, from where `kept` says that it stopped. Ok leaves the writes with the script
-    /// and the reply in `out`. The error names the cell that the run needs next; then the script
-    /// has no writes and `out` is as before.
+    /// Runs an operation of 1 to `MOST_INSTRS` words on the known cells with the batch's writes
+    /// over them. It goes on from the word at which `kept` stopped. Ok leaves the operation's
+    /// writes as the script's, and the reply in `out`. An error names the cell that the run needs
+    /// next; then the script has no writes and `out` is as before.
     fn run_on(
         &self,
         part: &mut Part,
@@ -83,9 +85,10 @@ pub trait Work: MaySuspend {
         ensures holds { Self.holds kept.new part.old }
         ensures room { kept.new.room ≡ kept.old.room };
 
-    /// Runs an operation of 1 to `MOST_INSTRS` words on what is known, the batch's writes over the
-    /// known cells. Ok leaves the writes with the script and the reply in `out`. The error names
-    /// the cell that the run needs next; then the script has no writes and `out` is as before.
+    /// Runs an operation of 1 to `MOST_INSTRS` words on the known cells with the batch's writes
+    /// over them. Ok leaves the operation's writes as the script's, and the reply in `out`. An
+    /// error names the cell that the run needs next; then the script has no writes and `out` is as
+    /// before.
     final fn run(
         &self,
         part: &mut Workspace<Self>,

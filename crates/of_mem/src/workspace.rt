@@ -1,4 +1,4 @@
-//! Partial memory, and what a work keeps over it.
+//! Partial memory, and what a work keeps of an operation that runs on it.
 
 ghost use Rattle.std.specs.Prelude.{◌≡◌, ◌<◌, [], length, IfOk};
 ghost use Rattle.of_mem.specs.Part.{empty_part, learn, write, keep};
@@ -8,9 +8,9 @@ use crate::suspended_run::{MaySuspend, SuspendedRun};
 use std::alloc::{AllocError, Global};
 use std::marker::{Model, PhantomData};
 
-/// Partial memory, and what a work keeps between two runs over it. A contract sees the memory
-/// alone, as that of `Part`; `part` lends it to be read, and what changes it goes through the calls
-/// here, since they forget what no longer holds. Only `new` takes memory.
+/// Partial memory, and what a work keeps between two runs on it. A contract sees the partial memory
+/// alone. `part` lends it for reading. Changes go through the calls here, which also forget what
+/// was kept if it is no longer right. Only `new` takes memory.
 #[derive(Drop)]
 pub struct Workspace<W: MaySuspend> {
     pub(crate) part: Part,
@@ -32,8 +32,8 @@ impl<W: MaySuspend> Model for Workspace<W> {
 }
 
 impl<W: MaySuspend> Workspace<W> {
-    /// A memory of the cells below `cells` of which nothing is known. The error is that there is no
-    /// memory.
+    /// The partial memory of `cells` cells, in which none is known and nothing is written. An error
+    /// means that there is not enough memory.
     pub fn new(alloc: Global, cells: u32) -> Result<Self, AllocError>
         ensures { IfOk result (λ p. p ≡ empty_part cells) }
     {
@@ -46,14 +46,15 @@ impl<W: MaySuspend> Workspace<W> {
         })
     }
 
-    /// The memory, to be read.
+    /// The partial memory, for reading.
     pub fn part(&self) -> &Part
         ensures { result.now ≡ self.now }
     {
         &self.part
     }
 
-    /// Makes a cell's number known. What was kept is forgotten if it was known already.
+    /// Makes `value` the known number of a cell. If the cell was known already, what the work kept
+    /// is forgotten.
     pub fn learn(&mut self, addr: u32, value: u32)
         requires { addr < length self.old.known }
         ensures { self.new ≡ learn self.old addr value }
@@ -63,7 +64,7 @@ impl<W: MaySuspend> Workspace<W> {
         }
     }
 
-    /// Writes a number for the script.
+    /// Adds a write of the script: the cell `addr` gets the number `value`.
     pub fn write(&mut self, addr: u32, value: u32)
         requires { addr < length self.old.known }
         ensures writes { self.new ≡ write self.old addr value }
@@ -73,7 +74,7 @@ impl<W: MaySuspend> Workspace<W> {
         self.part.write(addr, value);
     }
 
-    /// Hands what the script wrote to the batch.
+    /// Moves the script's writes to the batch.
     pub fn keep(&mut self)
         ensures { self.new ≡ keep self.old }
     {
@@ -81,14 +82,14 @@ impl<W: MaySuspend> Workspace<W> {
         self.part.keep();
     }
 
-    /// Forgets what the script wrote.
+    /// Forgets the script's writes.
     pub fn undo(&mut self)
         ensures { self.new ≡ record self.old { script = [] } }
     {
         self.part.undo();
     }
 
-    /// Forgets everything.
+    /// Forgets all known numbers, all writes and what the work kept.
     pub fn clear(&mut self)
         ensures { self.new ≡ empty_part (length self.old.known) }
     {

@@ -8,16 +8,15 @@ use crate::index::{Entry, HOMES, find, front, search};
 use std::alloc::{AllocError, Global};
 use std::marker::Model;
 
-/// What was written: a map from cells to numbers, in order of first writing. Only `new` takes
-/// memory, and it fills a note for each home. The other calls take the same time, however many
-/// cells there may be and however many entries there are, up to some thousands; but
-/// `has_entries_of` and `copy_from` go through the entries.
+/// A write-set: a map from cells to numbers, in order of first writing. Only `new` takes memory.
+/// `has_entries_of` and `copy_from` go through all entries. All other calls but `new` take the same
+/// time however many cells there are, and however many entries up to some thousands.
 #[derive(Drop)]
 pub struct WriteSet {
     room: u32,
     entries: Vec<Entry>,
-    /// For each home of an entry, the number of the last one there. At another home there may be a
-    /// number that is left over from before a `clear`, or 0.
+    /// For each home that an entry has, the number of the last entry there. For any other home this
+    /// is 0, or out of date since a `clear`.
     fronts: Vec<u32>,
 }
 
@@ -37,7 +36,8 @@ impl Model for WriteSet {
 }
 
 impl WriteSet {
-    /// An empty one for the addresses below `room`. The error is that there is no memory.
+    /// An empty write-set for the addresses below `room`. An error means that there is not enough
+    /// memory.
     pub fn new(alloc: Global, room: u32) -> Result<Self, AllocError>
         ensures { IfOk result (λ w. w ≡ record { room = room; entries = [] }) }
     {
@@ -51,7 +51,7 @@ impl WriteSet {
         })
     }
 
-    /// The number of entries.
+    /// The number of entries, which is the number of addresses that were written.
     pub fn len(&self) -> u32
         ensures value { result ≡ length self.now.entries }
         ensures map { IsWriteSet self.now }
@@ -66,7 +66,7 @@ impl WriteSet {
         self.entries.is_empty()
     }
 
-    /// The place of an address among the entries.
+    /// The place of the entry with this address, if there is one.
     #[inline(always)]
     pub(crate) fn find(&self, addr: u32) -> Option<usize>
         ensures map { IsWriteSet self.now }
@@ -76,7 +76,7 @@ impl WriteSet {
         find(&self.fronts, &self.entries, addr)
     }
 
-    /// The number at an address, if it was written.
+    /// The number written at an address. None if nothing was written there.
     pub fn get(&self, addr: u32) -> Option<u32>
         ensures { result ≡ value_for self.now.entries addr }
     {
@@ -84,7 +84,8 @@ impl WriteSet {
         Some(self.entries[place].pair.1)
     }
 
-    /// The place of an address, if it was written before; else it comes last, with this number.
+    /// The place of the entry with this address, if there is one. Otherwise an entry with this
+    /// number is added at the end.
     pub(crate) fn enter(&mut self, addr: u32, value: u32) -> Option<usize>
         requires { addr < self.old.room }
         ensures map { IsWriteSet self.old }
@@ -110,7 +111,8 @@ impl WriteSet {
         }
     }
 
-    /// Writes a number: in its place if the address was written before, and else as the last entry.
+    /// Writes a number at an address. If the address was written before, its entry gets the number;
+    /// otherwise a new entry comes last.
     pub fn put(&mut self, addr: u32, value: u32)
         requires { addr < self.old.room }
         ensures { self.new ≡ record self.old { entries = put_pair self.old.entries addr value } }
@@ -120,7 +122,7 @@ impl WriteSet {
         }
     }
 
-    /// The address that was the `i`th to be written first, from 0, and its number.
+    /// Entry `i`, from 0, in order of first writing: an address and the number written there.
     pub fn entry(&self, i: u32) -> (u32, u32)
         requires { i < length self.now.entries }
         ensures value { result ≡ slice_index_or self.now.entries i (0, 0) }
@@ -129,7 +131,7 @@ impl WriteSet {
         self.entries[i as usize].pair
     }
 
-    /// Empties it.
+    /// Removes all entries.
     pub fn clear(&mut self)
         ensures { self.new ≡ record self.old { entries = [] } }
     {
@@ -138,7 +140,7 @@ impl WriteSet {
         }
     }
 
-    /// Whether its entries are those of another one, in the same order.
+    /// Whether two write-sets have the same entries in the same order.
     pub fn has_entries_of(&self, other: &WriteSet) -> bool
         ensures { IsTrue result ↔ (self.now.entries ≡ other.now.entries) }
     {
@@ -155,7 +157,7 @@ impl WriteSet {
         true
     }
 
-    /// Takes the entries of another one.
+    /// Replaces the entries by those of another write-set.
     pub fn copy_from(&mut self, other: &WriteSet)
         requires { self.old.room ≡ other.now.room }
         ensures { self.new ≡ record self.old { entries = other.now.entries } }

@@ -22,7 +22,7 @@ use Rattle.of_eval.proofs.Meanings.{means_words, words_mean_script}
 use Rattle.of_eval.proofs.ReadsOnly.{reads_of}
 use Rattle.of_plan.specs.Plan.{Plan}
 use Rattle.of_core.specs.declared.place.Outcome.{Outcome}
-use Rattle.of_core.specs.declared.place.Outcome.TheVariants.{Answered, Spent as Over}
+use Rattle.of_core.specs.declared.place.Outcome.TheVariants.{Answered, Spent as Over, Lost}
 use Rattle.of_core.specs.Table.{Setup}
 use Rattle.of_core.specs.Machine.{Call, no_call}
 use Rattle.of_core.specs.Linear.{Sequences}
@@ -198,6 +198,7 @@ module _ (w : Scripts) where
     own q (Answered seq announced raw steps) (Spent t) i ticket held has = absurd held
     own q (Over seq) (Replied response t n a) i ticket held has = absurd held
     own q (Over seq) (Spent t) i ticket held has = tt
+    own q (Lost seq) end i ticket held has = absurd held
 
     -- ---- how the calls have ended
 
@@ -217,6 +218,7 @@ module _ (w : Scripts) where
     explains (Answered seq announced raw steps) (Replied response t n a) i ticket op script is words held c = has i ticket op raw script response is words held.0 c
     explains (Answered seq announced raw steps) (Spent t) i ticket op script is words held c = absurd held
     explains (Over seq) (Replied response t n a) i ticket op script is words held c = absurd held
+    explains (Lost seq) end i ticket op script is words held none = absurd held
     explains (Over seq) (Spent t) i ticket op script is words held none =
         All-from_get_or (λ (e : HistoryEntry). e.caller ≡ i → e.ticket ≡ ticket → ⊥) hs no_history_entry
         (λ y l a b. none y no_call (among_calls y l) (sym (at y l).caller ∙ a) (sym (at y l).ticket ∙ b))

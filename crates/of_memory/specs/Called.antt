@@ -12,35 +12,35 @@ use Rattle.of_cells.specs.declared.error.RunError.TheVariants.{Stopped, Spent as
 use Rattle.of_cells.specs.Called as generic
 use Rattle.of_memory.specs.History.{Made, Replied, Spent}
 
--- a reply of which nothing is said
+-- an empty raw reply: shape 0, and no numbers
 abbrev pub no_reply : RawReply
 no_reply = record { shape = 0; values = [] }
 
--- what a call came to but for its reply, as a call of any work: an answer's sequence and steps, or
--- the error
+-- the result of a script's call, seen as that of a call of cells, but without the reply: an answer
+-- keeps its sequence, its steps and whether it was announced, and an error stays
 abbrev pub without_reply : Result Answer RunError → Result RawAnswer RunError
 without_reply (Ok a) =
     Ok (record { seq = a.seq; announced = a.announced; raw = no_reply; steps = a.steps })
 without_reply (Err e) = Err e
 
--- the cells of the answer hold some reply
+-- the answer's raw reply holds some reply of a script
 abbrev pub HoldsSomeReply : RawAnswer → Type 0
 HoldsSomeReply a = (r : Reply) × IsHeldBy a.raw r
 
--- the answer tells the same, with the reply that the cells hold
+-- the answer says the same as the raw answer, and has the reply that the raw answer holds
 pub record TellsRaw (raw : RawAnswer) (a : Answer) : Type 0 where
   pub seq : a.seq ≡ raw.seq
   pub announced : a.announced ≡ raw.announced
   pub steps : a.steps ≡ raw.steps
   pub reply : IsHeldBy raw.raw a.reply
 
--- the call, answered so
+-- the ended call of this script with this answer
 abbrev pub answered_call : List Instr → Answer → Made
 answered_call script a =
     record { script = script; ended = Replied (reply_value_of a.reply) a.seq a.steps a.announced }
 
--- The calls `ms`, and then a call of the script that has come to this result. It is added if it was
--- answered or spent, but not if it was stopped or refused.
+-- the ended calls of a caller, after a call of this script has had this result: that call is added
+-- if it was answered or spent
 abbrev pub made_with : List Instr → Result Answer RunError → List Made → List Made
 made_with script (Ok a) ms = ms ++ answered_call script a ∷ []
 made_with script (Err (Stopped asked)) ms = ms
@@ -53,6 +53,6 @@ made_with script (Err NoTicket) ms = ms
 abbrev pub HasStarted : Result Answer RunError → Type 0
 HasStarted result = generic.HasStarted (without_reply result)
 
--- a call that is not made leaves everything as it was
+-- if the call was refused (`InCall`, `NoCall` or `NoTicket`), nothing has changed
 abbrev pub LeavesAsItWas : {A : Type 0} → Result Answer RunError → (before now : A) → Type 0
 LeavesAsItWas result before now = generic.LeavesAsItWas (without_reply result) before now

@@ -9,45 +9,47 @@ use Rattle.of_store.specs.Store.{Reply}
 use Rattle.of_store.specs.Replies.{reply_value_of}
 use Rattle.of_eval.specs.Shapes.{IsHeldBy}
 use Rattle.of_core.specs.declared.place.Outcome.{Outcome}
-use Rattle.of_core.specs.declared.place.Outcome.TheVariants.{Answered, Spent as Over}
+use Rattle.of_core.specs.declared.place.Outcome.TheVariants.{Answered, Spent as Over, Lost}
 use Rattle.of_core.specs.Machine.{IsOpen}
 use Rattle.of_row.specs.Views.{EndedCall, KnownCaller}
 use Rattle.of_memory.specs.History.{End, Replied, Spent, Made}
 
--- the words are a script's
+-- the words are those of a script
 abbrev pub IsScriptOperation : List ℕ → Type 0
 IsScriptOperation op = (script : List Instr) × IsScript script × (op ≡ map instr_word script)
 
--- the cells hold a reply that is this response
+-- the raw reply holds a reply of the code that stands for this reply
 abbrev pub HoldsResponse : RawReply → Reply → Type 0
 HoldsResponse raw response = (r : RustReply) × IsHeldBy raw r × (reply_value_of r ≡ response)
 
--- the outcome is this end
+-- the outcome and the end say the same of a call: its reply, its sequence, its steps and whether it
+-- was announced, or that it was spent
 abbrev pub EndsAs : Outcome → End → Type 0
 EndsAs (Answered s announced raw steps) (Replied r t n a) =
     HoldsResponse raw r × (s ≡ t) × (steps ≡ n) × (announced ≡ a)
 EndsAs (Answered s announced raw steps) (Spent t) = ⊥
 EndsAs (Over s) (Replied r t n a) = ⊥
 EndsAs (Over s) (Spent t) = s ≡ t
+EndsAs (Lost s) end = ⊥
 
--- what is kept of a call is this one
+-- what a caller keeps of an ended call is this call of a script
 pub record IsMade (e : EndedCall) (m : Made) : Type 0 where
   pub script : IsScript m.script
   pub words : e.op ≡ map instr_word m.script
   pub ended : EndsAs e.outcome m.ended
 
--- and so of each, in order
+-- what a caller keeps of its ended calls are these calls of scripts, in order
 abbrev pub AreMade : List EndedCall → List Made → Type 0
 AreMade [] [] = Unit {0}
 AreMade [] (m ∷ ms) = ⊥
 AreMade (e ∷ es) [] = ⊥
 AreMade (e ∷ es) (m ∷ ms) = IsMade e m × AreMade es ms
 
--- each of these calls is that of a script
+-- each of these ended calls is a call of a script
 abbrev pub AreOfScripts : List EndedCall → Type 0
 AreOfScripts es = All (λ (e : EndedCall). IsScriptOperation e.op) es
 
--- each call that the kept caller has made is that of a script, also its open one
+-- each ended call of the kept caller is a call of a script, and so is its open call
 pub record RunsScripts (x : KnownCaller) : Type 0 where
   pub ended : AreOfScripts x.ended
   pub open_call : IsOpen x.machine.place → IsScriptOperation x.machine.op

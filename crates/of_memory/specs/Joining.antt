@@ -11,13 +11,14 @@ use Rattle.of_memory.specs.Handles.{IsSame, HasCallOpen}
 use Rattle.of_memory.specs.Memories.{IsStill, StartsWith, HasMadeOf, HasNoneOpen, HasHistory, TakesOut, PutsBack, callers_of, tickets_before}
 use Rattle.of_memory.specs.Saving.{SavedHolds}
 
--- a history and one that goes on from its end are one history
+-- a serial history, followed by one that starts from the store which the first one leaves, is one
+-- serial history
 abbrev pub HistoriesJoin : Type 0
 HistoriesJoin =
     (s : Store) (h k : List HistoryEntry) → IsSerial s h → IsSerial (store_after s h) k
     → IsSerial s (h ++ k) × (store_after s (h ++ k) ≡ store_after (store_after s h) k)
 
--- what each script of a kind keeps of a store holds after a history of such scripts
+-- if every script of a kind keeps a property of the store, a history of such scripts keeps it too
 abbrev pub InvariantsHold : Type 0
 InvariantsHold =
     (holds : Store → Bool) (kind : List Instr → Bool)
@@ -27,17 +28,19 @@ InvariantsHold =
     → All (λ (e : HistoryEntry). kind e.script ≡ true) h
     → holds (store_after s h) ≡ true
 
--- it has as many callers, and was opened with the same store and the same calls
+-- the memory has as many callers as before, and the same store and tickets that it was opened with
 pub record StaysAsOpened (before now : Memory) : Type 0 where
   pub callers : callers_of now ≡ callers_of before
   pub store : (s : Store) → StartsWith before s → StartsWith now s
   pub tickets : (n : ℕ) → tickets_before now n ≡ tickets_before before n
 
--- so it is while handles come and go
+-- while handles come and go, a memory keeps its number of callers, and the store and tickets that
+-- it was opened with
 abbrev pub MemoriesStay : Type 0
 MemoriesStay = (m k : Memory) → IsStill m k → StaysAsOpened m k
 
--- if no call is open, a handle that comes, makes its calls and leaves with none open leaves it so
+-- if no call of a memory is open, and a handle comes, makes its calls and leaves with none open,
+-- then no call of the memory is open
 abbrev pub NoneStaysOpen : Type 0
 NoneStaysOpen =
     (m k l : Memory) (h g : Handle) → HasNoneOpen m → TakesOut m k h → IsSame h g
@@ -48,14 +51,16 @@ abbrev pub EndsWithReply : End → Type 0
 EndsWithReply (Replied r seq steps announced) = Unit {0}
 EndsWithReply (Spent seq) = ⊥
 
--- these calls of one caller were answered, and no other call was made or is open
+-- caller n has made these calls, and each was answered; no other caller has made a call, and no
+-- call is open
 pub record HasMadeAlone (m : Memory) (n : ℕ) (ms : List Made) : Type 0 where
   pub made : HasMadeOf m n ms
   pub replied : All (λ (x : Made). EndsWithReply x.ended) ms
   pub others : (i : ℕ) → i < callers_of m → i ≢ n → HasMadeOf m i []
   pub none_open : HasNoneOpen m
 
--- then what is saved is the store after their scripts, one after the other
+-- if one caller has made all calls, and each was answered, what is saved is the store after their
+-- scripts, one after the other
 abbrev pub LoneCallsAreSaved : Type 0
 LoneCallsAreSaved =
     (m : Memory) (n : ℕ) (ms : List Made) (d : Saved) → HasMadeAlone m n ms → HasHistory m d

@@ -23,49 +23,50 @@ use Rattle.of_memory.specs.Calls.{RunsScripts, AreMade}
 use Rattle.of_memory.specs.Rows.{StandFor, StandsAt, HoldsLastReplies}
 use Rattle.of_memory.specs.Saving.{TellLast}
 
--- what the machines on a table for these scripts have in common
+-- what the machines on a table for these scripts, with this limit, have in common
 abbrev pub setup_with : Scripts → (limit : ℕ) → Setup
 setup_with w limit = setup_of w.callers (scripts_data_cells w) limit (scripts_meaning w)
 
--- each number is kept, and has made calls of scripts alone
+-- the view keeps the caller of each number, and this caller has made only calls of scripts
 abbrev pub KeepScripts : Setup → View → Type 0
 KeepScripts S v = (n : ℕ) → n < S.callers → KeepsSo n RunsScripts v.kept
 
--- the history has the calls of the kept caller as they have ended
+-- the history explains how the kept caller's calls ended
 abbrev pub ExplainsKept : Setup → TableStart → List HistoryEntry → KnownCaller → Type 0
 ExplainsKept S B h x =
     (ms : List Made) → AreMade x.ended ms
     → ExplainsAll h x.machine.caller (done_before S B x.machine.caller) ms
 
--- and each that was answered has its own sequence
+-- each answered call of the kept caller that is in the history has there the sequence that its
+-- answer names, and is announced there exactly if its answer says so
 abbrev pub HaveKeptSequences : Setup → TableStart → List HistoryEntry → Sequences → KnownCaller
     → Type 0
 HaveKeptSequences S B h q x =
     (ms : List Made) → AreMade x.ended ms
     → HaveOwnSequences h q x.machine.caller (done_before S B x.machine.caller) ms
 
--- the kept caller's call of this script is open
+-- the kept caller has an open call of this script
 abbrev pub HasOpenScript : KnownCaller → List Instr → Type 0
 HasOpenScript x script =
     IsScript script × HasOpenOperation x (map instr_word script)
 
--- and of its calls the history has no others
+-- each entry of the kept caller in the history is one of its ended calls or its open call
 abbrev pub HasOnlyKept : Setup → TableStart → List HistoryEntry → KnownCaller → Type 0
 HasOnlyKept S B h x =
     (ms : List Made) → AreMade x.ended ms
     → HasOnly h x.machine.caller (done_before S B x.machine.caller) ms (HasOpenScript x)
 
--- the history has calls in the order in which these events have them: those that had ended come
--- before those that had not begun
+-- if some calls had ended before others began, in these events, the former come before the latter
+-- in the history
 abbrev pub RespectsEvents : Setup → TableStart → List Event → List HistoryEntry → Type 0
 RespectsEvents S B es h =
     (n x k y : ℕ) → EndBefore S B es n x k y
     → ComeInOrder h n (done_before S B n + x) k (done_before S B k + y)
 
 -- A serial history leads from the store to the one that data cells with these numbers stand for.
--- The calls of each caller are there in the order in which it made them, each once at most, and the
--- history stands by sequence. The cells tell the last call of each caller, which had `made` calls
--- before, and no call that may write is later.
+-- Each call is in it at most once, and the calls of each caller are in the order in which it made
+-- them. The history is ordered by sequence. Each caller had made `made` calls before; the cells
+-- show its last call, and its later calls only read.
 pub record HistoryLeads (w : Scripts) (caller_count : ℕ) (made : ℕ → ℕ) (s : Store) (now : List ℕ)
     (h : List HistoryEntry) (q : Sequences) : Type 0 where
   pub serial : IsSerial s h
@@ -76,8 +77,9 @@ pub record HistoryLeads (w : Scripts) (caller_count : ℕ) (made : ℕ → ℕ) 
   pub last : (n : ℕ) → n < caller_count → TellLast now h n (made n)
   pub upto : (n : ℕ) → n < caller_count → IsUpTo h n (own_ticket now n)
 
--- The history has the calls of each caller that the view keeps as they have ended, each with its
--- own sequence, and no others of theirs. It respects what the view knows of real time.
+-- The history explains how the calls of each caller that the view keeps have ended, and gives each
+-- answered call the sequence that its answer names. All other calls of these callers in the history
+-- are open. The history respects real time, as far as the view knows it.
 pub record ExplainsView (S : Setup) (B : TableStart) (h : List HistoryEntry) (q : Sequences)
     (v : View) : Type 0 where
   pub calls : Each (ExplainsKept S B h) v.kept
@@ -85,8 +87,8 @@ pub record ExplainsView (S : Setup) (B : TableStart) (h : List HistoryEntry) (q 
   pub only : Each (HasOnlyKept S B h) v.kept
   pub time : RespectsEvents S B v.past h
 
--- a serial history leads from the store to what recovery finds in the durable words, and of these
--- views each finds in it what it knows
+-- a serial history leads from the store to what recovery finds in the durable words, and each of
+-- these views finds in the history what the view knows
 pub record HistoryFound (w : Scripts) (limit : ℕ) (B : TableStart) (s : Store) (words : List ℕ)
     (OfViews : (View → Type 0) → Type 0) : Type 0 where
   pub history : List HistoryEntry
@@ -95,10 +97,10 @@ pub record HistoryFound (w : Scripts) (limit : ℕ) (B : TableStart) (s : Store)
       (numbers_found w.callers (scripts_data_cells w) words) history sequences
   pub views : OfViews (ExplainsView (setup_with w limit) B history sequences)
 
--- Where words and a view meet the rule of a row of these scripts, and the view keeps each caller,
--- recovery of the durable words finds a row from which a table may start, and a serial history
--- leads there from each store that the row has started with. If the start held the last replies of
--- the callers, so does that row.
+-- If words and a view meet the rule of a row of these scripts, and the view keeps each caller, a
+-- table may start from what recovery finds in the durable words. From each store that the row has
+-- started with, a serial history leads there. If the row's start held the last replies of the
+-- callers, what is found holds them too.
 abbrev pub HoldsHistory : Scripts → (limit : ℕ) → Type 0
 HoldsHistory w limit =
     let S : Setup = setup_with w limit in

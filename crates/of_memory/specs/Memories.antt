@@ -27,115 +27,117 @@ use Rattle.of_memory.specs.Saving.{SavedHolds, TellLast, saved_cells, saved_tick
 abbrev pub row_of : Memory → Row Scripts
 row_of m = generic.row_of m.cells
 
--- the scripts that it runs
+-- the memory's work: scripts, with its numbers of callers and blocks
 abbrev pub scripts_work_of : Memory → Scripts
 scripts_work_of m = generic.work_of m.cells
 
--- how many callers it has
+-- how many callers the memory has
 abbrev pub callers_of : Memory → ℕ
 callers_of m = generic.callers_of m.cells
 
--- the last sequence that may be committed in it
+-- the last sequence that may be committed in the memory
 abbrev pub limit_of : Memory → ℕ
 limit_of m = generic.limit_of m.cells
 
--- the numbers of the data cells with which it was opened
+-- the numbers of the data cells with which the memory was opened
 abbrev pub cells_before : Memory → List ℕ
 cells_before m = generic.cells_before scripts_meaning m.cells
 
--- it is open, and its callers have run scripts alone
+-- the memory is open, and its callers have run only scripts
 pub record IsMemory (m : Memory) : Type 0 where
   pub memory : generic.IsCellMemory scripts_meaning m.cells
   pub row : IsScriptsRow (row_of m)
   pub made : (n : ℕ) (es : List EndedCall) → generic.HasMadeOf m.cells n es → AreOfScripts es
   pub opened : (n : ℕ) (op : List ℕ) → generic.HasOpenOf m.cells n op → IsScriptOperation op
 
--- the store that it was opened with
+-- the memory was opened with this store
 abbrev pub StartsWith : Memory → Store → Type 0
 StartsWith m s = StandFor (scripts_work_of m) (cells_before m) s
 
--- how many calls of a caller it was opened with
+-- how many calls a caller had made before the memory was opened
 abbrev pub tickets_before : Memory → ℕ → ℕ
 tickets_before m n = generic.tickets_before scripts_meaning m.cells n
 
--- no handle of this number is out, and since the memory was opened its number has made these calls,
--- which have ended
+-- no handle of number n is out, and these calls of number n have ended since the memory was opened
 pub record HasMadeOf (m : Memory) (n : ℕ) (ms : List Made) : Type 0 where
   pub ended : List EndedCall
   pub here : generic.HasMadeOf m.cells n ended
   pub made : AreMade ended ms
 
--- and its call of this script is open
+-- no handle of number n is out, and number n has an open call of this script
 pub record HasOpenOf (m : Memory) (n : ℕ) (script : List Instr) : Type 0 where
   pub is : IsScript script
   pub opened : generic.HasOpenOf m.cells n (map instr_word script)
 
--- no handle of number j is out, and it knows that the first x calls of number n had ended before
--- number k began any call but its first y
+-- no handle of number j is out, and number j knows: the first x calls of number n had ended before
+-- number k began its call y + 1
 abbrev pub HasOrderOf : Memory → (j n x k y : ℕ) → Type 0
 HasOrderOf m j n x k y = generic.HasOrderOf scripts_meaning m.cells j n x k y
 
--- the memory knows still what it knew of the calls that have ended
+-- the memory still knows of each ended call that it knew of
 abbrev pub RemembersAll : (before now : Memory) → Type 0
 RemembersAll m k = generic.RemembersAll scripts_meaning m.cells k.cells
 
--- no handle is out
+-- no handle is out: the caller of each number is in the memory
 abbrev pub HasNoHandleOut : Memory → Type 0
 HasNoHandleOut m = generic.HasNoHandleOut m.cells
 
--- a handle is out
+-- a handle is out: the caller of some number is not in the memory
 abbrev pub HasHandleOut : Memory → Type 0
 HasHandleOut m = HasNoHandleOut m → ⊥
 
--- the handle is the memory's
+-- the handle is one of this memory
 abbrev pub IsFrom : Memory → Handle → Type 0
 IsFrom m h = generic.IsFrom m.cells h.cells
 
--- it is the same memory still
+-- both are the same memory at different times: they have the same row
 abbrev pub IsStill : (before now : Memory) → Type 0
 IsStill m k = generic.IsStill m.cells k.cells
 
--- every number but n that has no handle out still has none, and has made the same calls
+-- For each number but n whose caller was in the memory: the caller is still in the memory, with the
+-- same ended calls.
 abbrev pub KnowsOthers : ℕ → (before now : Memory) → Type 0
 KnowsOthers n m k = (i : ℕ) (ms : List Made) → i ≢ n → HasMadeOf m i ms → HasMadeOf k i ms
 
--- and if its call is open, it stays open
+-- for each number but n whose caller was in the memory with an open call: the caller is still in
+-- the memory, with this call open
 abbrev pub OthersStayOpen : ℕ → (before now : Memory) → Type 0
 OthersStayOpen n m k =
     (i : ℕ) (script : List Instr) → i ≢ n → HasOpenOf m i script → HasOpenOf k i script
 
--- they know each order that they knew
+-- for each number but i: its caller in the memory still knows each order of calls that it knew
 abbrev pub OthersKnowOrder : ℕ → (before now : Memory) → Type 0
 OthersKnowOrder i m l = generic.OthersKnowOrder scripts_meaning i m.cells l.cells
 
--- no call is open
+-- no caller that is in the memory has an open call
 abbrev pub HasNoneOpen : Memory → Type 0
 HasNoneOpen m = generic.HasNoneOpen m.cells
 
--- The caller of the handle's number was in the memory, and is taken out of it. The handle has its
--- calls, and knows what it knew.
+-- The caller of the handle's number was in the memory, and is taken out of it. The handle has this
+-- caller's calls, and knows what the caller knew.
 abbrev pub TakesOut : (before now : Memory) → Handle → Type 0
 TakesOut m k h = generic.TakesOut m.cells k.cells h.cells
 
--- no caller is taken out
+-- the memory has the same callers in it as before
 abbrev pub TakesNone : (before now : Memory) → Type 0
 TakesNone m k = generic.TakesNone m.cells k.cells
 
--- a caller with the handle's calls, which knows what it knew, is put back
+-- the handle's caller is put back into the memory, with its calls and all that it knew
 abbrev pub PutsBack : (before now : Memory) → Handle → Type 0
 PutsBack m k h = generic.PutsBack m.cells k.cells h.cells
 
--- what is saved of the last call of caller n: there was none since the memory was opened, or it is
--- one of the history, with its reply
+-- what is saved shows the last call of caller n: there was none since the memory was opened, or it
+-- is a call of the history, and its reply is saved
 abbrev pub TellsLastOf : Memory → Saved → List HistoryEntry → ℕ → Type 0
 TellsLastOf m d h n = TellLast (saved_cells d) h n (tickets_before m n)
 
--- The history leads from the store with which the memory was opened to the saved one. It is serial,
--- and the calls of each caller are there in the order in which they were made, each once at most.
--- It stands by sequence. It has each call that was answered, with its reply and its own sequence,
--- and no call that was spent; beside these it has open calls alone. What is saved tells the last
--- call of each caller, and no call that may write is later. It respects the time between calls,
--- where one of the numbers knows of it.
+-- The history leads from the store with which the memory was opened to the saved one. It is serial:
+-- each call has the reply that it gets when they are run one after the other. It has each call at
+-- most once, and the calls of each caller in the order in which it made them. It is ordered by
+-- sequence. It has each call that was answered, with its reply, at the sequence that the answer
+-- names. It has no spent call, and besides the answered calls only open ones. What is saved names
+-- the last call of each caller; later calls of the caller only read. The history respects real
+-- time, as far as one of the numbers knows it.
 pub record LeadsTo (m : Memory) (s : Store) (d : Saved) (h : List HistoryEntry) : Type 0 where
   pub serial : IsSerial s h
   pub ends : SavedHolds d (store_after s h)
@@ -153,15 +155,15 @@ pub record LeadsTo (m : Memory) (s : Store) (d : Saved) (h : List HistoryEntry) 
   pub time : (j n x k y : ℕ) → HasOrderOf m j n x k y
       → ComeInOrder h n (tickets_before m n + x) k (tickets_before m k + y)
 
--- so it is of the store with which it was opened
+-- a history leads from the store with which the memory was opened to what is saved
 abbrev pub HasHistory : Memory → Saved → Type 0
 HasHistory m d = (s : Store) → StartsWith m s → (h : List HistoryEntry) × LeadsTo m s d h
 
--- why there is no handle
+-- why the memory gives no handle for number n
 abbrev pub IsEnrolCause : Memory → ℕ → EnrolError → Type 0
 IsEnrolCause m n e = generic.IsEnrolCause m.cells n e
 
--- and why no memory is opened
+-- why no memory is opened with these callers, blocks and limit
 abbrev pub IsOpenCause : (callers blocks limit : ℕ) → OpenError → Type 0
 IsOpenCause callers blocks limit (OutOfMemory e) = Unit {0}
 IsOpenCause callers blocks limit (Callers k) =

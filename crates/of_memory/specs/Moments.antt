@@ -24,7 +24,8 @@ use Rattle.of_memory.specs.Laws.{setup_with, HistoryFound}
 use Rattle.of_memory.specs.Words.{AreStartWords}
 use Rattle.of_memory.specs.Memories.{row_of, limit_of, StartsWith}
 
--- one of the views, which is not spent, keeps a caller of this number, which has run scripts alone
+-- one of the views is not spent and keeps the caller of this number; all calls of this caller are
+-- calls of scripts
 pub record IsKeptByOne (vs : List View) (n : ℕ) : Type 0 where
   pub seat : ℕ
   pub view : View
@@ -32,15 +33,16 @@ pub record IsKeptByOne (vs : List View) (n : ℕ) : Type 0 where
   pub live : view.spent ≡ false
   pub keeps : KeepsSo n RunsScripts view.kept
 
--- each number that is taken is kept by a pass or a member, and has run scripts alone
+-- for each number that is taken, a view that is not spent keeps its caller, and all calls of this
+-- caller are calls of scripts
 abbrev pub EachRunsScripts : Setup → State (Unit {0}) View → Type 0
 EachRunsScripts S s =
     (n : ℕ) → n < S.callers → (bit_at (members_of S s.words) n ≡ 0) ⊎ IsKeptByOne s.views n
 
--- At each moment of a row of these scripts, as between any two steps on it, a table may start from
--- what recovery finds in the durable words as they are. From each store that the row has started
--- with one serial history leads there. It has each call that was answered to whomever a pass or a
--- member keeps, with its reply and its sequence, and beside these it has open calls alone.
+-- At each moment of a row of these scripts, also between two steps on it, a table may start from
+-- what recovery finds in the durable words of that moment. From each store that the row has started
+-- with, one serial history leads there. It has each answered call of a caller that a pass or a
+-- member keeps, with its reply and its sequence, and besides these only open calls.
 abbrev pub WordsHoldHistory : Scripts → (limit : ℕ) → Type 0
 WordsHoldHistory w limit =
     let S : Setup = setup_with w limit in
@@ -50,9 +52,9 @@ WordsHoldHistory w limit =
     AreStartWords w limit words
     × ((t : Store) → StandsAt w B t → HistoryFound w limit B t words (λ P. EachView P s.views))
 
--- So it is of the memory at each moment of its row: it may go on from what recovery finds in the
--- durable words as they are, and one serial history leads there from the store with which it was
--- opened.
+-- At each moment of the memory's row, also between two steps on it, a memory may go on from what
+-- recovery finds in the durable words of that moment. One serial history leads there from the store
+-- with which the memory was opened.
 abbrev pub HoldsWordsAlways : Memory → Type 0
 HoldsWordsAlways m =
     let S : Setup = setup_at scripts_meaning (row_of m) in

@@ -15,18 +15,19 @@ use Rattle.of_row.specs.Rows.{key_of}
 use Rattle.of_cells.specs.Serving as generic
 use Rattle.of_cells.specs.Serving.{cells_at_start}
 
--- the numbers of the data cells stand for this store
+-- data cells with these numbers stand for this store
 abbrev pub StandFor : Scripts → (cells : List ℕ) → Store → Type 0
 StandFor w cells s = IsStored (store_at w) w.blocks (memory_of cells) s
 
--- they hold a reply to the last call of each caller that has made one
+-- data cells with these numbers hold a reply to the last call of each caller that has made one
 abbrev pub HoldLastReplies : Scripts → (cells : List ℕ) → Type 0
 HoldLastReplies w cells = AllOwnCellsAreSound MOST_INSTRS (memory_of cells) w.callers
 
--- so it is of the cells of a start
+-- the data cells of the start stand for this store
 abbrev pub StandsAt : Scripts → TableStart → Store → Type 0
 StandsAt w B s = StandFor w (map payload_of B.cells) s
 
+-- the data cells of the start hold a reply to the last call of each caller that has made one
 abbrev pub HoldsLastReplies : Scripts → TableStart → Type 0
 HoldsLastReplies w B = HoldLastReplies w (map payload_of B.cells)
 
@@ -34,8 +35,8 @@ HoldsLastReplies w B = HoldLastReplies w (map payload_of B.cells)
 abbrev pub made_before : Row Scripts → ℕ → ℕ
 made_before r n = generic.made_before scripts_meaning r n
 
--- the row has the sizes of its scripts, and its start stands for some store and holds the last
--- replies
+-- The row has the callers and the data cells of its scripts. The data cells with which it started
+-- stand for some store, and hold the last reply to each caller.
 pub record IsScriptsRow (r : Row Scripts) : Type 0 where
   pub callers : (key_of r).callers ≡ (key_of r).work.callers
   pub cells : (key_of r).cells ≡ scripts_data_cells (key_of r).work

@@ -12,53 +12,53 @@ use Rattle.of_memory.specs.History.{HistoryEntry, HasEntry}
 use Rattle.of_memory.specs.Calls.{HoldsResponse}
 use Rattle.of_memory.specs.Rows.{StandFor, HoldLastReplies}
 
--- the scripts whose store it holds
+-- the work of the closed memory: scripts, with its numbers of callers and blocks
 abbrev pub saved_scripts : Saved → Scripts
 saved_scripts d = generic.saved_work d.cells
 
--- the numbers of the data cells
+-- the numbers of the saved data cells
 abbrev pub saved_cells : Saved → List ℕ
 saved_cells d = generic.saved_cells d.cells
 
--- the last sequence that may be committed in it
+-- the last sequence that may be committed, in a memory that goes on from what is saved
 abbrev pub saved_limit : Saved → ℕ
 saved_limit d = generic.saved_limit d.cells
 
--- the last sequence that was committed in it
+-- the last sequence that was committed in what is saved
 abbrev pub saved_seq : Saved → ℕ
 saved_seq d = generic.saved_seq d.cells
 
--- how many callers it has
+-- how many callers are saved
 abbrev pub saved_callers : Saved → ℕ
 saved_callers d = generic.saved_callers d.cells
 
--- how many calls of a caller it holds
+-- how many calls of a caller are saved: the ticket of its last one
 abbrev pub saved_ticket : Saved → ℕ → ℕ
 saved_ticket d n = generic.saved_ticket d.cells n
 
--- a memory may go on from it: it holds a store and the last replies
+-- a memory may go on from what is saved, which holds a store and the last replies
 pub record IsSaved (d : Saved) : Type 0 where
   pub saved : generic.IsSavedCells (λ w. w.callers) scripts_data_cells scripts_meaning LawfulCells
       d.cells
   pub replies : HoldLastReplies (saved_scripts d) (saved_cells d)
   pub some_limit : 1 ≤ saved_limit d
 
--- it holds this store
+-- what is saved holds this store
 abbrev pub SavedHolds : Saved → Store → Type 0
 SavedHolds d s = StandFor (saved_scripts d) (saved_cells d) s
 
--- the numbers of the data cells hold this reply to the last call of caller n
+-- data cells with these numbers hold this reply to the last call of caller n
 abbrev pub HoldReply : (cells : List ℕ) → (n : ℕ) → Reply → Type 0
 HoldReply cells n response = HoldsResponse (reply_in MOST_INSTRS (memory_of cells) n) response
 
--- What the cells hold of the last call of caller n, which had made `before` calls: there was none
--- since, or it is one of the history, with its reply.
+-- Caller n had made `before` calls. The data cells show its last call since: there was none, or it
+-- is the call of the history with the ticket in the cells, and the cells hold its reply.
 abbrev pub TellLast : (cells : List ℕ) → List HistoryEntry → (n before : ℕ) → Type 0
 TellLast cells h n before =
     (generic.own_ticket cells n ≡ before)
     ⊎ ((e : HistoryEntry) × HasEntry h e × (e.caller ≡ n) × (e.ticket ≡ generic.own_ticket cells n)
     × HoldReply cells n e.reply)
 
--- so does it
+-- what is saved holds this reply to the last call of caller n
 abbrev pub HoldsReply : Saved → ℕ → Reply → Type 0
 HoldsReply d n response = HoldReply (saved_cells d) n response

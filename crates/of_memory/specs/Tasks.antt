@@ -12,7 +12,8 @@ use Rattle.of_memory.specs.Handles.{IsHandle, HasMade, HasOpen, IsSame, number_o
 use Rattle.of_memory.specs.Memories.{HasMadeOf, HasOpenOf, HasOrderOf, IsFrom}
 use Rattle.of_memory.specs.Telling.{KnowsOrdersOf, LeavesOrder, HearsMemory, TellsMemory}
 
--- the memory knows of the handle's number what the handle knows, and nothing else
+-- the caller of the handle's number is in the memory, with exactly the calls that the handle has,
+-- ended and open
 pub record KnowsHandle (m : Memory) (h : Handle) : Type 0 where
   pub made : (ms : List Made) → HasMade h ms → HasMadeOf m (number_of_handle h) ms
   pub only : (ms : List Made) → HasMadeOf m (number_of_handle h) ms → HasMade h ms
@@ -21,39 +22,40 @@ pub record KnowsHandle (m : Memory) (h : Handle) : Type 0 where
   pub only_open : (script : List Instr) → HasOpenOf m (number_of_handle h) script
       → HasOpen h script
 
--- of this number the memory knows what it knew, and nothing else
+-- of number n the memory knows exactly the calls that it knew before, ended and open
 pub record KnowsSame (n : ℕ) (m k : Memory) : Type 0 where
   pub made : (ms : List Made) → HasMadeOf m n ms → HasMadeOf k n ms
   pub only : (ms : List Made) → HasMadeOf k n ms → HasMadeOf m n ms
   pub open_call : (script : List Instr) → HasOpenOf m n script → HasOpenOf k n script
   pub only_open : (script : List Instr) → HasOpenOf k n script → HasOpenOf m n script
 
--- so it is of each number from this one on
+-- of each number from `from` on the memory knows exactly the calls that it knew before
 abbrev pub KnowsRest : (from : ℕ) → (before now : Memory) → Type 0
 KnowsRest from m k = (n : ℕ) → from ≤ n → KnowsSame n m k
 
--- each number from this one on knows each order that it knew
+-- for each number from `from` on: its caller in the memory still knows each order of calls that it
+-- knew
 abbrev pub RestKnowsOrder : (from : ℕ) → (before now : Memory) → Type 0
 RestKnowsOrder from m l =
     (j : ℕ) → from ≤ j → (n x k y : ℕ) → HasOrderOf m j n x k y → HasOrderOf l j n x k y
 
--- what a task says of its work: the task and its handle before it and after it
+-- what a task promises of its work, about the task and its handle before and after it
 abbrev pub TaskWork : Type 0 → Type 1
 TaskWork J = J → Handle → J → Handle → Type 0
 
--- a task has worked with its handle
+-- a task has worked with its handle, and gives back a handle of the same memory and number
 pub record HasWorked {J : Type 0} (Does : TaskWork J) (p q : Handle × J) : Type 0 where
   pub handle : IsHandle q.0
   pub same : IsSame p.0 q.0
   pub done : Does p.1 p.0 q.1 q.0
 
--- the same of a handle of cells
+-- what a task promises of its work, if its handle is seen as one of a memory of cells
 abbrev pub WorksWith : {J : Type 0} → TaskWork J → generic.TaskWork Scripts J
 WorksWith Does x h y k = HasWorked Does (record { cells = h }, x) (record { cells = k }, y)
 
--- A task has worked with the handle of this number, which knew what the memory knew of it before,
--- and had heard of all calls that the memory knew to have ended. The memory knows what the handle
--- knew when it left, and has heard of all its calls.
+-- A task has worked with the handle of this number. The handle knew what the memory knew of the
+-- number before, and had heard of all calls that the memory knew to have ended. The memory knows
+-- what the handle knew when it left, and has heard of all its calls.
 pub record HasWorkedAs {J : Type 0} (Does : TaskWork J) (n : ℕ) (m k : Memory) (x y : J)
     : Type 0 where
   pub begun : Handle
@@ -69,26 +71,26 @@ pub record HasWorkedAs {J : Type 0} (Does : TaskWork J) (n : ℕ) (m k : Memory)
   pub order : LeavesOrder left k
   pub told : TellsMemory left k
 
--- each task has worked with the handle of the number that is its place
+-- each task has worked with the handle whose number is the place of the task in the list
 pub record HaveWorked {J : Type 0} (Does : TaskWork J) (m k : Memory) (xs ys : List J)
     : Type 0 where
   pub count : length ys ≡ length xs
   pub each : (n : ℕ) (d : J) → n < length xs
       → HasWorkedAs Does n m k (get_or xs n d) (get_or ys n d)
 
--- why no task has worked: there is no memory, or one of the numbers has no caller, or its handle is
--- out
+-- why no task has worked: memory ran out, there are more tasks than callers, or a handle with the
+-- number of a task is out
 abbrev pub IsTaskCause : Memory → (count : ℕ) → EnrolError → Type 0
 IsTaskCause m count e = generic.IsTaskCause m.cells count e
 
 -- ---- a task works with a handle of cells
 
--- the handle, if it is there, is one of scripts
+-- if the slot holds a handle, it is one of a memory of scripts
 abbrev pub MayWork : {J : Type 0} → generic.Slot Scripts J → Type 0
 MayWork {J} s =
     (p : CellHandle Scripts × J) → s ≡ Some p → IsHandle (record { cells = p.0 })
 
--- so is each
+-- each handle in these slots is one of a memory of scripts
 abbrev pub MayAllWork : {J : Type 0} → List (generic.Slot Scripts J) → Type 0
 MayAllWork {J} ss =
     (i : ℕ) (s : generic.Slot Scripts J) → i < length ss → s ≡ get_or ss i s → MayWork s

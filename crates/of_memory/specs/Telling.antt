@@ -16,60 +16,64 @@ use Rattle.of_memory.specs.Called.{HasStarted, without_reply}
 use Rattle.of_memory.specs.Handles.{HasMade, home_of, number_of_handle}
 use Rattle.of_memory.specs.Memories.{IsFrom, IsStill, StartsWith, RemembersAll, HasHistory, LeadsTo, tickets_before}
 
--- it knows that the first `count` calls of a number since the memory was opened have ended
+-- the handle knows that the first `count` calls of a number since the memory was opened have ended
 abbrev pub HasHeardOf : Handle → (number count : ℕ) → Type 0
 HasHeardOf h n count = generic.HasHeardOf scripts_meaning h.cells n count
 
--- it knows that the first x calls of number n had ended before number k began any call but its
--- first y
+-- the handle knows that the first x calls of number n had ended before number k began its call y +
+-- 1
 abbrev pub KnowsOrder : Handle → (n x k y : ℕ) → Type 0
 KnowsOrder h n x k y = generic.KnowsOrder scripts_meaning h.cells n x k y
 
--- it still knows which calls had ended, and each order that it knew
+-- the handle still knows of each ended call that it knew of, and each order of calls that it knew
 abbrev pub KeepsKnown : (before now : Handle) → Type 0
 KeepsKnown h k = generic.KeepsKnown scripts_meaning h.cells k.cells
 
--- its calls are as they were, the ended ones and the open one
+-- the handle's calls are as they were, the ended ones and the open one, and it knows as much or
+-- more
 abbrev pub CallsStay : (before now : Handle) → Type 0
 CallsStay h k = generic.CallsStay h.cells k.cells
 
 -- ---- news
 
--- it is news of this memory
+-- the news is of the calls of the memory with this row
 abbrev pub IsNews : Row Scripts → News → Type 0
 IsNews r a = generic.IsNews r a
 
--- it tells of all calls of the handle that have ended
+-- the news tells of each ended call of the handle
 abbrev pub TellsOwn : Handle → News → Type 0
 TellsOwn h a = generic.TellsOwn scripts_meaning h.cells a
 
--- it tells of all that the handle has heard of
+-- the news tells of each call that the handle has heard of
 abbrev pub TellsHeard : Handle → News → Type 0
 TellsHeard h a = generic.TellsHeard scripts_meaning h.cells a
 
--- the handle has heard of all that the news tells of
+-- the handle has heard of each call that the news tells of
 abbrev pub HearsAll : News → Handle → Type 0
 HearsAll a h = generic.HearsAll scripts_meaning a h.cells
 
 -- ---- a call
 
--- the calls that the handle had heard of had ended before its call began, if that has made a step
+-- if the call has made a step, the handle knows that all calls it had heard of had ended before
+-- this call began
 abbrev pub BeginsAfterHeard : Result Answer RunError → (before now : Handle) → Type 0
 BeginsAfterHeard result h k =
     generic.BeginsAfterHeard scripts_meaning (without_reply result) h.cells k.cells
 
--- the same of an open call that had made no step, when it goes on
+-- if an open call that had made no step goes on and makes one, the handle knows that all calls it
+-- had heard of had ended before this call began
 abbrev pub ResumesAfterHeard : Result Answer RunError → (before now : Handle) → Type 0
 ResumesAfterHeard result h k =
     generic.ResumesAfterHeard scripts_meaning (without_reply result) h.cells k.cells
 
 -- ---- handles come and go
 
--- the handle knows each order that its number knew
+-- the handle knows each order of calls that the caller of its number knew in the memory
 abbrev pub KnowsOrdersOf : Memory → Handle → Type 0
 KnowsOrdersOf m h = generic.KnowsOrdersOf scripts_meaning m.cells h.cells
 
--- its number knows each order that the handle knew when it left
+-- the caller of the handle's number is in the memory, and knows each order of calls that the handle
+-- knew
 abbrev pub LeavesOrder : Handle → Memory → Type 0
 LeavesOrder h m = generic.LeavesOrder scripts_meaning h.cells m.cells
 
@@ -77,25 +81,24 @@ LeavesOrder h m = generic.LeavesOrder scripts_meaning h.cells m.cells
 abbrev pub HearsMemory : Memory → Handle → Type 0
 HearsMemory m h = generic.HearsMemory scripts_meaning m.cells h.cells
 
--- the memory knows that all calls of the handle have ended that have, and all that the handle has
--- heard of
+-- the memory knows of each ended call of the handle, and of each call that the handle has heard of
 abbrev pub TellsMemory : Handle → Memory → Type 0
 TellsMemory h m = generic.TellsMemory scripts_meaning h.cells m.cells
 
 -- ---- the whole
 
--- the calls ms of handle a come before each call of handle b but ks, in some history that leads from
--- the store to what is saved
+-- in some history that leads from the store to what is saved, the calls ms of handle a come before
+-- each call of handle b's number that is later than b's calls ks
 abbrev pub ComeFirst : Memory → Store → Saved → (a b : Handle) → (ms ks : List Made) → Type 0
 ComeFirst m s d a b ms ks =
     (h : List HistoryEntry) × LeadsTo m s d h
     × ComeInOrder h (number_of_handle a) (tickets_before m (number_of_handle a) + length ms)
     (number_of_handle b) (tickets_before m (number_of_handle b) + length ks)
 
--- Handle a tells when it has made the calls ms. Handle b hears of it when it has made the calls ks,
--- and its next call leaves it as c. It leaves its memory m as e, with all that c knew, and what is
--- saved at the close is d. So each call among ms comes before that call, and before each later one
--- of its number, in the history.
+-- Handle a has made the calls ms and tells of them. Handle b has made the calls ks and hears the
+-- news. Its next call leaves it as c. Later, as e, it leaves the memory m with all that c knew, and
+-- what is saved at the close is d. Then each call among ms comes, in the history, before that next
+-- call of b and before each later call of b's number.
 abbrev pub ToldCallsComeFirst : Type 0
 ToldCallsComeFirst =
     (m : Memory) (d : Saved) (a b c e : Handle) (news : News) (result : Result Answer RunError)
@@ -105,11 +108,11 @@ ToldCallsComeFirst =
     → KeepsKnown c e → LeavesOrder e m → HasHistory m d
     → (s : Store) → StartsWith m s → ComeFirst m s d a b ms ks
 
--- Handle a leaves its memory, which is k then, when it has made the calls ms. The memory forgets
--- nothing until it is l, where handle b comes, whose number has made the calls ks. The next call of
--- b leaves it as c. It leaves the memory m as e, with all that c knew, and what is saved at the
--- close is d. So each call among ms comes before that call, and before each later one of b's number,
--- in the history, whatever the two numbers are.
+-- Handle a has made the calls ms and leaves its memory, which is k then. The memory forgets nothing
+-- until it is l. Now handle b comes, whose number has made the calls ks. Its next call leaves it as
+-- c. Later, as e, it leaves the memory m with all that c knew, and what is saved at the close is d.
+-- Then each call among ms comes, in the history, before that next call of b and before each later
+-- call of b's number, whatever the two numbers are.
 abbrev pub CallsComeInTurn : Type 0
 CallsComeInTurn =
     (k l m : Memory) (d : Saved) (a b c e : Handle) (result : Result Answer RunError)

@@ -16,7 +16,7 @@ use Rattle.of_memory.specs.declared.error.ImageTextError.{ImageTextError}
 use Rattle.of_memory.specs.declared.error.ImageTextError.TheVariants.{OutOfMemory, Bad, Unlawful, PastLimits}
 use Rattle.of_memory.specs.Saving.{SavedHolds, HoldsReply, saved_scripts, saved_seq, saved_callers, saved_ticket}
 
--- the row of its durable words
+-- the durable words of what is saved, with its numbers of callers and blocks
 abbrev pub saved_row : Saved → DurableRow
 saved_row d = record {
   callers = (saved_scripts d).callers;
@@ -24,34 +24,34 @@ saved_row d = record {
   words = saved_words d.cells;
 }
 
--- a plan may have as many callers and blocks
+-- what is saved has no more callers and blocks than a plan may have
 pub record IsOfPlanSize (d : Saved) : Type 0 where
   pub few_callers : (saved_scripts d).callers ≤ MOST_PLAN_CALLERS
   pub few_blocks : (saved_scripts d).blocks ≤ MOST_PLAN_BLOCKS
 
--- the text is the one that is printed for it
+-- the text is the one that is printed for what is saved
 abbrev pub IsTextOfSaved : Saved → List ℕ → Type 0
 IsTextOfSaved d text = text ≡ image_text Two (saved_row d)
 
--- the image has its words, its sequence, its store, and the tickets of its callers
+-- the image has the words, the sequence, the store and the callers' tickets of what is saved
 pub record IsImageOfSaved (i : Image) (d : Saved) : Type 0 where
   pub row : i.row ≡ saved_row d
   pub seq : i.seq ≡ saved_seq d
   pub store : SavedHolds d i.store
   pub tickets : (n : ℕ) → n < saved_callers d → image_ticket i n ≡ saved_ticket d n
 
--- the text has such an image
+-- the text is read as an image of what is saved
 abbrev pub TextHolds : List ℕ → Saved → Type 0
 TextHolds text d = (i : Image) × ReadsImage Two text i × IsImageOfSaved i d
 
--- it holds the same store, and of each caller the same last ticket and reply
+-- the same store is saved, and the same last ticket and reply of each caller
 pub record SavesSame (before now : Saved) : Type 0 where
   pub callers : saved_callers now ≡ saved_callers before
   pub store : (s : Store) → SavedHolds before s → SavedHolds now s
   pub tickets : (n : ℕ) → saved_ticket now n ≡ saved_ticket before n
   pub replies : (n : ℕ) (r : Reply) → HoldsReply before n r → HoldsReply now n r
 
--- the limit is out of its range, or below the last sequence that was committed
+-- the limit is out of its range, or below the last sequence that was committed in what is saved
 abbrev pub IsNoLimitOf : Saved → (limit : ℕ) → Type 0
 IsNoLimitOf d limit = generic.IsNoLimitOf d.cells limit
 
@@ -60,19 +60,19 @@ pub record IsReadBack (before now : Saved) : Type 0 where
   pub row : saved_row now ≡ saved_row before
   pub same : SavesSame before now
 
--- no limit is as high as the sequence of the image
+-- the error names the sequence of the image, which is above all limits
 pub record IsPastAll (i : Image) (e : ImageTextError) : Type 0 where
   pub is : e ≡ PastLimits i.seq
   pub past : GREATEST_LIMIT < i.seq
 
--- the text has an image of this sequence, and no limit is as high
+-- the text is read as an image with this sequence, which is above all limits
 pub record IsPastLimits (text : List ℕ) (seq : ℕ) : Type 0 where
   pub image : Image
   pub reads : ReadsImage Two text image
   pub seq_is : image.seq ≡ seq
   pub past : GREATEST_LIMIT < seq
 
--- why nothing is read from a text
+-- why nothing that is saved is read from this text
 abbrev pub IsTextCause : List ℕ → ImageTextError → Type 0
 IsTextCause text OutOfMemory = Unit {0}
 IsTextCause text (Bad line) = HasBadLine (IsImageText Two) text line

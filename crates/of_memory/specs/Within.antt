@@ -9,16 +9,18 @@ use Rattle.of_memory.specs.Called.{without_reply}
 abbrev pub IsNeverStopped : Result Answer RunError → Type 0
 IsNeverStopped result = generic.IsNeverStopped (without_reply result)
 
--- A call had made `before` steps, is given `more`, and has made `now`. An answer tells no more than
--- `before` and `more` together. A call is stopped only if it has made them all, at the next ask.
+-- A call that had made `before` steps may make `more` steps, and has made `now` in all. If it is
+-- answered, it has made at most `before + more`. It is stopped only after it has made all of them,
+-- when it asks for one more.
 abbrev pub KeepsWithin : (before more now : ℕ) → Result Answer RunError → Type 0
 KeepsWithin before more now result = generic.KeepsWithin before more now (without_reply result)
 
--- the same of a call that is given `stop` more steps, or as many as it needs
+-- A call that had made `before` steps makes at most as many more as its stop allows, and is stopped
+-- only after these. Without a stop it is never stopped.
 abbrev pub KeepsToStop : (before : ℕ) → (stop : Option ℕ) → (now : ℕ) → Result Answer RunError
     → Type 0
 KeepsToStop before stop now result = generic.KeepsToStop before stop now (without_reply result)
 
--- an answer tells at most `most` steps, and a stopped call has asked at most `most` times
+-- The steps of an answer are at most `most`, and a stopped call has asked at most `most` times.
 abbrev pub EndsWithin : (most : ℕ) → Result Answer RunError → Type 0
 EndsWithin most result = generic.EndsWithin most (without_reply result)

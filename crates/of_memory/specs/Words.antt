@@ -24,32 +24,32 @@ use Rattle.of_memory.specs.Texts.{IsImageOfSaved}
 
 -- ---- sizes
 
--- a memory may have these numbers of callers and blocks
+-- a memory may have this many callers and blocks
 pub record AreCounts (callers blocks : ℕ) : Type 0 where
   pub some_callers : 1 ≤ callers
   pub few_callers : callers ≤ MOST_CALLERS
   pub few_blocks : blocks ≤ MOST_BLOCKS
 
--- the scripts have these
+-- the scripts are those of a memory with this many callers and blocks
 pub record AreCountsOf (w : Scripts) (callers blocks : ℕ) : Type 0 where
   pub callers_are : w.callers ≡ callers
   pub blocks_are : w.blocks ≡ blocks
 
--- how many data cells the table of such a memory has
+-- how many data cells the table of a memory with these callers and blocks has
 abbrev pub data_count : (callers blocks : ℕ) → ℕ
 data_count callers blocks = data_cell_count_for MOST_INSTRS callers blocks
 
--- how many durable words it has
+-- how many durable words the table of a memory with these callers and blocks has
 abbrev pub durable_count : (callers blocks : ℕ) → ℕ
 durable_count callers blocks = durable_cells callers (data_count callers blocks)
 
--- these are its sizes
+-- these are the sizes of the table of a memory with these callers and blocks
 pub record AreSizesOf (callers blocks : ℕ) (s : TableSizes) : Type 0 where
   pub words : s.words ≡ table_words callers MOST_INSTRS (data_count callers blocks)
   pub first : s.first ≡ durable_place callers (data_count callers blocks) 0
   pub durable : s.durable ≡ durable_count callers blocks
 
--- the table of each row of such scripts has this number of words
+-- the table of each row of scripts with these callers and blocks has this many words
 abbrev pub IsSizeOfTables : (callers blocks words : ℕ) → Type 0
 IsSizeOfTables callers blocks words =
     (r : Row Scripts) → IsScriptsRow r → AreCountsOf (key_of r).work callers blocks
@@ -57,12 +57,12 @@ IsSizeOfTables callers blocks words =
 
 -- ---- what is found
 
--- the durable words of such a table
+-- these words, as the durable words of a table with these callers and blocks
 abbrev pub row_with : (callers blocks : ℕ) → List ℕ → DurableRow
 row_with callers blocks words = record { callers = callers; blocks = blocks; words = words }
 
--- recovery finds an image in the words, and what is saved has its words, its sequence, its store
--- and the tickets of its callers
+-- recovery finds an image in the words, and what is saved has the image's words, sequence, store
+-- and tickets
 abbrev pub WordsHold : (callers blocks : ℕ) → List ℕ → Saved → Type 0
 WordsHold callers blocks words d =
     (i : Image) × IsRestored MOST_INSTRS (row_with callers blocks words) i × IsImageOfSaved i d
@@ -72,7 +72,7 @@ abbrev pub words_found : Scripts → List ℕ → List ℕ
 words_found w words = recovered_words w.callers (scripts_data_cells w) words
 
 -- a table for these scripts, with this limit, may start from what recovery finds in the words, and
--- the last replies are held in it
+-- this holds the callers' last replies
 pub record AreStartWords (w : Scripts) (limit : ℕ) (words : List ℕ) : Type 0 where
   pub row : IsStartRow (setup_with w limit) (LawfulCells w) (words_found w words)
   pub replies : HoldsLastReplies w
@@ -87,12 +87,12 @@ abbrev pub IsFaultIn : (callers blocks : ℕ) → List ℕ → (cell : ℕ) → 
 IsFaultIn callers blocks words cell =
     IsRowFault MOST_INSTRS (recovered_row MOST_INSTRS (row_with callers blocks words)) cell
 
--- the words have this sequence, and the limit is below it
+-- this is the sequence of the words, and the limit is below it
 pub record IsPastLimit (limit : ℕ) (words : List ℕ) (seq : ℕ) : Type 0 where
   pub is : seq ≡ current_seq (slice_index words)
   pub past : limit < seq
 
--- why nothing is found
+-- why nothing that is saved is found in these words, with these callers, blocks and limit
 abbrev pub IsWordsCause : (callers blocks limit : ℕ) → List ℕ → WordsError → Type 0
 IsWordsCause callers blocks limit words OutOfMemory = Unit {0}
 IsWordsCause callers blocks limit words (Callers k) =

@@ -11,12 +11,12 @@ use of_eval::Scripts;
 use std::alloc::AllocError;
 use std::thread::{Threads, for_each_mut};
 
-/// What is done with a handle. It keeps what it comes to.
+/// A task that works with a handle, and keeps its results.
 pub trait Task {
     ghost use Rattle.of_memory.specs.declared.handle.Handle.{Handle as TheHandle};
     ghost use Rattle.of_memory.specs.Handles.{IsHandle, IsSame};
 
-    /// What its work makes of the task and the handle, as far as its users have to know.
+    /// What its users may know of its work: the task and the handle before it, and both after it.
     ghost does: { Self → TheHandle → Self → TheHandle → Type 0 } = { λ _ _ _ _. Unit {0} };
 
     /// Works with a handle of a memory.
@@ -64,9 +64,9 @@ impl Memory {
     ghost use Rattle.of_memory.specs.Memories.{IsMemory, IsStill, RemembersAll};
     ghost use Rattle.of_memory.specs.Tasks.{HaveWorked, KnowsRest, RestKnowsOrder, IsTaskCause};
 
-    /// Works at all tasks at once: each with the handle of the number that is its place, in a
-    /// thread of its own where one can be made. Then the handles leave. If one can't be enrolled,
-    /// no task is begun, and no number stays taken.
+    /// Works at all tasks at once. Each task has the handle whose number is the task's place in the
+    /// list, and a thread of its own if one can be made. Then the handles leave. If a handle can't
+    /// be enrolled, no task is begun, and no number stays taken.
     pub fn at_once<J: Task + Send + Drop, R: Threads + Sync>(
         &mut self,
         rt: &R,

@@ -20,24 +20,25 @@ pub enum OpenError {
     Limit { limit: u32 },
 }
 
-/// Why nothing that is saved is read from a text.
+/// Why no `Saved` is read from a text.
 #[derive(Clone, Copy, Debug, PartialEq, Eq, Error)]
 pub enum ImageTextError {
     #[error("out of memory")]
     OutOfMemory,
-    /// The text is no image's, and this is its first line with which none begins, or its last if it
-    /// only stops too early. Lines count from 1.
+    /// The text is not that of an image. This is its first line at fault, or its last line if the
+    /// text only stops too early. Lines count from 1.
     #[error("bad image, line {line}")]
     Bad { line: u64 },
-    /// The text is an image's, but no memory leaves such words: this is the first cell at fault.
+    /// The text is that of an image, but no memory leaves such words. This is the first cell at
+    /// fault.
     #[error("unlawful image, cell {cell}")]
     Unlawful { cell: u32 },
-    /// The text is an image's, but no limit is as high as its sequence.
+    /// The text is that of an image, but its sequence is above the greatest limit.
     #[error("sequence {seq} is above all limits")]
     PastLimits { seq: u32 },
 }
 
-/// Why nothing that is saved is found in words.
+/// Why no `Saved` is found in durable words.
 #[derive(Clone, Copy, Debug, PartialEq, Eq, Error)]
 pub enum WordsError {
     #[error("out of memory")]
@@ -48,18 +49,19 @@ pub enum WordsError {
     Blocks { blocks: u32 },
     #[error("{limit} is no limit of sequences")]
     Limit { limit: u32 },
-    /// A table of these counts has another number of durable words.
+    /// There are `count` words, but the table of such a memory has another number of durable words.
     #[error("{count} words are not the durable words of such a memory")]
     Count { count: usize },
-    /// No table may start from what recovery finds in the words: this is the first cell at fault.
+    /// No table may start from what recovery finds in the words. This is the first cell at fault.
     #[error("unlawful words, cell {cell}")]
     Unlawful { cell: u32 },
-    /// The words have this sequence, and the limit is below it.
+    /// The last committed sequence that recovery finds in the words is `seq`, and the limit is
+    /// below it.
     #[error("the limit is below sequence {seq}")]
     PastLimit { seq: u32 },
 }
 
-/// What is saved can't have this limit. It is handed back.
+/// What is saved can't have this limit. The error hands back what was saved, unchanged.
 #[derive(Drop)]
 pub struct LimitError(pub Saved);
 
@@ -77,7 +79,7 @@ impl fmt::Display for LimitError {
 
 impl StdError for LimitError {}
 
-/// A memory isn't closed while one of its handles is out. It is handed back.
+/// The memory can't be closed, since one of its handles is out. The error hands the memory back.
 #[derive(Drop)]
 pub struct InUse(pub Memory);
 

@@ -53,7 +53,7 @@ impl Handle {
     ghost use Rattle.of_memory.specs.Sequences.{seq_known_to, seq_known_in};
     ghost use Rattle.std.specs.Prelude.{max};
 
-    /// Its number.
+    /// The handle's number.
     pub fn number(&self) -> u32
         ensures { result ≡ number_of_handle self.now }
     {
@@ -96,7 +96,7 @@ impl Handle {
         }
     }
 
-    /// Runs a script for at most `steps` steps. If they don't do, the call stays open.
+    /// Runs a script for at most this many steps. If they are too few, the call stays open.
     pub fn run_within(&mut self, script: &Script, steps: u64) -> Result<Answer, RunError>
         requires { IsHandle self.old }
         ensures handle { IsHandle self.new }
@@ -148,7 +148,7 @@ impl Handle {
         }
     }
 
-    /// Goes on with the open call for at most `steps` steps.
+    /// Goes on with the open call for at most this many steps.
     pub fn go_on_within(&mut self, steps: u64) -> Result<Answer, RunError>
         requires { IsHandle self.old }
         ensures handle { IsHandle self.new }
@@ -175,8 +175,8 @@ impl Handle {
     }
 
     /// What the handle knows, for another handle of its memory to hear: which of its own calls have
-    /// ended, and all that it has heard of others. It takes no memory and waits for nothing. The
-    /// handle's calls stay as they are.
+    /// ended, and all that it has heard of others. To tell allocates nothing and waits for nothing.
+    /// The handle's calls stay as they are.
     pub fn tell(&mut self) -> CellNews
         requires { IsHandle self.old }
         ensures handle { IsHandle self.new }
@@ -192,8 +192,9 @@ impl Handle {
         self.cells.tell()
     }
 
-    /// Takes in what another handle of its memory knew when it told. Each call that the handle
-    /// begins from now on comes, in the memory's history, after all calls that the news tells of.
+    /// Takes in what another handle of the memory knew when its `tell` was called. In the memory's
+    /// history, each call that this handle begins from now on comes after all calls that the news
+    /// tells of.
     pub fn hear(&mut self, news: CellNews)
         requires handle { IsHandle self.old }
         requires news { IsNews (home_of self.old) news }
@@ -208,9 +209,9 @@ impl Handle {
         self.cells.hear(news);
     }
 
-    /// Leaves its memory, which keeps what it has made; a call that is open stays open. Then its
-    /// number is free again. Each call that a handle begins which comes after that stands later in
-    /// the memory's history, whatever its number.
+    /// Leaves the memory, which keeps the handle's calls. An open call stays open, and the number
+    /// is free again. A call of a handle that enrols later comes, in the memory's history, after
+    /// all ended calls of this handle, whatever the numbers of the two are.
     pub fn leave(self, memory: &mut Memory)
         requires handle { IsHandle self }
         requires memory { IsMemory memory.old }

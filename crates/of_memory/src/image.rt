@@ -39,13 +39,14 @@ impl Saved {
     ghost use Rattle.of_memory.specs.declared.error.ImageTextError.TheVariants.{OutOfMemory};
     ghost use Rattle.of_memory.specs.Texts.{IsOfPlanSize, IsTextOfSaved, TextHolds, IsReadBack, IsTextCause};
 
-    /// The text of it, an image as the command line reads and writes them: the store, and the last
-    /// ticket and reply of each caller. The limit is not in it. No text is read again that has more
-    /// callers or blocks than a plan may have. The error is that there is no memory.
+    /// What is saved, as a text: an image, as the command line reads and writes it. The text has
+    /// the store, and the last ticket and reply of each caller, but not the limit. If there are
+    /// more callers or blocks than a plan may have, the text can't be read back. The error is that
+    /// memory ran out.
     pub fn image_text(&self, alloc: Global) -> Result<Vec<u8>, AllocError>
         requires { IsSaved self.now }
         ensures printed { IfOk result (λ text. IsTextOfSaved self.now text.items) }
-        // A text of as many callers and blocks as a plan may have is read again.
+        // If a plan may have as many callers and blocks, the text can be read back.
         ensures holds { IsOfPlanSize self.now
             → IfOk result (λ text. TextHolds text.items self.now) }
     {
@@ -54,14 +55,14 @@ impl Saved {
         image_print(alloc, &scripts.plot(), &words)
     }
 
-    /// What a text holds, as `image_text` or the command line writes it; an open transaction is
-    /// brought to its end. Its limit is the greatest one.
+    /// What is saved, read from a text that `image_text` or the command line has written. An open
+    /// transaction is brought to its end. The limit is the greatest one.
     pub fn from_image(alloc: Global, text: &[u8]) -> Result<Saved, ImageTextError>
         ensures saved { IfOk result IsSaved }
         ensures holds { IfOk result (TextHolds text.now) }
         ensures limit { IfOk result (λ d. saved_limit d ≡ GREATEST_LIMIT) }
         ensures cause { IfErr result (IsTextCause text.now) }
-        // A text that was written for something saved is read, unless there is no memory.
+        // A text that was written for something saved is read, unless memory runs out.
         ensures back { (d : AnySaved) → IsSaved d → TextHolds text.now d →
             MatchResult result (IsReadBack d) (λ e. e ≡ OutOfMemory) }
     {

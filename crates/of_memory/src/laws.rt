@@ -14,16 +14,17 @@ use of_cell::laws::{largest, smallest};
 use of_cells::laws as cells;
 use of_eval::Scripts;
 
-/// A closed row on which callers have run scripts alone holds one serial history of scripts on the
-/// plain store. It has each call that was answered, with its reply, and recovery finds its end.
+/// A closed row on which callers have run only scripts holds one serial history of scripts on the
+/// plain store. The history has each call that was answered, with its reply, and recovery finds the
+/// store at its end.
 pub fn history_is_held(work: Scripts, limit: u32)
     ensures { HoldsHistory work limit }
 {
     cells::rows_hold_history(work, limit);
 }
 
-/// A process that is killed at any moment loses no call that was answered: a memory may go on from
-/// what recovery finds in the durable words as they are then (`Saved::from_words` takes them), and
+/// A process that is killed at any moment loses no call that was answered. `Saved::from_words`
+/// takes the durable words of that moment: a memory may go on from what recovery finds in them, and
 /// one serial history leads there.
 pub fn words_hold_history(work: Scripts, limit: u32)
     ensures { WordsHoldHistory work limit }
@@ -31,8 +32,8 @@ pub fn words_hold_history(work: Scripts, limit: u32)
     cells::rows_hold_history(work, limit);
 }
 
-/// So it is of a memory: what recovery finds in its durable words, as they are at any moment, is the
-/// end of one serial history, which has each call that was answered. The memory may go on from it.
+/// At any moment, what recovery finds in the durable words of a memory is the end of one serial
+/// history, which has each call that was answered. A memory may go on from it.
 pub fn memory_words_hold_history(memory: &Memory)
     requires { IsMemory memory.now }
     ensures { HoldsWordsAlways memory.now }
@@ -40,31 +41,33 @@ pub fn memory_words_hold_history(memory: &Memory)
     words_hold_history(memory.scripts(), memory.limit());
 }
 
-/// A handle that has no open call has begun as many calls as its memory was opened with, and those
-/// that it has made since.
+/// A number whose handle has no open call has begun the calls from before its memory was opened,
+/// those that the handle has made since, and no others.
 pub fn calls_are_counted()
     ensures { CallsAreCounted }
 {
     cells::calls_are_counted::<Scripts>();
 }
 
-/// The history of a memory and that of the one that goes on from what it has left are one history.
+/// The history of a memory, followed by that of the memory that goes on from what the first one has
+/// left, is one serial history.
 pub fn histories_join()
     ensures { HistoriesJoin }
 {}
 
-/// What each script of a kind keeps of a store holds of the store after a history of such scripts.
+/// If every script of a kind keeps a property of the store, a history of such scripts keeps it too.
 pub fn invariants_hold()
     ensures { InvariantsHold }
 {}
 
-/// A memory has the same callers, and was opened with the same store and tickets, while handles
-/// come and go.
+/// While handles come and go, a memory keeps its number of callers, and the store and tickets that
+/// it was opened with.
 pub fn memories_stay()
     ensures { MemoriesStay }
 {}
 
-/// A handle that comes and leaves with no call open leaves none open.
+/// If no call of a memory is open, and a handle comes and leaves with none open, then no call of
+/// the memory is open.
 pub fn none_stays_open()
     ensures { NoneStaysOpen }
 {
@@ -72,25 +75,25 @@ pub fn none_stays_open()
 }
 
 /// If one caller has made all calls, and each was answered, what is saved is the store after their
-/// scripts.
+/// scripts, run one after the other.
 pub fn lone_calls_are_saved()
     ensures { LoneCallsAreSaved }
 {}
 
-/// Calls that a handle tells another of come first in the history: before each call that the other
-/// begins when it has heard of them.
+/// If one handle tells another of its calls, these come first in the history: before each call that
+/// the other handle begins after it has heard of them.
 pub fn told_calls_come_first()
     ensures { ToldCallsComeFirst }
 {}
 
-/// Calls that a program makes one after the other come in that order in the history, whatever their
-/// numbers: those of a handle that has left before those of one that comes then.
+/// Calls that a program makes one after the other come in this order in the history, whatever their
+/// numbers: those of a handle that has left come before those of a handle that enrols later.
 pub fn calls_come_in_turn()
     ensures { CallsComeInTurn }
 {}
 
-/// A call of a handle ends within 6,054 of its own steps in the smallest memory, and within 138,657
-/// with sixteen callers and 512 blocks: the step bounds there, to which each call keeps.
+/// The step bound of a call is 6,054 in the smallest memory, which has one caller and no blocks. It
+/// is 138,657 in a memory with 16 callers and 512 blocks. No call makes more steps.
 pub fn step_bounds()
     ensures { AreStepBounds }
 {

@@ -42,9 +42,9 @@ impl Memory {
     ghost use Rattle.of_memory.specs.Sequences.{seq_known_to, seq_known_in, left_of_memory};
     ghost use Rattle.of_memory.specs.Renewing.{GoesOnFromSaved, LeavesRenumbered, IsRenumberCause};
 
-    /// An empty memory: 1 to 64 callers, and room for at most `MOST_BLOCKS` keys and queued
-    /// items, 16,777,216. With room for more than 512 it runs no instruction on keys in their
-    /// order. `limit` is the last sequence that may be committed.
+    /// An empty memory for 1 to 64 callers. `blocks` is how many keys and queued items it has room
+    /// for: at most `MOST_BLOCKS`, 16,777,216. If `blocks` is above 512, the memory runs no
+    /// instruction on keys in their order. `limit` is the last sequence that may be committed.
     pub fn open(alloc: Global, callers: u32, blocks: u32, limit: u32) -> Result<Memory, OpenError>
         ensures memory { IfOk result IsMemory }
         ensures callers { IfOk result (λ m. callers_of m ≡ callers) }
@@ -70,7 +70,7 @@ impl Memory {
         }
     }
 
-    /// A memory that goes on from what was saved. No call that it holds is run again.
+    /// A memory that goes on from what was saved. No call that is saved is run again.
     pub fn reopen(alloc: Global, saved: &Saved) -> Result<Memory, AllocError>
         requires { IsSaved saved.now }
         ensures memory { IfOk result IsMemory }
@@ -88,7 +88,7 @@ impl Memory {
         Ok(Memory { alloc, cells })
     }
 
-    /// How many callers it has.
+    /// How many callers the memory has.
     pub fn callers(&self) -> u32
         ensures { result ≡ callers_of self.now }
     {
@@ -117,8 +117,9 @@ impl Memory {
         self.cells.work()
     }
 
-    /// A handle for a number. It goes on where the last handle of that number left, and its calls
-    /// come, in the memory's history, after all calls of handles that have left before.
+    /// A handle for this number, which goes on where the last handle of the number left. In the
+    /// memory's history, the calls that it begins come after all ended calls of handles that left
+    /// before.
     pub fn enrol(&mut self, number: u32) -> Result<Handle, EnrolError>
         requires { IsMemory self.old }
         ensures memory { IsMemory self.new }
@@ -147,14 +148,14 @@ impl Memory {
     }
 
     /// Closes the memory: what is durable is recovered and saved, and all else is given up. If a
-    /// handle is out, and only then, the memory is handed back.
+    /// handle is out, and only then, the error hands the memory back.
     pub fn close(self) -> Result<Saved, InUse>
         requires { IsMemory self }
         ensures saved { IfOk result IsSaved }
         ensures history { IfOk result (HasHistory self) }
         ensures callers { IfOk result (λ d. saved_callers d ≡ callers_of self) }
         ensures limit { IfOk result (λ d. saved_limit d ≡ limit_of self) }
-        // So no call that was answered is missing.
+        // No handle is out, so no call that was answered is missing.
         ensures here { IfOk result (λ d. HasNoHandleOut self) }
         ensures cause { OnErr result (HasHandleOut self) }
         ensures in_use { IfErr result (λ e. e.0 ≡ self) }

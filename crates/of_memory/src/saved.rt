@@ -22,21 +22,21 @@ impl Saved {
     ghost use Rattle.of_memory.specs.Texts.{SavesSame, IsNoLimitOf};
     ghost use Rattle.of_memory.specs.Sequences.{left_of_saved};
 
-    /// How many callers it has.
+    /// How many callers are saved.
     pub fn callers(&self) -> u32
         ensures { result ≡ saved_callers self.now }
     {
         self.cells.callers()
     }
 
-    /// The last sequence that may be committed.
+    /// The limit of a memory that goes on from what is saved: the last sequence that it may commit.
     pub fn limit(&self) -> u32
         ensures { result ≡ saved_limit self.now }
     {
         self.cells.limit()
     }
 
-    /// The last sequence that was committed in it.
+    /// The last sequence that was committed.
     pub fn seq(&self) -> u32
         requires { IsSaved self.now }
         ensures { result ≡ saved_seq self.now }
@@ -59,7 +59,7 @@ impl Saved {
         self.cells.work()
     }
 
-    /// The store that it holds. The error is that there is no memory.
+    /// The store that is saved. The error is that memory ran out.
     pub fn store(&self, alloc: Global) -> Result<Store, AllocError>
         requires { IsSaved self.now }
         ensures { IfOk result (SavedHolds self.now) }
@@ -72,7 +72,8 @@ impl Saved {
         }
     }
 
-    /// How many calls of a caller it holds: the number of its last one, also if another caller finished it.
+    /// How many calls of a caller are saved: the ticket of its last one, also if another caller
+    /// finished that call.
     pub fn ticket(&self, number: u32) -> u32
         requires saved { IsSaved self.now }
         requires number { number < saved_callers self.now }
@@ -81,15 +82,15 @@ impl Saved {
         self.cells.ticket(number)
     }
 
-    /// The number of a caller's last call that it holds, and the reply to it, also if the caller
-    /// was stopped before it was answered. None if it holds no call of the caller.
+    /// The ticket of a caller's last saved call, and its reply, also if the caller was stopped
+    /// before it had the reply. None if no call of the caller is saved.
     pub fn last_reply(&self, number: u32) -> Option<(u32, Reply)>
         requires saved { IsSaved self.now }
         requires number { number < saved_callers self.now }
         ensures none { IsNone result ↔ (saved_ticket self.now number ≡ 0) }
         ensures ticket { IfSome result (λ r. r.0 ≡ saved_ticket self.now number) }
         ensures reply { IfSome result (λ r. HoldsReply self.now number (reply_value_of r.1)) }
-        // No other reply is held.
+        // No other reply to that call is saved.
         ensures only { (r : ReplyValue) → HoldsReply self.now number r
             → IfSome result (λ given. reply_value_of given.1 ≡ r) }
     {
@@ -100,8 +101,8 @@ impl Saved {
         Some((ticket, reply))
     }
 
-    /// The same with another limit. There is no limit below its sequence, and none that is 0 or
-    /// above `GREATEST_LIMIT`: it is handed back then as it was.
+    /// What is saved, with another limit. The limit must not be 0, above `GREATEST_LIMIT` or below
+    /// the last committed sequence: otherwise the error hands back what was saved, unchanged.
     pub fn with_limit(self, limit: u32) -> Result<Saved, LimitError>
         requires { IsSaved self }
         ensures saved { IfOk result IsSaved }
@@ -117,8 +118,8 @@ impl Saved {
         }
     }
 
-    /// The same with sequences that begin anew, so that a memory which goes on from it has all of
-    /// them before it.
+    /// Keeps store, tickets and replies, and sets the last committed sequence to 0. So a memory
+    /// that goes on from this has all sequences up to its limit left.
     pub fn renumbered(self) -> Saved
         requires { IsSaved self }
         ensures saved { IsSaved result }

@@ -71,9 +71,10 @@ impl Saved {
     ghost use Rattle.of_eval.specs.declared.scripts.Scripts.{Scripts as TheScripts};
     ghost use Rattle.of_memory.specs.Words.{AreCountsOf};
 
-    /// What recovery finds in the durable words of a memory's table, which were copied out of it at
-    /// any moment, also in the middle of calls. An open transaction is brought to its end. `limit`
-    /// is the last sequence that may be committed; it must not be below the sequence in the words.
+    /// What recovery finds in the durable words of a memory's table, which were copied out of the
+    /// table at any moment, also in the middle of calls. An open transaction is brought to its end.
+    /// `limit` is the last sequence that may be committed; it must not be below the sequence in the
+    /// words.
     pub fn from_words(
         alloc: Global,
         callers: u32,
@@ -85,7 +86,7 @@ impl Saved {
         ensures holds { IfOk result (WordsHold callers blocks words.now) }
         ensures limit { IfOk result (λ d. saved_limit d ≡ limit) }
         ensures cause { IfErr result (IsWordsCause callers blocks limit words.now) }
-        // Words from which a table may start are taken, unless there is no memory.
+        // Words from which a table may start are taken, unless memory runs out.
         ensures back { (w : TheScripts) → AreCountsOf w callers blocks →
             AreStartWords w limit words.now → IfErr result (λ e. e ≡ OutOfMemory) }
     {

@@ -1,5 +1,5 @@
--- Where dropping stands: which keys are gone already. The cell that counts the keys still counts
--- them.
+-- How far dropping the keys below `low` came: which keys are gone already. The cell that counts the
+-- keys still counts the keys that are gone.
 use Rattle.std.specs.Prelude.{◌≡◌, ℕ, ◌+◌, ◌%◌, ◌<◌, ◌≤◌, List, ◌++◌, length, Some, None}
 use Rattle.std.specs.List.{AllByRecursion as Each}
 use Rattle.std.specs.FinMap as fin
@@ -10,14 +10,15 @@ use Rattle.of_mem.specs.Part.{Part, newest_at}
 use Rattle.of_mem.specs.Programs.{with_value, IsPartOf}
 use Rattle.of_mem.specs.Stores.{CellStore, StandsForStore, front_at, first_at, cell_after}
 
--- from the store at first, so many keys below the lowest that stays are gone, and nothing else
+-- From the store `first` to the store s, `gone` keys below `low` were dropped. All keys from `low`
+-- on are still there with their values, and nothing else changed.
 pub record HasFewerKeys (low : ℕ) (first s : CellStore) (gone : ℕ) : Type 0 where
   pub stays : (key : ℕ) → low ≤ key → fin.get s.map key ≡ fin.get first.map key
   pub others : s ≡ record first { map = s.map }
   pub count : fin.len s.map + gone ≡ fin.len first.map
 
--- the buckets before this one have no key below the lowest that stays; but for the number of keys,
--- the cells stand for a store
+-- The buckets before bucket i have no key below `low` any more. Except for the cell that counts the
+-- keys, the cells stand for a store; that cell has the count from before the dropping.
 pub record IsBetweenBuckets (o blocks low i : ℕ) (first : CellStore) (m : ℕ → ℕ) (gone : ℕ)
     : Type 0 where
   pub store : CellStore
@@ -28,7 +29,8 @@ pub record IsBetweenBuckets (o blocks low i : ℕ) (first : CellStore) (m : ℕ 
   pub cleared : (key : ℕ) → key < low → key % bucket_count blocks < i
       → fin.get store.map key ≡ None
 
--- inside bucket i: the blocks before this pointer cell stay, and these are behind it
+-- Inside bucket i: the keys of the blocks before this pointer cell are not below `low`, and the
+-- blocks of the last argument come after the cell.
 pub record IsInsideBucket (o blocks low i : ℕ) (first : CellStore) (m : ℕ → ℕ)
     (cell pointer gone : ℕ) (behind : List ℕ) : Type 0 where
   pub state : IsBetweenBuckets o blocks low i first m gone
@@ -38,7 +40,7 @@ pub record IsInsideBucket (o blocks low i : ℕ) (first : CellStore) (m : ℕ �
   pub points : pointer ≡ m cell
   pub passed : Each (λ b. low ≤ m (first_at o b)) before
 
--- the partial memory is part of a memory that stands there
+-- the partial memory agrees with some memory in which the dropping came to bucket i
 pub record IsDropping (plot : Plot) (p : Part) (low i gone : ℕ) : Type 0 where
   pub fits : length p.known ≡ data_cell_count plot
   pub memory : ℕ → ℕ
@@ -46,7 +48,7 @@ pub record IsDropping (plot : Plot) (p : Part) (low i gone : ℕ) : Type 0 where
   pub part : IsPartOf p memory
   pub state : IsBetweenBuckets (base plot) plot.blocks low i first memory gone
 
--- as many keys as are gone are still counted
+-- the cell that counts the keys, if it is known, holds at least the number of keys that are gone
 pub record IsDropped (plot : Plot) (p : Part) (gone : ℕ) : Type 0 where
   pub fits : length p.known ≡ data_cell_count plot
   pub keys : (k : ℕ) → newest_at p (keys_at (base plot)) ≡ Some k → gone ≤ k

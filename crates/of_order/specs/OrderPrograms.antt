@@ -1,4 +1,4 @@
--- What the calls on keys in their order read and write, and in which order.
+-- Which cells the calls on keys in their order read and write, and in which order.
 use Rattle.std.specs.Prelude.{ℕ, zero, suc, ◌+◌, ◌-◌, Bool, true, false, nat_lt, Option, None}
 use Rattle.of_mem.specs.declared.plot.Plot.{Plot}
 use Rattle.of_mem.specs.Plots.{base}
@@ -8,7 +8,8 @@ use Rattle.of_mem.specs.Programs.{Program, Done, Read, Write, then_do}
 use Rattle.of_alloc.specs.BlockPrograms.{give_program}
 use Rattle.of_mem.specs.Walks.{better_of}
 
--- The least key from one on: the front of each bucket, and of each block its key and its link.
+-- Finding the least key that is at least `low`: it reads the front of each bucket, and of each
+-- block the key and the link.
 
 abbrev pub weigh_link : ℕ → (ℕ → Option ℕ → Program (Option ℕ)) → Option ℕ → ℕ → ℕ
     → Program (Option ℕ)
@@ -18,13 +19,15 @@ abbrev pub weigh_key : ℕ → ℕ → (ℕ → Option ℕ → Program (Option �
     → Program (Option ℕ)
 weigh_key o low further b best k = Read (link_at o b) (weigh_link low further best k)
 
--- by the pointer in hand
+-- goes on with a pointer: if it is 0 the bucket ends with the best key so far, and otherwise the
+-- key of its block is read
 abbrev pub at_pointer : ℕ → ℕ → (ℕ → Option ℕ → Program (Option ℕ)) → Option ℕ → ℕ
     → Program (Option ℕ)
 at_pointer o low further best zero = Done best
 at_pointer o low further best (suc b) = Read (first_at o b) (weigh_key o low further b best)
 
--- from this pointer on, past at most so many blocks
+-- The walk from this pointer on. It passes at most as many blocks as the third argument says, and
+-- answers the best key.
 abbrev pub least_walk : ℕ → ℕ → ℕ → ℕ → Option ℕ → Program (Option ℕ)
 least_walk o low zero pointer best = Done best
 least_walk o low (suc n) pointer best = at_pointer o low (least_walk o low n) best pointer
@@ -35,7 +38,8 @@ from_front o blocks low best front = least_walk o low blocks front best
 abbrev pub least_in_program : ℕ → ℕ → ℕ → ℕ → Option ℕ → Program (Option ℕ)
 least_in_program o blocks i low best = Read (bucket_at o blocks i) (from_front o blocks low best)
 
--- so many buckets, from this one on
+-- The walk through some buckets, from bucket i on; the fourth argument says how many. It answers
+-- the best key.
 unfoldable pub least_buckets : ℕ → ℕ → ℕ → ℕ → ℕ → Option ℕ → Program (Option ℕ)
 least_buckets o blocks low zero i best = Done best
 least_buckets o blocks low (suc j) i best =
@@ -44,13 +48,13 @@ least_buckets o blocks low (suc j) i best =
 abbrev pub least_program : ℕ → ℕ → ℕ → Program (Option ℕ)
 least_program o blocks low = least_buckets o blocks low (bucket_count blocks) 0 None
 
--- Dropping the keys below one.
+-- Dropping the keys below `low`. The answer is how many were dropped.
 
 abbrev pub after_give : ℕ → (ℕ → ℕ → ℕ → Program ℕ) → ℕ → ℕ → ℕ → Unit {0} → Program ℕ
 after_give o further cell link gone u = further cell link (gone + 1)
 
--- by whether the block's key is below: the pointer cell takes the link and the block is given, or
--- the link is the next pointer cell
+-- If the flag says that the key of block b is below `low`, the pointer cell gets the link of b, and
+-- b is given back. Otherwise the walk goes on at the link of b.
 abbrev pub drop_or : ℕ → (ℕ → ℕ → ℕ → Program ℕ) → ℕ → ℕ → ℕ → ℕ → Bool → Program ℕ
 drop_or o further cell b gone link true =
     Write cell link (then_do (give_program o b) (after_give o further cell link gone))
@@ -67,7 +71,8 @@ drop_pointer o low further cell gone zero = Done gone
 drop_pointer o low further cell gone (suc b) =
     Read (first_at o b) (drop_key o low further cell b gone)
 
--- from this pointer cell on, which holds this pointer
+-- drops from this pointer cell on, which holds this pointer; `gone` is how many keys were dropped
+-- so far
 abbrev pub drop_walk : ℕ → ℕ → ℕ → ℕ → ℕ → ℕ → Program ℕ
 drop_walk o low zero cell pointer gone = Done gone
 drop_walk o low (suc n) cell pointer gone = drop_pointer o low (drop_walk o low n) cell gone pointer
@@ -78,7 +83,7 @@ drop_front o blocks i low gone front = drop_walk o low blocks (bucket_at o block
 abbrev pub drop_in_program : ℕ → ℕ → ℕ → ℕ → ℕ → Program ℕ
 drop_in_program o blocks i low gone = Read (bucket_at o blocks i) (drop_front o blocks i low gone)
 
--- the keys are counted at the end, where one has left
+-- takes `gone`, the number of dropped keys, off the count of keys n, and answers `gone`
 abbrev pub less_gone : ℕ → ℕ → ℕ → Program ℕ
 less_gone o gone n = Write (keys_at o) (n - gone) (Done gone)
 
@@ -94,7 +99,7 @@ drop_buckets o blocks low (suc j) i gone =
 abbrev pub drop_program : ℕ → ℕ → ℕ → Program ℕ
 drop_program o blocks low = drop_buckets o blocks low (bucket_count blocks) 0 0
 
--- The programs of the calls on a plot.
+-- The programs of the calls, and of their parts, on the cells of a plot.
 
 abbrev pub least : Plot → ℕ → Program (Option ℕ)
 least plot low = least_program (base plot) plot.blocks low

@@ -1,4 +1,4 @@
--- What the walk to the least key from one on comes to.
+-- How far the walk to the least key that is at least `low` came.
 use Rattle.std.specs.Prelude.{◌≡◌, ◌+◌, ℕ, Option, Some, None, Result, MatchResult}
 use Rattle.of_mem.specs.declared.part.Need.{Need}
 use Rattle.of_mem.specs.declared.plot.Plot.{Plot}
@@ -10,19 +10,22 @@ use Rattle.of_mem.specs.Programs.{NeedsAt}
 use Rattle.of_mem.specs.Walks.{WeighsBuckets, HasCome}
 use Rattle.of_order.specs.OrderPrograms.{least}
 
--- this is the best key of the walk's bucket and of those before
+-- `best` is the least key that is at least `low` in the walk's bucket and in the buckets before it
 abbrev pub HasWeighed : Plot → ℕ → Part → Walk → Option ℕ → Type 0
 HasWeighed plot low p start best =
     WeighsBuckets (base plot) plot.blocks low p (start.bucket + 1) best
 
--- the bucket ended with the best key so far, or the walk is one block further
+-- What a walk at `here` becomes when it tries to pass one more block. None: its bucket has no more
+-- blocks, and the walk's best key is the best one of this bucket and of those before. `Some next`:
+-- `next` is the walk after one more block of the same bucket.
 abbrev pub IsPast : Plot → ℕ → Part → Walk → Option Walk → Type 0
 IsPast plot low p here None = HasWeighed plot low p here here.best
 IsPast plot low p here (Some next) =
     HasCome plot (LeastFrom low) p next
     × (next.bucket ≡ here.bucket) × (next.passed ≡ here.passed + 1)
 
--- or the error names the cell that the program lacks
+-- the walk passed one block, or its bucket has no more, or the error names the cell that the
+-- program needs and that is not known
 abbrev pub PassesBlock : Plot → ℕ → Part → Walk → Result (Option Walk) Need → Type 0
 PassesBlock plot low p here result =
     MatchResult result (IsPast plot low p here) (λ need. NeedsAt (least plot low) p need.addr)

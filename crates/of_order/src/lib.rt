@@ -1,5 +1,5 @@
-//! The keys of the map in their order, over cells: the least key, the next one, and dropping the
-//! keys below one.
+//! Calls on the keys of the map in their order: the least key, the next key, and dropping all keys
+//! below one.
 #![tactic(auto)]
 
 ghost use Rattle.std.specs.Prelude.{◌≡◌, ◌+◌, ◌<◌, length};
@@ -14,7 +14,8 @@ ghost use Rattle.of_order.specs.Dropping.{IsDropping, IsDropped};
 
 use of_mem::{Need, Part, Plot, Sought, Walk};
 
-/// The least key, None where there is none. The error names a cell that is read and isn't known.
+/// The least key of the map. None if the map has no key. An error names a cell that must be read
+/// and is not known.
 pub fn first(plot: &Plot, part: &mut Part) -> Result<Option<u32>, Need>
     requires { HasStore plot.now part.old }
     ensures part { part.new ≡ part.old }
@@ -24,8 +25,8 @@ pub fn first(plot: &Plot, part: &mut Part) -> Result<Option<u32>, Need>
     least(plot, part, 0)
 }
 
-/// The least key above this one, None where there is none. The error names a cell that is read and
-/// isn't known.
+/// The least key above `key`. None if there is none. An error names a cell that must be read and is
+/// not known.
 pub fn next(plot: &Plot, part: &mut Part, key: u32) -> Result<Option<u32>, Need>
     requires { HasStore plot.now part.old }
     ensures part { part.new ≡ part.old }
@@ -108,8 +109,8 @@ fn better(low: u64, key: u32, best: Option<u32>) -> Option<u32>
     }
 }
 
-/// Drops every key below this one, and answers how many they were. The error names a cell that is
-/// read and isn't known.
+/// Drops every key below `key`, and answers how many were dropped. An error names a cell that must
+/// be read and is not known.
 pub fn drop_below(plot: &Plot, part: &mut Part, key: u32) -> Result<u32, Need>
     requires { HasStore plot.now part.old }
     ensures runs { RunsProgram (program.drop_below plot.now key) part.old part.new result }

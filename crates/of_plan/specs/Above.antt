@@ -8,36 +8,37 @@ use Rattle.of_script.specs.Reading.{◌>>=◌, next_number}
 use Rattle.of_plan.specs.declared.above.Wanted.{Wanted}
 use Rattle.of_plan.specs.declared.above.Wanted.TheVariants.{Stop, Cell}
 
--- the number that follows the name of a line, if the line has this name and a number up to the most
+-- the number after a line's name, if the name is the wanted one and the number is at most `most`
 abbrev pub number_behind : (name wanted : List ℕ) → List (List ℕ) → (most : ℕ) → Option ℕ
 number_behind name wanted ws most = if bytes_eq name wanted then (do
   x ← next_number most ws
   Some x.0) else None
 
--- the number, if it is the wanted one
+-- `n`, if it is the wanted number
 abbrev pub only : ℕ → ℕ → Option ℕ
 only wanted n = if n == wanted then Some n else None
 
--- the number, if it is no smaller
+-- `n`, if it is at least `least`
 abbrev pub at_least : ℕ → ℕ → Option ℕ
 at_least least n = if nat_lt n least then None else Some n
 
--- the number that the words of a line say, if it is a line that is wanted
+-- the number that a line says, if the line is one that is asked for: caller `c` in its stop line,
+-- or a cell from `least` on in a line of an image
 abbrev pub said : Wanted → List (List ℕ) → Option ℕ
 said wanted [] = None
 said (Stop c) (name ∷ ws) = number_behind name (codes "stop") ws (MOST_PLAN_CALLERS - 1) >>= only c
 said (Cell least) (name ∷ ws) =
     number_behind name (codes "cell") ws GREATEST_CELL >>= at_least least
 
--- the line with this many lines above it, or nothing if there is none
+-- the line with this many lines above it, or an empty one if there is none
 abbrev pub line_at : List (List ℕ) → ℕ → List ℕ
 line_at ls above = slice_index_or ls above []
 
--- the line `at`, one of the first `above` lines, says it, with this number
+-- line `at`, counted from 0, is one of the first `above` lines; it is wanted, and says this number
 pub record Says (ls : List (List ℕ)) (above : ℕ) (wanted : Wanted) (at number : ℕ) : Type 0 where
   pub there : at < above
   pub says : said wanted (text_words (line_at ls at)) ≡ Some number
 
--- none of the first `above` lines says it
+-- none of the first `above` lines is wanted
 abbrev pub NoneSays : List (List ℕ) → (above : ℕ) → Wanted → Type 0
 NoneSays ls above wanted = (at : ℕ) → at < above → said wanted (text_words (line_at ls at)) ≡ None

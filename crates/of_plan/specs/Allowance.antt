@@ -6,7 +6,7 @@ use Rattle.of_plan.specs.Plan.{Plan, bound_of}
 use Rattle.of_plan.specs.Report.{Entry, stopped, Report, entries_of, caller_line}
 use Rattle.of_plan.specs.Legal.{script_of_entry}
 
--- the least steps of an answered call: an announced one stores its words and the announcement, and
+-- the fewest steps of an answered call: an announced one stores its words and the announcement, and
 -- makes at least four loads; a read makes three
 abbrev pub least_steps : Plan → Entry → ℕ
 least_steps p e = if e.announced then length (script_of_entry p e) + 5 else 3
@@ -17,20 +17,22 @@ answered_of r c = take (caller_line r c).answered (entries_of r c)
 
 -- a caller's answered calls can be made with this many steps; None is for no limit
 pub record KeepsAllowance (p : Plan) (r : Report) (c : ℕ) (allowance : Option ℕ) : Type 0 where
-  -- the least steps of its answered calls add up to no more
+  -- the least steps of its answered calls add up to at most the allowance
   pub adds_up : IfSome allowance (λ n. sum_by (least_steps p) (answered_of r c) ≤ n)
-  -- its longest call made no more, and no fewer than the least steps of each
+  -- its longest answered call made at most as many steps as the allowance
   pub upto : IfSome allowance (λ n. (caller_line r c).longest ≤ n)
+  -- its longest answered call made no fewer than the least steps of any of them
   pub least : All (λ e. least_steps p e ≤ (caller_line r c).longest) (answered_of r c)
-  -- if it is stopped, its answered calls and one that stays open have used the allowance up
+  -- if it is stopped, its allowance is smaller than what its answered calls and one open call can
+  -- use: the steps of the longest for each answered one, and the step bound
   pub used_up : (caller_line r c).state ≡ stopped → (n : ℕ) × (allowance ≡ Some n)
       × (n < (caller_line r c).answered * (caller_line r c).longest + bound_of p)
 
--- the turns of a caller in an item
+-- how many turns an item gives this caller
 abbrev pub turns_in : ℕ → Item → ℕ
 turns_in c (Turns d x) = if d == c then x else 0
 turns_in c (Evict a) = 0
 
--- the turns of a caller in a plan's schedule
+-- how many turns a plan's schedule gives this caller
 abbrev pub turns_for : Plan → ℕ → ℕ
 turns_for p c = sum_by (turns_in c) p.schedule

@@ -31,7 +31,8 @@ may_come stage FEvict = is_below_heading stage
 may_come stage FEnd = is_below_heading stage
 may_come _ _ = false
 
--- why a line may not come next; below the heading for that reason
+-- why a line may not come next at this stage; between the heading and the end it is the reason
+-- `below`
 abbrev pub place_reason : Stage → (below : Reason) → Reason
 place_reason Start below = TitleExpected
 place_reason Named below = CallersExpected
@@ -40,13 +41,13 @@ place_reason Sized below = below
 place_reason InBody below = below
 place_reason Ended below = AfterEnd
 
--- the most up to which the first number of a line is read
+-- the greatest number that is read as the first of a line of this form
 abbrev pub first_read : LineForm → ℕ
 first_read FStop = GREATEST_CELL
 first_read FTurns = GREATEST_CELL
 first_read form = line_first_most form
 
--- why this may not be a line's first number
+-- why this number may not be the first of a line of this form; None if it may
 abbrev pub first_fault : Reading → LineForm → (first : ℕ) → Option Reason
 first_fault p FCallers n = if n == 0 then Some (Flawed IsZero) else None
 first_fault p FBlocks n = None
@@ -60,7 +61,7 @@ first_fault p FEvict a =
     if nat_le cells a then Some (NoCell a cells) else None
 first_fault p FEnd x = None
 
--- why this may not be its second number
+-- why this number may not be the second of a line of this form; None if it may
 abbrev pub second_fault : Reading → LineForm → (second : ℕ) → Option Reason
 second_fault p FTurns x =
     if x == 0 then Some (Flawed IsZero)

@@ -1,4 +1,4 @@
--- What a call that reads a part of a line has answered.
+-- What the calls that read a part of a line promise of their answers.
 use Rattle.std.specs.Prelude.{◌≡◌, ◌⊎◌, ℕ, List, [], ◌∷◌, ◌++◌, length, codes, MatchOption, Option, Some, None}
 use Rattle.of_script.specs.declared.instr.Instr.{Instr}
 use Rattle.of_script.specs.declared.instr.TheConstants.{MOST_INSTRS}
@@ -21,16 +21,17 @@ use Rattle.of_plan.specs.Flaws.{IsNoWord, IsNumberFlaw}
 use Rattle.of_plan.specs.Pieces.{first_word, IsBad}
 use Rattle.of_plan.specs.Reasons.{IsAfterInstr, IsTrueOf}
 
--- a word where the line should end
+-- the reason for a word where the line should end
 abbrev pub TooMany : Reason
 TooMany = Flawed WordTooMany
 
--- the piece is no number up to the most
+-- the reason says why the piece is no number up to `most`
 abbrev pub IsNumberFault : Reason → (most : ℕ) (piece : List ℕ) → Type 0
 IsNumberFault (Flawed flaw) most piece = IsNumberFlaw flaw most piece
 IsNumberFault _ most piece = ⊥
 
--- why no instruction begins there
+-- the reason says why the piece cannot follow the words `before` of an instruction: its name is
+-- missing or unknown, or one of its numbers is wrong
 abbrev pub IsInstrFault : Reason → (before : List (List ℕ)) (piece : List ℕ) → Type 0
 IsInstrFault InstructionMissing before piece = (before ≡ []) × IsNoWord piece
 IsInstrFault UnknownInstruction before piece = (before ≡ []) × (form_named piece ≡ None)
@@ -38,19 +39,22 @@ IsInstrFault (Flawed flaw) before piece =
     (most : ℕ) × IsAfterInstr before most × IsNumberFlaw flaw most piece
 IsInstrFault _ before piece = ⊥
 
--- an instruction begins after these words of a script
+-- after these words of a script an instruction comes next: there are none, or the last is a
+-- semicolon
 abbrev pub EndsInstr : List (List ℕ) → Type 0
 EndsInstr words =
     (words ≡ []) ⊎ ((front : List (List ℕ)) × (words ≡ front ++ semicolon_byte ∷ []))
 
--- why a script doesn't go on so
+-- the reason says why the piece cannot follow this script: it is a word too many, or a semicolon
+-- after as many instructions as a script may have
 abbrev pub IsAfterScript : Reason → List Instr → (piece : List ℕ) → Type 0
 IsAfterScript (Flawed WordTooMany) script piece = (piece ≡ [] → ⊥) × (piece ≡ semicolon_byte → ⊥)
 IsAfterScript TooManyInstructions script piece =
     (length script ≡ MOST_INSTRS) × (piece ≡ semicolon_byte)
 IsAfterScript _ script piece = ⊥
 
--- why the words after the caller are no script
+-- the reason says what is wrong with the piece in a script line, after the caller's number and the
+-- words `before`
 abbrev pub IsScriptFault : Reason → (before : List (List ℕ)) (piece : List ℕ) → Type 0
 IsScriptFault reason before piece =
     ((opening words : List (List ℕ)) × EndsInstr opening × (before ≡ opening ++ words)
@@ -58,7 +62,8 @@ IsScriptFault reason before piece =
     ⊎ ((script : List Instr) × IsScript script × (before ≡ script_words script)
     × IsAfterScript reason script piece)
 
--- why the words after `onefile` are no title
+-- the reason says what is wrong with the piece in a title line, after `onefile` and the words
+-- `before`
 abbrev pub IsTitleFault : Reason → (before : List (List ℕ)) (piece : List ℕ) → Type 0
 IsTitleFault TitleExpected before piece =
     ((before ≡ []) × (piece ≡ codes "plan" → ⊥))
@@ -67,7 +72,7 @@ IsTitleFault (Flawed WordTooMany) before piece =
     (before ≡ codes "plan" ∷ codes "1" ∷ []) × (piece ≡ [] → ⊥)
 IsTitleFault _ before piece = ⊥
 
--- the first of the words may not be the first number of a line of this form
+-- the reason says why the first of these words may not be the first number of a line of this form
 abbrev pub IsFirstNumberFault : Reading → LineForm → Reason → (words : List (List ℕ)) → Type 0
 IsFirstNumberFault p form reason words =
     ((slot_and_rest (first_read form) words ≡ None)
@@ -76,7 +81,7 @@ IsFirstNumberFault p form reason words =
     × (slot_and_rest (first_read form) words ≡ Some (first, others))
     × (first_fault p form first ≡ Some reason))
 
--- nor its second one
+-- the reason says why the first of these words may not be the second number of a line of this form
 abbrev pub IsSecondNumberFault : Reading → LineForm → Reason → (words : List (List ℕ)) → Type 0
 IsSecondNumberFault p form reason words =
     ((slot_and_rest (line_second_most form) words ≡ None)
@@ -85,7 +90,8 @@ IsSecondNumberFault p form reason words =
     × (slot_and_rest (line_second_most form) words ≡ Some (second, others))
     × (second_fault p form second ≡ Some reason))
 
--- a line was skipped, or read and taken; or it may not come next, and this is the piece at fault
+-- if nothing is found, the line was skipped, or was read and leads from `old` to `new`; otherwise
+-- the line may not come next, and the piece found is at fault for a true reason
 abbrev pub HasFed : (line : List ℕ) → (old new : RustReading) → Option Bad → Type 0
 HasFed line old new found =
     MatchOption found

@@ -1,9 +1,9 @@
--- The flaws in words.
+-- The text that is printed of each flaw.
 use Rattle.std.specs.Prelude.{ℕ, List, ◌++◌, codes, decimal}
 use Rattle.of_plan.specs.declared.flaw.Flaw.{Flaw}
 use Rattle.of_plan.specs.declared.flaw.Flaw.TheVariants.{ByteOrderMark, CarriageReturn, Tab, NumberMissing, NoNumber, TooGreat, Zero, WordTooMany}
 
--- what is printed of a flaw
+-- the text that is printed of a flaw
 abbrev pub flaw_text : Flaw → List ℕ
 flaw_text ByteOrderMark = codes "a byte order mark at the start of the text"
 flaw_text CarriageReturn = codes "a carriage return at the end of the line"

@@ -8,15 +8,15 @@ use Rattle.of_plan.specs.declared.flaw.Flaw.{Flaw}
 use Rattle.of_plan.specs.declared.flaw.Flaw.TheVariants.{ByteOrderMark, CarriageReturn, Tab, NumberMissing, NoNumber, TooGreat, Zero, WordTooMany}
 use Rattle.of_plan.specs.Numerals.{IsNumeral}
 
--- the number that a piece of a line is
+-- the piece is the number `n` in digits, at most `GREATEST_CELL`
 abbrev pub PieceIsNumber : List ℕ → ℕ → Type 0
 PieceIsNumber piece n = parsed_number GREATEST_CELL piece ≡ Some n
 
--- nothing is there, or a semicolon
+-- the piece is empty or a semicolon
 abbrev pub IsNoWord : List ℕ → Type 0
 IsNoWord piece = (piece ≡ []) ⊎ (piece ≡ semicolon_byte)
 
--- what a flaw says of a piece
+-- the piece has this flaw
 abbrev pub HasFlaw : Flaw → (piece : List ℕ) → Type 0
 HasFlaw ByteOrderMark piece = piece ≡ 239 ∷ 187 ∷ 191 ∷ []
 HasFlaw CarriageReturn piece = piece ≡ 13 ∷ []
@@ -27,14 +27,14 @@ HasFlaw (TooGreat most) piece = IsNumeral piece × (parsed_number most piece ≡
 HasFlaw Zero piece = PieceIsNumber piece 0
 HasFlaw WordTooMany piece = piece ≡ [] → ⊥
 
--- a word that looks right has a byte that looks like nothing
+-- the flaw is one that cannot be seen in print: a byte order mark, a carriage return or a tab
 abbrev pub IsHidden : Flaw → Type 0
 IsHidden ByteOrderMark = Unit {0}
 IsHidden CarriageReturn = Unit {0}
 IsHidden Tab = Unit {0}
 IsHidden _ = ⊥
 
--- the piece is no number up to the most
+-- the flaw says why the piece is no number up to `most`
 abbrev pub IsNumberFlaw : Flaw → (most : ℕ) (piece : List ℕ) → Type 0
 IsNumberFlaw NumberMissing most piece = IsNoWord piece
 IsNumberFlaw NoNumber most piece = IsNumeral piece → ⊥
@@ -42,7 +42,7 @@ IsNumberFlaw (TooGreat n) most piece =
     (n ≡ most) × IsNumeral piece × (parsed_number most piece ≡ None)
 IsNumberFlaw _ most piece = ⊥
 
--- a byte of a line, with this many lines above it, that looks like nothing
+-- `b` is a byte order mark, a carriage return or a tab in a line with this many lines above it
 pub record IsHiddenByte (above : ℕ) (line : List ℕ) (b : HiddenByte) : Type 0 where
   pub order : b.start ≤ b.end
   pub within : b.end ≤ length line

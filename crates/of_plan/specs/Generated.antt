@@ -7,7 +7,8 @@ use Rattle.of_cell.specs.declared.word.TheConstants.{GREATEST_LIMIT}
 use Rattle.of_plan.specs.declared.plan.TheConstants.{MOST_PLAN_BLOCKS}
 use Rattle.of_plan.specs.Plan.{Plan}
 
--- a script adds 1 to a register and puts its index at one of 31 keys that are its caller's alone
+-- the script of a caller by its index: it adds 1 to a register, and puts its index at one of 31
+-- keys that only this caller uses
 abbrev pub load_script : (caller index : ℕ) → List Instr
 load_script t i = Add (i % 16) 1 ∷ Put (31 * t + i % 31) i ∷ []
 

@@ -28,7 +28,7 @@ abbrev pub limit_lines : Option ℕ → List PlanLine
 limit_lines None = []
 limit_lines (Some x) = Limit x ∷ []
 
--- the first lines
+-- the first lines of a plan's text
 abbrev pub heading_lines : Heading → List PlanLine
 heading_lines h = Title ∷ Callers h.callers ∷ Blocks h.blocks ∷ limit_lines h.limit
 
@@ -36,32 +36,32 @@ heading_lines h = Title ∷ Callers h.callers ∷ Blocks h.blocks ∷ limit_line
 abbrev pub plan_lines : Heading → List BodyLine → List PlanLine
 plan_lines h entries = heading_lines h ++ (map Body entries ++ End ∷ [])
 
--- the ranges of the heading
+-- the numbers of a heading are in range
 pub record IsHeading (h : Heading) : Type 0 where
   pub some_callers : 1 ≤ h.callers
   pub few_callers : h.callers ≤ MOST_PLAN_CALLERS
   pub few_blocks : h.blocks ≤ MOST_PLAN_BLOCKS
   pub limit_range : IfSome h.limit (λ x. (1 ≤ x) × (x ≤ GREATEST_LIMIT))
 
--- scripts, stops and turns are of a caller of the heading, and evictions of a cell that has a
--- durable word; the bound on all turns bounds each
+-- an entry's numbers are in range: its caller is one of the heading's, and its cell has a durable
+-- word; turns have no upper bound here, since there is one on all together
 abbrev pub IsEntryInRange : Heading → BodyLine → Type 0
 IsEntryInRange h (Script c script) = (c < h.callers) × IsScript script
 IsEntryInRange h (Stop c x) = (c < h.callers) × (x ≤ LATEST_STOP)
 IsEntryInRange h (Turns c x) = (c < h.callers) × (1 ≤ x)
 IsEntryInRange h (Evict a) = a < durable_cells h.callers (data_cells h.callers h.blocks)
 
--- the script of that caller, if the entry is one
+-- the entry's script, if it is a script of this caller
 abbrev pub script_in_entry : ℕ → BodyLine → Option (List Instr)
 script_in_entry c (Script d script) = if d == c then Some script else None
 script_in_entry c _ = None
 
--- the stop of that caller, if the entry is one
+-- the entry's stop, if it is a stop of this caller
 abbrev pub stop_at : ℕ → BodyLine → Option ℕ
 stop_at c (Stop d x) = if d == c then Some x else None
 stop_at c _ = None
 
--- the item of the schedule, if the entry is one
+-- the entry as an item of the schedule, if it is turns or an eviction
 abbrev pub item_of : BodyLine → Option Item
 item_of (Turns c x) = Some (TurnsItem c x)
 item_of (Evict a) = Some (EvictItem a)
@@ -72,14 +72,15 @@ abbrev pub is_script : BodyLine → ℕ
 is_script (Script c script) = 1
 is_script _ = 0
 
--- at most 20,000 scripts, 10,000,000 turns in all, and one stop a caller
+-- the entries are in range: at most 20,000 scripts, 10,000,000 turns in all, and one stop of each
+-- caller
 pub record AreEntries (h : Heading) (entries : List BodyLine) : Type 0 where
   pub in_range : AllByRecursion (IsEntryInRange h) entries
   pub few_scripts : sum_by is_script entries ≤ MOST_SCRIPTS
   pub few_turns : sum_by turns_of (filter_map item_of entries) ≤ MOST_TURNS
   pub one_stop : (c : ℕ) → length (filter_map (stop_at c) entries) ≤ 1
 
--- the first, if there is one
+-- the first number of a list, if there is one
 abbrev pub head_of : List ℕ → Option ℕ
 head_of [] = None
 head_of (x ∷ xs) = Some x

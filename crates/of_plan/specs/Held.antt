@@ -3,6 +3,7 @@ use Rattle.std.specs.Prelude.{map}
 use Rattle.of_plan.specs.declared.plan.Plan.TheInside.{Inside}
 use Rattle.of_plan.specs.Plan.{Plan}
 
+-- the plan that the fields of the code's type hold
 abbrev pub plan_value : Inside → Plan
 plan_value p = record {
   callers = p.callers;

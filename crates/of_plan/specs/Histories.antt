@@ -7,7 +7,7 @@ use Rattle.of_plan.specs.Plan.{Plan}
 use Rattle.of_plan.specs.Report.{Entry, Line, no_line, Report, Start, entries_of, finished_of}
 use Rattle.of_plan.specs.Legal.{script_of_entry, scripts_left, StandsBefore, HasOpenCall, HasEndState, LineIsWithinBound, IsLegal}
 
--- it is one of them
+-- `x` is an element of the list
 abbrev pub IsIn : {A : Type 0} → A → List A → Type 0
 IsIn x [] = ⊥
 IsIn x (y ∷ ys) = (y ≡ x) ⊎ IsIn x ys
@@ -31,8 +31,8 @@ pub record IsBatch (p : Plan) (h : History) (k : ℕ) : Type 0 where
       ≡ replies_in_order (h.stores (k - 1)) (map (script_of_entry p) (h.runs k))
   pub leads : last_store (h.stores (k - 1)) (map (script_of_entry p) (h.runs k)) ≡ h.stores k
 
--- an entry is among the announced ones of its sequence, or it is a read of the store after its
--- sequence
+-- an announced entry is among those of its sequence, which is after the start's; the script of a
+-- read only reads, and its reply is the one on the store after its sequence
 abbrev pub EntryHasPlace : Plan → Start → History → Entry → (announced : Bool) → Type 0
 EntryHasPlace p s h e true = (s.seq < e.seq) × IsIn e (h.runs e.seq)
 EntryHasPlace p s h e false =
@@ -40,7 +40,7 @@ EntryHasPlace p s h e false =
     × (e.reply ≡ (run (h.stores e.seq) (script_of_entry p e)).1)
 
 -- the entries of a caller are its scripts from the first that isn't done, in their order, each at
--- its place
+-- its place in the history
 pub record IsOwn (p : Plan) (s : Start) (h : History) (c : ℕ) : Type 0 where
   pub each : Each (λ e. (e.caller ≡ c) × (s.seq ≤ e.seq) × (e.seq ≤ h.last)
       × EntryHasPlace p s h e e.announced) (h.own c)
@@ -48,8 +48,8 @@ pub record IsOwn (p : Plan) (s : Start) (h : History) (c : ℕ) : Type 0 where
   pub few : length (h.own c) ≤ scripts_left p s c
   pub order : AllPairs StandsBefore (h.own c)
 
--- sequence by sequence its announced entries lead from the start's store to the last one, and each
--- caller has its own entries
+-- each sequence after the start's is a batch that leads from the store before it to the store after
+-- it, and each caller has its own entries
 pub record IsHistory (p : Plan) (s : Start) (h : History) : Type 0 where
   pub from : s.seq ≤ h.last
   pub begins : h.stores s.seq ≡ s.store
@@ -68,7 +68,7 @@ history_entries p s h =
     reads_at p h s.seq
     ++ flat_map (λ k. h.runs k ++ reads_at p h k) (range_with_len (s.seq + 1) (h.last - s.seq))
 
--- the report that a history with these lines is
+-- the report of a history, with these lines for the callers
 abbrev pub history_report : Plan → Start → History → List Line → Report
 history_report p s h lines = record {
   entries = history_entries p s h;

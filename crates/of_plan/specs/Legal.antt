@@ -69,17 +69,18 @@ pub record StandBySequence (p : Plan) (s : Start) (r : Report) : Type 0 where
   pub none_left_out : (seq : ℕ) → s.seq < seq → seq ≤ r.seq
       → Any (λ e. IsTrue e.announced × (e.seq ≡ seq)) r.entries
 
--- the replies are those of serial replay in the order of the list
+-- the replies are those that the scripts of the entries give if they run one after the other from
+-- the start's store
 abbrev pub RepliesAreSerial : Plan → Start → Report → Type 0
 RepliesAreSerial p s r =
     map (λ e. e.reply) r.entries ≡ replies_in_order s.store (map (script_of_entry p) r.entries)
 
--- the store is the last one of that replay
+-- the report's store is the one after the scripts of all entries have run one after the other
 abbrev pub IsFinalStore : Plan → Start → Report → Type 0
 IsFinalStore p s r = r.store ≡ last_store s.store (map (script_of_entry p) r.entries)
 
--- a caller is done if it has answered all that it had to do; if it is spent, the sequence is at the
--- limit
+-- a caller is done if it has answered all scripts that were left to it, and stopped or spent if it
+-- has answered fewer; if it is spent, the sequence is the limit
 abbrev pub HasEndState : EndState → (answered scripts_left seq limit : ℕ) → Type 0
 HasEndState done answered scripts_left seq limit = answered ≡ scripts_left
 HasEndState stopped answered scripts_left seq limit = answered < scripts_left

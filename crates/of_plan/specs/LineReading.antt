@@ -14,7 +14,7 @@ use Rattle.of_plan.specs.declared.parser.line.PlanLine.TheVariants.{Title, Calle
 use Rattle.of_plan.specs.Lines.{line_words}
 use Rattle.of_plan.specs.Reader.{Language}
 
--- the ranges of a line's numbers, whatever lines stand before it
+-- the numbers of a line are in the ranges that hold whatever lines come before it
 abbrev pub IsLineInRange : PlanLine → Type 0
 IsLineInRange Title = Unit {0}
 IsLineInRange (Callers n) = n ≤ MOST_PLAN_CALLERS
@@ -26,11 +26,11 @@ IsLineInRange (Body (Turns c x)) = (c ≤ MOST_PLAN_CALLERS - 1) × (x ≤ MOST_
 IsLineInRange (Body (Evict a)) = a ≤ GREATEST_CELL
 IsLineInRange End = Unit {0}
 
--- plans, as they are read
+-- the lines of plans, the words of each, and the ranges of its numbers
 abbrev pub plan_language : Language
 plan_language = record { Line = PlanLine; words_of = line_words; InRange = IsLineInRange }
 
--- the line that was read
+-- the line of a plan for the code's line without a script
 abbrev pub line_of_scriptless : ScriptlessLine → PlanLine
 line_of_scriptless ScriptlessTitle = Title
 line_of_scriptless (ScriptlessCallers n) = Callers n
@@ -41,7 +41,7 @@ line_of_scriptless (ScriptlessTurns c x) = Body (Turns c x)
 line_of_scriptless (ScriptlessEvict a) = Body (Evict a)
 line_of_scriptless ScriptlessEnd = End
 
--- how the title is read
+-- the title, if these are its words after `onefile`
 abbrev pub title_line : List (List ℕ) → Option PlanLine
 title_line [] = None
 title_line (w ∷ []) = None

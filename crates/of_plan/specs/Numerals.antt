@@ -1,8 +1,8 @@
--- What words are as numbers.
+-- Which words are numerals.
 use Rattle.std.specs.Prelude.{◌≡◌, ℕ, ◌<◌, List, length, slice_index, true}
 use Rattle.std.specs.Str.{all_ascii_digits}
 
--- digits, with no 0 in front of others
+-- the word is digits, at least one, with no 0 in front of others
 pub record IsNumeral (word : List ℕ) : Type 0 where
   pub digits : all_ascii_digits word ≡ true
   pub some : 0 < length word

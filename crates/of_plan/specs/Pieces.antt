@@ -3,14 +3,15 @@ use Rattle.std.specs.Prelude.{◌≡◌, ◌⊎◌, ℕ, List, [], ◌∷◌, �
 use Rattle.of_script.specs.Text.{text_words, EndsWith}
 use Rattle.of_plan.specs.declared.pieces.Piece.{Piece}
 
--- of these words the piece is the next one after those before it; or there is no next one, and the
--- piece is nothing, at the end of the line
+-- the piece is the word after the words `before`, and the bytes `after` hold the others; or there
+-- is no further word, and the piece and `after` are empty
 abbrev pub IsWholePiece : (words before : List (List ℕ)) (piece after : List ℕ) → Type 0
 IsWholePiece words before piece after =
     (words ≡ before ++ piece ∷ text_words after)
     ⊎ ((words ≡ before) × (piece ≡ []) × (after ≡ []))
 
--- the piece at fault, of which this holds and of the words before it
+-- `b` is a whole word of the bytes, or their end, and `Is` holds of the words before it and of the
+-- word
 pub record IsBad (bytes : List ℕ) (b : Piece) (Is : List (List ℕ) → List ℕ → Type 0) : Type 0 where
   pub before : List (List ℕ)
   pub piece : List ℕ
@@ -21,12 +22,12 @@ pub record IsBad (bytes : List ℕ) (b : Piece) (Is : List (List ℕ) → List �
   pub whole : IsWholePiece (text_words bytes) before piece after
   pub is : Is before piece
 
--- the first of the words, and nothing if there is none
+-- the first of these words; empty if there is none
 abbrev pub first_word : List (List ℕ) → List ℕ
 first_word [] = []
 first_word (w ∷ ws) = w
 
--- the word that comes next is at fault
+-- the piece is the first word of these bytes, or their end if they have no word
 abbrev pub IsNextWord : (bytes : List ℕ) → Piece → Type 0
 IsNextWord bytes b =
     IsBad bytes b (λ before piece. (before ≡ []) × (piece ≡ first_word (text_words bytes)))

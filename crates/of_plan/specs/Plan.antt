@@ -47,12 +47,13 @@ abbrev pub turns_of : Item → ℕ
 turns_of (Turns c x) = x
 turns_of (Evict a) = 0
 
--- turns are of a caller, and evictions of a cell that has a durable word
+-- an item is at least one turn of a caller of the plan, or the eviction of a cell that has a
+-- durable word
 abbrev pub IsScheduleItem : Plan → Item → Type 0
 IsScheduleItem p (Turns c x) = (c < p.callers) × (1 ≤ x)
 IsScheduleItem p (Evict a) = a < durable_cells_of p
 
--- the ranges of a plan
+-- the numbers and lists of a plan are in range
 pub record IsPlan (p : Plan) : Type 0 where
   pub some_callers : 1 ≤ p.callers
   pub few_callers : p.callers ≤ MOST_PLAN_CALLERS

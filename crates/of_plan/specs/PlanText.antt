@@ -12,7 +12,7 @@ use Rattle.of_plan.specs.declared.parser.line.PlanLine.TheVariants.{Title, Calle
 use Rattle.of_plan.specs.Plan.{Plan}
 use Rattle.of_plan.specs.Grammar.{Heading, heading_lines, plan_lines}
 
--- one space between words
+-- the text of a line without its newline, with one space between words
 abbrev pub line_body : PlanLine → List ℕ
 line_body Title = codes "onefile plan 1"
 line_body (Callers n) = codes "callers " ++ decimal n
@@ -25,51 +25,52 @@ line_body (Body (Turns c x)) = codes "turns " ++ decimal c ++ codes " " ++ decim
 line_body (Body (Evict a)) = codes "evict " ++ decimal a
 line_body End = codes "end"
 
--- a line with its newline
+-- the text of a line with its newline
 abbrev pub line_text : PlanLine → List ℕ
 line_text l = line_body l ++ codes "\n"
 
--- the lines of entries
+-- the text of the lines of these entries
 abbrev pub entries_text : List BodyLine → List ℕ
 entries_text entries = flat_map line_text (map Body entries)
 
--- the lines of these entries come after what was there
+-- `new` is `old` with the lines of these entries after it
 abbrev pub AppendsEntries : {Z : Type 0} → (old new : String Z) → List BodyLine → Type 0
 AppendsEntries old new entries = AppendsText old new (entries_text entries)
 
--- the scripts of one caller
+-- the entries of one caller's scripts
 abbrev pub caller_entries : ℕ → List (List Instr) → List BodyLine
 caller_entries c scripts = map (Script c) scripts
 
--- the scripts of the first caller and of all after it
+-- the entries of the scripts of caller `c` and of all callers after it
 abbrev pub script_entries : ℕ → List (List (List Instr)) → List BodyLine
 script_entries c [] = []
 script_entries c (scripts ∷ others) = caller_entries c scripts ++ script_entries (c + 1) others
 
--- the stop of the first caller and of all after it
+-- the entries of the stops of caller `c` and of all callers after it
 abbrev pub stop_entries : ℕ → List (Option ℕ) → List BodyLine
 stop_entries c [] = []
 stop_entries c (None ∷ others) = stop_entries (c + 1) others
 stop_entries c (Some x ∷ others) = Stop c x ∷ stop_entries (c + 1) others
 
--- the entry of an item
+-- the entry of a plan's text for an item of the schedule
 abbrev pub item_entry : Item → BodyLine
 item_entry (TurnsItem c x) = Turns c x
 item_entry (EvictItem a) = Evict a
 
--- the limit is always printed
+-- the heading that is printed of a plan; it always has the line of the limit
 abbrev pub printed_heading : Plan → Heading
 printed_heading p = record { callers = p.callers; blocks = p.blocks; limit = Some p.limit }
 
--- the lines before the entries
+-- the text of the lines before the entries
 abbrev pub heading_text : Plan → List ℕ
 heading_text p = flat_map line_text (heading_lines (printed_heading p))
 
--- all scripts, caller by caller, then the stops, and then the schedule
+-- the entries that are printed of a plan: all scripts, caller by caller, then the stops, and then
+-- the schedule
 abbrev pub printed_entries : Plan → List BodyLine
 printed_entries p =
     script_entries 0 p.scripts ++ (stop_entries 0 p.stops ++ map item_entry p.schedule)
 
--- the lines one after the other
+-- the text that is printed of a plan: its lines one after the other
 abbrev pub plan_text : Plan → List ℕ
 plan_text p = flat_map line_text (plan_lines (printed_heading p) (printed_entries p))

@@ -9,32 +9,33 @@ use Rattle.of_plan.specs.ReasonText.{reason_text}
 abbrev pub sign : ℕ → ℕ
 sign b = if nat_lt b 32 then 63 else if nat_lt 126 b then 63 else b
 
--- the first byte of a line that is shown: its first byte if the line has at most 100, and otherwise
--- at most 60 before the piece
+-- where the shown part of a line begins: 60 bytes before the piece; or at the line's first byte, if
+-- the line has at most 100 bytes or fewer than 60 come before the piece
 abbrev pub first_shown_byte : (size start : ℕ) → ℕ
 first_shown_byte size start = if nat_le size 100 then 0 else start - 60
 
--- the end of what is shown, at most 100 bytes after its begin
+-- where the shown part of a line ends, at most 100 bytes after its begin
 abbrev pub last : (start size : ℕ) → ℕ
 last start size = min size (first_shown_byte size start + 100)
 
--- the byte twice, if something of a line is cut off
+-- the byte twice if a part of the line is cut off, and otherwise nothing
 abbrev pub cut_mark : (byte : ℕ) → Bool → List ℕ
 cut_mark byte is_cut = if is_cut then byte ∷ byte ∷ [] else []
 
--- how many carets there are, at least one
+-- how many carets there are below the piece, at least one
 abbrev pub width : (start end size : ℕ) → ℕ
 width start end size = max (min end (last start size) - start) 1
 
--- whether a part of a line is cut off before what is shown, or after it
+-- whether a part of the line is cut off before what is shown
 abbrev pub is_cut_before : (size start : ℕ) → Bool
 is_cut_before size start = nat_lt 0 (first_shown_byte size start)
 
+-- whether a part of the line is cut off after what is shown
 abbrev pub is_cut_behind : (size start : ℕ) → Bool
 is_cut_behind size start = nat_lt (last start size) size
 
--- the line's number, the column and the reason, the line, with two dots where it is cut, and carets
--- below the piece
+-- what is printed of a piece: the line's number, the column and the reason; the line, with two dots
+-- where it is cut; and carets below the piece
 abbrev pub message : (number : ℕ) (line : List ℕ) (start end : ℕ) (reason : List ℕ) → List ℕ
 message number line start end reason =
     (((((((((codes "line " ++ (decimal number ++ (codes ", column " ++ (decimal (start + 1)

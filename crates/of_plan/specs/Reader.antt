@@ -4,37 +4,39 @@ use Rattle.std.specs.Prelude.{◌≡◌, ℕ, ◌⊎◌, true, false, List, [], 
 use Rattle.of_script.specs.Reading.{◌>>=◌}
 use Rattle.of_plan.specs.Lines.{is_skipped}
 
--- lines, the words of each, and which of them may be read at all
+-- a kind of lines, the words of each line, and which lines are in range
 pub record Language : Type 1 where
   pub Line : Type 0
   pub words_of : Line → List (List ℕ)
   pub InRange : Line → Type 0
 
--- how far a reading comes, and where a line leads, if it may come next
+-- how far a reading of such lines has come, and how far it is after one more line, if this line may
+-- come next
 pub record Reader (L : Language) : Type 1 where
   pub Progress : Type 0
   pub next : Progress → L.Line → Option Progress
 
--- what lines lead to
+-- how far a reading is after these lines, if each may come next
 abbrev pub after_lines : (L : Language) (R : Reader L) → R.Progress → List L.Line
     → Option R.Progress
 after_lines L R p [] = Some p
 after_lines L R p (l ∷ ls) = R.next p l >>= λ q. after_lines L R q ls
 
--- the words are those of this line
+-- the words are those of this line, which is in range and isn't skipped
 pub record SpellsLine (L : Language) (ws : List (List ℕ)) (l : L.Line) : Type 0 where
   pub kept : is_skipped ws ≡ false
   pub words : ws ≡ L.words_of l
   pub range : L.InRange l
 
--- the words are skipped, or are a line that may come next
+-- the words are skipped and leave the reading as it was, or they are a line that leads it from `p`
+-- to `q`
 abbrev pub ReadsLine : (L : Language) (R : Reader L) → List (List ℕ) → R.Progress → R.Progress
     → Type 0
 ReadsLine L R ws p q =
     ((is_skipped ws ≡ true) × (p ≡ q))
     ⊎ ((l : L.Line) × SpellsLine L ws l × (R.next p l ≡ Some q))
 
--- the words are no line that may come next
+-- the words are not skipped, and are no line that may come next at `p`
 pub record RefusesLine (L : Language) (R : Reader L) (ws : List (List ℕ)) (p : R.Progress)
     : Type 0 where
   pub kept : is_skipped ws ≡ false

@@ -1,10 +1,10 @@
--- The reasons in words.
+-- The text that is printed of each reason.
 use Rattle.std.specs.Prelude.{ℕ, List, ◌++◌, codes, decimal}
 use Rattle.of_plan.specs.declared.reason.Reason.{Reason}
 use Rattle.of_plan.specs.declared.reason.Reason.TheVariants.{Flawed, TitleExpected, CallersExpected, BlocksExpected, AfterEnd, UnknownLine, UnknownInstruction, NoCaller, NoCell, InstructionMissing, TooManyInstructions, TooManyScripts, TooManyTurns, StopTwice, SecondStop, HeadingOver, EndMissing}
 use Rattle.of_plan.specs.FlawText.{flaw_text}
 
--- what is printed of a reason
+-- the text that is printed of a reason
 abbrev pub reason_text : Reason → List ℕ
 reason_text (Flawed flaw) = flaw_text flaw
 reason_text TitleExpected = codes "the first line of a plan is `onefile plan 1`"

@@ -34,29 +34,31 @@ use Rattle.of_plan.specs.Pieces.{IsWholePiece}
 
 -- ---- what comes next after the words of a line
 
--- an instruction: after the caller's number of a script, and after a semicolon
+-- after these words of a line an instruction comes next: the last word is the caller of a script
+-- line, or a semicolon
 pub record WantsInstr (before : List (List ℕ)) : Type 0 where
   pub caller : List ℕ
   pub others : List (List ℕ)
   pub are : before ≡ codes "script" ∷ caller ∷ others
   pub mark : (others ≡ []) ⊎ ((front : List (List ℕ)) × (others ≡ front ++ semicolon_byte ∷ []))
 
--- a number up to the most: after this name, whose two numbers have these mosts, or after its first
--- number
+-- after these words a number up to `most` comes next: they are this name, or the name and its first
+-- number; `first` and `second` are the greatest numbers there
 abbrev pub IsAfterName : (name : List ℕ) (first second : ℕ) (words : List (List ℕ)) (most : ℕ)
     → Type 0
 IsAfterName name first second words most =
     ((words ≡ name ∷ []) × (most ≡ first))
     ⊎ ((x : ℕ) × (words ≡ name ∷ (if first == 0 then [] else decimal x ∷ [])) × (most ≡ second))
 
--- the same after the name of an instruction
+-- after these words, an instruction's name or the name and a number, a number up to `most` comes
+-- next
 abbrev pub IsAfterInstr : (words : List (List ℕ)) (most : ℕ) → Type 0
 IsAfterInstr words most =
     (name : List ℕ) × (i : Instr) × (form_named name ≡ Some i)
     × IsAfterName name (first_most i) (second_most i) words most
 
--- a number up to the most: of a line with numbers alone, the caller of a script, or a number of an
--- instruction
+-- after these words of a line a number up to `most` comes next: of a line with numbers alone, the
+-- caller of a script, or of an instruction
 abbrev pub WantsNumber : (before : List (List ℕ)) (most : ℕ) → Type 0
 WantsNumber before most =
     ((form : LineForm)
@@ -65,14 +67,14 @@ WantsNumber before most =
     ⊎ ((opening words : List (List ℕ)) × WantsInstr opening × (before ≡ opening ++ words)
     × IsAfterInstr words most))
 
--- a number from 1 on
+-- after these words of a line a number comes next that may not be 0
 abbrev pub WantsCount : (before : List (List ℕ)) → Type 0
 WantsCount before =
     (before ≡ codes "callers" ∷ [])
     ⊎ ((before ≡ codes "limit" ∷ [])
     ⊎ ((caller : ℕ) × (before ≡ codes "turns" ∷ decimal caller ∷ [])))
 
--- nothing, and after a script not even a semicolon
+-- the words before the piece are a whole line; after a script line the piece is no semicolon
 pub record IsBehindLine (before : List (List ℕ)) (piece : List ℕ) : Type 0 where
   pub line : PlanLine
   pub range : IsLineInRange line
@@ -80,7 +82,8 @@ pub record IsBehindLine (before : List (List ℕ)) (piece : List ℕ) : Type 0 w
   pub no_mark : (caller : ℕ) (script : List Instr) → line ≡ Body (Script caller script)
       → piece ≡ semicolon_byte → ⊥
 
--- what comes next there is what the flaw of the piece speaks of
+-- after the words `before` a line goes on with what the flaw speaks of: a number, one that may not
+-- be 0, or nothing
 abbrev pub IsPlaceOf : Flaw → (before : List (List ℕ)) (piece : List ℕ) → Type 0
 IsPlaceOf NumberMissing before piece = (most : ℕ) × WantsNumber before most
 IsPlaceOf NoNumber before piece = (most : ℕ) × WantsNumber before most
@@ -91,32 +94,32 @@ IsPlaceOf _ before piece = ⊥
 
 -- ---- reasons
 
--- the heading is over
+-- the heading is over, and the end has not come
 abbrev pub IsBelowHeading : Stage → Type 0
 IsBelowHeading stage = (stage ≡ Sized) ⊎ (stage ≡ InBody)
 
--- the line has one of the heading's names; a limit may come right below the heading
+-- the piece is the first word of a line of the heading; `limit` counts only if the body has begun
 abbrev pub IsHeadingWord : Stage → List ℕ → Type 0
 IsHeadingWord stage piece =
     (piece ≡ codes "onefile")
     ⊎ ((piece ≡ codes "callers")
     ⊎ ((piece ≡ codes "blocks") ⊎ ((piece ≡ codes "limit") × (stage ≡ InBody))))
 
--- the words before the piece begin the title, and it does not go on with the piece
+-- the words before the piece begin a title, and the piece is not its next word
 abbrev pub IsNoTitleWord : (before : List (List ℕ)) (piece : List ℕ) → Type 0
 IsNoTitleWord before piece =
     ((before ≡ []) × (piece ≡ codes "onefile" → ⊥))
     ⊎ (((before ≡ codes "onefile" ∷ []) × (piece ≡ codes "plan" → ⊥))
     ⊎ ((before ≡ codes "onefile" ∷ codes "plan" ∷ []) × (piece ≡ codes "1" → ⊥)))
 
--- a caller comes next
+-- after these words of a line the number of a caller comes next
 abbrev pub WantsCaller : (before : List (List ℕ)) → Type 0
 WantsCaller before =
     (before ≡ codes "script" ∷ [])
     ⊎ ((before ≡ codes "stop" ∷ []) ⊎ (before ≡ codes "turns" ∷ []))
 
--- what a reason says of a piece of a line, of the words before it, and of what the lines above lead
--- to
+-- the reason is true of a piece of a line, of the words before it, and of the reading `p` to which
+-- the lines above lead
 abbrev pub IsTrueOf : Reason → Reading → (before : List (List ℕ)) (piece : List ℕ) → Type 0
 IsTrueOf (Flawed flaw) p before piece = HasFlaw flaw piece × IsPlaceOf flaw before piece
 IsTrueOf TitleExpected p before piece = (p.stage ≡ Start) × IsNoTitleWord before piece
@@ -153,20 +156,21 @@ IsTrueOf EndMissing p before piece = ⊥
 
 -- ---- the fault of a text
 
--- what the first lines of a text say leads to this reading
+-- the first `count` lines of the text are lines of a plan, or skipped, and lead to this reading
 pub record LinesLeadTo (text : List ℕ) (count : ℕ) (p : Reading) : Type 0 where
   pub said : List PlanLine
   pub says : unskipped_words (take count (text_lines text)) ≡ map line_words said
   pub leads : after_lines plan_language plan_reader nothing_read said ≡ Some p
 
--- the text is at its end, and has no end line yet
+-- the text has `above + 1` lines, which can all be read, and none of them is an end line
 pub record IsUnended (text : List ℕ) (above : ℕ) : Type 0 where
   pub last : length (text_lines text) ≡ above + 1
   pub reading : Reading
   pub leads : LinesLeadTo text (above + 1) reading
   pub unended : reading.stage ≡ Ended → ⊥
 
--- the caller has a stop already, in the line of this number
+-- the piece names a caller in a stop line, and the caller has a stop already, in the line of this
+-- number
 pub record HasStop (text : List ℕ) (above : ℕ) (before : List (List ℕ)) (piece : List ℕ)
     (number : ℕ) : Type 0 where
   pub place : before ≡ codes "stop" ∷ []
@@ -176,7 +180,8 @@ pub record HasStop (text : List ℕ) (above : ℕ) (before : List (List ℕ)) (p
   pub says : Says (text_lines text) above (Stop caller) at caller
   pub is : number ≡ at + 1
 
--- what a reason says of a piece of a text, which has this many lines above it
+-- the reason is true of a piece of a text, and of the words before it, in a line with this many
+-- lines above it
 abbrev pub IsTrueIn : Reason → (text : List ℕ) (above : ℕ) (before : List (List ℕ))
     (piece : List ℕ) → Type 0
 IsTrueIn EndMissing text above before piece = IsUnended text above × (piece ≡ [])
@@ -184,7 +189,7 @@ IsTrueIn (SecondStop number) text above before piece = HasStop text above before
 IsTrueIn reason text above before piece =
     (p : Reading) × LinesLeadTo text above p × IsTrueOf reason p before piece
 
--- the piece is a whole word, or the end of the line
+-- the piece at fault is a whole word or the end of the line, and the reason is true of it
 pub record IsWordFault (text : List ℕ) (f : BadPiece) : Type 0 where
   pub before : List (List ℕ)
   pub whole :
@@ -194,7 +199,7 @@ pub record IsWordFault (text : List ℕ) (f : BadPiece) : Type 0 where
       let line = line_at (text_lines text) (f.line - 1) in
       IsTrueIn f.reason text (f.line - 1) before (slice_range line f.start f.end)
 
--- the piece is a byte that looks like nothing, in a line that isn't skipped
+-- the piece at fault is a byte order mark, a carriage return or a tab, in a line that isn't skipped
 pub record IsHiddenFault (text : List ℕ) (f : BadPiece) : Type 0 where
   pub flaw : Flaw
   pub reason : f.reason ≡ Flawed flaw
@@ -202,7 +207,7 @@ pub record IsHiddenFault (text : List ℕ) (f : BadPiece) : Type 0 where
   pub is : IsHiddenByte (f.line - 1) (line_at (text_lines text) (f.line - 1))
       (record { start = f.start; end = f.end; flaw = flaw })
 
--- the bad line of a text, the piece of it at fault, and a reason that is true of it
+-- `f` is the bad line of the text, the piece of it at fault, and a reason that is true of the piece
 pub record IsFaultOf (text : List ℕ) (f : BadPiece) : Type 0 where
   pub bad : HasBadLine IsPlanText text f.line
   pub order : f.start ≤ f.end

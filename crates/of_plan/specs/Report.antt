@@ -3,8 +3,9 @@ use Rattle.std.specs.Prelude.{ℕ, Bool, List, filter, replicate, slice_index, s
 use Rattle.of_store.specs.Store.{Store, Reply, empty_store}
 use Rattle.of_plan.specs.Plan.{Plan}
 
--- a call in the history: a script of a caller by its index from 0, at a sequence, with its reply; a
--- read that was not announced shares its sequence with others
+-- A call in the history: the script with this index (from 0) of a caller, the call's sequence,
+-- whether it was announced, and its reply. All calls of one batch have the same sequence; so have
+-- the reads of the state that the batch leaves.
 pub record Entry : Type 0 where
   pub seq : ℕ
   pub caller : ℕ
@@ -46,7 +47,7 @@ empty_start p = record { store = empty_store p.blocks; seq = 0; finished = repli
 abbrev pub entries_of : Report → ℕ → List Entry
 entries_of r c = filter (λ e. e.caller == c) r.entries
 
--- the line of no caller
+-- the line that `caller_line` gives for a caller that has none
 abbrev pub no_line : Line
 no_line = record { state = done; answered = 0; entries = 0; longest = 0 }
 

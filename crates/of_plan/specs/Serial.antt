@@ -1,5 +1,4 @@
--- The report of a plan whose scripts run one after the other: those of caller 0 first, then
--- those of caller 1, and so on, up to the limit.
+-- The report of a plan whose scripts run one after the other, caller by caller, up to the limit.
 use Rattle.std.specs.Prelude.{ℕ, true, List, [], length, map, flat_map, take, count_by, slice_index_or, if◌then◌else◌, ◌==◌}
 use Rattle.std.specs.List.{enumerate_from, range_with_len, zip}
 use Rattle.of_script.specs.declared.instr.Instr.{Instr}
@@ -7,7 +6,7 @@ use Rattle.of_store.specs.Store.{Reply, empty_store, replies_in_order, last_stor
 use Rattle.of_plan.specs.Plan.{Plan, scripts_of}
 use Rattle.of_plan.specs.Report.{Entry, Line, done, spent, Report}
 
--- a caller, and the index of a script of its
+-- a call: its caller, and the index of its script
 abbrev pub CallId : Type 0
 CallId = ℕ × ℕ
 
@@ -23,20 +22,20 @@ calls_of p c = map (λ i. (c, i)) (range_with_len 0 (length (scripts_of p c)))
 abbrev pub all_calls : Plan → List CallId
 all_calls p = flat_map (calls_of p) (range_with_len 0 p.callers)
 
--- as many of them as there are sequences
+-- the first calls of a plan, as many as there are sequences up to its limit
 abbrev pub serial_calls : Plan → List CallId
 serial_calls p = take p.limit (all_calls p)
 
--- their scripts
+-- the scripts of the calls that have a sequence
 abbrev pub serial_scripts : Plan → List (List Instr)
 serial_scripts p = map (called_script p) (serial_calls p)
 
--- an announced entry at a sequence
+-- the announced entry of a call with this sequence and this reply
 abbrev pub serial_entry : ℕ × (CallId × Reply) → Entry
 serial_entry (seq, (call, reply)) =
     record { seq = seq; caller = call.0; index = call.1; announced = true; reply = reply }
 
--- a caller whose calls are all among them is done, any other is spent
+-- the line of a caller: done if all its scripts are answered, and otherwise spent
 abbrev pub serial_line : (answered scripts : ℕ) → Line
 serial_line answered scripts = record {
   state = if answered == scripts then done else spent;
@@ -45,8 +44,8 @@ serial_line answered scripts = record {
   longest = 0;
 }
 
--- the calls with the sequences 1, 2, .., the replies and the last store of their serial replay, and
--- no steps
+-- the report of a serial run: its calls have the sequences 1, 2, .., with the replies and the last
+-- store of serial replay, and no steps are counted
 abbrev pub serial_report : Plan → Report
 serial_report p = record {
   entries = map serial_entry (enumerate_from 1

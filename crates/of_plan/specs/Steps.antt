@@ -1,5 +1,5 @@
--- What a step of the reading has done, as the contracts of the code say it: a call that was handed
--- an entry or a line says whether it took it.
+-- What the calls that take a line or an entry promise: whether they have taken it, and what the
+-- reading is then.
 use Rattle.std.specs.Prelude.{◌≡◌, Bool, None, if◌then◌else◌}
 use Rattle.of_plan.specs.declared.parser.line.BodyLine.{BodyLine}
 use Rattle.of_plan.specs.declared.parser.line.PlanLine.{PlanLine}
@@ -7,16 +7,19 @@ use Rattle.of_plan.specs.declared.parser.line.PlanLine.TheVariants.{Body}
 use Rattle.of_plan.specs.declared.parser.state.Reading.{Reading}
 use Rattle.of_plan.specs.Reading.{reading_value, with_entry, after_line, TakesEntry, TakesLine}
 
--- the entry was taken, or may not come next
+-- if `taken` is true, the entry was taken and leads from `old` to `new`; otherwise it may not come
+-- next
 abbrev pub HasTakenEntry : (old : Reading) → BodyLine → (new : Reading) → (taken : Bool) → Type 0
 HasTakenEntry old e new taken = TakesEntry (reading_value old) e taken (reading_value new)
 
--- any entry may come next, as it may in the new reading, or none may
+-- if `may` is true, an entry may come next exactly if the reading `new` can take it; otherwise none
+-- may
 abbrev pub MayTakeEntries : (old new : Reading) → (may : Bool) → Type 0
 MayTakeEntries old new may =
     (e : BodyLine) → after_line (reading_value old) (Body e)
     ≡ (if may then with_entry (reading_value new) e else None)
 
--- the line was taken, or may not come next
+-- if `taken` is true, the line was taken and leads from `old` to `new`; otherwise it may not come
+-- next
 abbrev pub HasTakenLine : (old : Reading) → PlanLine → (new : Reading) → (taken : Bool) → Type 0
 HasTakenLine old l new taken = TakesLine (reading_value old) l taken (reading_value new)

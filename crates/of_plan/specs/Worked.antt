@@ -1,11 +1,11 @@
--- A worked legal report, and seven that are no legal ones, each one field away from it.
+-- A worked legal report, and seven reports that differ from it in one field and are not legal.
 use Rattle.std.specs.Prelude.{ℕ, ◌+◌, Bool, true, false, Option, Some, None, [], ◌∷◌}
 use Rattle.of_script.specs.declared.instr.Instr.TheVariants.{Load, Store as StoreInstr, Add}
 use Rattle.of_store.specs.Store.{Store, Answered, empty_store, with_register}
 use Rattle.of_plan.specs.Plan.{Plan, bound_of}
 use Rattle.of_plan.specs.Report.{Entry, Line, done, stopped, Report}
 
--- one caller stores and loads, the other loads and adds
+-- a plan of two callers: one stores and loads, the other loads and adds
 abbrev pub two_callers : Plan
 two_callers = record {
   callers = 2;
@@ -17,7 +17,7 @@ two_callers = record {
   schedule = [];
 }
 
--- an entry whose script answers one number or none
+-- an entry of a script with one instruction, which answers a number or none
 abbrev pub worked_entry : (seq caller index : ℕ) → Bool → Option ℕ → Entry
 worked_entry seq caller index announced value = record {
   seq = seq;
@@ -47,7 +47,7 @@ both_done = record { state = done; answered = 2; entries = 2; longest = 60 }
 abbrev pub holds_six : Store
 holds_six = with_register (empty_store 0) 0 6
 
--- a report of these lines
+-- a report with two fixed entries and then these two, and with this line of the second caller
 abbrev pub worked_report : (third fourth : Entry) → (second : Line) → ℕ → Store → Report
 worked_report third fourth second seq store = record {
   entries = loads_nothing ∷ stores_five ∷ third ∷ fourth ∷ [];
@@ -60,32 +60,32 @@ worked_report third fourth second seq store = record {
 abbrev pub legal_report : Report
 legal_report = worked_report adds_one loads_six both_done 1 holds_six
 
--- a script comes a second time
+-- no legal report: a script comes a second time
 abbrev pub script_twice : Report
 script_twice = worked_report (worked_entry 1 1 0 true (Some 6)) loads_six both_done 1 holds_six
 
--- a line counts one entry more than there are
+-- no legal report: a line counts one entry more than there are
 abbrev pub entry_too_many : Report
 entry_too_many = worked_report adds_one loads_six (record both_done { entries = 3 }) 1 holds_six
 
--- no entry was announced at the last sequence
+-- no legal report: no entry was announced at the last sequence
 abbrev pub sequence_left_out : Report
 sequence_left_out = worked_report adds_one loads_six both_done 2 holds_six
 
--- a read misses what was added
+-- no legal report: a read misses what was added before it
 abbrev pub stale_read : Report
 stale_read = worked_report adds_one (worked_entry 1 0 1 false (Some 5)) both_done 1 holds_six
 
--- what was written isn't in the store
+-- no legal report: what was written isn't in the store
 abbrev pub writes_lost : Report
 writes_lost = worked_report adds_one loads_six both_done 1 (empty_store 0)
 
--- a caller without a script left is stopped
+-- no legal report: a caller without a script left is stopped
 abbrev pub stopped_at_the_end : Report
 stopped_at_the_end =
     worked_report adds_one loads_six (record both_done { state = stopped }) 1 holds_six
 
--- a call made a step more than it can
+-- no legal report: a call made one step more than the step bound
 abbrev pub step_too_many : Report
 step_too_many =
     worked_report adds_one loads_six

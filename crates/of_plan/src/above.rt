@@ -10,12 +10,12 @@ use crate::parser::line::GREATEST_CELL;
 use crate::plan::MOST_PLAN_CALLERS;
 use of_script::text::{cut, next_number, word};
 
-/// What a line is asked for.
+/// Which lines of a text are looked for.
 #[derive(Clone, Copy, Debug, PartialEq, Eq)]
 pub enum Wanted {
-    /// The stop of this caller.
+    /// The stop lines of this caller.
     Stop { caller: u32 },
-    /// In the text of an image, the number of a cell from this one on.
+    /// In the text of an image, the lines of a cell with this number or a greater one.
     Cell { least: u32 },
 }
 
@@ -53,7 +53,8 @@ pub(crate) fn said(wanted: Wanted, line: &[u8]) -> Option<u32>
     }
 }
 
-/// The line with this many lines above it, or nothing if there is none, and whether it is the last.
+/// The line with this many lines above it, or an empty one if there is none, and whether it is the
+/// last.
 pub fn line_at(text: &[u8], above: u64) -> (&[u8], bool)
     ensures line { result.0.now ≡ lines_above.line_at (text_lines text.now) above }
     ensures last { IsTrue result.1 → length (text_lines text.now) ≡ above + 1 }
@@ -73,8 +74,8 @@ pub fn line_at(text: &[u8], above: u64) -> (&[u8], bool)
     }
 }
 
-/// The first of the lines above that says what is wanted: how many lines are above it, and the
-/// number that it says.
+/// The first of the first `above` lines that is wanted: how many lines are above it, and the number
+/// that it says.
 pub fn find(text: &[u8], above: u64, wanted: Wanted) -> Option<(u64, u32)>
     ensures { MatchOption result (NoneSays (text_lines text.now) above wanted)
         (λ x. Says (text_lines text.now) above wanted x.0 x.1) }

@@ -7,7 +7,8 @@ use of_script::Reply;
 pub struct Answer {
     /// The sequence at which the call took effect.
     pub seq: u32,
-    /// Whether the call was announced; only a script that writes nothing may be tried first.
+    /// Whether the call was announced; only a script that writes nothing can be answered without
+    /// that.
     pub announced: bool,
     /// What its script answered.
     pub reply: Reply,
@@ -18,12 +19,12 @@ pub struct Answer {
 /// How the calls of a caller ended.
 #[derive(Clone, Copy, Debug, PartialEq, Eq)]
 pub enum Ending {
-    /// All its scripts are answered.
+    /// All scripts of the caller are answered.
     Done,
-    /// It was stopped before that.
+    /// The caller was stopped before all its scripts were answered.
     Stopped {
-        /// How many steps its open call has asked for: those that it made, and the one that it
-        /// didn't get. 1 if none is open.
+        /// How many steps its open call has asked for: those that it made, and the one that was
+        /// denied. It is 1 if no call is open.
         asked: u64,
     },
     /// No sequence was left for its next call.

@@ -2,15 +2,15 @@
 
 use std::fmt;
 
-/// What is wrong with a piece of a line by itself, whatever the text is. What each of them says of
-/// its piece is defined in `specs/Flaws.antt`.
+/// What is wrong with a piece of a line by itself, whatever the text is. `specs/Flaws.antt` defines
+/// what each flaw says of the piece.
 #[derive(Clone, Copy, Debug, PartialEq, Eq)]
 pub enum Flaw {
     /// The text starts with a byte order mark.
     ByteOrderMark,
     /// The line ends with a carriage return.
     CarriageReturn,
-    /// The line has a tab, which is a byte of a word.
+    /// The line has a tab, which does not part words.
     Tab,
     /// A number should come here.
     NumberMissing,

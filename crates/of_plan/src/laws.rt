@@ -22,14 +22,14 @@ pub fn serial_is_legal()
     ensures { (p : Plan) → IsLegal p (empty_start p) (serial_report p) }
 {}
 
-/// The report that is put together of a history, sequence by sequence, is legal, and its entries of
-/// a caller are the caller's in the order of its calls.
+/// A report that is put together of a history, sequence by sequence, is legal, and has the
+/// history's entries of each caller in the same order.
 pub fn histories_are_legal()
     ensures { (p : Plan) (s : Start) → HistoriesAreLegal p s }
 {}
 
-/// A worked report is legal, and for each clause of legality a report that is one field away
-/// from it is refused.
+/// A worked report is legal, and for each clause of legality a report that differs from it in one
+/// field is refused.
 pub fn worked_reports()
     ensures legal { IsLegal two_callers (empty_start two_callers) legal_report }
     ensures in_order { IsLegal two_callers (empty_start two_callers) script_twice → ⊥ }
@@ -65,7 +65,7 @@ pub fn plans_fit()
     ensures stores { MOST_PLAN_BLOCKS ≤ store.MOST_BLOCKS }
 {}
 
-/// A limit that two crates state, since neither stands on the other, is one number in both.
+/// Two crates, neither of which uses the other, state the same limits with equal numbers.
 pub fn limits_agree()
     ensures callers { work.MOST_CALLERS ≡ cell.MOST_CALLERS }
     ensures data_cells { work.MOST_DATA_CELLS ≡ cell.MOST_DATA_CELLS }

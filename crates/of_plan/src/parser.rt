@@ -63,7 +63,7 @@ impl From<AllocError> for PlanErr {
 pub enum Refusal {
     /// Memory ran out.
     Memory,
-    /// The text isn't in the grammar, and this is at fault.
+    /// The text isn't in the grammar, and this piece of it is at fault.
     Bad { piece: BadPiece },
 }
 
@@ -80,9 +80,9 @@ impl From<AllocError> for Refusal {
 
 /// The plan that a text spells, or the piece of it at fault.
 pub fn read(alloc: Global, text: &[u8]) -> Result<Plan, Refusal>
-    // What is read is spelled so.
+    // The text spells the plan that is read.
     ensures ok { IfOk result (SpellsPlan text.now) }
-    // The piece is of the bad line, the reason is true of it, and no plan is spelled.
+    // The piece is in the bad line, the reason is true of it, and the text spells no plan.
     ensures bad { IfErr result (HasFault text.now) }
     // A text of the grammar is answered by its plan, unless memory runs out.
     ensures only { (plan : Plan) → SpellsPlan text.now plan
@@ -114,9 +114,9 @@ pub fn read(alloc: Global, text: &[u8]) -> Result<Plan, Refusal>
 
 /// The plan that a text spells.
 pub fn parse(alloc: Global, text: &[u8]) -> Result<Plan, PlanErr>
-    // What is read is spelled so.
+    // The text spells the plan that is read.
     ensures ok { IfOk result (SpellsPlan text.now) }
-    // A line that is named is the bad one, and then no plan is spelled.
+    // If the error names a line, it is the bad one, and the text spells no plan.
     ensures bad { IfErr result (PlanIsRefused text.now) }
     // A text of the grammar is answered by its plan, unless memory runs out.
     ensures only { (plan : Plan) → SpellsPlan text.now plan

@@ -1,5 +1,5 @@
-//! Pieces of a line at fault: a word that should be a number, a word too many, a byte that looks
-//! like nothing.
+//! Pieces of a line at fault: a word that should be a number, a word too many, a byte that cannot
+//! be seen in print.
 
 ghost use Rattle.std.specs.Prelude.{◌≡◌, ◌≤◌, ℕ, length, List, [], ◌∷◌, IfOk, IfSome, IfErr, MatchOption, None, Some};
 ghost use Rattle.of_script.specs.Text.{text_words, EndsWith};
@@ -11,7 +11,7 @@ use crate::flaw::Flaw;
 use crate::numerals::is_numeral;
 use of_script::text::{next_number, word};
 
-/// A piece of a line: how many bytes it has, and how many of the line are left after it.
+/// A piece of a line: how many bytes it has, and how many bytes of the line come after it.
 #[derive(Clone, Copy, Debug, PartialEq, Eq)]
 pub struct Piece {
     pub size: usize,
@@ -25,7 +25,7 @@ pub struct FlawedPiece {
     pub flaw: Flaw,
 }
 
-/// The word that comes next; the end of the line if none comes.
+/// The next word of these bytes; their end if there is none.
 pub fn next_word(bytes: &[u8]) -> Piece
     ensures { IsNextWord bytes.now result }
 {
@@ -38,7 +38,7 @@ pub fn next_word(bytes: &[u8]) -> Piece
     }
 }
 
-/// Why the word that comes next is no number up to the most.
+/// Why the next word of these bytes is no number up to `most`.
 pub fn number_flaw(bytes: &[u8], most: u32) -> Flaw
     requires { number_after most (text_words bytes.now) ≡ None }
     ensures { IsNumberFlaw result most (first_word (text_words bytes.now)) }
@@ -55,8 +55,8 @@ pub fn number_flaw(bytes: &[u8], most: u32) -> Flaw
     Flaw::TooGreat { most }
 }
 
-/// The number that comes next and the bytes after it, or why there is none up to the most. A most
-/// of 0 wants no number, and reads none.
+/// Reads the next word as a number up to `most`: the number and the bytes after it, or what is
+/// wrong with the word. If `most` is 0, no number is wanted: the answer is 0 and all the bytes.
 pub fn read_slot(bytes: &[u8], most: u32) -> Result<(u32, &[u8]), FlawedPiece>
     ensures ok { IfOk result
         (λ x. slot_and_rest most (text_words bytes.now) ≡ Some (x.0, text_words x.1.now)) }
@@ -79,7 +79,7 @@ pub fn read_slot(bytes: &[u8], most: u32) -> Result<(u32, &[u8]), FlawedPiece>
     }
 }
 
-/// The bytes after the word that is wanted next, or the word that comes in its place.
+/// The bytes after the next word, if this is the wanted word; otherwise the word that is there.
 pub fn read_word<'a>(bytes: &'a [u8], wanted: &[u8]) -> Result<&'a [u8], Piece>
     ensures ok { IfOk result
         (λ rest. text_words bytes.now ≡ wanted.now ∷ text_words rest.now) }
@@ -97,7 +97,7 @@ pub fn read_word<'a>(bytes: &'a [u8], wanted: &[u8]) -> Result<&'a [u8], Piece>
     Err(next_word(bytes))
 }
 
-/// The word that comes where the line should end.
+/// The next word of these bytes, where the line should end; None if there is none.
 pub fn word_too_many(bytes: &[u8]) -> Option<Piece>
     ensures { MatchOption result (text_words bytes.now ≡ [])
         (λ piece. IsNextWord bytes.now piece × (first_word (text_words bytes.now) ≡ [] → ⊥)) }
@@ -108,7 +108,7 @@ pub fn word_too_many(bytes: &[u8]) -> Option<Piece>
     }
 }
 
-/// A byte of a line that looks like nothing.
+/// Bytes of a line that cannot be seen in print, from `start` to before `end`, and their flaw.
 #[derive(Clone, Copy, Debug, PartialEq, Eq)]
 pub struct HiddenByte {
     pub start: usize,
@@ -116,8 +116,8 @@ pub struct HiddenByte {
     pub flaw: Flaw,
 }
 
-/// The first byte that looks like nothing: a byte order mark at the start of the text, a tab, a
-/// carriage return at the end of the line.
+/// The first bytes of a line that cannot be seen in print: a byte order mark at the start of the
+/// text, a tab, or a carriage return at the end of the line. `above` counts the lines above it.
 pub fn hidden(line: &[u8], above: u64) -> Option<HiddenByte>
     ensures { IfSome result (IsHiddenByte above line.now) }
 {

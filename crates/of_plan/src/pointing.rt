@@ -63,7 +63,7 @@ fn first_shown(bytes: usize, start: usize) -> usize
 
 /// What is printed of a piece of a line, from the byte `start` to before `end`: the line's number,
 /// the column and the reason, the line, and carets below the piece. Of a long line only what is
-/// near the piece is shown, with two dots where it is cut. The error is want of memory.
+/// near the piece is shown, with two dots where it is cut. An error means out of memory.
 pub fn point_out(
     alloc: Global,
     number: u64,

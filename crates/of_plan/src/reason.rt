@@ -3,8 +3,7 @@
 use crate::flaw::Flaw;
 use std::fmt;
 
-/// Why a line is the bad line of a text. What each of them says of its line is defined in
-/// `specs/Reasons.antt`.
+/// Why a line is the bad line of a text. `specs/Reasons.antt` defines what each reason says of it.
 #[derive(Clone, Copy, Debug, PartialEq, Eq)]
 pub enum Reason {
     /// A piece of the line is wrong by itself.
@@ -15,31 +14,31 @@ pub enum Reason {
     CallersExpected,
     /// The number of blocks should come here.
     BlocksExpected,
-    /// The plan has ended before.
+    /// This line comes after the end of the plan.
     AfterEnd,
-    /// No line begins with this word.
+    /// No line of a plan begins with this word.
     UnknownLine,
     /// No instruction begins with this word.
     UnknownInstruction,
-    /// The plan has fewer callers.
+    /// The plan has no caller of this number.
     NoCaller { caller: u32, callers: u32 },
-    /// The plan has fewer cells.
+    /// The plan has no cell of this number.
     NoCell { cell: u32, cells: u32 },
     /// An instruction should come here.
     InstructionMissing,
     /// The script has more instructions than a script may have.
     TooManyInstructions,
-    /// The plan has as many scripts already as a plan may have.
+    /// The plan already has as many scripts as a plan may have.
     TooManyScripts,
-    /// With these the plan has more turns than a plan may have.
+    /// With the turns of this line the plan has more than a plan may have.
     TooManyTurns,
     /// The caller has a stop already.
     StopTwice { caller: u32 },
-    /// The caller has a stop already, in that line.
+    /// The caller has a stop already, in line `line`.
     SecondStop { line: u64 },
-    /// A line of the heading, after the heading.
+    /// A line of the heading comes after the heading.
     HeadingOver,
-    /// The text is at its end, and no line of it is `end`.
+    /// The text is over, and no line of it is `end`.
     EndMissing,
 }
 

@@ -18,8 +18,8 @@ use crate::pointing::point_out;
 use crate::reason::Reason;
 use std::alloc::{AllocError, Global};
 
-/// What is wrong with a text: its bad line, counted from 1, the piece of it at fault, from the byte
-/// `start` to before `end`, and the reason.
+/// Where a text is no plan, and why: the bad line, counted from 1; the piece of it at fault, from
+/// the byte `start` to before `end`; and the reason.
 #[derive(Clone, Copy, Debug, PartialEq, Eq)]
 pub struct BadPiece {
     pub line: u64,
@@ -28,8 +28,8 @@ pub struct BadPiece {
     pub reason: Reason,
 }
 
-/// What is wrong with a text; nothing exactly if it is in the grammar, so if `parse` refuses
-/// it. The line is the one that `parse` names. The error is want of memory.
+/// The fault of a text that is no plan; None if the text is in the grammar, so that `parse` reads
+/// it. The line is the one that `parse` names. An error means out of memory.
 pub fn fault(alloc: Global, text: &[u8]) -> Result<Option<BadPiece>, AllocError>
     ensures { IfOk result (λ found. MatchOption found (IsPlanText text.now) (IsFaultOf text.now)) }
 {
@@ -103,7 +103,7 @@ impl BadPiece {
     ghost use Rattle.std.specs.Prelude.{◌≡◌, IfOk};
     ghost use Rattle.of_plan.specs.Pointed.{bad_piece_message};
 
-    /// What is printed of the fault of a text. The error is want of memory.
+    /// What is printed of the fault of a text. An error means out of memory.
     pub fn print(&self, alloc: Global, text: &[u8]) -> Result<Vec<u8>, AllocError>
         requires { IsFaultOf text.now self.now }
         ensures { IfOk result (λ out. out.items ≡ bad_piece_message text.now self.now) }

@@ -18,8 +18,8 @@ fn is_end(line: &[u8]) -> bool
     }
 }
 
-/// The two parts of an input. The first goes up to the newline of the first line whose only word is
-/// `end`, with that newline. If there is no such line, or no newline after it, the first part is
+/// The two parts of an input: the first goes up to the first line whose only word is `end`, with
+/// the newline of this line. If there is no such line, or no newline after it, the first part is
 /// the whole input and the second is empty.
 pub fn parts(text: &[u8]) -> (&[u8], &[u8])
     ensures { AreParts text.now result.0.now result.1.now }

@@ -6,7 +6,7 @@ ghost use Rattle.of_plan.specs.Grammar.{SpellsPlan};
 ghost use Rattle.of_plan.specs.PlanText.{plan_text};
 ghost use Rattle.of_plan.specs.Parts.{HasOneCut};
 
-/// A plan that a text spells keeps the ranges of plans.
+/// A plan that a text spells is in the ranges of plans.
 pub fn spelled_is_plan()
     ensures { (text : List ℕ) (plan : Plan) → SpellsPlan text plan → IsPlan plan }
 {}
@@ -17,12 +17,12 @@ pub fn one_plan()
         → plan ≡ other }
 {}
 
-/// What is printed of a plan is read again as that plan.
+/// The text that is printed of a plan spells that plan.
 pub fn printed_is_read()
     ensures { (plan : Plan) → IsPlan plan → SpellsPlan (plan_text plan) plan }
 {}
 
-/// An input has one pair of parts.
+/// An input can be cut into its two parts in only one way.
 pub fn one_cut()
     ensures { HasOneCut }
 {}

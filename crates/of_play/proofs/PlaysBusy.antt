@@ -13,19 +13,20 @@ use Rattle.of_plan.specs.Report.{done, stopped, spent}
 use Rattle.of_plan.specs.Ended.{Ended, answers_of, ending_of}
 use Rattle.of_core.specs.declared.place.Place.TheVariants.{Idle}
 use Rattle.of_core.specs.declared.place.Outcome.{Outcome}
-use Rattle.of_core.specs.declared.place.Outcome.TheVariants.{Answered, Spent}
+use Rattle.of_core.specs.declared.place.Outcome.TheVariants.{Answered, Spent, Lost}
 use Rattle.of_core.specs.Machine.{CallState, IsOpen, is_idle, no_machine, begin_call, first_place}
 use Rattle.of_core.specs.TableMoment.{Moment}
-use Rattle.of_core.specs.Events.{Event, Begins, Turns, Loads, Evicts, Raises, machine_in, after_event, after_events, zero_start}
+use Rattle.of_core.specs.Events.{Event, Begins, Turns, Loads, Evicts, Raises, Revives, machine_in, after_event, after_events, zero_start}
 use Rattle.of_core.specs.Calls.{TurnsFindOpenCalls, operations_begun, outcomes, no_outcome, last_outcome, HasCalls}
 use Rattle.of_caller.specs.Tables.{plan_setup, opening_for, operation_of}
 use Rattle.of_caller.specs.Ends.{is_spent, ending_if_left, ending_at, AreAnswers}
+use Rattle.of_caller.specs.LastOutcomes.{HoldsLast}
 use Rattle.of_caller.specs.Left.{moment_after, IsLeftBy}
 use Rattle.of_play.specs.Play.{begins_call, next_begin, with_begin}
 use Rattle.of_play.specs.ScheduleRun.{EventsMayFollow}
-use Rattle.of_play.proofs.PlaysMoments.{IsPlayable, idle_is, calls_here}
+use Rattle.of_play.proofs.PlaysMoments.{IsPlayable, idle_is, calls_here, last_here}
 use Rattle.of_play.proofs.PlaysUnspent.{last_at}
-use Rattle.of_play.proofs.PlaysSpent.{items_spent_last}
+use Rattle.of_play.proofs.PlaysSpent.{items_spent_last, items_stay}
 use Rattle.of_play.proofs.PlaysEvents.{run_append, never_idle_append, events_of}
 use Rattle.of_play.proofs.PlaysGood.{good_at, here, rests, turned}
 use Rattle.of_play.proofs.PlaysFollow.{IsMove}
@@ -39,6 +40,7 @@ as_many [] (a ∷ others) told none = absurd told
 as_many (Answered s announced raw steps ∷ outs) [] told none = absurd told
 as_many (Answered s announced raw steps ∷ outs) (a ∷ others) told none = ap suc (as_many outs others told.1 (λ x q lt is. none (suc x) q (omega (arith, lt)) is))
 as_many (Spent s ∷ outs) answers told none = absurd (none 0 s (omega arith) refl)
+as_many (Lost s ∷ outs) answers told none = absurd told
 
 opens : (b : Bool) → IsOpen (first_place b)
 opens true = refl
@@ -117,6 +119,7 @@ module _ (p : Plan) (plan : IsPlayable p) (c : ℕ) (h : c < p.callers) where
   busy_step es f b (Begins d op) is = absurd is
   busy_step es f b (Loads a) is = absurd is
   busy_step es f b (Evicts k) is = absurd is
+  busy_step es f b (Revives i made) is = absurd is
   busy_step es f (inl k) (Raises a) is = inl (never_idle_append (plan_setup p) (opening_for p) es (Raises a ∷ []) c k (tt, tt))
   busy_step es f (inr r) (Raises a) is = inr (rests_as (es ++ Raises a ∷ []) es (ap (λ (u : Moment). machine_in u c) (run_append (plan_setup p) (opening_for p) es (Raises a ∷ []))) r)
   busy_step es f b (Turns d) is = go (cases_eq c d)
@@ -164,6 +167,9 @@ module _ (p : Plan) (plan : IsPlayable p) (c : ℕ) (h : c < p.callers) where
       calls : HasCalls (plan_setup p) (zero_start (plan_setup p)) 0 (moment_after p (events_of p xs)) c (operations_begun (events_of p xs) c) (outcomes (plan_setup p) (opening_for p) (events_of p xs) c)
       calls = calls_here p plan (events_of p xs) (items_are_schedule p plan xs items) c h
 
+      holds : HoldsLast (moment_after p (events_of p xs)) c (outcomes (plan_setup p) (opening_for p) (events_of p xs) c)
+      holds = last_here p plan (events_of p xs) (items_are_schedule p plan xs items) (items_stay p xs) c h
+
       -- a spent call is the last
       spent_last : (x s : ℕ) → x < length outs → get_or outs x no_outcome ≡ Spent s → last_outcome outs ≡ Some (Spent s)
       spent_last x s lt is =
@@ -172,7 +178,7 @@ module _ (p : Plan) (plan : IsPlayable p) (c : ℕ) (h : c < p.callers) where
       none_spent : is_spent (last_outcome outs) ≡ false → end_state_of (ending_at m (length (scripts_of p c)) (length answers)) ≡ stopped → ⊥
       none_spent unspent z =
           let same : length answers ≡ length outs = as_many outs answers told (λ x s lt is. let z : false ≡ true = sym unspent ∙ ap is_spent (spent_last x s lt is) in cc) in
-          let most = left_none m (length (scripts_of p c)) r.0 (ap is_spent (calls.last r.0) ∙ unspent) r.1 in
+          let most = left_none m (length (scripts_of p c)) r.0 (ap is_spent (holds r.0) ∙ unspent) r.1 in
           let begun = items_of_plan p plan xs items c h in
           let ops : length (operations_begun (events_of p xs) c) ≡ length (take begun.0 (scripts_of p c)) = ap length begun.2 ∙ length-map (take begun.0 (scripts_of p c)) operation_of in
           let few : length (take begun.0 (scripts_of p c)) ≤ length (scripts_of p c) = omega (arith, length-take begun.0 (scripts_of p c)) in
@@ -182,7 +188,8 @@ module _ (p : Plan) (plan : IsPlayable p) (c : ℕ) (h : c < p.callers) where
       by_last : (o : Option Outcome) → last_outcome outs ≡ o → end_state_of (ending_at m (length (scripts_of p c)) (length answers)) ≡ stopped → ⊥
       by_last None is = none_spent (ap is_spent is)
       by_last (Some (Answered s announced raw steps)) is = none_spent (ap is_spent is)
-      by_last (Some (Spent s)) is = spent_state m (length (scripts_of p c)) (length answers) s (calls.last r.0 ∙ is)
+      by_last (Some (Lost s)) is = none_spent (ap is_spent is)
+      by_last (Some (Spent s)) is = spent_state m (length (scripts_of p c)) (length answers) s (holds r.0 ∙ is)
 
 -- a caller that a schedule leaves stopped had a call open at each of its turns
 pub stopped_never_idle : (p : Plan) → IsPlayable p → (xs : List Item) → Each (IsScheduleItem p) xs → (e : Ended) → IsLeftBy p (events_of p xs) e → (c : ℕ) → c < p.callers → end_state_of (ending_of e c) ≡ stopped → TurnsFindOpenCalls (plan_setup p) (opening_for p) (events_of p xs) c

@@ -14,7 +14,7 @@ use Rattle.of_plan.specs.declared.plan.Item.{Item}
 use Rattle.of_plan.specs.Plan.{Plan, scripts_of}
 use Rattle.of_plan.specs.Ended.{Ended, answers_of, ending_of}
 use Rattle.of_core.specs.declared.place.Outcome.{Outcome}
-use Rattle.of_core.specs.declared.place.Outcome.TheVariants.{Answered, Spent}
+use Rattle.of_core.specs.declared.place.Outcome.TheVariants.{Answered, Spent, Lost}
 use Rattle.of_core.specs.Table.{Setup}
 use Rattle.of_core.specs.MachineValue.{ended_outcome}
 use Rattle.of_core.specs.Machine.{CallState, no_machine}
@@ -74,6 +74,7 @@ halts_open : (o : Option Outcome) (k : ℕ) → is_spent o ≡ false → Stopped
 halts_open None k e = refl
 halts_open (Some (Answered q announced raw steps)) k e = refl
 halts_open (Some (Spent q)) k e = cc
+halts_open (Some (Lost q)) k e = refl
 
 module _ (p : Plan) (plan : IsPlayable p) (c : ℕ) (h : c < p.callers) (s : ScheduleRun) where
   module _ (said scripts : ℕ) (told : said ≡ length (answers_in s c)) (all : scripts ≡ length (scripts_of p c)) where

@@ -3,7 +3,7 @@ use Rattle.std.proofs.Common.{◌≡◌, ℕ, ◌+◌, List, [], ◌∷◌, ◌+
 use Rattle.std.specs.List.{flat_map}
 use Rattle.std.proofs.lemmas.List.{append_assoc}
 use Rattle.of_core.specs.declared.place.Outcome.{Outcome}
-use Rattle.of_core.specs.declared.place.Outcome.TheVariants.{Answered, Spent}
+use Rattle.of_core.specs.declared.place.Outcome.TheVariants.{Answered, Spent, Lost}
 use Rattle.of_core.specs.Table.{Setup}
 use Rattle.of_core.specs.TableMoment.{Moment}
 use Rattle.of_core.specs.Events.{Event, after_event, after_events, IsSchedule, turn_count}
@@ -59,12 +59,15 @@ answers_spent [] (a ∷ others) s h = absurd h
 answers_spent (Answered q announced raw steps ∷ os) [] s h = absurd h
 answers_spent (Answered q announced raw steps ∷ os) (a ∷ others) s h = (h.0, answers_spent os others s h.1)
 answers_spent (Spent q ∷ os) said s h = answers_spent os said s h
+answers_spent (Lost q ∷ os) said s h = absurd h
 
 -- one more answer
 pub answers_more : (os : List Outcome) (said : List Answer) (o : Outcome) (a : Answer) → AreAnswers os said → TellsAnswer o a → AreAnswers (os ++ o ∷ []) (said ++ a ∷ [])
 answers_more [] [] (Answered s announced raw steps) a h t = (t, tt)
 answers_more [] [] (Spent s) a h t = absurd t
+answers_more [] [] (Lost s) a h t = absurd t
 answers_more [] (b ∷ others) o a h t = absurd h
 answers_more (Answered q announced raw steps ∷ os) [] o a h t = absurd h
 answers_more (Answered q announced raw steps ∷ os) (b ∷ others) o a h t = (h.0, answers_more os others o a h.1 t)
 answers_more (Spent q ∷ os) said o a h t = answers_more os said o a h t
+answers_more (Lost q ∷ os) said o a h t = absurd h

@@ -14,7 +14,7 @@ use Rattle.of_core.specs.declared.place.Place.TheVariants.{Idle}
 use Rattle.of_core.specs.Table.{Setup, cell_count}
 use Rattle.of_core.specs.Machine.{CallState, is_idle, no_machine, begin_call}
 use Rattle.of_core.specs.TableMoment.{Moment}
-use Rattle.of_core.specs.Events.{Event, Begins, Turns, Loads, Evicts, Raises, machine_in, after_event, MayHappen}
+use Rattle.of_core.specs.Events.{Event, Begins, Turns, Loads, Evicts, Raises, Revives, machine_in, after_event, MayHappen}
 use Rattle.of_core.specs.Calls.{operation_begun, if_so}
 use Rattle.of_caller.specs.Tables.{plan_setup, opening_for, operation_of}
 use Rattle.of_caller.specs.Ends.{is_spent}
@@ -31,6 +31,7 @@ IsMove p (Begins c op) = ⊥
 IsMove p (Turns c) = c < p.callers
 IsMove p (Loads a) = ⊥
 IsMove p (Evicts k) = ⊥
+IsMove p (Revives i made) = ⊥
 IsMove p (Raises a) = a < cell_count (plan_setup p)
 
 -- these where the numbers are the same

@@ -1,20 +1,24 @@
 -- Each moment of a plan meets the core's invariant, and what a turn leaves of its caller's machine
 -- there.
-use Rattle.std.proofs.Common.{◌≡◌, ℕ, ◌+◌, ◌<◌, List, length, get_or, refl, ◌∙◌, ap, arith, Bool, true, false}
+use Rattle.std.proofs.Common.{◌≡◌, ℕ, ◌+◌, ◌<◌, List, length, get_or, refl, sym, ◌∙◌, ap, subst, arith, Bool, true, false, Option, Some, None}
 use Rattle.std.proofs.lemmas.List.{get_or-set_same, get_or_default}
 use Rattle.of_mem.proofs.BucketPlaces.{few_behind}
 use Rattle.of_plan.specs.Plan.{Plan}
+use Rattle.of_core.specs.declared.bank.Turn.{Turn}
+use Rattle.of_core.specs.declared.bank.Turn.TheVariants.{Idle as NoCall, Ended}
+use Rattle.of_core.specs.declared.place.Outcome.{Outcome}
+use Rattle.of_core.specs.declared.place.Outcome.TheVariants.{Lost}
 use Rattle.of_core.specs.declared.place.Place.{Place}
 use Rattle.of_core.specs.declared.place.Place.TheVariants.{Idle}
 use Rattle.of_core.specs.Table.{Setup}
 use Rattle.of_core.specs.Machine.{CallState, IsOpen, is_idle, no_machine}
 use Rattle.of_core.specs.Steps.{take_word, take_word_at, with_step_counted, word_found}
 use Rattle.of_core.specs.TableMoment.{Moment, step_batches}
-use Rattle.of_core.specs.Facts.{IsStep}
+use Rattle.of_core.specs.Facts.{IsStep, TellsOutcome}
 use Rattle.of_core.specs.Invariant.{MeetsInvariant}
 use Rattle.of_core.specs.Claim.{IsSound}
-use Rattle.of_core.specs.MachineValue.{ended_outcome}
-use Rattle.of_core.specs.Turn.{turn_of_outcome, turn_at}
+use Rattle.of_core.specs.MachineValue.{ended_outcome, ended_outcome_at}
+use Rattle.of_core.specs.Turn.{turn_of_outcome, turn_at, turn_of}
 use Rattle.of_core.specs.Events.{Event, Turns, machine_in, after_event, IsSchedule, zero_start}
 use Rattle.of_caller.specs.Tables.{plan_setup, IsLawfulFor, opening_for}
 use Rattle.of_caller.specs.Left.{moment_after}
@@ -24,6 +28,15 @@ use Rattle.of_play.proofs.PlaysMoments.{IsPlayable, idle_is, good_moment}
 pub turn_open : (p : Place) (d : CallState) → is_idle p ≡ false → turn_at p d ≡ turn_of_outcome (ended_outcome d)
 turn_open Idle d e = cc
 turn_open p d e = refl
+
+-- a turn that has ended a call leaves its machine idle, with the outcome
+ended_so : (a : Option Outcome) (o : Outcome) → turn_of_outcome a ≡ Ended o → a ≡ Some o
+ended_so None o is = cc
+ended_so (Some x) o is = cc
+
+ended_idle : (p : Place) (d : CallState) (o : Outcome) → ended_outcome_at p d ≡ Some o → (p ≡ Idle) × (d.answer ≡ Some o)
+ended_idle Idle d o is = (refl, is)
+ended_idle p d o is = cc
 
 module _ (p : Plan) (play : IsPlayable p) where
   abbrev S : Setup
@@ -68,6 +81,19 @@ module _ (p : Plan) (play : IsPlayable p) where
 
     taken : IsOpen m.place → IsStep S (zero_start S) w m (word_found S w.words m) d (step_batches S w.words m (word_found S w.words m))
     taken e = play.laws.steps (zero_start S) w g c m h (own w g c h) e (word_found S w.words m) (play.laws.finds S w.words m)
+
+    -- no turn ends a call as a lost one
+    pub never_lost : (q : ℕ) → turn_of m (machine_in v c) ≡ Ended (Lost q) → ⊥
+    never_lost q says = go (is_idle m.place) refl
+      where
+        go : (b : Bool) → is_idle m.place ≡ b → ⊥
+        go true e = let z : NoCall ≡ Ended (Lost q) = ap (λ (p : Place). turn_at p (machine_in v c)) (sym (idle_is m.place e)) ∙ says in cc
+        go false e =
+            let told : ended_outcome d ≡ Some (Lost q) = ended_so (ended_outcome d) (Lost q) (ap (λ (x : CallState). turn_of_outcome (ended_outcome x)) (sym turned) ∙ (sym (turn_open m.place (machine_in v c) e) ∙ says)) in
+            let idle = ended_idle d.place d (Lost q) told in
+            let ends = (taken e).ends idle.0 in
+            let same : ends.0 ≡ Lost q = let z : Some ends.0 ≡ Some (Lost q) = sym ends.1 ∙ idle.1 in cc in
+            subst (λ (o : Outcome). TellsOutcome S m d o) same ends.2
 
     pub turned_good : IsGood v
     turned_good = play.laws.events (zero_start S) w g (Turns c) h

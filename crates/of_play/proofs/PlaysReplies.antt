@@ -8,7 +8,7 @@ use Rattle.of_plan.specs.Report.{empty_start}
 use Rattle.of_core.specs.declared.bank.Turn.{Turn}
 use Rattle.of_core.specs.declared.bank.Turn.TheVariants.{Idle, Open, Ended}
 use Rattle.of_core.specs.declared.place.Outcome.{Outcome}
-use Rattle.of_core.specs.declared.place.Outcome.TheVariants.{Answered, Spent}
+use Rattle.of_core.specs.declared.place.Outcome.TheVariants.{Answered, Spent, Lost}
 use Rattle.of_core.specs.Moment.{Bank, bank_after, machine_of}
 use Rattle.of_core.specs.Turn.{turn_of}
 use Rattle.of_core.specs.Events.{Event, Turns, machine_in, zero_start}
@@ -21,6 +21,7 @@ use Rattle.of_play.specs.ScheduleRun.{EventsMayFollow, StandsAfter, IsReplied}
 use Rattle.of_play.specs.declared.schedule_run.ScheduleRun.{ScheduleRun}
 use Rattle.of_play.proofs.PlaysMoments.{IsPlayable}
 use Rattle.of_play.proofs.PlaysStart.{moment_here}
+use Rattle.of_play.proofs.PlaysGood.{good_at, never_lost}
 use Rattle.of_play.proofs.PlaysFollow.{turn_follows}
 use Rattle.of_play.proofs.PlaysStand.{turn_says, turn_ends}
 
@@ -34,6 +35,7 @@ module _ (p : Plan) (plan : IsPlayable p) (es : List Event) (s : ScheduleRun) (s
   turn_replied Idle says = tt
   turn_replied Open says = tt
   turn_replied (Ended (Spent q)) says = tt
+  turn_replied (Ended (Lost q)) says = absurd (never_lost p plan (moment_after p es) (good_at p plan es st.follows.schedule) c h q (sym (turn_says p plan es s st c h x leaves (Ended (Lost q)) says)))
   turn_replied (Ended (Answered q announced raw steps)) says =
       let o = Answered q announced raw steps in
       let gs = es ++ Turns c ∷ [] in

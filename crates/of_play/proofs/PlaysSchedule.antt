@@ -11,7 +11,7 @@ use Rattle.of_plan.specs.Plan.{Plan, IsScheduleItem, scripts_of}
 use Rattle.of_plan.specs.Allowance.{turns_in, turns_for}
 use Rattle.of_plan.proofs.HistoriesLists.{each_append}
 use Rattle.of_core.specs.TableMoment.{Moment}
-use Rattle.of_core.specs.Events.{Event, Begins, Turns, Loads, Evicts, Raises, machine_in, after_events, turn_count, one_if, IsSchedule}
+use Rattle.of_core.specs.Events.{Event, Begins, Turns, Loads, Evicts, Raises, Revives, machine_in, after_events, turn_count, one_if, IsSchedule}
 use Rattle.of_caller.specs.Tables.{plan_setup, opening_for}
 use Rattle.of_caller.specs.Left.{IsOfPlan, moment_after}
 use Rattle.of_play.specs.Play.{item_events, begins_call, next_begin, with_begin, events_from, play_events}
@@ -50,6 +50,7 @@ module _ (p : Plan) (plan : IsPlayable p) where
   move_follows es f (Begins c op) h = absurd h
   move_follows es f (Loads a) h = absurd h
   move_follows es f (Evicts k) h = absurd h
+  move_follows es f (Revives i made) h = absurd h
   move_follows es f (Raises a) h = raise_follows p plan es f a h
   move_follows es f (Turns c) h =
       let fs = next_begin p c (machine_in (moment_after p es) c) in
@@ -98,6 +99,7 @@ move_turns : (p : Plan) (i : ℕ) (w : Moment) (m : Event) → turn_count i (wit
 move_turns p i w (Begins c op) = refl
 move_turns p i w (Loads a) = refl
 move_turns p i w (Evicts k) = refl
+move_turns p i w (Revives j made) = refl
 move_turns p i w (Raises a) = refl
 move_turns p i w (Turns c) = omega (arith, turns_append i (next_begin p c (machine_in w c)) (Turns c ∷ []), next_turns p i c w)
 

@@ -8,7 +8,7 @@ use Rattle.of_plan.specs.Plan.{Plan, scripts_of}
 use Rattle.of_plan.proofs.HistoriesLists.{each_append}
 use Rattle.of_core.specs.TableMoment.{Moment}
 use Rattle.of_core.specs.Machine.{is_idle}
-use Rattle.of_core.specs.Events.{Event, Begins, Turns, Loads, Evicts, Raises, machine_in, after_event, after_events, IsSchedule}
+use Rattle.of_core.specs.Events.{Event, Begins, Turns, Loads, Evicts, Raises, Revives, machine_in, after_event, after_events, IsSchedule, AllReplaceNone}
 use Rattle.of_caller.specs.Tables.{plan_setup, opening_for, operation_of}
 use Rattle.of_caller.specs.Ends.{is_spent}
 use Rattle.of_play.specs.Play.{item_events, begins_call, next_begin, with_begin, events_from, play_events}
@@ -24,6 +24,7 @@ IsMove (Begins j op) = ⊥
 IsMove (Turns j) = Unit {0}
 IsMove (Loads c) = ⊥
 IsMove (Evicts k) = ⊥
+IsMove (Revives i made) = ⊥
 IsMove (Raises c) = Unit {0}
 
 only_turns : (n c : ℕ) → Each IsMove (replicate n (Turns c))
@@ -44,6 +45,40 @@ found_unspent true false left is = refl
 found_unspent true true left is = absurd (cc)
 found_unspent false spent left is = absurd (cc)
 
+-- ---- no machine is replaced
+
+append_stay : (xs ys : List Event) → AllReplaceNone xs → AllReplaceNone ys → AllReplaceNone (xs ++ ys)
+append_stay [] ys first second = second
+append_stay (x ∷ xs) ys first second = (first.0, append_stay xs ys first.1 second)
+
+move_stays : (p : Plan) (w : Moment) (e : Event) → IsMove e → AllReplaceNone (with_begin p w e)
+move_stays p w (Begins j op) move = absurd move
+move_stays p w (Turns j) move = go (begins_call (machine_in w j) (length (scripts_of p j)))
+  where
+    go : (b : Bool) → AllReplaceNone (cond b (Begins j (operation_of (slice_index_or (scripts_of p j) (machine_in w j).made [])) ∷ []) [] ++ Turns j ∷ [])
+    go true = (tt, (tt, tt))
+    go false = (tt, tt)
+move_stays p w (Loads x) move = absurd move
+move_stays p w (Evicts k) move = absurd move
+move_stays p w (Raises x) move = (tt, tt)
+move_stays p w (Revives j made) move = absurd move
+
+moves_stay : (p : Plan) (es : List Event) (w : Moment) → Each IsMove es → AllReplaceNone (events_from p w es)
+moves_stay p [] w moves = tt
+moves_stay p (e ∷ es) w moves =
+    let v = after_events (plan_setup p) w (with_begin p w e) in
+    append_stay (with_begin p w e) (events_from p v es) (move_stays p w e moves.0) (moves_stay p es v moves.1)
+
+-- in a schedule of turns and evictions
+pub items_stay : (p : Plan) (xs : List Item) → AllReplaceNone (events_of p xs)
+items_stay p xs = moves_stay p (flat_map item_events xs) (opening_for p) (all_moves xs)
+
+-- and in the plan's own
+pub play_stays : (p : Plan) → AllReplaceNone (play_events p)
+play_stays p = items_stay p p.schedule
+
+-- ---- nor does a spent caller begin a call
+
 module _ (p : Plan) (c : ℕ) where
   append_unspent : (xs : List Event) (w : Moment) (ys : List Event) → NoneAfterSpent (plan_setup p) w xs c → NoneAfterSpent (plan_setup p) (after_events (plan_setup p) w xs) ys c → NoneAfterSpent (plan_setup p) w (xs ++ ys) c
   append_unspent [] w ys first second = second
@@ -63,6 +98,7 @@ module _ (p : Plan) (c : ℕ) where
   move_unspent w (Turns j) move = turn_unspent w j
   move_unspent w (Loads x) move = absurd move
   move_unspent w (Evicts k) move = absurd move
+  move_unspent w (Revives j made) move = absurd move
   move_unspent w (Raises x) move = (tt, tt)
 
   moves_unspent : (es : List Event) (w : Moment) → Each IsMove es → NoneAfterSpent (plan_setup p) w (events_from p w es) c

@@ -19,7 +19,7 @@ use Rattle.of_core.specs.TableMoment.{Moment}
 use Rattle.of_core.specs.MachineValue.{ended_outcome}
 use Rattle.of_core.specs.Turn.{turn_of}
 use Rattle.of_core.specs.Moment.{Bank, bank_setup, bank_after, machine_of}
-use Rattle.of_core.specs.Events.{Event, Begins, Turns, Loads, Evicts, Raises, machine_in, after_event}
+use Rattle.of_core.specs.Events.{Event, Begins, Turns, Loads, Evicts, Raises, Revives, machine_in, after_event}
 use Rattle.of_core.specs.Calls.{outcomes, outcome_of_turn, outcome_of_event}
 use Rattle.of_caller.specs.Tables.{plan_setup, opening_for, operation_of}
 use Rattle.of_caller.specs.Ends.{is_spent, AreAnswers}
@@ -38,6 +38,7 @@ IsMade (Begins c op) = Unit {0}
 IsMade (Turns c) = Unit {0}
 IsMade (Loads a) = ⊥
 IsMade (Evicts k) = ⊥
+IsMade (Revives i n) = ⊥
 IsMade (Raises a) = Unit {0}
 
 -- words and machines after such an event come from those before it alone
@@ -46,6 +47,7 @@ same_words S w v (Begins c op) made p q = p
 same_words S w v (Turns c) made p q = λ i. (after_event S (record v { words = p i; machines = q i }) (Turns c)).words
 same_words S w v (Loads a) made p q = absurd made
 same_words S w v (Evicts k) made p q = absurd made
+same_words S w v (Revives i n) made p q = absurd made
 same_words S w v (Raises a) made p q = λ i. (after_event S (record v { words = p i }) (Raises a)).words
 
 same_machines : (S : Setup) (w v : Moment) (e : Event) → IsMade e → v.words ≡ w.words → v.machines ≡ w.machines → (after_event S v e).machines ≡ (after_event S w e).machines
@@ -53,6 +55,7 @@ same_machines S w v (Begins c op) made p q = λ i. (after_event S (record v { wo
 same_machines S w v (Turns c) made p q = λ i. (after_event S (record v { words = p i; machines = q i }) (Turns c)).machines
 same_machines S w v (Loads a) made p q = absurd made
 same_machines S w v (Evicts k) made p q = absurd made
+same_machines S w v (Revives i n) made p q = absurd made
 same_machines S w v (Raises a) made p q = q
 
 module _ (p : Plan) (plan : IsPlayable p) (es : List Event) (s : ScheduleRun) (st : StandsAfter p es s) where

@@ -10,6 +10,7 @@ use Rattle.of_core.specs.declared.place.Place.{Place}
 use Rattle.of_core.specs.declared.place.Place.TheVariants.{Idle, ExchangeCurrent}
 use Rattle.of_core.specs.declared.place.Op.{Op}
 use Rattle.of_core.specs.declared.place.Outcome.{Outcome}
+use Rattle.of_core.specs.declared.place.Outcome.TheVariants.{Answered, Spent, Lost}
 use Rattle.of_cell.specs.Words.{pack, seq_of}
 use Rattle.of_core.specs.Table.{Setup, durable_at, committed_seq}
 use Rattle.of_core.specs.Machine.{Call, CallState, is_idle, no_machine, begin_call, first_place}
@@ -95,7 +96,9 @@ step_commits S ws m k c = commits_from S ws m k c m.place
 -- how a call has ended that a turn has ended
 told_holds : (o : Option Outcome) → IsReplied (turn_of_outcome o) → IfSome o OutcomeHoldsReply
 told_holds None h = tt
-told_holds (Some o) h = h
+told_holds (Some (Answered s announced raw steps)) h = h
+told_holds (Some (Spent s)) h = tt
+told_holds (Some (Lost s)) h = absurd h
 
 module _ (p : Plan) (plan : IsPlayable p) where
   abbrev S : Setup

@@ -1,4 +1,4 @@
--- How the code tells a step that commits, and writes its line.
+-- Which steps commit, as the code finds out, and the line that it writes of a commit.
 use Rattle.std.specs.Prelude.{ℕ, ◌==◌, ◌+◌, Bool, true, false, List, [], map}
 use Rattle.of_cell.specs.Words.{seq_of}
 use Rattle.of_core.specs.Machine.{Call}
@@ -10,26 +10,31 @@ use Rattle.of_core.specs.declared.place.Place.TheVariants.{ExchangeCurrent}
 use Rattle.of_core.specs.declared.place.Op.{Op}
 use Rattle.of_core.specs.declared.place.Op.TheVariants.{Load, Store, Exchange, Raise}
 
--- an exchange of the current-transaction word that finds what it expects
+-- whether the operation is an exchange that finds the word that it expects
 abbrev pub expects : Op → (found : ℕ) → Bool
 expects (Load c) found = false
 expects (Store c v) found = false
 expects (Exchange c old new) found = found == old
 expects (Raise c v) found = false
 
+-- whether a step from this place commits a batch: it is an exchange of the current-transaction word
+-- that finds what it expects
 abbrev pub commits_by_step : Place → Op → (found : ℕ) → Bool
 commits_by_step ExchangeCurrent op found = expects op found
 commits_by_step place op found = false
 
--- the line of a batch, if it is committed
+-- the line of event `k`, a turn of caller `i`, if it commits these calls at the sequence `s`;
+-- otherwise nothing
 abbrev pub commit_line : (commits : Bool) → (k i s : ℕ) → List Call → List ℕ
 commit_line true k i s calls = batch_line k i s calls
 commit_line false k i s calls = []
 
--- the same with the calls as the code has them, and with the sequence after that of the word that
--- was found
+-- the line of event `k`, a turn of caller `i` that has committed these calls: `found` is the
+-- current-transaction word that the turn found, and the batch has the sequence after it
 abbrev pub batch_line_after : (k i found : ℕ) → List RustCall → List ℕ
 batch_line_after k i found calls = batch_line k i (seq_of found + 1) (map call_value calls)
 
+-- the line of event `k`, a turn of caller `i`, if it commits these calls, at the sequence after
+-- that of the word `found`; otherwise nothing
 abbrev pub commit_line_after : (commits : Bool) → (k i found : ℕ) → List RustCall → List ℕ
 commit_line_after b k i found calls = commit_line b k i (seq_of found + 1) (map call_value calls)

@@ -1,5 +1,5 @@
--- The words of a plan's table by their names. What stands where is laid out in of_cell and of_mem;
--- here it is read backwards.
+-- The names of the words of a plan's table. of_cell and of_mem define the place of each word; here
+-- the name for each place is found.
 use Rattle.std.specs.Prelude.{◌≡◌, ℕ, ◌+◌, ◌-◌, ◌*◌, ◌/◌, ◌%◌, ◌<◌, ◌==◌, nat_lt, if◌then◌else◌}
 use Rattle.of_cell.specs.Cells.{log_room, request_cell, data_cell, log_cell, durable_cells, durable_place, script_place, announce_place, members_place, table_words}
 use Rattle.of_mem.specs.declared.work.TheConstants.{MOST_INSTRS}
@@ -11,7 +11,7 @@ use Rattle.of_play.specs.declared.names.ShownCell.TheVariants.{Current, Request,
 use Rattle.of_play.specs.declared.names.ShownWord.{ShownWord}
 use Rattle.of_play.specs.declared.names.ShownWord.TheVariants.{Now, Durable, Script, Announcement, Members}
 
--- The address of the data cell that holds this, where there are n callers.
+-- the address of the data cell that has this use, if there are `n` callers
 abbrev pub address_of : (n : ℕ) → CellUse → ℕ
 address_of n (Ticket i) = ticket_cell_at MOST_INSTRS i
 address_of n (Shape i) = shape_at MOST_INSTRS i
@@ -26,7 +26,7 @@ address_of n (Back q) = tail_at (base_of n MOST_INSTRS) q
 address_of n (Length q) = length_at (base_of n MOST_INSTRS) q
 address_of n (Block b f) = block_at (base_of n MOST_INSTRS) b f
 
--- the number of a cell, where there are n callers and m data cells
+-- the number of a cell, if there are `n` callers and `m` data cells
 abbrev pub shown_cell_number : (n m : ℕ) → ShownCell → ℕ
 shown_cell_number n m Current = 0
 shown_cell_number n m (Request i) = request_cell i
@@ -41,15 +41,16 @@ shown_word_place n m (Script i x) = script_place n MOST_INSTRS m i x
 shown_word_place n m (Announcement i) = announce_place n MOST_INSTRS m i
 shown_word_place n m Members = members_place n MOST_INSTRS m
 
--- What a caller's own data cell j holds.
+-- what data cell `j` of the cells that belong to caller `i` holds
 abbrev pub own_cell : (i j : ℕ) → CellUse
 own_cell i j = if j == 0 then Ticket i else if j == 1 then Shape i else Reply i (j - 2)
 
--- what cell j of a queue holds
+-- what the cell `j` of a queue holds
 abbrev pub queue_cell : (q j : ℕ) → CellUse
 queue_cell q j = if j == 0 then Front q else if j == 1 then Back q else Length q
 
--- what a cell after those of the callers holds
+-- what the data cell `a` of the store holds; the store's cells come after the callers' own, from
+-- `o` on
 abbrev pub store_cell : (o a : ℕ) → CellUse
 store_cell o a =
     if nat_lt a (fresh_at o) then Register (a - o)
@@ -61,14 +62,14 @@ store_cell o a =
     then queue_cell ((a - head_at o 0) / 3) ((a - head_at o 0) % 3)
     else Block ((a - block_at o 0 0) / 3) ((a - block_at o 0 0) % 3)
 
--- what the data cell with this address holds
+-- what the data cell with the address `a` holds, if there are `n` callers
 abbrev pub cell_use_at : (n a : ℕ) → CellUse
 cell_use_at n a =
     if nat_lt a (base_of n MOST_INSTRS)
     then own_cell (a / (MOST_INSTRS + 2)) (a % (MOST_INSTRS + 2))
     else store_cell (base_of n MOST_INSTRS) a
 
--- the cell with this number
+-- the cell with the number `c`, if there are `n` callers and `m` data cells
 abbrev pub cell_at : (n m c : ℕ) → ShownCell
 cell_at n m c =
     if c == 0 then Current
@@ -77,11 +78,11 @@ cell_at n m c =
     else Log ((c - data_cell n m) / (2 * log_room n m + 1))
     ((c - data_cell n m) % (2 * log_room n m + 1))
 
--- word x of caller i's row of script words
+-- the word `x` among a caller's script words, after which its announcement comes
 abbrev pub row_word : (i x : ℕ) → ShownWord
 row_word i x = if x == MOST_INSTRS then Announcement i else Script i x
 
--- the word with this place
+-- the word at the place `w` of the table, if there are `n` callers and `m` data cells
 abbrev pub word_at_place : (n m w : ℕ) → ShownWord
 word_at_place n m w =
     if nat_lt w (durable_cells n m) then Now (cell_at n m w)
@@ -92,13 +93,15 @@ word_at_place n m w =
     ((w - script_place n MOST_INSTRS m 0 0) % (MOST_INSTRS + 1))
     else Members
 
--- Each data cell, each cell and each word has the name of what it holds.
+-- each data cell is named by its use: the address of the cell that has this use is the cell's own
 abbrev pub CellUsesAreNamed : Type 0
 CellUsesAreNamed = (n a : ℕ) → address_of n (cell_use_at n a) ≡ a
 
+-- each cell has the name that stands for its number
 abbrev pub CellsAreNamed : Type 0
 CellsAreNamed = (n m c : ℕ) → shown_cell_number n m (cell_at n m c) ≡ c
 
+-- each word of a table has the name that stands for its place
 abbrev pub WordsAreNamed : Type 0
 WordsAreNamed =
     (n m w : ℕ) → w < table_words n MOST_INSTRS m → shown_word_place n m (word_at_place n m w) ≡ w

@@ -10,8 +10,9 @@ use Rattle.of_caller.specs.Tables.{plan_setup}
 use Rattle.of_caller.specs.InTime.{RespectsTime, course_of}
 use Rattle.of_play.specs.Play.{IsPlayed}
 
--- The report of what a plan's schedule leaves: it says of that run what holds of every run, each
--- caller keeps to its turns, and each call comes after those that ended before it began.
+-- `r` is the report of what a plan's schedule leaves. All that holds of the reports of runs holds
+-- of it. Each caller keeps to the number of its turns as its allowance, and each call comes after
+-- those that ended before it began.
 pub record IsPlayedReport (p : Plan) (r : Report) : Type 0 where
   pub run : Ended
   pub played : IsPlayed p run

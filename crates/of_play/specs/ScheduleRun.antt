@@ -8,6 +8,7 @@ use Rattle.of_plan.specs.Ended.{Ended}
 use Rattle.of_core.specs.declared.bank.Turn.{Turn}
 use Rattle.of_core.specs.declared.bank.Turn.TheVariants.{Idle, Open, Ended as EndedTurn}
 use Rattle.of_core.specs.declared.place.Outcome.{Outcome}
+use Rattle.of_core.specs.declared.place.Outcome.TheVariants.{Lost}
 use Rattle.of_core.specs.Machine.{CallState}
 use Rattle.of_core.specs.Moment.{bank_setup}
 use Rattle.of_core.specs.Events.{Event, machine_in, IsSchedule}
@@ -18,18 +19,19 @@ use Rattle.of_caller.specs.Left.{IsLeftBy, moment_after}
 use Rattle.of_play.specs.Play.{events_from, next_begin, turns_by}
 use Rattle.of_play.specs.declared.schedule_run.ScheduleRun.{ScheduleRun}
 
--- what these events leave of a caller's machine
+-- the state in which these events leave a caller's machine
 abbrev pub machine_left : Plan → List Event → ℕ → CallState
 machine_left p es c = machine_in (moment_after p es) c
 
--- the events may happen, and each caller has begun its first scripts, as many as its machine counts
+-- the events may happen, and each caller has begun its scripts in order, as many as its machine
+-- counts
 pub record EventsMayFollow (p : Plan) (es : List Event) : Type 0 where
   pub schedule : IsSchedule (plan_setup p) (opening_for p) es
   pub made : (c : ℕ) → c < p.callers → (machine_left p es c).made ≤ length (scripts_of p c)
   pub begun : (c : ℕ) → c < p.callers
       → operations_begun es c ≡ map operation_of (take (machine_left p es c).made (scripts_of p c))
 
--- the answers of a caller so far
+-- the answers that the code has noted of a caller
 abbrev pub answers_in : ScheduleRun → ℕ → List Answer
 answers_in s c = slice_index_or (map (λ v. v.items) s.answers.items) c []
 
@@ -50,30 +52,37 @@ pub record IsPlaying (p : Plan) (s : ScheduleRun) : Type 0 where
   pub events : List Event
   pub stands : StandsAfter p events s
 
--- it has gone on by these moves of the plan
+-- the code has gone on by these turns and evictions, with the begins of calls between them
 abbrev pub MakesMoves : Plan → List Event → (before now : ScheduleRun) → Type 0
 MakesMoves p moves before now =
     (es : List Event) → StandsAfter p es before
     → StandsAfter p (es ++ events_from p (moment_after p es) moves) now
 
--- it has gone on by `made` turns of the caller in a row, at most `most`
+-- the code has made `made` turns of the caller in a row, at most `most`
 pub record MakesTurnsInRow (p : Plan) (c most made : ℕ) (before now : ScheduleRun) : Type 0 where
   pub few : made ≤ most
   pub moves : MakesMoves p (turns_by c made) before now
 
--- it has begun the caller's next call, if the caller begins one
+-- the code has begun the caller's next call, if the caller begins one in this state
 abbrev pub BeginsNext : Plan → ℕ → (before now : ScheduleRun) → Type 0
 BeginsNext p c before now =
     (es : List Event) → StandsAfter p es before
     → StandsAfter p (es ++ next_begin p c (machine_left p es c)) now
 
--- if a turn has ended a call, its reply is one
+-- the raw reply of an answered call is that of some reply; and no call is lost, since a play
+-- replaces no machine
+abbrev pub IsPlayedOutcome : Outcome → Type 0
+IsPlayedOutcome (Lost s) = ⊥
+IsPlayedOutcome o = OutcomeHoldsReply o
+
+-- if the turn has ended a call, the call's outcome holds a reply
 abbrev pub IsReplied : Turn → Type 0
 IsReplied Idle = Unit {0}
 IsReplied Open = Unit {0}
-IsReplied (EndedTurn o) = OutcomeHoldsReply o
+IsReplied (EndedTurn o) = IsPlayedOutcome o
 
--- the outcome of a turn of caller c, if it has one, is noted after the caller's answers
+-- if the turn of caller `c` has ended a call, the code has noted its outcome after the caller's
+-- answers
 pub record NotesTurn (c : ℕ) (turn : Turn) (before now : ScheduleRun) : Type 0 where
   pub bank : now.bank ≡ before.bank
   pub answers : length now.answers.items ≡ length before.answers.items
@@ -81,16 +90,16 @@ pub record NotesTurn (c : ℕ) (turn : Turn) (before now : ScheduleRun) : Type 0
   pub told : (os : List Outcome) → AreAnswers os (answers_in before c)
       → AreAnswers (os ++ outcome_of_turn turn) (answers_in now c)
 
--- how the caller's call has ended is noted
+-- the code has noted how the caller's call has ended
 abbrev pub NotesEnd : ℕ → Outcome → (before now : ScheduleRun) → Type 0
 NotesEnd c outcome before now = NotesTurn c (EndedTurn outcome) before now
 
--- this is how the caller ends
+-- `ending` is how the caller ends, if the run ends in this state
 abbrev pub CallerEndsAs : Plan → ℕ → ScheduleRun → Ending → Type 0
 CallerEndsAs p c s ending =
     (es : List Event) → StandsAfter p es s
     → ending ≡ ending_at (machine_left p es c) (length (scripts_of p c)) (length (answers_in s c))
 
--- this is what the run leaves
+-- `left` is what the run leaves, if it ends in this state
 abbrev pub RunLeaves : Plan → ScheduleRun → Ended → Type 0
 RunLeaves p s left = (es : List Event) → StandsAfter p es s → IsLeftBy p es left

@@ -2,13 +2,13 @@
 use Rattle.std.specs.Prelude.{ℕ, List, [], ◌++◌, Option, Some, None, true, false, codes, decimal}
 use Rattle.of_plan.specs.Plan.{Plan}
 use Rattle.of_core.specs.declared.place.Outcome.{Outcome}
-use Rattle.of_core.specs.declared.place.Outcome.TheVariants.{Answered, Spent}
+use Rattle.of_core.specs.declared.place.Outcome.TheVariants.{Answered, Spent, Lost}
 use Rattle.of_play.specs.declared.trace_line.TraceStep.{TraceStep}
 use Rattle.of_play.specs.declared.trace_text.Change.{Change}
 use Rattle.of_play.specs.TraceText.{step_text, plan_word, change_text}
 use Rattle.of_play.specs.TraceParts.{helper_part, did_part, word_part, reply_part}
 
--- how the call has ended
+-- what is printed of how a call has ended; nothing, if it is still open
 abbrev pub end_text : Option Outcome → List ℕ
 end_text None = []
 end_text (Some (Answered s true raw k)) =
@@ -16,34 +16,37 @@ end_text (Some (Answered s true raw k)) =
 end_text (Some (Answered s false raw k)) =
     codes ", read at " ++ decimal s ++ codes " in " ++ decimal k ++ codes " steps"
 end_text (Some (Spent s)) = codes ", spent at " ++ decimal s
+end_text (Some (Lost s)) = codes ", lost at " ++ decimal s
 
--- who has made event k, for which script, and the step
+-- what is printed first of event `k`: its number, its caller, the index of the script, and the name
+-- of the step
 abbrev pub head_text : (k : ℕ) → TraceStep → List ℕ
 head_text k s =
     (decimal k ++ codes " " ++ decimal s.caller)
     ++ (codes " " ++ decimal s.index ++ codes " " ++ step_text s.place ++ codes ", ")
 
--- what the word that was left means
+-- what is printed of the meaning of the word that was left
 abbrev pub means_part : Plan → Change → List ℕ
 means_part p c = word_part p.callers (plan_word p c.word) c.left
 
--- whom the step helps, what became of it, what it left, and the reply of a call that has ended
+-- what is printed after the change: whom the step helps, what became of the step, what the word
+-- that was left means, and the reply of a call that has ended
 abbrev pub step_parts : Plan → TraceStep → List ℕ
 step_parts p s =
     helper_part s.helps ++ did_part s.op s.change.found ++ means_part p s.change
     ++ reply_part s.outcome
 
--- The line of event k. It is a turn of a caller that has made a step,
+-- the line of event `k`, a turn in which a caller has made a step
 abbrev pub step_line : Plan → (k : ℕ) → TraceStep → List ℕ
 step_line p k s =
     head_text k s ++ change_text p s.change ++ end_text s.outcome ++ step_parts p s
     ++ codes "\n"
 
--- or one that has done nothing,
+-- the line of event `k`, a turn of caller `i` that has done nothing
 abbrev pub rest_line : (k i : ℕ) → List ℕ
 rest_line k i = decimal k ++ codes " " ++ decimal i ++ codes " nothing\n"
 
--- or an eviction
+-- the line of event `k`, an eviction
 abbrev pub evict_line : Plan → (k : ℕ) → Change → List ℕ
 evict_line p k c =
     decimal k ++ codes " evict, " ++ change_text p c ++ means_part p c ++ codes "\n"

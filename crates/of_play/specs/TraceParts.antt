@@ -13,7 +13,7 @@ use Rattle.of_report.specs.ReportText.{reply_text}
 use Rattle.of_core.specs.declared.place.Op.{Op}
 use Rattle.of_core.specs.declared.place.Op.TheVariants.{Load, Store, Exchange, Raise}
 use Rattle.of_core.specs.declared.place.Outcome.{Outcome}
-use Rattle.of_core.specs.declared.place.Outcome.TheVariants.{Answered, Spent}
+use Rattle.of_core.specs.declared.place.Outcome.TheVariants.{Answered, Spent, Lost}
 use Rattle.of_play.specs.declared.names.CellUse.{CellUse}
 use Rattle.of_play.specs.declared.names.CellUse.TheVariants.{Ticket, Shape, Reply as ReplyHeld, Register, Taken, Free, Keys, Bucket, Front, Back, Length, Block}
 use Rattle.of_play.specs.declared.names.ShownCell.{ShownCell}
@@ -25,23 +25,23 @@ use Rattle.of_play.specs.TraceText.{cell_use_text, pair_text}
 
 -- ---- whom the step helps, and what it did
 
--- the owner of the log that a helper copies or applies
+-- what is printed of whom a step helps: the owner of the log that is copied or applied
 abbrev pub helper_part : Option ℕ → List ℕ
 helper_part None = []
 helper_part (Some i) = codes "; helps " ++ decimal i
 
--- an exchange has won, or another word than the expected one was there
+-- what is printed of an exchange: it has won, or another word than the expected one was there
 abbrev pub exchange_part : (won : Bool) → (old new : ℕ) → List ℕ
 exchange_part true old new = codes "; won"
 exchange_part false old new =
     codes "; lost, wanted " ++ pair_text old ++ codes " -> " ++ pair_text new
 
--- a raise has found a word above the one to which it raises
+-- what is printed of a raise that has found a word above its own
 abbrev pub raise_part : (above : Bool) → (value : ℕ) → List ℕ
 raise_part true v = codes "; wanted " ++ pair_text v
 raise_part false v = []
 
--- what became of a step that found this
+-- what is printed of what became of a step that found this word
 abbrev pub did_part : Op → (found : ℕ) → List ℕ
 did_part (Load c) found = []
 did_part (Store c v) found = []
@@ -50,28 +50,30 @@ did_part (Raise c v) found = raise_part (nat_lt v found) v
 
 -- ---- what the word that was left means
 
--- an instruction, if it is the word of one
+-- what is printed of a script word: its instruction, if the word is one
 abbrev pub instr_part : Option Instr → List ℕ
 instr_part None = []
 instr_part (Some i) = codes "; " ++ instr_text i
 
--- a pointer: 0 leads to no block, and one more than a block's number to that block
+-- what is printed of a pointer: 0 leads to no block, and `b + 1` to block `b`
 abbrev pub pointer_part : ℕ → List ℕ
 pointer_part zero = codes "; no block"
 pointer_part (suc b) = codes "; block " ++ decimal b
 
--- the shape of a reply: how many instructions it answers, or at which one the script aborted
+-- what is printed of the shape of a reply: how many instructions it answers, or at which one the
+-- script aborted
 abbrev pub shape_part : ℕ → List ℕ
 shape_part x =
     if x == 0 then []
     else if nat_lt x (2 ^ 21) then codes "; answers " ++ decimal (x / 2 ^ 16 % 32)
     else codes "; aborted at " ++ decimal (x / 2 ^ 21 % 32)
 
--- a field of a block: the last one is a pointer
+-- what is printed of a field of a block: the last field is a pointer, and of the others nothing is
+-- printed
 abbrev pub field_part : (field x : ℕ) → List ℕ
 field_part f x = if f == 2 then pointer_part x else []
 
--- the number of a data cell that holds this, if it is more than a number
+-- what is printed of the number in a data cell with this use, if it is more than a number
 abbrev pub cell_use_part : CellUse → ℕ → List ℕ
 cell_use_part (Ticket i) x = []
 cell_use_part (Shape i) x = shape_part x
@@ -86,25 +88,25 @@ cell_use_part (Back q) x = pointer_part x
 cell_use_part (Length q) x = []
 cell_use_part (Block b f) x = field_part f x
 
--- a request: whether its transaction is open
+-- what is printed of a request: whether its transaction is open
 abbrev pub request_part : ℕ → List ℕ
 request_part v =
     if seq_of v == 0 then []
     else if payload_of v == 0 then codes "; open"
     else codes "; closed"
 
--- a word of a log: each other one, from word 1 on, is the address of a data cell
+-- what is printed of a word of a log: those at odd places hold the address of a data cell
 abbrev pub log_part : (n at x : ℕ) → List ℕ
 log_part n at x = if at % 2 == 1 then codes "; " ++ cell_use_text (cell_use_at n x) else []
 
--- the word of a cell, where there are n callers
+-- what is printed of the word of a cell, if there are `n` callers
 abbrev pub cell_part : (n : ℕ) → ShownCell → ℕ → List ℕ
 cell_part n Current v = []
 cell_part n (Request i) v = request_part v
 cell_part n (Data a) v = cell_use_part (cell_use_at n a) (payload_of v)
 cell_part n (Log i at) v = log_part n at (payload_of v)
 
--- what a word of the table means
+-- what is printed of the meaning of a word of the table, if there are `n` callers
 abbrev pub word_part : (n : ℕ) → ShownWord → ℕ → List ℕ
 word_part n (Now c) v = cell_part n c v
 word_part n (Durable c) v = cell_part n c v
@@ -114,25 +116,26 @@ word_part n Members v = []
 
 -- ---- the reply of a call that has ended
 
--- the cause with this number in a shape
+-- the cause of an abort that has this number in the shape of a reply
 abbrev pub cause_at : ℕ → Cause
 cause_at c =
     if c == 1 then Overflow else if c == 2 then Short else if c == 3 then NoRoom
     else if c == 4 then Differs else BadOp
 
--- the reply that these cells hold
+-- the reply that the cells of a call hold
 abbrev pub shown_reply : RawReply → Reply
 shown_reply raw =
     if nat_lt raw.shape (2 ^ 21)
     then Values (take (raw.shape / 2 ^ 16 % 32) (marked_in (raw.shape % 2 ^ 16) raw.values))
     else Aborted (raw.shape / 2 ^ 21 % 32) (cause_at (raw.shape / 2 ^ 26))
 
--- as a report has it
+-- what is printed of the reply that the cells hold, as a report prints it
 abbrev pub held_part : RawReply → List ℕ
 held_part raw = codes "; reply" ++ reply_text (shown_reply raw)
 
--- a spent call has none
+-- what is printed of the reply of a call that has ended; a spent or a lost call has none
 abbrev pub reply_part : Option Outcome → List ℕ
 reply_part None = []
 reply_part (Some (Answered s announced raw k)) = held_part raw
 reply_part (Some (Spent s)) = []
+reply_part (Some (Lost s)) = []

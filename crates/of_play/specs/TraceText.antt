@@ -47,7 +47,7 @@ step_text (RaiseTarget j f) = codes "raise target"
 step_text CloseRequest = codes "close request"
 step_text RaiseClosed = codes "raise closed"
 
--- what a data cell holds
+-- the name of what a data cell holds
 abbrev pub cell_use_text : CellUse → List ℕ
 cell_use_text (Ticket i) = codes "ticket of " ++ decimal i
 cell_use_text (Shape i) = codes "shape of " ++ decimal i
@@ -62,7 +62,7 @@ cell_use_text (Back q) = codes "back of queue " ++ decimal q
 cell_use_text (Length q) = codes "length of queue " ++ decimal q
 cell_use_text (Block b f) = codes "field " ++ decimal f ++ codes " of block " ++ decimal b
 
--- the name of a cell, where there are n callers; that of a data cell has its number
+-- the name of a cell, if there are `n` callers; a data cell's has the cell's number too
 abbrev pub cell_name_text : (n : ℕ) → ShownCell → List ℕ
 cell_name_text n Current = codes "current"
 cell_name_text n (Request i) = codes "request " ++ decimal i
@@ -71,7 +71,7 @@ cell_name_text n (Data a) =
     ++ codes " (" ++ cell_use_text (cell_use_at n a) ++ codes ")"
 cell_name_text n (Log i x) = codes "log " ++ decimal x ++ codes " of " ++ decimal i
 
--- the name of a word
+-- the name of a word, if there are `n` callers
 abbrev pub word_text : (n : ℕ) → ShownWord → List ℕ
 word_text n (Now c) = cell_name_text n c
 word_text n (Durable c) = codes "durable " ++ cell_name_text n c
@@ -79,7 +79,7 @@ word_text n (Script i x) = codes "script word " ++ decimal x ++ codes " of " ++ 
 word_text n (Announcement i) = codes "announcement " ++ decimal i
 word_text n Members = codes "members"
 
--- the two parts of a word
+-- the text of a word as a pair: its sequence and its payload
 abbrev pub pair_text : ℕ → List ℕ
 pair_text v = codes "(" ++ decimal (seq_of v) ++ codes "," ++ decimal (payload_of v) ++ codes ")"
 
@@ -91,15 +91,15 @@ word_value_text (Script i x) v = decimal v
 word_value_text (Announcement i) v = pair_text v
 word_value_text Members v = decimal v
 
--- a word by its name, what was found there, and what was left
+-- a word by its name, with what was found in it and what was left in it
 abbrev pub named_change : (n : ℕ) → ShownWord → (found left : ℕ) → List ℕ
 named_change n w found left =
     word_text n w ++ codes ": " ++ word_value_text w found ++ codes " -> " ++ word_value_text w left
 
--- the word with this place in a plan's table
+-- the word at this place of a plan's table
 abbrev pub plan_word : Plan → (place : ℕ) → ShownWord
 plan_word p w = word_at_place p.callers (data_cells p.callers p.blocks) w
 
--- what has become of a word of a plan's table
+-- a word of a plan's table by its name, with what was found in it and what was left in it
 abbrev pub change_text : Plan → Change → List ℕ
 change_text p c = named_change p.callers (plan_word p c.word) c.found c.left

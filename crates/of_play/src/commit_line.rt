@@ -53,7 +53,8 @@ fn put_batch(
     out.push_str("\n")
 }
 
-/// Writes the line of a step, if it commits these calls.
+/// Writes the line of event `number`, a step of a caller, if the step commits these calls;
+/// otherwise writes nothing.
 pub fn put_commit(
     out: &mut String,
     number: u32,

@@ -9,24 +9,25 @@ ghost use Rattle.of_play.specs.TraceLaws.{AllAreShown, LinesAreOfMoves, TracesEn
 use of_caller::laws::plan_keeps_laws;
 use of_plan::Plan;
 
-/// Each event of a plan's schedule may happen when it comes; so what they leave is a moment, with
-/// all that holds of every moment.
+/// Each event of a plan's schedule may happen when its turn comes. So a schedule leaves a moment,
+/// and all that is proved of every moment holds of it.
 pub fn plans_have_schedules(plan: &Plan)
     ensures { IsSchedule (plan_setup plan.now) (opening_for plan.now) (play_events plan.now) }
 {
     plan_keeps_laws(plan);
 }
 
-/// The names that a trace prints are those of what stands there: of each data cell, each cell and
-/// each word of a table.
+/// A trace prints a name of its own for each data cell, each cell and each word of a table: no two
+/// of them have the same name.
 pub fn words_are_named()
     ensures uses { CellUsesAreNamed }
     ensures cells { CellsAreNamed }
     ensures words { WordsAreNamed }
 {}
 
-/// A plan's schedule has only turns and evictions. The trace has the line of each, at the moment
-/// that those before it leave; the moment after the last one is the one that `play` ends in.
+/// A trace has a line for each turn and each eviction of a plan's schedule. It shows this event at
+/// the moment that the turns and evictions before it leave. The schedule has no other events. The
+/// moment after the last line is the one in which `play` ends.
 pub fn traces_are_of_plays()
     ensures shown { AllAreShown }
     ensures lines { LinesAreOfMoves }

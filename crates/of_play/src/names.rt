@@ -12,21 +12,21 @@ use of_mem::{MOST_INSTRS, Plot, QUEUES};
 pub enum CellUse {
     /// The ticket of the last announced call of a caller that was run.
     Ticket(u32),
-    /// The shape of the reply of that call.
+    /// The shape of the reply to a caller's last announced call that was run.
     Shape(u32),
-    /// A number of that reply.
+    /// A number of the reply to a caller's last announced call that was run.
     Reply { caller: u32, at: u32 },
     /// A register.
     Register(u32),
-    /// How many blocks were taken at least once.
+    /// How many blocks of the store were taken at least once.
     Taken,
-    /// The front of the free list.
+    /// The first block of the list of free blocks.
     Free,
     /// How many keys there are.
     Keys,
-    /// The front of a bucket.
+    /// The first block of a bucket of the map.
     Bucket(u32),
-    /// The front of a queue.
+    /// The first block of a queue.
     Front(u32),
     /// The last block of a queue.
     Back(u32),
@@ -36,23 +36,24 @@ pub enum CellUse {
     Block { block: u32, field: u32 },
 }
 
-/// A cell.
+/// A cell, by what it is for.
 #[derive(Clone, Copy)]
 pub enum ShownCell {
     /// The current-transaction word.
     Current,
     /// The request of a caller.
     Request(u32),
-    /// The data cell with an address.
+    /// The data cell with this address.
     Data(u32),
-    /// A word of a caller's log: 0 is the number of entries, and then come cell and number of each.
+    /// A word of a caller's log. Word 0 is the number of entries; after it come the cell and the
+    /// number of each entry.
     Log { caller: u32, at: u32 },
 }
 
-/// A word of the table.
+/// A word of the table, by what it is for.
 #[derive(Clone, Copy)]
 pub enum ShownWord {
-    /// The word of a cell.
+    /// The word that a cell holds.
     Now(ShownCell),
     /// The durable word of a cell.
     Durable(ShownCell),
@@ -60,7 +61,7 @@ pub enum ShownWord {
     Script { caller: u32, at: u32 },
     /// The announcement of a caller.
     Announcement(u32),
-    /// Which callers take part.
+    /// The word that says which callers take part.
     Members,
 }
 
@@ -70,7 +71,7 @@ const OWN_CELLS: u32 = MOST_INSTRS as u32 + 2;
 /// How many words each caller has for its script and its announcement.
 const ROW_WORDS: u32 = MOST_INSTRS as u32 + 1;
 
-/// What an own data cell of a caller holds.
+/// What data cell `at` among a caller's own holds.
 fn own_cell(caller: u32, at: u32) -> CellUse
     ensures { result ≡ own_cell caller at }
 {
@@ -81,7 +82,7 @@ fn own_cell(caller: u32, at: u32) -> CellUse
     }
 }
 
-/// What a cell of a queue holds.
+/// What cell `at` of a queue holds.
 fn queue_cell(queue: u32, at: u32) -> CellUse
     ensures { result ≡ queue_cell queue at }
 {
@@ -96,8 +97,8 @@ impl CellUse {
     ghost use Rattle.of_play.specs.Names.{cell_use_at, store_cell};
     ghost use Rattle.of_mem.specs.Places.{base_of};
 
-    /// What a data cell after those of the callers holds. A plan has few blocks, so its buckets
-    /// come right after the count of keys.
+    /// What a data cell after the callers' own cells holds. The buckets come right after the count
+    /// of keys, since a plan has few blocks. With many blocks they would come after the blocks.
     fn in_store(plot: &Plot, addr: u32) -> CellUse
         requires instrs { plot.now.instrs ≡ MOST_INSTRS }
         requires behind { base_of plot.now.callers MOST_INSTRS ≤ addr }
@@ -125,7 +126,7 @@ impl CellUse {
         }
     }
 
-    /// What a data cell holds.
+    /// What the data cell with this address holds.
     pub fn at(plot: &Plot, addr: u32) -> CellUse
         requires instrs { plot.now.instrs ≡ MOST_INSTRS }
         ensures { result ≡ cell_use_at plot.now.callers addr }
@@ -141,7 +142,7 @@ impl CellUse {
 impl ShownCell {
     ghost use Rattle.of_play.specs.Names.{cell_at};
 
-    /// The cell with a number.
+    /// The cell with this number.
     pub fn at(shape: &Shape, number: u32) -> ShownCell
         ensures { result ≡ cell_at shape.now.callers shape.now.cells number }
     {
@@ -166,7 +167,7 @@ impl ShownCell {
 impl ShownWord {
     ghost use Rattle.of_play.specs.Names.{row_word, word_at_place};
 
-    /// The word of the row of a caller.
+    /// Word `at` among a caller's script words, after which its announcement comes.
     fn in_row(caller: u32, at: u32) -> ShownWord
         ensures { result ≡ row_word caller at }
     {
@@ -177,7 +178,7 @@ impl ShownWord {
         }
     }
 
-    /// The word with a place.
+    /// The word at this place of the table.
     pub fn at(shape: &Shape, place: u32) -> ShownWord
         requires { shape.now.instrs ≡ MOST_INSTRS }
         ensures { result ≡ word_at_place shape.now.callers shape.now.cells place }

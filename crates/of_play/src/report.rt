@@ -10,9 +10,8 @@ use of_plan::Plan;
 use of_report::Report;
 use std::alloc::{AllocError, Global};
 
-/// The report of what a plan's schedule leaves: each turn and each eviction in its order on a bank,
-/// and what recovery finds in the table then. Each call comes after those that ended before it
-/// began.
+/// The report of what recovery finds after a plan's schedule was run on a bank, each turn and each
+/// eviction in its order. In the report each call comes after those that ended before it began.
 pub fn play_report(alloc: Global, plan: &Plan) -> Result<Report, AllocError>
     ensures { IfOk result (λ report. IsPlayedReport plan.now (report_value report)) }
 {

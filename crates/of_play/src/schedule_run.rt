@@ -27,8 +27,8 @@ impl ScheduleRun {
     ghost use Rattle.of_plan.specs.Plan.{IsPlan, IsScheduleItem, scripts_of};
     ghost use Rattle.of_core.specs.Events.{Turns};
     ghost use Rattle.of_play.specs.Play.{turns_by, item_events};
-    ghost use Rattle.of_caller.specs.Ends.{OutcomeHoldsReply, is_spent};
-    ghost use Rattle.of_play.specs.ScheduleRun.{StandsAfter, IsPlaying, MakesMoves, MakesTurnsInRow, BeginsNext, IsReplied, NotesTurn, NotesEnd, CallerEndsAs, RunLeaves};
+    ghost use Rattle.of_caller.specs.Ends.{is_spent};
+    ghost use Rattle.of_play.specs.ScheduleRun.{StandsAfter, IsPlaying, MakesMoves, MakesTurnsInRow, BeginsNext, IsPlayedOutcome, IsReplied, NotesTurn, NotesEnd, CallerEndsAs, RunLeaves};
     ghost use Rattle.of_core.specs.Moment.{machine_of};
     ghost use Rattle.of_core.specs.MachineValue.{ended_outcome};
 
@@ -84,11 +84,13 @@ impl ScheduleRun {
     #[inline(never)]
     fn note_end(&mut self, caller: u32, outcome: Outcome) -> Result<(), AllocError>
         requires answers { caller < length self.old.answers.items }
-        requires reply { OutcomeHoldsReply outcome }
+        requires reply { IsPlayedOutcome outcome }
         ensures { OnOk result (NotesEnd caller outcome self.old self.new) }
     {
         match outcome {
             Outcome::Spent { .. } => Ok(()),
+            // a play replaces no machine
+            Outcome::Lost { .. } => unreachable!(),
             Outcome::Answered {
                 seq,
                 announced,
@@ -109,7 +111,7 @@ impl ScheduleRun {
         }
     }
 
-    /// Notes what a turn has said of its caller.
+    /// Notes the outcome of a turn, if it has ended a call.
     #[inline(always)]
     fn note(&mut self, caller: u32, turn: Turn) -> Result<(), AllocError>
         requires answers { caller < length self.old.answers.items }
@@ -152,8 +154,8 @@ impl ScheduleRun {
         self.bank.made(caller) as usize >= plan.scripts(caller).len()
     }
 
-    /// Makes turns of a caller while its call is open, at most `most`, and notes how that has
-    /// ended. It answers how many.
+    /// Makes turns of a caller while its call is open, at most `most`, and notes how the call has
+    /// ended. The answer is how many turns were made.
     #[inline(always)]
     fn turns_while_open(&mut self, plan: &Plan, caller: u32, most: u32) -> Result<u32, AllocError>
         requires caller { caller < plan.now.callers }
@@ -172,7 +174,7 @@ impl ScheduleRun {
         Ok(made)
     }
 
-    /// Makes that many turns of a caller.
+    /// Makes `count` turns of a caller.
     fn turns(&mut self, plan: &Plan, caller: u32, count: u32) -> Result<(), AllocError>
         requires caller { caller < plan.now.callers }
         requires playing { IsPlaying plan.now self.old }
@@ -192,7 +194,7 @@ impl ScheduleRun {
         Ok(())
     }
 
-    /// Makes the moves of an item of the schedule.
+    /// Makes the turns or the eviction of an item of the schedule.
     fn item(&mut self, plan: &Plan, item: Item) -> Result<(), AllocError>
         requires item { IsScheduleItem plan.now item }
         requires playing { IsPlaying plan.now self.old }
@@ -224,7 +226,7 @@ impl ScheduleRun {
         };
         match outcome {
             Outcome::Spent { seq } => Ending::Spent { seq },
-            Outcome::Answered { .. } => Ending::Stopped { asked },
+            Outcome::Answered { .. } | Outcome::Lost { .. } => Ending::Stopped { asked },
         }
     }
 
@@ -245,9 +247,9 @@ impl ScheduleRun {
     }
 }
 
-/// Runs a plan's schedule step by step on a bank: at each turn of a caller its open call makes a
-/// step, or it begins its next script and makes the first one. A caller that is done or spent makes
-/// none.
+/// Runs a plan's schedule step by step on a bank. At each turn of a caller its open call makes a
+/// step; if none is open, the caller first begins its next script. A caller that is done or spent
+/// makes no step.
 pub fn play(alloc: Global, plan: &Plan) -> Result<Ended, AllocError>
     ensures plan { IsPlan plan.now }
     ensures played { IfOk result (λ ended. IsPlayed plan.now ended) }

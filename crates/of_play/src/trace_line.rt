@@ -17,16 +17,16 @@ use std::fmt::Write;
 #[derive(Clone, Copy)]
 pub struct TraceStep {
     pub caller: u32,
-    /// The index of its call's script.
+    /// The index of the script that the call runs.
     pub index: u32,
-    /// Where the call stood.
+    /// The place at which the call was before the step.
     pub place: Place,
-    /// What it did.
+    /// The operation of the step.
     pub op: Op,
-    /// Whose log it copied or applied, if it helped.
+    /// The caller whose log the step copied or applied, if it helped.
     pub helps: Option<u32>,
     pub change: Change,
-    /// How the call has ended, if it was its last step.
+    /// How the call has ended, if this was its last step.
     pub outcome: Option<Outcome>,
 }
 
@@ -37,6 +37,7 @@ fn put_end(out: &mut String, outcome: Option<Outcome>) -> Result<(), AllocError>
     match outcome {
         None => Ok(()),
         Some(Outcome::Spent { seq }) => write!(out, ", spent at {seq}"),
+        Some(Outcome::Lost { seq }) => write!(out, ", lost at {seq}"),
         Some(
             Outcome::Answered {
                 seq,

@@ -22,7 +22,7 @@ use of_script::{Script, from_word, put_script};
 use std::alloc::AllocError;
 use std::fmt::Write;
 
-/// Writes whom a step helps.
+/// Writes which caller a step helps.
 pub fn put_help(out: &mut String, helps: Option<u32>) -> Result<(), AllocError>
     ensures { OnOk result (AppendsText out.old out.new (helper_part helps)) }
 {
@@ -50,7 +50,8 @@ fn put_wanted(out: &mut String, value: u64) -> Result<(), AllocError>
     put_pair(out, value)
 }
 
-/// Writes what became of a step that found this word.
+/// Writes what became of a step that found this word: whether an exchange was won, and what a raise
+/// wanted.
 pub fn put_did(out: &mut String, op: Op, found: u64) -> Result<(), AllocError>
     ensures { OnOk result (AppendsText out.old out.new (did_part op found)) }
 {
@@ -179,7 +180,7 @@ fn put_cell_part(
     }
 }
 
-/// Writes what a word of the table means.
+/// Writes what the value of a word of the table means.
 pub fn put_meaning(
     out: &mut String,
     plan: &Plan,
@@ -214,7 +215,7 @@ pub fn put_reply_part(out: &mut String, outcome: Option<Outcome>) -> Result<(), 
     ensures { OnOk result (AppendsText out.old out.new (reply_part outcome)) }
 {
     match outcome {
-        None | Some(Outcome::Spent { .. }) => Ok(()),
+        None | Some(Outcome::Spent { .. }) | Some(Outcome::Lost { .. }) => Ok(()),
         Some(Outcome::Answered { raw, .. }) => put_held(out, &raw),
     }
 }

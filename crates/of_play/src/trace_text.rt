@@ -11,14 +11,14 @@ use of_plan::Plan;
 use std::alloc::AllocError;
 use std::fmt::Write;
 
-/// What has become of a word of the table.
+/// What a step or an eviction has done to a word of the table.
 #[derive(Clone, Copy)]
 pub struct Change {
-    /// The place of the word.
+    /// The place of the word in the table.
     pub word: u32,
-    /// What was found there.
+    /// The value that was found in the word.
     pub found: u64,
-    /// What was left there.
+    /// The value that was left in the word.
     pub left: u64,
 }
 
@@ -60,7 +60,7 @@ pub fn step_name(place: Place) -> &'static str
     }
 }
 
-/// Writes what a data cell holds.
+/// Writes the name of what a data cell holds.
 pub fn put_cell_use(out: &mut String, cell_use: CellUse) -> Result<(), AllocError>
     ensures { OnOk result (AppendsText out.old out.new (cell_use_text cell_use)) }
 {
@@ -112,7 +112,7 @@ fn put_word(out: &mut String, plan: &Plan, word: ShownWord) -> Result<(), AllocE
     }
 }
 
-/// Writes the two parts of a word.
+/// Writes a word as a pair: its sequence and its payload.
 pub fn put_pair(out: &mut String, value: u64) -> Result<(), AllocError>
     ensures { OnOk result (AppendsText out.old out.new (pair_text value)) }
 {
@@ -132,7 +132,7 @@ fn put_value(out: &mut String, word: ShownWord, value: u64) -> Result<(), AllocE
     }
 }
 
-/// Writes a word of a plan's table by its name, and what has become of it.
+/// Writes a word of a plan's table by its name, with what was found and what was left in it.
 pub fn put_change(out: &mut String, plan: &Plan, change: &Change) -> Result<(), AllocError>
     ensures { OnOk result (AppendsText out.old out.new (change_text plan.now change.now)) }
 {

@@ -1,4 +1,4 @@
--- What the calls of a queue know of the cells that they read.
+-- What is known of the cells of a queue between the parts of a push or of a pop.
 use Rattle.std.specs.Prelude.{◌≡◌, ℕ, ◌+◌, ◌<◌, ◌≤◌, List, ◌∷◌, length, Some}
 use Rattle.of_mem.specs.declared.plot.Plot.{Plot}
 use Rattle.of_mem.specs.declared.plot.TheConstants.{QUEUES}
@@ -11,7 +11,8 @@ use Rattle.of_mem.specs.Stores.{queue_chain, CellStore}
 use Rattle.of_mem.specs.Calls.{PlotStandsForStore}
 use Rattle.of_alloc.specs.Blocks.{HasOut}
 
--- this block of the plot can be put at the end of the queue, and one item more can be counted
+-- block b is one of the plot's, so it can be put at the end of queue q; the count of items can grow
+-- by 1 and still fit into a cell
 pub record CanAppend (plot : Plot) (p : Part) (q b : ℕ) : Type 0 where
   pub fits : length p.known ≡ data_cell_count plot
   pub queue : q < QUEUES
@@ -19,13 +20,14 @@ pub record CanAppend (plot : Plot) (p : Part) (q b : ℕ) : Type 0 where
   pub tail : (t : ℕ) → newest_at p (tail_at (base plot) q) ≡ Some t → t ≤ plot.blocks
   pub items : (n : ℕ) → newest_at p (length_at (base plot) q) ≡ Some n → FitsCell (n + 1)
 
--- one item fewer can be counted
+-- the count of items of queue q is at least 1, so 1 can be taken off
 pub record CanCount (plot : Plot) (p : Part) (q : ℕ) : Type 0 where
   pub fits : length p.known ≡ data_cell_count plot
   pub queue : q < QUEUES
   pub items : (n : ℕ) → newest_at p (length_at (base plot) q) ≡ Some n → 1 ≤ n
 
--- the partial memory has a store, and the block is the front of this queue in it
+-- the partial memory agrees with some memory that stands for a store, and in it block b is the
+-- first of queue q
 pub record IsFront (plot : Plot) (p : Part) (q b : ℕ) : Type 0 where
   pub fits : length p.known ≡ data_cell_count plot
   pub queue : q < QUEUES
@@ -36,7 +38,7 @@ pub record IsFront (plot : Plot) (p : Part) (q b : ℕ) : Type 0 where
   pub rest : List ℕ
   pub front : stands.chains (queue_chain plot.blocks q) ≡ b ∷ rest
 
--- the block is out, and an item is still counted for it
+-- block b is out, and the count of items of queue q still includes the item that it held
 pub record IsPopped (plot : Plot) (p : Part) (q b : ℕ) : Type 0 where
   pub queue : q < QUEUES
   pub block : HasOut plot p b

@@ -1,4 +1,4 @@
--- What the calls of a queue read and write, and in which order.
+-- Which cells the calls of a queue read and write, and in which order.
 use Rattle.std.specs.Prelude.{ℕ, zero, suc, ◌+◌, ◌-◌, Bool, true, false, Option, Some, None}
 use Rattle.of_mem.specs.declared.plot.Plot.{Plot}
 use Rattle.of_mem.specs.Plots.{base}
@@ -7,7 +7,7 @@ use Rattle.of_mem.specs.Stores.{first_at, link_at}
 use Rattle.of_mem.specs.Programs.{Program, Done, Read, Write, then_do}
 use Rattle.of_alloc.specs.BlockPrograms.{take_program, give_program}
 
--- Pushing an item onto the end of a queue; the answer is whether there was a block for it.
+-- Pushing an item onto the end of a queue. The answer is whether there was a block for it.
 
 abbrev pub count_up : ℕ → ℕ → ℕ → Program Bool
 count_up o q n = Write (length_at o q) (n + 1) (Done true)
@@ -15,7 +15,8 @@ count_up o q n = Write (length_at o q) (n + 1) (Done true)
 abbrev pub new_tail : ℕ → ℕ → ℕ → Program Bool
 new_tail o q b = Write (tail_at o q) (b + 1) (Read (length_at o q) (count_up o q))
 
--- the pointer cell after the last block, if tail holds this pointer
+-- the cell that will point to a new last block: the link of the last block, to which the tail's
+-- pointer leads, or the head if the queue is empty
 abbrev pub last_cell : ℕ → ℕ → ℕ → ℕ
 last_cell o q zero = head_at o q
 last_cell o q (suc t) = link_at o t
@@ -39,11 +40,12 @@ count_down_program o q v n = Write (length_at o q) (n - 1) (Done (Some v))
 abbrev pub item_after_give : ℕ → ℕ → ℕ → Unit {0} → Program (Option ℕ)
 item_after_give o q v u = Read (length_at o q) (count_down_program o q v)
 
--- the block goes back, and one item less is counted
+-- gives the block back, takes 1 off the count of items, and answers the item v
 abbrev pub give_item_block : ℕ → ℕ → ℕ → ℕ → Program (Option ℕ)
 give_item_block o q b v = then_do (give_program o b) (item_after_give o q v)
 
--- by the link of the block that leaves: if it is 0, no block is left
+-- goes on with the link of the block that leaves the queue: if it is 0, no block is left, and the
+-- tail becomes 0 too
 abbrev pub new_end : ℕ → ℕ → ℕ → ℕ → ℕ → Program (Option ℕ)
 new_end o q b v zero = Write (tail_at o q) 0 (give_item_block o q b v)
 new_end o q b v (suc t) = give_item_block o q b v
@@ -57,7 +59,7 @@ with_first o q b v = Read (link_at o b) (with_head_link o q b v)
 abbrev pub front_program : ℕ → ℕ → ℕ → Program (Option ℕ)
 front_program o q b = Read (first_at o b) (with_first o q b)
 
--- by the pointer that head holds
+-- goes on with the pointer that the head holds: if it is 0, the queue is empty
 abbrev pub with_head : ℕ → ℕ → ℕ → Program (Option ℕ)
 with_head o q zero = Done None
 with_head o q (suc b) = front_program o q b
@@ -70,7 +72,7 @@ pop_program o q = Read (head_at o q) (with_head o q)
 abbrev pub len_program : ℕ → ℕ → Program ℕ
 len_program o q = Read (length_at o q) Done
 
--- The programs of the calls on a plot.
+-- The programs of the calls, and of their parts, on the cells of a plot.
 
 abbrev pub push : Plot → ℕ → ℕ → Program Bool
 push plot q v = push_program (base plot) plot.blocks q v

@@ -1,4 +1,5 @@
-//! The queues over cells: chains of blocks with a head, a tail and a length.
+//! The queues over cells: each queue is a chain of blocks, with a head, a tail and a length, and a
+//! block holds an item.
 #![tactic(auto)]
 
 ghost use Rattle.std.specs.Prelude.{◌≡◌, ◌<◌, ◌≤◌, ℕ, Some, false, true, length, IfOk};
@@ -13,8 +14,8 @@ ghost use Rattle.of_queue.specs.Means.{IsItem, PushesItem, front_item, after_pop
 
 use of_mem::{Need, Part, Plot};
 
-/// Puts an item at the end of a queue. False comes exactly if no block is free, and then nothing is
-/// written. The error names a cell that is read and isn't known.
+/// Puts an item at the end of a queue. It answers false exactly if no block is free, and then
+/// writes nothing. An error names a cell that must be read and is not known.
 #[tactic(auto, using(of_mem::proofs::Runs::run_then_needs))]
 pub fn push(plot: &Plot, part: &mut Part, queue: u32, value: u32) -> Result<bool, Need>
     requires stands { HasStore plot.now part.old }
@@ -58,8 +59,8 @@ fn last_cell(plot: &Plot, queue: u32, tail: u32) -> u32
     }
 }
 
-/// Takes the front item of a queue. None comes exactly if the queue is empty. The error names a
-/// cell that is read and isn't known.
+/// Takes the first item off a queue, and answers it. None exactly if the queue is empty. An error
+/// names a cell that must be read and is not known.
 pub fn pop(plot: &Plot, part: &mut Part, queue: u32) -> Result<Option<u32>, Need>
     requires stands { HasStore plot.now part.old }
     requires queue { queue < QUEUES }
@@ -130,7 +131,7 @@ fn count_down(plot: &Plot, part: &mut Part, queue: u32, item: u32) -> Result<Opt
     Ok(Some(item))
 }
 
-/// The number of items of a queue. The error names the cell that counts them if it isn't known.
+/// The number of items in a queue. An error names the cell that counts them, if it is not known.
 pub fn len(plot: &Plot, part: &Part, queue: u32) -> Result<u32, Need>
     requires stands { HasStore plot.now part.now }
     requires queue { queue < QUEUES }

@@ -1,5 +1,5 @@
-//! What a recovered row keeps and what it changes. Nothing here has a body to run: a proof cites
-//! the clauses.
+//! Theorems about what recovery and renumbering keep of a row and what they change. The functions
+//! here do nothing: each one's contract is a theorem that proofs cite.
 
 ghost use Rattle.std.specs.Prelude.{◌≡◌};
 ghost use Rattle.std.proofs.Common.{take};
@@ -10,7 +10,7 @@ ghost use Rattle.of_recover.specs.Writes.{words_after_writes, IsUnderway};
 
 use of_cell::Shape;
 
-/// A second recovery finds nothing to do.
+/// After a recovery the current transaction is not open, and a second recovery changes nothing.
 pub fn recovered_twice(shape: &Shape, durable: &[u64])
     requires { IsShapeRow shape.now durable.now }
     ensures closed { IsClosed shape.now (row_after_recovery shape.now durable.now) }
@@ -18,8 +18,8 @@ pub fn recovered_twice(shape: &Shape, durable: &[u64])
         row_after_recovery shape.now once ≡ once }
 {}
 
-/// A recovery that stops between two of its writes loses nothing. It makes them in order, and after
-/// any number of them a recovery of the row that they leave gives the same row.
+/// A recovery that stops between two of its writes loses nothing: after any number of its writes,
+/// made in order, a second recovery leaves the same row as one that did not stop.
 pub fn recovered_midway(shape: &Shape, durable: &[u64], made: usize)
     requires { IsShapeRow shape.now durable.now }
     ensures all { let writes = recovery_writes_of shape.now durable.now in
@@ -29,16 +29,17 @@ pub fn recovered_midway(shape: &Shape, durable: &[u64], made: usize)
         ≡ row_after_recovery shape.now durable.now }
 {}
 
-/// Nor does it matter in which order the data cells are written, or which of them are. As long as
-/// the request is not closed, recovery leaves the same row.
+/// Recovery leaves the same row if some data cells have their recovered words already, whichever
+/// they are, as long as the request is not closed.
 pub fn recovered_underway(shape: &Shape, durable: &[u64], later: &[u64])
     requires row { IsShapeRow shape.now durable.now }
     requires underway { IsUnderway shape.now.callers shape.now.cells durable.now later.now }
     ensures { row_after_recovery shape.now later.now ≡ row_after_recovery shape.now durable.now }
 {}
 
-/// What becomes of each cell: the data cells have their recovered words, the request of an open
-/// transaction is closed, and nothing else changes. A data cell that the log does not name stays.
+/// What recovery does to each cell. The data cells get their recovered words, the request of an
+/// open transaction is closed, and nothing else changes. A data cell that the log does not name
+/// keeps its word.
 pub fn recovered_cells(shape: &Shape, durable: &[u64])
     requires { IsShapeRow shape.now durable.now }
     ensures size { IsShapeRow shape.now (row_after_recovery shape.now durable.now) }
@@ -52,16 +53,17 @@ pub fn recovered_cells(shape: &Shape, durable: &[u64])
         (row_after_recovery shape.now durable.now) }
 {}
 
-/// What becomes of a row whose sequences begin anew.
+/// What renumbering does to a row: it begins anew at sequence 0, and its data cells keep their
+/// numbers.
 pub fn renumbered_row(shape: &Shape, durable: &[u64])
     requires { IsShapeRow shape.now durable.now }
     ensures { BeginsAnew shape.now.callers shape.now.cells durable.now
         (row_after_renumbering shape.now durable.now) }
 {}
 
-/// A renumbering that stops between two of its writes loses nothing. After any number of them the
-/// row that they leave has the same numbers, a table may start from it, and a renumbering of it
-/// leaves the same row.
+/// A renumbering that stops between two of its writes loses nothing. After any number of its
+/// writes, made in order, the row has the same numbers, a table may start from it, and a second
+/// renumbering leaves the same row as one that did not stop.
 pub fn renumbered_midway(shape: &Shape, durable: &[u64], made: usize)
     requires row { IsShapeRow shape.now durable.now }
     requires closed { IsClosed shape.now durable.now }

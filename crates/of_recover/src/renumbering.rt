@@ -1,5 +1,5 @@
-//! Renumbering of a recovered row in place: its data cells keep their numbers, and its sequences
-//! begin anew.
+//! Renumbering of a recovered row in place: its data cells keep their numbers, and sequences begin
+//! at 0 again.
 
 ghost use Rattle.std.specs.Prelude.{◌≡◌};
 ghost use Rattle.std.proofs.Common.{take};
@@ -29,9 +29,8 @@ fn renumbered_word(shape: &Shape, cell: usize, word: u64) -> u64
     }
 }
 
-/// Begins the sequences of a recovered row anew: each data cell keeps its number, at sequence 0,
-/// and the current transaction, the requests and the logs are those of a table on which nothing has
-/// happened.
+/// Renumbers a recovered row, so that sequences begin at 0 again. Each data cell keeps its number,
+/// with sequence 0. All other cells become 0, as in a table on which nothing has happened.
 pub fn renumber(shape: &Shape, durable: &mut [u64])
     requires row { IsShapeRow shape.now durable.old }
     requires closed { IsClosed shape.now durable.old }
@@ -41,9 +40,9 @@ pub fn renumber(shape: &Shape, durable: &mut [u64])
     renumber_partly(shape, durable, cells);
 }
 
-/// Makes the writes of a renumbering, in their order, and stops when `most` of them are made. The
-/// current transaction comes last, because no data cell may be newer than it. So what is left has
-/// the same numbers, and may be renumbered again (`laws::renumbered_midway`).
+/// Makes the first `most` writes of a renumbering, in order, or all if there are fewer. The
+/// current-transaction word is written last, since no data cell may be newer than it. So the row
+/// that is left has the same numbers and may be renumbered again (`laws::renumbered_midway`).
 pub fn renumber_partly(shape: &Shape, durable: &mut [u64], most: usize)
     requires { IsShapeRow shape.now durable.old }
     ensures { let writes = renumbering_writes_of shape.now durable.old in

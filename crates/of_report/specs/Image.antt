@@ -26,7 +26,7 @@ pub record Image : Type 0 where
   pub replayed : Bool
   pub store : Store
 
--- an image is stored as the tuple of its parts
+-- how an image is coded: as the tuple of its parts
 abbrev pub image_code : Coded Image
 image_code =
     code_by ((ℕ × (ℕ × List ℕ)) × (ℕ × (Bool × Store)))
@@ -41,34 +41,34 @@ image_code =
     })
     (λ _. refl)
 
--- an image of at most this many callers and blocks: its words are in range and recovered, its
--- sequence is theirs, and they are lawful with its store
+-- an image of at most this many callers and blocks: recovery leaves its words as they are, its
+-- sequence is theirs, and they are lawful and stand for its store
 pub record IsImageWithin (callers blocks instrs : ℕ) (i : Image) : Type 0 where
   pub row : IsRowWithin callers blocks instrs i.row
   pub settled : recovered_row instrs i.row ≡ i.row
   pub seq : i.seq ≡ current_seq (slice_index i.row.words)
   pub lawful : IsLawfulRow instrs i.row i.store
 
--- an image as reading a text answers it
+-- an image that can be read from a text: it has no more callers and blocks than a plan may have
 abbrev pub IsImage : (instrs : ℕ) → Image → Type 0
 IsImage instrs i = IsImageWithin MOST_PLAN_CALLERS MOST_PLAN_BLOCKS instrs i
 
--- an image of the words of any table
+-- an image of any table: it has no more callers and blocks than a table may have
 abbrev pub IsTableImage : (instrs : ℕ) → Image → Type 0
 IsTableImage instrs i = IsImageWithin MOST_CALLERS MOST_BLOCKS instrs i
 
--- what recovery finds in this row is the image
+-- the image is what recovery finds in the row `raw`
 pub record IsRestored (instrs : ℕ) (raw : DurableRow) (i : Image) : Type 0 where
   pub row : i.row ≡ recovered_row instrs raw
   pub seq : i.seq ≡ current_seq (slice_index raw.words)
   pub replayed : i.replayed ≡ is_open raw.callers (slice_index raw.words)
   pub lawful : IsLawfulRow instrs i.row i.store
 
--- the number in a data cell of an image
+-- the number that a data cell of an image holds
 abbrev pub image_number : Image → (cell : ℕ) → ℕ
 image_number i = memory_of (data_numbers_in MOST_INSTRS i.row)
 
--- a caller's ticket: how many of its calls the store has seen
+-- a caller's ticket in an image: the number of its last announced call that was run, or 0
 abbrev pub image_ticket : Image → (caller : ℕ) → ℕ
 image_ticket i c =
     payload_of (slice_index i.row.words (data_cell i.row.callers (ticket_cell_at MOST_INSTRS c)))
@@ -81,7 +81,7 @@ start_of_image i = record {
   finished = map (image_ticket i) (range_with_len 0 i.row.callers);
 }
 
--- the durable words that a run leaves
+-- the durable words that a run of the plan leaves
 abbrev pub durable_row : Plan → Ended → DurableRow
 durable_row p e =
     let cells = durable_cells p.callers (data_cells p.callers p.blocks) in

@@ -18,8 +18,8 @@ NoneNewer callers words n =
     (a : ℕ) → a < n
     → seq_of (slice_index words (data_cell callers a)) ≤ current_seq (slice_index words)
 
--- a caller owns the current transaction, no data cell is newer, and the data cells stand for this
--- store
+-- a caller owns the current transaction, no data cell is newer than it, and the data cells stand
+-- for this store
 pub record IsLawfulRow (instrs : ℕ) (r : DurableRow) (s : Store) : Type 0 where
   pub owned : IsOwned r
   pub none_newer : NoneNewer r.callers r.words (row_cell_count instrs r)

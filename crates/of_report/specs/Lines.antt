@@ -4,13 +4,13 @@ use Rattle.of_plan.specs.Report.{EndState as End, done, stopped, spent}
 use Rattle.of_report.specs.declared.report.EndState.{EndState}
 use Rattle.of_report.specs.declared.report.EndState.TheVariants.{Done, Stopped, Spent}
 
--- how a caller ended
+-- how a caller ended: the code's value as contracts see it
 abbrev pub end_state_value : EndState → End
 end_state_value Done = done
 end_state_value Stopped = stopped
 end_state_value Spent = spent
 
--- the one that ended so
+-- how a caller ended: the code's value for that of contracts
 abbrev pub end_state_for : End → EndState
 end_state_for done = Done
 end_state_for stopped = Stopped

@@ -9,13 +9,14 @@ use Rattle.of_report.specs.StoreText.{register_lines}
 abbrev pub sum_of_values : Store → ℕ
 sum_of_values s = sum_by (λ e. e.1) (fm.entries s.keys)
 
--- how many keys there are, and that sum
+-- two lines: how many keys a store has, and the sum of the numbers at them
 abbrev pub sum_lines : Store → List ℕ
 sum_lines s =
     (codes "keys " ++ decimal (fm.len s.keys) ++ codes "\n") ++ codes "values "
     ++ decimal (sum_of_values s) ++ codes "\n"
 
--- how many callers and entries there are, the registers that aren't 0, and the keys summed up
+-- the text of a load's report: how many callers and entries there are, the registers that aren't 0,
+-- how many keys there are, and the sum of the numbers at them
 abbrev pub load_text : Report → List ℕ
 load_text r =
     ((((codes "onefile load 1\n" ++ codes "callers " ++ decimal (length r.callers) ++ codes "\n")

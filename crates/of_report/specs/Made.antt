@@ -18,20 +18,22 @@ use Rattle.of_report.specs.Found.{HasFound, AreOwn}
 
 -- ---- the entries of one caller
 
--- this open call of a caller, or that it has none, is what recovery has found
+-- `told` is the entry of a caller's open call, to the script with this index, if recovery has found
+-- the call's ticket; otherwise it is None
 abbrev pub TellsOpenCall : RecoveredTable → (caller index : ℕ) → Option Entry → Type 0
 TellsOpenCall f c x told =
     (p : Plan) (e : Ended) (extra : List plain.Entry) → HasFound p e f
     → OpenCall p e c x (record_number p e (ticket_cell_at MOST_INSTRS c) == x + 1) extra
     → map entry_value (option_to_list told) ≡ extra
 
--- recovery has found this of a caller with this ending beyond its answers
+-- `told` is the entry that a caller with this ending has beyond its answers, for an open call that
+-- recovery has found; otherwise it is None
 abbrev pub TellsBeyondAnswers : RecoveredTable → (caller index : ℕ) → Ending → Option Entry → Type 0
 TellsBeyondAnswers f c x ending told =
     (p : Plan) (e : Ended) (extra : List plain.Entry) → HasFound p e f
     → BeyondAnswers p e c x ending extra → map entry_value (option_to_list told) ≡ extra
 
--- these are a caller's entries, of which the first is to the script with this index
+-- `told` are the entries of a caller; the first is to the script with the index `first`
 abbrev pub TellsOwnEntries : RecoveredTable → Ended → (caller first : ℕ) → List Entry → Type 0
 TellsOwnEntries f e c first told =
     (p : Plan) (s : Start) (own : List plain.Entry) → HasFound p e f → finished_of s c ≡ first
@@ -39,13 +41,13 @@ TellsOwnEntries f e c first told =
 
 -- ---- those of all callers, if `done` says how many scripts of each are done at the start
 
--- these are the entries, one caller after the other
+-- `told` are the entries of all callers, one caller after the other
 abbrev pub TellsAllEntries : Plan → (done : List ℕ) → Ended → List Entry → Type 0
 TellsAllEntries p done e told =
     (s : Start) (own : ℕ → List plain.Entry) → s.finished ≡ done → AreOwn p s e own
     → map entry_value told ≡ flat_map own (range_with_len 0 p.callers)
 
--- these are the lines
+-- `told` are the lines of all callers, in order
 abbrev pub TellsAllLines : Plan → (done : List ℕ) → Ended → List plain.Line → Type 0
 TellsAllLines p done e told =
     (s : Start) (own : ℕ → List plain.Entry) → s.finished ≡ done → AreOwn p s e own
@@ -53,21 +55,21 @@ TellsAllLines p done e told =
 
 -- ---- the report
 
--- what the run has left is a lawful record from the start
+-- what the run has left is a lawful record of some report from the start
 abbrev pub HasRecord : Plan → Start → Ended → Type 0
 HasRecord p s e = (r : plain.Report) × IsLawfulRecord p s e r
 
--- the report is the one that the record is
+-- `told` is the report of the record that the run has left, if this is lawful from the start
 abbrev pub TellsRecord : Plan → Start → Ended → Report → Type 0
 TellsRecord p s e told = (r : plain.Report) → IsLawfulRecord p s e r → report_value told ≡ r
 
--- what the run has left is a lawful record from a start at which `done` scripts of the callers are
--- done
+-- what the run has left is a lawful record from some start at which each caller has done as many
+-- scripts as `done` says
 abbrev pub HasRecordBehind : Plan → (done : List ℕ) → Ended → Type 0
 HasRecordBehind p done e =
     (s : Start) × (r : plain.Report) × (s.finished ≡ done) × IsLawfulRecord p s e r
 
--- the report is the one that the record is from every such start
+-- `told` is the report of the record from every such start
 abbrev pub TellsRecordBehind : Plan → (done : List ℕ) → Ended → Report → Type 0
 TellsRecordBehind p done e told =
     (s : Start) (r : plain.Report) → s.finished ≡ done → IsLawfulRecord p s e r

@@ -9,7 +9,7 @@ ghost use Rattle.of_report.specs.Found.{number_in};
 use of_cell::payload_of;
 use of_mem::{MOST_INSTRS, Plot, RawReply};
 
-/// The number of a data cell.
+/// The number that a data cell holds, given the words of all data cells.
 fn number(words: &[u64], cell: u32) -> u32
     requires { cell < length words.now }
     ensures { result ≡ number_in words.now cell }
@@ -17,7 +17,7 @@ fn number(words: &[u64], cell: u32) -> u32
     payload_of(words[cell as usize])
 }
 
-/// The reply in a caller's own cells.
+/// The reply that a caller's own data cells hold.
 pub(crate) fn reply(plot: &Plot, words: &[u64], caller: u32) -> RawReply
     requires instrs { plot.now.instrs ≡ MOST_INSTRS }
     requires size { length words.now ≡ data_cell_count plot.now }

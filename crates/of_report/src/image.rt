@@ -14,17 +14,18 @@ use of_store::Store;
 use std::alloc::{AllocError, Global};
 use std::marker::Model;
 
-/// What recovery finds in the durable words of a table. A call that takes an image asks that it is
-/// as reading a text answers one: `IsImage MOST_INSTRS`.
+/// What recovery finds in the durable words of a table. Calls that take an image require that it is
+/// one that a text can have: `IsImage MOST_INSTRS`.
 #[derive(Drop)]
 pub struct Image {
-    /// How many callers there are: in a text's image 1 to `of_plan::MOST_PLAN_CALLERS`.
+    /// How many callers the table has: 1 to `of_plan::MOST_PLAN_CALLERS`, if the image is a text's.
     pub callers: u32,
-    /// How many blocks there are: in a text's image at most `of_plan::MOST_PLAN_BLOCKS`.
+    /// How many blocks the table has: at most `of_plan::MOST_PLAN_BLOCKS`, if the image is a
+    /// text's.
     pub blocks: u32,
-    /// The recovered durable words.
+    /// The durable words after recovery.
     pub durable: Vec<u64>,
-    /// What recovery found.
+    /// The sequence that recovery found, and whether it found an open transaction.
     pub recovered: Recovered,
     /// The store for which the data cells stand.
     pub store: Store,
@@ -48,7 +49,7 @@ impl Model for Image {
 impl Image {
     ghost use Rattle.of_report.specs.Image.{IsImage, image_number, image_ticket, start_of_image};
 
-    /// Where its data cells stand.
+    /// Where the data cells of the image's table are.
     pub fn plot(&self) -> Plot
         requires { IsImage MOST_INSTRS self.now }
         ensures callers { result.callers ≡ self.now.row.callers }
@@ -62,7 +63,7 @@ impl Image {
         }
     }
 
-    /// The words of its data cells.
+    /// The words of the image's data cells.
     fn data_words(&self) -> &[u64]
         requires { IsImage MOST_INSTRS self.now }
         ensures { let first = data_cell self.now.row.callers 0 in result.now ≡ slice_range
@@ -74,7 +75,8 @@ impl Image {
         &self.durable[first..first + cells]
     }
 
-    /// The ticket of a caller: how many of its calls the store has seen.
+    /// A caller's ticket: the number of its last announced call that was run, or 0 if there is
+    /// none.
     pub fn ticket(&self, caller: u32) -> u32
         requires image { IsImage MOST_INSTRS self.now }
         requires caller { caller < self.now.row.callers }
@@ -84,7 +86,7 @@ impl Image {
         payload_of(self.durable[cell as usize])
     }
 
-    /// The tickets, caller by caller. The error is out of memory.
+    /// The ticket of each caller, from caller 0 on. An error means out of memory.
     pub fn tickets(&self, alloc: Global) -> Result<Vec<u32>, AllocError>
         requires { IsImage MOST_INSTRS self.now }
         ensures { IfOk result (λ tickets.
@@ -97,7 +99,7 @@ impl Image {
         Ok(tickets)
     }
 
-    /// The reply in a caller's own cells.
+    /// The reply that a caller's own data cells hold.
     pub fn reply(&self, caller: u32) -> RawReply
         requires image { IsImage MOST_INSTRS self.now }
         requires caller { caller < self.now.row.callers }

@@ -35,8 +35,8 @@ fn put_sums(out: &mut String, store: &Store) -> Result<(), AllocError>
 }
 
 impl Report {
-    /// The text of the report as one of a load: how many callers and calls there are, the registers
-    /// that are not 0, how many keys there are, and the sum of their numbers.
+    /// The short text of a load's report: how many callers and calls there are, the registers that
+    /// are not 0, how many keys there are, and the sum of the numbers at them.
     pub fn load_print(&self, alloc: Global) -> Result<Vec<u8>, AllocError>
         ensures { IfOk result (λ text. text.items ≡ load_text (report_value self.now)) }
     {

@@ -23,7 +23,7 @@ use std::alloc::{AllocError, Global};
 /// What recovery finds in a table.
 #[derive(Drop)]
 pub(crate) struct RecoveredTable {
-    /// Where the data cells stand.
+    /// Where the data cells of the table are.
     pub plot: Plot,
     /// The sequence of the current transaction.
     pub seq: u32,

@@ -16,7 +16,7 @@ use Rattle.of_core.specs.Machine.{CallState, IsOpen, no_machine, begin_call}
 use Rattle.of_core.specs.Steps.{want, take_word, word_of, word_left, words_after, word_found, IsFoundBy}
 use Rattle.of_core.specs.TableMoment.{Moment, TableStart, step_batches, step_reads, one_batch, step_batches_at, after_step}
 use Rattle.of_core.specs.Invariant.{MeetsInvariant}
-use Rattle.of_core.specs.Events.{Event, Begins, Turns, Loads, Evicts, Raises, machine_in, after_event, after_events, IsSchedule, MayHappen, turn_count, turns_in_event}
+use Rattle.of_core.specs.Events.{Event, Begins, Turns, Loads, Evicts, Raises, Revives, machine_in, after_event, after_events, IsSchedule, MayHappen, turn_count, turns_in_event, ReplacesNone, AllReplaceNone}
 use Rattle.of_core.specs.Calls.{if_so, operations_begun, outcomes, operation_begun, outcome_of_event, outcome_of_step, TurnsFindOpenCalls}
 use Rattle.of_core.specs.Laws.{IsRaise, GoesBlindly}
 use Rattle.of_core.proofs.Parts.{run_append, operations_append, outcomes_append}
@@ -166,6 +166,7 @@ begins_same (Turns j) i = refl
 begins_same (Loads c) i = refl
 begins_same (Evicts k) i = refl
 begins_same (Raises c) i = refl
+begins_same (Revives j made) i = refl
 
 turns_same : (e : Event) (i : ℕ) → turn_count i (whole_of e) ≡ turns_in_event i e
 turns_same (Begins j op) i = refl
@@ -173,6 +174,7 @@ turns_same (Turns j) i = omega arith
 turns_same (Loads c) i = refl
 turns_same (Evicts k) i = refl
 turns_same (Raises c) i = refl
+turns_same (Revives j made) i = refl
 
 -- the calls that are begun, and the turns, are the same
 pub operations_at_once : (es : List Event) (i : ℕ) → operations_begun (at_once es) i ≡ operations_begun es i
@@ -259,15 +261,16 @@ module _ (S : Setup) (L : List ℕ → Type 0) (laws : RowLaws S L) (B : TableSt
         busy = λ j b. (λ e. subst (λ (m : CallState). IsOpen m.place) (machine_same j) (b.0 e), tt);
       }
 
-    follows : (e : Event) → MayHappen S w e → Follows S w v (e ∷ []) (whole_of e)
-    follows (Begins i op) may = record {
+    follows : (e : Event) → ReplacesNone e → MayHappen S w e → Follows S w v (e ∷ []) (whole_of e)
+    follows (Revives i made) kept may = absurd kept
+    follows (Begins i op) kept may = record {
       schedule = (subst (λ (m : CallState). (i < S.callers) × (m.place ≡ Idle) × (1 ≤ length op) × (length op ≤ S.instrs) × (m.made + 1 < PAYLOADS)) (machine_same i) may, tt);
       alike = record { words = same.words; machines = λ k. set (same.machines k) i (begin_call S (machine_same i k) op); batches = same.batches; reads = same.reads };
       ended = λ j. refl;
       busy = λ j b. (tt, tt);
     }
-    follows (Turns i) may = turn_follows i may
-    follows (Loads c) may =
+    follows (Turns i) kept may = turn_follows i may
+    follows (Loads c) kept may =
         let x : ℕ = get_or w.words c 0 in
         let found : get_or v.words c 0 ≡ x = cell_same c may in
         record {
@@ -282,7 +285,7 @@ module _ (S : Setup) (L : List ℕ → Type 0) (laws : RowLaws S L) (B : TableSt
           ended = λ j. refl;
           busy = λ j b. (tt, tt);
         }
-    follows (Evicts k) may =
+    follows (Evicts k) kept may =
         let e : ℕ × ℕ = get_or w.loaded k (0, 0) in
         record {
           schedule = tt;
@@ -295,7 +298,7 @@ module _ (S : Setup) (L : List ℕ → Type 0) (laws : RowLaws S L) (B : TableSt
           ended = λ j. refl;
           busy = λ j b. tt;
         }
-    follows (Raises c) may =
+    follows (Raises c) kept may =
         let x : ℕ = get_or w.words c 0 in
         record {
           schedule = (may, tt);
@@ -313,6 +316,7 @@ module _ (S : Setup) (L : List ℕ → Type 0) (laws : RowLaws S L) (B : TableSt
     -- cells alone are loaded, and the table keeps its words
     still_room : (e : Event) → MayHappen S w e → HasRoom S (after_event S w e)
     still_room (Begins i op) may = record { long = room.long; inside = room.inside }
+    still_room (Revives i made) may = record { long = room.long; inside = room.inside }
     still_room (Turns i) may =
         let o : Op = want S (machine_in w i) in
         record { long = omega (arith, room.long, length-set w.words (word_of o) (word_left o (get_or w.words (word_of o) 0))); inside = room.inside }
@@ -322,12 +326,12 @@ module _ (S : Setup) (L : List ℕ → Type 0) (laws : RowLaws S L) (B : TableSt
         record { long = omega (arith, room.long, length-set w.words (durable_at S e.0) (max (get_or w.words (durable_at S e.0) 0) e.1)); inside = room.inside }
     still_room (Raises c) may = record { long = omega (arith, room.long, length-set w.words (durable_at S c) (max (get_or w.words (durable_at S c) 0) (get_or w.words c 0))); inside = room.inside }
 
-  all_follow : (w v : Moment) → MeetsInvariant S L B w → HasRoom S w → Alike S w v → (es : List Event) → IsSchedule S w es → Follows S w v es (at_once es)
-  all_follow w v good room same [] s = record { schedule = tt; alike = same; ended = λ i. refl; busy = λ i b. tt }
-  all_follow w v good room same (e ∷ es) s =
-      let f = follows w v good room same e s.0 in
+  all_follow : (w v : Moment) → MeetsInvariant S L B w → HasRoom S w → Alike S w v → (es : List Event) → AllReplaceNone es → IsSchedule S w es → Follows S w v es (at_once es)
+  all_follow w v good room same [] kept s = record { schedule = tt; alike = same; ended = λ i. refl; busy = λ i b. tt }
+  all_follow w v good room same (e ∷ es) kept s =
+      let f = follows w v good room same e kept.0 s.0 in
       let v2 : Moment = after_events S v (whole_of e) in
-      let g = all_follow (after_event S w e) v2 (laws.runs B w good (e ∷ []) (s.0, tt)) (still_room w v good room same e s.0) f.alike es s.1 in
+      let g = all_follow (after_event S w e) v2 (laws.runs B w good (e ∷ []) (s.0, tt)) (still_room w v good room same e s.0) f.alike es kept.1 s.1 in
       record {
         schedule = schedule_append S v (whole_of e) (at_once es) f.schedule g.schedule;
         alike = subst (Alike S (after_events S (after_event S w e) es)) (sym (run_append S v (whole_of e) (at_once es))) g.alike;
@@ -336,11 +340,11 @@ module _ (S : Setup) (L : List ℕ → Type 0) (laws : RowLaws S L) (B : TableSt
       }
 
   -- from a row's start on
-  pub at_once_follows : MayStart S L B → (es : List Event) → IsSchedule S (first_of S B) es → Follows S (first_of S B) (first_of S B) es (at_once es)
-  at_once_follows may es s =
+  pub at_once_follows : MayStart S L B → (es : List Event) → AllReplaceNone es → IsSchedule S (first_of S B) es → Follows S (first_of S B) (first_of S B) es (at_once es)
+  at_once_follows may es kept s =
       let w : Moment = first_of S B in
       let long : length w.words ≡ words_before_members S + 1 = (laws.words B may.start (words_before_members S + 1) (omega arith)).long in
-      all_follow w w (laws.start B may (words_before_members S + 1) (omega arith)).0 record { long = omega (arith, long); inside = tt } record { words = refl; machines = refl; batches = refl; reads = refl } es s
+      all_follow w w (laws.start B may (words_before_members S + 1) (omega arith)).0 record { long = omega (arith, long); inside = tt } record { words = refl; machines = refl; batches = refl; reads = refl } es kept s
 
 -- steps on a row, with evictions made at once, are as in the schedule of a plan
 pub prompt_at_once : (es : List Event) → AreSteps es → IsPrompt (at_once es)
@@ -354,10 +358,12 @@ prompt_at_once (Begins i op ∷ es) a = (next es a.0, prompt_at_once es a.1)
     next (Loads c ∷ es) t = absurd t
     next (Evicts k ∷ es) t = absurd t
     next (Raises c ∷ es) t = absurd t
+    next (Revives j made ∷ es) t = absurd t
 prompt_at_once (Turns i ∷ es) a = prompt_at_once es a
 prompt_at_once (Loads c ∷ es) a = prompt_at_once es a
 prompt_at_once (Evicts k ∷ es) a = prompt_at_once es a
 prompt_at_once (Raises c ∷ es) a = absurd a
+prompt_at_once (Revives i made ∷ es) a = absurd a
 
 -- and evict the cells that were loaded
 pub evicts_loaded : (S : Setup) (w : Moment) (es : List Event) → AreSteps es → map (λ (e : ℕ × ℕ). e.0) (after_events S w es).loaded ≡ map (λ (e : ℕ × ℕ). e.0) w.loaded ++ evictions (at_once es)
@@ -370,3 +376,4 @@ evicts_loaded S w (Loads c ∷ es) a =
     ∙ append_assoc (map (λ (e : ℕ × ℕ). e.0) w.loaded) (c ∷ []) (evictions (at_once es)))
 evicts_loaded S w (Evicts k ∷ es) a = evicts_loaded S (after_event S w (Evicts k)) es a
 evicts_loaded S w (Raises c ∷ es) a = absurd a
+evicts_loaded S w (Revives i made ∷ es) a = absurd a

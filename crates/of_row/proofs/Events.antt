@@ -7,13 +7,13 @@ use Rattle.of_core.specs.Table.{Setup, words_before_members}
 use Rattle.of_core.specs.Machine.{CallState, no_machine, begin_call}
 use Rattle.of_core.specs.Steps.{take_word, word_found}
 use Rattle.of_core.specs.TableMoment.{Moment, TableStart}
-use Rattle.of_core.specs.Events.{Event, Begins, Turns, Loads, Evicts, Raises, machine_in, after_event, after_events, IsSchedule, turn_count, one_if}
+use Rattle.of_core.specs.Events.{Event, Begins, Turns, Loads, Evicts, Raises, Revives, machine_in, after_event, after_events, IsSchedule, turn_count, one_if, AllReplaceNone}
 use Rattle.of_core.specs.Calls.{if_so, operations_begun, outcomes, outcome_of_step, TurnsFindOpenCalls}
 use Rattle.of_core.specs.Laws.{FirstMachinesAreIdle}
 use Rattle.of_core.proofs.Parts.{run_append, operations_append, outcomes_append}
 use Rattle.of_row.specs.Views.{KnownCaller}
 use Rattle.of_row.specs.Turned.{new_known_caller}
-use Rattle.of_row.specs.Trail.{first_of, moment, TurnIsNext, AreSteps, IsRunBy, HasDoneNothing}
+use Rattle.of_row.specs.Trail.{first_of, moment, TurnIsNext, IsPrompt, AreSteps, IsRunBy, HasDoneNothing}
 
 -- ---- lists of events in two parts
 
@@ -36,6 +36,7 @@ next_append i (Turns j ∷ es) ds t = t
 next_append i (Loads c ∷ es) ds t = absurd t
 next_append i (Evicts k ∷ es) ds t = absurd t
 next_append i (Raises c ∷ es) ds t = absurd t
+next_append i (Revives j made ∷ es) ds t = absurd t
 
 pub steps_append : (es ds : List Event) → AreSteps es → AreSteps ds → AreSteps (es ++ ds)
 steps_append [] ds a b = b
@@ -44,6 +45,38 @@ steps_append (Turns i ∷ es) ds a b = steps_append es ds a b
 steps_append (Loads c ∷ es) ds a b = steps_append es ds a b
 steps_append (Evicts k ∷ es) ds a b = steps_append es ds a b
 steps_append (Raises c ∷ es) ds a b = absurd a
+steps_append (Revives i made ∷ es) ds a b = absurd a
+
+-- ---- events that replace no machine
+
+-- steps on a row replace none
+pub steps_replace_none : (es : List Event) → AreSteps es → AllReplaceNone es
+steps_replace_none [] a = tt
+steps_replace_none (Begins i op ∷ es) a = (tt, steps_replace_none es a.1)
+steps_replace_none (Turns i ∷ es) a = (tt, steps_replace_none es a)
+steps_replace_none (Loads c ∷ es) a = (tt, steps_replace_none es a)
+steps_replace_none (Evicts k ∷ es) a = (tt, steps_replace_none es a)
+steps_replace_none (Raises c ∷ es) a = absurd a
+steps_replace_none (Revives i made ∷ es) a = absurd a
+
+-- nor do events as in the schedule of a plan
+pub prompt_replace_none : (es : List Event) → IsPrompt es → AllReplaceNone es
+prompt_replace_none [] a = tt
+prompt_replace_none (Begins i op ∷ es) a = (tt, prompt_replace_none es a.1)
+prompt_replace_none (Turns i ∷ es) a = (tt, prompt_replace_none es a)
+prompt_replace_none (Loads c ∷ es) a = absurd a
+prompt_replace_none (Evicts k ∷ es) a = absurd a
+prompt_replace_none (Raises c ∷ es) a = (tt, prompt_replace_none es a)
+prompt_replace_none (Revives i made ∷ es) a = absurd a
+
+-- nor do the first of these, or these and others
+pub first_replace_none : (es ds : List Event) → AllReplaceNone (es ++ ds) → AllReplaceNone es
+first_replace_none [] ds a = tt
+first_replace_none (e ∷ es) ds a = (a.0, first_replace_none es ds a.1)
+
+pub both_replace_none : (es ds : List Event) → AllReplaceNone es → AllReplaceNone ds → AllReplaceNone (es ++ ds)
+both_replace_none [] ds a b = b
+both_replace_none (e ∷ es) ds a b = (a.0, both_replace_none es ds a.1 b)
 
 -- ---- a caller that has done nothing
 
@@ -67,41 +100,44 @@ module _ (S : Setup) (n : ℕ) where
   apart : (j : ℕ) → (n == j) ≡ false → n ≡ j → ⊥
   apart j b e = let t : true ≡ false = sym (ap (λ (k : ℕ). n == k) (sym e) ∙ eq-eqb n n refl) ∙ b in cc
 
-  pub no_outcomes : (w : Moment) (es : List Event) → turn_count n es ≡ 0 → outcomes S w es n ≡ []
-  no_outcomes w [] z = refl
-  no_outcomes w (Begins j op ∷ es) z = no_outcomes (after_event S w (Begins j op)) es (omega (arith, z))
-  no_outcomes w (Turns j ∷ es) z =
+  pub no_outcomes : (w : Moment) (es : List Event) → AllReplaceNone es → turn_count n es ≡ 0 → outcomes S w es n ≡ []
+  no_outcomes w [] stay z = refl
+  no_outcomes w (Begins j op ∷ es) stay z = no_outcomes (after_event S w (Begins j op)) es stay.1 (omega (arith, z))
+  no_outcomes w (Turns j ∷ es) stay z =
       let t = not_turn j (turn_count n es) z in
-      (λ k. if_so (t.0 k) (outcome_of_step (machine_in w j) (machine_in (after_event S w (Turns j)) j)) ++ outcomes S (after_event S w (Turns j)) es n) ∙ no_outcomes (after_event S w (Turns j)) es t.1
-  no_outcomes w (Loads c ∷ es) z = no_outcomes (after_event S w (Loads c)) es (omega (arith, z))
-  no_outcomes w (Evicts c ∷ es) z = no_outcomes (after_event S w (Evicts c)) es (omega (arith, z))
-  no_outcomes w (Raises c ∷ es) z = no_outcomes (after_event S w (Raises c)) es (omega (arith, z))
+      (λ k. if_so (t.0 k) (outcome_of_step (machine_in w j) (machine_in (after_event S w (Turns j)) j)) ++ outcomes S (after_event S w (Turns j)) es n) ∙ no_outcomes (after_event S w (Turns j)) es stay.1 t.1
+  no_outcomes w (Loads c ∷ es) stay z = no_outcomes (after_event S w (Loads c)) es stay.1 (omega (arith, z))
+  no_outcomes w (Evicts c ∷ es) stay z = no_outcomes (after_event S w (Evicts c)) es stay.1 (omega (arith, z))
+  no_outcomes w (Raises c ∷ es) stay z = no_outcomes (after_event S w (Raises c)) es stay.1 (omega (arith, z))
+  no_outcomes w (Revives j made ∷ es) stay z = absurd stay.0
 
-  pub no_idle_turn : (w : Moment) (es : List Event) → turn_count n es ≡ 0 → TurnsFindOpenCalls S w es n
-  no_idle_turn w [] z = tt
-  no_idle_turn w (Begins j op ∷ es) z = (tt, no_idle_turn (after_event S w (Begins j op)) es (omega (arith, z)))
-  no_idle_turn w (Turns j ∷ es) z = let t = not_turn j (turn_count n es) z in (λ e. absurd (apart j t.0 e), no_idle_turn (after_event S w (Turns j)) es t.1)
-  no_idle_turn w (Loads c ∷ es) z = (tt, no_idle_turn (after_event S w (Loads c)) es (omega (arith, z)))
-  no_idle_turn w (Evicts c ∷ es) z = (tt, no_idle_turn (after_event S w (Evicts c)) es (omega (arith, z)))
-  no_idle_turn w (Raises c ∷ es) z = (tt, no_idle_turn (after_event S w (Raises c)) es (omega (arith, z)))
+  pub no_idle_turn : (w : Moment) (es : List Event) → AllReplaceNone es → turn_count n es ≡ 0 → TurnsFindOpenCalls S w es n
+  no_idle_turn w [] stay z = tt
+  no_idle_turn w (Begins j op ∷ es) stay z = (tt, no_idle_turn (after_event S w (Begins j op)) es stay.1 (omega (arith, z)))
+  no_idle_turn w (Turns j ∷ es) stay z = let t = not_turn j (turn_count n es) z in (λ e. absurd (apart j t.0 e), no_idle_turn (after_event S w (Turns j)) es stay.1 t.1)
+  no_idle_turn w (Loads c ∷ es) stay z = (tt, no_idle_turn (after_event S w (Loads c)) es stay.1 (omega (arith, z)))
+  no_idle_turn w (Evicts c ∷ es) stay z = (tt, no_idle_turn (after_event S w (Evicts c)) es stay.1 (omega (arith, z)))
+  no_idle_turn w (Raises c ∷ es) stay z = (tt, no_idle_turn (after_event S w (Raises c)) es stay.1 (omega (arith, z)))
+  no_idle_turn w (Revives j made ∷ es) stay z = absurd stay.0
 
-  pub machine_stays : (w : Moment) (es : List Event) → HasDoneNothing es n → machine_in (after_events S w es) n ≡ machine_in w n
-  machine_stays w [] h = refl
-  machine_stays w (Begins j op ∷ es) h =
+  pub machine_stays : (w : Moment) (es : List Event) → AllReplaceNone es → HasDoneNothing es n → machine_in (after_events S w es) n ≡ machine_in w n
+  machine_stays w [] stay h = refl
+  machine_stays w (Begins j op ∷ es) stay h =
       let b = not_begin j op (operations_begun es n) h.0 in
-      machine_stays (after_event S w (Begins j op)) es (b.1, omega (arith, h.1)) ∙ get_or-set_other w.machines j n (begin_call S (machine_in w j) op) no_machine (apart j b.0)
-  machine_stays w (Turns j ∷ es) h =
+      machine_stays (after_event S w (Begins j op)) es stay.1 (b.1, omega (arith, h.1)) ∙ get_or-set_other w.machines j n (begin_call S (machine_in w j) op) no_machine (apart j b.0)
+  machine_stays w (Turns j ∷ es) stay h =
       let t = not_turn j (turn_count n es) h.1 in
-      machine_stays (after_event S w (Turns j)) es (h.0, t.1) ∙ get_or-set_other w.machines j n (take_word S (machine_in w j) (word_found S w.words (machine_in w j))) no_machine (apart j t.0)
-  machine_stays w (Loads c ∷ es) h = machine_stays (after_event S w (Loads c)) es (h.0, omega (arith, h.1))
-  machine_stays w (Evicts c ∷ es) h = machine_stays (after_event S w (Evicts c)) es (h.0, omega (arith, h.1))
-  machine_stays w (Raises c ∷ es) h = machine_stays (after_event S w (Raises c)) es (h.0, omega (arith, h.1))
+      machine_stays (after_event S w (Turns j)) es stay.1 (h.0, t.1) ∙ get_or-set_other w.machines j n (take_word S (machine_in w j) (word_found S w.words (machine_in w j))) no_machine (apart j t.0)
+  machine_stays w (Loads c ∷ es) stay h = machine_stays (after_event S w (Loads c)) es stay.1 (h.0, omega (arith, h.1))
+  machine_stays w (Evicts c ∷ es) stay h = machine_stays (after_event S w (Evicts c)) es stay.1 (h.0, omega (arith, h.1))
+  machine_stays w (Raises c ∷ es) stay h = machine_stays (after_event S w (Raises c)) es stay.1 (h.0, omega (arith, h.1))
+  machine_stays w (Revives j made ∷ es) stay h = absurd stay.0
 
 -- so a newcomer is what they leave of its number
-pub new_runs : (S : Setup) (B : TableStart) → FirstMachinesAreIdle S → (es : List Event) (n since : ℕ) → n < S.callers → HasDoneNothing es n → IsRunBy S B es (new_known_caller S B n since)
-new_runs S B first es n since below h = record {
-  told = record { begun = sym h.0; ended = sym (no_outcomes S n (first_of S B) es h.1); turned = sym h.1; busy = no_idle_turn S n (first_of S B) es h.1 };
-  machine_is = machine_stays S n (first_of S B) es h ∙ (first B (words_before_members S + 1)).1 n no_machine below;
+pub new_runs : (S : Setup) (B : TableStart) → FirstMachinesAreIdle S → (es : List Event) → AllReplaceNone es → (n since : ℕ) → n < S.callers → HasDoneNothing es n → IsRunBy S B es (new_known_caller S B n since)
+new_runs S B first es same n since below h = record {
+  told = record { begun = sym h.0; ended = sym (no_outcomes S n (first_of S B) es same h.1); turned = sym h.1; busy = no_idle_turn S n (first_of S B) es same h.1 };
+  machine_is = machine_stays S n (first_of S B) es same h ∙ (first B (words_before_members S + 1)).1 n no_machine below;
 }
 
 -- ---- the events of evictions
@@ -113,6 +149,7 @@ OfEviction (Turns i) = ⊥
 OfEviction (Loads c) = Unit {0}
 OfEviction (Evicts k) = Unit {0}
 OfEviction (Raises c) = Unit {0}
+OfEviction (Revives i made) = ⊥
 
 module _ (S : Setup) (B : TableStart) (es : List Event) (e : Event) (is : OfEviction e) where
   abbrev after : List Event
@@ -124,6 +161,7 @@ module _ (S : Setup) (B : TableStart) (es : List Event) (e : Event) (is : OfEvic
   same_batches w (Raises c) o = refl
   same_batches w (Begins i op) o = absurd o
   same_batches w (Turns i) o = absurd o
+  same_batches w (Revives i made) o = absurd o
 
   same_machines : (w : Moment) (e : Event) → OfEviction e → (after_event S w e).machines ≡ w.machines
   same_machines w (Loads c) o = refl
@@ -131,6 +169,7 @@ module _ (S : Setup) (B : TableStart) (es : List Event) (e : Event) (is : OfEvic
   same_machines w (Raises c) o = refl
   same_machines w (Begins i op) o = absurd o
   same_machines w (Turns i) o = absurd o
+  same_machines w (Revives i made) o = absurd o
 
   pub eviction_batches : (moment S B after).batches ≡ (moment S B es).batches
   eviction_batches = ap (λ (w : Moment). w.batches) (run_append S (first_of S B) es (e ∷ [])) ∙ same_batches (moment S B es) e is
@@ -141,6 +180,7 @@ module _ (S : Setup) (B : TableStart) (es : List Event) (e : Event) (is : OfEvic
   begins (Raises c) j o = refl
   begins (Begins i op) j o = absurd o
   begins (Turns i) j o = absurd o
+  begins (Revives i made) j o = absurd o
 
   ends : (w : Moment) (e : Event) (j : ℕ) → OfEviction e → outcomes S w (e ∷ []) j ≡ []
   ends w (Loads c) j o = refl
@@ -148,6 +188,7 @@ module _ (S : Setup) (B : TableStart) (es : List Event) (e : Event) (is : OfEvic
   ends w (Raises c) j o = refl
   ends w (Begins i op) j o = absurd o
   ends w (Turns i) j o = absurd o
+  ends w (Revives i made) j o = absurd o
 
   turned : (e : Event) (j : ℕ) → OfEviction e → turn_count j (e ∷ []) ≡ 0
   turned (Loads c) j o = refl
@@ -155,6 +196,7 @@ module _ (S : Setup) (B : TableStart) (es : List Event) (e : Event) (is : OfEvic
   turned (Raises c) j o = refl
   turned (Begins i op) j o = absurd o
   turned (Turns i) j o = absurd o
+  turned (Revives i made) j o = absurd o
 
   busy : (w : Moment) (e : Event) (j : ℕ) → OfEviction e → TurnsFindOpenCalls S w (e ∷ []) j
   busy w (Loads c) j o = (tt, tt)
@@ -162,6 +204,7 @@ module _ (S : Setup) (B : TableStart) (es : List Event) (e : Event) (is : OfEvic
   busy w (Raises c) j o = (tt, tt)
   busy w (Begins i op) j o = absurd o
   busy w (Turns i) j o = absurd o
+  busy w (Revives i made) j o = absurd o
 
   begun_still : (j : ℕ) → operations_begun after j ≡ operations_begun es j
   begun_still j = operations_append es (e ∷ []) j ∙ (ap (λ (l : List (List ℕ)). operations_begun es j ++ l) (begins e j is) ∙ append-nil (operations_begun es j))

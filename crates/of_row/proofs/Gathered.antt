@@ -12,7 +12,7 @@ use Rattle.atomic_table.specs.Table.{State, Me, keeps, Allows}
 use Rattle.of_mem.specs.Meaning.{Meaning}
 use Rattle.of_core.specs.Table.{Setup, words_before_members, durable_at}
 use Rattle.of_core.specs.TableMoment.{Moment, TableStart}
-use Rattle.of_core.specs.Events.{Event, Begins, Turns, Loads, Evicts, Raises, after_event, after_events, IsSchedule, turn_count, one_if}
+use Rattle.of_core.specs.Events.{Event, Begins, Turns, Loads, Evicts, Raises, Revives, after_event, after_events, IsSchedule, turn_count, one_if}
 use Rattle.of_core.proofs.Parts.{run_append, second_part}
 use Rattle.of_row.specs.declared.view.RowKey.{RowKey}
 use Rattle.of_row.specs.Views.{KnownCaller, View, KnowsStill}
@@ -40,6 +40,7 @@ loaded_more S w (Turns i ∷ es) = loaded_more S (after_event S w (Turns i)) es
 loaded_more S w (Loads c ∷ es) = omega (arith, loaded_more S (after_event S w (Loads c)) es, length-append w.loaded ((c, get_or w.words c 0) ∷ []))
 loaded_more S w (Evicts k ∷ es) = loaded_more S (after_event S w (Evicts k)) es
 loaded_more S w (Raises c ∷ es) = loaded_more S (after_event S w (Raises c)) es
+loaded_more S w (Revives i made ∷ es) = loaded_more S (after_event S w (Revives i made)) es
 
 each_at : {A : Type 0} (P : A → Type 0) (xs : List A) (k : ℕ) (d : A) → k < length xs → Each P xs → P (get_or xs k d)
 each_at P [] k d l all = absurd (omega (arith, l))
@@ -57,6 +58,7 @@ next_counted i (Turns j ∷ es) t z = turn_counted i es (subst (λ (k : ℕ). tu
 next_counted i (Loads c ∷ es) t z = t
 next_counted i (Evicts k ∷ es) t z = t
 next_counted i (Raises c ∷ es) t z = t
+next_counted i (Revives j made ∷ es) t z = t
 
 -- Nobody makes a turn, nothing is loaded, and all that was loaded is raised: the words stay.
 words_stay : (S : Setup) (w : Moment) (es : List Event) → IsSchedule S w es → AreSteps es → ((i : ℕ) → i < S.callers → turn_count i es ≡ 0) → length (after_events S w es).loaded ≤ length w.loaded → Each (IsRaised S w.words) w.loaded
@@ -66,6 +68,7 @@ words_stay S w (Begins i op ∷ es) may steps none few up = absurd (next_counted
 words_stay S w (Turns i ∷ es) may steps none few up = absurd (turn_counted i es (none i may.0))
 words_stay S w (Loads c ∷ es) may steps none few up = absurd (omega (arith, few, loaded_more S (after_event S w (Loads c)) es, length-append w.loaded ((c, get_or w.words c 0) ∷ [])))
 words_stay S w (Raises c ∷ es) may steps none few up = absurd steps
+words_stay S w (Revives i made ∷ es) may steps none few up = absurd steps
 words_stay S w (Evicts k ∷ es) may steps none few up =
     let e : ℕ × ℕ = get_or w.loaded k (0, 0) in
     let same : after_event S w (Evicts k) ≡ w = λ i. record w { words = raised_already w.words (durable_at S e.0) e.1 (each_at (IsRaised S w.words) w.loaded k (0, 0) may.0 up).1 i } in
@@ -79,6 +82,7 @@ steps_rest (Turns i ∷ es) ds a = steps_rest es ds a
 steps_rest (Loads c ∷ es) ds a = steps_rest es ds a
 steps_rest (Evicts k ∷ es) ds a = steps_rest es ds a
 steps_rest (Raises c ∷ es) ds a = absurd a
+steps_rest (Revives i made ∷ es) ds a = absurd a
 
 -- events that both tell of a caller have as many turns of it
 turns_alike : (S : Setup) (B : TableStart) (es ds : List Event) (n : ℕ) (xs : List KnownCaller) → IsCallerKept n xs → Each (IsRunBy S B es) xs → Each (IsRunBy S B ds) xs → turn_count n es ≡ turn_count n ds

@@ -5,7 +5,7 @@ use Rattle.std.proofs.lemmas.Bool.{cases_lt}
 use Rattle.std.proofs.lemmas.List.{length-map, append-nil}
 use mathlib.Core.List.{IsPrefix}
 use Rattle.of_core.specs.declared.place.Outcome.{Outcome}
-use Rattle.of_core.specs.declared.place.Outcome.TheVariants.{Answered, Spent}
+use Rattle.of_core.specs.declared.place.Outcome.TheVariants.{Answered, Spent, Lost}
 use Rattle.of_core.specs.Table.{Setup}
 use Rattle.of_core.specs.Machine.{Call, no_call}
 use Rattle.of_cell.specs.Words.{payload_of}
@@ -49,6 +49,7 @@ module _ (S : Setup) (B : TableStart) (cs : List SeenBatch) (bs : List Batch) (x
           go (inr a) (inr b) = omega (arith, a, b)
   stands i ticket op (Answered n false raw steps) h = tt
   stands i ticket op (Spent n) h = tt
+  stands i ticket op (Lost n) h = tt
 
   pub own_once : HasOwnOnce S B cs x
   own_once = record {

@@ -16,6 +16,7 @@ use Rattle.of_row.specs.RowLaws.{RowLaws}
 use Rattle.of_row.specs.Trail.{first_of, moment, at_once, IsRunBy}
 use Rattle.of_row.specs.Runs.{HasRun}
 use Rattle.of_row.proofs.AtOnce.{Follows, lifted_done, at_once_follows, operations_at_once, turns_at_once, prompt_at_once, evicts_loaded}
+use Rattle.of_row.proofs.Events.{steps_replace_none}
 use Rattle.of_row.proofs.Fronts.{each_map}
 use Rattle.of_row.proofs.RowLaws.{word_at, room_of}
 use Rattle.of_row.proofs.Wholes.{sees_whole, evictions_raised}
@@ -49,7 +50,7 @@ runs_are_schedules S L laws B ws v m live first none all = (
     fits = m.rule.each m.seat v m.view live
 
     same : Follows S (first_of S B) (first_of S B) m.rule.events (at_once m.rule.events)
-    same = at_once_follows S L laws B m.rule.from m.rule.events m.rule.schedule
+    same = at_once_follows S L laws B m.rule.from m.rule.events (steps_replace_none m.rule.events m.rule.steps) m.rule.schedule
 
     words : (c : ℕ) → c < words_before_members S → get_or ws c 0 ≡ get_or (moment S B m.rule.events).words c 0
     words c low = ap (λ (z : List ℕ). get_or z c 0) (sym m.words) ∙ word_at S L B m.state m.rule c low

@@ -7,7 +7,7 @@ use Rattle.of_core.specs.Table.{Setup, cell_count, words_before_members, durable
 use Rattle.of_core.specs.TableMoment.{Moment, TableStart}
 use Rattle.of_core.specs.WordsMatch.{MayStart}
 use Rattle.of_core.specs.Invariant.{MeetsInvariant}
-use Rattle.of_core.specs.Events.{Event, Loads, Evicts, after_event, after_raise, after_events, one_if, IsSchedule}
+use Rattle.of_core.specs.Events.{Event, Loads, Evicts, after_event, after_raise, after_events, one_if, IsSchedule, AllReplaceNone}
 use Rattle.of_core.specs.Raised.{goes_round, lower_changes, is_pending, pending_among, EvictionsAreShort, RaisesUndisturbed, EvictionsUndisturbed}
 use Rattle.of_core.specs.Laws.{LoadsMayBeRaised, StartsMeetInvariant, SchedulesKeepInvariant}
 use Rattle.of_core.specs.Grounds.{GoodGrounds}
@@ -15,7 +15,7 @@ use Rattle.of_core.proofs.Parts.{run_append, first_part, second_part}
 use Rattle.of_core.proofs.ShortRaises.{stands, not_pending}
 use Rattle.of_row.specs.Trail.{first_of, moment}
 use Rattle.of_row.specs.ShortRaises.{moment_at, durable_after, IsShort, HasShortRaises}
-use Rattle.of_row.proofs.Events.{schedule_append}
+use Rattle.of_row.proofs.Events.{schedule_append, first_replace_none, both_replace_none}
 
 -- ---- events in two parts
 
@@ -97,7 +97,7 @@ module _ (S : Setup) (B : TableStart) (es : List Event) where
 
 -- ---- the core's laws there
 
-module _ (S : Setup) (L : List ℕ → Type 0) (start : StartsMeetInvariant S L) (runs : SchedulesKeepInvariant S L) (grounds : GoodGrounds S L) (loads : LoadsMayBeRaised S L) (short_evictions : EvictionsAreShort S L) (undisturbed : RaisesUndisturbed S L) (loaded : EvictionsUndisturbed S L) (B : TableStart) (may : MayStart S L B) (es : List Event) (is : IsSchedule S (first_of S B) es) where
+module _ (S : Setup) (L : List ℕ → Type 0) (start : StartsMeetInvariant S L) (runs : SchedulesKeepInvariant S L) (grounds : GoodGrounds S L) (loads : LoadsMayBeRaised S L) (short_evictions : EvictionsAreShort S L) (undisturbed : RaisesUndisturbed S L) (loaded : EvictionsUndisturbed S L) (B : TableStart) (may : MayStart S L B) (es : List Event) (is : IsSchedule S (first_of S B) es) (same : AllReplaceNone es) where
   module _ (k : ℕ) where
     abbrev w : Moment
     w = moment_at S B es k
@@ -110,6 +110,9 @@ module _ (S : Setup) (L : List ℕ → Type 0) (start : StartsMeetInvariant S L)
 
     after : IsSchedule S w (drop k es)
     after = second_part S (first_of S B) (take k es) (drop k es) whole
+
+    same_before : AllReplaceNone (take k es)
+    same_before = first_replace_none (take k es) (drop k es) (subst AllReplaceNone (sym (take-append-drop k es)) same)
 
     good : MeetsInvariant S L B w
     good = runs B (first_of S B) (start B may (words_before_members S + 1) (omega arith)).0 (take k es) before
@@ -148,7 +151,7 @@ module _ (S : Setup) (L : List ℕ → Type 0) (start : StartsMeetInvariant S L)
         Undisturbed z = (n : ℕ) → n < length z.loaded → (ds : List Event) → IsSchedule S z ds → lower_changes S z ds (get_or z.loaded n (0, 0)).0 (get_or z.loaded n (0, 0)).1 ≡ 0
 
         so : Undisturbed again
-        so = subst Undisturbed leads (loaded B may (words_before_members S + 1) (omega arith) (take k es ++ Loads c ∷ []) may_load)
+        so = subst Undisturbed leads (loaded B may (words_before_members S + 1) (omega arith) (take k es ++ Loads c ∷ []) may_load (both_replace_none (take k es) (Loads c ∷ []) same_before (tt, tt)))
 
         none : lower_changes S again (Evicts y ∷ []) c v ≡ 0
         none = subst (λ (d : ℕ × ℕ). lower_changes S again (Evicts y ∷ []) d.0 d.1 ≡ 0) new (so (length w.loaded) (omega (arith, many)) (Evicts y ∷ []) (omega (arith, many, inside), tt))
@@ -176,8 +179,8 @@ module _ (S : Setup) (L : List ℕ → Type 0) (start : StartsMeetInvariant S L)
 
   pub short_raises : HasShortRaises S B es
   short_raises = record {
-    calls = λ k i c v i_in c_in wants. short S B es k c v (undisturbed B may (words_before_members S + 1) (omega arith) (take k es) (before k) i c v i_in c_in wants (drop k es) (after k));
+    calls = λ k i c v i_in c_in wants. short S B es k c v (undisturbed B may (words_before_members S + 1) (omega arith) (take k es) (before k) (same_before k) i c v i_in c_in wants (drop k es) (after k));
     evictions = λ k n l. short S B es k (get_or (moment_at S B es k).loaded n (0, 0)).0 (get_or (moment_at S B es k).loaded n (0, 0)).1
-        (loaded B may (words_before_members S + 1) (omega arith) (take k es) (before k) n l (drop k es) (after k));
+        (loaded B may (words_before_members S + 1) (omega arith) (take k es) (before k) (same_before k) n l (drop k es) (after k));
     at_once = λ k c low. short S B es k c (get_or (moment_at S B es k).words c 0) (quiet_now k c low);
   }

@@ -1,5 +1,5 @@
--- What a member may know that has seen nothing since the row's start, on a row on which others have
--- made steps.
+-- A member that has seen nothing since the row's start: what it may know while others have made
+-- steps on the row.
 use Rattle.std.specs.Prelude.{◌≡◌, ◌<◌, ℕ, List, [], ◌∷◌, false}
 use Rattle.std.specs.Int.{bit_at}
 use Rattle.atomic_table.specs.Table.{State}
@@ -10,7 +10,7 @@ use Rattle.of_row.specs.Trail.{HasDoneNothing}
 use Rattle.of_row.specs.Rule.{members_of, ViewFits, MeetsRule}
 use Rattle.of_row.specs.Turned.{new_known_caller}
 
--- what the member of number n knows that has seen nothing since the row's start
+-- the view of a member that has the number n and has seen nothing since the row's start
 abbrev pub fresh_member_view : Setup → TableStart → ℕ → View
 fresh_member_view S B n = record {
   spent = false;
@@ -25,8 +25,8 @@ fresh_member_view S B n = record {
   looks = 0;
 }
 
--- if a number is taken and has done nothing, that view fits at its home, whatever the others have
--- done
+-- if the number n is taken and caller n has done nothing, a view that keeps caller n and has seen
+-- nothing since the row's start fits the rule at the seat of n, whatever other callers have done
 abbrev pub FreshMembersFit : (List ℕ → Type 0) → Setup → Type 0
 FreshMembersFit Lawful S =
     (B : TableStart) (s : State (Unit {0}) View) (r : MeetsRule S Lawful B s) (n : ℕ)

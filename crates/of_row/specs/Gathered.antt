@@ -1,5 +1,6 @@
--- The row's first pass, while it keeps a caller of each number that is taken: no one else makes a
--- step, so it may learn of all events, and each word that it loads is then that of one moment.
+-- The row's first pass, while it keeps a caller of each number that is taken. No one else makes a
+-- step then. So the pass may learn of all events, and all words that it loads are those of one
+-- moment.
 use Rattle.std.specs.Prelude.{◌≡◌, ℕ, ◌<◌, List, [], true, Option, Some, None}
 use Rattle.std.specs.List.{AllByRecursion as Each}
 use Rattle.std.proofs.Common.{get_or}
@@ -13,30 +14,31 @@ use Rattle.of_row.specs.Trail.{moment, IsRunBy}
 use Rattle.of_row.specs.Rule.{IsAsked, IsRaised, IsCallerKept, ViewMeetsRule}
 use Rattle.of_row.specs.Keys.{key_setup, key_start}
 
--- the view keeps a caller of each number below `callers` that it has asked for
+-- for each number below `callers` that the view's pass has tried to enrol, the view keeps a caller
 abbrev pub KeepsAsked : (callers : ℕ) → View → Type 0
 KeepsAsked callers v = (n : ℕ) → n < callers → IsAsked n v.asked → IsCallerKept n v.kept
 
--- it is the first pass's, has no eviction under way, and keeps a caller of each number that is
--- taken
+-- the view is that of the row's first pass; no eviction of the pass is half done; and the view
+-- keeps a caller of each number that the pass has tried to enrol
 pub record IsGathered (callers : ℕ) (v : View) : Type 0 where
   pub first : v.first ≡ true
   pub none : v.loaded ≡ []
   pub keeps : KeepsAsked callers v
 
--- the second view is the first one, of which the past has gone on
+-- the view w is v, but for its past, which begins with the past of v
 abbrev pub HasLongerPast : (before now : View) → Type 0
 HasLongerPast v w = IsPrefix v.past w.past × (w ≡ record v { past = w.past })
 
--- the view's past has all that those did whom it keeps, and all its evictions, each of which has
--- raised the durable word
+-- The view's past has all calls and turns of the callers that the view keeps, and all evictions
+-- that the view has made. In the words that the past leaves, each eviction has raised its cell's
+-- durable word.
 pub record HasWholePast (S : Setup) (B : TableStart) (v : View) : Type 0 where
   pub runs : Each (IsRunBy S B v.past) v.kept
   pub evicts : v.evicted ≡ (moment S B v.past).loaded
   pub raised : Each (IsRaised S (moment S B v.past).words) v.evicted
 
--- The view v has learnt of all events and is w now. The words at this moment meet the rule with v;
--- those of the table itself are what the events leave.
+-- The view v has learnt of all events of the row, and is w now. The row's words meet the rule with
+-- v; but for the members word, they are those that the past of w leaves.
 pub record LearnsAll (S : Setup) (Lawful : List ℕ → Type 0) (B : TableStart) (v w : View)
     : Type 0 where
   pub learnt : HasLongerPast v w
@@ -46,11 +48,11 @@ pub record LearnsAll (S : Setup) (Lawful : List ℕ → Type 0) (B : TableStart)
   pub own : (c : ℕ) → c < words_before_members S
       → get_or words c 0 ≡ get_or (moment S B w.past).words c 0
 
--- the word c is that of the moment which the view's past leaves
+-- `word` is what word c holds at the moment that the view's past leaves
 abbrev pub IsWordOfPast : Setup → TableStart → View → (c word : ℕ) → Type 0
 IsWordOfPast S B v c word = word ≡ get_or (moment S B v.past).words c 0
 
--- the same on the row with this key, if a load was told it
+-- if a row is given by its key: the view v has learnt of all events of this row, and is w now
 abbrev pub LearnsAllOf : {W : Type 0} → (W → Meaning) → (W → List ℕ → Type 0) → Option (RowKey W)
     → View → View → Type 0
 LearnsAllOf meaning lawful None v w = Unit {0}

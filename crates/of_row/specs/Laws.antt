@@ -18,34 +18,36 @@ use Rattle.of_row.specs.Rows.{key_of, IsRowMember, RunsOnRow, IsMemberOf, HasNoC
 use Rattle.of_row.specs.Rows.{number_of_member, calls_of_member}
 use Rattle.of_row.specs.Passes.{HasEnrolled}
 
--- a view that keeps every number that is taken has seen the whole history
+-- if a view isn't spent and keeps a caller of every number that is taken, it has seen the whole
+-- history
 abbrev pub SeesWholeHistory : (List ℕ → Type 0) → Setup → Type 0
 SeesWholeHistory Lawful S =
     (B : TableStart) (ws : List ℕ) (v : View) (m : ViewMeetsRule S Lawful B ws v)
     → v.spent ≡ false → KeepsAll S ws v → v.seen ≡ map seen_batch (moment S B m.rule.events).batches
 
--- of each caller that a view keeps, its calls as far as was seen are exactly those that it made,
--- and they have ended as their outcomes say
+-- For each caller that a view keeps: in the batches that the view has seen, each call with this
+-- caller's number is one that the caller has begun; and each ended call of the caller has ended as
+-- its outcome says.
 abbrev pub SeesOwnCalls : (List ℕ → Type 0) → Setup → Type 0
 SeesOwnCalls Lawful S =
     (B : TableStart) (ws : List ℕ) (v : View) → ViewMeetsRule S Lawful B ws v
     → v.spent ≡ false → KeepsOwn S B v
 
--- what a view has seen is a legal history
+-- what a view that isn't spent has seen is a legal history
 abbrev pub SeesLegal : (List ℕ → Type 0) → Setup → Type 0
 SeesLegal Lawful S =
     (B : TableStart) (ws : List ℕ) (v : View) → ViewMeetsRule S Lawful B ws v
     → v.spent ≡ false → IsLegalFront S B v.seen
 
--- each eviction that a view has made has raised the durable word of its cell, at least to the word
--- that it loaded
+-- for each eviction that a view lists, the durable word of the cell is at least the word that the
+-- eviction loaded
 abbrev pub EvictionsAreRaised : (List ℕ → Type 0) → Type 0
 EvictionsAreRaised Lawful =
     (S : Setup) (B : TableStart) (ws : List ℕ) (v : View) → ViewMeetsRule S Lawful B ws v
     → v.spent ≡ false → Each (IsRaised S ws) v.evicted
 
--- a member that has no open call stands for a fresh machine of its number, which has begun as many
--- calls
+-- a member that has no open call stands for a fresh machine of its number that has begun as many
+-- calls as the member
 abbrev pub MembersStandForFresh : {X : Type 0} → (X → Meaning) → Type 0
 MembersStandForFresh {X} meaning =
     (member : Member) (m : Machine X) → HasNoCall member
@@ -53,13 +55,14 @@ MembersStandForFresh {X} meaning =
     (calls_of_member member)
     → IsMemberOf meaning member m
 
--- a member that stands for an idle machine has no open call, and has begun as many
+-- a member that stands for an idle machine has no open call, and has begun as many calls as the
+-- machine
 abbrev pub IdleMembersHaveNoCall : {X : Type 0} → (X → Meaning) → Type 0
 IdleMembersHaveNoCall {X} meaning =
     (member : Member) (m : Machine X) → IsMemberOf meaning member m → m.call.place ≡ Idle
     → HasNoCall member × (calls_of_member member ≡ m.call.made)
 
--- its number is that of one of the row's callers
+-- the number of a member is that of one of its row's callers
 abbrev pub MemberInRange : {X : Type 0} → X → Type 0
 MemberInRange {X} work =
     (row : Row X) (member : Member) → IsRowMember row member
@@ -71,7 +74,7 @@ NewMembersHaveNoCall {X} meaning work =
     (row : Row X) (n : ℕ) (before pass : Pass) (member : Member)
     → HasEnrolled meaning row n before member pass → HasNoCall member
 
--- a member goes on standing for a machine that has begun a call
+-- a member that stands for an idle machine still stands for it when the machine has begun a call
 abbrev pub BegunMembersStand : {X : Type 0} → (X → Meaning) → X → Type 0
 BegunMembersStand {X} meaning work =
     (member : Member) (m now : Machine X) (op : List ℕ) → IsMemberOf meaning member m
@@ -80,13 +83,13 @@ BegunMembersStand {X} meaning work =
     → now ≡ record m { call = begin_call (machine_setup meaning m) m.call op }
     → IsMemberOf meaning member now
 
--- a machine with the row's work and sizes runs on the row
+-- a machine with the row's work, sizes and limit runs on the row
 abbrev pub NewMachinesRun : {X : Type 0} → X → Type 0
 NewMachinesRun {X} work =
     (row : Row X) (m : Machine X) → m.work ≡ (key_of row).work → m.callers ≡ (key_of row).callers
     → m.cells ≡ (key_of row).cells → m.limit ≡ (key_of row).limit → RunsOnRow row m
 
--- the machine goes on running this work, whatever call it holds
+-- a machine that runs on a row still runs on it if only its call has changed
 abbrev pub MachinesKeepRunning : {X : Type 0} → X → Type 0
 MachinesKeepRunning {X} work =
     (row : Row X) (m now : Machine X) (d : CallState) → RunsOnRow row m

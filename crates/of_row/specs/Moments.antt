@@ -9,7 +9,7 @@ use Rattle.of_core.specs.Table.{Setup, words_before_members}
 use Rattle.of_core.specs.Machine.{Call}
 use Rattle.of_core.specs.TableMoment.{Moment, TableStart}
 use Rattle.of_core.specs.Starts.{IsDurable, IsStartRow}
-use Rattle.of_core.specs.Events.{Event, IsSchedule}
+use Rattle.of_core.specs.Events.{Event, IsSchedule, AllReplaceNone}
 use Rattle.of_core.specs.Linear.{ExplainsOutcome, Linearizes, Sequences, StandsBySequence, HasOwnSequence, IsBySequence, IsRecovered}
 use Rattle.of_row.specs.Views.{KnownCaller, View, IsSeenPrefix}
 use Rattle.of_row.specs.Rule.{IsRaised, MeetsRule, ViewMeetsRule, EachFree}
@@ -17,33 +17,37 @@ use Rattle.of_row.specs.Rule.{ticket_at, ended_operation_at, outcome_at}
 use Rattle.of_row.specs.Trail.{first_of, moment, HasPast, IsRunBy, HasDoneNothing, EachView}
 
 -- The events lead from the row's start to this moment. A step of a member is a turn of its caller;
--- a call begins right before its first turn; an eviction is a load and, later, a raise.
+-- a call begins right before its first turn; an eviction is a load and, later, a raise. No machine
+-- is replaced.
 pub record IsReachedBy (S : Setup) (B : TableStart) (s : State (Unit {0}) View) (es : List Event)
     : Type 0 where
   pub schedule : IsSchedule S (first_of S B) es
+  pub machines_stay : AllReplaceNone es
   -- the table's own words are those that the events leave
   pub words : (c : ℕ) → c < words_before_members S
       → get_or s.words c 0 ≡ get_or (moment S B es).words c 0
-  -- what a pass or a member has seen is how the history begins
+  -- the batches that a pass or a member has seen are the first ones of the history
   pub seen : EachView (λ v. IsSeenPrefix v.seen (moment S B es).batches) s.views
-  -- its past is how the events begin
+  -- the past of each pass and member is a beginning of the events
   pub pasts : EachView (HasPast es) s.views
-  -- each eviction that it has made has raised the durable word of its cell
+  -- each eviction that a pass has made has raised the durable word of its cell
   pub raised : EachView (λ v. Each (IsRaised S s.words) v.evicted) s.views
-  -- each caller that it keeps has had as many turns as it has made steps, and its calls began and
-  -- ended so
+  -- each caller that is kept has had as many turns as it has made steps, and its calls began and
+  -- ended as the events say
   pub callers : EachView (λ v. Each (IsRunBy S B es) v.kept) s.views
-  -- a number that isn't taken has done nothing
+  -- the caller of a number that isn't taken has begun no call and had no turn
   pub free : EachFree S s.words (HasDoneNothing es)
 
--- the order has each call of the caller that was answered, with its reply, and none that was spent
+-- of the caller's ended calls, the order has each that was answered, with its reply, and none that
+-- was spent
 abbrev pub ExplainsEndedCalls : Setup → TableStart → (order : List Call) → KnownCaller → Type 0
 ExplainsEndedCalls S B order x =
     (y : ℕ) → y < length x.ended
     → ExplainsOutcome S order x.machine.caller (ticket_at S B x y)
     (ended_operation_at x.ended y) (outcome_at x.ended y)
 
--- each call of the caller that was answered has its own sequence in the order
+-- each answered call of the caller has, in the order, the sequence that its answer names, and is
+-- announced there exactly if its answer says so
 abbrev pub HaveOwnSequence : Setup → TableStart → (order : List Call) → Sequences → KnownCaller
     → Type 0
 HaveOwnSequence S B order s x =
@@ -54,13 +58,13 @@ HaveOwnSequence S B order s x =
 abbrev pub HasNoneOf : List Call → (caller : ℕ) → Type 0
 HasNoneOf order i = All (λ (c : Call). c.caller ≢ i) order
 
--- a moment with these words, and nothing else
+-- a moment that has these words, but no machines, batches, reads or loads
 abbrev pub words_alone : List ℕ → Moment
 words_alone ws = record { words = ws; machines = []; batches = []; reads = []; loaded = [] }
 
--- What a row leaves that stops at this moment: one serial order of calls explains how all calls
--- have ended, it is by sequence, and recovery of the row's words as they are finds what that order
--- leads to.
+-- A row that stops at this moment loses nothing. One serial order of calls, sorted by sequence,
+-- explains how all calls have ended. Recovery of the row's words finds the state to which this
+-- order leads.
 pub record LosesNothing (S : Setup) (Lawful : List ℕ → Type 0) (B : TableStart)
     (s : State (Unit {0}) View) : Type 0 where
   pub events : List Event
@@ -68,24 +72,25 @@ pub record LosesNothing (S : Setup) (Lawful : List ℕ → Type 0) (B : TableSta
   pub order : List Call
   pub linearizes : Linearizes S B (first_of S B) events order
   pub by_seq : IsBySequence S B (first_of S B) events order
-  -- also those of each caller that a pass or a member keeps
+  -- the order explains the ended calls of each caller that a pass or a member keeps
   pub explained : EachView (λ v. Each (ExplainsEndedCalls S B order) v.kept) s.views
   pub sequenced : EachView (λ v. Each (HaveOwnSequence S B order by_seq.sequences) v.kept) s.views
-  -- recovery finds that order's numbers, and each caller's last call in it
+  -- recovery finds the numbers that the order leads to, and each caller's last call of the order
   pub recovered_so : IsRecovered S B (words_alone s.words) order
-  -- and from the row that recovery makes a table may start
+  -- a table may start from the row that recovery makes
   pub restarts : (row : List ℕ) → IsDurable S s.words row
       → IsStartRow S Lawful (recovered_words S.callers S.cells row)
 
--- at each moment that meets the row's rule, as each does between any two steps on it
+-- a row loses nothing if it stops at a moment that meets the row's rule, as each moment between two
+-- steps does
 abbrev pub StopsLoseNothing : (List ℕ → Type 0) → Setup → Type 0
 StopsLoseNothing Lawful S =
     (B : TableStart) (s : State (Unit {0}) View) → MeetsRule S Lawful B s
     → LosesNothing S Lawful B s
 
--- What the words of a closed row hold of the calls of a pass with this view: one serial order has
--- them as they ended, and is by sequence; recovery of the words finds what that order leads to; and
--- from the row that recovery makes a table may start.
+-- The words of a closed row hold the calls that a view keeps. One serial order, sorted by sequence,
+-- has these calls as they ended. Recovery of the words finds the state to which this order leads,
+-- and a table may start from the row that recovery makes.
 pub record HoldsCalls (S : Setup) (Lawful : List ℕ → Type 0) (B : TableStart) (ws : List ℕ)
     (v : View) : Type 0 where
   pub order : List Call
@@ -93,13 +98,14 @@ pub record HoldsCalls (S : Setup) (Lawful : List ℕ → Type 0) (B : TableStart
   pub sequences : Sequences
   pub by_seq : StandsBySequence order sequences
   pub sequenced : Each (HaveOwnSequence S B order sequences) v.kept
-  -- none of its calls is of a number that isn't taken
+  -- the order has no call of a number that isn't taken
   pub free : EachFree S ws (HasNoneOf order)
   pub recovered_so : IsRecovered S B (words_alone ws) order
   pub restarts : (row : List ℕ) → IsDurable S ws row
       → IsStartRow S Lawful (recovered_words S.callers S.cells row)
 
--- this holds of each pass with which words meet the rule, as after the close
+-- if words and a view that isn't spent meet the row's rule, as after a close, the words hold the
+-- calls that the view keeps
 abbrev pub ClosedHoldsCalls : (List ℕ → Type 0) → Setup → Type 0
 ClosedHoldsCalls Lawful S =
     (B : TableStart) (ws : List ℕ) (v : View) → ViewMeetsRule S Lawful B ws v → v.spent ≡ false

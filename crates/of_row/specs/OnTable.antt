@@ -1,4 +1,5 @@
--- Which steps the table takes of a machine, and what they make.
+-- Which steps of a machine may be made on a row's table, and what each does to the seat that makes
+-- it.
 use Rattle.std.specs.Prelude.{◌≡◌, ◌<◌, ℕ, List, Option}
 use Rattle.atomic_table.specs.Table.{Allows}
 use Rattle.atomic_table.specs.Seated.{TableId}
@@ -15,15 +16,17 @@ use Rattle.of_row.specs.Rule.{MeetsRule}
 use Rattle.of_row.specs.Keys.{FitsWork, key_setup, key_start}
 use Rattle.of_row.specs.Turned.{MakesStepOf}
 
--- the number that a step gives which found n: a store gives what it stored
+-- the number that a step gives if it has found n: a store gives what it stored, and any other step
+-- gives n
 abbrev pub number_given : Op → ℕ → ℕ
 number_given (Load c) n = n
 number_given (Store c v) n = v
 number_given (Exchange c a b) n = n
 number_given (Raise c v) n = n
 
--- the seat is at this table, the word is there, and the rule allows the step on it: whatever the
--- words are, it keeps the rule with a view that is turned as the machine is
+-- The seat may make this step of a machine: the seat is at the table, the step's word is on the
+-- table, and, whatever the words are, the step keeps the row's rule and changes the seat's view as
+-- `MakesStep` says.
 abbrev pub Takes : {W : Type 0} → (many size : W → ℕ) → (W → Meaning) → (W → List ℕ → Type 0)
     → TableStart → Option (Machine W) → RowKey W → TableId → Seat (Unit {0}) View → Op → Type 0
 Takes many size meaning lawful B m key table seat op =
@@ -34,7 +37,8 @@ Takes many size meaning lawful B m key table seat op =
     (λ n after. (after.1 ≡ seat.me.1)
     × MakesStepOf meaning lawful B m seat.me.0 (number_given op n) after.0)
 
--- after a step the seat is where it was, and its view was turned by what the step gave
+-- after a step that gave the number `found`, the seat is at the same table, and its view has
+-- changed as `MakesStep` says
 abbrev pub TurnsSeat : {W : Type 0} → (W → Meaning) → (W → List ℕ → Type 0)
     → TableStart → Option (Machine W) → (seat : Seat (Unit {0}) View) → (found : ℕ)
     → (after : Seat (Unit {0}) View) → Type 0

@@ -1,4 +1,5 @@
--- What passes learn: of a number that they asked for, of a cell that they evicted, and at the end.
+-- What a pass learns when it enrols a caller's number, evicts a cell, learns of all events, or
+-- closes the row.
 use Rattle.std.specs.Prelude.{◌≡◌, ℕ, List}
 use Rattle.std.specs.Int.{bit_at}
 use Rattle.of_mem.specs.Meaning.{Meaning}
@@ -15,26 +16,26 @@ use Rattle.of_row.specs.Turned.{after_ask, after_number_given, new_known_caller,
 use Rattle.of_row.specs.Rows.{key_of, setup_at, row_start, view_of_pass, view_of_member}
 use Rattle.of_row.specs.Rows.{number_of_member, calls_of_member, IsRowPass, IsRowMember, HasSeenLegal}
 
--- the caller that has the number n now has made no call on this row, and has seen what this pass
--- had
+-- what is kept of caller n when the pass p has enrolled it: an idle machine, no call on this row
+-- yet, and the last sequence that the pass had seen
 abbrev pub enrolled_caller : {W : Type 0} → (W → Meaning) → Row W → ℕ → Pass → KnownCaller
 enrolled_caller meaning r n p =
     new_known_caller (setup_at meaning r) (row_start meaning r) n
     (seen_seq (row_start meaning r) (view_of_pass p).seen)
 
--- the pass is the row's first one, which has made no step
+-- the pass is the row's first one, and has made no step yet
 abbrev pub IsFirst : {W : Type 0} → Row W → Pass → Type 0
 IsFirst r p = IsRowPass r p × (view_of_pass p ≡ first_view)
 
--- The number n is taken: the word found has its bit. This pass had asked for it already, and has
--- the word in its list.
+-- The number n is taken: its bit is set in the members word that was found. The pass had tried to
+-- enrol n before. It lists this try too, with the word that was found.
 abbrev pub NumberIsRefused : {W : Type 0} → Row W → ℕ → (before now : Pass) → Taken → Type 0
 NumberIsRefused r n before now taken =
     IsRowPass r now × (bit_at taken.members n ≡ 1) × IsAsked n (view_of_pass before).asked
     × (view_of_pass now ≡ after_ask n taken.members (view_of_pass before))
 
--- The number n was free in the word found, and now a member has it that has seen what the pass has,
--- and has made no call on this row.
+-- The number n was free in the members word that was found, and `member` has it now. The member has
+-- seen what the pass has seen, and has made no call on this row.
 pub record HasEnrolled {W : Type 0} (meaning : W → Meaning) (r : Row W) (n : ℕ) (before : Pass)
     (member : Member) (now : Pass) : Type 0 where
   pub at_row : IsRowMember r member × IsRowPass r now
@@ -50,20 +51,21 @@ pub record HasEnrolled {W : Type 0} (meaning : W → Meaning) (r : Row W) (n : �
       (enrolled_caller meaning r n before)
   pub legal : HasSeenLegal meaning r (view_of_pass before)
 
--- the pass has evicted the cell: it loaded it, and raised its durable word to what it loaded
+-- the pass has evicted the cell: it has loaded the cell, and raised the cell's durable word to the
+-- word that was found
 abbrev pub HasEvicted : ℕ → (before now : Pass) → Type 0
 HasEvicted cell before now =
     (n : ℕ) × (view_of_pass now ≡ after_evict (after_fetch cell n (view_of_pass before)))
 
--- the words meet the row's rule, and so does what the pass knew
+-- the words and the pass's view meet the row's rule
 abbrev pub ClosesWith : {W : Type 0} → (W → Meaning) → (W → List ℕ → Type 0) → Row W → Pass → List ℕ
     → Type 0
 ClosesWith meaning lawful r p ws =
     ViewMeetsRule (setup_at meaning r) (lawful (key_of r).work) (row_start meaning r) ws
     (view_of_pass p)
 
--- the row is the durable words, cell by cell, of words that meet the row's rule with what the pass
--- knew
+-- the durable row has, cell by cell, the durable words of a table whose words meet the row's rule
+-- with the pass's view
 pub record ClosesWithDurable {W : Type 0} (meaning : W → Meaning) (lawful : W → List ℕ → Type 0)
     (r : Row W) (p : Pass) (row : List ℕ) : Type 0 where
   pub words : List ℕ
@@ -74,17 +76,18 @@ pub record ClosesWithDurable {W : Type 0} (meaning : W → Meaning) (lawful : W 
 abbrev pub words_of_past : {W : Type 0} → (W → Meaning) → Row W → View → List ℕ
 words_of_past meaning r v = (moment (setup_at meaning r) (row_start meaning r) v.past).words
 
--- the view's past has all that those did whom it keeps, and all its evictions
+-- the view's past has all calls and turns of the callers that the view keeps, and all evictions
+-- that the view has made
 abbrev pub KnowsAllDone : {W : Type 0} → (W → Meaning) → Row W → View → Type 0
 KnowsAllDone meaning r v = HasWholePast (setup_at meaning r) (row_start meaning r) v
 
--- the view v has heard of all events of the row and is w now
+-- the view v has learnt of all events of the row, and is w now
 abbrev pub LearnsAllAt : {W : Type 0} → (W → Meaning) → (W → List ℕ → Type 0) → Row W → View → View
     → Type 0
 LearnsAllAt meaning lawful r v w =
     LearnsAll (setup_at meaning r) (lawful (key_of r).work) (row_start meaning r) v w
 
--- the row is the durable words, cell by cell, of the words that the view's past leaves
+-- the durable row has, cell by cell, the durable words that the view's past leaves
 abbrev pub AreDurableOfPast : {W : Type 0} → (W → Meaning) → Row W → View → List ℕ → Type 0
 AreDurableOfPast meaning r v row =
     IsDurable (setup_at meaning r) (words_of_past meaning r v) row

@@ -1,4 +1,5 @@
--- The laws of the protocol that a row rests on, at one setup: those of `of_core::laws`.
+-- The laws of the protocol from which the laws of a row are proved, at one setup: those of
+-- `of_core::laws`.
 use Rattle.std.specs.Prelude.{ℕ, List}
 use Rattle.of_core.specs.Table.{Setup}
 use Rattle.of_core.specs.Laws.{StartsMeetInvariant, FirstWordsHoldStart, FirstMachinesAreIdle, SchedulesKeepInvariant, OpenStepsAreSteps, StepBlind, StepsKeepDurables, BeginsKeepInvariant, InvariantIsSound, EveryCallStands, CallsEndInTime}
@@ -7,14 +8,14 @@ use Rattle.of_core.specs.Written.{OwnersTakePart}
 use Rattle.of_core.specs.Grounds.{GoodGrounds}
 use Rattle.of_core.specs.Touched.{ByTouch}
 
--- laws of histories by themselves: what holds of a longer one
+-- laws of histories by themselves: how batches are numbered, and what a longer history keeps
 pub record HistoryLaws : Type 0 where
   pub next : NextBatchIsNumberedNext
   pub batches : LongerKeepsBatches
   pub states : LongerKeepsStates
 
 pub record RowLaws (S : Setup) (Lawful : List ℕ → Type 0) : Type 0 where
-  -- of a start, and of all schedules from it
+  -- laws of a start, and of all schedules from it
   pub start : StartsMeetInvariant S Lawful
   pub words : FirstWordsHoldStart S
   pub machines : FirstMachinesAreIdle S
@@ -24,13 +25,13 @@ pub record RowLaws (S : Setup) (Lawful : List ℕ → Type 0) : Type 0 where
   pub touched : ByTouch S Lawful
   pub sound : InvariantIsSound S Lawful
   pub grounds : GoodGrounds S Lawful
-  -- of one step, and of the begin of a call
+  -- laws of one step, and of the begin of a call
   pub taken : OpenStepsAreSteps S Lawful
   pub durables : StepsKeepDurables S Lawful
   pub blind : StepBlind S Lawful
   pub begins : BeginsKeepInvariant S Lawful
   pub in_time : CallsEndInTime S Lawful
-  -- of a machine by itself
+  -- laws of a machine by itself
   pub idle : IdleRestsOnNothing
   pub finds : StepsFindTheirWord
   pub turn_is : TurnsAreSteps

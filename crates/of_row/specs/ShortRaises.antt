@@ -20,12 +20,12 @@ use Rattle.of_row.specs.Moments.{IsReachedBy}
 abbrev pub moment_at : Setup → TableStart → List Event → ℕ → Moment
 moment_at S B es k = moment S B (take k es)
 
--- the durable word of the cell c at that moment
+-- the durable word of the cell c after the first k events
 abbrev pub durable_after : Setup → TableStart → List Event → (k c : ℕ) → ℕ
 durable_after S B es k c = durable_word S (moment_at S B es k).words c
 
 -- from the moment after the first k events on, the loop that raises the durable word of the cell c
--- to v is short
+-- to v is short: its exchange fails at most once
 pub record IsShort (S : Setup) (B : TableStart) (es : List Event) (k c v : ℕ) : Type 0 where
   -- no later event changes that word to one that is still below v
   pub undisturbed : lower_changes S (moment_at S B es k) (drop k es) c v ≡ 0
@@ -35,20 +35,20 @@ pub record IsShort (S : Setup) (B : TableStart) (es : List Event) (k c v : ℕ) 
       → durable_after S B es exchange c ≢ durable_after S B es load c
       → v ≤ durable_after S B es again c
 
--- each raise of the events is short, from each moment on at which it is still to be made
+-- each raise in these events is short, from each moment on at which it is still to be made
 pub record HasShortRaises (S : Setup) (B : TableStart) (es : List Event) : Type 0 where
-  -- that of a caller that is about to raise a durable word
+  -- the raise of a caller that is about to raise a durable word
   pub calls : (k i c v : ℕ) → i < S.callers → c < cell_count S
       → want S (machine_in (moment_at S B es k) i) ≡ Raise (durable_at S c) v
       → IsShort S B es k c v
-  -- that of an eviction that has loaded its cell, to the word that it found
+  -- the raise of an eviction that has loaded its cell, to the word that it found
   pub evictions : (k n : ℕ) → n < length (moment_at S B es k).loaded →
       let e : ℕ × ℕ = get_or (moment_at S B es k).loaded n (0, 0) in IsShort S B es k e.0 e.1
-  -- that of an eviction that is made at once, to the word that its cell holds
+  -- the raise of an eviction that is made at once, to the word that its cell holds
   pub at_once : (k c : ℕ) → c < cell_count S
       → IsShort S B es k c (get_or (moment_at S B es k).words c 0)
 
--- the raises are short of each schedule that leads to a moment that meets the row's rule
+-- in each schedule that leads to a moment that meets the row's rule, the raises are short
 abbrev pub MomentsHaveShortRaises : (List ℕ → Type 0) → Setup → Type 0
 MomentsHaveShortRaises Lawful S =
     (B : TableStart) (s : State (Unit {0}) View) → MeetsRule S Lawful B s

@@ -1,4 +1,4 @@
--- What a row is made for.
+-- What a row is made for: its shape, its limit and its work.
 use Rattle.std.specs.Prelude.{◌≡◌, ◌≤◌, ℕ}
 use Rattle.of_cell.specs.declared.shape.Shape.{Shape}
 use Rattle.of_mem.specs.declared.work.TheConstants.{MOST_INSTRS}
@@ -8,13 +8,14 @@ pub record Sizes (W : Type 0) : Type 0 where
   pub shape : Shape
   -- the last sequence that may be committed
   pub limit : ℕ
-  -- what runs operations
+  -- the work, which runs the operations
   pub work : W
 
 abbrev pub sizes_value : {W : Type 0} → Inside W → Sizes W
 sizes_value m = record { shape = m.shape; limit = m.limit; work = m.work }
 
--- the shape is the work's, and the log words of a sequence above the limit are words still
+-- the shape has the callers and data cells that the work needs, and script words for the longest
+-- operation; the sequence after the limit still fits into a word
 pub record SizesFit {W : Type 0} (many size : W → ℕ) (m : Sizes W) : Type 0 where
   pub callers : m.shape.callers ≡ many m.work
   pub instrs : m.shape.instrs ≡ MOST_INSTRS

@@ -14,15 +14,16 @@ use crate::protocol::protocol;
 use of_core::laws::{every_moment, every_order, starts, step_kept};
 use of_mem::Work;
 
-/// A pass or a member that keeps every number that is taken has seen the whole history.
+/// A pass or a member that keeps a caller of every number that is taken has seen the whole history.
 pub fn sees_whole<W: Work>(limit: u32, work: W)
     ensures { SeesWholeHistory (W.lawful work) (setup_for W.many W.size W.meaning limit work) }
 {
     protocol(limit, work);
 }
 
-/// A pass or a member that keeps a caller has its own calls in what was seen, each as it ended,
-/// whatever passes and members were parted, met or joined before. What was seen is a legal history.
+/// Of each caller that it keeps, a pass or a member has seen only calls that the caller has begun,
+/// each as it ended, whatever passes and members were parted, met or joined before. What the pass
+/// or the member has seen is a legal history.
 pub fn sees_own<W: Work>(limit: u32, work: W)
     ensures own { SeesOwnCalls (W.lawful work) (setup_for W.many W.size W.meaning limit work) }
     ensures legal { SeesLegal (W.lawful work) (setup_for W.many W.size W.meaning limit work) }
@@ -36,8 +37,9 @@ pub fn evictions_are_raised<W: Work>(work: W)
     ensures { EvictionsAreRaised (W.lawful work) }
 {}
 
-/// When a member stands for a machine: while it has no open call, as at first, for a fresh one of
-/// its number, and on from the begin of a call.
+/// A member that has no open call stands for a fresh machine of its number. After it has enrolled,
+/// a member has no open call. If the idle machine for which a member stands begins a call, the
+/// member stands for the machine with this call too.
 pub fn members<W: Work>(work: W)
     ensures fresh { MembersStandForFresh W.meaning }
     ensures range { MemberInRange work }
@@ -45,28 +47,30 @@ pub fn members<W: Work>(work: W)
     ensures begun { BegunMembersStand W.meaning work }
 {}
 
-/// A member that stands for an idle machine has no open call, and has begun as many as the machine.
+/// A member that stands for an idle machine has no open call, and has begun as many calls as the
+/// machine.
 pub fn idle_members<W: Work>()
     ensures { IdleMembersHaveNoCall W.meaning }
 {}
 
-/// When a machine runs on a row: at first by its sizes and its work, and on from the begin of a
-/// call.
+/// A machine with the row's sizes, limit and work runs on the row. After it has begun a call, it
+/// still does.
 pub fn machines<W: Work>(work: W)
     ensures first { NewMachinesRun work }
     ensures begun { MachinesKeepRunning work }
 {}
 
-/// A run of threads is a schedule: the words of a closed row, and what its first pass keeps if it
-/// keeps every number that is taken, are what the events of some schedule leave.
+/// A run of threads is a schedule. If the first pass keeps a caller of every number that is taken
+/// when the row is closed, then some schedule leaves the row's words, and what the pass has seen
+/// and keeps.
 pub fn runs_are_schedules<W: Work>(limit: u32, work: W)
     ensures { RunsAreSchedules (W.lawful work) (setup_for W.many W.size W.meaning limit work) }
 {
     protocol(limit, work);
 }
 
-/// What holds of every schedule holds of a run: it is durably linearizable, and what it leaves is
-/// sound.
+/// What holds of every schedule holds of a run: the run is durably linearizable, and the moment
+/// that it leaves is sound.
 pub fn runs_are_linearizable<W: Work>(limit: u32, work: W)
     ensures { RunsAreLinearizable (W.lawful work)
         (setup_for W.many W.size W.meaning limit work) }
@@ -75,10 +79,10 @@ pub fn runs_are_linearizable<W: Work>(limit: u32, work: W)
     every_order(limit, work);
 }
 
-/// A row that stops between any two steps loses no call that was answered: a schedule leaves its
-/// words as they are then, one serial order of calls explains how all calls have ended, it stands
-/// by sequence, and recovery of the words finds what that order leads to. So it is of the words of
-/// a closed row, for all calls that its pass keeps.
+/// A row that stops between any two steps loses no call that was answered. Some schedule leaves its
+/// words as they are then. One serial order of calls, by sequence, explains how all calls have
+/// ended, and recovery of the words finds what that order leads to. The words of a closed row have
+/// such an order for all calls that the pass keeps.
 pub fn stops_lose_nothing<W: Work>(limit: u32, work: W)
     ensures stops { StopsLoseNothing (W.lawful work)
         (setup_for W.many W.size W.meaning limit work) }
@@ -92,8 +96,8 @@ pub fn stops_lose_nothing<W: Work>(limit: u32, work: W)
 
 /// The raises of a run are short. While a caller or an eviction is about to raise a durable word,
 /// no event puts a lower word there. So the loop of a load and an exchange that makes the raise
-/// fails at most once. It is so up to each moment between two steps on a row, with evictions as
-/// they came, and in the schedule that the run of a closed row is, with evictions made at once.
+/// fails at most once. This holds up to each moment between two steps on a row, with evictions as
+/// they came, and for the whole run of a closed row, with each eviction made at once.
 pub fn raises_are_short<W: Work>(limit: u32, work: W)
     ensures moments { MomentsHaveShortRaises (W.lawful work)
         (setup_for W.many W.size W.meaning limit work) }
@@ -105,9 +109,9 @@ pub fn raises_are_short<W: Work>(limit: u32, work: W)
     of_core::laws::raises_are_short(limit, work);
 }
 
-/// If a caller's number is taken and has done nothing, the view of a member that has seen nothing
-/// since the row's start fits the rule, whatever the other callers have done. No call of a row makes
-/// such a member from outside.
+/// If a number is taken and its caller has done nothing, the view of a member that has seen nothing
+/// since the row's start fits the rule, whatever the other callers have done. No function of a row
+/// makes such a member.
 pub fn fresh_members_fit<W: Work>(limit: u32, work: W)
     ensures { FreshMembersFit (W.lawful work) (setup_for W.many W.size W.meaning limit work) }
 {

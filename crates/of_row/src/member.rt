@@ -1,4 +1,5 @@
-//! What those hold who step on a row: passes and members, and how they are refused.
+//! Passes and members, with which threads step on a row, and the errors by which a row refuses
+//! them.
 
 ghost use Rattle.std.specs.Prelude.{◌≡◌, []};
 ghost use Rattle.of_row.specs.Views.{IsSole};
@@ -6,16 +7,16 @@ ghost use Rattle.of_row.specs.Views.{IsSole};
 use crate::view::View;
 use atomic_table::Seat;
 
-/// What a thread holds that makes no calls. Contracts see what it knows. No eviction of it is half
-/// done.
+/// A seat on a row for a thread that makes no calls. Contracts see what the pass knows. Each
+/// eviction that the pass has begun is finished.
 #[derive(Drop)]
 pub struct Pass {
     pub(crate) seat: Seat<(), View>,
     ghost none: { seat.me.0.loaded ≡ [] },
 }
 
-/// What a caller's thread holds. Contracts see what it knows: its number, its machine and its own
-/// calls among it.
+/// A seat on a row for the thread of one caller. Contracts see what the member knows, such as its
+/// number, its machine and its own calls.
 #[derive(Drop)]
 pub struct Member {
     pub(crate) seat: Seat<(), View>,
@@ -27,14 +28,14 @@ pub struct Member {
 impl Member {
     ghost use Rattle.of_row.specs.Rows.{number_of_member, calls_of_member};
 
-    /// The caller's number.
+    /// The number of the member's caller.
     pub fn number(&self) -> u32
         ensures { result ≡ number_of_member self.now }
     {
         self.number
     }
 
-    /// How many calls of its number have made a step, those before the start with them.
+    /// How many calls of the member's caller have made a step, with those before the row's start.
     pub fn made(&self) -> u32
         ensures { result ≡ calls_of_member self.now }
     {
@@ -42,12 +43,13 @@ impl Member {
     }
 }
 
-/// The number is taken: the members word that was found has its bit.
+/// The error of `Row::enrol`: the number is taken. `members` is the members word that was found,
+/// with the number's bit set.
 #[derive(Drop)]
 pub struct Taken {
     pub members: u64,
 }
 
-/// The brake denied the step.
+/// The error of `Row::step`: the brake denied the step.
 #[derive(Drop)]
 pub struct Stopped;

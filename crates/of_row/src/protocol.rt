@@ -1,4 +1,4 @@
-//! The laws of the protocol that a row rests on.
+//! The laws of the protocol from which the laws of a row are proved.
 
 ghost use Rattle.of_core.specs.Laws.{setup_for};
 ghost use Rattle.of_row.specs.RowLaws.{RowLaws};
@@ -8,7 +8,7 @@ use of_core::laws::{
 };
 use of_mem::Work;
 
-/// The laws, at the sizes of a work.
+/// The laws of the protocol, for a table with this limit and the sizes of this work.
 pub(crate) fn protocol<W: Work>(limit: u32, work: W)
     ensures { RowLaws (setup_for W.many W.size W.meaning limit work) (W.lawful work) }
 {

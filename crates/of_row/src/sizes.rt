@@ -1,4 +1,4 @@
-//! What a row is made for: its sizes, which are its work's.
+//! What a row is made for: its shape, its limit and its work.
 
 ghost use Rattle.std.specs.Prelude.{◌≡◌, ◌≤◌};
 ghost use Rattle.of_mem.specs.declared.work.TheConstants.{MOST_INSTRS};
@@ -7,7 +7,7 @@ use of_cell::Shape;
 use of_mem::Work;
 use std::marker::Model;
 
-/// The shape of a row, its limit and its work, which fit one another.
+/// A row's shape, limit and work, whose sizes agree.
 #[derive(Drop)]
 pub struct Sizes<W: Work> {
     shape: Shape,

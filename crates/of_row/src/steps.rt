@@ -9,7 +9,8 @@ use of_core::Performer;
 use of_mem::Work;
 use std::marker::PhantomData;
 
-/// Makes the steps of the machine that is told on the table.
+/// Makes the steps of a machine on the shared table. The type `O` names the machine, for the proof
+/// alone.
 #[derive(Drop)]
 pub(crate) struct OnTable<'a, W: Work, O> {
     pub(crate) shared: &'a Shared<(), View, RowKey<W>, RowRule<W>>,

@@ -1,5 +1,5 @@
--- The law by which a script's list gives its fields back. It is in specs/ since the model of
--- `Script` names it, and may name nothing of its own proofs/.
+-- The law that a script's fields follow from its list of instructions. It is in specs/, not in
+-- proofs/, since the model of `Script` names it, and may name nothing from its own proofs/.
 use Rattle.std.specs.Prelude.{◌≡◌, ℕ, ◌-◌, List, length, ◌++◌, replicate}
 use Rattle.std.proofs.Common.{arith, ap, sym, ◌∙◌}
 use Rattle.std.proofs.lemmas.List.{take-append-drop, length-take}
@@ -8,7 +8,7 @@ use Rattle.of_script.specs.declared.script.Script.TheInside.{Inside}
 use Rattle.of_script.specs.declared.instr.TheConstants.{MOST_INSTRS}
 use Rattle.of_script.specs.Script.{padding_instr, script_value, IsFilled, script_fields}
 
--- only one set of fields stands for a list
+-- the fields of a script are those that its list of instructions gives
 pub filled-listed : (s : Inside) → IsFilled s → script_fields (script_value s) ≡ s
 filled-listed s h =
     let len : length (script_value s) ≡ s.len =

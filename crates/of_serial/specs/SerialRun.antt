@@ -16,14 +16,14 @@ use Rattle.of_report.specs.Report.{entry_value, HasWholeReply}
 use Rattle.of_serial.specs.declared.serial_run.cells.Cells.{Cells}
 use Rattle.of_serial.specs.declared.serial_run.SerialRun.{SerialRun as RustSerialRun}
 
--- the entries so far, the sequence of the last, and the store that it left
+-- a serial run so far: its entries, the sequence of the last one, and the store that it left
 pub record SerialRun : Type 0 where
   pub entries : List Entry
   pub seq : ℕ
   pub store : Store
 
--- All data cells are known, and the script has written none. Those of the callers are 0, and the
--- others stand for this store.
+-- the cells hold this store: all data cells are known, the script has written none, those of the
+-- callers are 0, and the others stand for the store
 pub record CellsHoldStore (c : Cells) (s : Store) : Type 0 where
   pub numbers : List ℕ
   pub size : length numbers ≡ scripts_data_cells c.scripts
@@ -32,25 +32,25 @@ pub record CellsHoldStore (c : Cells) (s : Store) : Type 0 where
   pub not_called : (a : ℕ) → a < store_at c.scripts → memory_of numbers a ≡ 0
   pub stored : IsStored (store_at c.scripts) c.scripts.blocks (memory_of numbers) s
 
--- the cells have gone on from the store for which they stood to what the script makes of it, and
--- this is its reply
+-- the cells held a store before, and hold now what the script makes of that store; the reply is
+-- that of the script
 abbrev pub RunsScript : List Instr → (before now : Cells) → RustReply → Type 0
 RunsScript script before now reply =
     (s : Store) → CellsHoldStore before s
     → CellsHoldStore now (run s script).0 × (reply_value_of reply ≡ (run s script).1)
 
--- a run has come this far
+-- the code's run has the entries, the sequence and the store of the serial run `h`
 pub record HasComeTo (r : RustSerialRun) (h : SerialRun) : Type 0 where
   pub entries : map entry_value r.entries.items ≡ h.entries
   pub whole : All HasWholeReply r.entries.items
   pub seq : r.seq ≡ h.seq
   pub store : CellsHoldStore r.cells h.store
 
--- it has come somewhere
+-- the code's run has the entries, the sequence and the store of some serial run
 abbrev pub IsOnCourse : RustSerialRun → Type 0
 IsOnCourse r = (h : SerialRun) × HasComeTo r h
 
--- one more call, with this script
+-- the serial run `h` after one more call, with this script
 abbrev pub after_call : SerialRun → CallId → List Instr → SerialRun
 after_call h call script = record {
   entries = h.entries ++ serial_entry (h.seq + 1, (call, (run h.store script).1)) ∷ [];
@@ -58,7 +58,7 @@ after_call h call script = record {
   store = (run h.store script).0;
 }
 
--- it has made one more call
+-- the code's run has made one more call, with this script
 abbrev pub MakesSerialCall : CallId → List Instr → (before now : RustSerialRun) → Type 0
 MakesSerialCall call script before now =
     (h : SerialRun) → HasComeTo before h → HasComeTo now (after_call h call script)
@@ -67,7 +67,7 @@ MakesSerialCall call script before now =
 abbrev pub replies_to_calls : Plan → List CallId → List Reply
 replies_to_calls p calls = replies_in_order (empty_store p.blocks) (map (called_script p) calls)
 
--- these calls of a plan, from the empty store on
+-- the run of these calls of a plan, one after another from the empty store
 abbrev pub course_after : Plan → List CallId → SerialRun
 course_after p calls = record {
   entries = map serial_entry (enumerate_from 1 (zip calls (replies_to_calls p calls)));
@@ -75,15 +75,16 @@ course_after p calls = record {
   store = last_store (empty_store p.blocks) (map (called_script p) calls);
 }
 
--- a run has made some calls of a plan
+-- the code's run has made some calls of the plan
 abbrev pub HasMadeCalls : Plan → RustSerialRun → Type 0
 HasMadeCalls p r = (calls : List CallId) × HasComeTo r (course_after p calls)
 
--- those of a caller's calls that come within the limit, after the one at this sequence
+-- the caller's first calls, as many as there are sequences above `seq` up to the plan's limit
 abbrev pub calls_within : Plan → (seq caller : ℕ) → List CallId
 calls_within p s c = take (p.limit - s) (calls_of p c)
 
--- a run has made those of a caller besides
+-- after the calls so far, the code's run has made the calls of this caller, as many as there are
+-- sequences left
 abbrev pub RunsCaller : Plan → ℕ → (before now : RustSerialRun) → Type 0
 RunsCaller p c before now =
     (calls : List CallId) → HasComeTo before (course_after p calls)

@@ -80,8 +80,8 @@ fn line(answered: u32, scripts: usize) -> Line
     }
 }
 
-/// The report of a plan whose scripts run one after another, on cells: those of caller 0 first,
-/// then those of caller 1, and so on, up to the limit. The error is that there is no memory.
+/// The report of a plan whose scripts run one after another, on cells: first all scripts of caller
+/// 0, then those of each next caller, until the limit is reached. An error means out of memory.
 pub fn serial(alloc: Global, plan: &Plan) -> Result<Report, AllocError>
     ensures whole { IfOk result HasWholeReplies }
     ensures report { IfOk result (λ report. report_value report ≡ serial_report plan.now) }

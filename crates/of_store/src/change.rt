@@ -1,4 +1,5 @@
-//! What instructions have changed in a store, so that it can be taken back without memory.
+//! The changes that instructions made in a store, kept so that they can be taken back without
+//! memory.
 
 ghost use Rattle.std.specs.Prelude.{◌≡◌, ◌≤◌, length};
 ghost use Rattle.of_script.specs.Language.{IsInstrInRange};

@@ -1,11 +1,11 @@
-//! The numbers of a store's blocks.
+//! The limits of a store's room.
 
 ghost use Rattle.std.specs.Prelude.{◌≡◌};
 
 use crate::store::{MOST_BLOCKS, MOST_ORDERED_BLOCKS};
 
-/// How many keys and queued items a store has room for at most, and up to how much room it runs the
-/// instructions on keys in their order.
+/// The limits of a store's room as plain numbers: the greatest room of all stores, and of those
+/// that run the instructions on keys in their order.
 pub fn numbers()
     ensures blocks { MOST_BLOCKS ≡ 16777216 }
     ensures ordered { MOST_ORDERED_BLOCKS ≡ 512 }

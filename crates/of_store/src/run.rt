@@ -1,4 +1,4 @@
-//! What scripts do to a store.
+//! Running scripts on a store.
 
 ghost use Rattle.std.specs.Prelude.{◌≡◌, ◌≤◌, IfOk, OnOk, OnErr, IsTrue, IsFalse, IsNone, true, length};
 ghost use Rattle.of_script.specs.declared.instr.TheConstants.{MOST_INSTRS};
@@ -157,8 +157,9 @@ impl Store {
         })
     }
 
-    /// Runs a script, and answers its reply. After an abort the store is what it was before the
-    /// script, and after want of memory too.
+    /// Runs a script on the store, and answers the script's reply. If the script aborts, the store
+    /// is as before the script. An error means that there is not enough memory; then too the store
+    /// is as before.
     pub fn run(&mut self, script: &Script) -> Result<Reply, AllocError>
         ensures store { OnOk result (self.new ≡ (run self.old script.now).0) }
         ensures reply { IfOk result (λ r. reply_value_of r ≡ (run self.old script.now).1) }

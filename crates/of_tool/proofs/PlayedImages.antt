@@ -28,7 +28,7 @@ use Rattle.of_tool.specs.PlayedImage.{ShowsRun, IsPlayedImage, ShowsEachPlay}
 use Rattle.of_play.proofs.PlaysMoments.{IsPlayable, good_moment}
 use Rattle.of_play.proofs.PlaysSchedule.{play_is_schedule, play_of_plan}
 use Rattle.of_play.proofs.PlaysRecords.{run_here}
-use Rattle.of_play.proofs.PlaysSpent.{play_spent_last}
+use Rattle.of_play.proofs.PlaysSpent.{play_spent_last, play_stays}
 
 module _ (p : Plan) (play : IsPlayable p) (restarts : RecoveredRowsMayStart (plan_setup p) (IsLawfulFor p)) where
   -- what recovery leaves of the durable words is a row from which a table may start
@@ -68,7 +68,7 @@ module _ (p : Plan) (play : IsPlayable p) (restarts : RecoveredRowsMayStart (pla
     -- what recovery finds in the durable words is an image that starts where the report ends
     left : (f : Ended) → IsPlayed p f → (r : Report) → IsLawfulRecord p (empty_start p) f r → (next : Image) × LeavesImage p (empty_start p) f r next
     left f played r lawful =
-        let run = run_here p play (play_events p) (play_is_schedule p play) (play_of_plan p play) (play_spent_last p play (play_is_schedule p play)) f played in
+        let run = run_here p play (play_events p) (play_is_schedule p play) (play_of_plan p play) (play_spent_last p play (play_is_schedule p play)) (play_stays p) f played in
         left_image p (empty_start p) f r lawful.words
         (restart p (empty_start p) (zero_start (plan_setup p)) (moment_after p (play_events p)) f run r lawful (durable_row p f).words (row_durable p f lawful.words))
 

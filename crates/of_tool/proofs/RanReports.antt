@@ -42,7 +42,7 @@ use Rattle.of_play.proofs.PlaysStart.{none_finished}
 use Rattle.of_play.proofs.PlaysEvents.{events_of}
 use Rattle.of_play.proofs.PlaysMoments.{IsPlayable, playable}
 use Rattle.of_play.proofs.PlaysSchedule.{items_are_schedule, items_of_plan, items_are_turns}
-use Rattle.of_play.proofs.PlaysSpent.{items_spent_last}
+use Rattle.of_play.proofs.PlaysSpent.{items_spent_last, items_stay}
 use Rattle.of_play.proofs.PlaysBusy.{stopped_never_idle}
 use Rattle.of_play.proofs.PlaysRecords.{left_keeps_allowance, left_in_time}
 use Rattle.of_tool.proofs.WithSchedule.{events_are, left_is_played, reports_with, keeps_with}
@@ -121,11 +121,11 @@ module _ (p : Plan) (play : IsPlayable p) (kept : RunsKeepAllowances) (time : Sc
   keeps : (c : ℕ) → c < p.callers → KeepsAllowance p r c (Some (sum_by (turns_in c) items))
   keeps c lt =
       subst (λ (n : ℕ). KeepsAllowance p r c (Some n)) (items_are_turns p items c)
-      (left_keeps_allowance p play (events_of p items) schedule (items_of_plan p play items h.items_in) (items_spent_last p play items schedule) (without_members p e) left_so kept r here.lawful c lt
+      (left_keeps_allowance p play (events_of p items) schedule (items_of_plan p play items h.items_in) (items_spent_last p play items schedule) (items_stay p items) (without_members p e) left_so kept r here.lawful c lt
       (stopped_never_idle p play items h.items_in (without_members p e) left_so c lt))
 
   in_time : RespectsTime (empty_start p) (marks_in (plan_setup p) (opening_for p) (events_of p items)) r
-  in_time = left_in_time p play (events_of p items) schedule (items_of_plan p play items h.items_in) (items_spent_last p play items schedule) (without_members p e) left_so time r here.lawful
+  in_time = left_in_time p play (events_of p items) schedule (items_of_plan p play items h.items_in) (items_spent_last p play items schedule) (items_stay p items) (without_members p e) left_so time r here.lawful
 
   as_played : IsPlayedReport (with_schedule p items) r
   as_played = record {

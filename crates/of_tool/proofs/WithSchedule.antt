@@ -16,7 +16,7 @@ use Rattle.of_plan.specs.Allowance.{KeepsAllowance}
 use Rattle.of_eval.specs.Record.{IsLawfulRecord, OpenCall, BeyondAnswers, record_number}
 use Rattle.of_eval.specs.Reported.{MakeLeastSteps, ReportsRun}
 use Rattle.of_core.specs.TableMoment.{Moment}
-use Rattle.of_core.specs.Events.{Event, Begins, Turns, Loads, Evicts, Raises, after_event, after_events}
+use Rattle.of_core.specs.Events.{Event, Begins, Turns, Loads, Evicts, Raises, Revives, after_event, after_events}
 use Rattle.of_caller.specs.Tables.{plan_setup, opening_for}
 use Rattle.of_caller.specs.Left.{IsLeftBy}
 use Rattle.of_caller.specs.Scheduled.{item_events, with_begin, events_from}
@@ -37,6 +37,7 @@ module _ (p : Plan) (items : List Item) where
   same_events w (Loads c ∷ ms) = ap (λ (fs : List Event). Loads c ∷ fs) (same_events (after_event (plan_setup p) w (Loads c)) ms)
   same_events w (Evicts k ∷ ms) = ap (λ (fs : List Event). Evicts k ∷ fs) (same_events (after_event (plan_setup p) w (Evicts k)) ms)
   same_events w (Raises c ∷ ms) = ap (λ (fs : List Event). Raises c ∷ fs) (same_events (after_event (plan_setup p) w (Raises c)) ms)
+  same_events w (Revives i made ∷ ms) = ap (λ (fs : List Event). Revives i made ∷ fs) (same_events (after_event (plan_setup p) w (Revives i made)) ms)
 
   -- the events of the plan with this schedule are those of the items
   pub events_are : events_of (with_schedule p items) items ≡ events_of p items

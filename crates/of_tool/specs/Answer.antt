@@ -36,7 +36,7 @@ use Rattle.of_tool.specs.Headline.{IsWholeLoad}
 
 -- ---- the input
 
--- a command that reads this many bytes at most
+-- the command reads an input, which has at most this many bytes
 pub record IsMostOf (command : Command) (most : ℕ) : Type 0 where
   pub input : Input
   pub reads : input_of command ≡ Some input
@@ -50,44 +50,45 @@ IsInputFor command source bytes =
 
 -- ---- failures
 
--- memory ran out, or this holds of why the input is refused
+-- memory ran out, or `Is` holds of the refusal
 abbrev pub FailsBy : (Refusal → Type 0) → Failure → Type 0
 FailsBy Is Memory = Unit {0}
 FailsBy Is (Refused why reason) = Is why
 
--- the output of a command tells why it failed, which is not for want of memory
+-- the output has the status and the text of the refusal; no output tells that memory ran out
 abbrev pub TellsFailure : Command → Output → Failure → Type 0
 TellsFailure command output Memory = ⊥
 TellsFailure command output (Refused why reason) =
     (output.status ≡ status_of why) × (output.text.items ≡ text_of command why)
 
--- why any input of at most this many bytes is refused
+-- the refusal is true of any kind of input that has at most this many bytes
 abbrev pub RefusesUpTo : (most : ℕ) → Change → Refusal → Type 0
 RefusesUpTo most source why = (input : Input) → most ≡ most_of input → IsRefused input source why
 
--- why a text spells no plan
+-- the refusal says why the text spells no plan
 abbrev pub HasNoPlan : List ℕ → Refusal → Type 0
 HasNoPlan text (BadPlan line) = HasBadLine IsPlanText text line
 HasNoPlan text why = ⊥
 
--- why a text has no image
+-- the refusal says why no image of this version is read from the text
 abbrev pub HasNoImage : Edition → List ℕ → Refusal → Type 0
 HasNoImage edition text (BadImage line) = HasBadLine (IsImageText edition) text line
 HasNoImage edition text (UnlawfulImage cell) = IsUnlawful edition text cell
 HasNoImage edition text why = ⊥
 
--- the first text has this image, and the second spells this plan
+-- the first text is read as this image, and the second spells this plan
 pub record AreOf (first second : List ℕ) (image : Image) (plan : Plan) : Type 0 where
   pub reads : ReadsImage Two first image
   pub spelled : SpellsPlan second plan
 
--- and the plan fits the image
+-- the first text is read as this image, the second spells this plan, and the plan fits the image
 pub record IsLife (first second : List ℕ) (image : Image) (plan : Plan) : Type 0 where
   pub are : AreOf first second image plan
   pub fits : PlanFitsImage image plan
 
--- why two texts have no such image and plan: the second spells no plan; or it does, and the first
--- has no image; or it has, and the plan doesn't fit it
+-- the refusal says why the texts are no image with a plan that fits it: the second text spells no
+-- plan; or it spells one, and no image is read from the first; or both are read, and the plan
+-- doesn't fit the image
 abbrev pub HaveNoLife : (first second : List ℕ) → Refusal → Type 0
 HaveNoLife first second (BadPlan line) = HasBadLine IsPlanText second line
 HaveNoLife first second DoesNotFit =

@@ -12,18 +12,17 @@ use Rattle.of_tool.specs.declared.command.Command.TheVariants.{Serial, Play, Tra
 abbrev pub word_bytes : List (String Global) → List (List ℕ)
 word_bytes words = map string_bytes words
 
--- the word spells this number, which is at most so great: digits alone, with no 0 in front of
--- others
+-- the word spells `n` in digits alone, without a leading 0, and `n` is at most `most`
 abbrev pub SpellsUpTo : (most : ℕ) → List ℕ → ℕ → Type 0
 SpellsUpTo most word n = (n ≤ most) × (word ≡ decimal n)
 
--- the words that ask for help
+-- a word that asks for help
 abbrev pub help_word : HelpWord → List ℕ
 help_word Long = codes "--help"
 help_word Short = codes "-h"
 help_word Bare = codes "help"
 
--- the one list of words that is this command
+-- the words of this command; there is only one such list of words
 abbrev pub command_words : Command → List (List ℕ)
 command_words Serial = codes "serial" ∷ []
 command_words Play = codes "play" ∷ []
@@ -55,7 +54,7 @@ pub record IsLoad (callers scripts : ℕ) : Type 0 where
   pub each : scripts ≤ MOST_SCRIPTS
   pub all : callers * scripts ≤ MOST_SCRIPTS
 
--- a part has this number
+-- a part may have this number
 pub record IsPartNumber (number : ℕ) : Type 0 where
   pub some : 1 ≤ number
   pub few : number ≤ MOST_PART
@@ -79,7 +78,7 @@ IsInRange Continue = Unit {0}
 IsInRange (Help word) = Unit {0}
 IsInRange Version = Unit {0}
 
--- it is a command that runs no callers at once
+-- the command runs no callers at once
 abbrev pub IsPlain : Command → Type 0
 IsPlain Run = ⊥
 IsPlain Continue = ⊥
@@ -98,15 +97,15 @@ IsPlain Migrate = Unit {0}
 IsPlain (Help word) = Unit {0}
 IsPlain Version = Unit {0}
 
--- the words are this command
+-- the words spell this command, and its numbers are in range
 abbrev pub AreWordsOf : List (List ℕ) → Command → Type 0
 AreWordsOf words command = IsInRange command × (words ≡ command_words command)
 
--- the words are no command
+-- the words spell no command whose numbers are in range
 abbrev pub IsNoCommand : List (List ℕ) → Type 0
 IsNoCommand words = (command : Command) → AreWordsOf words command → ⊥
 
--- the words are a command that runs callers at once
+-- the words spell a command that runs callers at once
 pub record AreWordsOfTeam (words : List (List ℕ)) : Type 0 where
   pub command : Command
   pub are : AreWordsOf words command

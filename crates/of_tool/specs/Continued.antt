@@ -20,18 +20,19 @@ use Rattle.of_tool.specs.Ran.{IsHistoryOf, KeepsPromises, IsRealRun}
 abbrev pub left_text : Plan → Ended → List ℕ
 left_text p e = image_text Two (durable_row p e)
 
--- the report, and after it the image of the durable words
+-- what `continue` prints: the report, and after it the text of the durable words that the life
+-- leaves
 abbrev pub life_text : Plan → Report → Ended → List ℕ
 life_text p r e = report_text r ++ left_text p e
 
--- The life goes on from the image, which the plan fits, and the next life can go on from what it
--- leaves.
+-- The life goes on from the image, which the plan fits, and the next life can go on from what this
+-- life leaves.
 pub record GoesOnFrom (i : Image) (p : Plan) (r : Report) (e : Ended) : Type 0 where
   pub fits : PlanFitsImage i p
   -- no call that the image holds was run again
   pub not_again : All (IsBehind (start_of_image i)) r.entries
-  -- the text of the durable words is read again as an image, which is where the report ends: its
-  -- sequence, its store, and each caller's ticket. So the next life can be given it
+  -- the text of the durable words is read as an image, which is where the report ends: it has the
+  -- report's sequence and store, and each caller's ticket. So the next life can go on from it
   pub next : Image
   pub leaves : LeavesImage p (start_of_image i) e r next
   pub reads : ReadsImage Two (left_text p e) next
@@ -56,7 +57,7 @@ pub record WritesLife {A : Type 0} (left : A → Option (Option ℕ)) (brakes : 
   pub life : IsLifeReport left brakes i p report e w
   pub text_is : text ≡ life_text p report e
 
--- the text is that of some life
+-- the text is that of some life that goes on from the image by the plan
 pub record IsSomeLifes (i : Image) (p : Plan) (text : List ℕ) : Type 0 where
   pub report : Report
   pub left : Ended

@@ -30,10 +30,10 @@ pub data Input : Type 0 where
   ImageAndPlan : Input
   -- an image, a plan, a report and an image
   WholeLife : Input
-  -- texts of any kind, and which of them is asked for
+  -- texts of any kind, and the number of the one that is to be printed
   AnyTexts : (number : ℕ) → Input
 
--- what a command reads, where it reads
+-- the kind of input that a command reads; None if it reads nothing
 abbrev pub input_of : Command → Option Input
 input_of Serial = Some PlanAlone
 input_of Play = Some PlanAlone
@@ -52,7 +52,7 @@ input_of Continue = Some ImageAndPlan
 input_of (Help word) = None
 input_of Version = None
 
--- how many bytes it has at most
+-- how many bytes an input of this kind has at most
 abbrev pub most_of : Input → ℕ
 most_of PlanAlone = MOST_INPUT
 most_of PlanAndReport = MOST_WITH_REPORT
@@ -61,7 +61,7 @@ most_of ImageAndPlan = MOST_WITH_REPORT
 most_of WholeLife = MOST_WITH_REPORT
 most_of (AnyTexts number) = MOST_WITH_REPORT
 
--- the words are those of a command that reads
+-- the words are those of a command that reads its input
 pub record AskForInput (words : List (List ℕ)) : Type 0 where
   pub command : Command
   pub are : AreWordsOf words command
@@ -82,7 +82,7 @@ pub record ReadsNoPlan (source : Change) (line : ℕ) : Type 0 where
 
 -- ---- a plan and a report
 
--- the first part of the whole input is the text of this plan, and the second this text
+-- the whole input has two parts: the text of this plan, and then the text `report`
 pub record ReadsBoth (source : Change) (plan : Plan) (report : List ℕ) : Type 0 where
   pub bytes : List ℕ
   pub first : List ℕ
@@ -99,14 +99,14 @@ pub record ReadsNoFirst (source : Change) (line : ℕ) : Type 0 where
   pub parts : AreParts bytes first report
   pub bad : HasBadLine IsPlanText first line
 
--- the first part is a plan's text, and the second that of a legal report of the plan
+-- the whole input is the text of a plan, and then that of a legal report of this plan
 pub record ReadsLegal (source : Change) : Type 0 where
   pub plan : Plan
   pub report : List ℕ
   pub read : ReadsBoth source plan report
   pub legal : IsLegalText plan report
 
--- the first part is a plan's text, and the second no legal report's
+-- the whole input is the text of a plan, and then a text that is no legal report of this plan
 pub record ReadsIllegal (source : Change) : Type 0 where
   pub plan : Plan
   pub report : List ℕ
@@ -115,23 +115,24 @@ pub record ReadsIllegal (source : Change) : Type 0 where
 
 -- ---- an image alone
 
--- of the whole input this holds
+-- `Is` holds of the whole input
 pub record ReadsOne (Is : List ℕ → Type 0) (source : Change) : Type 0 where
   pub bytes : List ℕ
   pub read : ReadsAll MOST_IMAGE source bytes
   pub is : Is bytes
 
--- the whole input is the text of an image of this version, and this is the image
+-- the whole input is the text of an image of this version, and is read as this image
 abbrev pub ReadsImageOf : Edition → Change → AnImage → Type 0
 ReadsImageOf edition source image = ReadsOne (λ bytes. ReadsImage edition bytes image) source
 
--- the whole input is the text of a version 1 image, and this is what it is in version 2
+-- the whole input is the text of an image of version 1, and `text` is this image, recovered, in
+-- version 2
 abbrev pub ReadsEarlier : Change → List ℕ → Type 0
 ReadsEarlier source text = ReadsOne (λ bytes. Migrates bytes text) source
 
 -- ---- an image and a plan
 
--- the whole input has two parts: of the first this holds, and the second is the text of this plan
+-- the whole input has two parts: `Is` holds of the first, and the second is the text of this plan
 pub record ReadsBehind (Is : List ℕ → Type 0) (source : Change) (plan : Plan) : Type 0 where
   pub bytes : List ℕ
   pub first : List ℕ
@@ -141,7 +142,7 @@ pub record ReadsBehind (Is : List ℕ → Type 0) (source : Change) (plan : Plan
   pub is : Is first
   pub spelled : SpellsPlan second plan
 
--- the first is the text of this image
+-- the whole input has two parts: the text of this image, and then the text of this plan
 abbrev pub ReadsLife : Change → AnImage → Plan → Type 0
 ReadsLife source image plan = ReadsBehind (λ text. ReadsImage Two text image) source plan
 
@@ -155,7 +156,7 @@ pub record ReadsNoSecond (source : Change) (line : ℕ) : Type 0 where
   pub parts : AreParts bytes first second
   pub bad : HasBadLine IsPlanText second line
 
--- the first part is the text of an image, and the second that of a plan that doesn't fit it
+-- the whole input is the text of an image, and then that of a plan that doesn't fit this image
 pub record ReadsMisfit (source : Change) : Type 0 where
   pub image : AnImage
   pub plan : Plan
@@ -164,8 +165,8 @@ pub record ReadsMisfit (source : Change) : Type 0 where
 
 -- ---- an image, a plan, a report and an image
 
--- the whole input has four parts, one after another: one of which this holds, the text of this
--- plan, a report's, and what is left
+-- the whole input has four parts, one after another: `Is` holds of the first, the second is the
+-- text of this plan, the third is `told`, and the fourth is `left`
 pub record ReadsFour (Is : List ℕ → Type 0) (source : Change) (plan : Plan) (told left : List ℕ)
     : Type 0 where
   pub bytes : List ℕ
@@ -180,12 +181,13 @@ pub record ReadsFour (Is : List ℕ → Type 0) (source : Change) (plan : Plan) 
   pub is : Is first
   pub spelled : SpellsPlan second plan
 
--- the first is the text of this image
+-- the whole input has four parts: the text of this image, the text of this plan, `told` and `left`
 abbrev pub ReadsLived : Change → AnImage → Plan → (told left : List ℕ) → Type 0
 ReadsLived source image plan told left =
     ReadsFour (λ text. ReadsImage Two text image) source plan told left
 
--- the second of these parts is no plan's text, and this is its bad line, counted in that part
+-- the second of the four parts of the whole input is no plan's text, and this is its bad line,
+-- counted in that part
 pub record ReadsNoLifePlan (source : Change) (line : ℕ) : Type 0 where
   pub bytes : List ℕ
   pub first : List ℕ
@@ -197,14 +199,14 @@ pub record ReadsNoLifePlan (source : Change) (line : ℕ) : Type 0 where
   pub second_parts : AreParts behind second others
   pub bad : HasBadLine IsPlanText second line
 
--- of the first of these parts this holds, and the second is a plan's text
+-- the whole input has four parts: `Is` holds of the first, and the second is a plan's text
 pub record ReadsFirstOfFour (Is : List ℕ → Type 0) (source : Change) : Type 0 where
   pub plan : Plan
   pub told : List ℕ
   pub left : List ℕ
   pub read : ReadsFour Is source plan told left
 
--- an image and a plan that doesn't fit it come first
+-- the whole input has four parts: the first is an image, and the second a plan that doesn't fit it
 pub record ReadsLifeMisfit (source : Change) : Type 0 where
   pub image : AnImage
   pub plan : Plan
@@ -213,7 +215,8 @@ pub record ReadsLifeMisfit (source : Change) : Type 0 where
   pub read : ReadsLived source image plan told left
   pub misfit : PlanFitsImage image plan → ⊥
 
--- an image, a plan that fits it, and the report and the image of a life that goes on from it
+-- the whole input has four parts: an image, a plan that fits it, and the report and the image of a
+-- life that goes on from the first image by the plan
 pub record ReadsLegalLife (source : Change) : Type 0 where
   pub image : AnImage
   pub plan : Plan
@@ -223,7 +226,8 @@ pub record ReadsLegalLife (source : Change) : Type 0 where
   pub fits : PlanFitsImage image plan
   pub legal : IsLegalLife image plan told left
 
--- an image, a plan that fits it, and what is no such life's
+-- the whole input has four parts: an image, a plan that fits it, and two texts that are not the
+-- report and the image of a life that goes on from the first image by the plan
 pub record ReadsIllegalLife (source : Change) : Type 0 where
   pub image : AnImage
   pub plan : Plan
@@ -242,7 +246,7 @@ pub record ReadsPart (number : ℕ) (source : Change) (part : List ℕ) : Type 0
   pub is : IsPart number bytes part
   pub some : 1 ≤ length part
 
--- the whole input has fewer texts: its part with this number is empty
+-- the whole input has fewer than `number` texts: the part with this number is empty
 pub record ReadsFewer (number : ℕ) (source : Change) : Type 0 where
   pub bytes : List ℕ
   pub read : ReadsAll MOST_WITH_REPORT source bytes
@@ -255,7 +259,7 @@ pub record AreLeft (most : ℕ) (left : Option (List ℕ)) (bytes : List ℕ) : 
   pub are : left ≡ Some bytes
   pub few : length bytes ≤ most
 
--- the bytes that are left are a plan's text within the limit
+-- the bytes that are left in the source are a plan's text, within the limit
 pub record IsPlanInput (left : Option (List ℕ)) : Type 0 where
   pub bytes : List ℕ
   pub left_is : AreLeft MOST_INPUT left bytes
@@ -272,7 +276,8 @@ pub record IsCheckInput (left : Option (List ℕ)) : Type 0 where
   pub plan : Plan
   pub spelled : SpellsPlan first plan
 
--- the bytes that are left are the text of a lawful image of this version within the limit
+-- the bytes that are left in the source are the text of a lawful image of this version, within the
+-- limit
 pub record IsImageInput (edition : Edition) (left : Option (List ℕ)) : Type 0 where
   pub bytes : List ℕ
   pub left_is : AreLeft MOST_IMAGE left bytes
@@ -308,7 +313,7 @@ pub record IsLivedInput (left : Option (List ℕ)) : Type 0 where
   pub plan : Plan
   pub spelled : SpellsPlan second plan
 
--- the bytes that are left have a part with this number, within the limit
+-- the bytes that are left in the source have a part with this number, within the limit
 pub record IsTextsInput (number : ℕ) (left : Option (List ℕ)) : Type 0 where
   pub bytes : List ℕ
   pub left_is : AreLeft MOST_WITH_REPORT left bytes
@@ -316,7 +321,8 @@ pub record IsTextsInput (number : ℕ) (left : Option (List ℕ)) : Type 0 where
   pub is : IsPart number bytes part
   pub some : 1 ≤ length part
 
--- the bytes that are left are a valid input of a kind, or of a command that reads nothing any
+-- the bytes that are left in the source are a valid input of this kind; if nothing is to be read,
+-- any bytes are valid
 abbrev pub IsInputOf : Option Input → Option (List ℕ) → Type 0
 IsInputOf None left = Unit {0}
 IsInputOf (Some PlanAlone) left = IsPlanInput left
@@ -326,6 +332,6 @@ IsInputOf (Some ImageAndPlan) left = IsLifeInput left
 IsInputOf (Some WholeLife) left = IsLivedInput left
 IsInputOf (Some (AnyTexts number)) left = IsTextsInput number left
 
--- the input of a command is what the command reads
+-- the bytes that are left in the source are a valid input of the command
 abbrev pub IsValidInput : Command → Option (List ℕ) → Type 0
 IsValidInput command left = IsInputOf (input_of command) left

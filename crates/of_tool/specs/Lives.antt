@@ -24,19 +24,19 @@ use Rattle.of_tool.specs.declared.legal_life.ReadLeft.TheVariants.{Image as Left
 use Rattle.of_tool.specs.declared.legal_life.LifeCause.{LifeCause}
 use Rattle.of_tool.specs.declared.legal_life.LifeCause.TheVariants.{Told, Left, Ends}
 
--- the text is the printed one of a row
+-- the text is the one that is printed of some durable row
 pub record IsPrinted (text : List ℕ) : Type 0 where
   pub row : DurableRow
   pub spelled : SpellsImage Two text row
   pub is : text ≡ image_text Two row
 
--- the text is the printed one of a row in which recovery finds this image
+-- the text is the one that is printed of some durable row, and recovery finds this image in the row
 pub record IsLeft (text : List ℕ) (i : Image) : Type 0 where
   pub printed : IsPrinted text
   pub reads : ReadsImage Two text i
 
--- The first text is that of a report which is legal for the plan from the image's start, and the
--- second is the printed one of durable words in which recovery finds where that report ends.
+-- `told` is the text of a report that is legal for the plan from the image's start; `left` is
+-- printed of durable words in which recovery finds the image at which that report ends
 pub record IsLegalLife (i : Image) (p : Plan) (told left : List ℕ) : Type 0 where
   pub report : Report
   pub legal : IsLegal p (start_of_image i) report
@@ -45,28 +45,30 @@ pub record IsLegalLife (i : Image) (p : Plan) (told left : List ℕ) : Type 0 wh
   pub left_is : IsLeft left next
   pub ends : EndsAt p (start_of_image i) report next
 
--- legal exactly where it is so
+-- the verdict is `Legal` if the two texts are those of a legal life, and `Illegal` if they aren't
 abbrev pub IsLifeVerdict : Image → Plan → (told left : List ℕ) → Verdict → Type 0
 IsLifeVerdict i p told left Legal = IsLegalLife i p told left
 IsLifeVerdict i p told left Illegal = IsLegalLife i p told left → ⊥
 
--- why the text is not the printed one of an image
+-- the fault says why the text is not one that is printed of an image
 abbrev pub IsLeftFault : List ℕ → LeftFault → Type 0
 IsLeftFault text (Bad line) = HasBadLine (IsImageText Two) text line
 IsLeftFault text (Unlawful cell) = IsUnlawful Two text cell
 IsLeftFault text NotPrinted = (i : Image) × ReadsImage Two text i × (IsPrinted text → ⊥)
 
--- the text is the printed one of the image, or this is why not
+-- what was read is true of the text: the text is the one that is printed of this image, or the
+-- fault says why it is none that is printed of an image
 abbrev pub IsReadLeft : List ℕ → ReadLeft → Type 0
 IsReadLeft text (LeftImage i) = IsLeft text i
 IsReadLeft text (Fault fault) = IsLeftFault text fault
 
--- what is read is an image, if it is not a fault
+-- if an image was read, it is one that a text can have
 abbrev pub HasLeftImage : ReadLeft → Type 0
 HasLeftImage (LeftImage i) = IsImage MOST_INSTRS i
 HasLeftImage (Fault fault) = Unit {0}
 
--- the report is legal and the image is one, but it is not where the report ends
+-- the first text is that of a legal report and the second is printed of an image, but the report
+-- doesn't end at this image: `Breaks` holds of the two
 pub record EndsElsewhere (i : Image) (p : Plan) (told left : List ℕ)
     (Breaks : Report → Image → Type 0) : Type 0 where
   pub report : Report
@@ -75,8 +77,8 @@ pub record EndsElsewhere (i : Image) (p : Plan) (told left : List ℕ)
   pub left_is : IsLeft left next
   pub breaks : Breaks report next
 
--- the first thing that is wrong: the report is not legal; or it is, and the image is none; or both
--- are right, and the report ends elsewhere
+-- the cause is the first thing that is wrong: the report is not legal; or it is, and the text after
+-- it is printed of no image; or both are right, and the report doesn't end at the image
 abbrev pub IsLifeCause : Image → Plan → (told left : List ℕ) → LifeCause → Type 0
 IsLifeCause i p told left (Told cause) = IsCauseFrom p (start_of_image i) told cause
 IsLifeCause i p told left (Left fault) =
@@ -84,7 +86,8 @@ IsLifeCause i p told left (Left fault) =
 IsLifeCause i p told left (Ends rule) =
     EndsElsewhere i p told left (λ report next. BreaksLeft p (start_of_image i) report next rule)
 
--- nothing is wrong with a legal life, and else this is, and it is none
+-- without a cause the two texts are those of a legal life; with one they are not, and the cause is
+-- true
 abbrev pub IsLifeJudgement : Image → Plan → (told left : List ℕ) → Option LifeCause → Type 0
 IsLifeJudgement i p told left None = IsLegalLife i p told left
 IsLifeJudgement i p told left (Some cause) =

@@ -23,15 +23,14 @@ use Rattle.of_tool.specs.Continued.{IsSomeLifes}
 use Rattle.of_tool.specs.Seen.{Change, Seen, IsWritten}
 use Rattle.of_tool.specs.Inputs.{ReadsPlan, ReadsLegal, ReadsLegalLife, ReadsPart, ReadsImageOf, ReadsEarlier, ReadsLife}
 
--- the whole input is a plan's text, and the text is the report of its serial replay, which is a
--- legal one
+-- the whole input is a plan's text, and `text` is the report of its serial replay, which is legal
 pub record MakesSerial (source : Change) (text : List ℕ) : Type 0 where
   pub plan : Plan
   pub read : ReadsPlan source plan
   pub legal : IsLegal plan (empty_start plan) (serial_report plan)
   pub text_is : text ≡ report_text (serial_report plan)
 
--- the text is the report of what the plan's schedule leaves
+-- the whole input is a plan's text, and `text` is the report of what the plan's schedule leaves
 pub record MakesPlay (source : Change) (text : List ℕ) : Type 0 where
   pub plan : Plan
   pub read : ReadsPlan source plan
@@ -45,13 +44,13 @@ pub record MakesTrace (first count : ℕ) (source : Change) (text : List ℕ) : 
   pub read : ReadsPlan source plan
   pub text_is : text ≡ trace_text plan first count
 
--- the text is the lines of the commits of the plan's schedule
+-- the whole input is a plan's text, and `text` has the lines of the commits of its schedule
 pub record MakesCommits (source : Change) (text : List ℕ) : Type 0 where
   pub plan : Plan
   pub read : ReadsPlan source plan
   pub text_is : text ≡ commits_text plan ALL_EVENTS
 
--- the text is the report of some run of the plan
+-- the whole input is a plan's text, and `text` is the report of some run of the plan
 pub record MakesRun (source : Change) (text : List ℕ) : Type 0 where
   pub plan : Plan
   pub read : ReadsPlan source plan
@@ -66,43 +65,44 @@ pub record MakesLoad (callers scripts : ℕ) (text : List ℕ) : Type 0 where
   pub run : IsSomeRuns (generated_plan callers scripts) report
   pub text_is : text ≡ load_text report
 
--- the report that was read is legal, and the text says so
+-- the whole input is a plan and a legal report of it, and `text` says that the report is legal
 pub record MakesCheck (source : Change) (text : List ℕ) : Type 0 where
   pub legal : ReadsLegal source
   pub text_is : text ≡ codes "legal report\n"
 
--- the life that was read is legal, and the text says so
+-- the whole input is an image, a plan and the texts of a legal life, and `text` says that the life
+-- is legal
 pub record MakesCheckLife (source : Change) (text : List ℕ) : Type 0 where
   pub legal : ReadsLegalLife source
   pub text_is : text ≡ codes "legal life\n"
 
--- the text is the image of what the plan's schedule leaves
+-- the whole input is a plan's text, and `text` is the image of what the plan's schedule leaves
 pub record MakesImage (source : Change) (text : List ℕ) : Type 0 where
   pub plan : Plan
   pub read : ReadsPlan source plan
   pub played : IsPlayedImage plan text
 
--- the whole input is an image's text, and the text is what recovery finds in it
+-- the whole input is an image's text, and `text` is what recovery finds in it
 pub record MakesRecovered (source : Change) (text : List ℕ) : Type 0 where
   pub image : AnImage
   pub read : ReadsImageOf Two source image
   pub text_is : text ≡ recovered_text image
 
--- the whole input is an image's text, and the text is the image with its sequences begun anew
+-- the whole input is an image's text, and `text` is that of the image with its sequences begun anew
 pub record MakesRenumbered (source : Change) (text : List ℕ) : Type 0 where
   pub image : AnImage
   pub read : ReadsImageOf Two source image
   pub renumbers : Renumbers image text
 
--- the whole input is an image's text and a plan's, and the text is that of some life that goes on
--- from the image by the plan
+-- the whole input is an image's text and then a plan's, and `text` is that of some life that goes
+-- on from the image by the plan
 pub record MakesLife (source : Change) (text : List ℕ) : Type 0 where
   pub image : AnImage
   pub plan : Plan
   pub read : ReadsLife source image plan
   pub life : IsSomeLifes image plan text
 
--- what each command makes of its input
+-- `text` is what the command makes of its input
 abbrev pub Makes : Command → Change → (text : List ℕ) → Type 0
 Makes Serial source text = MakesSerial source text
 Makes Play source text = MakesPlay source text
@@ -121,7 +121,7 @@ Makes Continue source text = MakesLife source text
 Makes (Help word) source text = text ≡ HELP.now
 Makes Version source text = text ≡ VERSION.now
 
--- what each command has done: it has written what it makes of its input
+-- the command has written what it makes of its input
 pub record Did (command : Command) (seen : Seen) : Type 0 where
   pub text : List ℕ
   pub makes : Makes command seen.source text

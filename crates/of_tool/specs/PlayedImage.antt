@@ -9,23 +9,22 @@ use Rattle.of_image.specs.RunImage.{IsImageOf, durable_row}
 use Rattle.of_lives.specs.Continuing.{LeavesImage}
 use Rattle.of_play.specs.Played.{IsPlayedReport}
 
--- The text is the image of the durable words that a run with this report leaves. It has the
--- report's sequence and store, and each caller's ticket is the one that is counted from its entries
--- in the report. So a life that goes on from this image runs none of the report's announced calls
--- again.
+-- The text is the image of the durable words that a run with this report leaves. The image has the
+-- report's sequence and store, and a caller's ticket is that of its last announced entry. So a life
+-- that goes on from this image runs none of the report's announced calls again.
 pub record ShowsRun (p : Plan) (e : Ended) (r : Report) (text : List ℕ) : Type 0 where
   pub spelled : SpellsImage Two text (durable_row p e)
   pub image : IsImageOf p e r text
   pub leaves : LeavesImage p (empty_start p) e r image.image
 
--- the text is the image of the moment that a plan's schedule leaves: of the run of which `play`
--- prints the report
+-- the text is the image of what a plan's schedule leaves, in the run whose report `play` prints
 pub record IsPlayedImage (p : Plan) (text : List ℕ) : Type 0 where
   pub report : Report
   pub played : IsPlayedReport p report
   pub shows : ShowsRun p played.run report text
 
--- such a text is the image of each report that `play` prints of the plan
+-- a text that is the image of what the plan's schedule leaves agrees with each report that `play`
+-- prints of the plan
 abbrev pub ShowsEachPlay : Plan → Type 0
 ShowsEachPlay p =
     (text : List ℕ) → IsPlayedImage p text

@@ -15,7 +15,7 @@ use Rattle.of_tool.specs.declared.command.Command.TheVariants.{CheckLife, Part}
 use Rattle.of_tool.specs.Seen.{Change}
 use Rattle.of_tool.specs.Inputs.{Input, input_of, PlanAlone, PlanAndReport, ImageAlone, ImageAndPlan, WholeLife, AnyTexts, most_of, ReadsNoPlan, ReadsNoFirst, ReadsIllegal, ReadsOne, ReadsBehind, ReadsNoSecond, ReadsMisfit, ReadsNoLifePlan, ReadsFirstOfFour, ReadsLifeMisfit, ReadsIllegalLife, ReadsFewer}
 
--- the status of a refusal
+-- the exit status of a command whose input is refused
 abbrev pub status_of : Refusal → ℕ
 status_of ReadFault = READ_FAULT
 status_of TooLong = TOO_LONG
@@ -25,17 +25,19 @@ status_of (UnlawfulImage cell) = BAD_IMAGE
 status_of DoesNotFit = DOES_NOT_FIT
 status_of Illegal = ILLEGAL
 
--- what a command prints if the input doesn't fit: there is no such part, or else a plan doesn't fit
+-- what a command prints if its input doesn't fit: `part` prints that there is no such part, another
+-- command that the plan doesn't fit
 abbrev pub misfit_text : Command → List ℕ
 misfit_text (Part number) = codes "error: no such part\n"
 misfit_text command = codes "error: plan does not fit image\n"
 
--- and if something in it is illegal: a life, or else a report
+-- what a command prints if its input is illegal: `check-life` names a life, another command a
+-- report
 abbrev pub illegal_text : Command → List ℕ
 illegal_text CheckLife = codes "error: not a legal life\n"
 illegal_text command = codes "error: not a legal report\n"
 
--- what it prints of a refusal
+-- what a command prints if its input is refused
 abbrev pub text_of : Command → Refusal → List ℕ
 text_of command ReadFault = codes "error: read fault\n"
 text_of command TooLong = codes "error: input too long\n"
@@ -53,7 +55,7 @@ pub record ReadFails (most : ℕ) (source : Change) : Type 0 where
   pub fault : HasRisen source.faults source.faults_after
   pub few : TakesAtMost most source.before source.after
 
--- the plan of the input is no plan's text, and this is its bad line
+-- the part of the input that should be a plan's text is none, and this is its bad line
 abbrev pub HasBadPlan : Input → Change → (line : ℕ) → Type 0
 HasBadPlan PlanAlone source line = ReadsNoPlan source line
 HasBadPlan PlanAndReport source line = ReadsNoFirst source line
@@ -62,7 +64,8 @@ HasBadPlan ImageAndPlan source line = ReadsNoSecond source line
 HasBadPlan WholeLife source line = ReadsNoLifePlan source line
 HasBadPlan (AnyTexts number) source line = ⊥
 
--- the plan of the input is one, where there is to be one, and of the image's text this holds
+-- `Is` holds of the part of the input that should be an image's text; if there is also a part that
+-- should be a plan's text, it is one
 abbrev pub HasBadImage : (Edition → List ℕ → Type 0) → Input → Change → Type 0
 HasBadImage Is PlanAlone source = ⊥
 HasBadImage Is PlanAndReport source = ⊥
@@ -71,7 +74,8 @@ HasBadImage Is ImageAndPlan source = (plan : Plan) × ReadsBehind (Is Two) sourc
 HasBadImage Is WholeLife source = ReadsFirstOfFour (Is Two) source
 HasBadImage Is (AnyTexts number) source = ⊥
 
--- the plan of the input does not fit its image, or the input has fewer texts
+-- the plan in the input does not fit the image; or, for the command `part N`, the input has fewer
+-- than N texts
 abbrev pub HasMisfit : Input → Change → Type 0
 HasMisfit PlanAlone source = ⊥
 HasMisfit PlanAndReport source = ⊥
@@ -80,7 +84,7 @@ HasMisfit ImageAndPlan source = ReadsMisfit source
 HasMisfit WholeLife source = ReadsLifeMisfit source
 HasMisfit (AnyTexts number) source = ReadsFewer number source
 
--- the report, or the life, is not a legal one
+-- the report, or the life, in the input is not a legal one
 abbrev pub IsIllegal : Input → Change → Type 0
 IsIllegal PlanAlone source = ⊥
 IsIllegal PlanAndReport source = ReadsIllegal source
@@ -89,7 +93,7 @@ IsIllegal ImageAndPlan source = ⊥
 IsIllegal WholeLife source = ReadsIllegalLife source
 IsIllegal (AnyTexts number) source = ⊥
 
--- why an input of this kind is refused so
+-- the refusal is true of an input of this kind
 abbrev pub IsRefused : Input → Change → Refusal → Type 0
 IsRefused input source ReadFault = ReadFails (most_of input) source
 IsRefused input source TooLong = TakesMoreThan (most_of input) source.before source.after
@@ -101,7 +105,7 @@ IsRefused input source (UnlawfulImage cell) =
 IsRefused input source DoesNotFit = HasMisfit input source
 IsRefused input source Illegal = IsIllegal input source
 
--- why the input of a command is refused
+-- the refusal is true of the input that the command reads
 pub record IsRefusedFor (command : Command) (source : Change) (why : Refusal) : Type 0 where
   pub input : Input
   pub reads : input_of command ≡ Some input
@@ -115,7 +119,8 @@ pub record IsRefusal (command : Command) (source : Change) (status : ℕ) (text 
   pub status_is : status ≡ status_of why
   pub text_is : text ≡ text_of command why
 
--- what statuses 8 and 9 say of an input, where a command reads one
+-- status 8 means that the input, if one is read, has an illegal report or life; status 9 means that
+-- its plan does not fit its image, or that it has too few texts for `part`
 abbrev pub FindsWrong : Option Input → Change → (status : ℕ) → Type 0
 FindsWrong reads source status =
     (input : Input) → reads ≡ Some input

@@ -5,8 +5,8 @@ use Rattle.of_plan.specs.Ended.{Ended}
 use Rattle.of_row.specs.Views.{View}
 use Rattle.of_row.specs.declared.member.Pass.{Pass}
 
--- a source or a sink before and after a call: the bytes that it has left or has written, where it
--- tells them, and how often it has failed
+-- a source or a sink before and after a call: the bytes that a source has left or a sink has
+-- written, if it shows them, and how often it has failed
 pub record Change : Type 0 where
   pub before : Option (List ℕ)
   pub after : Option (List ℕ)
@@ -46,23 +46,23 @@ pub record ReadsAll (most : ℕ) (source : Change) (bytes : List ℕ) : Type 0 w
   pub few : length bytes ≤ most
   pub no_fault : source.faults_after ≡ source.faults
 
--- the whole text was written and finished
+-- the whole text was written to the sink, and finished
 pub record IsWritten (seen : Seen) (text : List ℕ) : Type 0 where
   pub bytes : Appends seen.sink.before seen.sink.after text
   pub finished : IsTrue seen.finished
 
--- the sink is as it was
+-- the sink is as it was before the call
 pub record IsUntouched (seen : Seen) : Type 0 where
   pub bytes : seen.sink.after ≡ seen.sink.before
   pub finished : seen.finished ≡ seen.was_finished
   pub faults : seen.sink.faults_after ≡ seen.sink.faults
 
--- a count of faults that is not yet at its last value
+-- the count of faults is below its greatest value, so it can still rise
 abbrev pub CanRise : ℕ → Type 0
 CanRise faults = faults < 2 ^ 64 - 1
 
--- what was there before the call tells its causes apart: the source tells its bytes, the counts of
--- faults can rise, and the sink is not finished
+-- before the call the source showed its bytes, the counts of faults could rise, and the sink was
+-- not finished: so the causes of the statuses can be told apart
 pub record IsFresh (seen : Seen) : Type 0 where
   pub bytes : List ℕ
   pub known : seen.source.before ≡ Some bytes
@@ -76,7 +76,7 @@ pub record IsFresh (seen : Seen) : Type 0 where
 abbrev pub view_of : Pass → View
 view_of pass = pass.seat.me.0
 
--- a run has left a record and a pass, and this holds of the record and of what the pass has seen
+-- a run has left a record and a pass, and `Is` holds of the record and of what the pass has seen
 abbrev pub RecordHolds : Option (Ended × Pass) → (Ended → View → Type 0) → Type 0
 RecordHolds None Is = ⊥
 RecordHolds (Some ran) Is = Is ran.0 (view_of ran.1)

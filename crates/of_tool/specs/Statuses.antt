@@ -9,13 +9,15 @@ use Rattle.of_tool.specs.Seen.{Change, Seen, IsWritten, IsUntouched, IsFresh}
 use Rattle.of_tool.specs.Refusals.{IsRefusal}
 use Rattle.of_tool.specs.Makes.{Makes}
 
--- a command's answer to its input: it is done, or its input is refused
+-- the status and the text are a command's answer to its input: the command is done, or its input is
+-- refused
 pub data IsAnswerTo (command : Command) (source : Change) (status : ℕ) (text : List ℕ)
     : Type 0 where
   Done : status ≡ DONE → Makes command source text → IsAnswerTo command source status text
   Refused : IsRefusal command source status text → IsAnswerTo command source status text
 
--- the answer to the words of a command line
+-- the status and the text are the answer to the words of a command line; words that are no command
+-- have an answer too
 pub data IsAnswer (words : List (List ℕ)) (source : Change) (status : ℕ) (text : List ℕ)
     : Type 0 where
   To : (command : Command) → AreWordsOf words command → IsAnswerTo command source status text
@@ -63,7 +65,7 @@ OneError =
     → IsAnswer words seen.source status text → IsAnswer words seen.source other said
     → (status ≡ DONE → ⊥) → text ≡ said
 
--- how a command with a valid input ends where no read and no write fails
+-- how a command with a valid input ends if no read and no write fails
 pub data Ends (command : Command) (status : ℕ) : Type 0 where
   IsDone : status ≡ DONE → Ends command status
   LacksMemory : status ≡ OUT_OF_MEMORY → Ends command status

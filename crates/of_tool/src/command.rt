@@ -63,7 +63,7 @@ pub const MOST_FIRST: u32 = 10_000_000;
 /// The most events of a trace.
 pub const MOST_EVENTS: u32 = 10_000;
 
-/// The greatest number of a part.
+/// The greatest number that `part` takes.
 pub const MOST_PART: u32 = 1_000_000;
 
 /// A word that asks for help.
@@ -95,11 +95,11 @@ pub enum Command {
     Load { callers: u32, scripts: u32 },
     /// Reads a plan and a report, and prints whether the report is a legal one of the plan.
     Check,
-    /// Reads an image, a plan, a report and an image, and prints whether report and image are those
-    /// of a life that goes on from the first image by the plan.
+    /// Reads an image, a plan, a report and a second image, and prints whether the report and the
+    /// second image are those of a life that goes on from the first image by the plan.
     CheckLife,
     /// Reads texts one after another, each up to its first line `end`, and prints the one with this
-    /// number, from 1.
+    /// number, counted from 1.
     Part { number: u32 },
     /// Reads a plan, runs its schedule step by step, and prints the image of what it leaves.
     Image,
@@ -109,10 +109,10 @@ pub enum Command {
     Renumber,
     /// Reads an image of version 1, recovers it, and prints it in version 2.
     Migrate,
-    /// Reads an image and a plan, runs the plan's callers at once from where the image left, and
-    /// prints the report and the image of what they leave.
+    /// Reads an image and a plan, runs the plan's callers at once from what recovery finds in the
+    /// image, and prints the report and the image of what they leave.
     Continue,
-    /// Prints how the program is used, whichever word asks for it.
+    /// Prints how the program is used; `word` is the word that asked for it.
     Help { word: HelpWord },
     /// Prints the name and the version.
     Version,
@@ -227,8 +227,8 @@ impl Command {
         }
     }
 
-    /// The command that the words are, where they are one. Numbers are spelled by digits alone,
-    /// with no 0 in front of others.
+    /// The command that the words spell; None if they spell none. Numbers are spelled in digits
+    /// alone, without a leading 0.
     pub fn from_words(words: &[String]) -> Option<Command>
         ensures { MatchOption result
             (IsNoCommand (word_bytes words.now))

@@ -36,20 +36,20 @@ use of_serial::serial;
 use std::alloc::{AllocError, Global};
 use std::thread::Threads;
 
-/// The most bytes that a command reads which reads a plan alone.
+/// The most bytes that a command reads if its input is only a plan.
 pub const MOST_INPUT: usize = 1 << 20;
 
-/// The most bytes that a command reads whose input has parts: `check` a plan and a report,
-/// `continue` an image and a plan, `check-life` an image, a plan, a report and an image, and `part`
-/// any.
+/// The most bytes that a command reads if its input has several parts: that of `check` is a plan
+/// and a report, that of `continue` an image and a plan, that of `check-life` an image, a plan, a
+/// report and an image, and that of `part` texts of any kind.
 pub const MOST_WITH_REPORT: usize = 1 << 22;
 
-/// The most bytes that a command reads which reads an image. The greatest that `image` prints has
-/// 62,304 lines of cells of at most 33 bytes each, and 42 bytes beside them.
+/// The most bytes that a command reads if its input is only an image. The greatest image that
+/// `image` prints has 62,304 lines of cells, of at most 33 bytes each, and 42 more bytes.
 pub const MOST_IMAGE: usize = 1 << 22;
 
-/// What callers that ran at once have left, where they did: the record of the run, and the pass
-/// that has seen it.
+/// What callers that ran at once have left: the record of the run, and the pass that has seen it.
+/// None if no callers ran at once.
 pub type TeamRecord = Option<(Ended, Pass)>;
 
 // The text that a command makes of a plan alone.

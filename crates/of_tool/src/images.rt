@@ -20,7 +20,8 @@ use of_plan::Plan;
 use of_play::play;
 use std::alloc::{AllocError, Global};
 
-/// The image of what a plan's schedule leaves: the durable words of the table then.
+/// The text of the image of what a plan's schedule leaves: of the durable words after the last
+/// step.
 pub(crate) fn play_image(alloc: Global, plan: &Plan) -> Result<Vec<u8>, AllocError>
     ensures { IfOk result (λ text. IsPlayedImage plan.now text.items) }
 {

@@ -77,7 +77,7 @@ pub(crate) fn plan_in(alloc: Global, text: &[u8]) -> Result<Plan, Failure>
     }
 }
 
-/// Why a text has no image of a version.
+/// Why no image of a version is read from a text.
 pub(crate) fn image_failure(alloc: Global, err: ImageErr, version: Version, text: &[u8]) -> Failure
     requires { ImageIsRefused version text.now err }
     ensures { FailsBy (HasNoImage version text.now) result }
@@ -96,7 +96,7 @@ pub(crate) fn image_failure(alloc: Global, err: ImageErr, version: Version, text
     }
 }
 
-/// The image that a text has.
+/// The image that is read from a text.
 pub(crate) fn image_in(alloc: Global, text: &[u8]) -> Result<Image, Failure>
     ensures read { MatchResult result (λ image. ReadsImage Two text.now image)
         (FailsBy (HasNoImage Two text.now)) }
@@ -108,7 +108,7 @@ pub(crate) fn image_in(alloc: Global, text: &[u8]) -> Result<Image, Failure>
     }
 }
 
-/// The image that the first text has and the plan that the second one spells, which fits it.
+/// The image of the first text and the plan of the second, if the plan fits the image.
 pub(crate) fn life_in(alloc: Global, first: &[u8], second: &[u8]) -> Result<(Image, Plan), Failure>
     ensures read { MatchResult result (λ life. IsLife first.now second.now life.0 life.1)
         (FailsBy (HaveNoLife first.now second.now)) }

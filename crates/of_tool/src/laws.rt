@@ -43,9 +43,9 @@ pub fn numbers()
     ensures image { MOST_IMAGE ≡ 4194304 }
 {}
 
-/// What a plan's memory has room for, and how far a trace reaches: callers, words of a script,
-/// cells of the greatest store, registers, buckets, queues, keys and items together. A table of a
-/// program's own work may have more data cells.
+/// How much fits into a plan's memory, and how far a trace reaches: the most callers, words of a
+/// script, registers, buckets and queues, the most keys and items together, the data cells of the
+/// greatest store, and the events. A table of a program's own work may have more data cells.
 pub fn limits()
     ensures callers { MOST_PLAN_CALLERS ≡ 16 }
     ensures instrs { MOST_INSTRS ≡ 16 }
@@ -60,7 +60,7 @@ pub fn limits()
     ensures events { MOST_EVENTS ≡ 10000 }
 {}
 
-/// The texts of `--help` and `--version`; those of errors are in the definition of what is written.
+/// The texts of `--help` and `--version`. The texts of errors are defined in `specs/Refusals.antt`.
 pub fn help_and_version()
     ensures version { VERSION.now ≡ codes "onefile 0.1.0\n" }
     ensures help { HELP.now ≡ help_text }

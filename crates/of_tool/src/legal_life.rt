@@ -15,34 +15,34 @@ use of_report::laws::one_report;
 use of_report::{Image, Report};
 use std::alloc::{AllocError, Global};
 
-/// Why a text is not the printed one of an image.
+/// Why the text after a report is not one that is printed of an image.
 #[derive(Clone, Copy, Debug, PartialEq, Eq)]
 pub enum LeftFault {
-    /// It is not in the grammar of images, and this is its bad line.
+    /// The text is not in the grammar of images, and this is its bad line.
     Bad { line: u64 },
-    /// It is an unlawful image, and this is its first cell at fault.
+    /// The text is that of an unlawful image, and this is the first cell at fault.
     Unlawful { cell: u32 },
-    /// It is an image, but `image` would print it otherwise.
+    /// The text is read as an image, but `image` would print this image otherwise.
     NotPrinted,
 }
 
 /// Why a report and an image are not those of a life: the first thing that is wrong.
 #[derive(Debug, Drop)]
 pub enum LifeCause {
-    /// The report is not a legal one from where the image before it left.
+    /// The report is not legal from the start that the first image has.
     Told(Cause),
-    /// The text after the report is not the printed one of an image.
+    /// The text after the report is not one that is printed of an image.
     Left(LeftFault),
-    /// The image after the report is not where the report ends.
+    /// The report does not end at the image that comes after it.
     Ends(LeftRule),
 }
 
 // What is read of the text after a report.
 #[derive(Drop)]
 enum ReadLeft {
-    // It is the printed one of this image.
+    // The text is the one that is printed of this image.
     Image(Image),
-    // It is none of an image, and this is why.
+    // The text is printed of no image, and this is why.
     Fault(LeftFault),
 }
 
@@ -76,8 +76,8 @@ fn in_range(plan: &Plan)
     let _ = plan.callers();
 }
 
-/// Why a report and an image are not those of a life that goes on from an image by a plan; nothing
-/// exactly if they are. The error is out of memory.
+/// Why a report and an image are not those of a life that goes on from the first image by a plan.
+/// None means that they are. An error means out of memory.
 pub fn why_life(
     alloc: Global,
     image: Image,
@@ -108,8 +108,8 @@ pub fn why_life(
     }
 }
 
-/// Whether a report and an image are those of a life that goes on from an image by a plan: `Legal`
-/// exactly if they are, and `Illegal` exactly if they aren't. The error is out of memory.
+/// Whether a report and an image are those of a life that goes on from the first image by a plan.
+/// An error means out of memory.
 pub fn check_life(
     alloc: Global,
     image: Image,

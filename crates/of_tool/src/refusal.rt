@@ -13,22 +13,23 @@ use std::alloc::{AllocError, Global};
 pub enum Refusal {
     /// A read failed.
     ReadFault,
-    /// It has more bytes than the command reads.
+    /// The input has more bytes than the command reads.
     TooLong,
-    /// The text of its plan is none, and this is its bad line.
+    /// The text that should be a plan's is none, and this is its bad line.
     BadPlan { line: u64 },
-    /// The text of its image is none, and this is its bad line.
+    /// The text that should be an image's is none, and this is its bad line.
     BadImage { line: u64 },
-    /// Its image is unlawful, and this is the first cell at fault.
+    /// The image in the input is unlawful, and this is the first cell at fault.
     UnlawfulImage { cell: u32 },
-    /// Its plan does not fit its image, or it has fewer texts than the number of the part.
+    /// The plan does not fit the image; or, for the command `part N`, the input has fewer than N
+    /// texts.
     DoesNotFit,
-    /// Its report, or its life, is not a legal one.
+    /// The report, or the life, is not a legal one.
     Illegal,
 }
 
 impl Refusal {
-    /// The exit status.
+    /// The exit status of a command whose input is refused.
     pub fn status(self) -> u8
         ensures { result ≡ status_of self }
     {
@@ -43,7 +44,7 @@ impl Refusal {
         }
     }
 
-    /// What a command prints that refuses its input.
+    /// What a command prints if its input is refused.
     pub fn print(self, alloc: Global, command: Command) -> Result<Vec<u8>, AllocError>
         ensures { IfOk result (λ text. text.items ≡ text_of command self) }
     {
@@ -76,7 +77,7 @@ impl Refusal {
 pub(crate) enum Failure {
     /// Memory ran out.
     Memory,
-    /// Its input is refused; the reason is for standard error, if there is memory for it.
+    /// The command's input is refused; the reason is for standard error, if there is memory for it.
     Refused {
         refusal: Refusal,
         reason: Option<Vec<u8>>,

@@ -12,7 +12,7 @@ pub const USAGE: u8 = 2;
 /// A read failed.
 pub const READ_FAULT: u8 = 3;
 
-/// A write failed, and a front of the text was written.
+/// A write failed, and what was written is a first part of the text.
 pub const WRITE_FAULT: u8 = 4;
 
 /// The input is no plan.
@@ -24,8 +24,8 @@ pub const TOO_LONG: u8 = 6;
 /// The input is no image, or an unlawful one.
 pub const BAD_IMAGE: u8 = 7;
 
-/// The report is not a legal one of its plan.
+/// The report is not a legal one of its plan, or the life not a legal one from its image.
 pub const ILLEGAL: u8 = 8;
 
-/// The plan does not fit the image, or the input has fewer texts than the number of the part.
+/// The plan does not fit the image; or, for the command `part N`, the input has fewer than N texts.
 pub const DOES_NOT_FIT: u8 = 9;

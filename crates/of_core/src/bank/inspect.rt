@@ -17,7 +17,7 @@ use crate::place::{Op, Outcome, Place};
 use of_mem::Work;
 
 impl<W: Work> Bank<W> {
-    /// Where a caller's call stands: the place has the name of the step that comes next.
+    /// Where a caller's call is: a place has the name of the step that comes next.
     pub fn place(&self, caller: u32) -> Place
         requires { caller < self.now.callers }
         ensures { result ≡ (machine_of self.now caller).place }
@@ -43,7 +43,8 @@ impl<W: Work> Bank<W> {
         self.machines[caller as usize].answer()
     }
 
-    /// Whose log a caller's call copies or applies, if it helps another caller.
+    /// The caller whose log a caller's call copies or applies as a helper. None if the call does
+    /// not help.
     pub fn helped(&self, caller: u32) -> Option<u32>
         requires { caller < self.now.callers }
         ensures { result ≡ helped_owner (machine_of self.now caller) }
@@ -51,7 +52,8 @@ impl<W: Work> Bank<W> {
         self.machines[caller as usize].helped()
     }
 
-    /// The calls that a caller's scan has run so far: those of its batch, if it commits them.
+    /// The calls that a caller's scan has run so far. They are the batch, if its round commits
+    /// them.
     pub fn calls(&self, caller: u32) -> &[Call]
         requires { caller < self.now.callers }
         ensures { map call_value result.now ≡ (machine_of self.now caller).calls }
@@ -59,7 +61,7 @@ impl<W: Work> Bank<W> {
         self.machines[caller as usize].calls()
     }
 
-    /// A word of the table, by its place.
+    /// The word of the table at the index `place`.
     pub fn word(&self, place: u32) -> u64
         requires { place < table_word_count (bank_setup W.meaning self.now) }
         ensures { result ≡ get_or self.now.words place 0 }

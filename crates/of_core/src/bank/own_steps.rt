@@ -10,8 +10,8 @@ use crate::machine::Machine;
 use crate::performer::OnWords;
 use of_mem::Work;
 
-/// Makes steps of a machine's call on the words of its table while it is open: `most` of them, or
-/// fewer if it ends. It answers how many.
+/// Makes up to `most` steps of a machine's open call on the words of its table; fewer if the call
+/// ends before. The result is how many steps were made.
 // The machine is borrowed once for all of them, so that no step looks it up.
 #[inline(always)]
 pub fn make_steps<W: Work>(machine: &mut Machine<W>, words: &mut Vec<u64>, most: u32) -> u32

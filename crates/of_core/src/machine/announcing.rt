@@ -9,7 +9,7 @@ use crate::place::Place;
 use of_mem::Work;
 
 impl<W: Work> Machine<W> {
-    /// From the store of a script word.
+    /// Goes on after the store of a script word.
     pub(super) fn after_store_script(&mut self, at: u32)
         requires at { self.old.call.place ≡ StoreScript at }
         ensures { self.new ≡ step_from W.meaning (StoreScript at) 0 self.old }
@@ -21,7 +21,7 @@ impl<W: Work> Machine<W> {
         };
     }
 
-    /// From the store of the announcement.
+    /// Goes on after the store of the announcement.
     pub(super) fn after_store_announcement(&mut self)
         ensures { self.new ≡ step_from W.meaning Place.StoreAnnouncement 0 self.old }
     {

@@ -14,8 +14,9 @@ use of_cell::{payload_of, seq_of};
 use of_mem::{MOST_INSTRS, RawReply, Work};
 
 impl<W: Work> Machine<W> {
-    /// From the load of one's own ticket: the call is there, or it is spent at the limit, or the
-    /// scan begins.
+    /// Goes on after the load of the caller's own ticket cell. A cell that is newer than the
+    /// round's state ends the round. Otherwise the reply is loaded if the call was run; if it was
+    /// not, the call is spent at the limit, and the scan begins below the limit.
     pub(super) fn after_own_ticket(&mut self, found: u64)
         requires at { self.old.call.place ≡ Place.LoadOwnTicket }
         ensures { self.new ≡ step_from W.meaning Place.LoadOwnTicket found self.old }
@@ -35,7 +36,7 @@ impl<W: Work> Machine<W> {
         }
     }
 
-    /// From the load of the shape of one's own reply.
+    /// Goes on after the load of the shape of the caller's own reply.
     pub(super) fn after_load_shape(&mut self, found: u64)
         requires at { self.old.call.place ≡ Place.LoadShape }
         ensures { self.new ≡ step_from W.meaning Place.LoadShape found self.old }
@@ -51,7 +52,7 @@ impl<W: Work> Machine<W> {
         }
     }
 
-    /// From the load of a number of one's own reply.
+    /// Goes on after the load of a number of the caller's own reply.
     pub(super) fn after_load_reply(&mut self, at: u32, found: u64)
         requires at { self.old.call.place ≡ LoadReply at }
         ensures { self.new ≡ step_from W.meaning (LoadReply at) found self.old }
@@ -64,7 +65,8 @@ impl<W: Work> Machine<W> {
         }
     }
 
-    /// Asks for a number of the reply, or tells the reply if there is none to ask for.
+    /// Goes on to load number `next` of the reply; if it is None, the call ends with the reply as
+    /// loaded.
     fn ask_or_tell(&mut self, next: Option<u32>)
         requires below { IfSome next (λ j. j < MOST_INSTRS) }
         ensures { self.new ≡ record self.old { call = next_reply_place self.old.call next } }

@@ -10,7 +10,7 @@ use of_cell::{pack, seq_of};
 use of_mem::Work;
 
 impl<W: Work> Machine<W> {
-    /// From the raise of the current-transaction word.
+    /// Goes on after the raise of the durable word of the current-transaction word.
     pub(super) fn after_raise_current(&mut self)
         requires at { self.old.call.place ≡ Place.RaiseCurrent }
         ensures { self.new ≡ step_from W.meaning Place.RaiseCurrent 0 self.old }
@@ -22,7 +22,7 @@ impl<W: Work> Machine<W> {
         };
     }
 
-    /// From the load of an entry's cell.
+    /// Goes on after the load of an entry's cell.
     pub(super) fn after_load_target(&mut self, entry: u32, found: u64)
         requires at { self.old.call.place ≡ LoadTarget entry }
         ensures { self.new ≡ step_from W.meaning (LoadTarget entry) found self.old }
@@ -35,7 +35,7 @@ impl<W: Work> Machine<W> {
         };
     }
 
-    /// From the exchange of an entry's cell.
+    /// Goes on after the exchange of an entry's cell.
     pub(super) fn after_exchange_target(&mut self, entry: u32, old: u64)
         requires at { self.old.call.place ≡ ExchangeTarget entry old }
         ensures { self.new ≡ step_from W.meaning (ExchangeTarget entry old) 0 self.old }
@@ -43,7 +43,7 @@ impl<W: Work> Machine<W> {
         self.place = Place::ReloadTarget(entry);
     }
 
-    /// From the second load of an entry's cell.
+    /// Goes on after the second load of an entry's cell.
     pub(super) fn after_reload_target(&mut self, entry: u32, found: u64)
         requires at { self.old.call.place ≡ ReloadTarget entry }
         ensures { self.new ≡ step_from W.meaning (ReloadTarget entry) found self.old }
@@ -51,7 +51,7 @@ impl<W: Work> Machine<W> {
         self.place = Place::RaiseTarget(entry, found);
     }
 
-    /// From the raise of an entry's cell.
+    /// Goes on after the raise of the durable word of an entry's cell.
     pub(super) fn after_raise_target(&mut self, entry: u32, raised: u64)
         requires at { self.old.call.place ≡ RaiseTarget entry raised }
         ensures { self.new ≡ step_from W.meaning (RaiseTarget entry raised) 0 self.old }
@@ -64,7 +64,7 @@ impl<W: Work> Machine<W> {
         };
     }
 
-    /// From the exchange that closes the request.
+    /// Goes on after the exchange that closes the request.
     pub(super) fn after_close_request(&mut self)
         requires at { self.old.call.place ≡ Place.CloseRequest }
         ensures { self.new ≡ step_from W.meaning Place.CloseRequest 0 self.old }
@@ -72,7 +72,8 @@ impl<W: Work> Machine<W> {
         self.place = Place::RaiseClosed;
     }
 
-    /// From the raise of the closed request: a helper goes on, and an owner's call is answered.
+    /// Goes on after the raise of the durable word of the closed request: a helper goes on with its
+    /// try or round, and an owner's call is answered.
     pub(super) fn after_raise_closed(&mut self)
         requires some { IsTrue self.old.call.helps → 1 ≤ length self.old.call.op }
         ensures { self.new ≡ step_from W.meaning Place.RaiseClosed 0 self.old }

@@ -12,7 +12,8 @@ use of_cell::pack;
 use of_mem::Work;
 
 impl<W: Work> Machine<W> {
-    /// From the raise of what one's request was.
+    /// Goes on after the raise of the durable word of the caller's request to an earlier word of
+    /// it.
     pub(super) fn after_raise_old(&mut self)
         requires at { self.old.call.place ≡ Place.RaiseOld }
         ensures { self.new ≡ step_from W.meaning Place.RaiseOld 0 self.old }
@@ -20,7 +21,7 @@ impl<W: Work> Machine<W> {
         self.place = Place::StoreLog(0);
     }
 
-    /// From the store of a log word.
+    /// Goes on after the store of a log word.
     pub(super) fn after_store_log(&mut self, at: u32)
         requires at { self.old.call.place ≡ StoreLog at }
         ensures { self.new ≡ step_from W.meaning (StoreLog at) 0 self.old }
@@ -29,7 +30,7 @@ impl<W: Work> Machine<W> {
     }
 
     #[tactic(auto, using(crate::proofs::LogWords::word_laws))]
-    /// From the raise of a log word.
+    /// Goes on after the raise of the durable word of a log word.
     pub(super) fn after_raise_log(&mut self, at: u32)
         requires at { self.old.call.place ≡ RaiseLog at }
         requires few { length self.old.call.log ≤ log_room self.old.callers self.old.cells }
@@ -43,7 +44,7 @@ impl<W: Work> Machine<W> {
         };
     }
 
-    /// From the store of one's own request.
+    /// Goes on after the store of the caller's own request.
     pub(super) fn after_store_request(&mut self)
         requires at { self.old.call.place ≡ Place.StoreRequest }
         ensures { self.new ≡ step_from W.meaning Place.StoreRequest 0 self.old }
@@ -51,7 +52,7 @@ impl<W: Work> Machine<W> {
         self.place = Place::RaiseRequest;
     }
 
-    /// From the raise of one's own request.
+    /// Goes on after the raise of the durable word of the caller's own request.
     pub(super) fn after_raise_request(&mut self)
         requires at { self.old.call.place ≡ Place.RaiseRequest }
         ensures { self.new ≡ step_from W.meaning Place.RaiseRequest 0 self.old }
@@ -60,7 +61,8 @@ impl<W: Work> Machine<W> {
         self.place = Place::ExchangeCurrent;
     }
 
-    /// From the exchange of the current-transaction word: one that is lost begins the next round.
+    /// Goes on after the exchange of the current-transaction word: to the apply if the exchange has
+    /// committed the batch, and otherwise to the next round.
     pub(super) fn after_exchange(&mut self, found: u64)
         requires at { self.old.call.place ≡ Place.ExchangeCurrent }
         ensures { self.new ≡ step_from W.meaning Place.ExchangeCurrent found self.old }

@@ -17,7 +17,7 @@ use of_cell::{pack, payload_of, seq_of};
 use of_mem::Work;
 
 impl<W: Work> Machine<W> {
-    /// From the load of the current-transaction word, which begins a round.
+    /// Goes on after the load of the current-transaction word, which begins a round.
     pub(super) fn after_load_current(&mut self, found: u64)
         requires owner { payload_of found < self.old.callers }
         requires upto { seq_of found ≤ self.old.limit }
@@ -35,7 +35,8 @@ impl<W: Work> Machine<W> {
         self.place = Place::LoadRequest;
     }
 
-    /// From the load of the request of that word's owner.
+    /// Goes on after a round's load of the request of the owner that the current-transaction word
+    /// named.
     pub(super) fn after_load_request(&mut self, found: u64)
         ensures { self.new ≡ step_from W.meaning Place.LoadRequest found self.old }
     {
@@ -55,7 +56,7 @@ impl<W: Work> Machine<W> {
         self.place = Place::CopyLog(0);
     }
 
-    /// From the load of a log word.
+    /// Goes on after the load of a log word.
     pub(super) fn after_copy_log(&mut self, at: u32, found: u64)
         requires at { self.old.call.place ≡ CopyLog at }
         requires count { get_or (with_log_word_copied self.old.call found) 0 0
@@ -74,8 +75,8 @@ impl<W: Work> Machine<W> {
         };
     }
 
-    /// From the second look at the request: a copy that was made while the transaction was open is
-    /// its log.
+    /// Goes on after the second load of the owner's request: if the transaction is still open, the
+    /// copy is its log, which is applied.
     pub(super) fn after_look_again(&mut self, found: u64)
         requires some { 1 ≤ length self.old.call.op }
         requires copied { found ≡ pack self.old.call.seq 0
@@ -91,7 +92,7 @@ impl<W: Work> Machine<W> {
         }
     }
 
-    /// Goes on with the try or the round after its help.
+    /// Goes on with the try or the round in which the machine has helped.
     pub(super) fn resume(&mut self)
         requires some { 1 ≤ length self.old.call.op }
         ensures { self.new ≡ machine_after W.meaning (λ S m. resume S m (m.rounds == 0)) self.old }
@@ -103,7 +104,8 @@ impl<W: Work> Machine<W> {
         }
     }
 
-    /// Begins to read the state of a round, after the look at the request or the help.
+    /// Begins to read the state of a round, after the load of the owner's request or after the
+    /// help.
     pub(super) fn enter(&mut self)
         ensures { self.new ≡ machine_after W.meaning enter self.old }
     {

@@ -10,7 +10,7 @@ use crate::place::Place;
 use of_mem::Work;
 
 impl<W: Work> Machine<W> {
-    /// Where the call stands: the place has the name of the step that comes next.
+    /// Where the call is: a place has the name of the step that comes next.
     #[inline(always)]
     pub fn place(&self) -> Place
         ensures { result ≡ self.now.call.place }
@@ -18,14 +18,14 @@ impl<W: Work> Machine<W> {
         self.place
     }
 
-    /// Whose log the call copies or applies, if it helps another caller.
+    /// The caller whose log the call copies or applies as a helper. None if the call does not help.
     pub fn helped(&self) -> Option<u32>
         ensures { result ≡ helped_owner self.now.call }
     {
         if self.helps { Some(self.owner) } else { None }
     }
 
-    /// The calls that the scan has run so far: those of the batch, if it is committed.
+    /// The calls that the scan has run so far. They are the batch, if the round commits them.
     pub fn calls(&self) -> &[Call]
         ensures { map call_value result.now ≡ self.now.call.calls }
     {

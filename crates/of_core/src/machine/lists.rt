@@ -11,8 +11,8 @@ use of_cell::Shape;
 use of_mem::{MOST_INSTRS, Work, Workspace, WriteSet};
 use std::alloc::{AllocError, Global};
 
-/// What a machine keeps in lists. Made in one place, so that the machine itself is made in one
-/// step from them.
+/// The lists that a machine keeps. They are made first, together, and the machine is then made from
+/// them.
 #[derive(Drop)]
 pub(super) struct Lists<W: Work> {
     pub(super) op: Vec<u64>,

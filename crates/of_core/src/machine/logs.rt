@@ -12,7 +12,7 @@ ghost use Rattle.of_core.specs.Steps.{first_marked_place};
 
 use of_mem::{LEAST_ABORT, MOST_INSTRS, MaySuspend, RawReply, Workspace, WriteSet};
 
-/// Hands what the script wrote to the log and to the batch.
+/// Moves what the script wrote to the log, and to the writes of the batch over the known cells.
 pub fn hand_to_log<W: MaySuspend>(part: &mut Workspace<W>, log: &mut WriteSet)
     requires { length part.old.known ≡ log.old.room }
     ensures log { log.new ≡ record log.old { entries = put_all log.old.entries part.old.script } }
@@ -66,7 +66,7 @@ pub fn put_own<W: MaySuspend>(
     part.write(row, ticket);
 }
 
-/// Writes some entries of a copy of log words.
+/// Writes to `log` the entries `from` up to `to` (without `to`) of a copy of log words.
 fn put_entries(log: &mut WriteSet, copy: &[u32], from: u32, to: u32)
     requires entries { (es : List (ℕ × ℕ)) × (copy.now ≡ log_words es)
         × All (λ (e : ℕ × ℕ). e.0 < log.old.room) es × (to ≤ length es) }
@@ -81,8 +81,8 @@ fn put_entries(log: &mut WriteSet, copy: &[u32], from: u32, to: u32)
     }
 }
 
-/// Writes the entries of a copy of log words from entry `helper` on, going round: helpers of
-/// different numbers begin at different entries.
+/// Writes all entries of a copy of log words to `log`, from an entry on that depends on the number
+/// `helper`, and then from the first: different helpers begin at different entries.
 pub fn put_copy(log: &mut WriteSet, copy: &[u32], helper: u32)
     requires { (es : List (ℕ × ℕ)) × (copy.now ≡ log_words es)
         × All (λ (e : ℕ × ℕ). e.0 < log.old.room) es }
@@ -98,7 +98,8 @@ pub fn put_copy(log: &mut WriteSet, copy: &[u32], helper: u32)
     }
 }
 
-/// The first of `many` places from `from` on that a reply's shape marks.
+/// Of the `many` places from `from` on, the first that a reply's shape marks; None if the shape
+/// marks none of them.
 #[tactic(auto, unfolding(of_mem::specs::Meaning::is_marked))]
 pub fn first_mark(shape: u32, from: u32, many: u32) -> Option<u32>
     requires { from + many ≤ MOST_INSTRS }
@@ -113,7 +114,7 @@ pub fn first_mark(shape: u32, from: u32, many: u32) -> Option<u32>
     None
 }
 
-/// Makes these the words of a list that has room for them.
+/// Makes `list`, which has room for them, the list of these words.
 pub fn set_words(list: &mut Vec<u64>, words: &[u64])
     requires { length words.now ≤ vec_capacity list.old }
     ensures words { list.new.items ≡ words.now }
@@ -125,7 +126,7 @@ pub fn set_words(list: &mut Vec<u64>, words: &[u64])
     }
 }
 
-/// A script's words in room for the most.
+/// A script's words, followed by zeros up to the most words that a script may have.
 pub fn padded_words(script: &[u64]) -> [u64; MOST_INSTRS]
     requires { length script.now ≤ MOST_INSTRS }
     ensures { take (length script.now) result ≡ script.now }

@@ -16,10 +16,11 @@ use of_mem::{MOST_INSTRS, Work};
 use std::alloc::{AllocError, Global};
 
 impl<W: Work> Machine<W> {
-    /// A new machine for a caller whose machine is lost, from what the table's words say about it.
-    /// An announced call that has not run goes on: it is open, at the beginning of a round, and the
-    /// stores that announced it count as its steps. Otherwise the machine is idle, and has begun
-    /// `made` calls, or the number in its ticket cell if that is greater.
+    /// A new machine for a caller whose machine is lost, made from the table's words. If the
+    /// announced call is newer than the ticket cell, the machine goes on with it: it is about to
+    /// begin a round, and the stores that announced the call count as its steps. Otherwise the
+    /// machine is idle, and has begun `made` calls, or as many as the ticket cell says if that is
+    /// more.
     pub fn revive(
         alloc: Global,
         shape: Shape,

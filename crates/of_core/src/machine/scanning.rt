@@ -20,7 +20,8 @@ use crate::place::Place;
 use of_cell::{payload_of, seq_of};
 use of_mem::{MOST_INSTRS, RawReply, Work};
 
-/// Where a scan goes on that has passed a caller: at the next one, or at the log.
+/// Where a scan goes on after it has passed a caller: at the next caller's announcement if there
+/// are `more` callers, and otherwise at `RaiseOld`, the step before the log is stored.
 fn place_behind(more: bool) -> Place
     ensures { result ≡ place_behind more }
 {
@@ -31,14 +32,15 @@ fn place_behind(more: bool) -> Place
     }
 }
 
-/// The reply of one's own call: the new one if the call that was run is one's own.
+/// The reply of the machine's own call: `new` if the call that was run is its own, and otherwise
+/// `old`.
 fn newer_raw(own: bool, new: &RawReply, old: &RawReply) -> RawReply
     ensures { result ≡ own_reply_or new.now old.now own }
 {
     if own { *new } else { *old }
 }
 
-/// Adds a call that was run to those of the batch.
+/// Adds a call that was run to the calls of the batch.
 // out of line, so that a run that needs a cell doesn't clear the frame of one that ends
 #[inline(never)]
 fn add_call(calls: &mut Vec<Call>, caller: u32, ticket: u32, op: &[u64], raw: &RawReply)
@@ -63,8 +65,8 @@ fn add_call(calls: &mut Vec<Call>, caller: u32, ticket: u32, op: &[u64], raw: &R
 }
 
 impl<W: Work> Machine<W> {
-    /// From the load of an announcement: its ticket is weighed against the caller's ticket cell,
-    /// which is loaded if it isn't known.
+    /// Goes on after the load of an announcement: its ticket is compared with the caller's ticket
+    /// cell, which is loaded if it isn't known.
     pub(super) fn after_load_announcement(&mut self, found: u64)
         requires at { self.old.call.place ≡ Place.LoadAnnouncement }
         requires small { payload_of found ≤ MOST_INSTRS }
@@ -81,7 +83,7 @@ impl<W: Work> Machine<W> {
         }
     }
 
-    /// From the load of the ticket cell.
+    /// Goes on after the load of the ticket cell of the caller that the scan has come to.
     pub(super) fn after_load_ticket(&mut self, found: u64)
         requires at { self.old.call.place ≡ Place.LoadTicket }
         requires small { payload_of self.old.call.heard ≤ MOST_INSTRS }
@@ -96,7 +98,8 @@ impl<W: Work> Machine<W> {
         }
     }
 
-    /// Takes in a call with a new ticket, and passes one with an old ticket by.
+    /// Goes on to load the script of the announced call if its ticket is `new`; otherwise passes
+    /// the call by, and the scan goes on with the next caller.
     fn weigh(&mut self, new: bool)
         requires scanning { is_scanning self.old.call.place ≡ true }
         requires scan { IsScanning (machine_setup W.meaning self.old) self.old.call }
@@ -113,7 +116,7 @@ impl<W: Work> Machine<W> {
         }
     }
 
-    /// From the load of a script word.
+    /// Goes on after the load of a script word.
     pub(super) fn after_load_script(&mut self, at: u32, found: u64)
         requires at { self.old.call.place ≡ LoadScript at }
         requires many { length self.old.call.script ≡ at }
@@ -130,7 +133,8 @@ impl<W: Work> Machine<W> {
         }
     }
 
-    /// From the load of a data cell: a newer one ends the round.
+    /// Goes on after the load of a data cell in a scan. A cell that is newer than the round's state
+    /// ends the round.
     pub(super) fn after_load_cell(&mut self, addr: u32, found: u64)
         requires at { self.old.call.place ≡ LoadCell addr }
         requires some { 1 ≤ length self.old.call.script }
@@ -147,7 +151,9 @@ impl<W: Work> Machine<W> {
         }
     }
 
-    /// Runs the script over the calls before it: it needs a cell, or the call is taken in.
+    /// Runs the loaded script on the known cells with the writes of the batch so far. If the run
+    /// needs another cell, the machine goes on to load that cell; otherwise the call joins the
+    /// batch.
     fn run(&mut self)
         requires scanning { is_scanning self.old.call.place ≡ true }
         requires scan { IsScanning (machine_setup W.meaning self.old) self.old.call }

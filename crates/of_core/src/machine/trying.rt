@@ -18,7 +18,7 @@ use of_mem::{MOST_INSTRS, RawReply, Work};
 const MOST_TRIES: u32 = 4;
 
 impl<W: Work> Machine<W> {
-    /// From the load of the current-transaction word.
+    /// Goes on after the load of the current-transaction word, which begins a try.
     pub(super) fn after_try_current(&mut self, found: u64)
         requires owner { payload_of found < self.old.callers }
         requires upto { seq_of found ≤ self.old.limit }
@@ -31,7 +31,8 @@ impl<W: Work> Machine<W> {
         self.place = Place::TryRequest;
     }
 
-    /// From the load of the request of that word's owner.
+    /// Goes on after a try's load of the request of the owner that the current-transaction word
+    /// named.
     pub(super) fn after_try_request(&mut self, found: u64)
         requires some { 1 ≤ length self.old.call.op }
         ensures { self.new ≡ step_from W.meaning Place.TryRequest found self.old }
@@ -43,7 +44,8 @@ impl<W: Work> Machine<W> {
         }
     }
 
-    /// From the load of a data cell: a newer one ends the try.
+    /// Goes on after the load of a data cell in a try. A cell that is newer than the try's state
+    /// ends the try.
     pub(super) fn after_try_cell(&mut self, addr: u32, found: u64)
         requires at { self.old.call.place ≡ TryCell addr }
         requires some { 1 ≤ length self.old.call.op }
@@ -59,7 +61,7 @@ impl<W: Work> Machine<W> {
         }
     }
 
-    /// Tries once more, or announces the call.
+    /// Begins the next try, or begins to announce the call if no more tries are allowed.
     fn end_try(&mut self)
         requires some { 1 ≤ length self.old.call.op }
         ensures { self.new ≡ machine_after W.meaning
@@ -72,7 +74,7 @@ impl<W: Work> Machine<W> {
         };
     }
 
-    /// Begins the run of a try, after the look at the request or the help.
+    /// Begins the run of a try, after the load of the owner's request or after the help.
     pub(super) fn begin_reading(&mut self)
         requires some { 1 ≤ length self.old.call.op }
         ensures { self.new ≡ machine_after W.meaning begin_reading self.old }
@@ -84,7 +86,8 @@ impl<W: Work> Machine<W> {
         self.read_on();
     }
 
-    /// Runs the operation on what is known of the state: it needs a cell, or the call is answered.
+    /// Runs the operation on the known cells of the state. If the run needs another cell, the
+    /// machine goes on to load that cell; otherwise the call is answered.
     fn read_on(&mut self)
         requires reading { is_reading self.old.call.place ≡ true }
         requires some { 1 ≤ length self.old.call.op }

@@ -1,4 +1,4 @@
-//! A store is filled with what cells hold.
+//! Filling a store with what the cells hold.
 
 ghost use Rattle.std.specs.Prelude.{◌≡◌, ◌≤◌, ◌<◌, None, [], ◌∷◌, ◌++◌, length, IfOk, OnOk};
 ghost use Rattle.std.specs.FinMap as fm;
@@ -13,7 +13,7 @@ use of_script::{Instr, REGISTERS, Script};
 use of_store::Store;
 use std::alloc::{AllocError, Global};
 
-/// Does an instruction to a store.
+/// Runs one instruction on a store.
 fn apply(store: &mut Store, instr: Instr) -> Result<(), AllocError>
     requires { IsInstrInRange instr }
     ensures { OnOk result (store.new ≡ (run store.old (instr ∷ [])).0) }
@@ -22,7 +22,7 @@ fn apply(store: &mut Store, instr: Instr) -> Result<(), AllocError>
     Ok(())
 }
 
-/// Puts a number at a new key, if there is room for it.
+/// Puts a number at a key that is new; the store must have room for it.
 pub(crate) fn put(store: &mut Store, key: u32, value: u32) -> Result<(), AllocError>
     requires key { key ≤ greatest }
     requires value { value ≤ greatest }
@@ -33,7 +33,7 @@ pub(crate) fn put(store: &mut Store, key: u32, value: u32) -> Result<(), AllocEr
     apply(store, Instr::Put { key, value })
 }
 
-/// Puts an item at the end of a queue, if there is room for it.
+/// Puts an item at the end of a queue; the store must have room for it.
 pub(crate) fn push(store: &mut Store, q: u32, item: u32) -> Result<(), AllocError>
     requires q { q < QUEUES }
     requires item { item ≤ greatest }
@@ -49,7 +49,7 @@ pub(crate) fn push(store: &mut Store, q: u32, item: u32) -> Result<(), AllocErro
     )
 }
 
-/// The store with these registers and nothing else.
+/// The store with the registers that the cells hold, and with no key and no item.
 pub(crate) fn begun_store(alloc: Global, plot: &Plot, cells: &[u32]) -> Result<Store, AllocError>
     requires sized { length cells.now ≡ data_cell_count plot.now }
     requires numbers { RegistersAreNumbers plot.now cells.now }

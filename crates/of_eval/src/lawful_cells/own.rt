@@ -1,4 +1,4 @@
-//! The cells of callers.
+//! Looking at the own cells of callers.
 
 ghost use Rattle.std.specs.Prelude.{◌≡◌, ◌≢◌, ◌<◌, length, IfErr, OnOk};
 ghost use Rattle.of_mem.specs.Plots.{data_cell_count};
@@ -12,7 +12,7 @@ use crate::reply::reply_of;
 use of_mem::{Plot, RawReply};
 use of_script::{GREATEST, MOST_INSTRS, Reply};
 
-/// Looks at the own cells of all callers, in order.
+/// Checks the own cells of all callers, in order.
 pub(crate) fn callers(plot: &Plot, cells: &[u32]) -> Result<(), LawErr>
     requires { length cells.now ≡ data_cell_count plot.now }
     ensures ok { OnOk result (CallersAreSound plot.now cells.now) }
@@ -24,7 +24,8 @@ pub(crate) fn callers(plot: &Plot, cells: &[u32]) -> Result<(), LawErr>
     Ok(())
 }
 
-/// Looks at a caller's own cells: with no ticket there is no shape, and else they hold a reply.
+/// Checks a caller's own cells: if the ticket is 0 the shape must be 0, and otherwise the cells
+/// must hold a reply.
 fn own(plot: &Plot, cells: &[u32], caller: u32) -> Result<(), LawErr>
     requires sized { length cells.now ≡ data_cell_count plot.now }
     requires caller { caller < plot.now.callers }
@@ -53,7 +54,7 @@ fn own(plot: &Plot, cells: &[u32], caller: u32) -> Result<(), LawErr>
     numbers(plot, cells, caller, &reply)
 }
 
-/// Looks at the numbers of a caller's reply, in order.
+/// Checks the numbers of a caller's reply, in order.
 fn numbers(plot: &Plot, cells: &[u32], caller: u32, reply: &Reply) -> Result<(), LawErr>
     requires sized { length cells.now ≡ data_cell_count plot.now }
     requires caller { caller < plot.now.callers }

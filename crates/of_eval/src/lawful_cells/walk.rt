@@ -1,4 +1,4 @@
-//! The walk through the chains.
+//! The walk through the chains of blocks.
 
 ghost use Rattle.std.specs.Prelude.{◌≡◌, ◌≢◌, ◌<◌, ◌+◌, ◌↔◌, IsTrue, EachIndex, slice_index, ℕ, List, length, IfOk, IfErr, OnOk, All};
 ghost use Rattle.of_mem.specs.declared.plot.TheConstants.{QUEUES};
@@ -29,7 +29,7 @@ fn chain_of_queue(plot: &Plot, q: u32) -> u32
     FIRST_BUCKET_CHAIN + plot.buckets() + q
 }
 
-/// Looks at the registers.
+/// Checks that each register holds a number below 2 ^ 31.
 pub(crate) fn registers(plot: &Plot, cells: &[u32]) -> Result<(), LawErr>
     requires sized { length cells.now ≡ data_cell_count plot.now }
     requires own { CallersAreSound plot.now cells.now }
@@ -45,7 +45,7 @@ pub(crate) fn registers(plot: &Plot, cells: &[u32]) -> Result<(), LawErr>
     Ok(())
 }
 
-/// How many blocks were taken.
+/// The count of blocks that were taken at least once, which must be at most the number of blocks.
 pub(crate) fn fresh(plot: &Plot, cells: &[u32]) -> Result<u32, LawErr>
     requires sized { length cells.now ≡ data_cell_count plot.now }
     requires own { CallersAreSound plot.now cells.now }
@@ -62,8 +62,9 @@ pub(crate) fn fresh(plot: &Plot, cells: &[u32]) -> Result<u32, LawErr>
     Ok(fresh)
 }
 
-/// The block to which a pointer cell leads, None at a chain's end. The block becomes its chain's; a
-/// block that has a chain already, or is beyond the table, is a fault of the pointer.
+/// The block to which a pointer cell leads, None at the end of a chain. The block's owner becomes
+/// this chain. It is a fault of the pointer if the block has an owner already, or is not in the
+/// owners table.
 fn next(cells: &[u32], cell: u32, chain: u32, owners: &mut [u32]) -> Result<Option<u32>, LawErr>
     requires cell { cell < length cells.now }
     requires chain { FitsCell (chain + 1) }
@@ -85,7 +86,7 @@ fn next(cells: &[u32], cell: u32, chain: u32, owners: &mut [u32]) -> Result<Opti
     Ok(Some(block))
 }
 
-/// Walks the free list, the first chain.
+/// Walks through the free list, which is the first chain.
 pub(crate) fn free_list(plot: &Plot, cells: &[u32], owners: &mut [u32]) -> Result<(), LawErr>
     requires sized { length cells.now ≡ data_cell_count plot.now }
     requires begun { HasBegun plot.now cells.now }
@@ -101,7 +102,7 @@ pub(crate) fn free_list(plot: &Plot, cells: &[u32], owners: &mut [u32]) -> Resul
     Ok(())
 }
 
-/// Walks a bucket and puts its keys into the store.
+/// Walks through a bucket, and puts its keys and values into the store.
 #[tactic(auto, using(of_mem::proofs::BucketPlaces::most_buckets))]
 pub(crate) fn bucket(
     plot: &Plot,
@@ -135,7 +136,7 @@ pub(crate) fn bucket(
     Ok(())
 }
 
-/// Compares the count of keys with the keys that were met.
+/// Checks that the count of keys is the number of keys that were met.
 pub(crate) fn keys(plot: &Plot, cells: &[u32], store: &Store) -> Result<(), LawErr>
     requires sized { length cells.now ≡ data_cell_count plot.now }
     ensures ok { OnOk result (KeysAreCounted plot.now cells.now store.now) }
@@ -148,8 +149,8 @@ pub(crate) fn keys(plot: &Plot, cells: &[u32], store: &Store) -> Result<(), LawE
     Ok(())
 }
 
-/// Walks a queue and puts its items into the store, and compares its tail and its length with what
-/// was met.
+/// Walks through a queue and puts its items into the store. Then it checks the queue's tail and its
+/// length.
 pub(crate) fn queue(
     plot: &Plot,
     cells: &[u32],
@@ -190,7 +191,7 @@ pub(crate) fn queue(
     Ok(())
 }
 
-/// Looks for a block that is in no chain.
+/// Checks that each block taken at least once is in some chain.
 pub(crate) fn all_met(plot: &Plot, cells: &[u32], owners: &[u32]) -> Result<(), LawErr>
     ensures ok { OnOk result (AllAreMet plot.now cells.now owners.now) }
     ensures err { IfErr result (SomeAreUnmet plot.now cells.now owners.now) }
@@ -201,7 +202,7 @@ pub(crate) fn all_met(plot: &Plot, cells: &[u32], owners: &[u32]) -> Result<(), 
     Err(LawErr::Unlawful { cell: plot.fresh() })
 }
 
-/// Whether each block of the table has an owner.
+/// Whether each block of the owners table has an owner.
 fn all_owned(owners: &[u32]) -> bool
     ensures { IsTrue result ↔ EachIndex owners.now (λ k. slice_index owners.now k ≢ 0) }
 {

@@ -22,10 +22,10 @@ enum TraceEvent {
     Evict(u32),
 }
 
-/// What is written of events.
+/// What is written of the events.
 #[derive(Clone, Copy)]
 enum Form {
-    /// A line for each.
+    /// A line for each event.
     Events,
     /// A line for each commit.
     Commits,
@@ -234,7 +234,7 @@ impl ScheduleRun {
     }
 }
 
-/// A trace on its way: the run so far, and the lines.
+/// A trace so far: the run, and the lines that were written.
 #[derive(Drop)]
 struct TraceRun {
     form: Form,
@@ -254,7 +254,7 @@ impl TraceRun {
     ghost use Rattle.of_play.specs.Play.{turns_by, item_events};
     ghost use Rattle.of_play.specs.TraceRun.{event_of, IsEvent, IsTracing, TracesOn};
 
-    /// Makes an event before the first that is shown.
+    /// Makes an event that comes before the first that is shown.
     fn pass(&mut self, plan: &Plan, event: TraceEvent) -> Result<(), AllocError>
         requires event { IsEvent plan.now event }
         requires tracing { IsTracing plan.now self.old }
@@ -296,7 +296,7 @@ impl TraceRun {
         }
     }
 
-    /// Makes that many turns of a caller.
+    /// Makes `count` turns of a caller.
     fn turns(&mut self, plan: &Plan, caller: u32, count: u32) -> Result<(), AllocError>
         requires caller { caller < plan.now.callers }
         requires tracing { IsTracing plan.now self.old }
@@ -321,8 +321,8 @@ impl TraceRun {
     }
 }
 
-/// What a plan's schedule does in `count` events from number `first` on (the first turn or eviction
-/// is 0): a line each.
+/// A trace of a plan's schedule: a line for each of `count` events from event `first` on. The first
+/// turn or eviction of the schedule is event 0.
 pub fn trace(alloc: Global, plan: &Plan, first: u32, count: u32) -> Result<Vec<u8>, AllocError>
     requires { first + count < 2 ^ 32 }
     ensures { IfOk result (λ text. text.items ≡ trace_text plan.now first count) }
@@ -341,11 +341,11 @@ pub fn trace(alloc: Global, plan: &Plan, first: u32, count: u32) -> Result<Vec<u
     Ok(tracing.text.into_bytes())
 }
 
-/// More events than the schedule of a plan's text can have.
+/// A number of events that is greater than the schedule of any plan's text can have.
 pub const ALL_EVENTS: u32 = u32::MAX;
 
-/// The commits among the first events of a plan's schedule, of which there are `count` at most: a
-/// line each, with the event, its caller, the sequence and the calls of the batch.
+/// The commits among the first `count` events of a plan's schedule: a line for each, with the
+/// event, its caller, the sequence and the calls of the batch.
 pub fn commits(alloc: Global, plan: &Plan, count: u32) -> Result<Vec<u8>, AllocError>
     ensures { IfOk result (λ text. text.items ≡ commits_text plan.now count) }
 {

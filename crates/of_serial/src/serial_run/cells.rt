@@ -20,7 +20,7 @@ pub(super) struct Cells {
 }
 
 impl Cells {
-    /// The cells of the empty store: all are 0. The error is that there is no memory.
+    /// The cells of the empty store: all are 0. An error means out of memory.
     pub(super) fn new(alloc: Global, callers: u32, blocks: u32) -> Result<Cells, AllocError>
         requires some { 1 ≤ callers }
         requires few { callers ≤ MOST_PLAN_CALLERS }
@@ -35,7 +35,7 @@ impl Cells {
         Ok(Cells { scripts, part })
     }
 
-    /// Runs a script, keeps what it writes, and answers its reply.
+    /// Runs a script, keeps what it writes, and returns its reply.
     pub(super) fn run(&mut self, script: &Script) -> Reply
         requires { (s : Store) × CellsHoldStore self.old s }
         ensures whole { IsWhole result }
@@ -54,7 +54,7 @@ impl Cells {
         reply_of(&raw).unwrap()
     }
 
-    /// The store for which the cells stand. The error is that there is no memory.
+    /// The store for which the cells stand. An error means out of memory.
     pub(super) fn store(&self, alloc: Global) -> Result<Store, AllocError>
         requires { (s : Store) × CellsHoldStore self.now s }
         ensures { IfOk result (λ store. (s : Store) → CellsHoldStore self.now s → store ≡ s) }

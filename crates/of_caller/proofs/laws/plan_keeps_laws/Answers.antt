@@ -1,5 +1,6 @@
 use Rattle.of_caller.specs.PlanLaws.{HasTableLaws, KeepsLaws}
 use Rattle.of_caller.proofs.PlansKeepLaws.{at_plan}
+use Rattle.of_caller.proofs.LastOutcomes.{events_lead_last, machines_hold_last}
 use Rattle.of_caller.proofs.Schedules.{schedules_are_moments, starts_are_runs}
 use Rattle.of_caller.proofs.StoresZeros.{zeros_are_empty}
 use Rattle.of_caller.proofs.laws.plan_keeps_laws.Goals as goal
@@ -20,6 +21,8 @@ kept c =
       calls = c.every_call.ensures.calls;
       more_calls = c.every_call.ensures.kept;
       turns = c.every_call.ensures.turns;
+      more_last = events_lead_last _ _ c.step_kept.ensures.sound c.every_call.ensures.kept;
+      last = machines_hold_last _ _ c.step_kept.ensures.sound c.every_call.ensures.kept c.step_kept.ensures.start c.every_moment.ensures.kept c.every_call.ensures.calls;
       words = c.starts.ensures.words;
       zero_start = c.starts.ensures.zeros;
     })

@@ -15,8 +15,8 @@ returns g c =
       held = raise_held S L sound;
       calls = raise_short S L sound;
       evictions = eviction_short S L sound;
-      level = λ B may total room es s. settles S L sound B may fits.some (omega (arith, fits.few)) fits.own total room (omega arith) (omega (arith, fits.small)) es s;
-      undisturbed = λ B may total room es s. undisturbed S L sound B may fits.some (omega (arith, fits.few)) fits.own total room (omega arith) (omega (arith, fits.small)) es s;
-      stand = λ B may total room es s. raises_stand S L sound B may fits.some (omega (arith, fits.few)) fits.own total room (omega arith) (omega (arith, fits.small)) es s;
-      loads = λ B may total room es s. evicts_undisturbed S L sound B may fits.some (omega (arith, fits.few)) fits.own total room (omega arith) (omega (arith, fits.small)) es s;
+      level = λ B may total room es s kept. settles S L sound B may fits.some (omega (arith, fits.few)) fits.own total room (omega arith) (omega (arith, fits.small)) es s kept;
+      undisturbed = λ B may total room es s kept. undisturbed S L sound B may fits.some (omega (arith, fits.few)) fits.own total room (omega arith) (omega (arith, fits.small)) es s kept;
+      stand = λ B may total room es s kept. raises_stand S L sound B may fits.some (omega (arith, fits.few)) fits.own total room (omega arith) (omega (arith, fits.small)) es s kept;
+      loads = λ B may total room es s kept. evicts_undisturbed S L sound B may fits.some (omega (arith, fits.few)) fits.own total room (omega arith) (omega (arith, fits.small)) es s kept;
     }

@@ -7,7 +7,7 @@ use Rattle.of_core.specs.Laws.{setup_for}
 use Rattle.of_core.proofs.StepKept.{step_moves}
 use Rattle.of_core.proofs.RaiseSteps.{moves_raise}
 use Rattle.of_core.proofs.CallEvents.{quiet}
-use Rattle.of_core.proofs.Revived.{leaves, revived_core, revived_good, open_counts, has_run, has_not_run}
+use Rattle.of_core.proofs.Revived.{leaves, revived_core, revived_good, open_counts, counts_on, has_run, has_not_run}
 
 pub returns : goal.returns
 returns g c =
@@ -19,6 +19,7 @@ returns g c =
       core = λ B w h i made member may. revived_core h.core i member may made;
       kept = λ B w h i made member may older. revived_good h i member may made older;
       newest = λ B w h i made member may e under. open_counts h i member may made e under;
+      counted = λ B w h i made member may e under. counts_on h i member may made e under;
       ran = λ B w h i made member may. (has_run h.core i member may, has_not_run h.core i member may);
       others = λ B w h i made member may older j inside away.
           quiet S L B w h (after_revival S i made w) (revived_good h i member may made older) (omega arith) refl refl j (get_or-set_other w.machines i j (revived_machine S (remains_of S w.words i) i made) no_machine (λ e. away (sym e)));

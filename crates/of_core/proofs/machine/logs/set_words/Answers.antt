@@ -1,4 +1,4 @@
-use Rattle.std.proofs.Common.{◌∙◌, ℕ, List, [], ◌∷◌, ◌++◌, ap, sym, arith, length, take, get_or}
+use Rattle.std.proofs.Common.{◌∙◌, ℕ, List, [], ◌∷◌, ◌++◌, ap, sym, arith, get_or}
 use Rattle.std.proofs.lemmas.List.{take_more, take_all}
 use Rattle.of_core.proofs.machine.logs.set_words.Goals as goal
 
