@@ -41,14 +41,13 @@ pub record IsMeant (M : Meaning) (cells op : List ℕ) (raw : RawReply) : Type 0
   pub reply : IsSameReply raw (M.reply (cells_after M cells history) op)
 
 -- the history has this call, with this reply
-pub record HasEntry (h : List Call) (caller ticket : ℕ) (op : List ℕ) (raw : RawReply)
-    : Type 0 where
+pub record HasEntry (h : List Call) (caller ticket : ℕ) (op : List ℕ) (r : RawReply) : Type 0 where
   pub place : ℕ
   pub among : place < length h
   pub caller_is : (get_or h place no_call).caller ≡ caller
   pub ticket_is : (get_or h place no_call).ticket ≡ ticket
   pub words : (get_or h place no_call).op ≡ op
-  pub reply : IsSameReply raw (get_or h place no_call).raw
+  pub reply : IsSameReply r (get_or h place no_call).raw
 
 -- The history agrees with how this call ended: if the call was answered, the history has it, with
 -- its reply; if it was spent, the history does not have it. A lost call may be there or not.
@@ -82,8 +81,7 @@ HasOnly h c n es IsOpenCall = All (λ (e : Call). e.caller ≡ c → IsOneOf n e
 
 -- no call of the caller in the history that may write has a ticket above this one
 abbrev pub IsUpTo : Meaning → List Call → (caller ticket : ℕ) → Type 0
-IsUpTo M h c t =
-    All (λ (e : Call). e.caller ≡ c → M.reads_only e.op ≡ false → e.ticket ≤ t) h
+IsUpTo M h c t = All (λ (e : Call). e.caller ≡ c → M.reads_only e.op ≡ false → e.ticket ≤ t) h
 
 -- the call is one of this caller, with this ticket or a lower one
 abbrev pub IsUpToTicket : (caller ticket : ℕ) → Call → Type 0
