@@ -27,8 +27,7 @@ cells_at_start meaning r = map payload_of (row_start meaning r).cells
 
 -- how many calls a caller had made before the row started: the number in its ticket cell
 abbrev pub made_before : {W : Type 0} → (W → Meaning) → Row W → ℕ → ℕ
-made_before meaning r n =
-    payload_of (get_or (row_start meaning r).cells (ticket_cell_at MOST_INSTRS n) 0)
+made_before M r n = payload_of (get_or (row_start M r).cells (ticket_cell_at MOST_INSTRS n) 0)
 
 -- how many durable words the row has: one for each of its cells
 abbrev pub durable_count : {W : Type 0} → Row W → ℕ

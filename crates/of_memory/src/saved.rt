@@ -20,6 +20,7 @@ impl Saved {
     ghost use Rattle.of_memory.specs.Saving.{IsSaved, SavedHolds, HoldsReply, saved_callers};
     ghost use Rattle.of_memory.specs.Saving.{saved_limit, saved_seq, saved_ticket, saved_scripts};
     ghost use Rattle.of_memory.specs.Texts.{SavesSame, IsNoLimitOf};
+    ghost use Rattle.of_memory.specs.Sequences.{left_of_saved};
 
     /// How many callers the saved memory has.
     pub fn callers(&self) -> u32
@@ -41,6 +42,14 @@ impl Saved {
         ensures { result ≡ saved_seq self.now }
     {
         self.cells.seq()
+    }
+
+    /// How many sequences are left for a memory that goes on from it.
+    pub fn sequences_left(&self) -> u32
+        requires { IsSaved self.now }
+        ensures { result ≡ left_of_saved self.now }
+    {
+        self.cells.sequences_left()
     }
 
     // The scripts whose store it holds.
