@@ -1,4 +1,4 @@
--- How far a handle or a memory knows that the sequences have come, and how many that leaves.
+-- Up to which sequence a handle or a memory knows of commits, and how many sequences come after it.
 use Rattle.std.specs.Prelude.{◌≡◌, ℕ, ◌-◌, Result, Ok, Err}
 use Rattle.of_cells.specs.declared.answer.RawAnswer.{RawAnswer}
 use Rattle.of_cells.specs.declared.error.RunError.{RunError}
@@ -18,7 +18,8 @@ seq_known_to h = h.seq
 abbrev pub seq_known_in : {W : Type 0} → CellMemory W → ℕ
 seq_known_in m = m.seq
 
--- a call that has ended tells its sequence; any other leaves the one that was known
+-- the last sequence that is known after a call with this result: that of the call if it was
+-- answered, or if it was spent; otherwise the sequence that was known before
 abbrev pub seq_after : Result RawAnswer RunError → (known : ℕ) → ℕ
 seq_after (Ok a) known = a.seq
 seq_after (Err (Spent seq)) known = seq
@@ -27,23 +28,24 @@ seq_after (Err InCall) known = known
 seq_after (Err NoCall) known = known
 seq_after (Err NoTicket) known = known
 
--- the handle knows the sequence of the call that came to this
+-- the handle knows the sequence of the call with this result, if the call has ended; otherwise it
+-- knows the sequence that it knew
 abbrev pub KnowsSeqOf : {W : Type 0} → Result RawAnswer RunError → (before now : CellHandle W)
     → Type 0
 KnowsSeqOf result h k = seq_known_to k ≡ seq_after result (seq_known_to h)
 
--- it knows the sequence that it knew
+-- the handle knows the sequence that it knew before
 abbrev pub KnowsSameSeq : {W : Type 0} → (before now : CellHandle W) → Type 0
 KnowsSameSeq h k = seq_known_to k ≡ seq_known_to h
 
--- how many sequences come after the one that the handle knows
+-- how many sequences there are after the last one that the handle knows, up to the limit
 abbrev pub left_of_handle : {W : Type 0} → CellHandle W → ℕ
 left_of_handle h = limit_at h - seq_known_to h
 
--- how many come after the one that the memory knows
+-- how many sequences there are after the last one that the memory knows, up to the limit
 abbrev pub left_of_memory : {W : Type 0} → CellMemory W → ℕ
 left_of_memory m = limit_of m - seq_known_in m
 
--- how many come after the last one that was committed in what is saved
+-- how many sequences there are after the last one committed in what is saved, up to its limit
 abbrev pub left_of_saved : {W : Type 0} → SavedCells W → ℕ
 left_of_saved d = saved_limit d - saved_seq d

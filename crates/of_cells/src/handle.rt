@@ -36,7 +36,8 @@ pub struct CellHandle<W: Work> {
     pub(crate) front: [u64; APART],
     pub(crate) row: Arc<Row<W>, Global>,
     pub(crate) number: u32,
-    /// The last sequence that it knows: that of its last call that has ended, or what it came with.
+    /// The last sequence that the handle knows: that of its last ended call, or else the one that
+    /// the memory knew when the handle came.
     pub(crate) seq: u32,
     pub(crate) caller: Caller<W>,
     pub(crate) behind: [u64; APART],
@@ -69,9 +70,9 @@ impl<W: Work> CellHandle<W> {
         self.number
     }
 
-    /// How many sequences are left at most: those after the last one that the handle knows, which
-    /// is that of its last call that has ended, or else the memory's when the handle came. Others
-    /// may have taken some since. It makes no step.
+    /// How many sequences are left at most: those after the last one that the handle knows. It
+    /// knows that of its last ended call, or else the one that the memory knew when the handle
+    /// came. Other handles may have taken some since. No step is made for this.
     pub fn sequences_left(&self) -> u32
         ensures { result ≡ left_of_handle self.now }
     {

@@ -37,7 +37,7 @@ impl<W: Work> SavedCells<W> {
         seq_of(self.row[0])
     }
 
-    /// How many sequences are left for a memory that goes on from it.
+    /// How many sequences are left for a memory that goes on from what is saved.
     pub fn sequences_left(&self) -> u32
         requires { IsSavedCells W.many W.size W.meaning W.lawful self.now }
         ensures { result ≡ left_of_saved self.now }
@@ -45,8 +45,8 @@ impl<W: Work> SavedCells<W> {
         self.limit.saturating_sub(self.seq())
     }
 
-    /// The same with another limit. There is no limit below its sequence, and none that is 0 or
-    /// above `GREATEST_LIMIT`: it is handed back then as it was.
+    /// What is saved, with another limit. The limit must not be 0, above `GREATEST_LIMIT` or below
+    /// the last committed sequence: otherwise the error hands back what was saved, unchanged.
     pub fn with_limit(self, limit: u32) -> Result<SavedCells<W>, LimitError<W>>
         requires { IsSavedCells W.many W.size W.meaning W.lawful self }
         ensures saved { IfOk result (IsSavedCells W.many W.size W.meaning W.lawful) }

@@ -24,7 +24,8 @@ pub struct CellMemory<W: Work> {
     pass: Pass,
     /// What the handles that have left knew.
     known: Option<Pass>,
-    /// The last sequence that they knew, or the one with which the memory was opened.
+    /// The last sequence that the memory knows: the greatest that a handle that has left knew, or
+    /// the one with which the memory was opened.
     seq: u32,
     /// The callers that have no handle, by their numbers.
     callers: Vec<Option<Caller<W>>>,
@@ -171,15 +172,15 @@ impl<W: Work> CellMemory<W> {
         self.row.limit()
     }
 
-    /// How many sequences are left at most: those after the last one that is known of handles that
-    /// have left, or with which the memory was opened. Others may have taken some since.
+    /// How many sequences are left at most: those after the last one that the memory knows, from
+    /// its opening and from handles that have left. Other handles may have taken some since.
     pub fn sequences_left(&self) -> u32
         ensures { result ≡ left_of_memory self.now }
     {
         self.limit().saturating_sub(self.seq)
     }
 
-    /// A handle for a number. It goes on where the last handle of that number left.
+    /// A handle for this number, which goes on where the last handle of the number left.
     pub fn enrol(&mut self, number: u32) -> Result<CellHandle<W>, EnrolError>
         requires { IsCellMemory W.meaning self.old }
         ensures memory { IsCellMemory W.meaning self.new }

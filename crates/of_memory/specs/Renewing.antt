@@ -1,4 +1,4 @@
--- A memory whose sequences begin anew.
+-- A memory that is closed, and goes on with sequences that begin at 0 again.
 use Rattle.std.specs.Prelude.{◌≡◌, ℕ, ◌<◌, []}
 use Rattle.of_store.specs.Store.{Store}
 use Rattle.of_memory.specs.declared.memory.Memory.{Memory}
@@ -10,8 +10,8 @@ use Rattle.of_memory.specs.Memories.{HasNoneOpen, HasNoHandleOut, HasHandleOut, 
 use Rattle.of_memory.specs.Saving.{IsSaved, SavedHolds, saved_callers, saved_limit, saved_seq}
 use Rattle.of_memory.specs.Saving.{saved_ticket}
 
--- the memory goes on from what was saved: it starts with its callers, limit, store and tickets, and
--- none of the callers has made a call
+-- the memory m goes on from what was saved: m starts with the saved callers, limit, store and
+-- tickets, and none of its callers has made a call
 pub record GoesOnFromSaved (d : Saved) (m : Memory) : Type 0 where
   pub callers : callers_of m ≡ saved_callers d
   pub limit : limit_of m ≡ saved_limit d
@@ -20,8 +20,8 @@ pub record GoesOnFromSaved (d : Saved) (m : Memory) : Type 0 where
   pub none : (n : ℕ) → n < saved_callers d → HasMadeOf m n []
   pub idle : HasNoneOpen m
 
--- No handle of the memory was out, and it has left this: one serial history leads to it, with each
--- call that was answered. The sequences begin anew.
+-- No handle of the memory m was out, and m has left d. One serial history, with each call that was
+-- answered, leads to d. The last committed sequence in d is 0.
 pub record LeavesRenumbered (m : Memory) (d : Saved) : Type 0 where
   pub here : HasNoHandleOut m
   pub saved : IsSaved d
@@ -30,12 +30,12 @@ pub record LeavesRenumbered (m : Memory) (d : Saved) : Type 0 where
   pub limit : saved_limit d ≡ limit_of m
   pub seq : saved_seq d ≡ 0
 
--- the memory that is handed back is as it was, and a handle of it is out
+-- the memory that is handed back is as it was before, and one of its handles is out
 pub record IsInUse (before now : Memory) : Type 0 where
   pub same : now ≡ before
   pub out : HasHandleOut before
 
--- why the sequences of a memory don't begin anew
+-- why no memory is made that goes on with sequences from 0: a handle is out, or memory ran out
 abbrev pub IsRenumberCause : Memory → RenumberError → Type 0
 IsRenumberCause m (InUse k) = IsInUse m k
 IsRenumberCause m (OutOfMemory d) = LeavesRenumbered m d

@@ -97,13 +97,13 @@ impl fmt::Display for InUse {
 
 impl StdError for InUse {}
 
-/// Why the sequences of a memory don't begin anew.
+/// Why `Memory::renumbered` gives no memory whose sequences begin anew.
 #[derive(Drop)]
 pub enum RenumberError {
-    /// One of its handles is out. It is handed back as it was.
+    /// A handle of the memory is out. The memory is handed back as it was.
     InUse(Memory),
-    /// There is no memory for the new table. The old one is closed, and this is what it has left,
-    /// with sequences that begin anew.
+    /// Memory ran out for the new table. The old memory is closed, and this is what it has left,
+    /// with 0 as the last committed sequence.
     OutOfMemory(Saved),
 }
 

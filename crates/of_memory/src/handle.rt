@@ -60,9 +60,9 @@ impl Handle {
         self.cells.number()
     }
 
-    /// How many sequences are left at most: those after the last one that the handle knows, which
-    /// is that of its last call that has ended, or else the memory's when the handle came. Others
-    /// may have taken some since. It makes no step.
+    /// How many sequences are left at most: those after the last one that the handle knows. It
+    /// knows that of its last ended call, or else the one that the memory knew when the handle
+    /// came. Other handles may have taken some since. No step is made for this.
     pub fn sequences_left(&self) -> u32
         ensures { result ≡ left_of_handle self.now }
     {

@@ -1,4 +1,5 @@
-//! What is saved, looked up cell by cell: no list of all of it is made, and no memory is taken.
+//! What is saved, looked up cell by cell: no list of the whole store is made, and nothing is
+//! allocated.
 
 ghost use Rattle.std.specs.Prelude.{◌≡◌, ◌<◌, length, slice_get};
 ghost use Rattle.std.specs.FinMap as fm;
@@ -39,7 +40,7 @@ impl Saved {
         self.number(self.plot().register(r))
     }
 
-    /// The number at a key. None exactly if the key is absent.
+    /// The number at a key of the map. None exactly if the key is absent.
     pub fn key(&self, key: u32) -> Option<u32>
         requires { IsSaved self.now }
         ensures { (s : Store) → SavedHolds self.now s → result ≡ fm.get s.keys key }
@@ -60,7 +61,7 @@ impl Saved {
         None
     }
 
-    /// How many keys there are.
+    /// How many keys the map has.
     pub fn keys(&self) -> u32
         requires { IsSaved self.now }
         ensures { (s : Store) → SavedHolds self.now s → result ≡ fm.len s.keys }
@@ -77,7 +78,8 @@ impl Saved {
         self.number(self.plot().length(q))
     }
 
-    /// The item at a place of a queue, the front at 0. None exactly if the queue has none there.
+    /// The item of a queue at the place `at`, from 0 at the front. None exactly if the queue has no
+    /// item there.
     pub fn item(&self, q: u32, at: u32) -> Option<u32>
         requires saved { IsSaved self.now }
         requires queue { q < QUEUES }

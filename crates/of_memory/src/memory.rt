@@ -15,7 +15,7 @@ pub struct Memory {
     pub(crate) cells: CellMemory<Scripts>,
 }
 
-/// A memory whose sequences begin anew, and what it goes on from.
+/// A memory whose sequences begin anew, and the saved state from which it goes on.
 #[derive(Drop)]
 pub struct Renumbered {
     pub memory: Memory,
@@ -102,8 +102,8 @@ impl Memory {
         self.cells.limit()
     }
 
-    /// How many sequences are left at most: those after the last one that is known of handles that
-    /// have left, or with which the memory was opened. Others may have taken some since.
+    /// How many sequences are left at most: those after the last one that the memory knows, from
+    /// its opening and from handles that have left. Other handles may have taken some since.
     pub fn sequences_left(&self) -> u32
         ensures { result ≡ left_of_memory self.now }
     {
@@ -170,10 +170,10 @@ impl Memory {
         }
     }
 
-    /// Closes the memory, and opens one that goes on from what it has left, with sequences that
-    /// begin anew. What it has left is handed out too, with each caller's last ticket and reply. If
-    /// a handle is out, and only then, the memory is handed back; if there is no memory for the new
-    /// table, what is saved is.
+    /// Closes the memory, and opens a new one that goes on from what the old one has left, with
+    /// sequences that begin anew. What the old one has left is handed out too, with each caller's
+    /// last ticket and reply. If a handle is out, and only then, the error hands the old memory
+    /// back. If memory runs out for the new table, the error hands out what the old one has left.
     pub fn renumbered(self) -> Result<Renumbered, RenumberError>
         requires { IsMemory self }
         ensures memory { IfOk result (λ r. IsMemory r.memory) }

@@ -44,7 +44,7 @@ impl Saved {
         self.cells.seq()
     }
 
-    /// How many sequences are left for a memory that goes on from it.
+    /// How many sequences are left for a memory that goes on from what is saved.
     pub fn sequences_left(&self) -> u32
         requires { IsSaved self.now }
         ensures { result ≡ left_of_saved self.now }
