@@ -154,7 +154,7 @@ CallsText text stop before now reply code =
 abbrev pub IsNoText : List ℕ → Type 0
 IsNoText text = (script : List Instr) → SpellsScript text script → ⊥
 
--- a caller is held, and `left` sequences come after the last one that it knows
+-- a caller is held, and `left` sequences up to the limit come after the last one that it knows
 pub record HasSequencesLeft (held : Option Held) (left : ℕ) : Type 0 where
   pub handle : Handle
   pub is : HoldsHandle held handle

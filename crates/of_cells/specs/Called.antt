@@ -1,4 +1,5 @@
--- What the result of a call says: of the operation's reply, and of the caller before and after it.
+-- What the result of a call says of the operation's reply, and of the caller before and after the
+-- call.
 use Rattle.std.specs.Prelude.{◌≡◌, ℕ, ◌<◌, ◌≤◌, ◌⊎◌, List, [], ◌∷◌, ◌++◌, length, Result, Ok, Err}
 use mathlib.Core.List.{IsPrefix}
 use Rattle.of_mem.specs.Meaning.{Meaning}
