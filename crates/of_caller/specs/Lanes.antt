@@ -41,15 +41,15 @@ pub record Appends {A : Type 0} (P : A → Type 0) (xs ys : List A) : Type 0 whe
   pub is : ys ≡ xs ++ item ∷ []
   pub holds : P item
 
--- the kept caller has no open call; after its first `behind` scripts, the next i are answered
+-- the kept caller has no open call; its first i scripts after those `behind` are answered
 pub record HasAnsweredScripts (p : Plan) (behind c : ℕ) (x : KnownCaller) (answers : List Answer)
     (i : ℕ) : Type 0 where
   pub idle : IsIdle x.machine
   pub answered : AreAnswered p behind c x.ended answers
   pub count : length answers ≡ i
 
--- the caller is between two calls; after its first `behind` scripts, the next i are answered, and
--- the caller's member keeps its machine
+-- the caller is between two calls; its first i scripts after those `behind` are answered, and its
+-- member keeps its machine
 pub record CallerHasAnswered (p : Plan) (behind c : ℕ) (r : Row Scripts) (caller : Caller Scripts)
     (answers : List Answer) (i : ℕ) : Type 0 where
   pub is_caller : IsCaller scripts_meaning r caller

@@ -24,7 +24,7 @@ use Rattle.of_caller.specs.Tables.{plan_setup, opening_at, operation_of}
 use Rattle.of_caller.specs.Ends.{OutcomeHoldsReply, AnswersStandBeforeSpent, AreAnswers, ending_if_left}
 use Rattle.of_caller.specs.Starts.{StartsAtPlan}
 
--- these are the operations of caller c's next scripts: of the `count` scripts right after the first
+-- these are the operations of caller c's next scripts: of the first `count` scripts after those
 -- `behind`, in order
 pub record AreNextScripts (p : Plan) (behind c : ℕ) (ops : List (List ℕ)) : Type 0 where
   pub count : ℕ
