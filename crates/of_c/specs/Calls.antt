@@ -1,4 +1,4 @@
--- What a call answers to C, and what the call has come to.
+-- What a call from C answers: a code, and a reply that shows the call's result.
 use Rattle.std.specs.Prelude.{◌≡◌, ◌≢◌, ℕ, ◌==◌, if◌then◌else◌, List, map, Option, Some, None, Result, Ok, Err}
 use Rattle.of_script.specs.declared.instr.Instr.{Instr}
 use Rattle.of_script.specs.Language.{IsScript, instr_word}
@@ -13,20 +13,21 @@ use Rattle.of_memory.specs.Handles.{ResumesCall, OpenCallStays, RefusesToGoOn, O
 use Rattle.of_memory.specs.Handles.{steps_so_far, step_bound_of, MakesAtMost, GoesOnWithin}
 use Rattle.of_memory.specs.Handles.{MakesStepsAlone}
 use Rattle.of_memory.specs.Telling.{BeginsAfterHeard, ResumesAfterHeard, KeepsKnown}
+use Rattle.of_memory.specs.Sequences.{KnowsSeqOf, left_of_handle}
 use Rattle.of_memory.specs.Within.{EndsWithin, KeepsToStop}
 use Rattle.of_c.specs.declared.codes.TheConstants.{DONE, EMPTY, NO_TICKET, SPENT, STOPPED, CALL_OPEN}
 use Rattle.of_c.specs.declared.held.Held.{Held}
 use Rattle.of_c.specs.declared.held.Held.TheVariants.{Nothing, Memory, Caller, Saved}
 use Rattle.of_c.specs.declared.reply.CReply.{CReply}
 use Rattle.of_c.specs.Replies.{ShowsAnswer}
-use Rattle.of_c.specs.Slots.{HasHandle}
+use Rattle.of_c.specs.Slots.{HasHandle, HoldsHandle}
 
 -- the stop that C gives a call as a number of steps; the greatest number means no stop
 abbrev pub step_limit : ℕ → Option ℕ
 step_limit steps = if steps == 18446744073709551615 then None else Some steps
 
--- The code and the reply tell C what a call has come to. `open_code` is the code of a call that was
--- refused because a call is open, or because none is.
+-- The code and the reply tell C the result of a call. `open_code` is the code if the call was
+-- refused: a new call because one is open already, or a call to go on because none is open.
 abbrev pub Tells : (open_code : ℕ) → Result Answer RunError → (code : ℕ) → CReply → Type 0
 Tells o (Ok a) code r = (code ≡ DONE) × ShowsAnswer a r
 Tells o (Err (Stopped asked)) code r = (code ≡ STOPPED) × (r.steps ≡ asked)
@@ -35,14 +36,14 @@ Tells o (Err InCall) code r = code ≡ o
 Tells o (Err NoCall) code r = code ≡ o
 Tells o (Err NoTicket) code r = code ≡ NO_TICKET
 
--- A call that was not answered leaves the reply as it was, but for the steps if it was stopped, and
--- but for the sequence if it was spent.
+-- A call that was not answered leaves the reply as it was, apart from the reply's steps if the call
+-- was stopped, and apart from the reply's sequence if the call was spent.
 pub record LeavesReply (code : ℕ) (before now : CReply) : Type 0 where
   pub stopped : code ≡ STOPPED → now ≡ record before { steps = now.steps }
   pub spent : code ≡ SPENT → now ≡ record before { seq = now.seq }
   pub refused : code ≢ DONE → code ≢ STOPPED → code ≢ SPENT → now ≡ before
 
--- the reply is as it was, but for the place
+-- the reply is as it was, apart from its place
 abbrev pub ShowsPlaceAlone : (before now : CReply) → Type 0
 ShowsPlaceAlone before now = now ≡ record before { place = now.place }
 
@@ -67,6 +68,7 @@ pub record CallsScript (script : List Instr) (stop : Option ℕ) (h : Handle)
   pub behind : BeginsAfterHeard a h k
   pub knows : KeepsKnown h k
   pub alone : MakesStepsAlone h k
+  pub seq : KnowsSeqOf a h k
 
 -- the open call of handle h has gone on and had the result a, and has left the handle as k
 pub record GoesOn (stop : Option ℕ) (h : Handle) (a : Result Answer RunError) (k : Handle)
@@ -84,13 +86,14 @@ pub record GoesOn (stop : Option ℕ) (h : Handle) (a : Result Answer RunError) 
   pub behind : ResumesAfterHeard a h k
   pub knows : KeepsKnown h k
   pub alone : MakesStepsAlone h k
+  pub seq : KnowsSeqOf a h k
 
 -- what may be claimed of a call: of the handle before it, its result, and the handle after it
 abbrev pub CallWork : Type 1
 CallWork = Handle → Result Answer RunError → Handle → Type 0
 
--- a caller is still held, with its handle after the call, and the code and the reply tell what the
--- call has come to
+-- a caller is still held, with its handle after the call; the code and the reply tell the result
+-- of the call
 pub record HasCalled (Does : CallWork) (open_code : ℕ) (h : Handle) (now : Held) (reply : CReply)
     (code : ℕ) : Type 0 where
   pub handle : Handle
@@ -150,3 +153,9 @@ CallsText text stop before now reply code =
 -- this text spells no script
 abbrev pub IsNoText : List ℕ → Type 0
 IsNoText text = (script : List Instr) → SpellsScript text script → ⊥
+
+-- a caller is held, and `left` sequences up to the limit come after the last one that it knows
+pub record HasSequencesLeft (held : Option Held) (left : ℕ) : Type 0 where
+  pub handle : Handle
+  pub is : HoldsHandle held handle
+  pub left_is : left ≡ left_of_handle handle

@@ -28,8 +28,8 @@ pub record HasText (held : Option Held) (P : List ℕ → Type 0) : Type 0 where
   pub holds : IsOfPlanSize left → TextHolds text left
   pub so : P text
 
--- What the text holds is held, with the greatest limit. If the text was printed for something that
--- a memory has left, the same words are held.
+-- What the text holds is held, with the greatest limit. If the text is an image of something that a
+-- memory has left, then what is held has the same durable words.
 pub record HoldsRead (text : List ℕ) (now : Option Held) : Type 0 where
   pub left : Saved
   pub is : HoldsSaved now left

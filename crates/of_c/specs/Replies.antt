@@ -1,4 +1,5 @@
--- How C is told a reply and what a call has come to.
+-- How a reply is shown to C, and how a call's answer is: the reply with its sequence, its steps,
+-- and whether the call was announced.
 use Rattle.std.specs.Prelude.{◌≡◌, ℕ, ◌<◌, Bool, true, false, List, Option, Some, None, slice_index_or}
 use Rattle.of_script.specs.declared.instr.TheConstants.{MOST_INSTRS}
 use Rattle.of_script.specs.declared.instr.Reply.{Reply}

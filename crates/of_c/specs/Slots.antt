@@ -21,7 +21,7 @@ HasHandle (Memory m) k = ⊥
 HasHandle (Caller s) k = s.handle ≡ k
 HasHandle (Saved d) k = ⊥
 
--- what is held is this, which a memory has left
+-- what is held is `s`, which a memory has left
 abbrev pub HasSaved : Held → TheSaved → Type 0
 HasSaved Nothing s = ⊥
 HasSaved (Memory m) s = ⊥
@@ -38,7 +38,7 @@ abbrev pub HoldsHandle : Option Held → Handle → Type 0
 HoldsHandle None k = ⊥
 HoldsHandle (Some h) k = HasHandle h k
 
--- the slot holds this, which a memory has left
+-- the slot holds `s`, which a memory has left
 abbrev pub HoldsSaved : Option Held → TheSaved → Type 0
 HoldsSaved None s = ⊥
 HoldsSaved (Some h) s = HasSaved h s

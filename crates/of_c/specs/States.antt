@@ -1,4 +1,4 @@
--- What is read of what a memory has left.
+-- What C reads of what a memory has left.
 use Rattle.std.specs.Prelude.{◌≡◌, ℕ, ◌<◌, Option}
 use Rattle.of_script.specs.declared.instr.Reply.{Reply}
 use Rattle.of_store.specs.Store.{Store}

@@ -24,7 +24,8 @@ pub record HoldsWords (callers blocks limit : ℕ) (words : List ℕ) (now : Opt
   pub holds : WordsHold callers blocks words left
   pub limit_is : saved_limit left ≡ limit
 
--- the same store, tickets, replies and limit are held, but the last committed sequence is 0
+-- what is held now has the store, tickets, replies and limit that it had, and as its last committed
+-- sequence 0
 pub record HoldsRenumbered (before now : Option Held) : Type 0 where
   pub left : Saved
   pub was : HoldsSaved before left
@@ -34,7 +35,7 @@ pub record HoldsRenumbered (before now : Option Held) : Type 0 where
   pub seq : saved_seq next ≡ 0
   pub limit : saved_limit next ≡ saved_limit left
 
--- the same store, tickets, replies and sequence are held, but with this limit
+-- what is held now has the store, tickets, replies and sequence that it had, and this limit
 pub record HoldsLimited (limit : ℕ) (before now : Option Held) : Type 0 where
   pub left : Saved
   pub was : HoldsSaved before left

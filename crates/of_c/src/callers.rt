@@ -1,11 +1,13 @@
 //! What C does with a caller: calls of scripts.
 
-ghost use Rattle.std.specs.Prelude.{◌≡◌, ◌≢◌, None, Some};
+ghost use Rattle.std.specs.Prelude.{◌≡◌, ◌≢◌, ◌↔◌, ◌∷◌, [], None, Some};
 ghost use Rattle.of_script.specs.Text.{IsFault};
-ghost use Rattle.of_c.specs.declared.codes.TheConstants.{CALL_OPEN, NO_CALL, NO_SCRIPT};
+ghost use Rattle.of_c.specs.declared.codes.TheConstants.{CALL_OPEN, DONE, EMPTY};
+ghost use Rattle.of_c.specs.declared.codes.TheConstants.{NO_CALL, NO_SCRIPT};
 ghost use Rattle.of_c.specs.Calls.{step_limit, Tells, CallsScript, GoesOn, CallsHeld, CallsSlot};
 ghost use Rattle.of_c.specs.Calls.{CallsWords, AreNoScript, CallsText, IsNoText};
-ghost use Rattle.of_c.specs.Calls.{LeavesReply, ShowsPlaceAlone};
+ghost use Rattle.of_c.specs.Calls.{LeavesReply, ShowsPlaceAlone, HasSequencesLeft};
+ghost use Rattle.of_c.specs.Causes.{IsOneCode, HoldsNo, IsNotCaller};
 
 use crate::codes::{CALL_OPEN, DONE, EMPTY, NO_CALL, NO_SCRIPT, NO_TICKET, SPENT, STOPPED};
 use crate::held::{Held, Seat};
@@ -192,6 +194,38 @@ pub extern "C" fn of_c_go_on(
         return EMPTY;
     };
     let code = go_on_held(&mut held, limit_of(steps), reply);
+    caller.put(held);
+    code
+}
+
+fn left_held(held: &Held, left: &mut u32) -> u32
+    ensures read { result ≡ DONE → HasSequencesLeft (Some held.now) left.new }
+    ensures codes { IsOneCode (DONE ∷ EMPTY ∷ []) result }
+    ensures empty { (result ≡ EMPTY) ↔ IsNotCaller held.now }
+    ensures unread { result ≢ DONE → left.new ≡ left.old }
+{
+    match held {
+        Held::Caller(seat) => {
+            *left = seat.handle.sequences_left();
+            DONE
+        }
+        _ => EMPTY,
+    }
+}
+
+/// How many sequences are left at most: those after the last one that the caller knows.
+#[unsafe(no_mangle)]
+pub extern "C" fn of_c_sequences_left(alloc: Global, caller: &mut Slot, left: &mut u32) -> u32
+    ensures read { result ≡ DONE → HasSequencesLeft caller.old.raw.held left.new }
+    ensures codes { IsOneCode (DONE ∷ EMPTY ∷ []) result }
+    ensures empty { (result ≡ EMPTY) ↔ HoldsNo IsNotCaller caller.old.raw.held }
+    ensures same { caller.new.raw.held ≡ caller.old.raw.held }
+    ensures unread { result ≢ DONE → left.new ≡ left.old }
+{
+    let Some(held) = caller.take(alloc) else {
+        return EMPTY;
+    };
+    let code = left_held(&held, left);
     caller.put(held);
     code
 }

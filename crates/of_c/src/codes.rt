@@ -1,5 +1,5 @@
-//! The codes that C is answered. The C side adds 1 (a pointer is null) and 2 (a handle is in a
-//! call).
+//! The codes that calls from C answer. The C side adds 1 (a pointer is null) and 2 (a handle is in
+//! a call).
 
 /// What was asked for is done.
 pub const DONE: u32 = 0;

@@ -1,4 +1,4 @@
-//! What a slot holds: a memory, a caller of one, or what one has left.
+//! What a slot holds: a memory, a caller of a memory, or what a memory has left.
 
 ghost use Rattle.of_memory.specs.Memories.{IsMemory};
 ghost use Rattle.of_memory.specs.Handles.{IsHandle};

@@ -1,4 +1,4 @@
-//! What a memory has left as a text, and back.
+//! The text of what a memory has left: written, and read back.
 
 ghost use Rattle.std.specs.Prelude.{◌≡◌, ◌≢◌, ◌↔◌, ◌<◌, ◌∷◌, [], IfErr, IfOk, IsSome, Some, length};
 ghost use Rattle.of_c.specs.declared.codes.TheConstants.{DONE, EMPTY, FULL, NO_IMAGE, NO_MEMORY};
@@ -99,8 +99,8 @@ fn code_of_fault(fault: ImageTextError) -> u32
     }
 }
 
-/// Reads a text that `of_c_image` or the command line has written, and fills the slot with what a
-/// memory had left. The limit is the greatest one.
+/// Reads a text that `of_c_image` or the command line has written, and fills the slot with what the
+/// text holds of a memory. The limit is the greatest one.
 #[unsafe(no_mangle)]
 pub extern "C" fn of_c_from_image(alloc: Global, text: &[u8], saved: &mut Slot) -> u32
     ensures read { result ≡ DONE → HoldsRead text.now saved.new.raw.held }

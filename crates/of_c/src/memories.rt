@@ -63,7 +63,7 @@ fn reopen_held(alloc: Global, held: &Held, memory: &mut Slot) -> u32
     }
 }
 
-/// Opens a memory that goes on from what another one has left.
+/// Opens a memory that goes on from what another memory has left.
 #[unsafe(no_mangle)]
 pub extern "C" fn of_c_reopen(alloc: Global, saved: &mut Slot, memory: &mut Slot) -> u32
     ensures reopened { result ≡ DONE → HoldsNext saved.old.raw.held memory.new.raw.held }
@@ -115,8 +115,8 @@ fn enrol_held(held: &mut Held, number: u32, mut place: Box<Held, Global>, caller
     }
 }
 
-/// Enrols the caller with this number. In the memory's history, each call that it begins comes
-/// after all ended calls of callers that left before.
+/// Enrols the caller with this number. In the memory's history, each call that this caller begins
+/// comes after all ended calls of callers that left before.
 #[unsafe(no_mangle)]
 pub extern "C" fn of_c_enrol(alloc: Global, pair: &mut Pair, number: u32) -> u32
     ensures enrolled { result ≡ DONE → HoldsEnrolled number
@@ -177,7 +177,7 @@ fn leave_held(held: &mut Held, seat: Box<Held, Global>, caller: &mut Slot) -> u3
     }
 }
 
-/// The caller leaves its memory. An open call of it stays open, and its number is free again.
+/// The caller leaves its memory. If it has an open call, this stays open. Its number is free again.
 #[unsafe(no_mangle)]
 pub extern "C" fn of_c_leave(alloc: Global, pair: &mut Pair) -> u32
     ensures left { result ≡ DONE → HoldsLeft
@@ -228,7 +228,7 @@ fn close_home(home: Home, mut place: Box<Held, Global>, memory: &mut Slot, saved
     }
 }
 
-/// Closes a memory: what is durable is recovered, and the slot `saved` holds it.
+/// Closes a memory: its durable words are recovered, and the slot `saved` holds them.
 #[unsafe(no_mangle)]
 pub extern "C" fn of_c_close(alloc: Global, memory: &mut Slot, saved: &mut Slot) -> u32
     ensures closed { result ≡ DONE → HoldsClosed memory.old.raw.held saved.new.raw.held }

@@ -1,4 +1,4 @@
-//! A memory's slot, and that of one of its callers.
+//! The slot of a memory, and the slot of one of its callers.
 
 ghost use Rattle.of_c.specs.Slots.{AreOfOne};
 

@@ -12,7 +12,7 @@ use of_script::MOST_INSTRS;
 pub struct CReply {
     /// The sequence at which the call took effect.
     pub seq: u32,
-    /// 1 if the call was announced, 0 if it only read.
+    /// 1 if the call was announced, 0 if it was answered as a read.
     pub announced: u32,
     /// How many instructions the script has.
     pub len: u32,

@@ -123,4 +123,4 @@ module _ (S : Setup) (L : List ℕ → Type 0) (sound : InvariantIsSound S L) (m
   machines_hold_last starts events every B may n room es s kept i member =
       let first = every B may n room [] tt i member in
       run_holds B events i (start_ticket S B i) member es (opening_moment S B n) (starts B may n room).0 s kept [] [] first
-      (λ idle. elim (first.last idle) [ | inl none ↦ none | inr last ↦ last ])
+      (λ idle. elim (first.last idle) [ inl none ↦ none | inr last ↦ last ])

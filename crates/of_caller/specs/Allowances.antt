@@ -1,5 +1,5 @@
--- What is known of the report of a run from brakes that report their steps left: callers keep to
--- their allowances.
+-- The report of a run whose brakes report their steps left: each caller keeps to its stop in the
+-- plan as its allowance in the report.
 use Rattle.std.specs.Prelude.{ℕ, ◌+◌, ◌<◌, List, [], ◌∷◌, Option, Some, None}
 use Rattle.of_plan.specs.Plan.{Plan, stop_of}
 use Rattle.of_plan.specs.Report.{Report}
@@ -11,8 +11,8 @@ abbrev pub KeepsStopAsAllowance : (left : Option (Option ℕ)) → Plan → Repo
 KeepsStopAsAllowance None p r c = Unit {0}
 KeepsStopAsAllowance (Some steps) p r c = KeepsAllowance p r c (stop_of p c)
 
--- each caller from c on, whose brake is at its place in the list and reports its steps left, keeps
--- to the plan's stop as its allowance
+-- The list has the brakes of caller c and of the callers after it. Each of these callers whose
+-- brake reports its steps left keeps to the plan's stop as its allowance.
 abbrev pub KeepAllowances : {A : Type 0} → (A → Option (Option ℕ)) → Plan → Report → (c : ℕ)
     → List A → Type 0
 KeepAllowances left p r c [] = Unit {0}

@@ -1,5 +1,6 @@
--- Real time between two callers, as far as they know of it: a call that begins when its caller has
--- heard of an answer comes after that answer, and begins after it among the events.
+-- Real time between two callers, as far as they have heard of each other. If a caller has heard of
+-- an answer when it begins a call, this call comes after the answered one in the history, and the
+-- call's begin comes after the answer among the events.
 use Rattle.std.specs.Prelude.{ℕ, ◌<◌, List, length, Result, Ok, Err}
 use Rattle.std.proofs.Common.{zero, suc}
 use mathlib.Core.List.{IsPrefix}
@@ -45,13 +46,13 @@ ComesBehind {W} meaning lawful =
     → IsAnsweredAfter meaning lawful row stops n b b' p
     → IsNotBefore (outcome_seq o) p
 
--- the second caller's past begins with all events of the first caller's past
+-- the events that the second caller knows begin with all events that the first one knows
 abbrev pub HasFollowed : {W : Type 0} → (told hearer : Caller W) → Type 0
 HasFollowed a b = IsPrefix (sight_of a).past (sight_of b).past
 
 -- A call of caller a has ended and left the caller as a'. Caller b has then learnt all that a'
--- knew, and has made a step of its next call. So in all events that begin with the past of b after
--- that step, the call of a has ended before the call of b begins.
+-- knew, and has made a step of its next call. In each list of events that begins with the events
+-- that b' knows, the call of a has ended before the call of b begins.
 abbrev pub EndsFirst : {W : Type 0} → (W → Meaning) → (W → List ℕ → Type 0) → Type 0
 EndsFirst {W} meaning lawful =
     (row : Row W) (m n : CallState) (a a' b b' : Caller W) (s t p q : ℕ)

@@ -1,4 +1,4 @@
--- What a call takes off the steps that its brake has left, and what the brake hears of it.
+-- By how much a call lowers the steps that its brake has left, and what the brake hears of it.
 use Rattle.std.specs.Prelude.{◌≡◌, ℕ, ◌+◌, Option, Some, None, Result, Ok, Err}
 use Rattle.std.proofs.Common.{zero, suc}
 use Rattle.of_brake.specs.Stops.{HasHeardAnswer, saturating_next}
@@ -28,14 +28,14 @@ TakesSteps (Some left) (Some rest) n = TakesStepsFrom left rest n
 abbrev pub UsesCountedSteps : (before after : Option (Option ℕ)) → (a b : ℕ) → Type 0
 UsesCountedSteps before after a b = (n : ℕ) × (b ≡ a + n) × TakesSteps before after n
 
--- at first `left` steps were left, and the brake denied the ask after these, number `asked`;
--- without a limit no ask is denied
+-- before the call `left` steps were left, and the brake denied the next ask after them, number
+-- `asked`; a brake without a limit denies no ask
 abbrev pub StopsWhenUsedUp : (left : Option ℕ) → (asked : ℕ) → Type 0
 StopsWhenUsedUp None asked = ⊥
 StopsWhenUsedUp (Some left) asked = asked ≡ left + 1
 
--- if the brake reports its steps left: one fewer than `asked` was left at first, and the brake
--- denied ask number `asked`
+-- if the brake reports its steps left, one fewer than `asked` was left before the call, and the
+-- brake denied ask number `asked`
 abbrev pub StopsWhenToldUsedUp : (left : Option (Option ℕ)) → (asked : ℕ) → Type 0
 StopsWhenToldUsedUp None asked = Unit {0}
 StopsWhenToldUsedUp (Some left) asked = StopsWhenUsedUp left asked
@@ -51,7 +51,7 @@ abbrev pub HearsAnswerOnce : (before after : Option ℕ) → Result Outcome Call
 HearsAnswerOnce before after (Ok o) = HasHeardAnswer before after
 HearsAnswerOnce before after (Err e) = after ≡ before
 
--- a count that went up `more` times; it stays at the greatest number of its type
+-- the count n after it went up `more` times; it stays at the greatest number of its type
 unfoldable pub later : (more : ℕ) → ℕ → ℕ
 later zero n = n
 later (suc more) n = saturating_next (later more n)
@@ -61,7 +61,7 @@ abbrev pub AskedFor : (before after : Option ℕ) → (more : ℕ) → Type 0
 AskedFor None after more = after ≡ None
 AskedFor (Some n) after more = after ≡ Some (later more n)
 
--- a brake that counts how often it is asked was asked once for each step counted from a to b
+-- a brake that counts how often it is asked was asked b - a times, once for each counted step
 abbrev pub AskedForEach : (before after : Option ℕ) → (a b : ℕ) → Type 0
 AskedForEach before after a b = (n : ℕ) × (b ≡ a + n) × AskedFor before after n
 

@@ -32,8 +32,8 @@ caller_call c = c.machine.call
 abbrev pub calls_begun_by : {W : Type 0} → Caller W → ℕ
 calls_begun_by c = (caller_call c).made
 
--- The caller's member and machine are of the row, and the member stands for the machine. If a call
--- is open, it has made fewer steps than the bound.
+-- The caller's member and machine are of the row. The machine is the one that the member keeps, or
+-- may take that one's place (`StandsForMachine`). An open call has fewer steps than the bound.
 pub record IsCaller {W : Type 0} (meaning : W → Meaning) (r : Row W) (c : Caller W) : Type 0 where
   pub row : IsRowMember r (member_of c)
   pub machine : RunsOnRow r c.machine
@@ -41,8 +41,8 @@ pub record IsCaller {W : Type 0} (meaning : W → Meaning) (r : Row W) (c : Call
   pub within : IsOpen (caller_call c).place
       → (caller_call c).steps < bound (machine_setup meaning c.machine)
 
--- if the caller is one of some row and has no open call, the member that it leaves has no open call
--- either, and has made as many calls as the caller has begun
+-- if a caller of some row has no open call, the member m that it leaves has no open call either,
+-- and m has made as many calls as the caller's number has begun
 abbrev pub LeavesIdleMember : {W : Type 0} → (W → Meaning) → Caller W → Member → Type 0
 LeavesIdleMember {W} meaning c m =
     (r : Row W) → IsCaller meaning r c → IsIdle (caller_call c)

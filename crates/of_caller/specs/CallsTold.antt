@@ -47,11 +47,11 @@ pub record HasEndedWith (S : Setup) (Lawful : List ℕ → Type 0) (B : TableSta
   pub steps : TellsSteps (m.steps + n) o
   -- the call, also a spent one, has made no more steps than the bound
   pub within : m.steps + n ≤ bound S
-  -- the call's steps are within the bound by the cells that each operation of the work reads and
-  -- writes, however large the memory is
+  -- the call's steps are within a bound that counts the cells that operations of the work read and
+  -- write, and not how large the memory is
   pub touched : IsWithinTouched S Lawful m.op (m.steps + n)
-  -- an announced call's sequence is above what was seen when the call began; a read's is not below
-  -- it
+  -- an announced call has a sequence above the one seen when the call began; a read has at least
+  -- the one seen
   pub beyond : IsNotBefore (since_after B v x) o
   -- the call is spent exactly if its last step, in a round that began at the limit, did not find
   -- its ticket
@@ -77,9 +77,9 @@ TellsResult S L B m v x n d w y (Err (Stopped asked)) =
 TellsResult S L B m v x n d w y (Err (Spent seq)) = HasEndedWith S L B m v x n d w y (Over seq)
 
 -- What is known after a call has made steps. The member keeps the machine. What the member has seen
--- is a legal history. In it the caller has only calls that it has begun, as they ended, and each
--- announced and answered one once. In the events of the member's past the caller's calls began and
--- ended in the same way.
+-- is a legal history. It has only calls of the caller that the caller has begun, as they ended, and
+-- each announced and answered one once. The caller's calls began and ended in the same way in the
+-- events that the member knows.
 pub record TellsStepsMade (S : Setup) (B : TableStart) (d : CallState) (w : View) (y : KnownCaller)
     : Type 0 where
   pub machine : y.machine ≡ d
@@ -92,7 +92,7 @@ pub record TellsStepsMade (S : Setup) (B : TableStart) (d : CallState) (w : View
 pub record TellsCall (S : Setup) (Lawful : List ℕ → Type 0) (B : TableStart)
     (m : CallState) (v : View) (a : ℕ) (d : CallState) (w : View) (b : ℕ)
     (r : Result Outcome CallErr) : Type 0 where
-  -- how many steps the call has made since; the count has risen by this number
+  -- how many steps were made from m to d; the count has risen by this number
   pub steps : ℕ
   pub rise : b ≡ a + steps
   -- nothing that was seen is lost, and the past only gets longer
@@ -112,18 +112,18 @@ pub record TellsCall (S : Setup) (Lawful : List ℕ → Type 0) (B : TableStart)
   -- before the first step, the past had no more calls of the caller than the caller had begun
   pub behind : 0 < steps
       → length (operations_begun v.past m.caller) ≤ length (operations_known before)
-  -- each step that was counted was made on the table
+  -- the caller's turns on the table have risen by the same number as the count of steps
   pub turns : kept.turns ≡ before.turns + steps
   -- besides these steps the caller has made no load
   pub looks : w.looks ≡ v.looks
   -- the member keeps the sequence that was seen when the call began, also if the call was stopped
   pub since : 0 < steps → kept.since ≡ since_after B v before
-  -- also if the call was stopped: its steps, with those from before, are within the bound by the
-  -- cells that each operation of the work reads and writes
+  -- the steps of the whole call, also of a stopped one, are within a bound that counts the cells
+  -- that operations of the work read and write
   pub touched : 0 < steps → IsWithinTouched S Lawful m.op (m.steps + steps)
   pub result : TellsResult S Lawful B m v before steps d w kept r
 
--- what the call m of a caller of the row tells its caller
+-- what a call tells its caller, a caller of the row; before these steps, m was the call's machine
 abbrev pub TellsCallOf : {W : Type 0} → (W → Meaning) → (W → List ℕ → Type 0) → Row W
     → (m : CallState) → (before now : Caller W) → (a b : ℕ) → Result Outcome CallErr → Type 0
 TellsCallOf meaning lawful r m before now a b result =

@@ -45,8 +45,8 @@ EntryHasEnded s ms k e = e.index < finished_of s e.caller + over_in e.caller (ta
 abbrev pub NotBegun : Start → List Mark → (k : ℕ) → Entry → Type 0
 NotBegun s ms k e = finished_of s e.caller + begun_in e.caller (take k ms) ≤ e.index
 
--- the call of e ends before the call of f begins: after the first k marks, for some k, the one has
--- ended and the other has not begun
+-- the call of e ends before the call of f begins: after the first k marks, for some k, the call of
+-- e has ended and the call of f has not begun
 abbrev pub EndsBefore : Start → List Mark → Entry → Entry → Type 0
 EndsBefore s ms e f = (k : ℕ) × EntryHasEnded s ms k e × NotBegun s ms k f
 
@@ -55,16 +55,16 @@ EndsBefore s ms e f = (k : ℕ) × EntryHasEnded s ms k e × NotBegun s ms k f
 abbrev pub StandsBehind : Entry → Entry → Type 0
 StandsBehind e f = (e.seq ≤ f.seq) × (IsTrue f.announced → e.seq < f.seq)
 
--- each entry comes, in the history, no earlier than the entries whose calls ended before its own
--- call began
+-- if the call of an entry e ends before the call of an entry f begins, f comes no earlier than e in
+-- the history
 abbrev pub RespectsTime : Start → List Mark → Report → Type 0
 RespectsTime s ms r =
     All (λ e. All (λ f. EndsBefore s ms e f → StandsBehind e f) r.entries) r.entries
 
 -- ---- the marks of a schedule
 
--- the marks of an event at this moment: an event that begins a call has one, and so has a turn that
--- ends a call, or the loss of a machine that ends one
+-- the marks of an event at this moment: one if the event begins a call, or if it is a turn or the
+-- loss of a machine and ends a call; otherwise none
 abbrev pub marks_of : Setup → Moment → Event → List Mark
 marks_of S w (Begins i op) = BeginsCall i ∷ []
 marks_of S w (Turns i) =
@@ -101,8 +101,8 @@ SchedulesRespectTime p =
     → (r : Report) → IsLawfulRecord p s e r
     → RespectsTime s (marks_in (plan_setup p) (opening_at p B) es) r
 
--- a team's run is a schedule, and the report of what the team leaves respects the real time of this
--- schedule
+-- some schedule leaves the record that a team of the plan leaves, and the record's report respects
+-- the real time of this schedule
 abbrev pub TeamsRespectTime : Plan → Type 0
 TeamsRespectTime p =
     (s : Start) (B : TableStart) (e : Ended) (v : View) → IsTeamOf p s B e v

@@ -35,20 +35,20 @@ IsHeldAnswer (Answered k announced raw steps) = (r : Reply) × IsHeldBy raw r
 IsHeldAnswer (Spent k) = ⊥
 IsHeldAnswer (Lost k) = ⊥
 
--- the list is longer by one item, of which P holds
+-- ys is xs with one more item at the end, of which P holds
 pub record Appends {A : Type 0} (P : A → Type 0) (xs ys : List A) : Type 0 where
   pub item : A
   pub is : ys ≡ xs ++ item ∷ []
   pub holds : P item
 
--- the kept caller has no open call, and i of its scripts after the first `behind` are answered
+-- the kept caller has no open call; its first i scripts after those `behind` are answered
 pub record HasAnsweredScripts (p : Plan) (behind c : ℕ) (x : KnownCaller) (answers : List Answer)
     (i : ℕ) : Type 0 where
   pub idle : IsIdle x.machine
   pub answered : AreAnswered p behind c x.ended answers
   pub count : length answers ≡ i
 
--- the caller is between two calls; i of its scripts after the first `behind` are answered, and its
+-- the caller is between two calls; its first i scripts after those `behind` are answered, and its
 -- member keeps its machine
 pub record CallerHasAnswered (p : Plan) (behind c : ℕ) (r : Row Scripts) (caller : Caller Scripts)
     (answers : List Answer) (i : ℕ) : Type 0 where
@@ -69,36 +69,36 @@ pub record CallerHasEnded (p : Plan) (behind c : ℕ) (r : Row Scripts) (caller 
   pub number : kept.machine.caller ≡ c
   pub keeps : KeepsCaller p behind c answers ending kept
 
--- if a brake reports its steps left, these fell by the steps of the answers in `all` that come
--- after `these`, and by no others
+-- The answers `all` have n steps more than the answers `these`. If the brake reports its steps
+-- left, they fell by n.
 abbrev pub TakesStepsOfAnswers : (before after : Option (Option ℕ)) → (these all : List Answer)
     → Type 0
 TakesStepsOfAnswers before after xs ys =
     (n : ℕ) × (answer_steps ys ≡ answer_steps xs + n) × TakesSteps before after n
 
--- if a brake reports its steps left, the steps of the answers that come after `these`, and of the
--- open call, are within what it had left
+-- The answers `all` have n steps more than the answers `these`. If the brake reports that `left`
+-- steps are left, a caller with these n steps and those of its open call keeps to `left`.
 abbrev pub KeepsToBrake : (left : Option (Option ℕ)) → (these all : List Answer) → Ending → Type 0
 KeepsToBrake None xs ys ending = Unit {0}
 KeepsToBrake (Some stop) xs ys ending =
     (n : ℕ) × (answer_steps ys ≡ answer_steps xs + n)
     × KeepsStop stop (n + open_call_steps ending) (end_state_of ending)
 
--- if a brake reports its steps left, the steps of all answers, and of the open call, are within
--- what it had left
+-- if the brake reports that `left` steps are left, a caller with these answers and this ending
+-- keeps to `left` as its stop, with the steps of its answers and of its open call
 abbrev pub KeepsLeft : (left : Option (Option ℕ)) → List Answer → Ending → Type 0
 KeepsLeft None answers ending = Unit {0}
 KeepsLeft (Some stop) answers ending = KeepToStop stop answers ending
 
 module _ {X : Type 0} {Y : X → Type 0} where
-  -- the lane has a caller of the plan, and room for an answer to each script that isn't done
+  -- the lane has a caller of the plan, and room for an answer to each script not done at the start
   pub record IsLane (p : Plan) (a : TeamCaller X Y) : Type 0 where
     pub number : a.number < p.callers
     pub first : a.first ≤ length (scripts_of p a.number)
     pub room : length (scripts_of p a.number) - a.first ≤ vec_capacity a.answers
 
   -- the lane's caller is between two calls; of its scripts that weren't done before the row's
-  -- start, i are answered
+  -- start, the first i are answered
   pub record LaneAt (p : Plan) (r : Row Scripts) (a : TeamCaller X Y) (i : ℕ) : Type 0 where
     pub lane : IsLane p a
     pub caller : CallerHasAnswered p a.first a.number r a.caller a.answers.items i

@@ -1,4 +1,5 @@
--- What an idle machine holds: how its caller's last call ended, as long as it isn't replaced.
+-- What an idle machine holds: how its caller's last call ended, as long as the machine isn't lost
+-- and replaced.
 use Rattle.std.specs.Prelude.{ℕ, ◌<◌, List, ◌++◌, ◌≡◌}
 use Rattle.of_core.specs.declared.place.Outcome.{Outcome}
 use Rattle.of_core.specs.Table.{Setup}
@@ -14,7 +15,8 @@ abbrev pub HoldsLast : Moment → (i : ℕ) → List Outcome → Type 0
 HoldsLast w i outs =
     IsIdle (machine_in w i) → (machine_in w i).answer ≡ last_outcome outs
 
--- an event that doesn't replace the machine of caller i leaves it the last outcome
+-- if the idle machine of caller i holds the last outcome, it does so too after each event that
+-- doesn't replace the machine
 abbrev pub EventsLeadLast : Setup → (List ℕ → Type 0) → Type 0
 EventsLeadLast S Lawful =
     (B : TableStart) (w : Moment) → MeetsInvariant S Lawful B w
@@ -23,7 +25,7 @@ EventsLeadLast S Lawful =
     → HoldsLast w i outs → (e : Event) → MayHappen S w e → KeepsMachine e i
     → HoldsLast (after_event S w e) i (outs ++ outcome_of_event S w e i)
 
--- so after each schedule that replaces no machine, an idle one holds its caller's last outcome
+-- after each schedule that replaces no machine, an idle machine holds its caller's last outcome
 abbrev pub MachinesHoldLast : Setup → (List ℕ → Type 0) → Type 0
 MachinesHoldLast S Lawful = EachSchedule S Lawful (λ B n es. AllReplaceNone es →
     let w : Moment = opening_moment S B n in

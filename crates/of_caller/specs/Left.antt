@@ -24,7 +24,7 @@ pub record IsLeftBy (p : Plan) (es : List Event) (e : Ended) : Type 0 where
       ≡ ending_at (machine_in (moment_after p es) c) (length (scripts_of p c))
       (length (answers_of e c))
 
--- the calls that each caller begins in these events are its first scripts, in their order
+-- in these events each caller begins calls of its first n scripts, for some n, in their order
 abbrev pub IsOfPlan : Plan → List Event → Type 0
 IsOfPlan p es =
     (c : ℕ) → c < p.callers → (n : ℕ) × (n ≤ length (scripts_of p c))

@@ -10,7 +10,8 @@ use Rattle.of_row.specs.declared.row.Row.{Row}
 use Rattle.of_row.specs.Rows.{key_of, row_start}
 use Rattle.of_caller.specs.Starts.{StartsAtPlan}
 
--- the row is one for the plan: it has the plan's callers, cells, limit and work
+-- the row is made for the plan: how many callers and cells it has, its limit and its work are the
+-- plan's
 pub record IsRowOf (p : Plan) (r : Row Scripts) : Type 0 where
   pub callers : (key_of r).callers ≡ p.callers
   pub cells : (key_of r).cells ≡ plan_data_cells p

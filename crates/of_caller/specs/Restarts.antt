@@ -1,4 +1,4 @@
--- Where a run ends: the start that recovery finds in the durable words that it leaves.
+-- Where a run ends: the start that recovery finds in the durable words that the run leaves.
 use Rattle.std.specs.Prelude.{◌≡◌, ℕ, ◌+◌, ◌≤◌, ◌<◌, ◌⊎◌, IsTrue, List, length, All, Any}
 use Rattle.of_recover.specs.Recovered.{recovered_words}
 use Rattle.of_mem.specs.Places.{ticket_cell_at}
@@ -19,7 +19,7 @@ use Rattle.of_row.specs.Views.{View}
 use Rattle.of_caller.specs.Runs.{IsRunOfPlan}
 use Rattle.of_caller.specs.Teams.{IsTeamOf}
 
--- the entry was announced, and the caller's own cells hold its ticket and its reply
+-- the entry was announced, and the caller's own cells hold the entry's ticket and reply
 pub record IsHeldIn (m : ℕ → ℕ) (caller : ℕ) (e : Entry) : Type 0 where
   pub announced : IsTrue e.announced
   pub ticket : m (ticket_cell_at MOST_INSTRS caller) ≡ e.index + 1
@@ -54,15 +54,15 @@ MayRestartAfter p s e r =
     IsStartRow (plan_setup p) (IsLawfulFor p) found
     × StartsAfterReport p s r (start_from_durable p.callers (plan_data_cells p) found)
 
--- after each run of a plan, a table may start from the recovered durable words, where the run's
--- report ends
+-- after each run of a plan, a table may start from the recovered durable words; this start is where
+-- the run's report ends
 abbrev pub RunsRestart : Type 0
 RunsRestart =
     (p : Plan) (s : Start) (B : TableStart) (w : Moment) (e : Ended) → IsRunOfPlan p s B w e
     → (r : Report) → IsLawfulRecord p s e r → MayRestartAfter p s e r
 
--- after each team of the plan, a table may start from the recovered durable words, where the report
--- ends
+-- after each team of the plan, a table may start from the recovered durable words; this start is
+-- where the team's report ends
 abbrev pub TeamsRestart : Plan → Type 0
 TeamsRestart p =
     (s : Start) (B : TableStart) (e : Ended) (v : View) → IsTeamOf p s B e v

@@ -1,5 +1,5 @@
--- What a run of a plan leaves, from a start: the facts of its table and of its callers that make
--- its record lawful.
+-- What a run of a plan from a start leaves: the facts of the run's table and of its callers that
+-- make the run's record lawful.
 use Rattle.std.specs.Prelude.{◌≡◌, ℕ, ◌+◌, ◌-◌, ◌==◌, ◌≤◌, ◌<◌, if◌then◌else◌, List, [], length, map, take, drop, replicate, Some}
 use Rattle.std.specs.List.{range_with_len}
 use Rattle.std.proofs.Common.{get_or}
@@ -24,21 +24,21 @@ use Rattle.of_caller.specs.Tables.{plan_setup, opening_at, operation_of}
 use Rattle.of_caller.specs.Ends.{OutcomeHoldsReply, AnswersStandBeforeSpent, AreAnswers, ending_if_left}
 use Rattle.of_caller.specs.Starts.{StartsAtPlan}
 
--- these are the operations of a caller's next scripts: of some scripts right after the first
--- `behind`, in order, with none left out
+-- these are the operations of caller c's next scripts: of the first `count` scripts after those
+-- `behind`, in order
 pub record AreNextScripts (p : Plan) (behind c : ℕ) (ops : List (List ℕ)) : Type 0 where
   pub count : ℕ
   pub few : count ≤ length (scripts_of p c) - behind
   pub are : ops ≡ map operation_of (take count (drop behind (scripts_of p c)))
 
--- How a caller ends whose calls have these outcomes, of which `answered` are answers. With no
--- script left it is done. With one left it is spent if its last call was spent; otherwise it is
--- stopped, and its brake was asked once more than its open call has made steps.
+-- How a caller ends whose calls have these outcomes. It is done if all scripts that it had left are
+-- answered. Otherwise it is spent if its last call was spent, and else stopped: its brake was asked
+-- once more than its open call has made steps.
 abbrev pub ending_of_calls : (outs : List Outcome) → (steps scripts_left answered : ℕ) → Ending
 ending_of_calls outs steps n a = if a == n then Done else ending_if_left (last_outcome outs) steps
 
--- The plan's table has come from the start to this moment. Each caller has begun its next scripts,
--- which have these operations, and its ended calls have these outcomes.
+-- The plan's table has come from the start to this moment. Each caller has begun calls of the
+-- operations `ops`, those of its next scripts, and its ended calls have the outcomes `outs`.
 pub record IsMomentOf (p : Plan) (s : Start) (B : TableStart) (w : Moment) (ops : ℕ → List (List ℕ))
     (outs : ℕ → List Outcome) : Type 0 where
   pub plan : IsPlan p
@@ -48,8 +48,8 @@ pub record IsMomentOf (p : Plan) (s : Start) (B : TableStart) (w : Moment) (ops 
   pub calls : (c : ℕ) → c < p.callers
       → HasCalls (plan_setup p) B (finished_of s c) w c (ops c) (outs c)
 
--- The record's answers and ending of caller c say how its calls have ended. An answer's place in
--- the list says of which script it is, so no answer may come after a spent call.
+-- The record's answers and ending of caller c agree with the outcomes of its calls. No call is
+-- answered after a spent one, since an answer's place in the list says which script it answers.
 pub record TellsCalls (p : Plan) (s : Start) (w : Moment) (e : Ended) (c : ℕ) (outs : List Outcome)
     : Type 0 where
   pub answers_first : AnswersStandBeforeSpent outs
@@ -57,7 +57,7 @@ pub record TellsCalls (p : Plan) (s : Start) (w : Moment) (e : Ended) (c : ℕ) 
   pub ended : ending_of e c
       ≡ ending_of_calls outs (machine_in w c).steps (scripts_left p s c) (length (answers_of e c))
 
--- a run of the plan from the start has left this record, and its table has come to this moment
+-- a run of the plan from the start has left this record, and the run's table is at this moment
 pub record IsRunOfPlan (p : Plan) (s : Start) (B : TableStart) (w : Moment) (e : Ended)
     : Type 0 where
   pub operations : ℕ → List (List ℕ)
@@ -81,8 +81,8 @@ SchedulesAreMoments p =
     → IsMomentOf p s B (after_events (plan_setup p) (opening_at p B) es)
     (operations_begun es) (outcomes (plan_setup p) (opening_at p B) es)
 
--- the record before anything has happened from this start: no answers, and each caller that has a
--- script left is stopped
+-- the record of a run from this start in which nothing has happened: no answers; a caller that has
+-- a script left is stopped, and another one is done
 abbrev pub record_at_start : Plan → Start → TableStart → Ended
 record_at_start p s B = record {
   answers = replicate p.callers [];
@@ -98,7 +98,8 @@ StartsAreRuns p =
     (s : Start) (B : TableStart) → StartsAtPlan p s B → IsStart (plan_setup p) B → B.seq ≤ p.limit
     → IsRunOfPlan p s B (opening_at p B) (record_at_start p s B)
 
--- at each moment of a plan, the raw reply of an answered call holds some reply of a script
+-- at each moment of a plan, the raw reply of an answered call (its reply cells) holds some reply of
+-- a script
 abbrev pub RepliesAreHeld : Type 0
 RepliesAreHeld =
     (p : Plan) (s : Start) (B : TableStart) (w : Moment)
@@ -114,18 +115,21 @@ RunsAreLawful =
     (p : Plan) (s : Start) (B : TableStart) (w : Moment) (e : Ended) → IsRunOfPlan p s B w e
     → (r : Report) × IsLawfulRecord p s e r
 
--- the report of each run meets `ReportsRun`, which says what holds of all reports of runs
+-- in each run's report the sequence is within the limit, an entry beyond a caller's answers was
+-- announced, and no answered call has fewer steps than it must make (`ReportsRun`)
 abbrev pub RunsAreReported : Type 0
 RunsAreReported =
     (p : Plan) (s : Start) (B : TableStart) (w : Moment) (e : Ended) → IsRunOfPlan p s B w e
     → (r : Report) → IsLawfulRecord p s e r → ReportsRun p s e r
 
--- how many steps caller c has made: those of these outcomes, and those of its open call
+-- how many steps caller c has made: those of its ended calls, by their outcomes, and those of its
+-- open call
 abbrev pub steps_made : Moment → (c : ℕ) → List Outcome → ℕ
 steps_made w c outs = total_steps outs + (machine_in w c).steps
 
--- A caller of a run whose steps are at most n, and exactly n if it is stopped with no call spent,
--- keeps n as its allowance in the run's report. Its open call must have a step left.
+-- A caller of a run keeps n as its allowance in the report if it has made at most n steps, and
+-- exactly n if it is stopped and no call of it is spent. Its open call must have made fewer steps
+-- than the bound.
 abbrev pub RunsKeepAllowances : Type 0
 RunsKeepAllowances =
     (p : Plan) (s : Start) (B : TableStart) (w : Moment) (e : Ended) (run : IsRunOfPlan p s B w e)

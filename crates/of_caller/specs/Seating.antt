@@ -1,5 +1,5 @@
--- The callers of a team before they run, what the pass knows meanwhile, and what it gathers of
--- them.
+-- The callers of a team before they run, what the pass knows meanwhile, and what it gathers from
+-- the lanes. A lane is a caller of the team with its brake, its answers and its ending.
 use Rattle.std.specs.Prelude.{◌≡◌, ℕ, ◌+◌, ◌<◌, List, [], ◌∷◌, ◌++◌, map, true}
 use Rattle.of_eval.specs.declared.scripts.Scripts.{Scripts}
 use Rattle.of_plan.specs.declared.answer.Answer.{Answer}
@@ -24,7 +24,8 @@ pub record HasSeated (n : ℕ) (v : View) : Type 0 where
   pub loaded : v.loaded ≡ []
   pub below : (m : ℕ) → IsAsked m v.asked → m < n
 
--- between these two views a pass has evicted these cells, in their order
+-- a pass with the view v has evicted these cells in their order and done nothing else; its view is
+-- w now
 pub record EvictsCells (cells : List ℕ) (v w : View) : Type 0 where
   pub first : w.first ≡ v.first
   pub asked : w.asked ≡ v.asked
@@ -37,18 +38,18 @@ abbrev pub done_at : Row Scripts → ℕ → ℕ
 done_at r c = done_before (setup_at scripts_meaning r) (row_start scripts_meaning r) c
 
 module _ {X : Type 0} {Y : X → Type 0} where
-  -- the lane of caller n, which has made no call
+  -- the lane is that of caller n, and this caller has made no call
   pub record IsSeat (p : Plan) (r : Row Scripts) (n : ℕ) (a : TeamCaller X Y) : Type 0 where
     pub ready : IsReady p r a
     pub number : a.number ≡ n
     pub first : a.first ≡ done_at r n
 
-  -- the lanes of the callers n, n + 1 and so on, which have made no call
+  -- the lanes are those of caller n and of the callers after it, and these have made no call
   abbrev pub Seated : Plan → Row Scripts → (n : ℕ) → List (TeamCaller X Y) → Type 0
   Seated p r n [] = Unit {0}
   Seated p r n (a ∷ others) = IsSeat p r n a × Seated p r (n + 1) others
 
-  -- the lane's member is of the row
+  -- the member of the lane's caller is one of the row
   abbrev pub IsAt : Row Scripts → TeamCaller X Y → Type 0
   IsAt r a = IsRowMember r (member_of a.caller)
 

@@ -1,4 +1,4 @@
--- Where a table starts: at the start of a plan that its cells stand for.
+-- When a table starts at a start of a plan: the table's cells stand for this start.
 use Rattle.std.specs.Prelude.{◌≡◌, ℕ, ◌<◌, length, map}
 use Rattle.of_cell.specs.Words.{payload_of}
 use Rattle.of_mem.specs.Places.{ticket_cell_at}

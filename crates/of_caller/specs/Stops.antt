@@ -8,12 +8,12 @@ use Rattle.of_plan.specs.Plan.{Plan, stop_of}
 use Rattle.of_plan.specs.Report.{EndState, stopped}
 use Rattle.of_plan.specs.Ended.{Ended, answers_of, ending_of}
 
--- the steps that the answers name, added up
+-- the sum of the steps that the answers name
 abbrev pub answer_steps : List Answer → ℕ
 answer_steps [] = 0
 answer_steps (a ∷ others) = a.steps + answer_steps others
 
--- the steps of the open call of a stopped caller: one less than its brake was asked for; 0 if the
+-- how many steps a stopped caller's open call has made: one less than its brake was asked; 0 if the
 -- caller isn't stopped
 abbrev pub open_call_steps : Ending → ℕ
 open_call_steps Done = 0
@@ -42,8 +42,8 @@ KeepToToldStop (Some steps) stop answers ending = KeepToStop stop answers ending
 abbrev pub CallerKeepsStop : Plan → Ended → (caller : ℕ) → (left : Option (Option ℕ)) → Type 0
 CallerKeepsStop p e c left = KeepToToldStop left (stop_of p c) (answers_of e c) (ending_of e c)
 
--- each caller from c on, whose brake is at its place in the list and reports its steps left, keeps
--- to the plan's stop
+-- The list has the brakes of caller c and of the callers after it. Each of these callers whose
+-- brake reports its steps left keeps to its stop in the plan.
 abbrev pub KeepStops : {A : Type 0} → (A → Option (Option ℕ)) → Plan → Ended → (c : ℕ) → List A
     → Type 0
 KeepStops left p e c [] = Unit {0}

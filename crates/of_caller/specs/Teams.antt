@@ -31,12 +31,12 @@ use Rattle.of_caller.specs.Scheduled.{IsScheduled}
 
 -- ---- what is kept of one caller
 
--- the operation of a caller's script of this index
+-- the operation of the caller's script with this index
 abbrev pub script_operation_at : Plan → (caller index : ℕ) → List ℕ
 script_operation_at p c x = operation_of (slice_index_or (scripts_of p c) x [])
 
--- the calls that have ended are those of a caller's next scripts after the first `behind`, in
--- order, each was answered, and these are the answers
+-- the ended calls of caller c are those of its scripts right after the first `behind`, in order;
+-- each call was answered, and these are the answers
 pub record AreAnswered (p : Plan) (behind c : ℕ) (calls : List EndedCall) (answers : List Answer)
     : Type 0 where
   pub few : length answers ≤ length (scripts_of p c) - behind
@@ -45,17 +45,18 @@ pub record AreAnswered (p : Plan) (behind c : ℕ) (calls : List EndedCall) (ans
   pub none_spent : NoneSpent (map (λ e. e.outcome) calls)
   pub told : AreAnswers (map (λ e. e.outcome) calls) answers
 
--- A caller was stopped when its brake was asked for the `asked`-th time. Its machine has a call of
--- this operation open, with one step fewer made. If the first ask was denied, no call is open.
--- There were at most as many asks as the bound allows.
+-- A caller was stopped when its brake was asked for the `asked`-th time, which is within the bound.
+-- If the first ask was denied, no call is open. Otherwise a call of this operation is open, and has
+-- made one step less than the brake was asked.
 pub record IsStopped (p : Plan) (op : List ℕ) (asked : ℕ) (m : CallState) : Type 0 where
   pub some : 1 ≤ asked
   pub within : asked ≤ bound_of p
   pub at_once : asked ≡ 1 → IsIdle m
   pub open_call : 1 < asked → IsOpen m.place × (m.op ≡ op) × (m.steps + 1 ≡ asked)
 
--- What is kept of a caller beyond its answered calls, if its next script is number x of n: nothing
--- if it is done; at most the open call if it is stopped; the spent call if no sequence was left.
+-- What is kept of caller c beyond its answered calls, if x of its n scripts are done: nothing if
+-- the caller is done (x is n); an open call of script x or none if it is stopped; the spent call
+-- of script x if no sequence was left.
 abbrev pub KeepsLastCall : Plan → (c x n : ℕ) → CallState → List EndedCall → Ending → Type 0
 KeepsLastCall p c x n m beyond Done = (x ≡ n) × IsIdle m × (beyond ≡ [])
 KeepsLastCall p c x n m beyond (Stopped asked) =
@@ -64,8 +65,8 @@ KeepsLastCall p c x n m beyond (Spent seq) =
     (x < n) × IsIdle m
     × (beyond ≡ record { op = script_operation_at p c x; outcome = RanOut seq } ∷ [])
 
--- what is kept of a caller agrees with its answers and its ending; the first `behind` of its
--- scripts were done before
+-- what is kept of caller c agrees with its answers and its ending; the first `behind` of its
+-- scripts were done before the start
 pub record KeepsCaller (p : Plan) (behind c : ℕ) (answers : List Answer) (ending : Ending)
     (x : KnownCaller) : Type 0 where
   pub calls : List EndedCall
@@ -75,7 +76,7 @@ pub record KeepsCaller (p : Plan) (behind c : ℕ) (answers : List Answer) (endi
   pub last :
       KeepsLastCall p c (behind + length answers) (length (scripts_of p c)) x.machine beyond ending
 
--- a caller with this number is kept, and P holds of it
+-- the list has a caller with this number of which P holds
 abbrev pub KeepsCallerWith : (c : ℕ) → (KnownCaller → Type 0) → List KnownCaller → Type 0
 KeepsCallerWith c P [] = ⊥
 KeepsCallerWith c P (x ∷ xs) = ((x.machine.caller ≡ c) × P x) ⊎ KeepsCallerWith c P xs
@@ -90,20 +91,20 @@ pub record IsTeamOf (p : Plan) (s : Start) (B : TableStart) (e : Ended) (v : Vie
   pub meets : ViewMeetsRule (plan_setup p) (IsLawfulFor p) B e.words v
   pub live : v.spent ≡ false
   pub keeps_all : KeepsAll (plan_setup p) e.words v
-  -- the pass is the row's first one; it has evicted the plan's cells in their order
+  -- the pass is the row's first one; it has made the plan's evictions in their order
   pub first : v.first ≡ true
   pub loaded : v.loaded ≡ []
   pub evicted : map (λ e. e.0) v.evicted ≡ evictions_of p
-  -- the pass keeps of each caller its answered calls, the open call if it is stopped, and the spent
-  -- call if it is spent
+  -- of each caller the pass keeps the answered calls, also an open call of a stopped caller, and
+  -- the spent call of a spent one
   pub answers : length e.answers ≡ p.callers
   pub endings : length e.endings ≡ p.callers
   pub each : (c : ℕ) → c < p.callers
       → KeepsCallerWith c (KeepsCaller p (finished_of s c) c (answers_of e c) (ending_of e c))
       v.kept
 
--- the entry and the call are of the same caller, and the call's ticket is that of the entry's
--- script
+-- the entry and the call are of the same caller, and the call's ticket is the index of the entry's
+-- script plus 1
 abbrev pub IsEntryOf : Entry → Call → Type 0
 IsEntryOf f k = (k.caller ≡ f.caller) × (k.ticket ≡ f.index + 1)
 
@@ -120,7 +121,7 @@ pub record AnnouncesSeen (B : TableStart) (seen : List SeenBatch) (r : Report) :
       → All (λ d. Any (λ f. IsTrue f.announced × (f.seq ≡ k) × IsEntryOf f d) r.entries)
       (seen_calls B seen k)
 
--- what was handed back is a team's record, which is lawful, and a spent copy of the team's pass
+-- a team has left this record, which is lawful; w is the view of the team's pass, marked as spent
 pub record IsHandedBack (p : Plan) (s : Start) (B : TableStart) (e : Ended) (w : View)
     : Type 0 where
   pub sight : View
@@ -129,24 +130,25 @@ pub record IsHandedBack (p : Plan) (s : Start) (B : TableStart) (e : Ended) (w :
   pub report : Report
   pub reported : ReportsRun p s e report
   pub announced : AnnouncesSeen B sight.seen report
-  -- some turns and the plan's evictions, one after the other, leave this record
+  -- some schedule of turns, with the plan's evictions in their order, leaves this record
   pub scheduled : (items : List Item) × IsScheduled p s B items e
 
--- for each start of the plan at which the row started, a team's record and pass were handed back
+-- for each start of the plan at which the row has started, a team has left this record from that
+-- start, and w is the view of the team's pass, marked as spent
 abbrev pub HandsBack : Plan → Row Scripts → Ended → View → Type 0
 HandsBack p r e w =
     (s : Start) → StartsAtPlan p s (start_of_row r) → IsHandedBack p s (start_of_row r) e w
 
 -- ---- what holds of all teams
 
--- the record of a team of the plan is lawful, its report has all that the report of a run has, and
--- its announced entries are the calls that the team's pass has seen
+-- the record of a team of the plan is lawful, its report is as that of a run (`ReportsRun`), and
+-- the report's announced entries are the calls of the batches that the team's pass has seen
 abbrev pub TeamsAreLawful : Plan → Type 0
 TeamsAreLawful p =
     (s : Start) (B : TableStart) (e : Ended) (v : View) → IsTeamOf p s B e v
     → (r : Report) × ReportsRun p s e r × AnnouncesSeen B v.seen r
 
--- in the report of a team of the plan, each caller that keeps to its stop keeps this as its
+-- in the report of a team of the plan, each caller that keeps to its stop keeps the stop as its
 -- allowance
 abbrev pub TeamsKeepAllowances : Plan → Type 0
 TeamsKeepAllowances p =
@@ -154,7 +156,7 @@ TeamsKeepAllowances p =
     → (r : Report) → IsLawfulRecord p s e r → (c : ℕ) → c < p.callers
     → KeepToStop (stop_of p c) (answers_of e c) (ending_of e c) → KeepsAllowance p r c (stop_of p c)
 
--- what each team of the plan leaves is what some schedule of the plan's callers leaves
+-- what a team of the plan leaves, some schedule of the plan's callers leaves too
 abbrev pub TeamsAreScheduled : Plan → Type 0
 TeamsAreScheduled p =
     (s : Start) (B : TableStart) (e : Ended) (v : View) → IsTeamOf p s B e v

@@ -1,4 +1,4 @@
--- Lists whose items are worked on each by itself, by a tree of threads.
+-- Lists before and after a tree of threads has worked on each item by itself.
 use Rattle.std.specs.Prelude.{◌≡◌, List, [], ◌∷◌}
 use denote.Ref.{MutBor}
 use denote.Param.Members.{Shared}

@@ -1,4 +1,5 @@
--- When a call is spent: a round that began at the limit does not find its ticket.
+-- When a call is spent: in a round that began at the limit, the call's ticket isn't in its caller's
+-- ticket cell.
 use Rattle.std.specs.Prelude.{◌≡◌, ◌≢◌, ℕ, ◌≤◌, ◌↔◌, List}
 use Rattle.of_cell.specs.Words.{seq_of, payload_of}
 use Rattle.of_core.specs.declared.place.Place.TheVariants.{LoadOwnTicket}
@@ -22,7 +23,7 @@ IsSpent (Spent s) = Unit {0}
 IsSpent (Lost s) = ⊥
 
 -- the call's last step led to the machine d with the outcome o; the call is spent exactly if this
--- step did not find the call's ticket
+-- step, in a round at the limit, did not find the call's ticket
 pub record IsLastStep (S : Setup) (Lawful : List ℕ → Type 0) (d : CallState) (o : Outcome)
     : Type 0 where
   pub machine : CallState

@@ -99,8 +99,8 @@ impl<W: Work> Caller<W> {
         self.go_on(row, brake, steps)
     }
 
-    /// Goes on with the open call, with the brake as in `call`. The answer counts the steps of the
-    /// whole call.
+    /// Goes on with the open call. The brake is asked before each step from here on, and told if
+    /// the call is answered. The answer counts the steps of the whole call.
     pub fn go_on<L: Ledger, B: Brake>(
         &mut self,
         row: &Row<W>,
@@ -154,8 +154,8 @@ impl<W: Work> Caller<W> {
         self.machine.made()
     }
 
-    /// Gives up the caller for its member, which has all that the caller knows. An open call stays
-    /// open in the member.
+    /// Ends the caller and hands back its member, which knows all that the caller knew. An open
+    /// call stays open in the member.
     pub fn leave(self) -> Member
         ensures is { result ≡ member_of self }
         ensures idle { LeavesIdleMember W.meaning self result }

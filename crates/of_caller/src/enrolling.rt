@@ -75,8 +75,8 @@ fn enrol_one(
     }
 }
 
-/// Enrols every caller of the plan, each with the brake at its place, which is armed with the
-/// caller's stop. If memory runs out, no caller has made a step.
+/// Enrols every caller of the plan. Each gets the brake at the place of its number, which is armed
+/// with the caller's stop. If memory runs out, no caller has made a step.
 pub(crate) fn enrol_all(
     alloc: Global,
     row: &Row<Scripts>,

@@ -21,7 +21,7 @@ use of_plan::Plan;
 use of_row::laws::runs_are_schedules;
 
 /// The laws of the protocol hold for the table of a plan. From every start, the plan's schedules
-/// lead to moments of the plan, and the record before any event is that of a run. A table of zeros
+/// lead to moments of the plan, and before any event there is a record of a run. A table of zeros
 /// is at the plan's empty start.
 pub fn plan_keeps_laws(plan: &Plan)
     ensures plan { IsPlan plan.now }
@@ -41,9 +41,9 @@ pub fn plan_keeps_laws(plan: &Plan)
 }
 
 /// A run of a plan leaves a lawful record, if its table has come to a moment of the plan, and the
-/// answers and ending of each caller agree with how its calls ended. In its report, the sequence is
-/// within the limit, an entry beyond a caller's answers was announced, and each answered call made
-/// its least steps. Each caller keeps to the number of its steps as an allowance.
+/// answers and ending of each caller agree with how its calls ended. In the report, the sequence is
+/// within the limit, an entry beyond a caller's answers was announced, and no answered call has
+/// fewer steps than it must make. Each caller keeps to the number of its steps as an allowance.
 pub fn runs_are_lawful()
     ensures replies { RepliesAreHeld }
     ensures lawful { RunsAreLawful }
@@ -51,11 +51,11 @@ pub fn runs_are_lawful()
     ensures allowances { RunsKeepAllowances }
 {}
 
-/// A team of a plan leaves a lawful record, of which the laws of runs hold. The announced entries
-/// of its report are the calls of the batches that the team's pass has seen. A caller that keeps to
-/// its stop keeps to this as its allowance in the report. A table may start from the recovered
-/// durable words, where the report ends. Some schedule of the plan's callers, with the plan's
-/// evictions in their order, leaves the same record.
+/// A team of a plan leaves a lawful record, and its report is as that of a run. The announced
+/// entries of the report are the calls of the batches that the team's pass has seen. A caller that
+/// keeps to its stop keeps to this stop as its allowance in the report. A table may start from the
+/// recovered durable words, and this start is where the report ends. Some schedule of the plan's
+/// callers, with the plan's evictions in their order, leaves the same record.
 pub fn teams_are_lawful(plan: &Plan)
     ensures lawful { TeamsAreLawful plan.now }
     ensures allowances { TeamsKeepAllowances plan.now }
@@ -77,8 +77,8 @@ pub fn runs_restart()
 
 /// A call comes after each answer that its caller had heard of when the call began: an announced
 /// call at a higher sequence, a read at no lower one. This holds also if the call was stopped and
-/// went on. In the events that lead to any later moment of the row, the call begins after the
-/// answered one has ended.
+/// went on. In the events that lead to any later moment of the row, the call begins after the call
+/// of each answer that its caller knew has ended.
 pub fn answers_are_behind<W: Work>()
     ensures behind { ComesBehind W.meaning W.lawful }
     ensures events { EndsFirst W.meaning W.lawful }

@@ -128,9 +128,9 @@ fn gather(
 
 /// Runs all callers of a plan at once on a row for it. Each caller runs its scripts from the first
 /// that isn't done. Meanwhile a worker makes the plan's evictions in their order. Each caller has
-/// the brake at its place in `brakes`, which is armed with the plan's stop. A caller ends after its
-/// last script, at its first stop, or if no sequence is left. Then the members are joined to the
-/// pass, and the row is closed.
+/// the brake at the place of its number in `brakes`, armed with the caller's stop in the plan. A
+/// caller ends after its last script, at its first stop, or if no sequence is left. After all have
+/// ended, their members are joined to the pass, and the row is closed.
 ///
 /// The error is that memory ran out; then no caller has made a step, since all memory is taken
 /// before the first one. If no second thread can be made, one thread does all of this, part by

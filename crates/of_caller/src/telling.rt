@@ -11,8 +11,8 @@ use of_row::{Pass, Row};
 impl<W: Work> Caller<W> {
     ghost use Rattle.of_caller.specs.Callers.{IsCaller, caller_call, sight_of, looks_made_by};
 
-    /// Makes a pass that knows all that the caller has seen, for another caller to hear. The
-    /// caller's calls stay as they are; it only makes two loads.
+    /// Makes a pass that knows all that the caller has seen, for another caller to hear. `tell`
+    /// makes two loads, and the caller's calls stay as they are.
     pub fn tell(&mut self, row: &Row<W>) -> Pass
         requires { IsCaller W.meaning row.now self.old }
         ensures caller { IsCaller W.meaning row.now self.new }

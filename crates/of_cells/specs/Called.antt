@@ -1,4 +1,5 @@
--- What a call of an operation comes to.
+-- What the result of a call says of the operation's reply, and of the caller before and after the
+-- call.
 use Rattle.std.specs.Prelude.{◌≡◌, ℕ, ◌<◌, ◌≤◌, ◌⊎◌, List, [], ◌∷◌, ◌++◌, length, Result, Ok, Err}
 use mathlib.Core.List.{IsPrefix}
 use Rattle.of_mem.specs.Meaning.{Meaning}
@@ -48,7 +49,7 @@ abbrev pub IsOpenAt : {W : Type 0} → (op : List ℕ) → Caller W → Type 0
 IsOpenAt op c = IsInCall c × ((caller_call c).op ≡ op)
 
 -- if the call was stopped, a call of this operation is open; if it was answered or spent, no call
--- is
+-- is open
 abbrev pub LeavesOpen : {W : Type 0} → (op : List ℕ) → Result RawAnswer RunError → Caller W
     → Type 0
 LeavesOpen op (Ok a) c = IsInCall c → ⊥
@@ -85,20 +86,20 @@ HasStarted (Err InCall) = ⊥
 HasStarted (Err NoCall) = ⊥
 HasStarted (Err NoTicket) = ⊥
 
--- Before a call that has made a step, the caller of this number knew of no call of its number but
--- those that have ended.
+-- If the call has made a step, the caller of this number knew, before the call, of no begun call of
+-- its number besides those that had ended.
 abbrev pub BeginsAsNext : {W : Type 0} → (number : ℕ) → Result RawAnswer RunError → Caller W
     → Type 0
 BeginsAsNext n result c =
     HasStarted result → calls_begun_in (events_known_to c) n ≤ length (ended_of c)
 
--- Before a call that has made a step, the caller knew of no call of its own number but those that
--- have ended.
+-- If the call has made a step, the caller knew, before the call, of no begun call of its own number
+-- besides those that had ended.
 abbrev pub BeginsItsNext : {W : Type 0} → Result RawAnswer RunError → Caller W → Type 0
 BeginsItsNext result c = BeginsAsNext (caller_call c).caller result c
 
--- If an open call had made no step and makes one when it goes on, the caller knew before of no call
--- of its own number but those that have ended.
+-- If an open call had made no step and makes one when it goes on, the caller knew before of no
+-- begun call of its own number besides those that had ended.
 abbrev pub ResumesItsNext : {W : Type 0} → Result RawAnswer RunError → Caller W → Type 0
 ResumesItsNext result c =
     HasStartedIfOpen (last_caller (sight_of c).kept) → (caller_call c).steps ≡ 0

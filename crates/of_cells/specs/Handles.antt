@@ -1,4 +1,4 @@
--- A handle of a memory of cells, and what its calls come to.
+-- A handle of a memory of cells, and what the results of its calls say.
 use Rattle.std.specs.Prelude.{◌≡◌, ℕ, ◌+◌, ◌<◌, ◌≤◌, List, length, Result, Ok, Err}
 use Rattle.std.specs.Arc.{arc_value}
 use Rattle.of_mem.specs.Meaning.{Meaning}
@@ -47,7 +47,7 @@ abbrev pub HasOpen : {W : Type 0} → CellHandle W → (op : List ℕ) → Type 
 HasOpen h op = IsOpenAt op (caller_of h)
 
 -- if the call was stopped, a call of this operation is open; if it was answered or spent, no call
--- is
+-- is open
 abbrev pub StaysOpenOnlyIfStopped : {W : Type 0} → (op : List ℕ) → Result RawAnswer RunError
     → CellHandle W → Type 0
 StaysOpenOnlyIfStopped op result h = LeavesOpen op result (caller_of h)
@@ -62,8 +62,8 @@ RepliesAsMeant meaning op h result = AnswersAsMeant meaning (home_of h) op resul
 abbrev pub steps_so_far : {W : Type 0} → CellHandle W → ℕ
 steps_so_far h = (caller_call (caller_of h)).steps
 
--- how many atomic steps the calls of the handle's number have made since the memory was opened,
--- with spent calls and the open one
+-- how many atomic steps the calls of the handle's number have made since the memory was opened;
+-- those of spent calls and of the open call count too
 abbrev pub steps_of_calls : {W : Type 0} → CellHandle W → ℕ
 steps_of_calls h = steps_made_by (caller_of h)
 
@@ -85,15 +85,15 @@ MakesAtMost most h k = steps_of_calls k ≤ steps_of_calls h + most
 abbrev pub GoesOnWithin : {W : Type 0} → (most : ℕ) → (before now : CellHandle W) → Type 0
 GoesOnWithin most h k = HasCallOpen h → steps_so_far h + steps_of_calls k ≤ steps_of_calls h + most
 
--- the calls of the handle's number have made no more steps than one call of this operation may make
--- by the cells that each operation of the work reads and writes
+-- the calls of the handle's number have made no more steps than one call of this operation may
+-- make; the bound counts the cells that operations of the work read and write
 abbrev pub MakesByTouch : {W : Type 0} → (W → Meaning) → (W → List ℕ → Type 0) → (op : List ℕ)
     → (before now : CellHandle W) → Type 0
 MakesByTouch meaning lawful op h k =
     RisesByTouch meaning lawful (home_of h) op 0 (steps_of_calls h) (steps_of_calls k)
 
 -- if the handle has an open call: the steps that this call had made, and the steps made since, are
--- no more than it may make by the cells that each operation of the work reads and writes
+-- no more than it may make; the bound counts the cells that operations of the work read and write
 abbrev pub GoesOnByTouch : {W : Type 0} → (W → Meaning) → (W → List ℕ → Type 0)
     → (before now : CellHandle W) → Type 0
 GoesOnByTouch meaning lawful h k =
@@ -109,7 +109,7 @@ limit_at h = (key_of (home_of h)).limit
 abbrev pub step_bound_of : {W : Type 0} → (W → Meaning) → CellHandle W → ℕ
 step_bound_of meaning h = row_step_bound meaning (home_of h)
 
--- how many calls of the handle's number were begun, with those before its memory was opened
+-- how many calls of the handle's number were begun, those before its memory was opened included
 abbrev pub calls_begun : {W : Type 0} → CellHandle W → ℕ
 calls_begun h = calls_begun_by (caller_of h)
 
@@ -117,7 +117,8 @@ calls_begun h = calls_begun_by (caller_of h)
 abbrev pub tickets_behind : {W : Type 0} → (W → Meaning) → CellHandle W → ℕ
 tickets_behind meaning h = made_before meaning (home_of h) (number_of_handle h)
 
--- the handle's number has begun all calls that it may make, with those before its memory was opened
+-- the handle's number has begun as many calls as it ever may: those before the memory was opened
+-- count too
 abbrev pub HasNoTicketLeft : {W : Type 0} → CellHandle W → Type 0
 HasNoTicketLeft h = calls_begun h + 1 < 4294967296 → ⊥
 
@@ -143,7 +144,8 @@ pub record MayCall {W : Type 0} (h : CellHandle W) : Type 0 where
   pub left : HasNoTicketLeft h → ⊥
 
 -- A new call is made exactly if no call is open and the handle's number may make one more. It is
--- spent only if the sequence has come to the limit.
+-- spent only if the sequence has come to the limit. It is refused with `InCall` if a call is open,
+-- and with `NoTicket` if none is open and the number may make no more.
 abbrev pub RefusesCall : {W : Type 0} → CellHandle W → Result RawAnswer RunError → Type 0
 RefusesCall h (Ok a) = MayCall h
 RefusesCall h (Err (Stopped asked)) = MayCall h
@@ -152,7 +154,8 @@ RefusesCall h (Err InCall) = HasCallOpen h
 RefusesCall h (Err NoCall) = ⊥
 RefusesCall h (Err NoTicket) = (HasCallOpen h → ⊥) × HasNoTicketLeft h
 
--- a call goes on exactly if one is open; it is spent only if the sequence has come to the limit
+-- a call goes on exactly if one is open, and otherwise `NoCall` is the error; the call is spent
+-- only if the sequence has come to the limit
 abbrev pub RefusesToGoOn : {W : Type 0} → CellHandle W → Result RawAnswer RunError → Type 0
 RefusesToGoOn h (Ok a) = HasCallOpen h
 RefusesToGoOn h (Err (Stopped asked)) = HasCallOpen h

@@ -79,7 +79,7 @@ IsOneOf n es IsOpenCall e =
 abbrev pub HasOnly : List Call → (caller n : ℕ) → List EndedCall → (List ℕ → Type 0) → Type 0
 HasOnly h c n es IsOpenCall = All (λ (e : Call). e.caller ≡ c → IsOneOf n es IsOpenCall e) h
 
--- no call of the caller in the history that may write has a ticket above this one
+-- in the history, no call of the caller that may write has a ticket above this one
 abbrev pub IsUpTo : Meaning → List Call → (caller ticket : ℕ) → Type 0
 IsUpTo M h c t = All (λ (e : Call). e.caller ≡ c → M.reads_only e.op ≡ false → e.ticket ≤ t) h
 

@@ -17,7 +17,7 @@ HistoriesJoin M =
     → IsSerial M (cells_after M cells h) k → IsSerial M cells (h ++ k)
     × (cells_after M cells (h ++ k) ≡ cells_after M (cells_after M cells h) k)
 
--- operations lead from lawful cells to lawful cells, and keep their number
+-- operations lead from lawful cells to lawful cells, and the number of cells stays
 abbrev pub CellsStayLawful : Meaning → (List ℕ → Type 0) → (size : ℕ) → Type 0
 CellsStayLawful M lawful size =
     (cells : List ℕ) (h : List Call) → length cells ≡ size → lawful cells

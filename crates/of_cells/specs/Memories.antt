@@ -213,8 +213,8 @@ pub record LeadsTo {W : Type 0} (meaning : W → Meaning) (m : CellMemory W) (d 
 abbrev pub HasHistory : {W : Type 0} → (W → Meaning) → CellMemory W → SavedCells W → Type 0
 HasHistory meaning m d = (h : List Call) × LeadsTo meaning m d h
 
--- if a caller is saved with no call since the memory was opened, its own cells are as they were
--- then, with the reply in them
+-- if what is saved has no call of a caller since the memory was opened, the caller's own cells are
+-- as they were then, with the reply in them
 abbrev pub SavesOwnCells : {W : Type 0} → (W → Meaning) → CellMemory W → SavedCells W → Type 0
 SavesOwnCells meaning m d = KeepsOwnCells meaning (row_of m) d
 

@@ -22,10 +22,10 @@ numbers_of B = map payload_of B.cells
 abbrev pub numbers_found : (callers cells : ℕ) → (words : List ℕ) → List ℕ
 numbers_found n m words = numbers_of (start_from_durable n m (recovered_words n m words))
 
--- A table may start from what recovery finds in the durable words, and one serial history leads
--- there. Each view that is not spent finds in this history what the view knows. A number that is
--- not taken has no call in it, and the own cells of a caller with no call since the row's start are
--- as they were.
+-- A table may start from what recovery finds in the durable words, and one serial history leads to
+-- this from the row's start. Each view that is not spent finds in the history what the view knows.
+-- A number that is not taken has no call in the history, and the own cells of a caller with no call
+-- since the row's start are as they were.
 pub record HoldsHistory (S : Setup) (Lawful : List ℕ → Type 0) (B : TableStart)
     (s : State (Unit {0}) View) (words : List ℕ) : Type 0 where
   pub row : IsStartRow S Lawful (recovered_words S.callers S.cells words)

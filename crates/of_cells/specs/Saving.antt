@@ -27,7 +27,7 @@ use Rattle.of_cells.specs.Serving.{cells_at_start, made_before}
 abbrev pub saved_work : {W : Type 0} → SavedCells W → W
 saved_work d = d.work
 
--- how many callers are saved
+-- how many callers the saved memory has
 abbrev pub saved_callers : {W : Type 0} → SavedCells W → ℕ
 saved_callers d = d.shape.callers
 
@@ -43,7 +43,7 @@ saved_cells d = map payload_of (start_on d.shape d.row.items).cells
 abbrev pub saved_words : {W : Type 0} → SavedCells W → List ℕ
 saved_words d = d.row.items
 
--- the ticket of caller n in data cells with these numbers: how many calls of this caller they know
+-- the ticket of caller n in data cells with these numbers: how many calls of this caller these know
 abbrev pub own_ticket : (cells : List ℕ) → (n : ℕ) → ℕ
 own_ticket cells n = get_or cells (ticket_cell_at MOST_INSTRS n) 0
 
@@ -68,7 +68,7 @@ pub record IsReplyIn {W : Type 0} (d : SavedCells W) (n : ℕ) (raw : RawReply) 
 abbrev pub saved_seq : {W : Type 0} → SavedCells W → ℕ
 saved_seq d = (start_on d.shape d.row.items).seq
 
--- the same work, number of callers and numbers of data cells are saved
+-- `now` has the work, the number of callers and the numbers of data cells that `before` has
 pub record SavesSame {W : Type 0} (before now : SavedCells W) : Type 0 where
   pub work : saved_work now ≡ saved_work before
   pub callers : saved_callers now ≡ saved_callers before
@@ -128,8 +128,8 @@ abbrev pub HasOnlyKept : Setup → TableStart → List Call → KnownCaller → 
 HasOnlyKept S B h x =
     HasOnly h x.machine.caller (done_before S B x.machine.caller) x.ended (HasOpenOperation x)
 
--- if some calls had ended before others began, in these events, the former come before the latter
--- in the history
+-- if, by these events, calls of a caller had ended before other calls began, they come before those
+-- other calls in the history
 abbrev pub RespectsEvents : Setup → TableStart → List Event → List Call → Type 0
 RespectsEvents S B es h =
     (n x k y : ℕ) → EndBefore S B es n x k y
@@ -176,8 +176,8 @@ OwnCellsStay before now n =
     (a : ℕ) → ticket_cell_at MOST_INSTRS n ≤ a
     → a < ticket_cell_at MOST_INSTRS n + (MOST_INSTRS + 2) → get_or now a 0 ≡ get_or before a 0
 
--- if a caller is saved with no call since the row's start, its own cells have the same numbers as
--- at the start
+-- if what is saved has no call of a caller since the row's start, the caller's own cells have the
+-- same numbers as at the start
 abbrev pub KeepsOwnCells : {W : Type 0} → (W → Meaning) → Row W → SavedCells W → Type 0
 KeepsOwnCells meaning r d =
     (n : ℕ) → n < (key_of r).callers → saved_ticket d n ≡ made_before meaning r n

@@ -27,8 +27,7 @@ cells_at_start meaning r = map payload_of (row_start meaning r).cells
 
 -- how many calls a caller had made before the row started: the number in its ticket cell
 abbrev pub made_before : {W : Type 0} → (W → Meaning) → Row W → ℕ → ℕ
-made_before meaning r n =
-    payload_of (get_or (row_start meaning r).cells (ticket_cell_at MOST_INSTRS n) 0)
+made_before M r n = payload_of (get_or (row_start M r).cells (ticket_cell_at MOST_INSTRS n) 0)
 
 -- how many durable words the row has: one for each of its cells
 abbrev pub durable_count : {W : Type 0} → Row W → ℕ
@@ -59,8 +58,8 @@ abbrev pub steps_made_by : {W : Type 0} → Caller W → ℕ
 steps_made_by c = (last_caller (sight_of c).kept).turns
 
 -- From the count `before` to the count `now` the caller's calls have made no more steps than one
--- call of this operation may make, if it had made `made` steps already: at most the bound by the
--- cells that each operation of the work reads and writes.
+-- call of this operation may make, if it had made `made` steps already. The bound counts the cells
+-- that operations of the work read and write.
 abbrev pub RisesByTouch : {W : Type 0} → (W → Meaning) → (W → List ℕ → Type 0) → Row W
     → (op : List ℕ) → (made before now : ℕ) → Type 0
 RisesByTouch meaning lawful r op made before now =
@@ -119,12 +118,13 @@ abbrev pub ServeAll : {W : Type 0} → (W → Meaning) → Row W → List (Optio
 ServeAll {W} meaning r cs =
     (n : ℕ) (c : Caller W) → get_or cs n None ≡ Some c → Serves meaning r n c
 
--- a caller of this number is kept, and P holds of it
+-- the list has a caller of this number of which P holds
 abbrev pub KeepsSo : (n : ℕ) → (KnownCaller → Type 0) → List KnownCaller → Type 0
 KeepsSo n P [] = ⊥
 KeepsSo n P (x ∷ xs) = ((x.machine.caller ≡ n) × P x) ⊎ KeepsSo n P xs
 
--- what is kept is this caller: its ended calls, and its open call if there is one
+-- the kept caller x is this caller: x has the caller's ended calls, and an open call only if the
+-- caller has it open
 pub record IsKeptOf {W : Type 0} (c : Caller W) (x : KnownCaller) : Type 0 where
   pub ended : x.ended ≡ ended_of c
   pub open_call : IsOpen x.machine.place → x.machine ≡ caller_call c

@@ -39,7 +39,8 @@ RestKnowsOrder meaning from m l =
     (j : ℕ) → from ≤ j → (n x k y : ℕ) → HasOrderOf meaning m j n x k y
     → HasOrderOf meaning l j n x k y
 
--- what a task promises of its work, about the task and its handle before and after it
+-- what a task promises of its work: a relation of the task and the handle before the work, and of
+-- the task and the handle after it
 abbrev pub TaskWork : Type 0 → Type 0 → Type 1
 TaskWork W J = J → CellHandle W → J → CellHandle W → Type 0
 
@@ -67,7 +68,7 @@ pub record HasWorked {W J : Type 0} (meaning : W → Meaning) (Does : TaskWork W
 
 -- A task has worked with the handle of this number. The handle knew what the memory knew of the
 -- number before, and had heard of all calls that the memory knew to have ended. The memory knows
--- what the handle knew when it left, and has heard of all its calls.
+-- what the handle knew when it left, and has heard of all calls of the handle.
 pub record HasWorkedAs {W J : Type 0} (meaning : W → Meaning) (Does : TaskWork W J) (n : ℕ)
     (m k : CellMemory W) (x y : J) : Type 0 where
   pub begun : CellHandle W
@@ -147,7 +148,8 @@ pub record IsHandedOut {W J : Type 0} (meaning : W → Meaning) (m : CellMemory 
   pub was : WasIn m p.0
   pub heard : HearsMemory meaning m p.0
 
--- handles were handed out for the last of these tasks; the first ones are left
+-- handles were handed out for the last tasks of xs, each in a pair with its task; the tasks `left`
+-- are the first ones of xs, for which no handle was handed out
 pub record HasHandedOut {W J : Type 0} (meaning : W → Meaning) (m k : CellMemory W)
     (xs left : List J) (ss : List (Slot W J)) : Type 0 where
   pub count : length left + length ss ≡ length xs
@@ -165,7 +167,8 @@ pub record MayLeave {W J : Type 0} (meaning : W → Meaning) (m : CellMemory W) 
   pub handle : IsCellHandle meaning p.0
   pub from : IsFrom m p.0
 
--- the handle of each pair may leave, and the tasks of these pairs come after this many others
+-- the handle of each pair in the slots may leave, and the tasks of these pairs then come after the
+-- first `first` tasks
 abbrev pub MayAllLeave : {W J : Type 0} → (W → Meaning) → CellMemory W → (first : ℕ)
     → List (Slot W J) → Type 0
 MayAllLeave {W} {J} meaning m first ss =
@@ -180,7 +183,9 @@ pub record HasLeft {W J : Type 0} (meaning : W → Meaning) (k : CellMemory W) (
   pub known : IsBackIn k p.0
   pub told : TellsMemory meaning p.0 k
 
--- each handle from this place on has left, and its task is back in the list, after the tasks xs
+-- The handle of each pair in ss from place `from` on has left, and its task is in zs at the place
+-- that is the handle's number. zs begins with the tasks xs. The callers of the numbers below
+-- `length xs`, and from `length xs + length ss` on, are in the memory as before.
 pub record HasTakenBack {W J : Type 0} (meaning : W → Meaning) (m k : CellMemory W) (xs zs : List J)
     (from : ℕ) (ss : List (Slot W J)) : Type 0 where
   pub count : length zs + from ≡ length xs + length ss

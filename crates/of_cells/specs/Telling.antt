@@ -25,8 +25,8 @@ HasHeardOf meaning h n count =
     ≤ calls_ended_in (setup_at meaning (home_of h)) (row_start meaning (home_of h))
     (events_known_to (caller_of h)) n
 
--- the handle knows that the first x calls of number n had ended before number k began its call y +
--- 1
+-- the handle knows that the first x calls of number n had ended before number k began the call
+-- after its first y
 abbrev pub KnowsOrder : {W : Type 0} → (W → Meaning) → CellHandle W → (n x k y : ℕ) → Type 0
 KnowsOrder meaning h n x k y =
     EndBefore (setup_at meaning (home_of h)) (row_start meaning (home_of h))
@@ -38,8 +38,8 @@ pub record KeepsKnown {W : Type 0} (meaning : W → Meaning) (before now : CellH
   pub heard : (n count : ℕ) → HasHeardOf meaning before n count → HasHeardOf meaning now n count
   pub order : (n x k y : ℕ) → KnowsOrder meaning before n x k y → KnowsOrder meaning now n x k y
 
--- the handle's calls are as they were, the ended ones and the open one, and it knows as much or
--- more
+-- the handle's calls are as they were, the ended ones and the open one, and the handle knows as
+-- much as before or more
 abbrev pub CallsStay : {W : Type 0} → (before now : CellHandle W) → Type 0
 CallsStay h k = KnowsMore (caller_of h) (caller_of k)
 

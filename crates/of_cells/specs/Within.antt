@@ -15,8 +15,8 @@ IsNeverStopped (Err NoCall) = Unit {0}
 IsNeverStopped (Err NoTicket) = Unit {0}
 
 -- A call that had made `before` steps may make `more` steps, and has made `now` in all. If it is
--- answered, it has made at most `before + more`. It is stopped only after it has made all of them,
--- when it asks for one more.
+-- answered, it has made at most `before + more`. It is stopped only after it has made all `more`
+-- steps, when it asks for one more.
 abbrev pub KeepsWithin : (before more now : ℕ) → Result RawAnswer RunError → Type 0
 KeepsWithin before more now (Ok a) = a.steps ≤ before + more
 KeepsWithin before more now (Err (Stopped asked)) = (asked ≡ more + 1) × (now ≡ before + more)
@@ -25,8 +25,8 @@ KeepsWithin before more now (Err InCall) = Unit {0}
 KeepsWithin before more now (Err NoCall) = Unit {0}
 KeepsWithin before more now (Err NoTicket) = Unit {0}
 
--- A call that had made `before` steps makes at most as many more as its stop allows, and is stopped
--- only after these. Without a stop it is never stopped.
+-- A call that had made `before` steps makes at most as many more steps as its stop allows, and is
+-- stopped only after these. Without a stop it is never stopped.
 abbrev pub KeepsToStop : (before : ℕ) → (stop : Option ℕ) → (now : ℕ)
     → Result RawAnswer RunError → Type 0
 KeepsToStop before None now r = IsNeverStopped r

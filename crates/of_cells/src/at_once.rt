@@ -17,7 +17,7 @@ pub trait CellTask<H> {
     /// Which handles the task can work with.
     ghost may: { H → Type 0 } = { λ _. Unit {0} };
 
-    /// What its users may know of its work: the task and the handle before it, and both after it.
+    /// What users may know of the work: of the task and its handle before the work, and after it.
     ghost does: { Self → H → Self → H → Type 0 } = { λ _ _ _ _. Unit {0} };
 
     /// Works with a handle, and gives back the task and the handle.
@@ -156,8 +156,8 @@ impl<W: Work> CellMemory<W> {
         Ok(())
     }
 
-    /// Each handle leaves, and its task is put after the tasks in the list; the last handle in
-    /// `slots` comes first.
+    /// Each handle in `slots` leaves, the last one first, and its task is put at the end of the
+    /// list of tasks.
     pub fn take_back<J: Drop>(
         &mut self,
         mut slots: Vec<Option<(CellHandle<W>, J)>>,

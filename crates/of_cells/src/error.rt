@@ -32,8 +32,8 @@ pub enum EnrolError {
 /// Why a call has no answer.
 #[derive(Clone, Copy, Debug, PartialEq, Eq, Error)]
 pub enum RunError {
-    /// The call has asked for this many steps, and the last one was denied. The call stays open for
-    /// `go_on`.
+    /// The call has asked `asked` times for a step, and was denied the last time. The call stays
+    /// open for `go_on`.
     #[error("stopped at step {asked}")]
     Stopped { asked: u64 },
     /// The sequence has come to the limit before the call took effect. The call is over.
@@ -42,7 +42,7 @@ pub enum RunError {
     /// `run` was called while a call is open.
     #[error("a call is open")]
     InCall,
-    /// `go_on` was called, and no call is open.
+    /// `go_on` was called while no call is open.
     #[error("no call is open")]
     NoCall,
     /// The handle's number has made all calls that it may make.

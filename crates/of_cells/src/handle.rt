@@ -1,5 +1,8 @@
 //! A handle: one caller of a memory of cells, for one thread at a time.
 
+ghost use Rattle.std.specs.Prelude.{◌≡◌};
+ghost use Rattle.of_cells.specs.Sequences.{seq_after as seq_told};
+
 use crate::answer::RawAnswer;
 use crate::calling::{call_with, go_on_with};
 use crate::error::RunError;
@@ -15,6 +18,17 @@ use std::sync::Arc;
 /// shared a line, a step by one would take the line from the other's thread.
 pub(crate) const APART: usize = 16;
 
+// The last sequence that is known once a call has come to this.
+fn seq_after(ended: &Result<RawAnswer, RunError>, known: u32) -> u32
+    ensures { result ≡ seq_told ended.now known }
+{
+    match ended {
+        Ok(answer) => answer.seq,
+        Err(RunError::Spent { seq }) => *seq,
+        Err(_) => known,
+    }
+}
+
 /// One caller of a memory of cells, for one thread at a time.
 #[derive(Drop)]
 pub struct CellHandle<W: Work> {
@@ -22,6 +36,9 @@ pub struct CellHandle<W: Work> {
     pub(crate) front: [u64; APART],
     pub(crate) row: Arc<Row<W>, Global>,
     pub(crate) number: u32,
+    /// The last sequence that the handle knows: that of its last ended call, or else the one that
+    /// the memory knew when the handle came.
+    pub(crate) seq: u32,
     pub(crate) caller: Caller<W>,
     pub(crate) behind: [u64; APART],
 }
@@ -43,6 +60,8 @@ impl<W: Work> CellHandle<W> {
     ghost use Rattle.of_cells.specs.Telling.{LeavesOrder, TellsMemory};
     ghost use Rattle.of_cells.specs.Memories.{KnowsOthers, OthersStayOpen, OthersKnowOrder};
     ghost use Rattle.of_cells.specs.Memories.{PutsBack, RemembersAll};
+    ghost use Rattle.of_cells.specs.Sequences.{KnowsSeqOf, seq_known_to, seq_known_in, left_of_handle};
+    ghost use Rattle.std.specs.Prelude.{max};
 
     /// The handle's number.
     pub fn number(&self) -> u32
@@ -51,7 +70,17 @@ impl<W: Work> CellHandle<W> {
         self.number
     }
 
-    /// Runs an operation of 1 to `MOST_INSTRS` words, all of it or nothing, and answers its reply.
+    /// How many sequences are left at most: those after the last one that the handle knows. It
+    /// knows that of its last ended call, or else the one that the memory knew when the handle
+    /// came. Other handles may have taken some since. No step is made for this.
+    pub fn sequences_left(&self) -> u32
+        ensures { result ≡ left_of_handle self.now }
+    {
+        self.row.limit().saturating_sub(self.seq)
+    }
+
+    /// Runs an operation of 1 to `MOST_INSTRS` words, all of it or nothing, and answers with its
+    /// reply.
     pub fn run(&mut self, op: &[u64]) -> Result<RawAnswer, RunError>
         requires handle { IsCellHandle W.meaning self.old }
         requires some { 1 ≤ length op.now }
@@ -71,6 +100,7 @@ impl<W: Work> CellHandle<W> {
         ensures behind { BeginsAfterHeard W.meaning result self.old self.new }
         ensures knows { KeepsKnown W.meaning self.old self.new }
         ensures alone { MakesStepsAlone self.old self.new }
+        ensures seq { KnowsSeqOf result self.old self.new }
     {
         self.begin(op, None)
     }
@@ -95,6 +125,7 @@ impl<W: Work> CellHandle<W> {
         ensures behind { BeginsAfterHeard W.meaning result self.old self.new }
         ensures knows { KeepsKnown W.meaning self.old self.new }
         ensures alone { MakesStepsAlone self.old self.new }
+        ensures seq { KnowsSeqOf result self.old self.new }
         ensures given { MakesAtMost steps self.old self.new }
     {
         self.begin(op, Some(steps))
@@ -119,6 +150,7 @@ impl<W: Work> CellHandle<W> {
         ensures behind { BeginsAfterHeard W.meaning result self.old self.new }
         ensures knows { KeepsKnown W.meaning self.old self.new }
         ensures alone { MakesStepsAlone self.old self.new }
+        ensures seq { KnowsSeqOf result self.old self.new }
         ensures given { RisesWithin stop (steps_of_calls self.old) (steps_of_calls self.new) }
     {
         if !self.caller.is_idle() {
@@ -127,7 +159,9 @@ impl<W: Work> CellHandle<W> {
         if self.caller.made() == u32::MAX {
             return Err(RunError::NoTicket);
         }
-        call_with(&self.row, &mut self.caller, op, stop)
+        let result = call_with(&self.row, &mut self.caller, op, stop);
+        self.seq = seq_after(&result, self.seq);
+        result
     }
 
     /// Goes on with the open call, to its answer.
@@ -149,11 +183,12 @@ impl<W: Work> CellHandle<W> {
         ensures behind { ResumesAfterHeard W.meaning result self.old self.new }
         ensures knows { KeepsKnown W.meaning self.old self.new }
         ensures alone { MakesStepsAlone self.old self.new }
+        ensures seq { KnowsSeqOf result self.old self.new }
     {
         self.resume(None)
     }
 
-    /// Goes on with the open call for at most this many steps.
+    /// Goes on with the open call for at most this many steps. If they are too few, it stays open.
     pub fn go_on_within(&mut self, steps: u64) -> Result<RawAnswer, RunError>
         requires { IsCellHandle W.meaning self.old }
         ensures handle { IsCellHandle W.meaning self.new }
@@ -173,6 +208,7 @@ impl<W: Work> CellHandle<W> {
         ensures behind { ResumesAfterHeard W.meaning result self.old self.new }
         ensures knows { KeepsKnown W.meaning self.old self.new }
         ensures alone { MakesStepsAlone self.old self.new }
+        ensures seq { KnowsSeqOf result self.old self.new }
         ensures given { MakesAtMost steps self.old self.new }
     {
         self.resume(Some(steps))
@@ -197,12 +233,15 @@ impl<W: Work> CellHandle<W> {
         ensures behind { ResumesAfterHeard W.meaning result self.old self.new }
         ensures knows { KeepsKnown W.meaning self.old self.new }
         ensures alone { MakesStepsAlone self.old self.new }
+        ensures seq { KnowsSeqOf result self.old self.new }
         ensures given { RisesWithin stop (steps_of_calls self.old) (steps_of_calls self.new) }
     {
         if self.caller.is_idle() {
             return Err(RunError::NoCall);
         }
-        go_on_with(&self.row, &mut self.caller, stop)
+        let result = go_on_with(&self.row, &mut self.caller, stop);
+        self.seq = seq_after(&result, self.seq);
+        result
     }
 
     /// Leaves the memory, which keeps the handle's calls. An open call stays open, and the number
@@ -226,14 +265,16 @@ impl<W: Work> CellHandle<W> {
         // history.
         ensures heard { TellsMemory W.meaning self memory.new }
         ensures remembers { RemembersAll W.meaning memory.old memory.new }
+        ensures seq { seq_known_in memory.new ≡ max (seq_known_in memory.old) (seq_known_to self) }
     {
         let CellHandle {
             front: _,
             row: _,
             number,
+            seq,
             caller,
             behind: _,
         } = self;
-        memory.take_in(number, caller);
+        memory.take_in(number, seq, caller);
     }
 }

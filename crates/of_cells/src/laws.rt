@@ -45,8 +45,8 @@ pub fn none_stays_open<W: Work>()
     ensures { NoneStaysOpen W }
 {}
 
-/// If one handle tells another of its calls, these come first in the history: before each call that
-/// the other handle begins after it has heard of them.
+/// If a handle tells another handle of its calls, these calls come first in the history: before
+/// each call that the other handle begins after it has heard the news.
 pub fn told_calls_come_first<W: Work>()
     ensures { ToldCallsComeFirst W.meaning }
 {}
@@ -57,8 +57,8 @@ pub fn calls_come_in_turn<W: Work>()
     ensures { CallsComeInTurn W.meaning }
 {}
 
-/// At each moment of a row, a table may start from what recovery finds in the row's durable words,
-/// and one serial history leads there, which has the calls that were answered.
+/// At each moment of a row, a table may start from what recovery finds in the row's durable words.
+/// One serial history leads to this from the row's start, and has the calls that were answered.
 pub fn rows_hold_history<W: Work>(work: W, limit: u32)
     ensures { RowsHoldHistory (W.lawful work) (setup_for W.many W.size W.meaning limit work) }
 {

@@ -1,5 +1,5 @@
-//! A memory of cells for operations of one's own: threads run a work's operations on one table, and
-//! what is closed can be opened again.
+//! A memory of cells for a program's own kind of operations, a work: threads run the operations on
+//! one table, and a closed memory can be opened again.
 #![tactic(auto)]
 
 mod answer;

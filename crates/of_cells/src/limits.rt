@@ -27,6 +27,7 @@ impl<W: Work> SavedCells<W> {
     ghost use Rattle.of_cells.specs.Saving.{IsSavedCells, SavesSame, IsNoLimitOf};
     ghost use Rattle.of_cells.specs.Saving.{saved_limit, saved_seq};
     ghost use Rattle.of_cells.specs.Memories.{IsLimit};
+    ghost use Rattle.of_cells.specs.Sequences.{left_of_saved};
 
     /// The last sequence that was committed.
     pub fn seq(&self) -> u32
@@ -34,6 +35,14 @@ impl<W: Work> SavedCells<W> {
         ensures { result ≡ saved_seq self.now }
     {
         seq_of(self.row[0])
+    }
+
+    /// How many sequences are left for a memory that goes on from what is saved.
+    pub fn sequences_left(&self) -> u32
+        requires { IsSavedCells W.many W.size W.meaning W.lawful self.now }
+        ensures { result ≡ left_of_saved self.now }
+    {
+        self.limit.saturating_sub(self.seq())
     }
 
     /// What is saved, with another limit. The limit must not be 0, above `GREATEST_LIMIT` or below
@@ -54,8 +63,8 @@ impl<W: Work> SavedCells<W> {
         Ok(SavedCells { limit, ..self })
     }
 
-    /// Keeps the numbers in the data cells, and sets the last committed sequence to 0. So a memory
-    /// that goes on from this has all sequences up to its limit left.
+    /// Keeps the numbers in the data cells, and sets the last committed sequence to 0. A memory
+    /// that goes on from the result has all sequences up to its limit left.
     pub fn renumbered(mut self) -> SavedCells<W>
         requires { IsSavedCells W.many W.size W.meaning W.lawful self }
         ensures saved { IsSavedCells W.many W.size W.meaning W.lawful result }

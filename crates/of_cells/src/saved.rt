@@ -110,7 +110,7 @@ impl<W: Work> SavedCells<W> {
         self.work
     }
 
-    /// How many callers are saved.
+    /// How many callers the saved memory has.
     pub fn callers(&self) -> u32
         ensures { result ≡ saved_callers self.now }
     {
@@ -154,8 +154,8 @@ impl<W: Work> SavedCells<W> {
         self.word_number(cell)
     }
 
-    /// How many calls of a caller are saved: the ticket of its last one, also if another caller
-    /// finished that call.
+    /// How many calls of a caller are saved: the ticket of the caller's last saved call, also if
+    /// another caller finished this call.
     pub fn ticket(&self, number: u32) -> u32
         requires saved { IsSavedCells W.many W.size W.meaning W.lawful self.now }
         requires number { number < saved_callers self.now }

@@ -107,7 +107,7 @@ fn gather_one<W: Work>(row: &Row<W>, pass: Pass, number: usize, caller: Caller<W
     row.join(pass, caller.leave())
 }
 
-/// Hands all that the callers have made to the pass, which keeps it.
+/// Hands the callers with their calls to the pass, which keeps them.
 pub(crate) fn gather<W: Work>(
     row: &Row<W>,
     mut pass: Pass,

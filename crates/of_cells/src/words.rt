@@ -78,8 +78,8 @@ impl<W: Work> SavedCells<W> {
         &self.row
     }
 
-    /// What a recovered row of durable words holds, with this limit: 1 to `GREATEST_LIMIT`. A table
-    /// must be able to start from the row, and recovery must leave the row as it is.
+    /// A recovered row of durable words as what is saved, with this limit: 1 to `GREATEST_LIMIT`. A
+    /// table must be able to start from the row, and recovery must leave the row as it is.
     pub fn of_recovered(work: W, limit: u32, row: Vec<u64>) -> SavedCells<W>
         requires few { limit ≤ GREATEST_LIMIT }
         requires row { IsStartFor W.many W.size W.meaning W.lawful work limit row.items }

@@ -13,7 +13,7 @@ use Rattle.of_lives.specs.Lives.{start_behind}
 use Rattle.of_lives.specs.Restarts.{start_from_row}
 
 -- a team has run the plan over a table that starts at `B`, and has handed back the run `e` and a
--- pass with the view `w`; `r` is the report of its lawful record
+-- pass with the view `w`; `r` is the report of the run's lawful record
 pub record IsReportOfTeam (p : Plan) (s : Start) (B : TableStart) (e : Ended) (w : View)
     (r : Report)
     : Type 0 where
@@ -26,7 +26,7 @@ abbrev pub IsLifeOf : Image → Plan → Ended → View → Report → Type 0
 IsLifeOf i p e w r = IsReportOfTeam p (start_of_image i) (start_from_row p i.row.words) e w r
 
 -- Recovery finds the image `next` in the durable words that a life with this report has left. The
--- next life starts from this image, where the life ends.
+-- start in this image is the start that the life leaves.
 pub record LeavesImage (p : Plan) (s : Start) (e : Ended) (r : Report) (next : Image) : Type 0 where
   pub restored : IsRestored MOST_INSTRS (durable_row p e) next
   pub start : start_of_image next ≡ start_behind s (record { plan = p; report = r })

@@ -1,4 +1,4 @@
--- Which plans can go on from an image, and what its callers' own cells hold.
+-- Which plans can go on from an image, and which replies the callers' own cells in an image hold.
 use Rattle.std.specs.Prelude.{◌≡◌, ℕ, ◌≤◌}
 use Rattle.of_script.specs.declared.instr.Reply.{Reply}
 use Rattle.of_script.specs.declared.instr.TheConstants.{MOST_INSTRS}
@@ -8,8 +8,9 @@ use Rattle.of_plan.specs.Plan.{Plan}
 use Rattle.of_report.specs.Image.{Image, image_number, start_of_image}
 use Rattle.of_caller.specs.PlanRows.{HasScripts}
 
--- the plan can go on from the image: it has as many callers and blocks, its limit isn't below the
--- image's sequence, and each caller has at least as many scripts as the image counts as done
+-- the plan can go on from the image: it has the image's numbers of callers and blocks, its limit
+-- isn't below the image's sequence, and each caller has at least the scripts that the image counts
+-- as done
 pub record PlanFitsImage (i : Image) (p : Plan) : Type 0 where
   pub callers : p.callers ≡ i.row.callers
   pub blocks : p.blocks ≡ i.row.blocks

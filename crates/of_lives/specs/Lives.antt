@@ -1,4 +1,4 @@
--- Lives: runs of plans one after the other, each from the start that the one before has left.
+-- Lives: runs of plans one after the other, each from the start that the life before it has left.
 use Rattle.std.specs.Prelude.{ℕ, ◌+◌, max, List, [], ◌∷◌, length, map, if◌then◌else◌}
 use Rattle.std.specs.List.{range_with_len}
 use Rattle.of_plan.specs.Plan.{Plan}
@@ -35,8 +35,8 @@ start_behind s l = record {
   finished = finished_behind s l;
 }
 
--- the start that the last of these lives leaves, if each goes on from the start that the one before
--- leaves, the first from `s`
+-- the start that the last of these lives leaves, if the first begins at `s`, and each other one at
+-- the start that the life before it leaves
 abbrev pub start_behind_all : Start → List Life → Start
 start_behind_all s [] = s
 start_behind_all s (l ∷ ls) = start_behind_all (start_behind s l) ls

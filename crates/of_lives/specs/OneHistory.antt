@@ -1,4 +1,4 @@
--- What the entries of lives are together: one history from where the first life starts.
+-- The entries of all lives together: one history from the start of the first life.
 use Rattle.std.specs.Prelude.{◌≡◌, ℕ, ◌+◌, ◌≤◌, ◌<◌, ◌⊎◌, ◌==◌, false, IsTrue, List, ◌∷◌, ◌++◌, length, map, filter, flat_map, All, Any, AllPairs}
 use Rattle.of_script.specs.declared.instr.Instr.{Instr}
 use Rattle.of_script.specs.Language.{reads_only}
@@ -23,8 +23,8 @@ own_in ls c = filter (λ e. e.caller == c) (entries_in ls)
 abbrev pub IsAnnouncedBefore : Entry → Entry → Type 0
 IsAnnouncedBefore e f = (e.seq ≡ f.seq) × IsTrue e.announced × (e.caller < f.caller)
 
--- `e` may come before `f`: its sequence is no higher; if `f` was announced, it is lower, or `e` was
--- announced at the same sequence by a lower caller
+-- `e` may come before `f`: the sequence of `e` is no higher; if `f` was announced, it is lower, or
+-- `e` was announced at the same sequence by a caller of a lower number
 abbrev pub ComesBefore : Entry → Entry → Type 0
 ComesBefore e f =
     (e.seq ≤ f.seq)
@@ -69,8 +69,8 @@ UnannouncedOnlyReads l e =
 abbrev pub HasReads : Start → Life → Type 0
 HasReads s l = All (UnannouncedOnlyReads l) l.report.entries
 
--- each call that was answered in the life is an entry of it; a caller's calls begin with the first
--- that wasn't done at the start
+-- each call that was answered in the life is an entry of the life's report; a caller's calls begin
+-- with the first that wasn't done at the start
 abbrev pub HasAnswered : Start → Life → Type 0
 HasAnswered s l =
     (c x : ℕ) → c < l.plan.callers → finished_of s c ≤ x
@@ -97,9 +97,9 @@ pub record AreOneHistory (s : Start) (ls : List Life) : Type 0 where
   pub all_done :
       (c x : ℕ) → finished_of s c ≤ x → x < finished_of (start_behind_all s ls) c
       → Any (IsCall c x) (entries_in ls)
-  -- each entry is of a caller that is counted in the end
+  -- each entry is of a caller that the last start counts
   pub known : All (IsKnownTo (start_behind_all s ls)) (entries_in ls)
-  -- in the end, a caller's ticket is that of its last announced call, or the start's if it has none
+  -- in the end, a caller has the ticket of its last announced call, or of the start if it has none
   pub tickets :
       (c : ℕ)
       → finished_of (start_behind_all s ls) c ≡ done_behind (finished_of s c) (own_in ls c)
@@ -141,9 +141,9 @@ pub record AreOneHistoryInSpans (s : Start) (spans : List (List Life)) : Type 0 
   pub all_done :
       (c x : ℕ) → finished_of s c ≤ x → x < finished_of (start_behind_spans s spans) c
       → Any (IsCall c x) (entries_of_spans spans)
-  -- each entry is of a caller that is counted in the end
+  -- each entry is of a caller that the last start counts
   pub known : All (IsKnownTo (start_behind_spans s spans)) (entries_of_spans spans)
-  -- in the end, a caller's ticket is that of its last announced call, or the start's if it has none
+  -- in the end, a caller has the ticket of its last announced call, or of the start if it has none
   pub tickets :
       (c : ℕ)
       → finished_of (start_behind_spans s spans) c

@@ -1,5 +1,5 @@
--- Renumbered images: a life from such an image starts where a life from the first image does, but
--- at sequence 0.
+-- Renumbered images: a life from a renumbered image starts where a life from the image before
+-- renumbering does, but at sequence 0.
 use Rattle.std.specs.Prelude.{◌≡◌}
 use Rattle.of_script.specs.declared.instr.TheConstants.{MOST_INSTRS}
 use Rattle.of_report.specs.ImageRow.{data_numbers_in}
@@ -14,8 +14,8 @@ pub record IsRenumberedImage (i j : Image) : Type 0 where
   pub numbers : data_numbers_in MOST_INSTRS j.row ≡ data_numbers_in MOST_INSTRS i.row
   pub seq : j.seq ≡ 0
 
--- a life from a renumbered image starts at sequence 0, with the store and the tickets of the first
--- image
+-- a life from a renumbered image starts at sequence 0, with the store and the tickets of the image
+-- before renumbering
 abbrev pub RenumberedImagesStart : Type 0
 RenumberedImagesStart =
     (i j : Image) → IsImage MOST_INSTRS i → IsImage MOST_INSTRS j → IsRenumberedImage i j

@@ -1,5 +1,5 @@
--- A life leaves a start for the next one: recovery makes of the durable words of its run a row from
--- which a table may start, at the start after the life.
+-- A life leaves a start for the next life: from the durable words of its run, recovery makes a row.
+-- A table may start from this row, at the start that the life leaves.
 use Rattle.std.specs.Prelude.{List, ℕ, ◌<◌}
 use Rattle.of_recover.specs.Recovered.{recovered_words}
 use Rattle.of_eval.specs.Record.{plan_data_cells, IsLawfulRecord}
@@ -29,8 +29,8 @@ pub record LeavesRow (p : Plan) (s : Start) (r : Report) (found : List ℕ) : Ty
       → HoldsLastAnnounced (start_number (start_from_row p found)) c (finished_of s c)
       (entries_of r c)
 
--- any run of a plan whose record is lawful leaves, after recovery, a row from which the next life
--- may start
+-- any run of a plan leaves durable words from which recovery makes a row, and the next life may
+-- start from this row (`LeavesRow`)
 abbrev pub LivesRestart : Type 0
 LivesRestart =
     (p : Plan) (s : Start) (B : TableStart) (w : Moment) (e : Ended) → IsRunOfPlan p s B w e

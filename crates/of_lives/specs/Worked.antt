@@ -1,5 +1,5 @@
--- Two worked lives, and four lives that can't be the second one, each different from it in a number
--- or an entry.
+-- Two worked lives, and four lives that can't be the second one: each differs from the second life
+-- in a number or an entry.
 use Rattle.std.specs.Prelude.{ℕ, true, false, Option, Some, List, [], ◌∷◌, map}
 use Rattle.of_script.specs.declared.instr.Instr.TheVariants.{Load, Store, Add}
 use Rattle.of_store.specs.Store.{Reply, Answered, empty_store, with_register}
@@ -13,8 +13,8 @@ use Rattle.of_lives.specs.OneHistory.{own_in}
 abbrev pub worked_start : Start
 worked_start = empty_start two_callers
 
--- the first life: one caller stores, and then reads a 6 without announcing it; the other reads, and
--- then adds
+-- the first life: the first caller stores, and then reads a 6 by a call that wasn't announced; the
+-- second caller reads, and then adds
 abbrev pub first_life : Life
 first_life = record { plan = two_callers; report = legal_report }
 
@@ -53,8 +53,8 @@ adds x k v reads line = record {
 abbrev pub adds_and_reads : (x k v : ℕ) → Life
 adds_and_reads x k v = adds x k v (worked_entry k 0 1 false (Some v) ∷ []) (done_with 1 60)
 
--- the second life goes on after the announced calls of the first: with the third script of the
--- second caller
+-- the second life goes on after the announced calls of the first: the second caller runs its third
+-- script, and the first caller makes its read again
 abbrev pub second_life : Life
 second_life = adds_and_reads 2 2 7
 
@@ -78,7 +78,7 @@ done_in_both = (start_behind_all worked_start both_lives).finished
 abbrev pub one_number_reply : Option ℕ → Reply
 one_number_reply v = Answered (v ∷ [])
 
--- no second life: a call that was announced is run again
+-- no second life: it runs a call again that was announced in the first life
 abbrev pub runs_again : Life
 runs_again = adds_and_reads 1 2 7
 
@@ -90,7 +90,7 @@ begins_anew = adds_and_reads 2 1 7
 abbrev pub forgets_store : Life
 forgets_store = adds_and_reads 2 2 1
 
--- no second life: the read of the first life isn't made again, as if it counted as done
+-- no second life: it does not make the first life's read again, as if this read counted as done
 abbrev pub skips_read : Life
 skips_read = adds 2 2 7 [] (done_with 0 0)
 

@@ -18,8 +18,8 @@ pub fn any_lives()
 {}
 
 /// Lives are one history also if `renumber` lets sequences begin anew between them: replay gives
-/// all replies and the last store, no announced call is run again, and each call that is done is an
-/// entry. Sequences order only the entries between two renumberings.
+/// all replies and the last store, no announced call is run again, and each call that is done in
+/// the end is an entry. Sequences order only the entries between two renumberings.
 pub fn renumbered_lives()
     ensures { SpansAreOneHistory }
 {}
@@ -41,7 +41,7 @@ pub fn lives_restart()
 
 /// A worked second life makes a read of the first life again, finds what was added in between, and
 /// runs no announced call again. Four lives that differ from the second life in a number or an
-/// entry are refused. After a renumbering, only the one that begins at sequence 0 is legal.
+/// entry are refused. After a renumbering, only the life that begins at sequence 0 is legal.
 pub fn worked_lives()
     ensures follows { FollowsFirst second_life }
     ensures asked_again { asked_by 0 ≡ 0 ∷ 1 ∷ 1 ∷ [] }

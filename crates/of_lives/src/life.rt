@@ -34,8 +34,8 @@ pub struct Life {
 
 /// Goes on from an image: runs all callers of the plan at once, over a table that starts from the
 /// image's row. Each caller begins with the first script after its ticket, so no script that was
-/// announced before is run again. `brakes` has a brake for each caller; it is armed with the stop
-/// that the plan has for the caller.
+/// announced before is run again. `brakes` has a brake for each caller; the brake is armed with the
+/// stop that the plan has for the caller.
 ///
 /// The life leaves durable words in which recovery finds an image, and the next life can go on from
 /// this image. An error means out of memory.

@@ -28,8 +28,9 @@ fn has_scripts(image: &Image, plan: &Plan) -> bool
     true
 }
 
-/// Whether a plan can go on from an image: it has as many callers and blocks, its limit is no lower
-/// than the image's sequence, and no caller has fewer scripts than its ticket says.
+/// Whether a plan can go on from an image: it has the image's numbers of callers and blocks, its
+/// limit is no lower than the image's sequence, and no caller has fewer scripts than its ticket in
+/// the image says.
 pub fn fits(image: &Image, plan: &Plan) -> bool
     requires { IsImage MOST_INSTRS image.now }
     ensures { IsTrue result ↔ PlanFitsImage image.now plan.now }

@@ -44,20 +44,20 @@ pub record HasOpen (h : Handle) (script : List Instr) : Type 0 where
   pub is : IsScript script
   pub opened : generic.HasOpen h.cells (map instr_word script)
 
--- A call of this script has come to this result. The handle's number has made the calls that it had
--- made before, and this one if it has ended.
+-- A call of this script has had this result. The handle's number has made the calls that it had
+-- made before, and this call too if it was answered or spent.
 abbrev pub MakesCall : List Instr → Result Answer RunError → (before now : Handle) → Type 0
 MakesCall script result h k =
     (ms : List Made) → HasMade h ms → HasMade k (made_with script result ms)
 
--- The open call, whatever its script, has come to this result. The handle's number has made the
--- calls that it had made before, and this one if it has ended.
+-- The open call, whatever its script, has gone on and had this result. The handle's number has made
+-- the calls that it had made before, and this call too if it was answered or spent.
 abbrev pub ResumesCall : Result Answer RunError → (before now : Handle) → Type 0
 ResumesCall result h k =
     (script : List Instr) (ms : List Made) → HasOpen h script → HasMade h ms
     → HasMade k (made_with script result ms)
 
--- if the call was stopped, a call of this script is open; if it was answered or spent, no call is
+-- if the call was stopped, a call of this script is open; if it was answered or spent, none is open
 abbrev pub StaysOpenOnlyIfStopped : List Instr → Result Answer RunError → Handle → Type 0
 StaysOpenOnlyIfStopped script (Ok a) h = HasCallOpen h → ⊥
 StaysOpenOnlyIfStopped script (Err (Stopped asked)) h = HasOpen h script
@@ -66,8 +66,8 @@ StaysOpenOnlyIfStopped script (Err InCall) h = Unit {0}
 StaysOpenOnlyIfStopped script (Err NoCall) h = Unit {0}
 StaysOpenOnlyIfStopped script (Err NoTicket) h = Unit {0}
 
--- The open call, whatever its script, has come to this result. If it was stopped, it is still open.
--- If it was answered or spent, no call is open.
+-- The open call, whatever its script, has gone on and had this result. If it was stopped, it is
+-- still open. If it was answered or spent, no call is open.
 abbrev pub OpenCallStays : Result Answer RunError → (before now : Handle) → Type 0
 OpenCallStays result h k =
     (script : List Instr) → HasOpen h script → StaysOpenOnlyIfStopped script result k
@@ -80,7 +80,7 @@ steps_so_far h = generic.steps_so_far h.cells
 abbrev pub step_bound_of : Handle → ℕ
 step_bound_of h = generic.step_bound_of scripts_meaning h.cells
 
--- how many calls of the handle's number were begun, with those before its memory was opened
+-- how many calls of the handle's number were begun, those before its memory was opened included
 abbrev pub calls_begun : Handle → ℕ
 calls_begun h = generic.calls_begun h.cells
 
@@ -97,7 +97,8 @@ looks_of h = generic.looks_of h.cells
 abbrev pub MakesStepsAlone : (before now : Handle) → Type 0
 MakesStepsAlone h k = generic.MakesStepsAlone h.cells k.cells
 
--- the calls of the handle's number have made at most this many steps more, with spent calls
+-- the calls of the handle's number have made at most this many steps more; those of spent calls
+-- count too
 abbrev pub MakesAtMost : (most : ℕ) → (before now : Handle) → Type 0
 MakesAtMost most h k = generic.MakesAtMost most h.cells k.cells
 
@@ -123,11 +124,13 @@ abbrev pub OpensNone : (before now : Handle) → Type 0
 OpensNone h k = generic.OpensNone h.cells k.cells
 
 -- A new call is made exactly if no call is open and the handle's number may make one more. It is
--- spent only if the sequence has come to the limit.
+-- spent only if the sequence has come to the limit. It is refused with `InCall` if a call is open,
+-- and with `NoTicket` if none is open and the number may make no more.
 abbrev pub RefusesCall : Handle → Result Answer RunError → Type 0
 RefusesCall h result = generic.RefusesCall h.cells (without_reply result)
 
--- a call goes on exactly if one is open; it is spent only if the sequence has come to the limit
+-- a call goes on exactly if one is open, and otherwise `NoCall` is the error; the call is spent
+-- only if the sequence has come to the limit
 abbrev pub RefusesToGoOn : Handle → Result Answer RunError → Type 0
 RefusesToGoOn h result = generic.RefusesToGoOn h.cells (without_reply result)
 

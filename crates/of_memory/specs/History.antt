@@ -110,7 +110,7 @@ HasOnly h c n ms IsOpenCall = All (λ (e : HistoryEntry). e.caller ≡ c → IsO
 abbrev pub ScriptOnlyReads : List Instr → Type 0
 ScriptOnlyReads script = All (λ (i : Instr). IsTrue (reads_only i)) script
 
--- no call of the caller in the history that may write has a ticket above this one
+-- in the history, no call of the caller that may write has a ticket above this one
 abbrev pub IsUpTo : List HistoryEntry → (caller ticket : ℕ) → Type 0
 IsUpTo h c t =
     All (λ (e : HistoryEntry). e.caller ≡ c → (ScriptOnlyReads e.script → ⊥) → e.ticket ≤ t) h

@@ -56,8 +56,8 @@ HasOnlyKept S B h x =
     (ms : List Made) → AreMade x.ended ms
     → HasOnly h x.machine.caller (done_before S B x.machine.caller) ms (HasOpenScript x)
 
--- if some calls had ended before others began, in these events, the former come before the latter
--- in the history
+-- if, by these events, calls of a caller had ended before other calls began, they come before those
+-- other calls in the history
 abbrev pub RespectsEvents : Setup → TableStart → List Event → List HistoryEntry → Type 0
 RespectsEvents S B es h =
     (n x k y : ℕ) → EndBefore S B es n x k y
@@ -88,7 +88,7 @@ pub record ExplainsView (S : Setup) (B : TableStart) (h : List HistoryEntry) (q 
   pub time : RespectsEvents S B v.past h
 
 -- a serial history leads from the store to what recovery finds in the durable words, and each of
--- these views finds in the history what the view knows
+-- the views finds in the history what the view knows
 pub record HistoryFound (w : Scripts) (limit : ℕ) (B : TableStart) (s : Store) (words : List ℕ)
     (OfViews : (View → Type 0) → Type 0) : Type 0 where
   pub history : List HistoryEntry
@@ -98,9 +98,9 @@ pub record HistoryFound (w : Scripts) (limit : ℕ) (B : TableStart) (s : Store)
   pub views : OfViews (ExplainsView (setup_with w limit) B history sequences)
 
 -- If words and a view meet the rule of a row of these scripts, and the view keeps each caller, a
--- table may start from what recovery finds in the durable words. From each store that the row has
--- started with, a serial history leads there. If the row's start held the last replies of the
--- callers, what is found holds them too.
+-- table may start from what recovery finds in the durable words. From the store that the row has
+-- started with, a serial history leads to what is found. If the row's start held a reply to the
+-- last call of each caller, what is found does too.
 abbrev pub HoldsHistory : Scripts → (limit : ℕ) → Type 0
 HoldsHistory w limit =
     let S : Setup = setup_with w limit in

@@ -40,9 +40,9 @@ EachRunsScripts S s =
     (n : ℕ) → n < S.callers → (bit_at (members_of S s.words) n ≡ 0) ⊎ IsKeptByOne s.views n
 
 -- At each moment of a row of these scripts, also between two steps on it, a table may start from
--- what recovery finds in the durable words of that moment. From each store that the row has started
--- with, one serial history leads there. It has each answered call of a caller that a pass or a
--- member keeps, with its reply and its sequence, and besides these only open calls.
+-- what recovery finds in the durable words of that moment. One serial history leads to this from
+-- the store that the row has started with. It has each answered call of a caller that a pass or a
+-- member keeps, with its reply and its sequence, and besides these calls only open ones.
 abbrev pub WordsHoldHistory : Scripts → (limit : ℕ) → Type 0
 WordsHoldHistory w limit =
     let S : Setup = setup_with w limit in
@@ -53,8 +53,8 @@ WordsHoldHistory w limit =
     × ((t : Store) → StandsAt w B t → HistoryFound w limit B t words (λ P. EachView P s.views))
 
 -- At each moment of the memory's row, also between two steps on it, a memory may go on from what
--- recovery finds in the durable words of that moment. One serial history leads there from the store
--- with which the memory was opened.
+-- recovery finds in the durable words of that moment. One serial history leads to what is found
+-- from the store with which the memory was opened.
 abbrev pub HoldsWordsAlways : Memory → Type 0
 HoldsWordsAlways m =
     let S : Setup = setup_at scripts_meaning (row_of m) in

@@ -28,15 +28,15 @@ saved_limit d = generic.saved_limit d.cells
 abbrev pub saved_seq : Saved → ℕ
 saved_seq d = generic.saved_seq d.cells
 
--- how many callers are saved
+-- how many callers the saved memory has
 abbrev pub saved_callers : Saved → ℕ
 saved_callers d = generic.saved_callers d.cells
 
--- how many calls of a caller are saved: the ticket of its last one
+-- how many calls of a caller are saved: the ticket of the caller's last saved call
 abbrev pub saved_ticket : Saved → ℕ → ℕ
 saved_ticket d n = generic.saved_ticket d.cells n
 
--- a memory may go on from what is saved, which holds a store and the last replies
+-- a memory may go on from what is saved; it holds a store, and a reply to each caller's last call
 pub record IsSaved (d : Saved) : Type 0 where
   pub saved : generic.IsSavedCells (λ w. w.callers) scripts_data_cells scripts_meaning LawfulCells
       d.cells

@@ -39,7 +39,8 @@ abbrev pub RestKnowsOrder : (from : ℕ) → (before now : Memory) → Type 0
 RestKnowsOrder from m l =
     (j : ℕ) → from ≤ j → (n x k y : ℕ) → HasOrderOf m j n x k y → HasOrderOf l j n x k y
 
--- what a task promises of its work, about the task and its handle before and after it
+-- what a task promises of its work: a relation of the task and the handle before the work, and of
+-- the task and the handle after it
 abbrev pub TaskWork : Type 0 → Type 1
 TaskWork J = J → Handle → J → Handle → Type 0
 
@@ -49,13 +50,13 @@ pub record HasWorked {J : Type 0} (Does : TaskWork J) (p q : Handle × J) : Type
   pub same : IsSame p.0 q.0
   pub done : Does p.1 p.0 q.1 q.0
 
--- what a task promises of its work, if its handle is seen as one of a memory of cells
+-- the promise `Does` of a task, with the task's handle seen as one of a memory of cells
 abbrev pub WorksWith : {J : Type 0} → TaskWork J → generic.TaskWork Scripts J
 WorksWith Does x h y k = HasWorked Does (record { cells = h }, x) (record { cells = k }, y)
 
 -- A task has worked with the handle of this number. The handle knew what the memory knew of the
 -- number before, and had heard of all calls that the memory knew to have ended. The memory knows
--- what the handle knew when it left, and has heard of all its calls.
+-- what the handle knew when it left, and has heard of all calls of the handle.
 pub record HasWorkedAs {J : Type 0} (Does : TaskWork J) (n : ℕ) (m k : Memory) (x y : J)
     : Type 0 where
   pub begun : Handle

@@ -20,8 +20,8 @@ use Rattle.of_memory.specs.Memories.{IsFrom, IsStill, StartsWith, RemembersAll, 
 abbrev pub HasHeardOf : Handle → (number count : ℕ) → Type 0
 HasHeardOf h n count = generic.HasHeardOf scripts_meaning h.cells n count
 
--- the handle knows that the first x calls of number n had ended before number k began its call y +
--- 1
+-- the handle knows that the first x calls of number n had ended before number k began the call
+-- after its first y
 abbrev pub KnowsOrder : Handle → (n x k y : ℕ) → Type 0
 KnowsOrder h n x k y = generic.KnowsOrder scripts_meaning h.cells n x k y
 
@@ -29,8 +29,8 @@ KnowsOrder h n x k y = generic.KnowsOrder scripts_meaning h.cells n x k y
 abbrev pub KeepsKnown : (before now : Handle) → Type 0
 KeepsKnown h k = generic.KeepsKnown scripts_meaning h.cells k.cells
 
--- the handle's calls are as they were, the ended ones and the open one, and it knows as much or
--- more
+-- the handle's calls are as they were, the ended ones and the open one, and the handle knows as
+-- much as before or more
 abbrev pub CallsStay : (before now : Handle) → Type 0
 CallsStay h k = generic.CallsStay h.cells k.cells
 

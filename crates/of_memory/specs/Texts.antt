@@ -1,4 +1,4 @@
--- Texts of what is saved, and what is saved with other sequences.
+-- Texts of what is saved, and when two `Saved` hold the same, maybe with other sequences.
 use Rattle.std.specs.Prelude.{◌≡◌, ℕ, ◌<◌, ◌≤◌, List}
 use Rattle.of_cell.specs.declared.word.TheConstants.{GREATEST_LIMIT}
 use Rattle.of_plan.specs.declared.plan.TheConstants.{MOST_PLAN_CALLERS, MOST_PLAN_BLOCKS}
@@ -44,7 +44,7 @@ pub record IsImageOfSaved (i : Image) (d : Saved) : Type 0 where
 abbrev pub TextHolds : List ℕ → Saved → Type 0
 TextHolds text d = (i : Image) × ReadsImage Two text i × IsImageOfSaved i d
 
--- the same store is saved, and the same last ticket and reply of each caller
+-- `now` has the store, and the ticket and the last reply of each caller, that `before` has
 pub record SavesSame (before now : Saved) : Type 0 where
   pub callers : saved_callers now ≡ saved_callers before
   pub store : (s : Store) → SavedHolds before s → SavedHolds now s
@@ -55,7 +55,7 @@ pub record SavesSame (before now : Saved) : Type 0 where
 abbrev pub IsNoLimitOf : Saved → (limit : ℕ) → Type 0
 IsNoLimitOf d limit = generic.IsNoLimitOf d.cells limit
 
--- the same words are saved, and so the same store, tickets and replies
+-- `now` has the durable words that `before` has, and the same store, tickets and replies
 pub record IsReadBack (before now : Saved) : Type 0 where
   pub row : saved_row now ≡ saved_row before
   pub same : SavesSame before now

@@ -10,13 +10,13 @@ abbrev pub IsNeverStopped : Result Answer RunError → Type 0
 IsNeverStopped result = generic.IsNeverStopped (without_reply result)
 
 -- A call that had made `before` steps may make `more` steps, and has made `now` in all. If it is
--- answered, it has made at most `before + more`. It is stopped only after it has made all of them,
--- when it asks for one more.
+-- answered, it has made at most `before + more`. It is stopped only after it has made all `more`
+-- steps, when it asks for one more.
 abbrev pub KeepsWithin : (before more now : ℕ) → Result Answer RunError → Type 0
 KeepsWithin before more now result = generic.KeepsWithin before more now (without_reply result)
 
--- A call that had made `before` steps makes at most as many more as its stop allows, and is stopped
--- only after these. Without a stop it is never stopped.
+-- A call that had made `before` steps makes at most as many more steps as its stop allows, and is
+-- stopped only after these. Without a stop it is never stopped.
 abbrev pub KeepsToStop : (before : ℕ) → (stop : Option ℕ) → (now : ℕ) → Result Answer RunError
     → Type 0
 KeepsToStop before stop now result = generic.KeepsToStop before stop now (without_reply result)

@@ -72,7 +72,7 @@ abbrev pub words_found : Scripts → List ℕ → List ℕ
 words_found w words = recovered_words w.callers (scripts_data_cells w) words
 
 -- a table for these scripts, with this limit, may start from what recovery finds in the words, and
--- this holds the callers' last replies
+-- what is found holds a reply to the last call of each caller
 pub record AreStartWords (w : Scripts) (limit : ℕ) (words : List ℕ) : Type 0 where
   pub row : IsStartRow (setup_with w limit) (LawfulCells w) (words_found w words)
   pub replies : HoldsLastReplies w

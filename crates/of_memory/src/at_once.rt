@@ -16,7 +16,7 @@ pub trait Task {
     ghost use Rattle.of_memory.specs.declared.handle.Handle.{Handle as TheHandle};
     ghost use Rattle.of_memory.specs.Handles.{IsHandle, IsSame};
 
-    /// What its users may know of its work: the task and the handle before it, and both after it.
+    /// What users may know of the work: of the task and its handle before the work, and after it.
     ghost does: { Self → TheHandle → Self → TheHandle → Type 0 } = { λ _ _ _ _. Unit {0} };
 
     /// Works with a handle of a memory.

@@ -96,3 +96,33 @@ impl fmt::Display for InUse {
 }
 
 impl StdError for InUse {}
+
+/// Why `Memory::renumbered` gives no memory whose sequences begin anew.
+#[derive(Drop)]
+pub enum RenumberError {
+    /// A handle of the memory is out. The memory is handed back as it was.
+    InUse(Memory),
+    /// Memory ran out for the new table. The old memory is closed, and this is what it has left,
+    /// with 0 as the last committed sequence.
+    OutOfMemory(Saved),
+}
+
+impl fmt::Debug for RenumberError {
+    fn fmt<F: fmt::Write>(&self, f: &mut fmt::Formatter<F>) -> fmt::Result {
+        f.write_str(match self {
+            RenumberError::InUse(_) => "InUse",
+            RenumberError::OutOfMemory(_) => "OutOfMemory",
+        })
+    }
+}
+
+impl fmt::Display for RenumberError {
+    fn fmt<F: fmt::Write>(&self, f: &mut fmt::Formatter<F>) -> fmt::Result {
+        f.write_str(match self {
+            RenumberError::InUse(_) => "the memory is in use",
+            RenumberError::OutOfMemory(_) => "out of memory",
+        })
+    }
+}
+
+impl StdError for RenumberError {}

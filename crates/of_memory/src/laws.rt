@@ -25,15 +25,15 @@ pub fn history_is_held(work: Scripts, limit: u32)
 
 /// A process that is killed at any moment loses no call that was answered. `Saved::from_words`
 /// takes the durable words of that moment: a memory may go on from what recovery finds in them, and
-/// one serial history leads there.
+/// one serial history leads to what is found.
 pub fn words_hold_history(work: Scripts, limit: u32)
     ensures { WordsHoldHistory work limit }
 {
     cells::rows_hold_history(work, limit);
 }
 
-/// At any moment, what recovery finds in the durable words of a memory is the end of one serial
-/// history, which has each call that was answered. A memory may go on from it.
+/// At any moment, one serial history leads to what recovery finds in the durable words of a memory,
+/// and it has each call that was answered. A memory may go on from what is found.
 pub fn memory_words_hold_history(memory: &Memory)
     requires { IsMemory memory.now }
     ensures { HoldsWordsAlways memory.now }
@@ -80,8 +80,8 @@ pub fn lone_calls_are_saved()
     ensures { LoneCallsAreSaved }
 {}
 
-/// If one handle tells another of its calls, these come first in the history: before each call that
-/// the other handle begins after it has heard of them.
+/// If a handle tells another handle of its calls, these calls come first in the history: before
+/// each call that the other handle begins after it has heard the news.
 pub fn told_calls_come_first()
     ensures { ToldCallsComeFirst }
 {}

@@ -1,4 +1,4 @@
-//! A memory that a program opens: threads run scripts on one store, and what is closed can be
+//! A memory that a program opens: threads run scripts on one store, and a closed memory can be
 //! opened again. It is a memory of cells, whose operations are scripts.
 #![tactic(auto)]
 
@@ -7,14 +7,15 @@ mod error;
 mod handle;
 mod image;
 pub mod laws;
+mod looking;
 mod memory;
 mod saved;
 mod words;
 
 pub use at_once::Task;
-pub use error::{ImageTextError, InUse, LimitError, OpenError, WordsError};
+pub use error::{ImageTextError, InUse, LimitError, OpenError, RenumberError, WordsError};
 pub use handle::Handle;
-pub use memory::Memory;
+pub use memory::{Memory, Renumbered};
 pub use of_cells::{CellNews as News, EnrolError, RunError};
 pub use of_plan::{Answer, GREATEST_LIMIT};
 pub use of_script::{Abort, Cause, Instr, Reply, Script, ScriptErr, parse};

@@ -20,8 +20,9 @@ impl Saved {
     ghost use Rattle.of_memory.specs.Saving.{IsSaved, SavedHolds, HoldsReply, saved_callers};
     ghost use Rattle.of_memory.specs.Saving.{saved_limit, saved_seq, saved_ticket, saved_scripts};
     ghost use Rattle.of_memory.specs.Texts.{SavesSame, IsNoLimitOf};
+    ghost use Rattle.of_memory.specs.Sequences.{left_of_saved};
 
-    /// How many callers are saved.
+    /// How many callers the saved memory has.
     pub fn callers(&self) -> u32
         ensures { result ≡ saved_callers self.now }
     {
@@ -41,6 +42,14 @@ impl Saved {
         ensures { result ≡ saved_seq self.now }
     {
         self.cells.seq()
+    }
+
+    /// How many sequences are left for a memory that goes on from what is saved.
+    pub fn sequences_left(&self) -> u32
+        requires { IsSaved self.now }
+        ensures { result ≡ left_of_saved self.now }
+    {
+        self.cells.sequences_left()
     }
 
     // The scripts whose store it holds.
@@ -63,8 +72,8 @@ impl Saved {
         }
     }
 
-    /// How many calls of a caller are saved: the ticket of its last one, also if another caller
-    /// finished that call.
+    /// How many calls of a caller are saved: the ticket of the caller's last saved call, also if
+    /// another caller finished this call.
     pub fn ticket(&self, number: u32) -> u32
         requires saved { IsSaved self.now }
         requires number { number < saved_callers self.now }
@@ -109,8 +118,8 @@ impl Saved {
         }
     }
 
-    /// Keeps store, tickets and replies, and sets the last committed sequence to 0. So a memory
-    /// that goes on from this has all sequences up to its limit left.
+    /// Keeps store, tickets and replies, and sets the last committed sequence to 0. A memory that
+    /// goes on from the result has all sequences up to its limit left.
     pub fn renumbered(self) -> Saved
         requires { IsSaved self }
         ensures saved { IsSaved result }

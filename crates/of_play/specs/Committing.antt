@@ -1,4 +1,4 @@
--- Which steps commit, as the code finds out, and the line that it writes of a commit.
+-- Which steps commit, as the code finds it out, and the line that the code writes for a commit.
 use Rattle.std.specs.Prelude.{ℕ, ◌==◌, ◌+◌, Bool, true, false, List, [], map}
 use Rattle.of_cell.specs.Words.{seq_of}
 use Rattle.of_core.specs.Machine.{Call}
@@ -34,7 +34,7 @@ commit_line false k i s calls = []
 abbrev pub batch_line_after : (k i found : ℕ) → List RustCall → List ℕ
 batch_line_after k i found calls = batch_line k i (seq_of found + 1) (map call_value calls)
 
--- the line of event `k`, a turn of caller `i`, if it commits these calls, at the sequence after
--- that of the word `found`; otherwise nothing
+-- the line of event `k`, a turn of caller `i`, if it commits these calls; otherwise nothing. The
+-- turn found the word `found`, and the batch has the sequence after that of this word.
 abbrev pub commit_line_after : (commits : Bool) → (k i found : ℕ) → List RustCall → List ℕ
 commit_line_after b k i found calls = commit_line b k i (seq_of found + 1) (map call_value calls)

@@ -45,7 +45,7 @@ shown_word_place n m Members = members_place n MOST_INSTRS m
 abbrev pub own_cell : (i j : ℕ) → CellUse
 own_cell i j = if j == 0 then Ticket i else if j == 1 then Shape i else Reply i (j - 2)
 
--- what the cell `j` of a queue holds
+-- what cell `j` of queue `q`, 0 to 2, holds
 abbrev pub queue_cell : (q j : ℕ) → CellUse
 queue_cell q j = if j == 0 then Front q else if j == 1 then Back q else Length q
 
@@ -78,7 +78,7 @@ cell_at n m c =
     else Log ((c - data_cell n m) / (2 * log_room n m + 1))
     ((c - data_cell n m) % (2 * log_room n m + 1))
 
--- the word `x` among a caller's script words, after which its announcement comes
+-- word `x` of caller `i`: the script words come first, and the announcement after them
 abbrev pub row_word : (i x : ℕ) → ShownWord
 row_word i x = if x == MOST_INSTRS then Announcement i else Script i x
 
@@ -93,15 +93,15 @@ word_at_place n m w =
     ((w - script_place n MOST_INSTRS m 0 0) % (MOST_INSTRS + 1))
     else Members
 
--- each data cell is named by its use: the address of the cell that has this use is the cell's own
+-- each data cell is named by its use: the use that `cell_use_at` finds has the cell's address
 abbrev pub CellUsesAreNamed : Type 0
 CellUsesAreNamed = (n a : ℕ) → address_of n (cell_use_at n a) ≡ a
 
--- each cell has the name that stands for its number
+-- the name that `cell_at` finds for a cell's number stands for this number
 abbrev pub CellsAreNamed : Type 0
 CellsAreNamed = (n m c : ℕ) → shown_cell_number n m (cell_at n m c) ≡ c
 
--- each word of a table has the name that stands for its place
+-- the name that `word_at_place` finds for a place in a table stands for this place
 abbrev pub WordsAreNamed : Type 0
 WordsAreNamed =
     (n m w : ℕ) → w < table_words n MOST_INSTRS m → shown_word_place n m (word_at_place n m w) ≡ w

@@ -23,8 +23,8 @@ use Rattle.of_play.specs.declared.schedule_run.ScheduleRun.{ScheduleRun}
 abbrev pub machine_left : Plan → List Event → ℕ → CallState
 machine_left p es c = machine_in (moment_after p es) c
 
--- the events may happen, and each caller has begun its scripts in order, as many as its machine
--- counts
+-- the events may happen one after the other, and each caller has begun its first scripts in order,
+-- as many as its machine counts
 pub record EventsMayFollow (p : Plan) (es : List Event) : Type 0 where
   pub schedule : IsSchedule (plan_setup p) (opening_for p) es
   pub made : (c : ℕ) → c < p.callers → (machine_left p es c).made ≤ length (scripts_of p c)
@@ -35,7 +35,7 @@ pub record EventsMayFollow (p : Plan) (es : List Event) : Type 0 where
 abbrev pub answers_in : ScheduleRun → ℕ → List Answer
 answers_in s c = slice_index_or (map (λ v. v.items) s.answers.items) c []
 
--- the code is in the state in which these events leave a plan's table
+-- the code's table is as these events leave the plan's table, and the code has noted all answers
 pub record StandsAfter (p : Plan) (es : List Event) (s : ScheduleRun) : Type 0 where
   pub follows : EventsMayFollow p es
   pub callers : s.bank.callers ≡ p.callers
@@ -46,7 +46,7 @@ pub record StandsAfter (p : Plan) (es : List Event) (s : ScheduleRun) : Type 0 w
   pub told : (c : ℕ) → c < p.callers
       → AreAnswers (outcomes (plan_setup p) (opening_for p) es c) (answers_in s c)
 
--- the code is in the state in which some events of the plan leave its table
+-- the code's table is as some events leave the plan's table, and the code has noted all answers
 pub record IsPlaying (p : Plan) (s : ScheduleRun) : Type 0 where
   pub plan : IsPlan p
   pub events : List Event
@@ -69,20 +69,20 @@ BeginsNext p c before now =
     (es : List Event) → StandsAfter p es before
     → StandsAfter p (es ++ next_begin p c (machine_left p es c)) now
 
--- the raw reply of an answered call is that of some reply; and no call is lost, since a play
--- replaces no machine
+-- the call isn't lost, since a play replaces no machine; if it was answered, its raw reply (its
+-- reply cells) holds some reply of a script
 abbrev pub IsPlayedOutcome : Outcome → Type 0
 IsPlayedOutcome (Lost s) = ⊥
 IsPlayedOutcome o = OutcomeHoldsReply o
 
--- if the turn has ended a call, the call's outcome holds a reply
+-- if the turn has ended a call, the call isn't lost, and an answered call's raw reply holds a reply
 abbrev pub IsReplied : Turn → Type 0
 IsReplied Idle = Unit {0}
 IsReplied Open = Unit {0}
 IsReplied (EndedTurn o) = IsPlayedOutcome o
 
--- if the turn of caller `c` has ended a call, the code has noted its outcome after the caller's
--- answers
+-- if the turn of caller `c` has ended a call, the code has added the call's answer, if it has one,
+-- to the caller's answers; nothing else has changed
 pub record NotesTurn (c : ℕ) (turn : Turn) (before now : ScheduleRun) : Type 0 where
   pub bank : now.bank ≡ before.bank
   pub answers : length now.answers.items ≡ length before.answers.items
@@ -100,6 +100,6 @@ CallerEndsAs p c s ending =
     (es : List Event) → StandsAfter p es s
     → ending ≡ ending_at (machine_left p es c) (length (scripts_of p c)) (length (answers_in s c))
 
--- `left` is what the run leaves, if it ends in this state
+-- `left` is what the run leaves, if the run ends in this state
 abbrev pub RunLeaves : Plan → ScheduleRun → Ended → Type 0
 RunLeaves p s left = (es : List Event) → StandsAfter p es s → IsLeftBy p es left

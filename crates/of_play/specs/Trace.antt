@@ -1,5 +1,5 @@
--- The trace of a plan: a line for each turn and each eviction of its schedule, all or some of them;
--- and the lines of its commits.
+-- The trace of a plan: a line for each turn and each eviction of the plan's schedule, or for some
+-- of them. And the lines of the schedule's commits.
 use Rattle.std.specs.Prelude.{ℕ, ◌-◌, ◌+◌, List, [], ◌∷◌, ◌++◌, Bool, true, false, length, get_or, take, drop, flat_map, codes, decimal}
 use Rattle.of_plan.specs.Plan.{Plan}
 use Rattle.of_core.specs.Table.{durable_at, committed_seq}
@@ -95,11 +95,11 @@ committed_by k w v (Turns i) =
     flat_map (λ b. batch_line k i (committed_seq w.words + 1) b.calls) (added_by w v)
 committed_by k w v e = []
 
--- the line of what event `k` commits, if the events before it leave the moment `w`
+-- the line of the batch that event `k` commits, or nothing, if the events before it leave `w`
 abbrev pub committed_at : Plan → (k : ℕ) → Moment → Event → List ℕ
 committed_at p k w e = committed_by k (moment_of_event p w e) (moment_left_by p w e) e
 
--- for each event of a plan's schedule the line of what it commits
+-- for each turn or eviction of a plan's schedule, the line of the batch that it commits, or nothing
 abbrev pub commit_lines : Plan → List (List ℕ)
 commit_lines p = lines_from (committed_at p) p 0 (opening_for p) (plan_events p)
 

@@ -1,4 +1,4 @@
--- What a line of a trace tells of its step after the change: parts, each after a semicolon.
+-- What the line of a step has after the change of the word: parts, each after a semicolon.
 use Rattle.std.specs.Prelude.{ℕ, zero, suc, ◌/◌, ◌%◌, ◌^◌, ◌==◌, nat_lt, if◌then◌else◌, Bool, true, false, List, [], ◌++◌, take, Option, Some, None, codes, decimal}
 use Rattle.of_cell.specs.Words.{seq_of, payload_of}
 use Rattle.of_mem.specs.declared.work.RawReply.{RawReply}
@@ -25,7 +25,7 @@ use Rattle.of_play.specs.TraceText.{cell_use_text, pair_text}
 
 -- ---- whom the step helps, and what it did
 
--- what is printed of whom a step helps: the owner of the log that is copied or applied
+-- what is printed of the caller that a step helps: the owner of the log that is copied or applied
 abbrev pub helper_part : Option ℕ → List ℕ
 helper_part None = []
 helper_part (Some i) = codes "; helps " ++ decimal i
@@ -36,12 +36,12 @@ exchange_part true old new = codes "; won"
 exchange_part false old new =
     codes "; lost, wanted " ++ pair_text old ++ codes " -> " ++ pair_text new
 
--- what is printed of a raise that has found a word above its own
+-- what is printed of a raise: the value of the raise, if the word that it found is above this value
 abbrev pub raise_part : (above : Bool) → (value : ℕ) → List ℕ
 raise_part true v = codes "; wanted " ++ pair_text v
 raise_part false v = []
 
--- what is printed of what became of a step that found this word
+-- what is printed of how a step that found this word went: of an exchange, and of a raise
 abbrev pub did_part : Op → (found : ℕ) → List ℕ
 did_part (Load c) found = []
 did_part (Store c v) found = []
@@ -73,7 +73,7 @@ shape_part x =
 abbrev pub field_part : (field x : ℕ) → List ℕ
 field_part f x = if f == 2 then pointer_part x else []
 
--- what is printed of the number in a data cell with this use, if it is more than a number
+-- what is printed of the meaning of a number in a data cell with this use: of a shape or a pointer
 abbrev pub cell_use_part : CellUse → ℕ → List ℕ
 cell_use_part (Ticket i) x = []
 cell_use_part (Shape i) x = shape_part x

@@ -1,4 +1,5 @@
--- What a trace prints: the plain names of steps and of words, and what a word was and is.
+-- What a trace prints: the plain names of steps and of words, and what a step found and left in a
+-- word.
 use Rattle.std.specs.Prelude.{ℕ, List, ◌++◌, codes, decimal}
 use Rattle.of_cell.specs.Words.{seq_of, payload_of}
 use Rattle.of_cell.specs.Cells.{data_cell}
@@ -62,7 +63,7 @@ cell_use_text (Back q) = codes "back of queue " ++ decimal q
 cell_use_text (Length q) = codes "length of queue " ++ decimal q
 cell_use_text (Block b f) = codes "field " ++ decimal f ++ codes " of block " ++ decimal b
 
--- the name of a cell, if there are `n` callers; a data cell's has the cell's number too
+-- the name of a cell, if there are `n` callers; the name of a data cell has its number and its use
 abbrev pub cell_name_text : (n : ℕ) → ShownCell → List ℕ
 cell_name_text n Current = codes "current"
 cell_name_text n (Request i) = codes "request " ++ decimal i

@@ -9,25 +9,25 @@ ghost use Rattle.of_play.specs.TraceLaws.{AllAreShown, LinesAreOfMoves, TracesEn
 use of_caller::laws::plan_keeps_laws;
 use of_plan::Plan;
 
-/// Each event of a plan's schedule may happen when its turn comes. So a schedule leaves a moment,
-/// and all that is proved of every moment holds of it.
+/// Each event of a plan's schedule may happen when its turn comes. So the schedule leaves a moment,
+/// and all that is proved of every moment holds of this moment.
 pub fn plans_have_schedules(plan: &Plan)
     ensures { IsSchedule (plan_setup plan.now) (opening_for plan.now) (play_events plan.now) }
 {
     plan_keeps_laws(plan);
 }
 
-/// A trace prints a name of its own for each data cell, each cell and each word of a table: no two
-/// of them have the same name.
+/// No two data cells, no two cells and no two words of a table get the same name in a trace: the
+/// name that is found for an address, a number or a place stands for it.
 pub fn words_are_named()
     ensures uses { CellUsesAreNamed }
     ensures cells { CellsAreNamed }
     ensures words { WordsAreNamed }
 {}
 
-/// A trace has a line for each turn and each eviction of a plan's schedule. It shows this event at
-/// the moment that the turns and evictions before it leave. The schedule has no other events. The
-/// moment after the last line is the one in which `play` ends.
+/// A trace has a line for each turn and each eviction of a plan's schedule. The line shows this
+/// turn or eviction at the moment that those before it leave. A plan's schedule has nothing else.
+/// The moment after the last line is the one in which `play` ends.
 pub fn traces_are_of_plays()
     ensures shown { AllAreShown }
     ensures lines { LinesAreOfMoves }

@@ -1,5 +1,5 @@
-//! What a plan's schedule does, step by step: the report of what it leaves, and a trace, a line for
-//! each event.
+//! A plan's schedule, run step by step: the report of what the schedule leaves, and a trace with a
+//! line for each event.
 #![tactic(auto)]
 
 mod commit_line;

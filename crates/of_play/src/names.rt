@@ -14,7 +14,7 @@ pub enum CellUse {
     Ticket(u32),
     /// The shape of the reply to a caller's last announced call that was run.
     Shape(u32),
-    /// A number of the reply to a caller's last announced call that was run.
+    /// Number `at` of the reply to a caller's last announced call that was run.
     Reply { caller: u32, at: u32 },
     /// A register.
     Register(u32),
@@ -61,7 +61,7 @@ pub enum ShownWord {
     Script { caller: u32, at: u32 },
     /// The announcement of a caller.
     Announcement(u32),
-    /// The word that says which callers take part.
+    /// The word with a bit for each caller's number: whether the number is taken.
     Members,
 }
 
@@ -167,7 +167,7 @@ impl ShownCell {
 impl ShownWord {
     ghost use Rattle.of_play.specs.Names.{row_word, word_at_place};
 
-    /// Word `at` among a caller's script words, after which its announcement comes.
+    /// Word `at` of a caller: the script words come first, and the announcement after them.
     fn in_row(caller: u32, at: u32) -> ShownWord
         ensures { result ≡ row_word caller at }
     {

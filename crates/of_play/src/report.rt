@@ -11,7 +11,7 @@ use of_report::Report;
 use std::alloc::{AllocError, Global};
 
 /// The report of what recovery finds after a plan's schedule was run on a bank, each turn and each
-/// eviction in its order. In the report each call comes after those that ended before it began.
+/// eviction in its order. In the report each call comes after the calls that ended before it began.
 pub fn play_report(alloc: Global, plan: &Plan) -> Result<Report, AllocError>
     ensures { IfOk result (λ report. IsPlayedReport plan.now (report_value report)) }
 {

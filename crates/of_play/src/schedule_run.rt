@@ -248,8 +248,8 @@ impl ScheduleRun {
 }
 
 /// Runs a plan's schedule step by step on a bank. At each turn of a caller its open call makes a
-/// step; if none is open, the caller first begins its next script. A caller that is done or spent
-/// makes no step.
+/// step; if none is open, the caller first begins a call of its next script. A caller that is done
+/// or spent makes no step.
 pub fn play(alloc: Global, plan: &Plan) -> Result<Ended, AllocError>
     ensures plan { IsPlan plan.now }
     ensures played { IfOk result (λ ended. IsPlayed plan.now ended) }

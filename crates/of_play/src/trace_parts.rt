@@ -1,4 +1,4 @@
-//! What a line of a trace tells of its step after the change.
+//! What the line of a step has after the change of the word.
 
 ghost use Rattle.std.specs.Prelude.{◌≡◌, false, true, length, OnOk, IfSome};
 ghost use Rattle.of_mem.specs.declared.work.TheConstants.{MOST_INSTRS};
@@ -50,8 +50,8 @@ fn put_wanted(out: &mut String, value: u64) -> Result<(), AllocError>
     put_pair(out, value)
 }
 
-/// Writes what became of a step that found this word: whether an exchange was won, and what a raise
-/// wanted.
+/// Writes how a step that found this word went: whether an exchange was won, and what a raise that
+/// changed nothing wanted.
 pub fn put_did(out: &mut String, op: Op, found: u64) -> Result<(), AllocError>
     ensures { OnOk result (AppendsText out.old out.new (did_part op found)) }
 {

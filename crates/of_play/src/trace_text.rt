@@ -1,4 +1,4 @@
-//! The names that a trace prints, and what has become of a word.
+//! The names that a trace prints, and the text of what a step has done to a word.
 
 ghost use Rattle.std.specs.Prelude.{◌≡◌, ◌<◌, OnOk};
 ghost use Rattle.of_play.specs.TraceText.{step_text, cell_use_text, cell_name_text, word_text, pair_text, word_value_text, named_change, change_text};

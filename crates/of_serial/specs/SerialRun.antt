@@ -1,4 +1,4 @@
--- How the code runs a plan: call by call.
+-- How the code of the serial report runs a plan: call by call.
 use Rattle.std.specs.Prelude.{◌≡◌, ℕ, ◌+◌, ◌-◌, ◌<◌, List, [], ◌∷◌, ◌++◌, length, map, take, Some, All}
 use Rattle.std.specs.List.{enumerate_from, zip}
 use Rattle.of_mem.specs.Part.{overlaid}
@@ -22,8 +22,8 @@ pub record SerialRun : Type 0 where
   pub seq : ℕ
   pub store : Store
 
--- the cells hold this store: all data cells are known, the script has written none, those of the
--- callers are 0, and the others stand for the store
+-- the cells hold this store: all data cells are known, no write of a script lies over them, those
+-- of the callers are 0, and the others stand for the store
 pub record CellsHoldStore (c : Cells) (s : Store) : Type 0 where
   pub numbers : List ℕ
   pub size : length numbers ≡ scripts_data_cells c.scripts
@@ -32,8 +32,8 @@ pub record CellsHoldStore (c : Cells) (s : Store) : Type 0 where
   pub not_called : (a : ℕ) → a < store_at c.scripts → memory_of numbers a ≡ 0
   pub stored : IsStored (store_at c.scripts) c.scripts.blocks (memory_of numbers) s
 
--- the cells held a store before, and hold now what the script makes of that store; the reply is
--- that of the script
+-- if the cells held a store before, they hold now what the script makes of this store, and the
+-- reply is the script's reply
 abbrev pub RunsScript : List Instr → (before now : Cells) → RustReply → Type 0
 RunsScript script before now reply =
     (s : Store) → CellsHoldStore before s
@@ -50,7 +50,7 @@ pub record HasComeTo (r : RustSerialRun) (h : SerialRun) : Type 0 where
 abbrev pub IsOnCourse : RustSerialRun → Type 0
 IsOnCourse r = (h : SerialRun) × HasComeTo r h
 
--- the serial run `h` after one more call, with this script
+-- the serial run `h` after one more call, of this script
 abbrev pub after_call : SerialRun → CallId → List Instr → SerialRun
 after_call h call script = record {
   entries = h.entries ++ serial_entry (h.seq + 1, (call, (run h.store script).1)) ∷ [];
@@ -58,7 +58,7 @@ after_call h call script = record {
   store = (run h.store script).0;
 }
 
--- the code's run has made one more call, with this script
+-- the code's run has made one more call, of this script
 abbrev pub MakesSerialCall : CallId → List Instr → (before now : RustSerialRun) → Type 0
 MakesSerialCall call script before now =
     (h : SerialRun) → HasComeTo before h → HasComeTo now (after_call h call script)
@@ -79,12 +79,13 @@ course_after p calls = record {
 abbrev pub HasMadeCalls : Plan → RustSerialRun → Type 0
 HasMadeCalls p r = (calls : List CallId) × HasComeTo r (course_after p calls)
 
--- the caller's first calls, as many as there are sequences above `seq` up to the plan's limit
+-- the caller's first calls: all, or as many as there are sequences above `seq` up to the plan's
+-- limit
 abbrev pub calls_within : Plan → (seq caller : ℕ) → List CallId
 calls_within p s c = take (p.limit - s) (calls_of p c)
 
--- after the calls so far, the code's run has made the calls of this caller, as many as there are
--- sequences left
+-- after the calls before, the code's run has made the calls of this caller: all, or as many as
+-- there are sequences left
 abbrev pub RunsCaller : Plan → ℕ → (before now : RustSerialRun) → Type 0
 RunsCaller p c before now =
     (calls : List CallId) → HasComeTo before (course_after p calls)

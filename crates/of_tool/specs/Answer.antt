@@ -61,7 +61,7 @@ TellsFailure command output Memory = ⊥
 TellsFailure command output (Refused why reason) =
     (output.status ≡ status_of why) × (output.text.items ≡ text_of command why)
 
--- the refusal is true of any kind of input that has at most this many bytes
+-- the refusal is true of each kind of input that has `most` as its greatest number of bytes
 abbrev pub RefusesUpTo : (most : ℕ) → Change → Refusal → Type 0
 RefusesUpTo most source why = (input : Input) → most ≡ most_of input → IsRefused input source why
 

@@ -22,7 +22,7 @@ help_word Long = codes "--help"
 help_word Short = codes "-h"
 help_word Bare = codes "help"
 
--- the words of this command; there is only one such list of words
+-- the words of this command line; each command has exactly one list of words
 abbrev pub command_words : Command → List (List ℕ)
 command_words Serial = codes "serial" ∷ []
 command_words Play = codes "play" ∷ []
@@ -54,7 +54,7 @@ pub record IsLoad (callers scripts : ℕ) : Type 0 where
   pub each : scripts ≤ MOST_SCRIPTS
   pub all : callers * scripts ≤ MOST_SCRIPTS
 
--- a part may have this number
+-- the number is one that `part` takes: 1 to `MOST_PART`
 pub record IsPartNumber (number : ℕ) : Type 0 where
   pub some : 1 ≤ number
   pub few : number ≤ MOST_PART

@@ -31,13 +31,13 @@ pub record GoesOnFrom (i : Image) (p : Plan) (r : Report) (e : Ended) : Type 0 w
   pub fits : PlanFitsImage i p
   -- no call that the image holds was run again
   pub not_again : All (IsBehind (start_of_image i)) r.entries
-  -- the text of the durable words is read as an image, which is where the report ends: it has the
-  -- report's sequence and store, and each caller's ticket. So the next life can go on from it
+  -- the text of the durable words is read as an image with the report's sequence and store, and
+  -- each caller's ticket after the report. So the next life can go on from this image
   pub next : Image
   pub leaves : LeavesImage p (start_of_image i) e r next
   pub reads : ReadsImage Two (left_text p e) next
 
--- the run of a life is real: it is a schedule from the image's row
+-- the run of a life is real: some schedule from the image's row leaves the run's record
 abbrev pub IsRealLife : Image → Plan → List Mark → Ended → Report → Type 0
 IsRealLife i p course e r = IsRealRun p (start_of_image i) (start_from_row p i.row.words) course e r
 

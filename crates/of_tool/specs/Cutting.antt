@@ -2,7 +2,7 @@
 use Rattle.std.specs.Prelude.{ℕ, zero, suc, List}
 use Rattle.of_plan.specs.Parts.{AreParts}
 
--- this is part of the text with a number, from 1: the first part, or a part of what comes after it
+-- `part` is the part of the text with this number, counted from 1; the parts come one after another
 abbrev pub IsPart : (number : ℕ) → (text part : List ℕ) → Type 0
 IsPart zero text part = ⊥
 IsPart (suc zero) text part = (rest : List ℕ) × AreParts text part rest

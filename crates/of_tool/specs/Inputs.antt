@@ -61,7 +61,7 @@ most_of ImageAndPlan = MOST_WITH_REPORT
 most_of WholeLife = MOST_WITH_REPORT
 most_of (AnyTexts number) = MOST_WITH_REPORT
 
--- the words are those of a command that reads its input
+-- the words are those of a command that reads an input
 pub record AskForInput (words : List (List ℕ)) : Type 0 where
   pub command : Command
   pub are : AreWordsOf words command
@@ -239,7 +239,7 @@ pub record ReadsIllegalLife (source : Change) : Type 0 where
 
 -- ---- any texts
 
--- the whole input has this part with this number, and it is not empty
+-- `part` is the part of the whole input with this number, counted from 1, and is not empty
 pub record ReadsPart (number : ℕ) (source : Change) (part : List ℕ) : Type 0 where
   pub bytes : List ℕ
   pub read : ReadsAll MOST_WITH_REPORT source bytes
@@ -259,7 +259,7 @@ pub record AreLeft (most : ℕ) (left : Option (List ℕ)) (bytes : List ℕ) : 
   pub are : left ≡ Some bytes
   pub few : length bytes ≤ most
 
--- the bytes that are left in the source are a plan's text, within the limit
+-- the bytes that are left in the source are a plan's text, of at most `MOST_INPUT` bytes
 pub record IsPlanInput (left : Option (List ℕ)) : Type 0 where
   pub bytes : List ℕ
   pub left_is : AreLeft MOST_INPUT left bytes
@@ -276,8 +276,8 @@ pub record IsCheckInput (left : Option (List ℕ)) : Type 0 where
   pub plan : Plan
   pub spelled : SpellsPlan first plan
 
--- the bytes that are left in the source are the text of a lawful image of this version, within the
--- limit
+-- the bytes that are left in the source are the text of a lawful image of this version, of at most
+-- `MOST_IMAGE` bytes
 pub record IsImageInput (edition : Edition) (left : Option (List ℕ)) : Type 0 where
   pub bytes : List ℕ
   pub left_is : AreLeft MOST_IMAGE left bytes
@@ -313,7 +313,7 @@ pub record IsLivedInput (left : Option (List ℕ)) : Type 0 where
   pub plan : Plan
   pub spelled : SpellsPlan second plan
 
--- the bytes that are left in the source have a part with this number, within the limit
+-- the bytes that are left in the source, at most `MOST_WITH_REPORT`, have a part with this number
 pub record IsTextsInput (number : ℕ) (left : Option (List ℕ)) : Type 0 where
   pub bytes : List ℕ
   pub left_is : AreLeft MOST_WITH_REPORT left bytes

@@ -1,5 +1,5 @@
 -- When a report and an image are those of a life that goes on from another image, and what is wrong
--- where they aren't.
+-- if they aren't.
 use Rattle.std.specs.Prelude.{◌≡◌, ℕ, List, Option, Some, None}
 use Rattle.of_plan.specs.Plan.{Plan}
 use Rattle.of_plan.specs.BadLine.{HasBadLine}
@@ -68,7 +68,7 @@ HasLeftImage (LeftImage i) = IsImage MOST_INSTRS i
 HasLeftImage (Fault fault) = Unit {0}
 
 -- the first text is that of a legal report and the second is printed of an image, but the report
--- doesn't end at this image: `Breaks` holds of the two
+-- doesn't end at this image: `Breaks` holds of the report and the image
 pub record EndsElsewhere (i : Image) (p : Plan) (told left : List ℕ)
     (Breaks : Report → Image → Type 0) : Type 0 where
   pub report : Report

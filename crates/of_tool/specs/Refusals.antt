@@ -1,4 +1,4 @@
--- Why an input is refused: the statuses above 0 that have their cause in it, with their texts.
+-- Why an input is refused: the statuses above 0 whose cause is in the input, with their texts.
 use Rattle.std.specs.Prelude.{◌≡◌, ℕ, List, ◌++◌, codes, decimal, Option, Some}
 use Rattle.of_io.specs.Faults.{HasRisen, TakesMoreThan, TakesAtMost}
 use Rattle.of_plan.specs.Plan.{Plan}

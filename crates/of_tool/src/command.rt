@@ -82,7 +82,8 @@ pub enum HelpWord {
 pub enum Command {
     /// Reads a plan, runs its scripts one after another, and prints the report.
     Serial,
-    /// Reads a plan, runs its schedule step by step, and prints the report of what it leaves.
+    /// Reads a plan, runs its schedule step by step, and prints the report of what the schedule
+    /// leaves.
     Play,
     /// Reads a plan, and prints what so many events of its schedule do, from one event on.
     Trace { first: u32, count: u32 },
@@ -101,11 +102,12 @@ pub enum Command {
     /// Reads texts one after another, each up to its first line `end`, and prints the one with this
     /// number, counted from 1.
     Part { number: u32 },
-    /// Reads a plan, runs its schedule step by step, and prints the image of what it leaves.
+    /// Reads a plan, runs its schedule step by step, and prints the image of what the schedule
+    /// leaves.
     Image,
     /// Reads an image, recovers it, and prints what recovery finds.
     Recover,
-    /// Reads an image, recovers it, and prints it with its sequences begun anew.
+    /// Reads an image, recovers it, and prints it with sequences that begin at 0 again.
     Renumber,
     /// Reads an image of version 1, recovers it, and prints it in version 2.
     Migrate,

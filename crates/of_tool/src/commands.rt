@@ -1,4 +1,4 @@
-//! The top call.
+//! The top call: does what the words of a command line say.
 
 ghost use Rattle.std.specs.Prelude.{◌≡◌, ◌≤◌, ⊤, ℕ, IfOk, MatchResult, None, Some, vec_len};
 ghost use Rattle.of_io.specs.Faults.{HasRisen};

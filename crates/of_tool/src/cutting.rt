@@ -27,7 +27,7 @@ pub fn part(text: &[u8], number: u32) -> &[u8]
     parts(rest).0
 }
 
-/// The text of `part`.
+/// The text that `part` prints.
 pub(crate) fn part_text(alloc: Global, input: &[u8], number: u32) -> Result<Vec<u8>, Failure>
     requires { IsPartNumber number }
     ensures { (source : Change) → IsInputFor (Part number) source input.now

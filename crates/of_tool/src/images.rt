@@ -37,7 +37,7 @@ pub(crate) fn play_image(alloc: Global, plan: &Plan) -> Result<Vec<u8>, AllocErr
     image_print(alloc, &plan.plot(), &ended.words)
 }
 
-/// The text of `recover`.
+/// The text that `recover` prints.
 pub(crate) fn recovered_text(alloc: Global, input: &[u8]) -> Result<Vec<u8>, Failure>
     ensures { (source : Change) → IsInputFor Recover source input.now
         → MatchResult result (λ text. Makes Recover source text.items)
@@ -46,7 +46,7 @@ pub(crate) fn recovered_text(alloc: Global, input: &[u8]) -> Result<Vec<u8>, Fai
     Ok(recovered_print(alloc, &image_in(alloc, input)?)?)
 }
 
-/// The text of `renumber`.
+/// The text that `renumber` prints.
 pub(crate) fn renumbered_text(alloc: Global, input: &[u8]) -> Result<Vec<u8>, Failure>
     ensures { (source : Change) → IsInputFor Renumber source input.now
         → MatchResult result (λ text. Makes Renumber source text.items)
@@ -55,7 +55,7 @@ pub(crate) fn renumbered_text(alloc: Global, input: &[u8]) -> Result<Vec<u8>, Fa
     Ok(renumbered_print(alloc, &image_in(alloc, input)?)?)
 }
 
-/// The text of `migrate`.
+/// The text that `migrate` prints.
 pub(crate) fn migrated_text(alloc: Global, input: &[u8]) -> Result<Vec<u8>, Failure>
     ensures { (source : Change) → IsInputFor Migrate source input.now
         → MatchResult result (λ text. Makes Migrate source text.items)

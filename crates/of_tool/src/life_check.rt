@@ -1,4 +1,4 @@
-//! What `check-life` says.
+//! What `check-life` prints.
 
 ghost use Rattle.std.specs.Prelude.{MatchResult};
 ghost use Rattle.of_tool.specs.declared.command.Command.TheVariants.{CheckLife};
@@ -14,7 +14,7 @@ use crate::refusal::{Failure, Refusal};
 use of_plan::parts;
 use std::alloc::Global;
 
-/// The text of `check-life`.
+/// The text that `check-life` prints.
 pub(crate) fn life_text(alloc: Global, input: &[u8]) -> Result<Vec<u8>, Failure>
     ensures { (source : Change) → IsInputFor CheckLife source input.now
         → MatchResult result (λ text. Makes CheckLife source text.items)

@@ -24,7 +24,7 @@ pub enum Refusal {
     /// The plan does not fit the image; or, for the command `part N`, the input has fewer than N
     /// texts.
     DoesNotFit,
-    /// The report, or the life, is not a legal one.
+    /// The report in the input, or the life in it, is not legal.
     Illegal,
 }
 
@@ -105,7 +105,7 @@ pub(crate) struct Output {
 }
 
 impl Failure {
-    /// What is answered to a command that fails so.
+    /// What is answered to a command that fails in this way.
     pub(crate) fn answer(self, alloc: Global, command: Command) -> Result<Output, AllocError>
         ensures { IfOk result (λ output. TellsFailure command output self) }
     {

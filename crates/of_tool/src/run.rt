@@ -1,4 +1,4 @@
-//! The report of what a plan's callers leave that run at once.
+//! The report of what a plan's callers leave if they run at once.
 
 ghost use Rattle.std.specs.Prelude.{◌≤◌, IfOk, vec_len};
 ghost use Rattle.of_report.specs.Report.{report_value};

@@ -24,7 +24,7 @@ pub const TOO_LONG: u8 = 6;
 /// The input is no image, or an unlawful one.
 pub const BAD_IMAGE: u8 = 7;
 
-/// The report is not a legal one of its plan, or the life not a legal one from its image.
+/// The report in the input is not legal for its plan, or the life is not legal from its image.
 pub const ILLEGAL: u8 = 8;
 
 /// The plan does not fit the image; or, for the command `part N`, the input has fewer than N texts.

@@ -86,7 +86,7 @@ fn put_redirected(out: &mut String, words: &[String]) -> Result<(), AllocError> 
     out.push_str("\n")
 }
 
-/// What is said of words that are no command.
+/// The text for standard error if the words are no command.
 pub(crate) fn usage(alloc: Global, words: &[String]) -> Result<Vec<u8>, AllocError> {
     let mut out = String::new(alloc);
     match words.first() {

@@ -341,7 +341,7 @@ pub fn trace(alloc: Global, plan: &Plan, first: u32, count: u32) -> Result<Vec<u
     Ok(tracing.text.into_bytes())
 }
 
-/// A number of events that is greater than the schedule of any plan's text can have.
+/// A number of events: more than the schedule of a plan that was read from a text can have.
 pub const ALL_EVENTS: u32 = u32::MAX;
 
 /// The commits among the first `count` events of a plan's schedule: a line for each, with the
