@@ -101,6 +101,13 @@ class caller {
     return reply;
   }
 
+  // How many sequences are left at most, as far as this caller knows.
+  uint32_t sequences_left() const {
+    uint32_t left = 0;
+    expect(onefile_sequences_left(&of.held, number, &left));
+    return left;
+  }
+
   // Runs a script that is stopped after so many steps.
   onefile_reply stop_in(const script &words, uint64_t steps) {
     onefile_reply reply{};

@@ -48,6 +48,7 @@ OF = {
     "leave": [POINTER(RawMemory), c_uint32],
     "close": [POINTER(RawMemory), POINTER(Guarded)],
     "renumber": [POINTER(RawMemory), POINTER(Guarded)],
+    "sequences_left": [POINTER(RawMemory), c_uint32, POINTER(c_uint32)],
     "free": [POINTER(RawMemory)],
     "call_text_within": [
         POINTER(RawMemory), c_uint32, c_char_p, c_size_t, c_uint64, POINTER(Reply)],
@@ -150,6 +151,12 @@ class Caller:
         given = (self.memory.held, self.number, text, len(text), steps, reply)
         make("call_text_within", *given, wanted=(wanted,))
         return reply
+
+    def sequences_left(self):
+        """How many sequences are left at most, as far as this caller knows."""
+        left = c_uint32()
+        make("sequences_left", self.memory.held, self.number, left)
+        return left.value
 
 
 class Saved:

@@ -83,6 +83,7 @@ extern "C" {
     fn onefile_leave(memory: *mut RawMemory, number: u32) -> c_int;
     fn onefile_close(memory: *mut RawMemory, saved: *mut Guarded) -> c_int;
     fn onefile_renumber(memory: *mut RawMemory, saved: *mut Guarded) -> c_int;
+    fn onefile_sequences_left(memory: *mut RawMemory, number: u32, left: *mut u32) -> c_int;
     fn onefile_free(memory: *mut RawMemory) -> c_int;
     fn onefile_call_text_within(
         memory: *mut RawMemory,
@@ -263,6 +264,16 @@ impl Caller<'_> {
     /// Runs a script.
     pub fn call(&self, text: &str) -> Result<Reply, Refusal> {
         self.within(text, NO_END, DONE)
+    }
+
+    /// How many sequences are left at most, as far as this caller knows.
+    pub fn sequences_left(&self) -> Result<u32, Refusal> {
+        let mut left = 0;
+        wanted(
+            unsafe { onefile_sequences_left(self.memory.0.get(), self.number, &mut left) },
+            DONE,
+        )?;
+        Ok(left)
     }
 
     /// Runs a script that is stopped after so many steps.

@@ -369,6 +369,12 @@ int onefile_call_text_within(onefile_memory *memory, uint32_t number, const char
  * EMPTY, RANGE, NO_CALL, STOPPED, SPENT. */
 int onefile_go_on(onefile_memory *memory, uint32_t number, uint64_t steps, onefile_reply *reply);
 
+/* How many sequences are left at most: those after the `seq` of the caller's last call that was
+ * answered or SPENT. If it has made no call, those after the last one that was known to callers that
+ * have left. Other callers may have taken some since. It makes no step.
+ * EMPTY, RANGE. */
+int onefile_sequences_left(onefile_memory *memory, uint32_t number, uint32_t *left);
+
 /* ---- What was saved. Each but onefile_from_image answers EMPTY if `saved` is empty. */
 
 /* The number in a register (0 to 15). RANGE. */

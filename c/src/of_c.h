@@ -29,6 +29,7 @@ uint32_t of_c_call(onefile_slot *caller, const uint64_t *words, size_t count, ui
 uint32_t of_c_call_text(onefile_slot *caller, const uint8_t *text, size_t length, uint64_t steps,
                         onefile_reply *reply);
 uint32_t of_c_go_on(onefile_slot *caller, uint64_t steps, onefile_reply *reply);
+uint32_t of_c_sequences_left(onefile_slot *caller, uint32_t *left);
 uint32_t of_c_register(onefile_slot *saved, uint32_t reg, uint32_t *value);
 uint32_t of_c_key(onefile_slot *saved, uint32_t key, uint32_t *value);
 uint32_t of_c_item(onefile_slot *saved, uint32_t queue, uint32_t at, uint32_t *value);

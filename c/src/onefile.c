@@ -201,6 +201,16 @@ int onefile_go_on(onefile_memory *memory, uint32_t number, uint64_t steps, onefi
   return (int)answer;
 }
 
+int onefile_sequences_left(onefile_memory *memory, uint32_t number, uint32_t *left) {
+  if (!memory || !left) return ONEFILE_NULL;
+  if (number >= ONEFILE_MOST_CALLERS) return ONEFILE_RANGE;
+  onefile_guarded *caller = &memory->caller[number];
+  if (!claim(caller)) return ONEFILE_BUSY;
+  uint32_t answer = of_c_sequences_left(&caller->slot, left);
+  release(caller);
+  return (int)answer;
+}
+
 /* ---- What was saved. */
 
 /* The call of one function on what was saved. */

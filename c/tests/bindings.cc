@@ -61,15 +61,15 @@ static uint32_t shares_again(const std::string &path) {
   return sum;
 }
 
-// A sum and its sequence, before the sequences begin anew and after that.
+// A sum, and how many sequences are left, before they begin anew and after that.
 static void renumbers() {
   onefile::memory of(1, 0, 3);
-  std::printf("sums and sequences:");
+  std::printf("sums, and sequences left:");
   for (int life = 0; life < 2; life++) {
     {
       onefile::caller own(of, 0);
-      onefile_reply reply = own.call({onefile_add(3, 5)});
-      std::printf(" %u %u", reply.values[0], reply.seq);
+      uint32_t sum = own.call({onefile_add(3, 5)}).values[0];
+      std::printf(" %u %u", sum, own.sequences_left());
     }
     of.renumber();
   }

@@ -56,12 +56,11 @@ def shares_again(path):
 
 
 def renumbers():
-    """A sum and its sequence, before the sequences begin anew and after that."""
+    """How many sequences are left after a call, and once they have begun anew, and the sum."""
     of, told = Memory(callers=1, limit=3), []
     for _ in range(2):
         with Caller(of, 0) as own:
-            reply = own.call("add 3 5")
-            told += [reply.values[0], reply.seq]
+            told += [own.call("add 3 5").values[0], own.sequences_left()]
         of.renumber()
     return told
 
@@ -75,7 +74,7 @@ def main():
     print("a caller has not left" if any(others) else "each caller has left")
     of.close()
     print("a path with a zero byte:", "taken" if takes_path("/no/such\0folder") else "refused")
-    print("sums and sequences:", *renumbers())
+    print("sums, and sequences left:", *renumbers())
     path = os.path.join(sys.argv[1] if len(sys.argv) > 1 else "/tmp", "onefile-bindings.py")
     if os.path.exists(path):
         os.remove(path)

@@ -47,14 +47,14 @@ fn shares_again(path: &str) -> u32 {
     sum
 }
 
-/// A sum and its sequence, before the sequences begin anew and after that.
+/// A sum, and how many sequences are left, before they begin anew and after that.
 fn renumbers() -> [u32; 4] {
     let of = Memory::open(1, 0, 3).expect("a memory");
     let mut told = [0; 4];
     for life in 0..2 {
         let own = of.enrol(0).expect("a caller");
-        let reply = own.call("add 3 5").expect("a call");
-        (told[2 * life], told[2 * life + 1]) = (reply.values[0], reply.seq);
+        told[2 * life] = own.call("add 3 5").expect("a call").values[0];
+        told[2 * life + 1] = own.sequences_left().expect("a count");
         drop(own);
         of.renumber().expect("other sequences");
     }
@@ -81,8 +81,8 @@ fn main() {
         "a path with a zero byte: {}",
         if is_taken { "taken" } else { "refused" }
     );
-    let [sum, seq, later, again] = renumbers();
-    println!("sums and sequences: {sum} {seq} {later} {again}");
+    let [sum, left, later, again] = renumbers();
+    println!("sums, and sequences left: {sum} {left} {later} {again}");
     let folder = std::env::args().nth(1).unwrap_or("/tmp".to_string());
     let path = format!("{folder}/onefile-bindings.rs");
     let _ = std::fs::remove_file(&path);

@@ -1,7 +1,7 @@
-/* sequences.c: memories whose sequences come to their end: sequences [FOLDER]. Each reply tells the
- * last one, and spent calls change nothing. Then the sequences begin anew and the memory goes on:
- * in the process, in a file, and in a file that two processes share. Four threads do so again and
- * again while they work, and none of their calls is spent. */
+/* sequences.c: memories whose sequences come to their end: sequences [FOLDER]. Each caller is told
+ * how many are left, and spent calls change nothing. Then the sequences begin anew and the memory
+ * goes on: in the process, in a file, and in a file that two processes share. Four threads do so
+ * again and again while they work, and none of their calls is spent. */
 #define _GNU_SOURCE
 #include "onefile.h"
 
@@ -42,12 +42,10 @@ static uint32_t sum(onefile_memory *one, uint32_t number) {
   return reply.values[0];
 }
 
-/* The sequence of a read: all are left at first. */
-static uint32_t seq_of(onefile_memory *one, uint32_t number) {
-  const uint64_t script[] = {onefile_load(0)};
-  onefile_reply reply;
-  MUST(onefile_call(one, number, script, 1, &reply));
-  return reply.seq;
+static uint32_t left(onefile_memory *one, uint32_t number) {
+  uint32_t count = LIMIT + 1;
+  MUST(onefile_sequences_left(one, number, &count));
+  return count;
 }
 
 /* Adds until a call is spent, and gives how many were answered. */
@@ -56,11 +54,12 @@ static uint32_t use_up(onefile_memory *one, uint32_t number) {
   uint32_t count = 0;
   int answer;
   while ((answer = add(one, number, &reply)) == ONEFILE_DONE) {
-    EXPECT(reply.seq <= LIMIT, 1);
+    EXPECT(left(one, number), LIMIT - reply.seq);
     count++;
   }
   EXPECT(answer, ONEFILE_SPENT);
   EXPECT(reply.seq, LIMIT);
+  EXPECT(left(one, number), 0);
   return count;
 }
 
@@ -68,10 +67,16 @@ static uint32_t use_up(onefile_memory *one, uint32_t number) {
 
 /* What can't be done, and changes nothing. */
 static void refused(void) {
+  uint32_t count = 7;
   EXPECT(onefile_renumber(NULL, &saved), ONEFILE_NULL);
   EXPECT(onefile_renumber(&memory, NULL), ONEFILE_NULL);
   EXPECT(onefile_renumber(&other, &saved), ONEFILE_EMPTY);
   EXPECT(onefile_renumber(&memory, &saved), ONEFILE_IN_USE);
+  EXPECT(onefile_sequences_left(NULL, 0, &count), ONEFILE_NULL);
+  EXPECT(onefile_sequences_left(&memory, 0, NULL), ONEFILE_NULL);
+  EXPECT(onefile_sequences_left(&memory, ONEFILE_MOST_CALLERS, &count), ONEFILE_RANGE);
+  EXPECT(onefile_sequences_left(&memory, 3, &count), ONEFILE_EMPTY);
+  EXPECT(count, 7);
 }
 
 /* Lives of a memory that was just opened, each until its sequences are used up. */
@@ -80,16 +85,20 @@ static void live(void) {
   onefile_reply reply;
   for (int life = 0; life < LIVES; life++) {
     MUST(onefile_enrol(&memory, 0));
-    EXPECT(seq_of(&memory, 0), 0);
+    EXPECT(left(&memory, 0), LIMIT);
     EXPECT(sum(&memory, 0), total);
     uint32_t count = use_up(&memory, 0);
     EXPECT(count, LIMIT);
     total += count;
     EXPECT(sum(&memory, 0), total);
-    tickets += count + 4; /* three calls that only read, and one that was spent */
+    tickets += count + 3; /* two calls that only read, and one that was spent */
     refused();
     MUST(onefile_enrol(&memory, 1));
+    EXPECT(left(&memory, 1), LIMIT); /* it knows of none who has left */
     MUST(onefile_leave(&memory, 0));
+    MUST(onefile_leave(&memory, 1));
+    MUST(onefile_enrol(&memory, 1));
+    EXPECT(left(&memory, 1), 0);
     EXPECT(add(&memory, 1, &reply), ONEFILE_SPENT);
     MUST(onefile_leave(&memory, 1));
     MUST(onefile_renumber(&memory, &saved));
@@ -138,7 +147,7 @@ static void *work(void *number_of) {
   while (lives < LIVES) {
     MUST(add(&memory, number, &reply));
     answered++;
-    if (LIMIT - reply.seq <= TENTH) is_late = 1;
+    if (left(&memory, number) <= TENTH) is_late = 1;
     if (is_late) begin_anew(number);
   }
   MUST(until(onefile_leave, number));
@@ -186,7 +195,7 @@ static void in_file(void) {
   MUST(onefile_free(&memory)); /* as after a kill: it was not closed */
   MUST(onefile_reopen_file(&memory, path, LIMIT, NULL));
   MUST(onefile_enrol(&memory, 0));
-  EXPECT(seq_of(&memory, 0), 0);
+  EXPECT(left(&memory, 0), LIMIT);
   EXPECT(sum(&memory, 0), total);
   MUST(onefile_leave(&memory, 0));
   EXPECT(unlink(path), 0);
@@ -202,6 +211,7 @@ static void take_part(uint32_t *total) {
   MUST(onefile_share_file(&memory, path, WORKERS, BLOCKS, LIMIT));
   uint32_t own = WORKERS;
   MUST(onefile_enrol_any(&memory, &own));
+  EXPECT(left(&memory, own), LIMIT);
   *total += use_up(&memory, own);
   MUST(onefile_leave(&memory, own));
 }
@@ -238,7 +248,7 @@ static void shared(void) {
   }
   MUST(onefile_share_file(&memory, path, WORKERS, BLOCKS, LIMIT));
   MUST(onefile_enrol_any(&memory, &own));
-  EXPECT(seq_of(&memory, own), 0);
+  EXPECT(left(&memory, own), LIMIT);
   EXPECT(sum(&memory, own), total);
   MUST(onefile_free(&memory));
   EXPECT(unlink(path), 0);

@@ -13,7 +13,7 @@ fn main(rt: HostRuntime) -> Result<()> {
     handle.leave(&mut memory);
     let saved = memory.close()?;
     let [first, second, ..] = answer.reply.values;
-    let stored = saved.store(alloc)?.register(3);
+    let stored = saved.register(3);
     println!(rt; "{first:?}, {second:?}; register 3 is saved as {stored}")?;
     Ok(())
 }

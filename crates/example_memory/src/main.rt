@@ -10,7 +10,7 @@ use of_memory::{GREATEST_LIMIT, Handle, Memory, Saved, Script, Task, parse};
 use std::alloc::Global;
 use std::thread::Threads;
 
-/// Adds to a register of its own and to the sum, by a call of at most so many steps.
+/// Adds to a register of its own and to the sum, by a call of at most `steps` steps.
 #[derive(Drop)]
 struct Hand {
     script: Script,
@@ -29,10 +29,10 @@ fn new_hand(alloc: Global, number: u32, steps: u64) -> Result<Hand> {
     Ok(Hand { script, steps })
 }
 
-fn show(rt: &impl Print, alloc: Global, saved: &Saved) -> Result<()>
+fn show(rt: &impl Print, saved: &Saved) -> Result<()>
     requires { IsSaved saved.now }
 {
-    println!(rt; "the sum is {}", saved.store(alloc)?.register(15))?;
+    println!(rt; "the sum is {}", saved.register(15))?;
     for number in 0..saved.callers() {
         if let Some((ticket, reply)) = saved.last_reply(number) {
             let value = reply.values[0];
@@ -86,8 +86,8 @@ fn second_day(alloc: Global, image: &[u8]) -> Result<Saved>
 fn main(rt: HostRuntime) -> Result<()> {
     let alloc: Global = rt.alloc();
     let saved = first_day(&rt, alloc)?;
-    show(&rt, alloc, &saved)?;
+    show(&rt, &saved)?;
     // A program keeps this text in a file, from which another one goes on.
     let image = saved.image_text(alloc)?;
-    show(&rt, alloc, &second_day(alloc, &image)?)
+    show(&rt, &second_day(alloc, &image)?)
 }

@@ -112,22 +112,21 @@ fn twelve_jobs<R: Threads + Sync>(rt: &R, alloc: Global) -> Result<(Saved, Saved
     Ok((saved, noon, evening))
 }
 
-fn show(rt: &impl Print, alloc: Global, saved: &Saved) -> Result<()>
+fn show(rt: &impl Print, saved: &Saved) -> Result<()>
     requires { IsSaved saved.now }
 {
-    let store = saved.store(alloc)?;
     let mut done = 0u64;
     for register in 0..4 {
-        done = done.saturating_add(u64::from(store.register(register)));
+        done = done.saturating_add(u64::from(saved.register(register)));
     }
-    println!(rt; "{done} jobs are done, {} wait", store.queue(0).len())?;
+    println!(rt; "{done} jobs are done, {} wait", saved.queue_len(0))?;
     Ok(())
 }
 
 fn main(rt: HostRuntime) -> Result<()> {
     let alloc: Global = rt.alloc();
     let (saved, noon, evening) = twelve_jobs(&rt, alloc)?;
-    show(&rt, alloc, &saved)?;
-    show(&rt, alloc, &noon)?;
-    show(&rt, alloc, &evening)
+    show(&rt, &saved)?;
+    show(&rt, &noon)?;
+    show(&rt, &evening)
 }

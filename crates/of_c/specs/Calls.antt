@@ -13,13 +13,14 @@ use Rattle.of_memory.specs.Handles.{ResumesCall, OpenCallStays, RefusesToGoOn, O
 use Rattle.of_memory.specs.Handles.{steps_so_far, step_bound_of, MakesAtMost, GoesOnWithin}
 use Rattle.of_memory.specs.Handles.{MakesStepsAlone}
 use Rattle.of_memory.specs.Telling.{BeginsAfterHeard, ResumesAfterHeard, KeepsKnown}
+use Rattle.of_memory.specs.Sequences.{KnowsSeqOf, left_of_handle}
 use Rattle.of_memory.specs.Within.{EndsWithin, KeepsToStop}
 use Rattle.of_c.specs.declared.codes.TheConstants.{DONE, EMPTY, NO_TICKET, SPENT, STOPPED, CALL_OPEN}
 use Rattle.of_c.specs.declared.held.Held.{Held}
 use Rattle.of_c.specs.declared.held.Held.TheVariants.{Nothing, Memory, Caller, Saved}
 use Rattle.of_c.specs.declared.reply.CReply.{CReply}
 use Rattle.of_c.specs.Replies.{ShowsAnswer}
-use Rattle.of_c.specs.Slots.{HasHandle}
+use Rattle.of_c.specs.Slots.{HasHandle, HoldsHandle}
 
 -- how many steps C gives: the greatest number is no end
 abbrev pub step_limit : ℕ → Option ℕ
@@ -46,7 +47,7 @@ pub record LeavesReply (code : ℕ) (before now : CReply) : Type 0 where
 abbrev pub ShowsPlaceAlone : (before now : CReply) → Type 0
 ShowsPlaceAlone before now = now ≡ record before { place = now.place }
 
--- its calls have made no more steps than were given, if so many were
+-- its calls have made no more steps than were given, if a number was
 abbrev pub MakesGiven : (stop : Option ℕ) → (before now : Handle) → Type 0
 MakesGiven None h k = Unit {0}
 MakesGiven (Some steps) h k = MakesAtMost steps h k
@@ -67,6 +68,7 @@ pub record CallsScript (script : List Instr) (stop : Option ℕ) (h : Handle)
   pub behind : BeginsAfterHeard a h k
   pub knows : KeepsKnown h k
   pub alone : MakesStepsAlone h k
+  pub seq : KnowsSeqOf a h k
 
 -- so has the call that was open
 pub record GoesOn (stop : Option ℕ) (h : Handle) (a : Result Answer RunError) (k : Handle)
@@ -84,6 +86,7 @@ pub record GoesOn (stop : Option ℕ) (h : Handle) (a : Result Answer RunError) 
   pub behind : ResumesAfterHeard a h k
   pub knows : KeepsKnown h k
   pub alone : MakesStepsAlone h k
+  pub seq : KnowsSeqOf a h k
 
 -- what a call does with a handle
 abbrev pub CallWork : Type 1
@@ -145,3 +148,9 @@ CallsText text stop before now reply code =
 -- this text spells none
 abbrev pub IsNoText : List ℕ → Type 0
 IsNoText text = (script : List Instr) → SpellsScript text script → ⊥
+
+-- a caller is held, and `left` sequences come after the last one that it knows
+pub record HasSequencesLeft (held : Option Held) (left : ℕ) : Type 0 where
+  pub handle : Handle
+  pub is : HoldsHandle held handle
+  pub left_is : left ≡ left_of_handle handle

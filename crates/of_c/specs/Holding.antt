@@ -1,4 +1,4 @@
--- What is behind the pointer of a slot.
+-- What the pointer of a slot leads to.
 use base.Fml.{Fml, ftrue}
 use base.Stored.{Coded}
 use denote.RawPtr.{Ptr}

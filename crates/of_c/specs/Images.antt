@@ -14,7 +14,7 @@ use Rattle.of_c.specs.Slots.{HoldsSaved}
 abbrev pub TellsNoText : (code : ℕ) → Type 0
 TellsNoText code = (code ≢ DONE) × (code ≢ NO_ROOM)
 
--- the buffer is the text, and behind it as it was
+-- the buffer is the text, and after it as it was
 abbrev pub HoldsText : (text before now : List ℕ) → Type 0
 HoldsText text before now = now ≡ text ++ slice_range before (length text) (length before)
 
@@ -27,7 +27,8 @@ pub record HasText (held : Option Held) (P : List ℕ → Type 0) : Type 0 where
   pub holds : IsOfPlanSize left → TextHolds text left
   pub so : P text
 
--- what a text holds is held: the words that something had which was written so
+-- what the text holds is held, with the greatest limit: the same words as anything saved had that the
+-- text was written of
 pub record HoldsRead (text : List ℕ) (now : Option Held) : Type 0 where
   pub left : Saved
   pub is : HoldsSaved now left

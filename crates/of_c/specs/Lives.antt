@@ -1,5 +1,5 @@
 -- How a memory is opened, how its callers come and go, and how it is closed.
-use Rattle.std.specs.Prelude.{◌≡◌, ℕ, ◌<◌, List, [], Option}
+use Rattle.std.specs.Prelude.{◌≡◌, ℕ, ◌<◌, List, [], Option, max}
 use Rattle.of_script.specs.declared.instr.Instr.{Instr}
 use Rattle.of_store.specs.Store.{Store, empty_store}
 use Rattle.of_memory.specs.declared.memory.Memory.{Memory}
@@ -11,12 +11,13 @@ use Rattle.of_memory.specs.Memories.{callers_of, StartsWith, tickets_before, Has
 use Rattle.of_memory.specs.Memories.{HasNoneOpen, IsFrom, IsStill, KnowsOthers, OthersStayOpen}
 use Rattle.of_memory.specs.Memories.{HasHistory, HasNoHandleOut, limit_of, TakesOut, PutsBack}
 use Rattle.of_memory.specs.Memories.{OthersKnowOrder, RemembersAll}
-use Rattle.of_memory.specs.Saving.{SavedHolds, saved_callers, saved_limit, saved_ticket}
+use Rattle.of_memory.specs.Saving.{SavedHolds, saved_callers, saved_limit, saved_seq, saved_ticket}
+use Rattle.of_memory.specs.Sequences.{seq_known_to, seq_known_in}
 use Rattle.of_memory.specs.Telling.{KnowsOrdersOf, LeavesOrder, HearsMemory, TellsMemory}
 use Rattle.of_c.specs.declared.held.Held.{Held}
 use Rattle.of_c.specs.Slots.{HoldsMemory, HoldsHandle, HoldsSaved}
 
--- an empty memory is held: it has so many callers and blocks and this limit, and none of the
+-- an empty memory is held: it has these callers and blocks and this limit, and none of the
 -- callers has made a call
 pub record HoldsEmpty (callers blocks limit : ℕ) (now : Option Held) : Type 0 where
   pub memory : Memory
@@ -27,6 +28,7 @@ pub record HoldsEmpty (callers blocks limit : ℕ) (now : Option Held) : Type 0 
   pub tickets : (n : ℕ) → n < callers → tickets_before memory n ≡ 0
   pub none : (n : ℕ) → n < callers → HasMadeOf memory n []
   pub idle : HasNoneOpen memory
+  pub seq : seq_known_in memory ≡ 0
 
 -- a memory is held that goes on from what is held there
 pub record HoldsNext (saved now : Option Held) : Type 0 where
@@ -40,6 +42,7 @@ pub record HoldsNext (saved now : Option Held) : Type 0 where
   pub tickets : (n : ℕ) → n < saved_callers left → tickets_before memory n ≡ saved_ticket left n
   pub none : (n : ℕ) → n < saved_callers left → HasMadeOf memory n []
   pub idle : HasNoneOpen memory
+  pub seq : seq_known_in memory ≡ saved_seq left
 
 -- Of the memory the caller with this number is held. It knows what the memory knew of its number,
 -- and has heard of all calls that the memory knew to have ended. The memory still knows these, and
@@ -63,6 +66,8 @@ pub record HoldsEnrolled (number : ℕ) (before now caller : Option Held) : Type
   pub others_order : OthersKnowOrder number memory next
   pub heard : HearsMemory memory handle
   pub remembers : RemembersAll memory next
+  pub seq : seq_known_to handle ≡ seq_known_in memory
+  pub same_seq : seq_known_in next ≡ seq_known_in memory
 
 -- The memory knows of the caller's number what the caller knew, and of the others what it knew. It
 -- has heard of all calls that the caller knew to have ended, and forgets none.
@@ -85,6 +90,7 @@ pub record HoldsLeft (before caller now : Option Held) : Type 0 where
   pub others_order : OthersKnowOrder (number_of_handle handle) memory next
   pub heard : TellsMemory handle next
   pub remembers : RemembersAll memory next
+  pub seq : seq_known_in next ≡ max (seq_known_in memory) (seq_known_to handle)
 
 -- what the memory has left is held: one serial history leads to it, with each call that was
 -- answered. Each caller had left

@@ -1,11 +1,13 @@
 //! What C does with a caller: calls of scripts.
 
-ghost use Rattle.std.specs.Prelude.{◌≡◌, ◌≢◌, None, Some};
+ghost use Rattle.std.specs.Prelude.{◌≡◌, ◌≢◌, ◌↔◌, ◌∷◌, [], None, Some};
 ghost use Rattle.of_script.specs.Text.{IsFault};
-ghost use Rattle.of_c.specs.declared.codes.TheConstants.{CALL_OPEN, NO_CALL, NO_SCRIPT};
+ghost use Rattle.of_c.specs.declared.codes.TheConstants.{CALL_OPEN, DONE, EMPTY};
+ghost use Rattle.of_c.specs.declared.codes.TheConstants.{NO_CALL, NO_SCRIPT};
 ghost use Rattle.of_c.specs.Calls.{step_limit, Tells, CallsScript, GoesOn, CallsHeld, CallsSlot};
 ghost use Rattle.of_c.specs.Calls.{CallsWords, AreNoScript, CallsText, IsNoText};
-ghost use Rattle.of_c.specs.Calls.{LeavesReply, ShowsPlaceAlone};
+ghost use Rattle.of_c.specs.Calls.{LeavesReply, ShowsPlaceAlone, HasSequencesLeft};
+ghost use Rattle.of_c.specs.Causes.{IsOneCode, HoldsNo, IsNotCaller};
 
 use crate::codes::{CALL_OPEN, DONE, EMPTY, NO_CALL, NO_SCRIPT, NO_TICKET, SPENT, STOPPED};
 use crate::held::{Held, Seat};
@@ -58,7 +60,7 @@ impl Seat {
         self.handle.run(script)
     }
 
-    // Runs a script, for at most so many steps.
+    // Runs a script, for at most `steps` steps.
     fn run_within(&mut self, script: &Script, steps: u64) -> Result<Answer, RunError>
         ensures { CallsScript script.now (Some steps) self.old.handle result self.new.handle }
     {
@@ -66,7 +68,7 @@ impl Seat {
         self.handle.run_within(script, steps)
     }
 
-    // Goes on with the open call, for at most so many steps.
+    // Goes on with the open call, for at most `steps` steps.
     fn go_on(&mut self, limit: Option<u64>) -> Result<Answer, RunError>
         ensures { GoesOn limit self.old.handle result self.new.handle }
     {
@@ -125,7 +127,7 @@ fn run_in(
     code
 }
 
-/// Runs the script of 1 to 16 words, for at most so many steps.
+/// Runs the script of 1 to 16 words, for at most `steps` steps.
 #[unsafe(no_mangle)]
 pub extern "C" fn of_c_call(
     alloc: Global,
@@ -147,7 +149,7 @@ pub extern "C" fn of_c_call(
     run_in(alloc, caller, &script, limit_of(steps), reply)
 }
 
-/// Runs the script that a text spells, for at most so many steps. If it spells none, the reply's
+/// Runs the script that a text spells, for at most `steps` steps. If it spells none, the reply's
 /// `place` is the piece at fault.
 #[unsafe(no_mangle)]
 pub extern "C" fn of_c_call_text(
@@ -174,7 +176,7 @@ pub extern "C" fn of_c_call_text(
     }
 }
 
-/// Goes on with the open call, for at most so many steps.
+/// Goes on with the open call, for at most `steps` steps.
 #[unsafe(no_mangle)]
 pub extern "C" fn of_c_go_on(
     alloc: Global,
@@ -190,6 +192,38 @@ pub extern "C" fn of_c_go_on(
         return EMPTY;
     };
     let code = go_on_held(&mut held, limit_of(steps), reply);
+    caller.put(held);
+    code
+}
+
+fn left_held(held: &Held, left: &mut u32) -> u32
+    ensures read { result ≡ DONE → HasSequencesLeft (Some held.now) left.new }
+    ensures codes { IsOneCode (DONE ∷ EMPTY ∷ []) result }
+    ensures empty { (result ≡ EMPTY) ↔ IsNotCaller held.now }
+    ensures unread { result ≢ DONE → left.new ≡ left.old }
+{
+    match held {
+        Held::Caller(seat) => {
+            *left = seat.handle.sequences_left();
+            DONE
+        }
+        _ => EMPTY,
+    }
+}
+
+/// How many sequences are left at most: those after the last one that the caller knows.
+#[unsafe(no_mangle)]
+pub extern "C" fn of_c_sequences_left(alloc: Global, caller: &mut Slot, left: &mut u32) -> u32
+    ensures read { result ≡ DONE → HasSequencesLeft caller.old.raw.held left.new }
+    ensures codes { IsOneCode (DONE ∷ EMPTY ∷ []) result }
+    ensures empty { (result ≡ EMPTY) ↔ HoldsNo IsNotCaller caller.old.raw.held }
+    ensures same { caller.new.raw.held ≡ caller.old.raw.held }
+    ensures unread { result ≢ DONE → left.new ≡ left.old }
+{
+    let Some(held) = caller.take(alloc) else {
+        return EMPTY;
+    };
+    let code = left_held(&held, left);
     caller.put(held);
     code
 }

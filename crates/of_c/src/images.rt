@@ -99,7 +99,8 @@ fn code_of_fault(fault: ImageTextError) -> u32
     }
 }
 
-/// What a text holds, as `of_c_image` or the command line writes it. Its limit is the greatest one.
+/// Fills an empty slot with what a text holds that `of_c_image` or the program `onefile` has written.
+/// The limit is the greatest one then.
 #[unsafe(no_mangle)]
 pub extern "C" fn of_c_from_image(alloc: Global, text: &[u8], saved: &mut Slot) -> u32
     ensures read { result ≡ DONE → HoldsRead text.now saved.new.raw.held }

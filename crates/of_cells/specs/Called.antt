@@ -99,7 +99,7 @@ ResumesItsNext result c =
     HasStartedIfOpen (last_caller (sight_of c).kept) → (caller_call c).steps ≡ 0
     → BeginsItsNext result c
 
--- all that the caller has done on its row are steps of its calls
+-- the count of the loads of the caller that are no step of a call stays as it was
 abbrev pub StepsAlone : {W : Type 0} → (before now : Caller W) → Type 0
 StepsAlone c d = looks_made_by d ≡ looks_made_by c
 

@@ -70,7 +70,7 @@ steps_of_calls h = steps_made_by (caller_of h)
 abbrev pub looks_of : {W : Type 0} → CellHandle W → ℕ
 looks_of h = looks_made_by (caller_of h)
 
--- all that it has done on the words of its memory are steps of its calls
+-- the count of its loads that are no step of a call stays as it was
 abbrev pub MakesStepsAlone : {W : Type 0} → (before now : CellHandle W) → Type 0
 MakesStepsAlone h k = StepsAlone (caller_of h) (caller_of k)
 

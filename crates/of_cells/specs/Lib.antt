@@ -6,6 +6,7 @@ pub mod Within
 pub mod Saving
 pub mod Handles
 pub mod Memories
+pub mod Sequences
 pub mod Telling
 pub mod Joining
 pub mod Tasks

@@ -122,7 +122,7 @@ HaveKeptSequences S B h q x =
 abbrev pub HasOpenOperation : KnownCaller → (op : List ℕ) → Type 0
 HasOpenOperation x op = IsOpen x.machine.place × (x.machine.op ≡ op)
 
--- of the kept caller's calls the history has only these and its open one
+-- each call of the kept caller that the history has is one of those that have ended, or its open one
 abbrev pub HasOnlyKept : Setup → TableStart → List Call → KnownCaller → Type 0
 HasOnlyKept S B h x =
     HasOnly h x.machine.caller (done_before S B x.machine.caller) x.ended (HasOpenOperation x)

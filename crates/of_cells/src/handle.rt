@@ -1,5 +1,8 @@
 //! A handle: one caller of a memory of cells, for one thread at a time.
 
+ghost use Rattle.std.specs.Prelude.{◌≡◌};
+ghost use Rattle.of_cells.specs.Sequences.{seq_after as seq_told};
+
 use crate::answer::RawAnswer;
 use crate::calling::{call_with, go_on_with};
 use crate::error::RunError;
@@ -15,6 +18,17 @@ use std::sync::Arc;
 /// shared a line, a step by one would take the line from the other's thread.
 pub(crate) const APART: usize = 16;
 
+// The last sequence that is known once a call has come to this.
+fn seq_after(ended: &Result<RawAnswer, RunError>, known: u32) -> u32
+    ensures { result ≡ seq_told ended.now known }
+{
+    match ended {
+        Ok(answer) => answer.seq,
+        Err(RunError::Spent { seq }) => *seq,
+        Err(_) => known,
+    }
+}
+
 /// One caller of a memory of cells, for one thread at a time.
 #[derive(Drop)]
 pub struct CellHandle<W: Work> {
@@ -22,6 +36,8 @@ pub struct CellHandle<W: Work> {
     pub(crate) front: [u64; APART],
     pub(crate) row: Arc<Row<W>, Global>,
     pub(crate) number: u32,
+    /// The last sequence that it knows: that of its last call that has ended, or what it came with.
+    pub(crate) seq: u32,
     pub(crate) caller: Caller<W>,
     pub(crate) behind: [u64; APART],
 }
@@ -43,12 +59,23 @@ impl<W: Work> CellHandle<W> {
     ghost use Rattle.of_cells.specs.Telling.{LeavesOrder, TellsMemory};
     ghost use Rattle.of_cells.specs.Memories.{KnowsOthers, OthersStayOpen, OthersKnowOrder};
     ghost use Rattle.of_cells.specs.Memories.{PutsBack, RemembersAll};
+    ghost use Rattle.of_cells.specs.Sequences.{KnowsSeqOf, seq_known_to, seq_known_in, left_of_handle};
+    ghost use Rattle.std.specs.Prelude.{max};
 
     /// Its number.
     pub fn number(&self) -> u32
         ensures { result ≡ number_of_handle self.now }
     {
         self.number
+    }
+
+    /// How many sequences are left at most: those after the last one that the handle knows, which
+    /// is that of its last call that has ended, or else the memory's when the handle came. Others
+    /// may have taken some since. It makes no step.
+    pub fn sequences_left(&self) -> u32
+        ensures { result ≡ left_of_handle self.now }
+    {
+        self.row.limit().saturating_sub(self.seq)
     }
 
     /// Runs an operation of 1 to `MOST_INSTRS` words, all of it or nothing, and answers its reply.
@@ -71,6 +98,7 @@ impl<W: Work> CellHandle<W> {
         ensures behind { BeginsAfterHeard W.meaning result self.old self.new }
         ensures knows { KeepsKnown W.meaning self.old self.new }
         ensures alone { MakesStepsAlone self.old self.new }
+        ensures seq { KnowsSeqOf result self.old self.new }
     {
         self.begin(op, None)
     }
@@ -95,6 +123,7 @@ impl<W: Work> CellHandle<W> {
         ensures behind { BeginsAfterHeard W.meaning result self.old self.new }
         ensures knows { KeepsKnown W.meaning self.old self.new }
         ensures alone { MakesStepsAlone self.old self.new }
+        ensures seq { KnowsSeqOf result self.old self.new }
         ensures given { MakesAtMost steps self.old self.new }
     {
         self.begin(op, Some(steps))
@@ -119,6 +148,7 @@ impl<W: Work> CellHandle<W> {
         ensures behind { BeginsAfterHeard W.meaning result self.old self.new }
         ensures knows { KeepsKnown W.meaning self.old self.new }
         ensures alone { MakesStepsAlone self.old self.new }
+        ensures seq { KnowsSeqOf result self.old self.new }
         ensures given { RisesWithin stop (steps_of_calls self.old) (steps_of_calls self.new) }
     {
         if !self.caller.is_idle() {
@@ -127,7 +157,9 @@ impl<W: Work> CellHandle<W> {
         if self.caller.made() == u32::MAX {
             return Err(RunError::NoTicket);
         }
-        call_with(&self.row, &mut self.caller, op, stop)
+        let result = call_with(&self.row, &mut self.caller, op, stop);
+        self.seq = seq_after(&result, self.seq);
+        result
     }
 
     /// Goes on with the open call, to its answer.
@@ -149,6 +181,7 @@ impl<W: Work> CellHandle<W> {
         ensures behind { ResumesAfterHeard W.meaning result self.old self.new }
         ensures knows { KeepsKnown W.meaning self.old self.new }
         ensures alone { MakesStepsAlone self.old self.new }
+        ensures seq { KnowsSeqOf result self.old self.new }
     {
         self.resume(None)
     }
@@ -173,6 +206,7 @@ impl<W: Work> CellHandle<W> {
         ensures behind { ResumesAfterHeard W.meaning result self.old self.new }
         ensures knows { KeepsKnown W.meaning self.old self.new }
         ensures alone { MakesStepsAlone self.old self.new }
+        ensures seq { KnowsSeqOf result self.old self.new }
         ensures given { MakesAtMost steps self.old self.new }
     {
         self.resume(Some(steps))
@@ -197,12 +231,15 @@ impl<W: Work> CellHandle<W> {
         ensures behind { ResumesAfterHeard W.meaning result self.old self.new }
         ensures knows { KeepsKnown W.meaning self.old self.new }
         ensures alone { MakesStepsAlone self.old self.new }
+        ensures seq { KnowsSeqOf result self.old self.new }
         ensures given { RisesWithin stop (steps_of_calls self.old) (steps_of_calls self.new) }
     {
         if self.caller.is_idle() {
             return Err(RunError::NoCall);
         }
-        go_on_with(&self.row, &mut self.caller, stop)
+        let result = go_on_with(&self.row, &mut self.caller, stop);
+        self.seq = seq_after(&result, self.seq);
+        result
     }
 
     /// Leaves its memory, which keeps what it has made; a call that is open stays open. Then its
@@ -225,14 +262,16 @@ impl<W: Work> CellHandle<W> {
         // So a call that begins later comes later in the history, whatever its number.
         ensures heard { TellsMemory W.meaning self memory.new }
         ensures remembers { RemembersAll W.meaning memory.old memory.new }
+        ensures seq { seq_known_in memory.new ≡ max (seq_known_in memory.old) (seq_known_to self) }
     {
         let CellHandle {
             front: _,
             row: _,
             number,
+            seq,
             caller,
             behind: _,
         } = self;
-        memory.take_in(number, caller);
+        memory.take_in(number, seq, caller);
     }
 }

@@ -27,6 +27,7 @@ impl<W: Work> SavedCells<W> {
     ghost use Rattle.of_cells.specs.Saving.{IsSavedCells, SavesSame, IsNoLimitOf};
     ghost use Rattle.of_cells.specs.Saving.{saved_limit, saved_seq};
     ghost use Rattle.of_cells.specs.Memories.{IsLimit};
+    ghost use Rattle.of_cells.specs.Sequences.{left_of_saved};
 
     /// The last sequence that was committed in it.
     pub fn seq(&self) -> u32
@@ -34,6 +35,14 @@ impl<W: Work> SavedCells<W> {
         ensures { result ≡ saved_seq self.now }
     {
         seq_of(self.row[0])
+    }
+
+    /// How many sequences are left for a memory that goes on from it.
+    pub fn sequences_left(&self) -> u32
+        requires { IsSavedCells W.many W.size W.meaning W.lawful self.now }
+        ensures { result ≡ left_of_saved self.now }
+    {
+        self.limit.saturating_sub(self.seq())
     }
 
     /// The same with another limit. There is no limit below its sequence, and none that is 0 or

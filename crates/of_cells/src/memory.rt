@@ -24,6 +24,8 @@ pub struct CellMemory<W: Work> {
     pass: Pass,
     /// What the handles knew that have left.
     known: Option<Pass>,
+    /// The last sequence that they knew, or the one with which the memory was opened.
+    seq: u32,
     /// The callers that have no handle, by their numbers.
     callers: Vec<Option<Caller<W>>>,
     /// The memory into which a close loads the durable words, so that it takes none. It is empty
@@ -55,6 +57,9 @@ impl<W: Work> CellMemory<W> {
     ghost use Rattle.of_cells.specs.Serving.{events_known_to};
     ghost use mathlib.Core.List.{IsPrefix};
     ghost use Rattle.std.specs.Prelude.{OnErr};
+    ghost use Rattle.of_cells.specs.Saving.{saved_seq};
+    ghost use Rattle.of_cells.specs.Sequences.{seq_known_to, seq_known_in, left_of_memory};
+    ghost use Rattle.std.specs.Prelude.{max};
 
     /// A memory of zeros for this work. `limit` is the last sequence that may be committed.
     pub fn open(alloc: Global, work: W, limit: u32) -> Result<CellMemory<W>, OpenError>
@@ -69,6 +74,7 @@ impl<W: Work> CellMemory<W> {
         ensures tickets { IfOk result (λ m. (n : ℕ) → tickets_before W.meaning m n ≡ 0) }
         ensures none { IfOk result HasMadeNothing }
         ensures idle { IfOk result HasNoneOpen }
+        ensures seq { IfOk result (λ m. seq_known_in m ≡ 0) }
         ensures cause { IfErr result (IsOpenCause limit) }
     {
         if limit == 0 || limit > GREATEST_LIMIT {
@@ -93,9 +99,10 @@ impl<W: Work> CellMemory<W> {
         ensures tickets { IfOk result (λ m. (n : ℕ) → tickets_before W.meaning m n ≡ 0) }
         ensures none { IfOk result HasMadeNothing }
         ensures idle { IfOk result HasNoneOpen }
+        ensures seq { IfOk result (λ m. seq_known_in m ≡ 0) }
     {
         let (row, pass) = Row::new(alloc, shape_for(work), limit, work)?;
-        let memory = CellMemory::over(alloc, row, pass)?;
+        let memory = CellMemory::over(alloc, row, pass, 0)?;
         Ok(memory)
     }
 
@@ -113,19 +120,21 @@ impl<W: Work> CellMemory<W> {
             (n : ℕ) → tickets_before W.meaning m n ≡ saved_ticket saved.now n) }
         ensures none { IfOk result HasMadeNothing }
         ensures idle { IfOk result HasNoneOpen }
+        ensures seq { IfOk result (λ m. seq_known_in m ≡ saved_seq saved.now) }
     {
         let (row, pass) = Row::start(alloc, saved.shape, saved.limit, saved.work, &saved.row)?;
-        let memory = CellMemory::over(alloc, row, pass)?;
+        let memory = CellMemory::over(alloc, row, pass, saved.seq())?;
         Ok(memory)
     }
 
     // A memory over a row with its first pass.
-    fn over(alloc: Global, row: Row<W>, pass: Pass) -> Result<CellMemory<W>, AllocError>
+    fn over(alloc: Global, row: Row<W>, pass: Pass, seq: u32) -> Result<CellMemory<W>, AllocError>
         requires { IsFirst row pass }
         ensures memory { IfOk result (IsCellMemory W.meaning) }
         ensures row { IfOk result (λ m. row_of m ≡ row) }
         ensures none { IfOk result HasMadeNothing }
         ensures idle { IfOk result HasNoneOpen }
+        ensures seq { IfOk result (λ m. seq_known_in m ≡ seq) }
     {
         let (callers, pass) = seat_all(alloc, &row, pass)?;
         let room = Vec::with_capacity(alloc, row.shape().durable_cells() as usize)?;
@@ -135,6 +144,7 @@ impl<W: Work> CellMemory<W> {
             row,
             pass,
             known: None,
+            seq,
             callers,
             room,
         })
@@ -161,6 +171,14 @@ impl<W: Work> CellMemory<W> {
         self.row.limit()
     }
 
+    /// How many sequences are left at most: those after the last one that is known of handles that
+    /// have left, or with which the memory was opened. Others may have taken some since.
+    pub fn sequences_left(&self) -> u32
+        ensures { result ≡ left_of_memory self.now }
+    {
+        self.limit().saturating_sub(self.seq)
+    }
+
     /// A handle for a number. It goes on where the last handle of that number left.
     pub fn enrol(&mut self, number: u32) -> Result<CellHandle<W>, EnrolError>
         requires { IsCellMemory W.meaning self.old }
@@ -183,6 +201,8 @@ impl<W: Work> CellMemory<W> {
         // So its calls come, in the history, after all calls of handles that have left.
         ensures heard { IfOk result (HearsMemory W.meaning self.old) }
         ensures remembers { RemembersAll W.meaning self.old self.new }
+        ensures seq { IfOk result (λ h. seq_known_to h ≡ seq_known_in self.old) }
+        ensures same_seq { seq_known_in self.new ≡ seq_known_in self.old }
     {
         if number >= self.callers() {
             return Err(EnrolError::NoCaller { number });
@@ -197,6 +217,7 @@ impl<W: Work> CellMemory<W> {
                     front: [0; APART],
                     row,
                     number,
+                    seq: self.seq,
                     caller,
                     behind: [0; APART],
                 })
@@ -206,7 +227,7 @@ impl<W: Work> CellMemory<W> {
     }
 
     // Takes a caller in that has no handle any more, with all that it knows.
-    pub(crate) fn take_in(&mut self, number: u32, mut caller: Caller<W>)
+    pub(crate) fn take_in(&mut self, number: u32, seq: u32, mut caller: Caller<W>)
         requires memory { IsCellMemory W.meaning self.old }
         requires caller { Serves W.meaning (row_of self.old) number caller }
         ensures memory { IsCellMemory W.meaning self.new }
@@ -219,8 +240,10 @@ impl<W: Work> CellMemory<W> {
         ensures others_order { OthersKnowOrder W.meaning number self.old self.new }
         ensures known { IsPrefix (events_known_to caller) (events_heard self.new) }
         ensures remembers { IsPrefix (events_heard self.old) (events_heard self.new) }
+        ensures seq { seq_known_in self.new ≡ max (seq_known_in self.old) seq }
     {
         exchange(&self.row, &mut caller, &mut self.known);
+        self.seq = self.seq.max(seq);
         put_at(&mut self.callers, number as usize, caller);
     }
 

@@ -39,6 +39,7 @@ impl<W: Work> CellHandle<W> {
     ghost use Rattle.of_cells.specs.Handles.{IsCellHandle, IsSame, home_of, looks_of};
     ghost use Rattle.of_cells.specs.Telling.{KeepsKnown, CallsStay, IsNews, TellsOwn, TellsHeard};
     ghost use Rattle.of_cells.specs.Telling.{HearsAll};
+    ghost use Rattle.of_cells.specs.Sequences.{KnowsSameSeq};
 
     /// What the handle knows, for another handle of its memory to hear: which of its own calls have
     /// ended, and all that it has heard of others. It takes no memory and waits for nothing. The
@@ -50,6 +51,7 @@ impl<W: Work> CellHandle<W> {
         ensures calls { CallsStay self.old self.new }
         ensures knows { KeepsKnown W.meaning self.old self.new }
         ensures looks { looks_of self.new ≡ looks_of self.old + 2 }
+        ensures seq { KnowsSameSeq self.old self.new }
         ensures news { IsNews (home_of self.old) result }
         ensures own { TellsOwn W.meaning self.old result }
         ensures heard { TellsHeard W.meaning self.old result }
@@ -69,6 +71,7 @@ impl<W: Work> CellHandle<W> {
         ensures calls { CallsStay self.old self.new }
         ensures knows { KeepsKnown W.meaning self.old self.new }
         ensures looks { looks_of self.new ≡ looks_of self.old + 2 }
+        ensures seq { KnowsSameSeq self.old self.new }
         ensures heard { HearsAll W.meaning news self.new }
     {
         let CellNews { pass } = news;

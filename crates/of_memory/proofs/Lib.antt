@@ -14,3 +14,5 @@ pub mod Alone
 pub mod Reading
 pub mod Texts
 pub mod StartWords
+pub mod Renewing
+pub mod Chains

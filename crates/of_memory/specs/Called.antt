@@ -39,7 +39,8 @@ abbrev pub answered_call : List Instr → Answer → Made
 answered_call script a =
     record { script = script; ended = Replied (reply_value_of a.reply) a.seq a.steps a.announced }
 
--- the calls that have ended after these, where a call of a script has come to this
+-- The calls `ms`, and then a call of the script that has come to this result. It is added if it was
+-- answered or spent, but not if it was stopped or refused.
 abbrev pub made_with : List Instr → Result Answer RunError → List Made → List Made
 made_with script (Ok a) ms = ms ++ answered_call script a ∷ []
 made_with script (Err (Stopped asked)) ms = ms

@@ -50,7 +50,8 @@ abbrev pub MakesCall : List Instr → Result Answer RunError → (before now : H
 MakesCall script result h k =
     (ms : List Made) → HasMade h ms → HasMade k (made_with script result ms)
 
--- so it is of the call that was open, whatever script it is of
+-- the call that was open has come to the result: what its number has made is what it had made, with
+-- this call if it has ended
 abbrev pub ResumesCall : Result Answer RunError → (before now : Handle) → Type 0
 ResumesCall result h k =
     (script : List Instr) (ms : List Made) → HasOpen h script → HasMade h ms
@@ -65,7 +66,8 @@ StaysOpenOnlyIfStopped script (Err InCall) h = Unit {0}
 StaysOpenOnlyIfStopped script (Err NoCall) h = Unit {0}
 StaysOpenOnlyIfStopped script (Err NoTicket) h = Unit {0}
 
--- so it is of the call that was open, whatever script it is of
+-- If a call was open and was stopped again, it is open still, with the same script. If it has ended,
+-- none is open.
 abbrev pub OpenCallStays : Result Answer RunError → (before now : Handle) → Type 0
 OpenCallStays result h k =
     (script : List Instr) → HasOpen h script → StaysOpenOnlyIfStopped script result k
@@ -90,11 +92,11 @@ tickets_behind h = generic.tickets_behind scripts_meaning h.cells
 abbrev pub looks_of : Handle → ℕ
 looks_of h = generic.looks_of h.cells
 
--- all that it has done on the words of its memory are steps of its calls
+-- the count of its loads that are no step of a call stays as it was
 abbrev pub MakesStepsAlone : (before now : Handle) → Type 0
 MakesStepsAlone h k = generic.MakesStepsAlone h.cells k.cells
 
--- its calls have made at most so many steps more, those that were spent with them
+-- its calls, with those that were spent, have made at most `most` steps more
 abbrev pub MakesAtMost : (most : ℕ) → (before now : Handle) → Type 0
 MakesAtMost most h k = generic.MakesAtMost most h.cells k.cells
 
@@ -130,7 +132,7 @@ RefusesToGoOn h result = generic.RefusesToGoOn h.cells (without_reply result)
 abbrev pub IsSame : (before now : Handle) → Type 0
 IsSame h k = generic.IsSame h.cells k.cells
 
--- its memory has so many callers and blocks
+-- its memory has these numbers of callers and blocks
 pub record IsOfSizes (h : Handle) (callers blocks : ℕ) : Type 0 where
   pub callers_are : (key_of (home_of h)).work.callers ≡ callers
   pub blocks_are : (key_of (home_of h)).work.blocks ≡ blocks

@@ -39,8 +39,8 @@ StandsInOrder h =
     (p q : ℕ) → p < q → q < length h
     → IsLater (get_or h p no_history_entry) (get_or h q no_history_entry)
 
--- how a call has ended: with this reply, at this sequence, after so many steps, and whether it was
--- announced; or with none, since the sequence had come to the limit
+-- how a call has ended: with this reply, at this sequence, after this number of steps, and whether
+-- it was announced; or with none, since the sequence had come to the limit
 pub data End : Type 0 where
   Replied : Reply → (seq steps : ℕ) → (announced : Bool) → End
   Spent : (seq : ℕ) → End

@@ -64,7 +64,7 @@ RespectsEvents S B es h =
 
 -- A serial history leads from the store to the one that data cells with these numbers stand for.
 -- The calls of each caller are there in the order in which it made them, each once at most, and the
--- history stands by sequence. The cells tell the last call of each caller, which had made so many
+-- history stands by sequence. The cells tell the last call of each caller, which had `made` calls
 -- before, and no call that may write is later.
 pub record HistoryLeads (w : Scripts) (caller_count : ℕ) (made : ℕ → ℕ) (s : Store) (now : List ℕ)
     (h : List HistoryEntry) (q : Sequences) : Type 0 where

@@ -6,6 +6,8 @@ pub mod Within
 pub mod Saving
 pub mod Handles
 pub mod Memories
+pub mod Sequences
+pub mod Renewing
 pub mod Laws
 pub mod Telling
 pub mod Tasks

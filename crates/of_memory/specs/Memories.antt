@@ -95,11 +95,11 @@ IsFrom m h = generic.IsFrom m.cells h.cells
 abbrev pub IsStill : (before now : Memory) → Type 0
 IsStill m k = generic.IsStill m.cells k.cells
 
--- of the numbers other than n it knows what it knew
+-- every number but n that has no handle out still has none, and has made the same calls
 abbrev pub KnowsOthers : ℕ → (before now : Memory) → Type 0
 KnowsOthers n m k = (i : ℕ) (ms : List Made) → i ≢ n → HasMadeOf m i ms → HasMadeOf k i ms
 
--- and their open calls stay open
+-- and if its call is open, it stays open
 abbrev pub OthersStayOpen : ℕ → (before now : Memory) → Type 0
 OthersStayOpen n m k =
     (i : ℕ) (script : List Instr) → i ≢ n → HasOpenOf m i script → HasOpenOf k i script

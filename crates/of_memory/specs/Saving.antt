@@ -51,8 +51,8 @@ SavedHolds d s = StandFor (saved_scripts d) (saved_cells d) s
 abbrev pub HoldReply : (cells : List ℕ) → (n : ℕ) → Reply → Type 0
 HoldReply cells n response = HoldsResponse (reply_in MOST_INSTRS (memory_of cells) n) response
 
--- What the cells hold of the last call of caller n, where it had made so many before: there was
--- none since, or it is one of the history, with its reply.
+-- What the cells hold of the last call of caller n, which had made `before` calls: there was none
+-- since, or it is one of the history, with its reply.
 abbrev pub TellLast : (cells : List ℕ) → List HistoryEntry → (n before : ℕ) → Type 0
 TellLast cells h n before =
     (generic.own_ticket cells n ≡ before)

@@ -9,17 +9,16 @@ use Rattle.of_memory.specs.Called.{without_reply}
 abbrev pub IsNeverStopped : Result Answer RunError → Type 0
 IsNeverStopped result = generic.IsNeverStopped (without_reply result)
 
--- A call that had made some steps before is given more, and has made so many by now. An answer
--- tells no more than both together. A call is stopped only if it has made them all, at the next
--- ask.
+-- A call had made `before` steps, is given `more`, and has made `now`. An answer tells no more than
+-- `before` and `more` together. A call is stopped only if it has made them all, at the next ask.
 abbrev pub KeepsWithin : (before more now : ℕ) → Result Answer RunError → Type 0
 KeepsWithin before more now result = generic.KeepsWithin before more now (without_reply result)
 
--- the same of a call that is given so many more steps, or as many as it needs
+-- the same of a call that is given `stop` more steps, or as many as it needs
 abbrev pub KeepsToStop : (before : ℕ) → (stop : Option ℕ) → (now : ℕ) → Result Answer RunError
     → Type 0
 KeepsToStop before stop now result = generic.KeepsToStop before stop now (without_reply result)
 
--- An answer tells at most so many steps, and a stopped call has asked at most so many times.
+-- an answer tells at most `most` steps, and a stopped call has asked at most `most` times
 abbrev pub EndsWithin : (most : ℕ) → Result Answer RunError → Type 0
 EndsWithin most result = generic.EndsWithin most (without_reply result)

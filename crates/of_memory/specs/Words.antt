@@ -24,13 +24,13 @@ use Rattle.of_memory.specs.Texts.{IsImageOfSaved}
 
 -- ---- sizes
 
--- a memory may have so many callers and blocks
+-- a memory may have these numbers of callers and blocks
 pub record AreCounts (callers blocks : ℕ) : Type 0 where
   pub some_callers : 1 ≤ callers
   pub few_callers : callers ≤ MOST_CALLERS
   pub few_blocks : blocks ≤ MOST_BLOCKS
 
--- the scripts have so many
+-- the scripts have these
 pub record AreCountsOf (w : Scripts) (callers blocks : ℕ) : Type 0 where
   pub callers_are : w.callers ≡ callers
   pub blocks_are : w.blocks ≡ blocks
@@ -49,7 +49,7 @@ pub record AreSizesOf (callers blocks : ℕ) (s : TableSizes) : Type 0 where
   pub first : s.first ≡ durable_place callers (data_count callers blocks) 0
   pub durable : s.durable ≡ durable_count callers blocks
 
--- the table of each row of such scripts has so many words
+-- the table of each row of such scripts has this number of words
 abbrev pub IsSizeOfTables : (callers blocks words : ℕ) → Type 0
 IsSizeOfTables callers blocks words =
     (r : Row Scripts) → IsScriptsRow r → AreCountsOf (key_of r).work callers blocks

@@ -94,3 +94,33 @@ impl fmt::Display for InUse {
 }
 
 impl StdError for InUse {}
+
+/// Why the sequences of a memory don't begin anew.
+#[derive(Drop)]
+pub enum RenumberError {
+    /// One of its handles is out. It is handed back as it was.
+    InUse(Memory),
+    /// There is no memory for the new table. The old one is closed, and this is what it has left,
+    /// with sequences that begin anew.
+    OutOfMemory(Saved),
+}
+
+impl fmt::Debug for RenumberError {
+    fn fmt<F: fmt::Write>(&self, f: &mut fmt::Formatter<F>) -> fmt::Result {
+        f.write_str(match self {
+            RenumberError::InUse(_) => "InUse",
+            RenumberError::OutOfMemory(_) => "OutOfMemory",
+        })
+    }
+}
+
+impl fmt::Display for RenumberError {
+    fn fmt<F: fmt::Write>(&self, f: &mut fmt::Formatter<F>) -> fmt::Result {
+        f.write_str(match self {
+            RenumberError::InUse(_) => "the memory is in use",
+            RenumberError::OutOfMemory(_) => "out of memory",
+        })
+    }
+}
+
+impl StdError for RenumberError {}

@@ -49,12 +49,24 @@ impl Handle {
     ghost use Rattle.of_memory.specs.Telling.{BeginsAfterHeard, ResumesAfterHeard, KeepsKnown};
     ghost use Rattle.of_memory.specs.Telling.{LeavesOrder, TellsMemory, CallsStay, IsNews};
     ghost use Rattle.of_memory.specs.Telling.{TellsOwn, TellsHeard, HearsAll};
+    ghost use Rattle.of_memory.specs.Sequences.{KnowsSeqOf, KnowsSameSeq, left_of_handle};
+    ghost use Rattle.of_memory.specs.Sequences.{seq_known_to, seq_known_in};
+    ghost use Rattle.std.specs.Prelude.{max};
 
     /// Its number.
     pub fn number(&self) -> u32
         ensures { result ≡ number_of_handle self.now }
     {
         self.cells.number()
+    }
+
+    /// How many sequences are left at most: those after the last one that the handle knows, which
+    /// is that of its last call that has ended, or else the memory's when the handle came. Others
+    /// may have taken some since. It makes no step.
+    pub fn sequences_left(&self) -> u32
+        ensures { result ≡ left_of_handle self.now }
+    {
+        self.cells.sequences_left()
     }
 
     /// Runs a script, all of it or nothing, and answers its reply.
@@ -73,6 +85,7 @@ impl Handle {
         ensures behind { BeginsAfterHeard result self.old self.new }
         ensures knows { KeepsKnown self.old self.new }
         ensures alone { MakesStepsAlone self.old self.new }
+        ensures seq { KnowsSeqOf result self.old self.new }
     {
         let len = script.len() as usize;
         let mut words = [0; MOST_INSTRS];
@@ -83,7 +96,7 @@ impl Handle {
         }
     }
 
-    /// Runs a script for at most so many steps. If they don't do, the call stays open.
+    /// Runs a script for at most `steps` steps. If they don't do, the call stays open.
     pub fn run_within(&mut self, script: &Script, steps: u64) -> Result<Answer, RunError>
         requires { IsHandle self.old }
         ensures handle { IsHandle self.new }
@@ -100,6 +113,7 @@ impl Handle {
         ensures behind { BeginsAfterHeard result self.old self.new }
         ensures knows { KeepsKnown self.old self.new }
         ensures alone { MakesStepsAlone self.old self.new }
+        ensures seq { KnowsSeqOf result self.old self.new }
     {
         let len = script.len() as usize;
         let mut words = [0; MOST_INSTRS];
@@ -126,6 +140,7 @@ impl Handle {
         ensures behind { ResumesAfterHeard result self.old self.new }
         ensures knows { KeepsKnown self.old self.new }
         ensures alone { MakesStepsAlone self.old self.new }
+        ensures seq { KnowsSeqOf result self.old self.new }
     {
         match self.cells.go_on() {
             Ok(answer) => Ok(typed(answer)),
@@ -133,7 +148,7 @@ impl Handle {
         }
     }
 
-    /// Goes on with the open call for at most so many steps.
+    /// Goes on with the open call for at most `steps` steps.
     pub fn go_on_within(&mut self, steps: u64) -> Result<Answer, RunError>
         requires { IsHandle self.old }
         ensures handle { IsHandle self.new }
@@ -151,6 +166,7 @@ impl Handle {
         ensures behind { ResumesAfterHeard result self.old self.new }
         ensures knows { KeepsKnown self.old self.new }
         ensures alone { MakesStepsAlone self.old self.new }
+        ensures seq { KnowsSeqOf result self.old self.new }
     {
         match self.cells.go_on_within(steps) {
             Ok(answer) => Ok(typed(answer)),
@@ -169,6 +185,7 @@ impl Handle {
         ensures knows { KeepsKnown self.old self.new }
         ensures looks { looks_of self.new ≡ looks_of self.old + 2 }
         ensures news { IsNews (home_of self.old) result }
+        ensures seq { KnowsSameSeq self.old self.new }
         ensures own { TellsOwn self.old result }
         ensures heard { TellsHeard self.old result }
     {
@@ -185,6 +202,7 @@ impl Handle {
         ensures calls { CallsStay self.old self.new }
         ensures knows { KeepsKnown self.old self.new }
         ensures looks { looks_of self.new ≡ looks_of self.old + 2 }
+        ensures seq { KnowsSameSeq self.old self.new }
         ensures heard { HearsAll news self.new }
     {
         self.cells.hear(news);
@@ -210,6 +228,7 @@ impl Handle {
         ensures others_order { OthersKnowOrder (number_of_handle self) memory.old memory.new }
         ensures heard { TellsMemory self memory.new }
         ensures remembers { RemembersAll memory.old memory.new }
+        ensures seq { seq_known_in memory.new ≡ max (seq_known_in memory.old) (seq_known_to self) }
     {
         let Handle { cells } = self;
         cells.leave(&mut memory.cells);

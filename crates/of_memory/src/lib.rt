@@ -7,14 +7,15 @@ mod error;
 mod handle;
 mod image;
 pub mod laws;
+mod looking;
 mod memory;
 mod saved;
 mod words;
 
 pub use at_once::Task;
-pub use error::{ImageTextError, InUse, LimitError, OpenError, WordsError};
+pub use error::{ImageTextError, InUse, LimitError, OpenError, RenumberError, WordsError};
 pub use handle::Handle;
-pub use memory::Memory;
+pub use memory::{Memory, Renumbered};
 pub use of_cells::{CellNews as News, EnrolError, RunError};
 pub use of_plan::{Answer, GREATEST_LIMIT};
 pub use of_script::{Abort, Cause, Instr, Reply, Script, ScriptErr, parse};

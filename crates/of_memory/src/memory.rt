@@ -1,6 +1,6 @@
 //! The memory itself.
 
-use crate::error::{InUse, OpenError};
+use crate::error::{InUse, OpenError, RenumberError};
 use crate::handle::Handle;
 use crate::saved::Saved;
 use of_cells::{CellMemory, EnrolError, OpenError as CellOpenError};
@@ -13,6 +13,13 @@ use std::alloc::{AllocError, Global};
 pub struct Memory {
     pub(crate) alloc: Global,
     pub(crate) cells: CellMemory<Scripts>,
+}
+
+/// A memory whose sequences begin anew, and what it goes on from.
+#[derive(Drop)]
+pub struct Renumbered {
+    pub memory: Memory,
+    pub saved: Saved,
 }
 
 impl Memory {
@@ -31,6 +38,9 @@ impl Memory {
     ghost use Rattle.of_memory.specs.Memories.{TakesNone};
     ghost use Rattle.of_memory.specs.Memories.{IsOpenCause, IsEnrolCause};
     ghost use Rattle.of_memory.specs.Telling.{KnowsOrdersOf, HearsMemory};
+    ghost use Rattle.of_memory.specs.Saving.{saved_seq};
+    ghost use Rattle.of_memory.specs.Sequences.{seq_known_to, seq_known_in, left_of_memory};
+    ghost use Rattle.of_memory.specs.Renewing.{GoesOnFromSaved, LeavesRenumbered, IsRenumberCause};
 
     /// An empty memory: 1 to 64 callers, and room for at most `MOST_BLOCKS` keys and queued
     /// items, 16,777,216. With room for more than 512 it runs no instruction on keys in their
@@ -45,6 +55,7 @@ impl Memory {
         ensures none { IfOk result (λ m. (n : ℕ) → n < callers → HasMadeOf m n []) }
         ensures cause { IfErr result (IsOpenCause callers blocks limit) }
         ensures idle { IfOk result HasNoneOpen }
+        ensures seq { IfOk result (λ m. seq_known_in m ≡ 0) }
     {
         if callers == 0 || callers > MOST_CALLERS {
             return Err(OpenError::Callers { callers });
@@ -71,6 +82,7 @@ impl Memory {
         ensures none { IfOk result (λ m.
             (n : ℕ) → n < saved_callers saved.now → HasMadeOf m n []) }
         ensures idle { IfOk result HasNoneOpen }
+        ensures seq { IfOk result (λ m. seq_known_in m ≡ saved_seq saved.now) }
     {
         let cells = CellMemory::reopen(alloc, &saved.cells)?;
         Ok(Memory { alloc, cells })
@@ -88,6 +100,14 @@ impl Memory {
         ensures { result ≡ limit_of self.now }
     {
         self.cells.limit()
+    }
+
+    /// How many sequences are left at most: those after the last one that is known of handles that
+    /// have left, or with which the memory was opened. Others may have taken some since.
+    pub fn sequences_left(&self) -> u32
+        ensures { result ≡ left_of_memory self.now }
+    {
+        self.cells.sequences_left()
     }
 
     // The scripts that it runs.
@@ -119,6 +139,8 @@ impl Memory {
         ensures others_order { OthersKnowOrder number self.old self.new }
         ensures heard { IfOk result (HearsMemory self.old) }
         ensures remembers { RemembersAll self.old self.new }
+        ensures seq { IfOk result (λ h. seq_known_to h ≡ seq_known_in self.old) }
+        ensures same_seq { seq_known_in self.new ≡ seq_known_in self.old }
     {
         let cells = self.cells.enrol(number)?;
         Ok(Handle { cells })
@@ -144,6 +166,29 @@ impl Memory {
                 alloc,
                 cells: again.0,
             })),
+        }
+    }
+
+    /// Closes the memory, and opens one that goes on from what it has left, with sequences that
+    /// begin anew. What it has left is handed out too, with each caller's last ticket and reply. If
+    /// a handle is out, and only then, the memory is handed back; if there is no memory for the new
+    /// table, what is saved is.
+    pub fn renumbered(self) -> Result<Renumbered, RenumberError>
+        requires { IsMemory self }
+        ensures memory { IfOk result (λ r. IsMemory r.memory) }
+        ensures goes_on { IfOk result (λ r. GoesOnFromSaved r.saved r.memory) }
+        ensures saved { IfOk result (λ r. LeavesRenumbered self r.saved) }
+        ensures anew { IfOk result (λ r. seq_known_in r.memory ≡ 0) }
+        ensures cause { IfErr result (IsRenumberCause self) }
+    {
+        let alloc = self.alloc;
+        let saved = match self.close() {
+            Ok(saved) => saved.renumbered(),
+            Err(InUse(memory)) => return Err(RenumberError::InUse(memory)),
+        };
+        match Memory::reopen(alloc, &saved) {
+            Ok(memory) => Ok(Renumbered { memory, saved }),
+            Err(_) => Err(RenumberError::OutOfMemory(saved)),
         }
     }
 }

@@ -20,6 +20,7 @@ impl Saved {
     ghost use Rattle.of_memory.specs.Saving.{IsSaved, SavedHolds, HoldsReply, saved_callers};
     ghost use Rattle.of_memory.specs.Saving.{saved_limit, saved_seq, saved_ticket, saved_scripts};
     ghost use Rattle.of_memory.specs.Texts.{SavesSame, IsNoLimitOf};
+    ghost use Rattle.of_memory.specs.Sequences.{left_of_saved};
 
     /// How many callers it has.
     pub fn callers(&self) -> u32
@@ -43,6 +44,14 @@ impl Saved {
         self.cells.seq()
     }
 
+    /// How many sequences are left for a memory that goes on from it.
+    pub fn sequences_left(&self) -> u32
+        requires { IsSaved self.now }
+        ensures { result ≡ left_of_saved self.now }
+    {
+        self.cells.sequences_left()
+    }
+
     // The scripts whose store it holds.
     pub(crate) fn scripts(&self) -> Scripts
         ensures { result ≡ saved_scripts self.now }
@@ -63,7 +72,7 @@ impl Saved {
         }
     }
 
-    /// How many calls of a caller it holds: the number of its last one, whoever finished it.
+    /// How many calls of a caller it holds: the number of its last one, also if another caller finished it.
     pub fn ticket(&self, number: u32) -> u32
         requires saved { IsSaved self.now }
         requires number { number < saved_callers self.now }

@@ -25,6 +25,8 @@ returns-in-Ok-clause-enrolled c done = record {
   others_order = c.enrol.ensures.others_order;
   heard = c.in-Ok.ensures.heard;
   remembers = c.enrol.ensures.remembers;
+  seq = c.in-Ok.ensures.seq;
+  same_seq = c.enrol.ensures.same_seq;
 }
 
 pub returns-in-Err-OutOfMemory-clause-kept : goal.returns-in-Err-OutOfMemory-clause-kept

@@ -27,4 +27,5 @@ returns-clause-left c done = record {
   others_order = c.leave.ensures.others_order;
   heard = c.leave.ensures.heard;
   remembers = c.leave.ensures.remembers;
+  seq = c.leave.ensures.seq;
 }

@@ -16,4 +16,5 @@ returns-in-Ok-clause-reopened c done = record {
   tickets = c.in-Ok.ensures.tickets;
   none = c.in-Ok.ensures.none;
   idle = c.in-Ok.ensures.idle;
+  seq = c.in-Ok.ensures.seq;
 }

@@ -89,7 +89,7 @@ returns-in-Some-clause-order g c n x k y h =
 
 pub returns-in-Some-clause-heard : goal.returns-in-Some-clause-heard
 returns-in-Some-clause-heard g c =
-    hears_memory g.W.Work.meaning c.args.self.now (record { front = []; row = c.in-Ok.row; number = c.args.number; caller = c.exchange.new.caller; behind = [] }) c.in-Ok.ensures c.exchange.ensures.heard
+    hears_memory g.W.Work.meaning c.args.self.now (record { front = []; row = c.in-Ok.row; number = c.args.number; seq = c.args.self.now.seq; caller = c.exchange.new.caller; behind = [] }) c.in-Ok.ensures c.exchange.ensures.heard
 
 pub returns-in-Some-clause-remembers : goal.returns-in-Some-clause-remembers
 returns-in-Some-clause-remembers g c =
