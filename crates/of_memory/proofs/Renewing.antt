@@ -1,5 +1,5 @@
 -- What is saved with the same store, tickets and replies: the same histories lead to it.
-use Rattle.std.proofs.Common.{◌≡◌, ℕ, List, sym, subst, ◌∙◌}
+use Rattle.std.proofs.Common.{◌≡◌, ℕ, inl, inr, List, sym, subst, ◌∙◌}
 use Rattle.of_memory.specs.declared.memory.Memory.{Memory}
 use Rattle.of_memory.specs.declared.saved.Saved.{Saved}
 use Rattle.of_memory.specs.History.{IsUpTo, HistoryEntry}
@@ -12,7 +12,7 @@ module _ (m : Memory) (d e : Saved) (same : SavesSame d e) where
   last_same : (h : List HistoryEntry) (n : ℕ) → TellsLastOf m d h n → TellsLastOf m e h n
   last_same h n (inl none) = inl (same.tickets n ∙ none)
   last_same h n (inr one) =
-      inr (one.0, one.1.0, one.1.1.0, one.1.1.1.0 ∙ sym (same.tickets n), same.replies n one.0.reply one.1.1.1.1)
+      inr (one.0, one.1, one.2, one.3 ∙ sym (same.tickets n), same.replies n one.0.reply one.4)
 
   pub history_same : HasHistory m d → HasHistory m e
   history_same has s starts =

@@ -7,20 +7,20 @@ use Rattle.of_cells.proofs.handle.CellHandle.resume.Goals as goal
 
 pub returns-clause-handle : goal.returns-clause-handle
 returns-clause-handle g c =
-    subst (λ r. KeepsServing g.W.Work.meaning r c.args.self.now.caller c.go_on_with.new.caller) c.deref.ensures c.go_on_with.ensures.serves c.args.self.now.number c.requires
+    subst (λ r. KeepsServing g.W.Work.meaning r c.args.self.now.caller c.go_on_with-result.new.caller) c.deref.ensures c.go_on_with-result.ensures.serves c.args.self.now.number c.requires
 
 pub returns-clause-unmade : goal.returns-clause-unmade
-returns-clause-unmade g c = was_made c.args.self.now _ c.go_on_with.result c.go_on_with.ensures.tried
+returns-clause-unmade g c = was_made c.args.self.now _ c.go_on_with-result.result c.go_on_with-result.ensures.tried
 
 pub returns-clause-knows : goal.returns-clause-knows
-returns-clause-knows g c = let h = c.args.self.now in keeps_known g.W.Work.meaning h (record h { caller = c.go_on_with.new.caller }) refl c.go_on_with.ensures.more
+returns-clause-knows g c = let h = c.args.self.now in keeps_known g.W.Work.meaning h (record h { seq = c.seq_after-self.result; caller = c.go_on_with-result.new.caller }) refl c.go_on_with-result.ensures.more
 
 pub returns-clause-behind : goal.returns-clause-behind
 returns-clause-behind g c none =
     let h = c.args.self.now in
-    begins_after g.W.Work.meaning c.go_on_with.result h (record h { caller = c.go_on_with.new.caller }) refl c.go_on_with.ensures.more c.requires.number (c.go_on_with.ensures.next c.requires.started none)
+    begins_after g.W.Work.meaning c.go_on_with-result.result h (record h { seq = c.seq_after-self.result; caller = c.go_on_with-result.new.caller }) refl c.go_on_with-result.ensures.more c.requires.number (c.go_on_with-result.ensures.next c.requires.started none)
 
 pub returns-clause-touched : goal.returns-clause-touched
 returns-clause-touched g c is_open =
     let m = caller_call c.args.self.now.caller in
-    subst (λ r. RisesByTouch g.W.Work.meaning g.W.Work.lawful r m.op m.steps (steps_made_by c.args.self.now.caller) (steps_made_by c.go_on_with.new.caller)) c.deref.ensures c.go_on_with.ensures.touched
+    subst (λ r. RisesByTouch g.W.Work.meaning g.W.Work.lawful r m.op m.steps (steps_made_by c.args.self.now.caller) (steps_made_by c.go_on_with-result.new.caller)) c.deref.ensures c.go_on_with-result.ensures.touched
