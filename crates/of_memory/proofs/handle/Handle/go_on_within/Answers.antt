@@ -1,4 +1,4 @@
-use Rattle.std.proofs.Common.{Ok, Err}
+use Rattle.std.proofs.Common.{Ok, Err, sym, ◌∙◌}
 use Rattle.of_memory.proofs.Called.{resumed, answered, failed, stays_open}
 use Rattle.of_memory.proofs.Replaying.{holds_some}
 use Rattle.of_memory.proofs.handle.Handle.go_on_within.Goals as goal
@@ -25,3 +25,6 @@ returns-in-Err-clause-made c script ms opened made =
 pub returns-in-Err-clause-open_call : goal.returns-in-Err-clause-open_call
 returns-in-Err-clause-open_call c script opened =
     stays_open _ _ script opened.is opened.opened.1 c.in-Err.error c.in-Err.ensures.open_call
+
+pub returns-in-Ok-clause-seq : goal.returns-in-Ok-clause-seq
+returns-in-Ok-clause-seq c = c.in-Ok.ensures.seq ∙ sym c.typed.ensures.seq

@@ -1,4 +1,4 @@
-use Rattle.std.proofs.Common.{Ok, Err}
+use Rattle.std.proofs.Common.{Ok, Err, sym, ◌∙◌}
 use Rattle.of_memory.proofs.Called.{begun, answered, failed, opens_only, stays_open, words_are}
 use Rattle.of_memory.proofs.Replaying.{holds_some}
 use Rattle.of_memory.proofs.handle.Handle.run_within.Goals as goal
@@ -42,3 +42,6 @@ pub returns-in-Err-clause-only : goal.returns-in-Err-clause-only
 returns-in-Err-clause-only c =
     let words = words_are c.args.script.now c.len-len.result c.len-len.ensures.len c.to_words.new.out _ c.to_words.ensures.words in
     opens_only c.args.self.now _ _ c.args.script.now c.len-len.ensures.fits words c.run_within.ensures.only
+
+pub returns-in-Ok-clause-seq : goal.returns-in-Ok-clause-seq
+returns-in-Ok-clause-seq c = c.in-Ok.ensures.seq ∙ sym c.typed.ensures.seq
