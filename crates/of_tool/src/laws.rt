@@ -9,7 +9,8 @@ ghost use Rattle.of_plan.specs.Plan.{data_cells};
 ghost use Rattle.of_tool.specs.HelpText.{help_text};
 ghost use Rattle.of_tool.specs.declared.command.TheConstants.{MOST_EVENTS, MOST_FIRST};
 ghost use Rattle.of_tool.specs.PlayedImage.{ShowsEachPlay};
-ghost use Rattle.of_tool.specs.Statuses.{OneError, OneStatus};
+ghost use Rattle.of_tool.specs.Ran.{IsPlayedToo};
+ghost use Rattle.of_tool.specs.Statuses.{DoneIsMade, FoundIsWrong, OneError, OneStatus, ValidIsDone};
 
 use crate::command::{HELP, VERSION};
 use crate::commands::{MOST_IMAGE, MOST_INPUT, MOST_WITH_REPORT};
@@ -17,7 +18,7 @@ use crate::status::{
     BAD_IMAGE, BAD_PLAN, DOES_NOT_FIT, DONE, ILLEGAL, OUT_OF_MEMORY, READ_FAULT, TOO_LONG, USAGE,
     WRITE_FAULT,
 };
-use of_caller::laws::plan_keeps_laws;
+use of_caller::laws::{plan_keeps_laws, reports_respect_time, runs_are_lawful};
 use of_core::laws::starts;
 use of_eval::Scripts;
 use of_image::laws::{one_image, records_have_images, unlawful_have_none};
@@ -79,6 +80,27 @@ pub fn one_status()
     one_plan();
     one_image();
     unlawful_have_none();
+}
+
+/// What each answer says of the command: with status 0 what it has made, with 8 and 9 what is wrong
+/// with its input, and that a valid input is answered.
+pub fn answers_are_true()
+    ensures done { DoneIsMade }
+    ensures judged { FoundIsWrong }
+    ensures complete { ValidIsDone }
+{
+    one_cut();
+    unlawful_have_none();
+}
+
+/// The report of a real run is one that `play` makes of the plan, with the turns and evictions of
+/// the run for its schedule.
+pub fn runs_are_played(plan: &Plan)
+    ensures { IsPlayedToo plan.now }
+{
+    plan_keeps_laws(plan);
+    runs_are_lawful();
+    reports_respect_time(plan);
 }
 
 /// The text that `image` prints of a plan is the image of each report that `play` prints of it, and
