@@ -18,7 +18,7 @@ use Rattle.of_report.specs.LoadText.{load_text}
 use Rattle.of_row.specs.Views.{View}
 use Rattle.of_tool.specs.Seen.{Change, StepsLeft, Seen, RecordHolds, IsWritten, view_of}
 use Rattle.of_tool.specs.Makes.{Makes}
-use Rattle.of_tool.specs.Statuses.{HasDone, AnswersWords}
+use Rattle.of_tool.specs.Statuses.{IsAnsweredAndWritten, AnswersWords, Told, HasDone}
 use Rattle.of_tool.specs.Headline.{RunsPlan, LoadsPlan, ContinuesImage, LeavesTable, AllDone, IsWholeLoad, IsTopCall}
 use Rattle.of_tool.specs.Answer.{HoldsRun, HoldsLoad, HoldsLife, MakesWith, Carries}
 use Rattle.of_tool.proofs.CommandLemmas.{same_command}
@@ -140,18 +140,18 @@ module _ (seen : Seen) where
     table_told Continue h = record_weaker seen.ran (λ e v k. record { continues = continues_image text e v k w; table = k.writes.life.table }) h
     table_told c h = h.1
 
-    -- an answer that was written
-    pub written : Carries seen.brakes seen.words seen.source seen.status text seen.ran → AnswersWords seen seen.status → IsTopCall seen
-    written h answered =
-        let table : (c : Command) → HasDone seen c → LeavesTable c seen = λ c is. table_told c (h.made c is.asked is.done) in
-        record {
-          run = λ is. record_weaker seen.ran (λ e v k. k.runs) (table Run is);
-          load = λ n m is. record_weaker seen.ran (λ e v k. k.loads) (table (Load n m) is);
-          continued = λ is. record_weaker seen.ran (λ e v k. k.continues) (table Continue is);
-          table = table;
-          no_record = h.none;
-          answered = answered;
-        }
+  -- an answer that was written
+  pub written : (a : IsAnsweredAndWritten seen seen.status) → Carries seen.brakes seen.words seen.source seen.status a.text seen.ran → IsTopCall seen
+  written a h =
+      let table : (c : Command) → HasDone seen c → LeavesTable c seen = λ c is. table_told a.text a.written c (h.made c is.asked is.done) in
+      record {
+        run = λ is. record_weaker seen.ran (λ e v k. k.runs) (table Run is);
+        load = λ n m is. record_weaker seen.ran (λ e v k. k.loads) (table (Load n m) is);
+        continued = λ is. record_weaker seen.ran (λ e v k. k.continues) (table Continue is);
+        table = table;
+        no_record = h.none;
+        answered = Told a;
+      }
 
   -- none was
   pub unwritten : (seen.status ≡ DONE → ⊥) → seen.ran ≡ None → AnswersWords seen seen.status → IsTopCall seen

@@ -90,5 +90,5 @@ judged_to c source status text (Refused refusal) input reads =
 
 pub found_is_wrong : FoundIsWrong
 found_is_wrong seen c (Told a) is = judged_to c seen.source seen.status a.text (answer_to seen.words c seen.source seen.status a.text is a.answer)
-found_is_wrong seen c (WriteFault a) is input reads = ((λ e. absurd (omega (arith, a.is, e))), (λ e. absurd (omega (arith, a.is, e))))
-found_is_wrong seen c (OutOfMemory a) is input reads = ((λ e. absurd (omega (arith, a.is, e))), (λ e. absurd (omega (arith, a.is, e))))
+found_is_wrong seen c (WriteFault a) is = λ input reads. ((λ e. absurd (omega (arith, a.is, e))), (λ e. absurd (omega (arith, a.is, e))))
+found_is_wrong seen c (OutOfMemory a) is = λ input reads. ((λ e. absurd (omega (arith, a.is, e))), (λ e. absurd (omega (arith, a.is, e))))
