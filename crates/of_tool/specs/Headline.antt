@@ -87,7 +87,7 @@ pub record ContinuesImage (seen : Seen) (e : Ended) : Type 0 where
   pub prints : PrintsLife seen image plan course e report
   pub real : IsRealLife image plan course e report
 
--- ---- the table and the pass, for whoever goes on with what a run has left
+-- ---- the table and the pass, for a program that goes on with what a run has left
 
 -- the same of `run`, and what its table and its pass have
 pub record RunsOnTable (seen : Seen) (e : Ended) (w : View) : Type 0 where

@@ -40,7 +40,7 @@ bytes_change bytes faults old new = record {
   faults_after = faults new;
 }
 
--- the source was read to its end without a fault, and these were the bytes, no more than so many
+-- the source was read to its end without a fault, and these were the bytes, at most `most`
 pub record ReadsAll (most : ℕ) (source : Change) (bytes : List ℕ) : Type 0 where
   pub taken : Consumes source.before source.after bytes
   pub ended : IsAtEnd source.after

@@ -51,7 +51,7 @@ pub data AnswersWords (seen : Seen) (status : ℕ) : Type 0 where
   WriteFault : IsWriteFault seen status → AnswersWords seen status
   OutOfMemory : IsOutOfMemory seen status → AnswersWords seen status
 
--- from one call two causes have one status
+-- what a call was given and did is the cause of one status only
 abbrev pub OneStatus : Type 0
 OneStatus =
     (seen : Seen) (status other : ℕ) → IsFresh seen

@@ -147,8 +147,8 @@ fn load_text<R: Threads + Sync>(
     requires load { IsLoad callers scripts }
     requires brakes { vec_len brakes ≡ 16 }
     ensures { (source : Change) → IfOk result
-        (λ made. MakesWith (map (λ b. left b) brakes.items) (Load callers scripts) source made.0.items
-        made.1) }
+        (λ made. MakesWith (map (λ b. left b) brakes.items) (Load callers scripts) source
+        made.0.items made.1) }
 {
     let plan = generate(alloc, callers, scripts)?;
     let (report, ran) = run_report(rt, alloc, &plan, brakes)?;
@@ -243,7 +243,7 @@ fn output_for<R: Threads + Sync, S: Source>(
 /// Does what the words say with the source's bytes, and answers the exit status. `run`, `load` and
 /// `continue` run callers at once, that of number i with the brake at place i; what such a run has
 /// left is put into `ran`, and why the words or the input are refused into `reason`.
-pub fn tool_with_reason<R: Threads + Sync, S: Source, K: Sink>(
+pub fn tool<R: Threads + Sync, S: Source, K: Sink>(
     rt: &R,
     alloc: Global,
     words: &[String],
@@ -255,7 +255,8 @@ pub fn tool_with_reason<R: Threads + Sync, S: Source, K: Sink>(
 ) -> u8
     requires brakes { vec_len brakes ≡ 16 }
     requires none { ran.old ≡ None }
-    // All that is proved of what the call was given, what it did and what it answered.
+    // THE HEADLINE, and all else that is proved of what the call was given, what it did and what it
+    // answered.
     ensures answers { IsTopCall (record {
       words = word_bytes words.now;
       brakes = map (λ b. left b) brakes.items;
@@ -280,37 +281,4 @@ pub fn tool_with_reason<R: Threads + Sync, S: Source, K: Sink>(
             Err(_) => status::WRITE_FAULT,
         },
     }
-}
-
-/// Does what the words say with the source's bytes, and answers the exit status. `run`, `load` and
-/// `continue` run callers at once, that of number i with the brake at place i; what such a run has
-/// left is put into `ran`.
-pub fn tool<R: Threads + Sync, S: Source, K: Sink>(
-    rt: &R,
-    alloc: Global,
-    words: &[String],
-    source: &mut S,
-    sink: &mut K,
-    brakes: Vec<Box<dyn Brake + Send>>,
-    ran: &mut TeamRecord,
-) -> u8
-    requires brakes { vec_len brakes ≡ 16 }
-    requires none { ran.old ≡ None }
-    // THE HEADLINE, and all else that is proved of what the call was given, what it did and what it
-    // answered.
-    ensures answers { IsTopCall (record {
-      words = word_bytes words.now;
-      brakes = map (λ b. left b) brakes.items;
-      source = bytes_change S.remaining S.faults source.old source.new;
-      sink = bytes_change K.written K.faults sink.old sink.new;
-      was_finished = K.finished sink.old;
-      finished = K.finished sink.new;
-      status = result;
-      ran = ran.new;
-    }) }
-    // Only a command that reads a plan, a report or an image reads.
-    ensures unread { ¬ (AskForInput (word_bytes words.now)) → source.new ≡ source.old }
-{
-    let mut reason = Vec::new(alloc);
-    tool_with_reason(rt, alloc, words, source, sink, brakes, ran, &mut reason)
 }

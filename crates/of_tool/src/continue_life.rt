@@ -23,7 +23,7 @@ use of_row::Pass;
 use std::alloc::{AllocError, Global};
 use std::thread::Threads;
 
-/// Goes on from an image by a plan that fits it. The text is the life's report, and behind it the
+/// Goes on from an image by a plan that fits it. The text is the life's report, and after it the
 /// image of the durable words that it leaves; the record and the pass are handed out with it.
 fn run_life<R: Threads + Sync>(
     rt: &R,

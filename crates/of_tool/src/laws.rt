@@ -67,11 +67,11 @@ pub fn help_and_version()
     ensures help { HELP.now ≡ help_text }
 {}
 
-/// From what a call saw of its source and its sink, two causes have one status. So the clause
-/// `answered` of `tool` is exact both ways: a status is answered only if its cause is there, and if
-/// the cause of a status is there, that status is answered. The source must tell its bytes, the
-/// counts of faults must be able to rise, and the sink must not be finished before the call. An
-/// error has one text besides, with one line or cell.
+/// What a call was given and did is the cause of one status only, and an error has one text, with
+/// one line or cell. So what `tool` answers (`answered`) is exact both ways: a status is answered
+/// only for its cause, and if the cause of a status is there, that status is answered. This holds
+/// if the source shows its bytes, the counts of faults can still rise, and the sink was not
+/// finished before the call.
 pub fn one_status()
     ensures status { OneStatus }
     ensures text { OneError }
@@ -82,8 +82,9 @@ pub fn one_status()
     unlawful_have_none();
 }
 
-/// What each answer says of the command: with status 0 what it has made, with 8 and 9 what is wrong
-/// with its input, and that a valid input is answered.
+/// What the status of a command says: with 0 it has written what it makes of its whole input, with 8
+/// or 9 its input is wrong. If the input is valid and no read or write fails, the command is done,
+/// or memory runs out, or what `check`, `continue` and `check-life` judge is found wrong.
 pub fn answers_are_true()
     ensures done { DoneIsMade }
     ensures judged { FoundIsWrong }
@@ -93,8 +94,8 @@ pub fn answers_are_true()
     unlawful_have_none();
 }
 
-/// The report of a real run is one that `play` makes of the plan, with the turns and evictions of
-/// the run for its schedule.
+/// The report of a real run of a plan's callers is one that `play` makes of the same plan, if its
+/// schedule is the turns and evictions of that run.
 pub fn runs_are_played(plan: &Plan)
     ensures { IsPlayedToo plan.now }
 {
@@ -104,7 +105,7 @@ pub fn runs_are_played(plan: &Plan)
 }
 
 /// The text that `image` prints of a plan is the image of each report that `play` prints of it, and
-/// it starts where that report ends, each caller behind its last announced entry.
+/// it starts where that report ends, each caller after its last announced entry.
 pub fn images_show_plays(plan: &Plan)
     ensures { ShowsEachPlay plan.now }
 {

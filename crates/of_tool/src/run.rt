@@ -24,8 +24,8 @@ pub fn run_report<R: Threads + Sync>(
     brakes: Vec<Box<dyn Brake + Send>>,
 ) -> Result<(Report, (Ended, Pass)), AllocError>
     requires { plan.now.callers ≤ vec_len brakes }
-    ensures { IfOk result (λ r. IsRunReport (map (λ b. left b) brakes.items) plan.now (report_value r.0)
-        r.1.0 (view_of r.1.1)) }
+    ensures { IfOk result (λ r. IsRunReport (map (λ b. left b) brakes.items) plan.now
+        (report_value r.0) r.1.0 (view_of r.1.1)) }
 {
     plan_keeps_laws(plan);
     runs_are_lawful();
