@@ -104,8 +104,8 @@ pub fn runs_are_played(plan: &Plan)
     reports_respect_time(plan);
 }
 
-/// The text that `image` prints of a plan is the image of each report that `play` prints of it, and
-/// it starts where that report ends, each caller after its last announced entry.
+/// The image that `image` prints of a plan is that of each report that `play` prints of the plan:
+/// it has the report's sequence and store, and each caller goes on after its last announced entry.
 pub fn images_show_plays(plan: &Plan)
     ensures { ShowsEachPlay plan.now }
 {
