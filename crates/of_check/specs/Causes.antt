@@ -1,5 +1,6 @@
--- What a cause says of a text that is no legal report of a plan from a start: the first line that
--- breaks a rule, and which. Above it the text is that of the report that its claims make.
+-- What a cause says of a text that is no legal report of a plan from a start: which line is the
+-- first that breaks a rule, and which rule. Above this line the text is that of the report that its
+-- claims make.
 use Rattle.std.specs.Prelude.{◌≡◌, ◌≢◌, ℕ, ◌+◌, ◌≤◌, ◌<◌, ◌⊎◌, List, length, take, false, All, IsTrue, MatchOption, slice_index_or}
 use Rattle.std.specs.declared.vec.Vec.{Vec}
 use Rattle.std.specs.Global.{Global}

@@ -1,5 +1,5 @@
--- What entries and the lines of callers say beyond the plan, and how it is read from a text: the
--- entries from its second line on, as long as lines can be read as entries, and then the callers.
+-- What entries and the lines of callers claim, and how claims are read from a text: entries from
+-- its second line on, as long as lines can be read as entries, and then the lines of callers.
 use Rattle.std.specs.Prelude.{◌≡◌, ℕ, ◌+◌, Bool, true, false, List, [], ◌∷◌, length, drop, if◌then◌else◌, codes, Option, Some, None}
 use denote.Ref.{Bor}
 use Rattle.std.specs.Str.{bytes_eq}

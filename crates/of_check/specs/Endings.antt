@@ -21,7 +21,7 @@ claimed_line entries e = record {
 abbrev pub left_of : Plan → (done : List ℕ) → ℕ → ℕ
 left_of p done c = length (scripts_of p c) - slice_index done c
 
--- a caller that had this many scripts to do may have this line, if the last sequence is `seq`
+-- the line is possible for a caller that had this many scripts to do, if the last sequence is `seq`
 pub record IsEnding (p : Plan) (scripts seq : ℕ) (l : Line) : Type 0 where
   pub open_call : HasOpenCall l.state l.answered l.entries
   pub ended : HasEndState l.state l.answered scripts seq p.limit

@@ -1,5 +1,5 @@
--- What a line of a text is, beside the line of a report that has to be there instead. It is another
--- line; what is said of it is true of these two.
+-- What is wrong with a line that was found in a text where a report must have another, the wanted
+-- one.
 use Rattle.std.specs.Prelude.{◌≡◌, ◌≢◌, ℕ, ◌≤◌, ◌<◌, ◌⊎◌, List, [], length, take, ◌==◌, codes, slice_index_or}
 use Rattle.std.specs.List.{slice_split}
 use Rattle.of_check.specs.declared.line_rule.LineRule.{LineRule}
@@ -47,8 +47,8 @@ pub record IsOtherIn (kind : List ℕ) (before : ℕ) (found wanted : List ℕ) 
 abbrev pub HasMorePieces : List ℕ → Type 0
 HasMorePieces line = 1 < length (line_pieces line)
 
--- What a reason says of a line that was found in place of the wanted one; `Spelling` says nothing.
--- The reply of an entry is its sixth piece and those after it.
+-- What a reason other than `Spelling` says of a line that was found in place of the wanted one. The
+-- reply of an entry is its sixth piece and those after it.
 abbrev pub SaysOfLine : LineRule → (found wanted : List ℕ) → Type 0
 SaysOfLine AfterEnd found wanted = wanted ≡ []
 SaysOfLine Store found wanted =

@@ -25,8 +25,8 @@ pub enum EndRule {
     Missing,
     /// The caller has more entries than answered calls, or fewer, and no open call explains it.
     Answered,
-    /// The caller may not end so: done with scripts left, stopped or spent with none left, or spent
-    /// below the limit.
+    /// The caller cannot end like this: done with scripts left, stopped or spent with none left, or
+    /// spent below the limit.
     Ending,
     /// The longest call has more steps than a call can have, or it has some though no call was
     /// answered.

@@ -1,4 +1,4 @@
-//! What is wrong with a line of a report that is another than the one that has to be there.
+//! What is wrong with a line of a text where a report must have another, the wanted one.
 
 ghost use Rattle.std.specs.Prelude.{◌≡◌, ◌≤◌, ◌↔◌, ℕ, length, IsTrue, MatchOption};
 ghost use Rattle.of_check.specs.LineRules.{line_pieces, piece_at, IsPiece, SharePieces, HasOtherPiece, IsStoreName, IsOtherIn, HasMorePieces, SaysOfLine, IsTrueOfLine};

@@ -1,4 +1,4 @@
--- What a fault of a text is that has no image.
+-- What a fault says of a text that has no image.
 use Rattle.std.specs.Prelude.{ℕ, List}
 use Rattle.of_report.specs.ImageRow.{DurableRow, recovered_row}
 use Rattle.of_report.specs.Image.{Image}

@@ -1,4 +1,4 @@
--- What a call that reads a line of an image, or a part of it, has answered.
+-- What the calls that read a line of an image, or a part of a line, promise of their answers.
 use Rattle.std.specs.Prelude.{◌≡◌, ℕ, ◌≤◌, List, Result, MatchResult}
 use Rattle.of_script.specs.Text.{text_words}
 use Rattle.of_plan.specs.declared.flaw.Flaw.TheVariants.{WordTooMany}

@@ -1,4 +1,4 @@
--- What is said of a text that is answered with no image, and what is printed of its fault.
+-- What is printed of a text that has no image, and of its fault.
 use Rattle.std.specs.Prelude.{ℕ, ◌-◌, List, ◌++◌, codes, decimal}
 use Rattle.of_image.specs.declared.error.ImageErr.{ImageErr}
 use Rattle.of_image.specs.declared.error.ImageErr.TheVariants.{Memory, Bad, Unlawful}

@@ -1,4 +1,4 @@
--- The reasons in words.
+-- The text that is printed of each reason.
 use Rattle.std.specs.Prelude.{ℕ, List, ◌++◌, codes, decimal}
 use Rattle.of_plan.specs.FlawText.{flaw_text}
 use Rattle.of_image.specs.declared.reason.Reason.{Reason}

@@ -1,4 +1,4 @@
-//! Images of durable words that stand in no text.
+//! Images of durable words that come from no text.
 
 ghost use Rattle.std.specs.Prelude.{◌≡◌, IfOk, IfErr, MatchResult};
 ghost use Rattle.of_mem.specs.declared.work.TheConstants.{MOST_INSTRS};

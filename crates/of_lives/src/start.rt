@@ -49,7 +49,7 @@ pub fn last_reply(image: &Image, caller: u32) -> Option<(u32, Reply)>
     ensures none { IsNone result ↔ (image_ticket image.now caller ≡ 0) }
     ensures ticket { IfSome result (λ r. r.0 ≡ image_ticket image.now caller) }
     ensures reply { IfSome result (λ r. CallerHoldsReply image.now caller r.1) }
-    // No other reply is held.
+    // The caller's own cells hold no other reply.
     ensures only { (r : TheReply) → CallerHoldsReply image.now caller r
         → IfSome result (λ given. given.1 ≡ r) }
 {

@@ -1,4 +1,4 @@
--- What a call that reads a part of a line has answered.
+-- What the calls that read a part of a line promise of their answers.
 use Rattle.std.specs.Prelude.{◌≡◌, ◌⊎◌, ℕ, List, [], ◌∷◌, ◌++◌, length, codes, MatchOption, Option, Some, None}
 use Rattle.of_script.specs.declared.instr.Instr.{Instr}
 use Rattle.of_script.specs.declared.instr.TheConstants.{MOST_INSTRS}

@@ -1,4 +1,4 @@
--- The flaws in words.
+-- The text that is printed of each flaw.
 use Rattle.std.specs.Prelude.{ℕ, List, ◌++◌, codes, decimal}
 use Rattle.of_plan.specs.declared.flaw.Flaw.{Flaw}
 use Rattle.of_plan.specs.declared.flaw.Flaw.TheVariants.{ByteOrderMark, CarriageReturn, Tab, NumberMissing, NoNumber, TooGreat, Zero, WordTooMany}

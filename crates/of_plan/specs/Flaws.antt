@@ -8,7 +8,7 @@ use Rattle.of_plan.specs.declared.flaw.Flaw.{Flaw}
 use Rattle.of_plan.specs.declared.flaw.Flaw.TheVariants.{ByteOrderMark, CarriageReturn, Tab, NumberMissing, NoNumber, TooGreat, Zero, WordTooMany}
 use Rattle.of_plan.specs.Numerals.{IsNumeral}
 
--- the piece is the number `n` in digits
+-- the piece is the number `n` in digits, at most `GREATEST_CELL`
 abbrev pub PieceIsNumber : List ℕ → ℕ → Type 0
 PieceIsNumber piece n = parsed_number GREATEST_CELL piece ≡ Some n
 

@@ -1,4 +1,4 @@
--- What words are as numbers.
+-- Which words are numerals.
 use Rattle.std.specs.Prelude.{◌≡◌, ℕ, ◌<◌, List, length, slice_index, true}
 use Rattle.std.specs.Str.{all_ascii_digits}
 

@@ -52,7 +52,7 @@ stop_entries c [] = []
 stop_entries c (None ∷ others) = stop_entries (c + 1) others
 stop_entries c (Some x ∷ others) = Stop c x ∷ stop_entries (c + 1) others
 
--- the entry of an item of the schedule
+-- the entry of a plan's text for an item of the schedule
 abbrev pub item_entry : Item → BodyLine
 item_entry (TurnsItem c x) = Turns c x
 item_entry (EvictItem a) = Evict a

@@ -1,4 +1,4 @@
--- The reasons in words.
+-- The text that is printed of each reason.
 use Rattle.std.specs.Prelude.{ℕ, List, ◌++◌, codes, decimal}
 use Rattle.of_plan.specs.declared.reason.Reason.{Reason}
 use Rattle.of_plan.specs.declared.reason.Reason.TheVariants.{Flawed, TitleExpected, CallersExpected, BlocksExpected, AfterEnd, UnknownLine, UnknownInstruction, NoCaller, NoCell, InstructionMissing, TooManyInstructions, TooManyScripts, TooManyTurns, StopTwice, SecondStop, HeadingOver, EndMissing}

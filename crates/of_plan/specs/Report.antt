@@ -46,7 +46,7 @@ empty_start p = record { store = empty_store p.blocks; seq = 0; finished = repli
 abbrev pub entries_of : Report → ℕ → List Entry
 entries_of r c = filter (λ e. e.caller == c) r.entries
 
--- the line that stands for a caller that isn't there
+-- the line that `caller_line` gives for a caller that has none
 abbrev pub no_line : Line
 no_line = record { state = done; answered = 0; entries = 0; longest = 0 }
 

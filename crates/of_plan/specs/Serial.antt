@@ -1,5 +1,4 @@
--- The report of a plan whose scripts run one after the other: those of caller 0 first, then
--- those of caller 1, and so on, up to the limit.
+-- The report of a plan whose scripts run one after the other, caller by caller, up to the limit.
 use Rattle.std.specs.Prelude.{ℕ, true, List, [], length, map, flat_map, take, count_by, slice_index_or, if◌then◌else◌, ◌==◌}
 use Rattle.std.specs.List.{enumerate_from, range_with_len, zip}
 use Rattle.of_script.specs.declared.instr.Instr.{Instr}

@@ -1,5 +1,5 @@
--- What a step of the reading has done, as the contracts of the code say it: a call that was handed
--- an entry or a line says whether it took it.
+-- What the calls that take a line or an entry promise: whether they have taken it, and what the
+-- reading is then.
 use Rattle.std.specs.Prelude.{◌≡◌, Bool, None, if◌then◌else◌}
 use Rattle.of_plan.specs.declared.parser.line.BodyLine.{BodyLine}
 use Rattle.of_plan.specs.declared.parser.line.PlanLine.{PlanLine}

@@ -1,4 +1,4 @@
--- A worked legal report, and seven that are no legal ones, each one field away from it.
+-- A worked legal report, and seven reports that differ from it in one field and are not legal.
 use Rattle.std.specs.Prelude.{ℕ, ◌+◌, Bool, true, false, Option, Some, None, [], ◌∷◌}
 use Rattle.of_script.specs.declared.instr.Instr.TheVariants.{Load, Store as StoreInstr, Add}
 use Rattle.of_store.specs.Store.{Store, Answered, empty_store, with_register}
@@ -60,32 +60,32 @@ worked_report third fourth second seq store = record {
 abbrev pub legal_report : Report
 legal_report = worked_report adds_one loads_six both_done 1 holds_six
 
--- refused: a script comes a second time
+-- no legal report: a script comes a second time
 abbrev pub script_twice : Report
 script_twice = worked_report (worked_entry 1 1 0 true (Some 6)) loads_six both_done 1 holds_six
 
--- refused: a line counts one entry more than there are
+-- no legal report: a line counts one entry more than there are
 abbrev pub entry_too_many : Report
 entry_too_many = worked_report adds_one loads_six (record both_done { entries = 3 }) 1 holds_six
 
--- refused: no entry was announced at the last sequence
+-- no legal report: no entry was announced at the last sequence
 abbrev pub sequence_left_out : Report
 sequence_left_out = worked_report adds_one loads_six both_done 2 holds_six
 
--- refused: a read misses what was added before it
+-- no legal report: a read misses what was added before it
 abbrev pub stale_read : Report
 stale_read = worked_report adds_one (worked_entry 1 0 1 false (Some 5)) both_done 1 holds_six
 
--- refused: what was written isn't in the store
+-- no legal report: what was written isn't in the store
 abbrev pub writes_lost : Report
 writes_lost = worked_report adds_one loads_six both_done 1 (empty_store 0)
 
--- refused: a caller without a script left is stopped
+-- no legal report: a caller without a script left is stopped
 abbrev pub stopped_at_the_end : Report
 stopped_at_the_end =
     worked_report adds_one loads_six (record both_done { state = stopped }) 1 holds_six
 
--- refused: a call made one step more than the step bound
+-- no legal report: a call made one step more than the step bound
 abbrev pub step_too_many : Report
 step_too_many =
     worked_report adds_one loads_six

@@ -1,4 +1,4 @@
-//! The shape of a table by where its data cells stand.
+//! The shape of a table, from the plot of its data cells.
 
 ghost use Rattle.std.specs.Prelude.{◌≡◌};
 ghost use Rattle.of_mem.specs.Plots.{data_cell_count};

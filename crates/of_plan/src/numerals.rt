@@ -1,4 +1,4 @@
-//! What words are as numbers.
+//! Which words are numerals.
 
 ghost use Rattle.std.specs.Prelude.{◌↔◌, IsTrue};
 ghost use Rattle.of_plan.specs.Numerals as numerals;

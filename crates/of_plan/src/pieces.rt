@@ -1,5 +1,5 @@
-//! Pieces of a line at fault: a word that should be a number, a word too many, a byte that looks
-//! like nothing.
+//! Pieces of a line at fault: a word that should be a number, a word too many, a byte that cannot
+//! be seen in print.
 
 ghost use Rattle.std.specs.Prelude.{◌≡◌, ◌≤◌, ℕ, length, List, [], ◌∷◌, IfOk, IfSome, IfErr, MatchOption, None, Some};
 ghost use Rattle.of_script.specs.Text.{text_words, EndsWith};

@@ -1,4 +1,4 @@
--- How the code tells a step that commits, and writes its line.
+-- Which steps commit, as the code finds out, and the line that it writes of a commit.
 use Rattle.std.specs.Prelude.{ℕ, ◌==◌, ◌+◌, Bool, true, false, List, [], map}
 use Rattle.of_cell.specs.Words.{seq_of}
 use Rattle.of_core.specs.Machine.{Call}

@@ -1,5 +1,5 @@
--- The words of a plan's table by their names. What stands where is laid out in of_cell and of_mem;
--- here it is read backwards.
+-- The names of the words of a plan's table. of_cell and of_mem define the place of each word; here
+-- the name for each place is found.
 use Rattle.std.specs.Prelude.{◌≡◌, ℕ, ◌+◌, ◌-◌, ◌*◌, ◌/◌, ◌%◌, ◌<◌, ◌==◌, nat_lt, if◌then◌else◌}
 use Rattle.of_cell.specs.Cells.{log_room, request_cell, data_cell, log_cell, durable_cells, durable_place, script_place, announce_place, members_place, table_words}
 use Rattle.of_mem.specs.declared.work.TheConstants.{MOST_INSTRS}

@@ -1,5 +1,5 @@
--- The trace of a plan: a line for each event of its schedule, a turn or an eviction, of those that
--- are asked for; and the lines of its commits.
+-- The trace of a plan: a line for each event of its schedule that is asked for, a turn or an
+-- eviction; and the lines of its commits.
 use Rattle.std.specs.Prelude.{ℕ, ◌-◌, ◌+◌, List, [], ◌∷◌, ◌++◌, Bool, true, false, length, get_or, take, drop, flat_map, codes, decimal}
 use Rattle.of_plan.specs.Plan.{Plan}
 use Rattle.of_core.specs.Table.{durable_at, committed_seq}

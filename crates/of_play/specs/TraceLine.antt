@@ -28,8 +28,8 @@ head_text k s =
 abbrev pub means_part : Plan → Change → List ℕ
 means_part p c = word_part p.callers (plan_word p c.word) c.left
 
--- what is printed after the change: whom the step helps, what became of it, what the word that it
--- left means, and the reply of a call that has ended
+-- what is printed after the change: whom the step helps, what became of the step, what the word
+-- that was left means, and the reply of a call that has ended
 abbrev pub step_parts : Plan → TraceStep → List ℕ
 step_parts p s =
     helper_part s.helps ++ did_part s.op s.change.found ++ means_part p s.change

@@ -32,8 +32,8 @@ pub record CellsHoldStore (c : Cells) (s : Store) : Type 0 where
   pub not_called : (a : ℕ) → a < store_at c.scripts → memory_of numbers a ≡ 0
   pub stored : IsStored (store_at c.scripts) c.scripts.blocks (memory_of numbers) s
 
--- the script has led the cells from the store that they held to the one that it makes of it, with
--- this reply
+-- the cells held a store before, and hold now what the script makes of that store; the reply is
+-- that of the script
 abbrev pub RunsScript : List Instr → (before now : Cells) → RustReply → Type 0
 RunsScript script before now reply =
     (s : Store) → CellsHoldStore before s
