@@ -70,24 +70,24 @@ abbrev pub HasNoPlan : List ℕ → Refusal → Type 0
 HasNoPlan text (BadPlan line) = HasBadLine IsPlanText text line
 HasNoPlan text why = ⊥
 
--- the refusal says why the text has no image of this version
+-- the refusal says why the text is no image of this version
 abbrev pub HasNoImage : Edition → List ℕ → Refusal → Type 0
 HasNoImage edition text (BadImage line) = HasBadLine (IsImageText edition) text line
 HasNoImage edition text (UnlawfulImage cell) = IsUnlawful edition text cell
 HasNoImage edition text why = ⊥
 
--- the first text has this image, and the second spells this plan
+-- the first text is read as this image, and the second spells this plan
 pub record AreOf (first second : List ℕ) (image : Image) (plan : Plan) : Type 0 where
   pub reads : ReadsImage Two first image
   pub spelled : SpellsPlan second plan
 
--- the first text has this image, the second spells this plan, and the plan fits the image
+-- the first text is read as this image, the second spells this plan, and the plan fits the image
 pub record IsLife (first second : List ℕ) (image : Image) (plan : Plan) : Type 0 where
   pub are : AreOf first second image plan
   pub fits : PlanFitsImage image plan
 
--- the refusal says why the texts have no such image and plan: the second spells no plan; or it
--- does, and the first has no image; or it has, and the plan doesn't fit the image
+-- the refusal says why the texts are no image and plan that fits it: the second spells no plan; or
+-- it spells one, and the first is no image; or both are right, and the plan doesn't fit the image
 abbrev pub HaveNoLife : (first second : List ℕ) → Refusal → Type 0
 HaveNoLife first second (BadPlan line) = HasBadLine IsPlanText second line
 HaveNoLife first second DoesNotFit =
@@ -115,8 +115,8 @@ pub record HoldsLoad (brakes : List StepsLeft) (callers scripts : ℕ) (text : L
   pub whole : IsWholeLoad brakes (generated_plan callers scripts) report
   pub text_is : text ≡ load_text report
 
--- the text is that of a life that has gone on from the image by the plan that were read; the life
--- has left this record
+-- an image and a plan were read; the text is that of a life that has gone on from the image by the
+-- plan, and has left this record
 pub record HoldsLife (brakes : List StepsLeft) (source : Change) (text : List ℕ) (e : Ended)
     (w : View) : Type 0 where
   pub image : Image
@@ -133,8 +133,8 @@ MakesWith brakes (Load callers scripts) source text ran =
 MakesWith brakes Continue source text ran = RecordHolds ran (HoldsLife brakes source text)
 MakesWith brakes command source text ran = Makes command source text × (ran ≡ None)
 
--- what is found beside the answer to the words: with status 0 what their command makes; a record
--- only with status 0 of a command that runs callers at once
+-- what goes with the answer to the words: with status 0 the text is what their command makes; there
+-- is a record only with status 0 of a command that runs callers at once
 pub record Carries (brakes : List StepsLeft) (words : List (List ℕ)) (source : Change)
     (status : ℕ) (text : List ℕ) (ran : Option (Ended × Pass)) : Type 0 where
   pub made : (command : Command) → AreWordsOf words command → status ≡ DONE

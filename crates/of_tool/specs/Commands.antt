@@ -12,7 +12,7 @@ use Rattle.of_tool.specs.declared.command.Command.TheVariants.{Serial, Play, Tra
 abbrev pub word_bytes : List (String Global) → List (List ℕ)
 word_bytes words = map string_bytes words
 
--- the word spells `n` by digits alone, with no 0 in front of others, and `n` is at most `most`
+-- the word spells `n` in digits alone, without a leading 0, and `n` is at most `most`
 abbrev pub SpellsUpTo : (most : ℕ) → List ℕ → ℕ → Type 0
 SpellsUpTo most word n = (n ≤ most) × (word ≡ decimal n)
 
@@ -97,15 +97,15 @@ IsPlain Migrate = Unit {0}
 IsPlain (Help word) = Unit {0}
 IsPlain Version = Unit {0}
 
--- the words are this command
+-- the words spell this command, and its numbers are in range
 abbrev pub AreWordsOf : List (List ℕ) → Command → Type 0
 AreWordsOf words command = IsInRange command × (words ≡ command_words command)
 
--- the words are no command
+-- the words spell no command whose numbers are in range
 abbrev pub IsNoCommand : List (List ℕ) → Type 0
 IsNoCommand words = (command : Command) → AreWordsOf words command → ⊥
 
--- the words are a command that runs callers at once
+-- the words spell a command that runs callers at once
 pub record AreWordsOfTeam (words : List (List ℕ)) : Type 0 where
   pub command : Command
   pub are : AreWordsOf words command

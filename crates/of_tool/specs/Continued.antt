@@ -26,8 +26,8 @@ left_text p e = image_text Two (durable_row p e)
 abbrev pub life_text : Plan → Report → Ended → List ℕ
 life_text p r e = report_text r ++ left_text p e
 
--- The life goes on from the image, which the plan fits, and the next life can go on from what it
--- leaves.
+-- The life goes on from the image, which the plan fits, and the next life can go on from what this
+-- life leaves.
 pub record GoesOnFrom (i : Image) (p : Plan) (r : Report) (e : Ended) : Type 0 where
   pub fits : PlanFitsImage i p
   -- no call that the image holds was run again

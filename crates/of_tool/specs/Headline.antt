@@ -53,7 +53,8 @@ pub record IsWholeLoad (brakes : List StepsLeft) (p : Plan) (r : Report) : Type 
   pub all_done : AllBrakesTell p brakes → AllDone p r
   pub serial : AllBrakesTell p brakes → load_text r ≡ load_text (serial_report p)
 
--- the summary of a report of the plan was written, and the report promises what that of `run` does
+-- The summary of a report was written. The report is one legal history of the plan's calls, in real
+-- time, in which callers keep to their brakes.
 pub record PrintsSummary (seen : Seen) (plan : Plan) (course : List Mark) (e : Ended)
     (report : Report) : Type 0 where
   pub written : IsWritten seen (load_text report)
@@ -71,8 +72,8 @@ pub record LoadsPlan (callers scripts : ℕ) (seen : Seen) (e : Ended) : Type 0 
 -- ---- `continue`
 
 -- The whole input is the text of an image, and then that of a plan that fits it. The report that
--- was written promises what that of `run` does, but from where the image left. After it the image
--- was written from which the next life can go on.
+-- was written is one legal history from the start that the image has, in real time, in which
+-- callers keep to their brakes. After it an image was written, from which the next life can go on.
 pub record PrintsLife (seen : Seen) (image : Image) (plan : Plan) (course : List Mark) (e : Ended)
     (report : Report) : Type 0 where
   pub read : ReadsLife seen.source image plan
@@ -80,7 +81,7 @@ pub record PrintsLife (seen : Seen) (image : Image) (plan : Plan) (course : List
   pub promises : KeepsPromises seen.brakes plan (start_of_image image) course e report
   pub goes_on : GoesOnFrom image plan report e
 
--- the report that was written is that of a real run from where the image left
+-- the report that was written is that of a real run from the start that the image has
 pub record ContinuesImage (seen : Seen) (e : Ended) : Type 0 where
   pub image : Image
   pub plan : Plan
@@ -91,23 +92,26 @@ pub record ContinuesImage (seen : Seen) (e : Ended) : Type 0 where
 
 -- ---- the table and the pass, for a program that goes on with what a run has left
 
--- what status 0 of `run` says, and what the table and the pass of that run have
+-- `RunsPlan` holds; besides, the run was on a table of zeros, and its pass, whose view is `w`, has
+-- seen the whole run
 pub record RunsOnTable (seen : Seen) (e : Ended) (w : View) : Type 0 where
   pub runs : RunsPlan seen e
   pub table : ShowsZeros runs.plan e w runs.report
 
--- what status 0 of `load` says, and what the table and the pass of that run have
+-- `LoadsPlan` holds; besides, the run was on a table of zeros, and its pass, whose view is `w`, has
+-- seen the whole run
 pub record LoadsOnTable (callers scripts : ℕ) (seen : Seen) (e : Ended) (w : View) : Type 0 where
   pub loads : LoadsPlan callers scripts seen e
   pub table : ShowsZeros (generated_plan callers scripts) e w loads.report
 
--- what status 0 of `continue` says, and what the table and the pass of that run have
+-- `ContinuesImage` holds; besides, the run was on a table that starts from the image's row, and its
+-- pass, whose view is `w`, has seen the whole run
 pub record ContinuesOnTable (seen : Seen) (e : Ended) (w : View) : Type 0 where
   pub continues : ContinuesImage seen e
   pub table : IsLifeOf continues.image continues.plan e w continues.report
 
--- what status 0 of a command that runs callers at once says, with the table and the pass; another
--- command leaves no record
+-- a command that runs callers at once has left a record, of which `RunsOnTable`, `LoadsOnTable` or
+-- `ContinuesOnTable` holds; another command has left none
 abbrev pub LeavesTable : Command → Seen → Type 0
 LeavesTable Run seen = RecordHolds seen.ran (RunsOnTable seen)
 LeavesTable (Load callers scripts) seen = RecordHolds seen.ran (LoadsOnTable callers scripts seen)
@@ -122,12 +126,14 @@ pub record IsTopCall (seen : Seen) : Type 0 where
   -- once, was written: one legal history, in real time, in which callers keep to their brakes. It
   -- comes of a real run, event by event, and the record of that run is in `ran`.
   pub run : HasDone seen Run → RecordHolds seen.ran (λ left view. RunsPlan seen left)
-  -- With status 0 of `load` the same holds of the plan that is made for it, and the summary of the
-  -- report was written.
+  -- With status 0 of `load` the summary of a report was written, of a real run of the plan that is
+  -- made for it. This report too is one legal history, in real time, in which callers keep to their
+  -- brakes.
   pub load : (callers scripts : ℕ) → HasDone seen (Load callers scripts)
       → RecordHolds seen.ran (λ left view. LoadsPlan callers scripts seen left)
-  -- With status 0 of `continue` the same holds of callers that went on from the image at once.
-  -- After the report the image of their durable words was written: the next life can go on from it.
+  -- With status 0 of `continue` the report of a real run from the image was written: one legal
+  -- history, in real time, in which callers keep to their brakes. After it the image of the run's
+  -- durable words was written: the next life can go on from this image.
   pub continued : HasDone seen Continue
       → RecordHolds seen.ran (λ left view. ContinuesImage seen left)
   -- The table of such a run meets the rule of a row, and the pass in `ran` has seen the whole run.

@@ -30,7 +30,7 @@ pub data Input : Type 0 where
   ImageAndPlan : Input
   -- an image, a plan, a report and an image
   WholeLife : Input
-  -- texts of any kind, and which of them is asked for
+  -- texts of any kind, and the number of the one that is to be printed
   AnyTexts : (number : ℕ) → Input
 
 -- the kind of input that a command reads; None if it reads nothing
@@ -121,12 +121,12 @@ pub record ReadsOne (Is : List ℕ → Type 0) (source : Change) : Type 0 where
   pub read : ReadsAll MOST_IMAGE source bytes
   pub is : Is bytes
 
--- the whole input is the text of an image of this version, and this is the image
+-- the whole input is the text of an image of this version, and is read as this image
 abbrev pub ReadsImageOf : Edition → Change → AnImage → Type 0
 ReadsImageOf edition source image = ReadsOne (λ bytes. ReadsImage edition bytes image) source
 
--- the whole input is the text of a version 1 image, and `text` is the text of that image in version
--- 2
+-- the whole input is the text of an image of version 1, and `text` is this image, recovered, in
+-- version 2
 abbrev pub ReadsEarlier : Change → List ℕ → Type 0
 ReadsEarlier source text = ReadsOne (λ bytes. Migrates bytes text) source
 
@@ -226,8 +226,8 @@ pub record ReadsLegalLife (source : Change) : Type 0 where
   pub fits : PlanFitsImage image plan
   pub legal : IsLegalLife image plan told left
 
--- the whole input has four parts: an image, a plan that fits it, and two texts that are not those
--- of such a life
+-- the whole input has four parts: an image, a plan that fits it, and two texts that are not the
+-- report and the image of a life that goes on from the first image by the plan
 pub record ReadsIllegalLife (source : Change) : Type 0 where
   pub image : AnImage
   pub plan : Plan
@@ -246,7 +246,7 @@ pub record ReadsPart (number : ℕ) (source : Change) (part : List ℕ) : Type 0
   pub is : IsPart number bytes part
   pub some : 1 ≤ length part
 
--- the whole input has fewer texts than this number: its part with the number is empty
+-- the whole input has fewer than `number` texts: the part with this number is empty
 pub record ReadsFewer (number : ℕ) (source : Change) : Type 0 where
   pub bytes : List ℕ
   pub read : ReadsAll MOST_WITH_REPORT source bytes
@@ -254,7 +254,7 @@ pub record ReadsFewer (number : ℕ) (source : Change) : Type 0 where
 
 -- ---- valid inputs
 
--- the bytes that are left are these, at most `most`
+-- exactly these bytes are left in the source, and they are at most `most`
 pub record AreLeft (most : ℕ) (left : Option (List ℕ)) (bytes : List ℕ) : Type 0 where
   pub are : left ≡ Some bytes
   pub few : length bytes ≤ most
@@ -266,7 +266,7 @@ pub record IsPlanInput (left : Option (List ℕ)) : Type 0 where
   pub plan : Plan
   pub spelled : SpellsPlan bytes plan
 
--- the bytes that are left are a plan's text and any bytes after it, within the limit
+-- the bytes that are left in the source are a plan's text and any bytes after it, within the limit
 pub record IsCheckInput (left : Option (List ℕ)) : Type 0 where
   pub bytes : List ℕ
   pub left_is : AreLeft MOST_WITH_REPORT left bytes
@@ -284,8 +284,8 @@ pub record IsImageInput (edition : Edition) (left : Option (List ℕ)) : Type 0 
   pub image : AnImage
   pub image_of : ReadsImage edition bytes image
 
--- the bytes that are left are the text of a lawful image and that of a plan after it, within the
--- limit
+-- the bytes that are left in the source are the text of a lawful image and that of a plan after it,
+-- within the limit
 pub record IsLifeInput (left : Option (List ℕ)) : Type 0 where
   pub bytes : List ℕ
   pub left_is : AreLeft MOST_WITH_REPORT left bytes
@@ -297,8 +297,8 @@ pub record IsLifeInput (left : Option (List ℕ)) : Type 0 where
   pub plan : Plan
   pub spelled : SpellsPlan second plan
 
--- the bytes that are left are the text of a lawful image, that of a plan, and any bytes after it,
--- within the limit
+-- the bytes that are left in the source are the text of a lawful image, that of a plan, and any
+-- bytes after these, within the limit
 pub record IsLivedInput (left : Option (List ℕ)) : Type 0 where
   pub bytes : List ℕ
   pub left_is : AreLeft MOST_WITH_REPORT left bytes

@@ -24,13 +24,13 @@ use Rattle.of_tool.specs.declared.legal_life.ReadLeft.TheVariants.{Image as Left
 use Rattle.of_tool.specs.declared.legal_life.LifeCause.{LifeCause}
 use Rattle.of_tool.specs.declared.legal_life.LifeCause.TheVariants.{Told, Left, Ends}
 
--- the text is the one that is printed of a row
+-- the text is the one that is printed of some durable row
 pub record IsPrinted (text : List ℕ) : Type 0 where
   pub row : DurableRow
   pub spelled : SpellsImage Two text row
   pub is : text ≡ image_text Two row
 
--- the text is the one that is printed of a row, and recovery finds this image in the row
+-- the text is the one that is printed of some durable row, and recovery finds this image in the row
 pub record IsLeft (text : List ℕ) (i : Image) : Type 0 where
   pub printed : IsPrinted text
   pub reads : ReadsImage Two text i
@@ -56,8 +56,8 @@ IsLeftFault text (Bad line) = HasBadLine (IsImageText Two) text line
 IsLeftFault text (Unlawful cell) = IsUnlawful Two text cell
 IsLeftFault text NotPrinted = (i : Image) × ReadsImage Two text i × (IsPrinted text → ⊥)
 
--- what was read is true of the text: it is the one that is printed of this image, or the fault says
--- why it is none
+-- what was read is true of the text: the text is the one that is printed of this image, or the
+-- fault says why it is none that is printed of an image
 abbrev pub IsReadLeft : List ℕ → ReadLeft → Type 0
 IsReadLeft text (LeftImage i) = IsLeft text i
 IsReadLeft text (Fault fault) = IsLeftFault text fault

@@ -38,7 +38,8 @@ pub record MakesPlay (source : Change) (text : List ℕ) : Type 0 where
   pub played : IsPlayedReport plan report
   pub text_is : text ≡ report_text report
 
--- the text is the lines of `count` events of the plan's schedule, from event `first` on
+-- the whole input is a plan's text, and `text` has the lines of `count` events of the plan's
+-- schedule, from event `first` on
 pub record MakesTrace (first count : ℕ) (source : Change) (text : List ℕ) : Type 0 where
   pub plan : Plan
   pub read : ReadsPlan source plan
@@ -65,12 +66,13 @@ pub record MakesLoad (callers scripts : ℕ) (text : List ℕ) : Type 0 where
   pub run : IsSomeRuns (generated_plan callers scripts) report
   pub text_is : text ≡ load_text report
 
--- the report that was read is legal, and `text` says that it is
+-- the whole input is a plan and a legal report of it, and `text` says that the report is legal
 pub record MakesCheck (source : Change) (text : List ℕ) : Type 0 where
   pub legal : ReadsLegal source
   pub text_is : text ≡ codes "legal report\n"
 
--- the life that was read is legal, and `text` says that it is
+-- the whole input is an image, a plan and the texts of a legal life, and `text` says that the life
+-- is legal
 pub record MakesCheckLife (source : Change) (text : List ℕ) : Type 0 where
   pub legal : ReadsLegalLife source
   pub text_is : text ≡ codes "legal life\n"

@@ -64,8 +64,8 @@ HasBadPlan ImageAndPlan source line = ReadsNoSecond source line
 HasBadPlan WholeLife source line = ReadsNoLifePlan source line
 HasBadPlan (AnyTexts number) source line = ⊥
 
--- `Is` holds of the part of the input that should be an image's text; the part that should be a
--- plan's text, if there is one, is that
+-- `Is` holds of the part of the input that should be an image's text; if there is also a part that
+-- should be a plan's text, it is one
 abbrev pub HasBadImage : (Edition → List ℕ → Type 0) → Input → Change → Type 0
 HasBadImage Is PlanAlone source = ⊥
 HasBadImage Is PlanAndReport source = ⊥
@@ -74,7 +74,8 @@ HasBadImage Is ImageAndPlan source = (plan : Plan) × ReadsBehind (Is Two) sourc
 HasBadImage Is WholeLife source = ReadsFirstOfFour (Is Two) source
 HasBadImage Is (AnyTexts number) source = ⊥
 
--- the plan in the input does not fit the image, or the input has fewer texts than the part's number
+-- the plan in the input does not fit the image; or, for the command `part N`, the input has fewer
+-- than N texts
 abbrev pub HasMisfit : Input → Change → Type 0
 HasMisfit PlanAlone source = ⊥
 HasMisfit PlanAndReport source = ⊥
@@ -118,8 +119,8 @@ pub record IsRefusal (command : Command) (source : Change) (status : ℕ) (text 
   pub status_is : status ≡ status_of why
   pub text_is : text ≡ text_of command why
 
--- status 8 means that the input, if one is read, has an illegal report or life; status 9 that
--- something in it doesn't fit
+-- status 8 means that the input, if one is read, has an illegal report or life; status 9 means that
+-- its plan does not fit its image, or that it has too few texts for `part`
 abbrev pub FindsWrong : Option Input → Change → (status : ℕ) → Type 0
 FindsWrong reads source status =
     (input : Input) → reads ≡ Some input

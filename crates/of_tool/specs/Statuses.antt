@@ -91,7 +91,7 @@ DoneIsMade =
 
 -- With status 8 the report that `check` reads, or the life that `check-life` reads, is not legal.
 -- With status 9 the plan that `continue` or `check-life` reads does not fit the image, or the input
--- of `part` has fewer texts.
+-- of `part N` has fewer than N texts.
 abbrev pub FoundIsWrong : Type 0
 FoundIsWrong =
     (seen : Seen) (command : Command) → AnswersWords seen seen.status

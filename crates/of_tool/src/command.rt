@@ -109,8 +109,8 @@ pub enum Command {
     Renumber,
     /// Reads an image of version 1, recovers it, and prints it in version 2.
     Migrate,
-    /// Reads an image and a plan, runs the plan's callers at once from where the image left, and
-    /// prints the report and the image of what they leave.
+    /// Reads an image and a plan, runs the plan's callers at once from what recovery finds in the
+    /// image, and prints the report and the image of what they leave.
     Continue,
     /// Prints how the program is used; `word` is the word that asked for it.
     Help { word: HelpWord },
@@ -227,8 +227,8 @@ impl Command {
         }
     }
 
-    /// The command that the words spell, if they are one. Numbers are spelled by digits alone, with
-    /// no 0 in front of others.
+    /// The command that the words spell; None if they spell none. Numbers are spelled in digits
+    /// alone, without a leading 0.
     pub fn from_words(words: &[String]) -> Option<Command>
         ensures { MatchOption result
             (IsNoCommand (word_bytes words.now))

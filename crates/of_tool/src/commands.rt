@@ -40,7 +40,7 @@ pub const MOST_INPUT: usize = 1 << 20;
 pub const MOST_WITH_REPORT: usize = 1 << 22;
 
 /// The most bytes that a command reads if its input is only an image. The greatest image that
-/// `image` prints has 62,304 lines of cells of at most 33 bytes each, and 42 bytes beside them.
+/// `image` prints has 62,304 lines of cells, of at most 33 bytes each, and 42 more bytes.
 pub const MOST_IMAGE: usize = 1 << 22;
 
 /// What callers that ran at once have left: the record of the run, and the pass that has seen it.

@@ -15,7 +15,7 @@ use of_plan::parts;
 use std::alloc::Global;
 
 /// The part of a text with this number, counted from 1: each part goes up to its first line `end`.
-/// The part is empty if the text has fewer.
+/// The part is empty if the text has fewer parts.
 pub fn part(text: &[u8], number: u32) -> &[u8]
     requires { 1 ≤ number }
     ensures { IsPart number text.now result.now }

@@ -77,7 +77,7 @@ pub(crate) fn plan_in(alloc: Global, text: &[u8]) -> Result<Plan, Failure>
     }
 }
 
-/// Why a text has no image of a version.
+/// Why a text is no image of a version.
 pub(crate) fn image_failure(alloc: Global, err: ImageErr, version: Version, text: &[u8]) -> Failure
     requires { ImageIsRefused version text.now err }
     ensures { FailsBy (HasNoImage version text.now) result }
@@ -96,7 +96,7 @@ pub(crate) fn image_failure(alloc: Global, err: ImageErr, version: Version, text
     }
 }
 
-/// The image that a text has.
+/// The image that is read from a text.
 pub(crate) fn image_in(alloc: Global, text: &[u8]) -> Result<Image, Failure>
     ensures read { MatchResult result (λ image. ReadsImage Two text.now image)
         (FailsBy (HasNoImage Two text.now)) }

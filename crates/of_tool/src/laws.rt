@@ -94,8 +94,8 @@ pub fn answers_are_true()
     unlawful_have_none();
 }
 
-/// The report of a real run of a plan's callers is one that `play` makes of the same plan, if its
-/// schedule is the turns and evictions of that run.
+/// The report of a real run of a plan's callers is one that `play` makes of the same plan, if the
+/// plan's schedule is the turns and evictions of this run.
 pub fn runs_are_played(plan: &Plan)
     ensures { IsPlayedToo plan.now }
 {
@@ -104,8 +104,9 @@ pub fn runs_are_played(plan: &Plan)
     reports_respect_time(plan);
 }
 
-/// The image that `image` prints of a plan is that of each report that `play` prints of the plan:
-/// it has the report's sequence and store, and each caller goes on after its last announced entry.
+/// The text that `image` prints of a plan is the image of the durable words that the run leaves
+/// whose report `play` prints. The image has the report's sequence and store, and each caller's
+/// ticket in it is that of the caller's last announced entry.
 pub fn images_show_plays(plan: &Plan)
     ensures { ShowsEachPlay plan.now }
 {

@@ -22,18 +22,18 @@ pub enum LeftFault {
     Bad { line: u64 },
     /// The text is that of an unlawful image, and this is the first cell at fault.
     Unlawful { cell: u32 },
-    /// The text has an image, but `image` would print it otherwise.
+    /// The text is read as an image, but `image` would print this image otherwise.
     NotPrinted,
 }
 
 /// Why a report and an image are not those of a life: the first thing that is wrong.
 #[derive(Debug, Drop)]
 pub enum LifeCause {
-    /// The report is not legal from where the first image left.
+    /// The report is not legal from the start that the first image has.
     Told(Cause),
     /// The text after the report is not one that is printed of an image.
     Left(LeftFault),
-    /// The image after the report is not where the report ends.
+    /// The report does not end at the image that comes after it.
     Ends(LeftRule),
 }
 

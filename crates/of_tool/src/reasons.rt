@@ -19,7 +19,7 @@ pub(crate) fn plan_reason(alloc: Global, text: &[u8]) -> Result<Vec<u8>, AllocEr
     }
 }
 
-/// Why a text has no image of a version.
+/// Why a text is no image of a version.
 pub(crate) fn image_reason(
     alloc: Global,
     version: Version,
@@ -134,7 +134,7 @@ fn rule_reason(alloc: Global, rule: LeftRule) -> Result<Vec<u8>, AllocError> {
     Ok(text.into_bytes())
 }
 
-/// Why a life is not legal, where this is the text of its report.
+/// Why a life is not legal; `told` is the text of its report.
 pub(crate) fn life_reason(
     alloc: Global,
     told: &[u8],

@@ -21,7 +21,8 @@ pub enum Refusal {
     BadImage { line: u64 },
     /// The image in the input is unlawful, and this is the first cell at fault.
     UnlawfulImage { cell: u32 },
-    /// The plan does not fit the image, or the input has fewer texts than the number of the part.
+    /// The plan does not fit the image; or, for the command `part N`, the input has fewer than N
+    /// texts.
     DoesNotFit,
     /// The report, or the life, is not a legal one.
     Illegal,

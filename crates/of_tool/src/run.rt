@@ -14,9 +14,9 @@ use of_row::Pass;
 use std::alloc::{AllocError, Global};
 use std::thread::Threads;
 
-/// Runs a plan's callers at once on a table of zeros, each until its brake denies a step, with the
-/// plan's evictions beside them. The result is the report, the record of the run, and the pass that
-/// has seen it. `brakes` has a brake for each caller, in order.
+/// Runs a plan's callers at once on a table of zeros, each until its brake denies a step, while a
+/// worker makes the plan's evictions. The result is the report, the record of the run, and the pass
+/// that has seen the run. `brakes` has a brake for each caller, in order.
 pub fn run_report<R: Threads + Sync>(
     rt: &R,
     alloc: Global,

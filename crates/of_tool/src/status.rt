@@ -27,5 +27,5 @@ pub const BAD_IMAGE: u8 = 7;
 /// The report is not a legal one of its plan, or the life not a legal one from its image.
 pub const ILLEGAL: u8 = 8;
 
-/// The plan does not fit the image, or the input has fewer texts than the number of the part.
+/// The plan does not fit the image; or, for the command `part N`, the input has fewer than N texts.
 pub const DOES_NOT_FIT: u8 = 9;
