@@ -70,7 +70,7 @@ abbrev pub HasNoPlan : List ℕ → Refusal → Type 0
 HasNoPlan text (BadPlan line) = HasBadLine IsPlanText text line
 HasNoPlan text why = ⊥
 
--- the refusal says why the text is no image of this version
+-- the refusal says why no image of this version is read from the text
 abbrev pub HasNoImage : Edition → List ℕ → Refusal → Type 0
 HasNoImage edition text (BadImage line) = HasBadLine (IsImageText edition) text line
 HasNoImage edition text (UnlawfulImage cell) = IsUnlawful edition text cell
@@ -86,8 +86,9 @@ pub record IsLife (first second : List ℕ) (image : Image) (plan : Plan) : Type
   pub are : AreOf first second image plan
   pub fits : PlanFitsImage image plan
 
--- the refusal says why the texts are no image and plan that fits it: the second spells no plan; or
--- it spells one, and the first is no image; or both are right, and the plan doesn't fit the image
+-- the refusal says why the texts are no image with a plan that fits it: the second text spells no
+-- plan; or it spells one, and no image is read from the first; or both are read, and the plan
+-- doesn't fit the image
 abbrev pub HaveNoLife : (first second : List ℕ) → Refusal → Type 0
 HaveNoLife first second (BadPlan line) = HasBadLine IsPlanText second line
 HaveNoLife first second DoesNotFit =

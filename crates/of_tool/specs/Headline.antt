@@ -54,7 +54,7 @@ pub record IsWholeLoad (brakes : List StepsLeft) (p : Plan) (r : Report) : Type 
   pub serial : AllBrakesTell p brakes → load_text r ≡ load_text (serial_report p)
 
 -- The summary of a report was written. The report is one legal history of the plan's calls, in real
--- time, in which callers keep to their brakes.
+-- time, in which callers keep to their brakes. `IsWholeLoad` says when all callers are done.
 pub record PrintsSummary (seen : Seen) (plan : Plan) (course : List Mark) (e : Ended)
     (report : Report) : Type 0 where
   pub written : IsWritten seen (load_text report)

@@ -77,7 +77,7 @@ pub(crate) fn plan_in(alloc: Global, text: &[u8]) -> Result<Plan, Failure>
     }
 }
 
-/// Why a text is no image of a version.
+/// Why no image of a version is read from a text.
 pub(crate) fn image_failure(alloc: Global, err: ImageErr, version: Version, text: &[u8]) -> Failure
     requires { ImageIsRefused version text.now err }
     ensures { FailsBy (HasNoImage version text.now) result }

@@ -19,7 +19,7 @@ pub(crate) fn plan_reason(alloc: Global, text: &[u8]) -> Result<Vec<u8>, AllocEr
     }
 }
 
-/// Why a text is no image of a version.
+/// Why no image of a version is read from a text.
 pub(crate) fn image_reason(
     alloc: Global,
     version: Version,
