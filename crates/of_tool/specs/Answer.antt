@@ -98,7 +98,7 @@ HaveNoLife first second why = (plan : Plan) × SpellsPlan second plan × HasNoIm
 
 -- ---- what a command makes, and what a run has left
 
--- the text is that of the report of the record, which is of the plan that was read
+-- the text is the report of a run of the plan that was read; the run has left this record
 pub record HoldsRun (brakes : List StepsLeft) (source : Change) (text : List ℕ) (e : Ended)
     (w : View) : Type 0 where
   pub plan : Plan
@@ -107,7 +107,8 @@ pub record HoldsRun (brakes : List StepsLeft) (source : Change) (text : List ℕ
   pub run : IsRunReport brakes plan report e w
   pub text_is : text ≡ report_text report
 
--- the text is the summary of the report of the record, which is of the plan of a load
+-- the text is the summary of the report of a run of the plan of a load; the run has left this
+-- record
 pub record HoldsLoad (brakes : List StepsLeft) (callers scripts : ℕ) (text : List ℕ) (e : Ended)
     (w : View) : Type 0 where
   pub report : Report
@@ -115,8 +116,8 @@ pub record HoldsLoad (brakes : List StepsLeft) (callers scripts : ℕ) (text : L
   pub whole : IsWholeLoad brakes (generated_plan callers scripts) report
   pub text_is : text ≡ load_text report
 
--- the text is that of a life with this record, which has gone on from the image by the plan that
--- were read
+-- an image and a plan were read; the text is that of a life that has gone on from the image by the
+-- plan, and has left this record
 pub record HoldsLife (brakes : List StepsLeft) (source : Change) (text : List ℕ) (e : Ended)
     (w : View) : Type 0 where
   pub image : Image
@@ -124,7 +125,8 @@ pub record HoldsLife (brakes : List StepsLeft) (source : Change) (text : List �
   pub read : ReadsLife source image plan
   pub writes : WritesLife brakes image plan e w text
 
--- what a command makes of its input, and what a run has left beside it
+-- the text is what the command makes of its input; a command that runs callers at once leaves a
+-- record too, and another command leaves none
 abbrev pub MakesWith : List StepsLeft → Command → Change → List ℕ → Option (Ended × Pass) → Type 0
 MakesWith brakes Run source text ran = RecordHolds ran (HoldsRun brakes source text)
 MakesWith brakes (Load callers scripts) source text ran =
@@ -132,8 +134,8 @@ MakesWith brakes (Load callers scripts) source text ran =
 MakesWith brakes Continue source text ran = RecordHolds ran (HoldsLife brakes source text)
 MakesWith brakes command source text ran = Makes command source text × (ran ≡ None)
 
--- what stands beside the answer to the words: with status 0 what their command makes, and no record
--- but with a command that runs callers at once
+-- what goes with the answer to the words: with status 0 the text is what their command makes; there
+-- is a record only with status 0 of a command that runs callers at once
 pub record Carries (brakes : List StepsLeft) (words : List (List ℕ)) (source : Change)
     (status : ℕ) (text : List ℕ) (ran : Option (Ended × Pass)) : Type 0 where
   pub made : (command : Command) → AreWordsOf words command → status ≡ DONE

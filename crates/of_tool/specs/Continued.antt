@@ -51,7 +51,7 @@ pub record IsLifeReport (brakes : List StepsLeft) (i : Image) (p : Plan) (r : Re
   pub real : IsRealLife i p course e r
   pub table : IsLifeOf i p e w r
 
--- a life has gone on so, and this is its text
+-- the text is that of a life that has gone on from the image by the plan, with these brakes
 pub record WritesLife (brakes : List StepsLeft) (i : Image) (p : Plan) (e : Ended) (w : View)
     (text : List ℕ) : Type 0 where
   pub report : Report

@@ -32,7 +32,8 @@ pub record PrintsReport (seen : Seen) (plan : Plan) (course : List Mark) (e : En
   pub written : IsWritten seen (report_text report)
   pub promises : KeepsPromises seen.brakes plan (empty_start plan) course e report
 
--- And it is the report of a real run of these callers, in which calls began and ended so.
+-- The report that was written is that of a real run of the plan's callers, in which calls began and
+-- ended as the course says.
 pub record RunsPlan (seen : Seen) (e : Ended) : Type 0 where
   pub plan : Plan
   pub course : List Mark
@@ -46,20 +47,22 @@ pub record RunsPlan (seen : Seen) (e : Ended) : Type 0 where
 abbrev pub AllDone : Plan → Report → Type 0
 AllDone p r = (c : ℕ) → c < p.callers → (caller_line r c).state ≡ done
 
--- if no brake can deny, every caller is done, and the summary is that of the plan's serial report
+-- if the brake of each caller tells its steps left, every caller is done, and the summary is that
+-- of the plan's serial report
 pub record IsWholeLoad (brakes : List StepsLeft) (p : Plan) (r : Report) : Type 0 where
   pub all_done : AllBrakesTell p brakes → AllDone p r
   pub serial : AllBrakesTell p brakes → load_text r ≡ load_text (serial_report p)
 
--- the summary of a report of the plan was written, which promises the same
+-- The summary of a report was written. The report is one legal history of the plan's calls, in real
+-- time, in which callers keep to their brakes. `IsWholeLoad` says when all callers are done.
 pub record PrintsSummary (seen : Seen) (plan : Plan) (course : List Mark) (e : Ended)
     (report : Report) : Type 0 where
   pub written : IsWritten seen (load_text report)
   pub promises : KeepsPromises seen.brakes plan (empty_start plan) course e report
   pub whole : IsWholeLoad seen.brakes plan report
 
--- and it is of a real run of the plan that is made for this many callers with this many scripts
--- each
+-- the summary that was written is that of a real run of the plan that is made for this many callers
+-- with this many scripts each
 pub record LoadsPlan (callers scripts : ℕ) (seen : Seen) (e : Ended) : Type 0 where
   pub course : List Mark
   pub report : Report
@@ -68,9 +71,9 @@ pub record LoadsPlan (callers scripts : ℕ) (seen : Seen) (e : Ended) : Type 0 
 
 -- ---- `continue`
 
--- The whole input is the text of an image and after it that of a plan that fits it. The report
--- that was written promises the same from where the image left, and after it the image was
--- written from which the next life can go on.
+-- The whole input is the text of an image, and then that of a plan that fits it. The report that
+-- was written is one legal history from the start that the image has, in real time, in which
+-- callers keep to their brakes. After it an image was written, from which the next life can go on.
 pub record PrintsLife (seen : Seen) (image : Image) (plan : Plan) (course : List Mark) (e : Ended)
     (report : Report) : Type 0 where
   pub read : ReadsLife seen.source image plan
@@ -78,7 +81,7 @@ pub record PrintsLife (seen : Seen) (image : Image) (plan : Plan) (course : List
   pub promises : KeepsPromises seen.brakes plan (start_of_image image) course e report
   pub goes_on : GoesOnFrom image plan report e
 
--- and it is the report of a real run from there
+-- the report that was written is that of a real run from the start that the image has
 pub record ContinuesImage (seen : Seen) (e : Ended) : Type 0 where
   pub image : Image
   pub plan : Plan
@@ -89,22 +92,26 @@ pub record ContinuesImage (seen : Seen) (e : Ended) : Type 0 where
 
 -- ---- the table and the pass, for a program that goes on with what a run has left
 
--- the same of `run`, and what its table and its pass have
+-- `RunsPlan` holds; besides, the run was on a table of zeros, and its pass, whose view is `w`, has
+-- seen the whole run
 pub record RunsOnTable (seen : Seen) (e : Ended) (w : View) : Type 0 where
   pub runs : RunsPlan seen e
   pub table : ShowsZeros runs.plan e w runs.report
 
--- the same of `load`
+-- `LoadsPlan` holds; besides, the run was on a table of zeros, and its pass, whose view is `w`, has
+-- seen the whole run
 pub record LoadsOnTable (callers scripts : ℕ) (seen : Seen) (e : Ended) (w : View) : Type 0 where
   pub loads : LoadsPlan callers scripts seen e
   pub table : ShowsZeros (generated_plan callers scripts) e w loads.report
 
--- the same of `continue`
+-- `ContinuesImage` holds; besides, the run was on a table that starts from the image's row, and its
+-- pass, whose view is `w`, has seen the whole run
 pub record ContinuesOnTable (seen : Seen) (e : Ended) (w : View) : Type 0 where
   pub continues : ContinuesImage seen e
   pub table : IsLifeOf continues.image continues.plan e w continues.report
 
--- of all three, by the command; no other runs callers at once
+-- a command that runs callers at once has left a record, of which `RunsOnTable`, `LoadsOnTable` or
+-- `ContinuesOnTable` holds; another command has left none
 abbrev pub LeavesTable : Command → Seen → Type 0
 LeavesTable Run seen = RecordHolds seen.ran (RunsOnTable seen)
 LeavesTable (Load callers scripts) seen = RecordHolds seen.ran (LoadsOnTable callers scripts seen)
@@ -113,24 +120,27 @@ LeavesTable command seen = seen.ran ≡ None
 
 -- ---- all of it
 
--- each of these holds of each call
+-- what is proved of each call of `tool`
 pub record IsTopCall (seen : Seen) : Type 0 where
   -- THE HEADLINE. With status 0 of `run` the report of what the plan's callers left, running at
   -- once, was written: one legal history, in real time, in which callers keep to their brakes. It
   -- comes of a real run, event by event, and the record of that run is in `ran`.
   pub run : HasDone seen Run → RecordHolds seen.ran (λ left view. RunsPlan seen left)
-  -- With status 0 of `load` the same holds of the plan that is made for it, and the summary of the
-  -- report was written.
+  -- With status 0 of `load` the summary of a report was written, of a real run of the plan that is
+  -- made for it. This report too is one legal history, in real time, in which callers keep to their
+  -- brakes.
   pub load : (callers scripts : ℕ) → HasDone seen (Load callers scripts)
       → RecordHolds seen.ran (λ left view. LoadsPlan callers scripts seen left)
-  -- With status 0 of `continue` the same holds of callers that went on from the image at once.
-  -- After the report the image of their durable words was written: the next life can go on from it.
+  -- With status 0 of `continue` the report of a real run from the image was written: one legal
+  -- history, in real time, in which callers keep to their brakes. After it the image of the run's
+  -- durable words was written: the next life can go on from this image.
   pub continued : HasDone seen Continue
       → RecordHolds seen.ran (λ left view. ContinuesImage seen left)
-  -- And the table of that run meets the rule of a row. The pass in `ran` has seen all of the run.
+  -- The table of such a run meets the rule of a row, and the pass in `ran` has seen the whole run.
   pub table : (command : Command) → HasDone seen command → LeavesTable command seen
   -- After any other command or status there is no record.
   pub no_record : (AreWordsOfTeam seen.words × (seen.status ≡ DONE) → ⊥) → seen.ran ≡ None
-  -- Each status comes for its cause, and what is written is its text. No other status has its cause
-  -- then: `laws::one_status`. What it says of each command: `laws::answers_are_true`.
+  -- Each status comes for its cause, and the text that is written is that of the status. No other
+  -- status has a cause then (`laws::one_status`). What a status says of each command is in
+  -- `laws::answers_are_true`.
   pub answered : AnswersWords seen seen.status

@@ -38,7 +38,8 @@ pub record MakesPlay (source : Change) (text : List ℕ) : Type 0 where
   pub played : IsPlayedReport plan report
   pub text_is : text ≡ report_text report
 
--- the text is the lines of `count` events of the plan's schedule, from event `first` on
+-- the whole input is a plan's text, and `text` has the lines of `count` events of the plan's
+-- schedule, from event `first` on
 pub record MakesTrace (first count : ℕ) (source : Change) (text : List ℕ) : Type 0 where
   pub plan : Plan
   pub read : ReadsPlan source plan

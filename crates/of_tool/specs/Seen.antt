@@ -20,18 +20,18 @@ StepsLeft = Option (Option ℕ)
 -- what a call of `tool` was given, what it did, and what it answered
 pub record Seen : Type 0 where
   pub words : List (List ℕ)
-  -- that of each caller, in order
+  -- what the brake of each caller tells, in order
   pub brakes : List StepsLeft
   pub source : Change
   pub sink : Change
-  -- whether what the sink has was finished before, and is after
+  -- whether the sink was finished before the call, and whether it is after the call
   pub was_finished : Bool
   pub finished : Bool
   pub status : ℕ
   -- what callers that ran at once have left, if they did
   pub ran : Option (Ended × Pass)
 
--- of a source or a sink that tells its bytes and its faults so
+-- the change of a source or a sink, by functions that give its bytes and count its faults
 abbrev pub bytes_change : {S : Type 0} → (S → Option (List ℕ)) → (S → ℕ) → S → S → Change
 bytes_change bytes faults old new = record {
   before = bytes old;

@@ -26,14 +26,14 @@ pub data IsAnswer (words : List (List ℕ)) (source : Change) (status : ℕ) (te
   NoCommand : IsNoCommand words → status ≡ USAGE → text ≡ codes "error: usage\n"
       → IsAnswer words source status text
 
--- the status is that of an answer, and its text was written without a fault
+-- the status is that of an answer to the words, and the answer's text was written without a fault
 pub record IsAnsweredAndWritten (seen : Seen) (status : ℕ) : Type 0 where
   pub text : List ℕ
   pub answer : IsAnswer seen.words seen.source status text
   pub written : IsWritten seen text
   pub no_fault : seen.sink.faults_after ≡ seen.sink.faults
 
--- writing failed: a front of an answer's text was written
+-- a write failed: of the text of an answer only a first part may have been written
 pub record IsWriteFault (seen : Seen) (status : ℕ) : Type 0 where
   pub is : status ≡ WRITE_FAULT
   pub fault : HasRisen seen.sink.faults seen.sink.faults_after
@@ -42,12 +42,12 @@ pub record IsWriteFault (seen : Seen) (status : ℕ) : Type 0 where
   pub answer : IsAnswer seen.words seen.source meant text
   pub written : AppendsFront seen.sink.before seen.sink.after text
 
--- memory ran out: nothing was written
+-- memory ran out, and nothing was written
 pub record IsOutOfMemory (seen : Seen) (status : ℕ) : Type 0 where
   pub is : status ≡ OUT_OF_MEMORY
   pub untouched : IsUntouched seen
 
--- each status comes with its cause, and there is no other
+-- the status comes for its cause: an answer was written, a write failed, or memory ran out
 pub data AnswersWords (seen : Seen) (status : ℕ) : Type 0 where
   Told : IsAnsweredAndWritten seen status → AnswersWords seen status
   WriteFault : IsWriteFault seen status → AnswersWords seen status
@@ -59,7 +59,7 @@ OneStatus =
     (seen : Seen) (status other : ℕ) → IsFresh seen
     → AnswersWords seen status → AnswersWords seen other → status ≡ other
 
--- and an error, which is any status above 0, has one text
+-- an error, which is any status above 0, has only one text
 abbrev pub OneError : Type 0
 OneError =
     (seen : Seen) (status other : ℕ) (text said : List ℕ) → IsFresh seen
@@ -77,14 +77,13 @@ pub data Ends (command : Command) (status : ℕ) : Type 0 where
 
 -- ---- what an answer says of a command
 
--- the words are this command's, and it is done
+-- the words are those of this command, and the command is done
 pub record HasDone (seen : Seen) (command : Command) : Type 0 where
   pub asked : AreWordsOf seen.words command
   pub done : seen.status ≡ DONE
 
--- With status 0 each command has read its whole input and written what it makes of it: `serial` the
--- report of serial replay, `play` that of what the schedule leaves, and so on. Each has a row in the
--- table `Makes`.
+-- With status 0 each command has read its whole input and written what it makes of it. `Makes` says
+-- what this is for each command.
 abbrev pub DoneIsMade : Type 0
 DoneIsMade =
     (seen : Seen) (command : Command) → AnswersWords seen seen.status → HasDone seen command
@@ -92,7 +91,7 @@ DoneIsMade =
 
 -- With status 8 the report that `check` reads, or the life that `check-life` reads, is not legal.
 -- With status 9 the plan that `continue` or `check-life` reads does not fit the image, or the input
--- of `part` has fewer texts.
+-- of `part N` has fewer than N texts.
 abbrev pub FoundIsWrong : Type 0
 FoundIsWrong =
     (seen : Seen) (command : Command) → AnswersWords seen seen.status

@@ -240,9 +240,10 @@ fn output_for<R: Threads + Sync, S: Source>(
     }
 }
 
-/// Does what the words say with the source's bytes, and answers the exit status. `run`, `load` and
-/// `continue` run callers at once, that of number i with the brake at place i; what such a run has
-/// left is put into `ran`, and why the words or the input are refused into `reason`.
+/// Runs the command that the words spell: reads the source, writes the text to the sink, and
+/// answers the exit status. `run`, `load` and `continue` run callers at once, caller i with the
+/// brake at place i, and put what the run has left into `ran`. If the words or the input are
+/// refused, the reason is put into `reason`.
 pub fn tool<R: Threads + Sync, S: Source, K: Sink>(
     rt: &R,
     alloc: Global,

@@ -24,7 +24,7 @@ use std::alloc::{AllocError, Global};
 use std::thread::Threads;
 
 /// Goes on from an image by a plan that fits it. The text is the life's report, and after it the
-/// image of the durable words that it leaves; the record and the pass are handed out with it.
+/// image of the durable words that the life leaves; the run's record and pass are handed out too.
 fn run_life<R: Threads + Sync>(
     rt: &R,
     alloc: Global,

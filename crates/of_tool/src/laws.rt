@@ -82,9 +82,9 @@ pub fn one_status()
     unlawful_have_none();
 }
 
-/// What the status of a command says: with 0 it has written what it makes of its whole input, with
-/// 8 or 9 its input is wrong. If the input is valid and no read or write fails, the command is
-/// done, or memory runs out, or what `check`, `continue` and `check-life` judge is found wrong.
+/// What the status of a command says: with 0 it has written what it makes of its whole input, with 8
+/// or 9 its input is wrong. If the input is valid and no read or write fails, the command is done,
+/// or memory runs out, or what `check`, `continue` and `check-life` judge is found wrong.
 pub fn answers_are_true()
     ensures done { DoneIsMade }
     ensures judged { FoundIsWrong }
@@ -94,8 +94,8 @@ pub fn answers_are_true()
     unlawful_have_none();
 }
 
-/// The report of a real run of a plan's callers is one that `play` makes of the same plan, if its
-/// schedule is the turns and evictions of that run.
+/// The report of a real run of a plan's callers is one that `play` makes of the same plan, if the
+/// plan's schedule is the turns and evictions of this run.
 pub fn runs_are_played(plan: &Plan)
     ensures { IsPlayedToo plan.now }
 {
@@ -104,8 +104,9 @@ pub fn runs_are_played(plan: &Plan)
     reports_respect_time(plan);
 }
 
-/// The text that `image` prints of a plan is the image of each report that `play` prints of it, and
-/// it starts where that report ends, each caller after its last announced entry.
+/// The text that `image` prints of a plan is the image of the durable words that the run leaves
+/// whose report `play` prints. The image has the report's sequence and store, and each caller's
+/// ticket in it is that of the caller's last announced entry.
 pub fn images_show_plays(plan: &Plan)
     ensures { ShowsEachPlay plan.now }
 {
