@@ -31,9 +31,10 @@ account_cell w a = first_cell w + a
 abbrev pub cell_count : Accounts → ℕ
 cell_count w = first_cell w + w.accounts
 
--- The balance of an account whose cell holds this number. Cells are 0 at first, and account 0 has
--- all the money then: its cell holds how much of the money it does not have. So this is also the
--- number in the cell of an account that has this balance.
+-- The balance of an account whose cell holds the number n. Each cell is 0 at first, and account 0
+-- has all the money then. So the cell of account 0 holds how much of the money the account does not
+-- have; any other cell holds its account's balance. The same function gives the number that the
+-- cell of an account with the balance n holds.
 abbrev pub flipped : (money account number : ℕ) → ℕ
 flipped money zero n = money - n
 flipped money (suc a) n = n
@@ -46,18 +47,19 @@ abbrev pub total_of : Accounts → (ℕ → ℕ) → (n : ℕ) → ℕ
 total_of w m zero = 0
 total_of w m (suc n) = total_of w m n + balance_in w m n
 
--- no money is lost or made
+-- all accounts together have all the money
 abbrev pub HasAllMoney : Accounts → (ℕ → ℕ) → Type 0
 HasAllMoney w m = total_of w m w.accounts ≡ w.money
 
--- gives the amount to an account
+-- the program that adds the amount to the balance of account `to`, and then answers the reply
 abbrev pub paying_in : Accounts → (to amount : ℕ) → Reply → Program RawReply
 paying_in w to amount reply =
     Read (account_cell w to) (λ n.
     Write (account_cell w to) (flipped w.money to (flipped w.money to n + amount))
     (Done (raw_reply reply)))
 
--- takes the amount from an account that has this balance, if that is enough, and pays it in
+-- the program that takes the amount off the account `from`, which has this balance, and adds it to
+-- the account `to`; if the balance is too small, it changes nothing
 abbrev pub paying : Accounts → (from to amount balance : ℕ) → (is_short : Bool) → Program RawReply
 paying w from to amount balance true = Done (raw_reply (Short balance))
 paying w from to amount balance false =
@@ -77,7 +79,8 @@ abbrev pub moving_if : Accounts → (from to amount : ℕ) → (has_both : Bool)
 moving_if w from to amount true = moving w from to amount
 moving_if w from to amount false = Done (raw_reply NoAccount)
 
--- a transfer between two accounts; any other words are none
+-- the program of an operation: three words are a transfer between two accounts, and any other words
+-- get the reply that an account doesn't exist
 abbrev pub transferring : Accounts → List ℕ → Program RawReply
 transferring w [] = Done (raw_reply NoAccount)
 transferring w (from ∷ []) = Done (raw_reply NoAccount)

@@ -1,5 +1,5 @@
--- What a day leaves: one history of transfers, which has each that was answered, and all the money.
--- The next day goes on from there.
+-- What a day leaves: one history that has each answered transfer, and all the money. The next day
+-- goes on from what the day before has left.
 use Rattle.std.specs.Prelude.{◌≡◌, ℕ, ◌+◌, ◌<◌, List, length, map, drop}
 use Rattle.std.specs.declared.vec.Vec.{Vec}
 use Rattle.std.proofs.Common.{get_or, replicate, take, Global}
@@ -22,14 +22,14 @@ use Rattle.example_accounts.specs.declared.day.Evening.{Evening}
 use Rattle.example_accounts.specs.Accounts.{transfer_words, cell_count, balance_in, HasAllMoney}
 use Rattle.example_accounts.specs.Meaning.{accounts_meaning, LawfulCells}
 
--- the call that an answer is the end of
+-- the call of a transfer, with the outcome that the answer has
 abbrev pub ended_call : Answer → EndedCall
 ended_call a = record { op = transfer_words a.transfer; outcome = a.outcome }
 
 abbrev pub transfer_of : Answer → Transfer
 transfer_of a = a.transfer
 
--- the answers are to the first transfers of the job, in its order
+-- the answers are those to the first transfers of the job, in the job's order
 abbrev pub FollowsJob : List Answer → (job : List Transfer) → Type 0
 FollowsJob answers job = map transfer_of answers ≡ take (length answers) job
 
@@ -39,18 +39,18 @@ pub record Serves (t : Teller) : Type 0 where
   pub answers : made_by t.handle ≡ map ended_call t.answers.items
   pub follows : FollowsJob t.answers.items t.job.items
 
--- it is the same teller still, with the same job
+-- t and u are the same teller at different times: it has the same handle and the same job
 pub record IsSameTeller (t u : Teller) : Type 0 where
   pub handle : IsSame t.handle u.handle
   pub job : u.job ≡ t.job
 
--- after its work it serves still
+-- the teller t is now u: it is the same teller, and still serves its job (`Serves`)
 pub record HasWorked (t u : Teller) : Type 0 where
   pub serves : Serves u
   pub same : IsSameTeller t u
 
--- The teller at this place of so many has a handle of the memory. The last one comes first, so its
--- number is the count of those after it.
+-- The list has `count` tellers. The teller at this place serves its job with a handle of the
+-- memory. The last teller of the list has number 0, and the first one has the greatest number.
 pub record IsSeatedAt (m : CellMemory Accounts) (count place : ℕ) (t : Teller) : Type 0 where
   pub serves : Serves t
   pub from : IsFrom m t.handle
@@ -59,7 +59,8 @@ pub record IsSeatedAt (m : CellMemory Accounts) (count place : ℕ) (t : Teller)
 abbrev pub AreSeated : CellMemory Accounts → (count : ℕ) → List Teller → Type 0
 AreSeated m count ts = (p : ℕ) (d : Teller) → p < length ts → IsSeatedAt m count p (get_or ts p d)
 
--- the log is that of the caller with this number
+-- the log is that of caller n: the caller's ended calls in the memory are the answers of the log,
+-- and these follow the log's job
 pub record IsLoggedAt (m : CellMemory Accounts) (n : ℕ) (l : Log) : Type 0 where
   pub number : l.number ≡ n
   pub made : HasMadeOf m n (map ended_call l.answers.items)
@@ -68,11 +69,12 @@ pub record IsLoggedAt (m : CellMemory Accounts) (n : ℕ) (l : Log) : Type 0 whe
 abbrev pub AreLogged : CellMemory Accounts → List Log → Type 0
 AreLogged m ls = (p : ℕ) (d : Log) → p < length ls → IsLoggedAt m p (get_or ls p d)
 
--- the calls, made one after the other on a table with these numbers, have their replies
+-- if the calls are made one after the other on a table whose cells have these numbers, each gives
+-- the reply that it has
 abbrev pub IsHistory : Accounts → (before : List ℕ) → List Call → Type 0
 IsHistory w before calls = IsSerial (accounts_meaning w) before calls
 
--- the balance of an account after them
+-- the balance of an account after these calls, made one after the other
 abbrev pub balance_after : Accounts → (before : List ℕ) → List Call → (account : ℕ) → ℕ
 balance_after w before calls a =
     balance_in w (memory_of (cells_after (accounts_meaning w) before calls)) a
@@ -83,9 +85,10 @@ no_answer = record {
   outcome = Spent 0;
 }
 
--- The log is that of the caller n, which had made so many calls before the day. It has the first
--- transfers of its job, in their order. The history has each of them with its reply, as the calls
--- of the teller after those. It has none for which no sequence was left.
+-- The log is that of the caller n, which had made `before n` calls before the day. Its answers are
+-- those to the first transfers of its job, in their order. The history has each answered transfer
+-- with its reply, as the caller's call after those `before n`. It has no transfer for which no
+-- sequence was left.
 pub record HasLog (calls : List Call) (before : ℕ → ℕ) (n : ℕ) (l : Log) : Type 0 where
   pub number : l.number ≡ n
   pub follows : FollowsJob l.answers.items l.job.items
@@ -104,8 +107,8 @@ abbrev pub IsSavedBank : SavedCells Accounts → Type 0
 IsSavedBank d =
     IsSavedCells (λ (w : Accounts). w.callers) cell_count accounts_meaning LawfulCells d
 
--- What a day leaves whose tellers had these jobs. Its memory began with these numbers, of which the
--- callers had made so many calls.
+-- What a day leaves, if its tellers were given these jobs. At the beginning of the day the cells of
+-- the memory had the numbers `before`, and the callers had made as many calls as `tickets` says.
 pub record IsEvening (w : Accounts) (before : List ℕ) (tickets : ℕ → ℕ)
     (given : List (Vec Transfer Global)) (e : Evening) : Type 0 where
   pub saved : IsSavedBank e.saved
@@ -114,7 +117,7 @@ pub record IsEvening (w : Accounts) (before : List ℕ) (tickets : ℕ → ℕ)
   pub size : length e.cells.items ≡ cell_count w
   -- all accounts together have the money that account 0 had at first
   pub money : HasAllMoney w (memory_of e.cells.items)
-  -- the balances are those after one history, which has the transfers of all logs
+  -- one history gives the balances; it has the transfers of all logs
   pub calls : List Call
   pub history : IsHistory w before calls
   pub order : StandsInOrder calls
@@ -125,18 +128,18 @@ pub record IsEvening (w : Accounts) (before : List ℕ) (tickets : ℕ → ℕ)
   -- there is a log for each job, in the order of the jobs
   pub jobs : map job_of e.logs.items ≡ given
 
--- what the first day leaves, which began with zeros
+-- what the first day leaves: it began with zeros in all cells, and no caller had made a call
 abbrev pub IsFirstEvening : Accounts → List (Vec Transfer Global) → Evening → Type 0
 IsFirstEvening w given e = IsEvening w (replicate (cell_count w) 0) (λ n. 0) given e
 
--- of each job those transfers are left that the saved memory does not hold
+-- `rest` has what is left of each job: the transfers that are not in the saved memory
 pub record AreLeft (e : Evening) (rest : List (Vec Transfer Global)) : Type 0 where
   pub size : length rest ≡ length e.logs.items
   pub each : (n : ℕ) (v : Vec Transfer Global) (d : Log) → n < length e.logs.items
       → (get_or rest n v).items ≡ drop (saved_ticket e.saved n) (get_or e.logs.items n d).job.items
 
--- What the next day leaves: it began with the numbers and the calls of the evening before, and the
--- tellers had what was left of their jobs.
+-- What the next day leaves. It began with the numbers and the calls that the evening before has
+-- saved, and the tellers were given what was left of their jobs.
 pub record IsNextEvening (w : Accounts) (e next : Evening) : Type 0 where
   pub rest : List (Vec Transfer Global)
   pub left : AreLeft e rest

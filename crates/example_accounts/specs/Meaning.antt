@@ -6,15 +6,16 @@ use Rattle.of_mem.specs.ProgramWork.{memory_of, meaning_of}
 use Rattle.example_accounts.specs.declared.accounts.Accounts.{Accounts}
 use Rattle.example_accounts.specs.Accounts.{HasAllMoney, cell_count, transferring}
 
--- each reply is a success, and each operation may write
+-- the meaning of transfers: each reply is a success, and each operation may write
 abbrev pub accounts_meaning : Accounts → Meaning
 accounts_meaning w = meaning_of (λ r. true) (λ op. false) (transferring w)
 
--- lists of cells that have all the money are lawful
+-- a list of cells is lawful if the accounts in it have all the money
 abbrev pub LawfulCells : Accounts → List ℕ → Type 0
 LawfulCells w xs = HasAllMoney w (memory_of xs)
 
--- the partial memory has the table's cells, and is part of one that has all the money
+-- the partial memory has as many cells as the table, and agrees with a memory in which the accounts
+-- have all the money
 pub record IsPartOfTable (w : Accounts) (p : Part) : Type 0 where
   pub fits : length p.known ≡ cell_count w
   pub memory : ℕ → ℕ

@@ -1,5 +1,5 @@
--- What the accounts have together when one of them gets another balance. The proof that accounts
--- are a work stands on it, and an impl may cite specs/ alone.
+-- What the accounts have together if one of them gets another balance. These lemmas are in specs/
+-- since the proof that accounts are a work uses them, and an impl may cite specs/ alone.
 use Rattle.std.proofs.Common.{◌≡◌, ℕ, zero, suc, ◌+◌, ◌<◌, ◌≤◌, inl, inr, refl, arith}
 use Rattle.std.proofs.lemmas.Bool.{cases_eq}
 use Rattle.of_mem.specs.Programs.{with_value}
@@ -20,7 +20,7 @@ module _ (w : Accounts) where
   abbrev pub with_balance : (ℕ → ℕ) → (account balance : ℕ) → ℕ → ℕ
   with_balance m a b = with_value m (account_cell w a) (flipped w.money a b)
 
-  -- only the accounts' cells count
+  -- what the first k accounts have together depends only on their cells
   pub total_same : (m n : ℕ → ℕ) (k : ℕ)
       → ((a : ℕ) → a < k → m (account_cell w a) ≡ n (account_cell w a))
       → total_of w m k ≡ total_of w n k
@@ -29,7 +29,7 @@ module _ (w : Accounts) where
       let before = total_same m n k (λ a l. same a (omega (arith, l))) in
       rw (before, same k (omega arith)) refl
 
-  -- zeros have all the money
+  -- if all cells are zeros, the accounts have all the money
   zeros_below : (m : ℕ → ℕ) → ((a : ℕ) → m a ≡ 0) → (k : ℕ) → total_of w m (suc k) ≡ w.money
   zeros_below m z zero = let e = z (account_cell w 0) in rw e (omega arith)
   zeros_below m z (suc k) =
@@ -49,7 +49,7 @@ module _ (w : Accounts) where
       changed_other m (account_cell w a) (flipped w.money a b) (account_cell w x)
       (λ e. omega (arith, low, l, e)))
 
-  -- an account's balance is a part of it
+  -- what the accounts have together, if the balance of one of them is replaced by another balance
   pub total_with : (m : ℕ → ℕ) (a b k : ℕ) → a < k → b ≤ w.money
       → total_of w (with_balance m a b) k + balance_in w m a ≡ total_of w m k + b
   total_with m a b zero l few = absurd (omega arith)

@@ -92,7 +92,8 @@ module _ (w : Accounts) where
     pub leads : HasAllMoney w (memory_after f m)
     pub reply : IsReplyTo op (program_answer f m)
 
-  -- an amount that was taken leaves room for it
+  -- if an amount is taken off an account, all accounts together have that much less than all the
+  -- money
   pub taken : (m : ℕ → ℕ) (from amount : ℕ) → HasAllMoney w m → from < w.accounts
       → amount ≤ balance_in w m from
       → total_of w (with_balance w m from (balance_in w m from - amount)) w.accounts + amount
@@ -209,7 +210,7 @@ module _ (w : Accounts) where
       paying_writes from to amount balance (ltb balance amount)
   moving_writes from to amount false = tt
 
-  -- at most the cells of the two accounts
+  -- a transfer writes at most the cells of its two accounts
   writes_two : (op : List ℕ) → WritesAtMost 2 (transferring w op)
   writes_two [] = tt
   writes_two (from ∷ []) = tt
@@ -262,7 +263,7 @@ module _ (w : Accounts) where
       sound (λ r. true) (λ op. false) (transferring w) (HasAllMoney w) (first_cell w)
       (cell_count w) are_sound
 
-  -- each reads two cells at most, and writes two, however many accounts there are
+  -- each operation reads at most two cells and writes at most two, however many accounts there are
   pub small_programs :
       HasSmallPrograms (accounts_meaning w) (LawfulCells w) (first_cell w) (cell_count w) 2 2
   small_programs = record {

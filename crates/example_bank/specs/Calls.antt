@@ -11,12 +11,12 @@ Call = List Instr × Reply
 abbrev pub scripts_in : List Call → List (List Instr)
 scripts_in cs = map (λ c. c.0) cs
 
--- the calls of this number, in the order of the history
+-- the calls of caller n in the history, in the order of the history
 abbrev pub calls_of : ℕ → List HistoryEntry → List Call
 calls_of n [] = []
 calls_of n (e ∷ h) = if e.caller == n then (e.script, e.reply) ∷ calls_of n h else calls_of n h
 
--- how many moved what they say
+-- 1 if the transfer with this reply has moved its amount, and otherwise 0
 abbrev pub was_made : Reply → ℕ
 was_made (Answered values) = 1
 was_made (Aborted place cause) = 0
@@ -25,7 +25,7 @@ abbrev pub made_in : List Call → ℕ
 made_in [] = 0
 made_in (c ∷ cs) = was_made c.1 + made_in cs
 
--- how many changed nothing
+-- 1 if the transfer with this reply has changed nothing, and otherwise 0
 abbrev pub was_aborted : Reply → ℕ
 was_aborted (Answered values) = 0
 was_aborted (Aborted place cause) = 1
@@ -34,7 +34,7 @@ abbrev pub aborted_in : List Call → ℕ
 aborted_in [] = 0
 aborted_in (c ∷ cs) = was_aborted c.1 + aborted_in cs
 
--- the calls that were answered, with their replies
+-- the list `cs` with a script and its reply in front, if the script was answered
 abbrev pub with_end : List Instr → End → List Call → List Call
 with_end script (Replied r seq steps announced) cs = (script, r) ∷ cs
 with_end script (Spent seq) cs = cs

@@ -1,4 +1,4 @@
--- A clerk, its job, and what it has made of it.
+-- A clerk, its job, and what it has done of the job.
 use Rattle.std.specs.Prelude.{◌≡◌, ℕ, ◌+◌, ◌<◌, ◌≤◌, List, [], ◌++◌, length, map, take, Option, Some, None, true, false, vec_len, ◌⊎◌}
 use Rattle.std.proofs.Common.{get_or}
 use Rattle.of_script.specs.declared.instr.Instr.{Instr}
@@ -14,27 +14,29 @@ use Rattle.example_bank.specs.declared.clerk.Clerk.{Clerk}
 use Rattle.example_bank.specs.Transfers.{transfer_script}
 use Rattle.example_bank.specs.Calls.{Call, replied_in, scripts_in, made_in, aborted_in, was_made, was_aborted}
 
--- the scripts of its job
+-- the scripts of the clerk's transfers, in the order of its job
 abbrev pub scripts_of : Clerk → List (List Instr)
 scripts_of c = map (λ t. transfer_script t.from t.to t.amount) c.job.items
 
--- how many of them it has counted, as made or aborted: it goes on with the next
+-- how many transfers of its job the clerk has counted, as made or as aborted; it goes on with the
+-- next one
 abbrev pub counted : Clerk → ℕ
 counted c = c.made + c.aborted
 
 abbrev pub next_script : Clerk → List Instr
 next_script c = get_or (scripts_of c) (counted c) []
 
--- The clerk has counted these calls more. They are the next ones of its job, in the job's order.
+-- The clerk x is now y, and has counted these calls besides those that it had counted before. They
+-- are the next transfers of its job, in the job's order.
 pub record Counts (x y : Clerk) (cs : List Call) : Type 0 where
   pub job : y.job ≡ x.job
   pub front : take (counted x) (scripts_of x) ++ scripts_in cs ≡ take (counted y) (scripts_of x)
   pub made : y.made ≡ x.made + made_in cs
   pub aborted : y.aborted ≡ x.aborted + aborted_in cs
 
--- ---- why it has made no more
+-- ---- why a clerk has made no more transfers
 
--- it was stopped in a call
+-- the clerk's last call was stopped
 abbrev pub IsStopped : Option RunError → Type 0
 IsStopped None = ⊥
 IsStopped (Some (Stopped asked)) = Unit {0}
@@ -43,7 +45,7 @@ IsStopped (Some InCall) = ⊥
 IsStopped (Some NoCall) = ⊥
 IsStopped (Some NoTicket) = ⊥
 
--- each of its calls was answered or is open
+-- no call of the clerk was spent: each was answered or is open
 abbrev pub IsNotSpent : Option RunError → Type 0
 IsNotSpent None = Unit {0}
 IsNotSpent (Some (Stopped asked)) = Unit {0}
@@ -52,13 +54,13 @@ IsNotSpent (Some InCall) = Unit {0}
 IsNotSpent (Some NoCall) = Unit {0}
 IsNotSpent (Some NoTicket) = Unit {0}
 
--- it has ended early
+-- the clerk has ended before its job was done
 abbrev pub IsEarly : Option RunError → Type 0
 IsEarly None = ⊥
 IsEarly (Some e) = Unit {0}
 
--- The cause of an early end: it was stopped when its call had made all its steps, or its number had
--- made so many calls before the day and on it that no ticket is left.
+-- The cause is there for which a clerk has ended early. If it was stopped, its call had made all
+-- its steps. If it lacks a ticket, its number had made as many calls as it ever may.
 abbrev pub HasCause : (steps before answered : ℕ) → Option RunError → Type 0
 HasCause steps before answered None = Unit {0}
 HasCause steps before answered (Some (Stopped asked)) = asked ≡ steps + 1
@@ -67,10 +69,11 @@ HasCause steps before answered (Some InCall) = ⊥
 HasCause steps before answered (Some NoCall) = ⊥
 HasCause steps before answered (Some NoTicket) = before + answered + 1 < 4294967296 → ⊥
 
--- ---- a clerk with its handle
+-- ---- a clerk that works with a handle
 
--- The clerk has made these calls with its handle, on this day, and has counted those that were
--- answered. If it was stopped, the next one is open.
+-- The clerk x has worked with a handle for a day, and is now y; the handle is now k. The clerk has
+-- counted the answered calls of the handle. If it was stopped, its next transfer is the handle's
+-- open call.
 pub record HasWorked (x y : Clerk) (k : Handle) : Type 0 where
   pub made : List Made
   pub has : HasMade k made
@@ -84,21 +87,22 @@ pub record HasWorked (x y : Clerk) (k : Handle) : Type 0 where
   pub steps : y.steps ≡ x.steps
   pub pending : y.pending ≡ false
 
--- it has made its whole job, unless it has ended early
+-- the clerk has counted its whole job, unless it has ended early
 abbrev pub IsThrough : Clerk → Type 0
 IsThrough c = c.end ≡ None → counted c ≡ vec_len c.job
 
--- so a clerk works with a handle that has made no call yet
+-- what a clerk promises of its work, if its handle had made no call before: `HasWorked` and
+-- `IsThrough`
 abbrev pub WorksOn : (before : Clerk) → Handle → (now : Clerk) → Handle → Type 0
 WorksOn x h y k = HasMade h [] → (HasCallOpen h → ⊥) → HasWorked x y k × IsThrough y
 
--- if it has worked so, it still has
+-- if `HasWorked` was true of the clerk y and its handle, it is true of z and the handle now
 abbrev pub GoesOn : (before : Clerk) → Handle → (now : Clerk) → Handle → Type 0
 GoesOn y h z k = (x : Clerk) → HasWorked x y h → HasWorked x z k
 
--- ---- the transfer in which it was stopped
+-- ---- the transfer in which a clerk was stopped
 
--- a transfer with this reply was counted
+-- the clerk y is now z, and has counted a transfer with this reply
 pub record CountsReply (r : Reply) (y z : Clerk) : Type 0 where
   pub made : z.made ≡ y.made + was_made r
   pub aborted : z.aborted ≡ y.aborted + was_aborted r
@@ -106,13 +110,15 @@ pub record CountsReply (r : Reply) (y z : Clerk) : Type 0 where
 abbrev pub CountsNone : (before now : Clerk) → Type 0
 CountsNone y z = (z.made ≡ y.made) × (z.aborted ≡ y.aborted)
 
--- what was saved last holds no call that the clerk doesn't know of
+-- the transfer in which the clerk was stopped took no effect: what was saved last has no call of
+-- the clerk beyond its answered ones. The clerk counts nothing, and the transfer is pending
 pub record IsPending (n : ℕ) (c d : Saved) (y z : Clerk) : Type 0 where
   pub ticket : saved_ticket d n ≤ saved_ticket c n + y.answered
   pub none : CountsNone y z
   pub pending : z.pending ≡ true
 
--- it holds one more, which is counted by its reply
+-- the transfer in which the clerk was stopped took effect: what was saved last has one call of the
+-- clerk beyond its answered ones. The clerk counts this call by its reply
 pub record IsFinished (n : ℕ) (c d : Saved) (y z : Clerk) : Type 0 where
   pub ticket : saved_ticket c n + y.answered < saved_ticket d n
   pub one : (r : Reply) → HoldsReply d n r → CountsReply r y z
@@ -127,7 +133,8 @@ SettlesEnd n c d y z (Some InCall) = CountsNone y z × (z.pending ≡ y.pending)
 SettlesEnd n c d y z (Some NoCall) = CountsNone y z × (z.pending ≡ y.pending)
 SettlesEnd n c d y z (Some NoTicket) = CountsNone y z × (z.pending ≡ y.pending)
 
--- the clerk of this number counts the transfer in which it was stopped, if it was finished
+-- in the evening the clerk of number n counts the transfer in which it was stopped, if this
+-- transfer took effect
 pub record Settles (n : ℕ) (c d : Saved) (y z : Clerk) : Type 0 where
   pub job : z.job ≡ y.job
   pub answered : z.answered ≡ y.answered

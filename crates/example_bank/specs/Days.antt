@@ -12,9 +12,9 @@ use Rattle.example_bank.specs.declared.clerk.Clerk.{Clerk}
 use Rattle.example_bank.specs.Calls.{calls_of}
 use Rattle.example_bank.specs.Clerks.{Counts, HasCause, IsThrough, IsStopped, counted, Settles}
 
--- A serial history of the clerks' transfers leads from the store to the saved one. The calls of
--- each clerk in it, in its order, are those by which the clerk went on with its job, and they were
--- counted by their replies. It has no others.
+-- A serial history of the clerks' transfers leads from the store s to the saved one. By its calls
+-- in this history, in their order, each clerk has gone on with its job, and it has counted these
+-- calls by their replies. The history has calls of clerks only.
 pub record LeadsBy (s : Store) (d : Saved) (xs ys : List Clerk) (h : List HistoryEntry)
     : Type 0 where
   pub serial : IsSerial s h
@@ -23,12 +23,12 @@ pub record LeadsBy (s : Store) (d : Saved) (xs ys : List Clerk) (h : List Histor
   pub each : (n : ℕ) (z : Clerk) → n < length xs
       → Counts (get_or xs n z) (get_or ys n z) (calls_of n h)
 
--- so it is of the store that was saved before
+-- whatever store was saved before, `LeadsBy` holds of it and of some history
 abbrev pub GoOnWithJobs : (before now : Saved) → (xs ys : List Clerk) → Type 0
 GoOnWithJobs c d xs ys =
     (s : Store) → SavedHolds c s → (h : List HistoryEntry) × LeadsBy s d xs ys h
 
--- a call of the clerk was open in the evening
+-- 1 if a call of the clerk was open in the evening, and otherwise 0
 abbrev pub open_in : Option RunError → ℕ
 open_in None = 0
 open_in (Some (Stopped asked)) = 1
@@ -41,9 +41,9 @@ abbrev pub one_if : Bool → ℕ
 one_if true = 1
 one_if false = 0
 
--- Why the clerk of this number has made no more on a day. What it has counted since the day before
--- are the calls that were answered, and perhaps the one in which it was stopped. If that one took
--- no effect, it is pending.
+-- Why the clerk of number n has made no more transfers on a day, and what it has counted on that
+-- day: the calls that were answered, and the transfer in which it was stopped, unless this transfer
+-- took no effect and is pending.
 pub record HasEnded (c : Saved) (n : ℕ) (x z : Clerk) : Type 0 where
   pub through : IsThrough z
   pub cause : HasCause x.steps (saved_ticket c n) z.answered z.end
@@ -54,7 +54,7 @@ abbrev pub HaveEnded : (before : Saved) → (xs zs : List Clerk) → Type 0
 HaveEnded c xs zs =
     (n : ℕ) (d : Clerk) → n < length xs → HasEnded c n (get_or xs n d) (get_or zs n d)
 
--- a clerk that was stopped has a transfer left
+-- each clerk that was stopped has a transfer left in its job
 abbrev pub CanSettle : List Clerk → Type 0
 CanSettle ys =
     (n : ℕ) (x : Clerk) → n < length ys → IsStopped (get_or ys n x).end

@@ -7,7 +7,7 @@ use Rattle.of_memory.specs.declared.saved.Saved.{Saved}
 use Rattle.of_memory.specs.Saving.{SavedHolds}
 use Rattle.example_bank.specs.Transfers.{money_of}
 
--- sets each account to 100
+-- the script that sets each account to 100
 abbrev pub founding_script : List Instr
 founding_script =
     StoreInstr 0 100
@@ -28,12 +28,12 @@ founding_script =
     ∷ StoreInstr 15 100
     ∷ []
 
--- the accounts hold 100 each
+-- a store is saved whose accounts hold 1600 together
 pub record IsFounded (d : Saved) : Type 0 where
   pub store : Store
   pub holds : SavedHolds d store
   pub money : money_of store ≡ 1600
 
--- whatever store is saved, its accounts hold so much together
+-- the accounts of each store that is saved hold n together
 abbrev pub HasMoney : ℕ → Saved → Type 0
 HasMoney n d = (s : Store) → SavedHolds d s → money_of s ≡ n

@@ -7,7 +7,7 @@ use Rattle.of_store.specs.Store.{Store}
 use Rattle.of_memory.specs.declared.saved.Saved.{Saved}
 use Rattle.of_memory.specs.Saving.{SavedHolds}
 
--- takes an amount off an account and adds it to another
+-- the script that takes an amount off an account and adds it to another
 abbrev pub transfer_script : (from to amount : ℕ) → List Instr
 transfer_script from to amount = Sub from amount ∷ Add to amount ∷ []
 
@@ -16,10 +16,10 @@ IsTransfer script =
     (from : ℕ) × (to : ℕ) × (amount : ℕ) × (from < REGISTERS) × (to < REGISTERS)
     × (script ≡ transfer_script from to amount)
 
--- what the accounts, which are the registers, hold together
+-- what the accounts hold together; the accounts are the registers
 abbrev pub money_of : Store → ℕ
 money_of s = sum s.registers
 
--- whatever store is saved then holds as much money as the one that was saved before
+-- the store that is saved now holds as much money as the one that was saved before
 abbrev pub KeepsMoney : (before now : Saved) → Type 0
 KeepsMoney c d = (s t : Store) → SavedHolds c s → SavedHolds d t → money_of t ≡ money_of s

@@ -12,24 +12,26 @@ use Rattle.of_memory.specs.Memories.{StartsWith, HasMadeOf, HasOpenOf, callers_o
 use Rattle.of_memory.specs.Saving.{SavedHolds}
 use Rattle.example_queue.specs.Jobs.{TakesJob, twelve_jobs, waiting, jobs_in, done, LosesNoJob, CountsJobs, CountsEach}
 
--- A serial history leads from the store to the one that is saved. No job is lost in it, and none is
--- given twice; each that is given is counted.
+-- A serial history leads from the store s to the one that is saved. No job is lost in it, and no
+-- job is given twice. The workers have counted each job that was given.
 pub record LeadsWithoutLoss (s : Store) (d : Saved) (h : List HistoryEntry) : Type 0 where
   pub serial : IsSerial s h
   pub ends : SavedHolds d (store_after s h)
   pub jobs : LosesNoJob s h
   pub counts : CountsEach s h
 
--- so it is of the store that the memory was opened with
+-- whatever store the memory was opened with, some history leads without loss from this store to
+-- what is saved
 abbrev pub IsWorkedOff : Memory → Saved → Type 0
 IsWorkedOff m d = (s : Store) → StartsWith m s → (h : List HistoryEntry) × LeadsWithoutLoss s d h
 
--- and of the one that was saved before
+-- whatever store was saved before, some history leads without loss from this store to what is saved
+-- now
 abbrev pub IsWorkedOffLater : (before now : Saved) → Type 0
 IsWorkedOffLater c d =
     (s : Store) → SavedHolds c s → (h : List HistoryEntry) × LeadsWithoutLoss s d h
 
--- it holds the twelve jobs, all of which wait
+-- the saved store holds the twelve jobs; all of them wait, and none is done
 pub record HoldsTwelveJobs (d : Saved) : Type 0 where
   pub store : Store
   pub holds : SavedHolds d store
@@ -37,9 +39,9 @@ pub record HoldsTwelveJobs (d : Saved) : Type 0 where
   pub counts : CountsJobs store
   pub none_done : done store ≡ 0
 
--- A serial history leads to what is saved from a store in which the twelve jobs wait. Those that
--- its replies give, in its order, and those that still wait are the twelve. Each that was given is
--- counted, and register 15 says how many wait.
+-- A serial history leads from a store in which the twelve jobs wait to the store that is saved. The
+-- jobs that its replies give, in order, followed by those that still wait, are the twelve. The
+-- workers have counted each job that was given, and register 15 says how many jobs wait.
 pub record LosesNoneOfTwelve (d : Saved) : Type 0 where
   pub first : Store
   pub history : List HistoryEntry
@@ -51,28 +53,29 @@ pub record LosesNoneOfTwelve (d : Saved) : Type 0 where
 
 -- ---- the calls of workers
 
--- each call takes a job
+-- each of these ended calls takes a job
 abbrev pub AllTake : List Made → Type 0
 AllTake ms = All (λ (m : Made). TakesJob m.script) ms
 
--- the handle has made only such calls
+-- the handle has made only calls that take a job, and its open call, if it has one, takes a job too
 pub record HasTaken (h : Handle) : Type 0 where
   pub made : List Made
   pub has : HasMade h made
   pub all : AllTake made
   pub open_call : (script : List Instr) → HasOpen h script → TakesJob script
 
--- if it had made only such calls before, it has so now
+-- if the handle had made only calls that take a job before, this is so now
 abbrev pub OnlyTakes : (before now : Handle) → Type 0
 OnlyTakes h k = HasTaken h → HasTaken k
 
--- so it is of this number of a memory
+-- no handle of number n is out, and number n has made only calls that take a job, the open call
+-- included
 pub record HasTakenOf (m : Memory) (n : ℕ) : Type 0 where
   pub made : List Made
   pub has : HasMadeOf m n made
   pub all : AllTake made
   pub open_call : (script : List Instr) → HasOpenOf m n script → TakesJob script
 
--- and of each number
+-- each number of the memory has made only calls that take a job (`HasTakenOf`)
 abbrev pub IsForWorkers : Memory → Type 0
 IsForWorkers m = (n : ℕ) → n < callers_of m → HasTakenOf m n

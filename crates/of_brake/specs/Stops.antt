@@ -17,15 +17,15 @@ abbrev pub IsArmedWith : (before : Option (Option ℕ)) → (stop : Option ℕ)
 IsArmedWith None stop after = after ≡ None
 IsArmedWith (Some left) stop after = after ≡ Some stop
 
--- An ask is denied exactly if no step is left, and a granted ask takes one step off. None is no
--- limit: every ask is granted.
+-- The brake denies the ask exactly if no step is left; a granted ask takes one step off. If the
+-- steps left are None, there is no limit, and every ask is granted.
 abbrev pub ChargesAskFrom : (before after : Option ℕ) → (granted : Bool) → Type 0
 ChargesAskFrom None after granted = (after ≡ None) × (granted ≡ true)
 ChargesAskFrom (Some left) after true = (n : ℕ) × (left ≡ n + 1) × (after ≡ Some n)
 ChargesAskFrom (Some left) after false = (left ≡ 0) × (after ≡ Some 0)
 
--- what an ask does to the steps left, if the brake reports them; whether it reports them never
--- changes
+-- if the brake reports its steps left, the ask is denied or takes one step off; whether the brake
+-- reports its steps left never changes
 abbrev pub ChargesAsk : (before after : Option (Option ℕ)) → (granted : Bool) → Type 0
 ChargesAsk None after granted = after ≡ None
 ChargesAsk (Some left) None granted = ⊥

@@ -28,14 +28,14 @@ TakesSteps (Some left) (Some rest) n = TakesStepsFrom left rest n
 abbrev pub UsesCountedSteps : (before after : Option (Option ℕ)) → (a b : ℕ) → Type 0
 UsesCountedSteps before after a b = (n : ℕ) × (b ≡ a + n) × TakesSteps before after n
 
--- before the call `left` steps were left, and the brake denied the next ask after them, number
--- `asked`; a brake without a limit denies no ask
+-- the brake was asked `asked` times and denied the last ask: before these asks it had one step less
+-- than that left, so it had a limit
 abbrev pub StopsWhenUsedUp : (left : Option ℕ) → (asked : ℕ) → Type 0
 StopsWhenUsedUp None asked = ⊥
 StopsWhenUsedUp (Some left) asked = asked ≡ left + 1
 
--- if the brake reports its steps left, one fewer than `asked` was left before the call, and the
--- brake denied ask number `asked`
+-- if the brake reports its steps left, it had one less than `asked` before it was asked `asked`
+-- times, and denied the last ask
 abbrev pub StopsWhenToldUsedUp : (left : Option (Option ℕ)) → (asked : ℕ) → Type 0
 StopsWhenToldUsedUp None asked = Unit {0}
 StopsWhenToldUsedUp (Some left) asked = StopsWhenUsedUp left asked

@@ -27,8 +27,8 @@ use Rattle.of_caller.specs.Vain.{IsLastStep}
 -- In these definitions a call goes on from the machine m, with the view v that keeps x, and n steps
 -- later it has come to the machine d, with the view w that keeps y.
 
--- The open call of the machine m has ended with the outcome o, after n more steps. The machine is d
--- now; the view v, which kept x, is w now, which keeps y.
+-- The open call of the machine m has ended with the outcome o, after n more steps, which have led
+-- to the machine d. The view v, which kept x of the caller, is now the view w, which keeps y.
 pub record HasEndedWith (S : Setup) (Lawful : List ℕ → Type 0) (B : TableStart)
     (m : CallState) (v : View) (x : KnownCaller) (n : ℕ) (d : CallState) (w : View)
     (y : KnownCaller) (o : Outcome) : Type 0 where
@@ -37,9 +37,10 @@ pub record HasEndedWith (S : Setup) (Lawful : List ℕ → Type 0) (B : TableSta
   pub answer : d.answer ≡ Some o
   -- the member keeps one ended call more, with this outcome
   pub kept : y.ended ≡ x.ended ++ record { op = m.op; outcome = o } ∷ []
-  -- a batch that was seen has the call with its reply; or the call only reads, and its reply is its
-  -- meaning in the state at its sequence; or the call is spent, and the batches that were seen come
-  -- up to the limit without it
+  -- What was seen explains the outcome. If the call was answered as announced, a batch that was
+  -- seen has it with its reply. If it was answered as a read, its reply is its meaning in the state
+  -- at its sequence. If it is spent, the batches that were seen come up to the limit, and none has
+  -- it.
   pub stands : CallHasEnded S B (seen_history w.seen) (seen_seq B w.seen) m.caller m.made m.op o
   -- a read's reply is its operation's meaning after the batches that were seen up to its sequence
   pub meant : IsMeantReply S B (seen_history w.seen) m.op o
@@ -76,10 +77,10 @@ TellsResult S L B m v x n d w y (Err (Stopped asked)) =
     IsStillOpen S m x n d y × (asked ≡ n + 1) × (m.steps + asked ≤ bound S)
 TellsResult S L B m v x n d w y (Err (Spent seq)) = HasEndedWith S L B m v x n d w y (Over seq)
 
--- What is known after a call has made steps. The member keeps the machine. What the member has seen
--- is a legal history. It has only calls of the caller that the caller has begun, as they ended, and
--- each announced and answered one once. The caller's calls began and ended in the same way in the
--- events that the member knows.
+-- What holds after a call has made steps. The member keeps the machine. What the member has seen is
+-- a legal history: each call of the caller there has begun, and the outcome of each ended call is
+-- there. A call of the caller that was answered as announced is there once. In the events that the
+-- member knows, the caller's calls begin and end as the member keeps them.
 pub record TellsStepsMade (S : Setup) (B : TableStart) (d : CallState) (w : View) (y : KnownCaller)
     : Type 0 where
   pub machine : y.machine ≡ d
@@ -116,7 +117,8 @@ pub record TellsCall (S : Setup) (Lawful : List ℕ → Type 0) (B : TableStart)
   pub turns : kept.turns ≡ before.turns + steps
   -- besides these steps the caller has made no load
   pub looks : w.looks ≡ v.looks
-  -- the member keeps the sequence that was seen when the call began, also if the call was stopped
+  -- the member keeps the last sequence that was seen when the call began, also if the call was
+  -- stopped
   pub since : 0 < steps → kept.since ≡ since_after B v before
   -- the steps of the whole call, also of a stopped one, are within a bound that counts the cells
   -- that operations of the work read and write

@@ -50,8 +50,8 @@ NotBegun s ms k e = finished_of s e.caller + begun_in e.caller (take k ms) ≤ e
 abbrev pub EndsBefore : Start → List Mark → Entry → Entry → Type 0
 EndsBefore s ms e f = (k : ℕ) × EntryHasEnded s ms k e × NotBegun s ms k f
 
--- f comes no earlier than e in the history: its sequence is not lower, and it is higher if f was
--- announced
+-- f comes no earlier than e in the history: the sequence of f is not lower than that of e, and it
+-- is higher if f was announced
 abbrev pub StandsBehind : Entry → Entry → Type 0
 StandsBehind e f = (e.seq ≤ f.seq) × (IsTrue f.announced → e.seq < f.seq)
 

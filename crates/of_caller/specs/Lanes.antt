@@ -69,15 +69,16 @@ pub record CallerHasEnded (p : Plan) (behind c : ℕ) (r : Row Scripts) (caller 
   pub number : kept.machine.caller ≡ c
   pub keeps : KeepsCaller p behind c answers ending kept
 
--- The answers `all` have n steps more than the answers `these`. If the brake reports its steps
--- left, they fell by n.
+-- The answers `all` name n steps more in sum than the answers `these`. If the brake reports its
+-- steps left, it has n steps less left than before.
 abbrev pub TakesStepsOfAnswers : (before after : Option (Option ℕ)) → (these all : List Answer)
     → Type 0
 TakesStepsOfAnswers before after xs ys =
     (n : ℕ) × (answer_steps ys ≡ answer_steps xs + n) × TakesSteps before after n
 
--- The answers `all` have n steps more than the answers `these`. If the brake reports that `left`
--- steps are left, a caller with these n steps and those of its open call keeps to `left`.
+-- The answers `all` name n steps more in sum than the answers `these`. If the brake reports that
+-- `left` steps are left, a caller that has made these n steps and those of its open call keeps to
+-- the stop `left`.
 abbrev pub KeepsToBrake : (left : Option (Option ℕ)) → (these all : List Answer) → Ending → Type 0
 KeepsToBrake None xs ys ending = Unit {0}
 KeepsToBrake (Some stop) xs ys ending =
@@ -85,7 +86,7 @@ KeepsToBrake (Some stop) xs ys ending =
     × KeepsStop stop (n + open_call_steps ending) (end_state_of ending)
 
 -- if the brake reports that `left` steps are left, a caller with these answers and this ending
--- keeps to `left` as its stop, with the steps of its answers and of its open call
+-- keeps to the stop `left`: the steps of its answers and of its open call count
 abbrev pub KeepsLeft : (left : Option (Option ℕ)) → List Answer → Ending → Type 0
 KeepsLeft None answers ending = Unit {0}
 KeepsLeft (Some stop) answers ending = KeepToStop stop answers ending

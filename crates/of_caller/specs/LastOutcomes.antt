@@ -15,8 +15,8 @@ abbrev pub HoldsLast : Moment → (i : ℕ) → List Outcome → Type 0
 HoldsLast w i outs =
     IsIdle (machine_in w i) → (machine_in w i).answer ≡ last_outcome outs
 
--- if the idle machine of caller i holds the last outcome, it does so too after each event that
--- doesn't replace the machine
+-- If the machine of caller i holds the last outcome whenever it is idle, this stays so after each
+-- event that doesn't replace the machine.
 abbrev pub EventsLeadLast : Setup → (List ℕ → Type 0) → Type 0
 EventsLeadLast S Lawful =
     (B : TableStart) (w : Moment) → MeetsInvariant S Lawful B w

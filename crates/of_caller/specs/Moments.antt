@@ -36,6 +36,6 @@ store_after_batches p B st w (suc j) =
 abbrev pub store_at_seq : Plan → TableStart → Store → Moment → ℕ → Store
 store_at_seq p B st w k = store_after_batches p B st w (k - B.seq)
 
--- a script's reply to this many instructions, as data cells hold it
+-- a script's reply in data cells; the script has this many instructions
 abbrev pub raw_reply_of : ℕ → Reply → RawReply
 raw_reply_of n r = reply_cells (reply_to n r)

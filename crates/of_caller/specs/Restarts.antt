@@ -27,8 +27,8 @@ pub record IsHeldIn (m : ℕ → ℕ) (caller : ℕ) (e : Entry) : Type 0 where
   pub held : IsHeldBy (reply_in MOST_INSTRS m caller) reply
   pub response : e.reply ≡ reply_value_of reply
 
--- a caller's own cells hold the last of its entries that was announced, or the ticket n if none was
--- announced
+-- a caller's own cells hold the last announced one of these entries; if none was announced, the
+-- caller's ticket cell holds n
 pub record HoldsLastAnnounced (m : ℕ → ℕ) (caller n : ℕ) (es : List Entry) : Type 0 where
   pub from : n ≤ m (ticket_cell_at MOST_INSTRS caller)
   -- no announced entry has a higher ticket

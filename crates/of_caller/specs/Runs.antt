@@ -48,8 +48,9 @@ pub record IsMomentOf (p : Plan) (s : Start) (B : TableStart) (w : Moment) (ops 
   pub calls : (c : ℕ) → c < p.callers
       → HasCalls (plan_setup p) B (finished_of s c) w c (ops c) (outs c)
 
--- The record's answers and ending of caller c agree with the outcomes of its calls. No call is
--- answered after a spent one, since an answer's place in the list says which script it answers.
+-- The record's answers and ending of caller c agree with the outcomes of the caller's calls. No
+-- call is answered after a spent one, because the place of an answer in the list says to which
+-- script it is the answer.
 pub record TellsCalls (p : Plan) (s : Start) (w : Moment) (e : Ended) (c : ℕ) (outs : List Outcome)
     : Type 0 where
   pub answers_first : AnswersStandBeforeSpent outs
@@ -115,8 +116,8 @@ RunsAreLawful =
     (p : Plan) (s : Start) (B : TableStart) (w : Moment) (e : Ended) → IsRunOfPlan p s B w e
     → (r : Report) × IsLawfulRecord p s e r
 
--- in each run's report the sequence is within the limit, an entry beyond a caller's answers was
--- announced, and no answered call has fewer steps than it must make (`ReportsRun`)
+-- In each run's report the sequence is within the limit. An entry that a caller has beyond its
+-- answers was announced. No answered call has fewer steps than it must make (`ReportsRun`).
 abbrev pub RunsAreReported : Type 0
 RunsAreReported =
     (p : Plan) (s : Start) (B : TableStart) (w : Moment) (e : Ended) → IsRunOfPlan p s B w e
@@ -127,9 +128,9 @@ RunsAreReported =
 abbrev pub steps_made : Moment → (c : ℕ) → List Outcome → ℕ
 steps_made w c outs = total_steps outs + (machine_in w c).steps
 
--- A caller of a run keeps n as its allowance in the report if it has made at most n steps, and
--- exactly n if it is stopped and no call of it is spent. Its open call must have made fewer steps
--- than the bound.
+-- If a caller has made at most n steps, the report agrees with n as the caller's allowance of steps
+-- (`KeepsAllowance`). If the caller is stopped and no call of it is spent, it must have made
+-- exactly n steps. The caller's open call must have made fewer steps than the bound.
 abbrev pub RunsKeepAllowances : Type 0
 RunsKeepAllowances =
     (p : Plan) (s : Start) (B : TableStart) (w : Moment) (e : Ended) (run : IsRunOfPlan p s B w e)

@@ -27,7 +27,7 @@ KeepsStop None steps state = state ≡ stopped → ⊥
 KeepsStop (Some most) steps state = (steps ≤ most) × (state ≡ stopped → steps ≡ most)
 
 -- a caller with these answers and this ending keeps to its stop: the steps of its answers and of
--- its open call are at most `stop`, and exactly `stop` if it was stopped
+-- its open call are together at most `stop`, and exactly `stop` if the caller was stopped
 abbrev pub KeepToStop : (stop : Option ℕ) → List Answer → Ending → Type 0
 KeepToStop stop answers ending =
     KeepsStop stop (answer_steps answers + open_call_steps ending) (end_state_of ending)

@@ -54,9 +54,9 @@ pub record IsStopped (p : Plan) (op : List ℕ) (asked : ℕ) (m : CallState) : 
   pub at_once : asked ≡ 1 → IsIdle m
   pub open_call : 1 < asked → IsOpen m.place × (m.op ≡ op) × (m.steps + 1 ≡ asked)
 
--- What is kept of caller c beyond its answered calls, if x of its n scripts are done: nothing if
--- the caller is done (x is n); an open call of script x or none if it is stopped; the spent call
--- of script x if no sequence was left.
+-- What is kept of caller c beyond its answered calls; x of its n scripts are done. If the caller is
+-- done, x is n and nothing more is kept. If it is stopped, its call of script x may be open. If it
+-- is spent, the spent call of script x is kept.
 abbrev pub KeepsLastCall : Plan → (c x n : ℕ) → CallState → List EndedCall → Ending → Type 0
 KeepsLastCall p c x n m beyond Done = (x ≡ n) × IsIdle m × (beyond ≡ [])
 KeepsLastCall p c x n m beyond (Stopped asked) =
@@ -95,8 +95,8 @@ pub record IsTeamOf (p : Plan) (s : Start) (B : TableStart) (e : Ended) (v : Vie
   pub first : v.first ≡ true
   pub loaded : v.loaded ≡ []
   pub evicted : map (λ e. e.0) v.evicted ≡ evictions_of p
-  -- of each caller the pass keeps the answered calls, also an open call of a stopped caller, and
-  -- the spent call of a spent one
+  -- of each caller the pass keeps the answered calls; of a stopped caller also the open call, if
+  -- there is one; of a spent caller also the spent call
   pub answers : length e.answers ≡ p.callers
   pub endings : length e.endings ≡ p.callers
   pub each : (c : ℕ) → c < p.callers

@@ -30,8 +30,8 @@ AnswersAsMeant meaning r op (Ok a) =
     IsMeant (meaning (key_of r).work) (cells_at_start meaning r) op a.raw
 AnswersAsMeant meaning r op (Err e) = Unit {0}
 
--- the ended calls of a caller, after a call of this operation has had this result: that call is
--- added if it was answered or spent
+-- The list of a caller's ended calls after a call of this operation has had this result. If the
+-- call was answered or spent, it is added at the end; otherwise the list stays as it is.
 abbrev pub made_with : (op : List ℕ) → Result RawAnswer RunError → List EndedCall → List EndedCall
 made_with op (Ok a) es = es ++ record { op = op; outcome = outcome_of a } ∷ []
 made_with op (Err (Stopped asked)) es = es
@@ -48,8 +48,8 @@ IsInCall c = IsOpen (caller_call c).place
 abbrev pub IsOpenAt : {W : Type 0} → (op : List ℕ) → Caller W → Type 0
 IsOpenAt op c = IsInCall c × ((caller_call c).op ≡ op)
 
--- if the call was stopped, a call of this operation is open; if it was answered or spent, no call
--- is open
+-- a call of this operation is open if it was stopped, and no call is open if it was answered or
+-- spent
 abbrev pub LeavesOpen : {W : Type 0} → (op : List ℕ) → Result RawAnswer RunError → Caller W
     → Type 0
 LeavesOpen op (Ok a) c = IsInCall c → ⊥
@@ -68,7 +68,7 @@ CallerOpensOnly op c d = (o : List ℕ) → IsOpenAt o d → (o ≡ op) ⊎ IsOp
 abbrev pub CallerOpensNone : {W : Type 0} → (before now : Caller W) → Type 0
 CallerOpensNone c d = (o : List ℕ) → IsOpenAt o d → IsOpenAt o c
 
--- the call was made: it was not refused
+-- the call was made; it was not refused
 abbrev pub WasTried : Result RawAnswer RunError → Type 0
 WasTried (Ok a) = Unit {0}
 WasTried (Err (Stopped asked)) = Unit {0}
@@ -86,30 +86,30 @@ HasStarted (Err InCall) = ⊥
 HasStarted (Err NoCall) = ⊥
 HasStarted (Err NoTicket) = ⊥
 
--- If the call has made a step, the caller of this number knew, before the call, of no begun call of
--- its number besides those that had ended.
+-- If the call has made a step, then before the call the caller knew of no call of its number that
+-- had begun and not ended.
 abbrev pub BeginsAsNext : {W : Type 0} → (number : ℕ) → Result RawAnswer RunError → Caller W
     → Type 0
 BeginsAsNext n result c =
     HasStarted result → calls_begun_in (events_known_to c) n ≤ length (ended_of c)
 
--- If the call has made a step, the caller knew, before the call, of no begun call of its own number
--- besides those that had ended.
+-- If the call has made a step, then before the call the caller knew of no call of its own number
+-- that had begun and not ended.
 abbrev pub BeginsItsNext : {W : Type 0} → Result RawAnswer RunError → Caller W → Type 0
 BeginsItsNext result c = BeginsAsNext (caller_call c).caller result c
 
--- If an open call had made no step and makes one when it goes on, the caller knew before of no
--- begun call of its own number besides those that had ended.
+-- If an open call that had made no step makes one when it goes on, then before that the caller knew
+-- of no call of its own number that had begun, besides those that had ended.
 abbrev pub ResumesItsNext : {W : Type 0} → Result RawAnswer RunError → Caller W → Type 0
 ResumesItsNext result c =
     HasStartedIfOpen (last_caller (sight_of c).kept) → (caller_call c).steps ≡ 0
     → BeginsItsNext result c
 
--- the caller has made no more loads outside of its calls: the count of these loads stayed
+-- the caller has made no load outside of its calls: the count of such loads has stayed the same
 abbrev pub StepsAlone : {W : Type 0} → (before now : Caller W) → Type 0
 StepsAlone c d = looks_made_by d ≡ looks_made_by c
 
--- the caller knows the events that it knew, and maybe more after them
+-- the caller knows all events that it knew, in the same order, and maybe later ones
 abbrev pub LearnsMore : {W : Type 0} → (before now : Caller W) → Type 0
 LearnsMore c d = IsPrefix (events_known_to c) (events_known_to d)
 

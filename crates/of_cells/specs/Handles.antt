@@ -46,8 +46,8 @@ last_operation_of h = (caller_call (caller_of h)).op
 abbrev pub HasOpen : {W : Type 0} → CellHandle W → (op : List ℕ) → Type 0
 HasOpen h op = IsOpenAt op (caller_of h)
 
--- if the call was stopped, a call of this operation is open; if it was answered or spent, no call
--- is open
+-- a call of this operation is open if it was stopped, and no call is open if it was answered or
+-- spent
 abbrev pub StaysOpenOnlyIfStopped : {W : Type 0} → (op : List ℕ) → Result RawAnswer RunError
     → CellHandle W → Type 0
 StaysOpenOnlyIfStopped op result h = LeavesOpen op result (caller_of h)
@@ -72,7 +72,7 @@ steps_of_calls h = steps_made_by (caller_of h)
 abbrev pub looks_of : {W : Type 0} → CellHandle W → ℕ
 looks_of h = looks_made_by (caller_of h)
 
--- the handle has made no more loads outside of its calls: the count of these loads stayed
+-- the handle has made no load outside of its calls: the count of such loads has stayed the same
 abbrev pub MakesStepsAlone : {W : Type 0} → (before now : CellHandle W) → Type 0
 MakesStepsAlone h k = StepsAlone (caller_of h) (caller_of k)
 
@@ -80,20 +80,21 @@ MakesStepsAlone h k = StepsAlone (caller_of h) (caller_of k)
 abbrev pub MakesAtMost : {W : Type 0} → (most : ℕ) → (before now : CellHandle W) → Type 0
 MakesAtMost most h k = steps_of_calls k ≤ steps_of_calls h + most
 
--- if the handle has an open call: the steps that this call had made, and the steps made since, are
--- together at most this many
+-- if the handle has an open call, the steps that this call had made before, and the steps made
+-- since, are together at most this many
 abbrev pub GoesOnWithin : {W : Type 0} → (most : ℕ) → (before now : CellHandle W) → Type 0
 GoesOnWithin most h k = HasCallOpen h → steps_so_far h + steps_of_calls k ≤ steps_of_calls h + most
 
--- the calls of the handle's number have made no more steps than one call of this operation may
--- make; the bound counts the cells that operations of the work read and write
+-- The calls of the handle's number have made no more steps than one call of this operation may
+-- make. This bound depends on how many cells the operations of the work read and write.
 abbrev pub MakesByTouch : {W : Type 0} → (W → Meaning) → (W → List ℕ → Type 0) → (op : List ℕ)
     → (before now : CellHandle W) → Type 0
 MakesByTouch meaning lawful op h k =
     RisesByTouch meaning lawful (home_of h) op 0 (steps_of_calls h) (steps_of_calls k)
 
--- if the handle has an open call: the steps that this call had made, and the steps made since, are
--- no more than it may make; the bound counts the cells that operations of the work read and write
+-- If the handle has an open call, the steps that this call had made before, and the steps made
+-- since, are together no more than the call may make. This bound depends on how many cells the
+-- operations of the work read and write.
 abbrev pub GoesOnByTouch : {W : Type 0} → (W → Meaning) → (W → List ℕ → Type 0)
     → (before now : CellHandle W) → Type 0
 GoesOnByTouch meaning lawful h k =
@@ -122,8 +123,8 @@ tickets_behind meaning h = made_before meaning (home_of h) (number_of_handle h)
 abbrev pub HasNoTicketLeft : {W : Type 0} → CellHandle W → Type 0
 HasNoTicketLeft h = calls_begun h + 1 < 4294967296 → ⊥
 
--- if a handle has no open call, the calls that its number has begun are as many as those from
--- before its memory was opened and those that have ended since
+-- If a handle has no open call, the number of calls that its number has begun is the sum of two:
+-- those from before its memory was opened, and those that have ended since.
 abbrev pub CallsAreCounted : {W : Type 0} → (W → Meaning) → Type 0
 CallsAreCounted {W} meaning =
     (h : CellHandle W) → IsCellHandle meaning h → (HasCallOpen h → ⊥)

@@ -56,26 +56,28 @@ ExplainsEnd h c t op (Answered seq announced raw steps) = HasEntry h c t op raw
 ExplainsEnd h c t op (Spent seq) = All (λ (e : Call). e.caller ≡ c → e.ticket ≡ t → ⊥) h
 ExplainsEnd h c t op (Lost seq) = Unit {0}
 
--- the history explains how these calls of a caller ended; they have the tickets from n + 1 on
+-- the history explains how each call in this list of a caller's ended calls has ended; the first
+-- call of the list has the ticket n + 1
 abbrev pub ExplainsAll : List Call → (caller n : ℕ) → List EndedCall → Type 0
 ExplainsAll h c n es =
     (y : ℕ) → y < length es
     → ExplainsEnd h c (n + y + 1) (get_or es y no_ended).op (get_or es y no_ended).outcome
 
--- each of these calls that was answered has, in the history, the sequence that its answer names,
--- and is announced there exactly if the answer says so; the tickets are those from n + 1 on
+-- If a call in this list of a caller's ended calls was answered and is in the history, it has there
+-- the sequence that its answer names, and is announced there exactly if the answer says so. The
+-- first call of the list has the ticket n + 1.
 abbrev pub HaveOwnSequences : List Call → Sequences → (caller n : ℕ) → List EndedCall → Type 0
 HaveOwnSequences h s c n es =
     (y : ℕ) → y < length es → HasOwnSequence h s c (n + y + 1) (get_or es y no_ended).outcome
 
--- the entry is one of these ended calls, which have the tickets from n + 1 on, or it is an open
--- call with the ticket after theirs
+-- the entry is a call of this list of ended calls, whose first call has the ticket n + 1; or it is
+-- an open call, with the ticket after the last of the list
 abbrev pub IsOneOf : (n : ℕ) → List EndedCall → (IsOpenCall : List ℕ → Type 0) → Call → Type 0
 IsOneOf n es IsOpenCall e =
     ((y : ℕ) × (y < length es) × (e.ticket ≡ n + y + 1) × (e.op ≡ (get_or es y no_ended).op))
     ⊎ ((e.ticket ≡ n + length es + 1) × IsOpenCall e.op)
 
--- each entry of the caller is one of these ended calls or its open call
+-- each entry of the caller in the history is one of these ended calls, or the caller's open call
 abbrev pub HasOnly : List Call → (caller n : ℕ) → List EndedCall → (List ℕ → Type 0) → Type 0
 HasOnly h c n es IsOpenCall = All (λ (e : Call). e.caller ≡ c → IsOneOf n es IsOpenCall e) h
 

@@ -82,8 +82,8 @@ pub record HasOpenOf {W : Type 0} (m : CellMemory W) (n : ℕ) (op : List ℕ) :
   pub here : get_or m.callers.items n None ≡ Some caller
   pub opened : IsOpenAt op caller
 
--- no handle of number j is out, and number j knows: the first x calls of number n had ended before
--- number k began its call y + 1
+-- no handle of number j is out, and number j knows that the first x calls of number n had ended
+-- before number k began its call y + 1
 pub record HasOrderOf {W : Type 0} (meaning : W → Meaning) (m : CellMemory W) (j n x k y : ℕ)
     : Type 0 where
   pub caller : Caller W
@@ -101,7 +101,7 @@ HasHeardOf meaning m n count =
     count ≤ calls_ended_in (setup_at meaning (row_of m)) (row_start meaning (row_of m))
     (events_heard m) n
 
--- the memory still knows of each ended call that it knew of
+-- of each ended call that the memory knew of before, it still knows
 abbrev pub RemembersAll : {W : Type 0} → (W → Meaning) → (before now : CellMemory W) → Type 0
 RemembersAll meaning m k =
     (n count : ℕ) → HasHeardOf meaning m n count → HasHeardOf meaning k n count
@@ -130,19 +130,20 @@ IsFrom m h = home_of h ≡ row_of m
 abbrev pub IsStill : {W : Type 0} → (before now : CellMemory W) → Type 0
 IsStill m k = row_of k ≡ row_of m
 
--- For each number but n whose caller was in the memory: the caller is still in the memory, with the
--- same ended calls.
+-- For each number other than n: if the number's caller was in the memory, this caller is still
+-- there, with the same ended calls.
 abbrev pub KnowsOthers : {W : Type 0} → ℕ → (before now : CellMemory W) → Type 0
 KnowsOthers n m k =
     (i : ℕ) (es : List EndedCall) → i ≢ n → HasMadeOf m i es → HasMadeOf k i es
 
--- for each number but n whose caller was in the memory with an open call: the caller is still in
--- the memory, with this call open
+-- for each number other than n: if the number's caller was in the memory with an open call, this
+-- caller is still there, with this call open
 abbrev pub OthersStayOpen : {W : Type 0} → ℕ → (before now : CellMemory W) → Type 0
 OthersStayOpen n m k =
     (i : ℕ) (op : List ℕ) → i ≢ n → HasOpenOf m i op → HasOpenOf k i op
 
--- for each number but i: its caller in the memory still knows each order of calls that it knew
+-- for each number other than i: if the number's caller in the memory knew that some calls had ended
+-- before another call began, it still knows this
 abbrev pub OthersKnowOrder : {W : Type 0} → (W → Meaning) → ℕ → (before now : CellMemory W)
     → Type 0
 OthersKnowOrder meaning i m l =
@@ -203,7 +204,8 @@ KeepsTime meaning m h =
     (j n x k y : ℕ) → HasOrderOf meaning m j n x k y
     → ComeInOrder h n (tickets_before meaning m n + x) k (tickets_before meaning m k + y)
 
--- the list is one history of the memory that leads to what is saved, and it respects real time
+-- the list is one serial history of the memory that leads to what is saved, and it respects real
+-- time
 pub record LeadsTo {W : Type 0} (meaning : W → Meaning) (m : CellMemory W) (d : SavedCells W)
     (h : List Call) : Type 0 where
   pub one : IsOneHistory meaning m d h

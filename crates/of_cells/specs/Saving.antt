@@ -43,7 +43,8 @@ saved_cells d = map payload_of (start_on d.shape d.row.items).cells
 abbrev pub saved_words : {W : Type 0} → SavedCells W → List ℕ
 saved_words d = d.row.items
 
--- the ticket of caller n in data cells with these numbers: how many calls of this caller these know
+-- the ticket of caller n, if the data cells have these numbers: the number of the caller's last
+-- announced call that was run
 abbrev pub own_ticket : (cells : List ℕ) → (n : ℕ) → ℕ
 own_ticket cells n = get_or cells (ticket_cell_at MOST_INSTRS n) 0
 
@@ -101,14 +102,15 @@ HoldAfterOwn k cells numbers =
 abbrev pub SavedHolds : {W : Type 0} → SavedCells W → List ℕ → Type 0
 SavedHolds d numbers = HoldAfterOwn (saved_callers d) (saved_cells d) numbers
 
--- Caller n had made `before` calls. The data cells show its last call since: there was none, or it
--- is the call of the history with the ticket in the cells, and the cells hold its reply.
+-- Caller n had made `before` calls. The data cells show the caller's last call since then: either
+-- there was none; or the history has a call of the caller with the ticket that is in the cells, and
+-- the cells hold its reply.
 abbrev pub TellLast : (cells : List ℕ) → List Call → (n before : ℕ) → Type 0
 TellLast xs h n before =
     (own_ticket xs n ≡ before) ⊎ ((p : ℕ) × (p < length h) × ((get_or h p no_call).caller ≡ n)
     × ((get_or h p no_call).ticket ≡ own_ticket xs n) × HoldReply xs n (get_or h p no_call).raw)
 
--- the history explains how the kept caller's calls ended
+-- the history explains how each ended call of the kept caller has ended
 abbrev pub ExplainsKept : Setup → TableStart → List Call → KnownCaller → Type 0
 ExplainsKept S B h x =
     ExplainsAll h x.machine.caller (done_before S B x.machine.caller) x.ended
@@ -123,7 +125,8 @@ HaveKeptSequences S B h q x =
 abbrev pub HasOpenOperation : KnownCaller → (op : List ℕ) → Type 0
 HasOpenOperation x op = IsOpen x.machine.place × (x.machine.op ≡ op)
 
--- each entry of the kept caller in the history is one of its ended calls or its open call
+-- each entry of the history that is a call of the kept caller's number is one of the caller's ended
+-- calls, or its open call
 abbrev pub HasOnlyKept : Setup → TableStart → List Call → KnownCaller → Type 0
 HasOnlyKept S B h x =
     HasOnly h x.machine.caller (done_before S B x.machine.caller) x.ended (HasOpenOperation x)

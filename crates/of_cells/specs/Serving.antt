@@ -41,8 +41,8 @@ row_step_bound meaning r = bound (setup_at meaning r)
 abbrev pub ended_of : {W : Type 0} → Caller W → List EndedCall
 ended_of c = (last_caller (sight_of c).kept).ended
 
--- the calls of the caller's number that were begun are as many as those from before the row's
--- start, those that have ended since, and the open one
+-- The number of calls that were begun with the caller's number is the sum of three: those from
+-- before the row's start, those that have ended since, and the open one, if there is one.
 abbrev pub CountsCalls : {W : Type 0} → (W → Meaning) → Row W → ℕ → Caller W → Type 0
 CountsCalls meaning r n c =
     calls_begun_by c
@@ -81,7 +81,7 @@ pub record Serves {W : Type 0} (meaning : W → Meaning) (r : Row W) (n : ℕ) (
       ≤ calls_ended_in (setup_at meaning r) (row_start meaning r) (events_known_to c) n
   pub started : HasStartedIfOpen (last_caller (sight_of c).kept)
 
--- the caller has the same calls, ended and open, and knows as much as before or more
+-- the caller has the same ended and open calls as before, and knows at least as much as before
 pub record KnowsMore {W : Type 0} (before now : Caller W) : Type 0 where
   pub call : caller_call now ≡ caller_call before
   pub kept : (sight_of now).kept ≡ (sight_of before).kept
@@ -118,7 +118,7 @@ abbrev pub ServeAll : {W : Type 0} → (W → Meaning) → Row W → List (Optio
 ServeAll {W} meaning r cs =
     (n : ℕ) (c : Caller W) → get_or cs n None ≡ Some c → Serves meaning r n c
 
--- the list has a caller of this number of which P holds
+-- the list has a caller of this number, and P holds of this caller
 abbrev pub KeepsSo : (n : ℕ) → (KnownCaller → Type 0) → List KnownCaller → Type 0
 KeepsSo n P [] = ⊥
 KeepsSo n P (x ∷ xs) = ((x.machine.caller ≡ n) × P x) ⊎ KeepsSo n P xs
@@ -129,7 +129,8 @@ pub record IsKeptOf {W : Type 0} (c : Caller W) (x : KnownCaller) : Type 0 where
   pub ended : x.ended ≡ ended_of c
   pub open_call : IsOpen x.machine.place → x.machine ≡ caller_call c
 
--- each caller in the list, at a place below the count, is kept, with its number and its calls
+-- each caller in the list, at a place below the count, is one of the kept callers: its number and
+-- its calls are kept
 abbrev pub KeepsThose : {W : Type 0} → List (Option (Caller W)) → (count : ℕ) → List KnownCaller
     → Type 0
 KeepsThose {W} cs count xs =

@@ -20,7 +20,7 @@ pub record KnowsHandle {W : Type 0} (m : CellMemory W) (h : CellHandle W) : Type
   pub open_call : (op : List ℕ) → HasOpen h op → HasOpenOf m (number_of_handle h) op
   pub only_open : (op : List ℕ) → HasOpenOf m (number_of_handle h) op → HasOpen h op
 
--- of number n the memory knows exactly the calls that it knew before, ended and open
+-- of number n the memory knows exactly the ended calls and the open call that it knew before
 pub record KnowsSame {W : Type 0} (n : ℕ) (m k : CellMemory W) : Type 0 where
   pub made : (es : List EndedCall) → HasMadeOf m n es → HasMadeOf k n es
   pub only : (es : List EndedCall) → HasMadeOf k n es → HasMadeOf m n es
@@ -31,8 +31,8 @@ pub record KnowsSame {W : Type 0} (n : ℕ) (m k : CellMemory W) : Type 0 where
 abbrev pub KnowsRest : {W : Type 0} → (from : ℕ) → (before now : CellMemory W) → Type 0
 KnowsRest from m k = (n : ℕ) → from ≤ n → KnowsSame n m k
 
--- for each number from `from` on: its caller in the memory still knows each order of calls that it
--- knew
+-- for each number from `from` on: if the number's caller in the memory knew that some calls had
+-- ended before another call began, it still knows this
 abbrev pub RestKnowsOrder : {W : Type 0} → (W → Meaning) → (from : ℕ)
     → (before now : CellMemory W) → Type 0
 RestKnowsOrder meaning from m l =

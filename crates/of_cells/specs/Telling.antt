@@ -25,14 +25,15 @@ HasHeardOf meaning h n count =
     ≤ calls_ended_in (setup_at meaning (home_of h)) (row_start meaning (home_of h))
     (events_known_to (caller_of h)) n
 
--- the handle knows that the first x calls of number n had ended before number k began the call
--- after its first y
+-- the handle knows that the first x calls of number n had ended before number k began its call y +
+-- 1
 abbrev pub KnowsOrder : {W : Type 0} → (W → Meaning) → CellHandle W → (n x k y : ℕ) → Type 0
 KnowsOrder meaning h n x k y =
     EndBefore (setup_at meaning (home_of h)) (row_start meaning (home_of h))
     (events_known_to (caller_of h)) n x k y
 
--- the handle still knows of each ended call that it knew of, and each order of calls that it knew
+-- the handle still knows of each ended call that it knew of, and of each pair of calls which of
+-- them came first, if it knew this
 pub record KeepsKnown {W : Type 0} (meaning : W → Meaning) (before now : CellHandle W)
     : Type 0 where
   pub heard : (n count : ℕ) → HasHeardOf meaning before n count → HasHeardOf meaning now n count
@@ -92,14 +93,15 @@ ResumesAfterHeard meaning result h k =
 
 -- ---- handles come and go
 
--- the handle knows each order of calls that the caller of its number knew in the memory
+-- if the caller of the handle's number, in the memory, knew that some calls had ended before
+-- another call began, the handle knows this
 abbrev pub KnowsOrdersOf : {W : Type 0} → (W → Meaning) → CellMemory W → CellHandle W → Type 0
 KnowsOrdersOf meaning m h =
     (n x k y : ℕ) → HasOrderOf meaning m (number_of_handle h) n x k y
     → KnowsOrder meaning h n x k y
 
--- the caller of the handle's number is in the memory, and knows each order of calls that the handle
--- knew
+-- the caller of the handle's number is in the memory; if the handle knew that some calls had ended
+-- before another call began, this caller knows it
 abbrev pub LeavesOrder : {W : Type 0} → (W → Meaning) → CellHandle W → CellMemory W → Type 0
 LeavesOrder meaning h m =
     (n x k y : ℕ) → KnowsOrder meaning h n x k y

@@ -25,8 +25,8 @@ KeepsWithin before more now (Err InCall) = Unit {0}
 KeepsWithin before more now (Err NoCall) = Unit {0}
 KeepsWithin before more now (Err NoTicket) = Unit {0}
 
--- A call that had made `before` steps makes at most as many more steps as its stop allows, and is
--- stopped only after these. Without a stop it is never stopped.
+-- A call that had made `before` steps makes at most as many steps more as its stop allows, and it
+-- is stopped only after it has made them all. Without a stop it is never stopped.
 abbrev pub KeepsToStop : (before : ℕ) → (stop : Option ℕ) → (now : ℕ)
     → Result RawAnswer RunError → Type 0
 KeepsToStop before None now r = IsNeverStopped r

@@ -56,8 +56,8 @@ call_at calls index = slice_index_or calls index (record {
   announced = false;
 })
 
--- the claimed calls before the one with this index may come one after another, and that one breaks
--- the rule
+-- the claimed calls before the one with this index may come one after another, and the call with
+-- this index breaks the rule
 pub record BreaksAt (p : Plan) (s : Start) (calls : List CallClaim) (index : ℕ) (rule : EntryRule)
     : Type 0 where
   pub there : index < length calls
@@ -65,8 +65,8 @@ pub record BreaksAt (p : Plan) (s : Start) (calls : List CallClaim) (index : ℕ
   pub breaks : BreaksEntry rule p (course_end p (replay_at_start s) (take index calls))
       (call_at calls index)
 
--- running the claimed calls from the start has ended so: all of them have run, or those before the
--- first that breaks a rule
+-- The claimed calls were run from the start, one after another. Either all of them have run; or the
+-- calls before the first one that breaks a rule have run, and `broken` is this rule.
 pub record IsReplayEnd (p : Plan) (s : Start) (calls : List CallClaim) (e : ReplayEnd)
     : Type 0 where
   pub few : e.count ≤ length calls
@@ -88,7 +88,8 @@ BreaksEnd Steps p scripts seq l =
     HasOpenCall l.state l.answered l.entries × HasEndState l.state l.answered scripts seq p.limit
     × (LineIsWithinBound p l → ⊥)
 
--- the caller has no line, if the rule is `Missing`; otherwise the caller's line breaks the rule
+-- if the rule is `Missing`, the text has no line for the caller; otherwise the caller's line breaks
+-- the rule
 abbrev pub BreaksClaim : EndRule → Plan → (done : List ℕ) → (seq : ℕ) → (counts : List ℕ)
     → List EndClaim → (caller : ℕ) → Type 0
 BreaksClaim Missing p done seq counts ends caller = length ends ≤ caller
@@ -138,8 +139,9 @@ pub record DifferFirst (one other : List ℕ) (above : ℕ) : Type 0 where
   pub same : SameAbove one other above
   pub differ : SameAbove one other (above + 1) → ⊥
 
--- `found` is the cause that comes first: `cause`, on the line with `above` lines above it, or an
--- earlier line at which the text differs from the wanted one
+-- `found` is the cause that comes first in the text. It is `cause` if the first `above` lines of
+-- the text are the wanted ones; otherwise it is that the text differs from the wanted one at an
+-- earlier line.
 pub data ComesFirst (text : List ℕ) (wanted : Vec ℕ Global) (above : ℕ) (cause found : Cause)
     : Type 0 where
   Same : SameAbove text wanted.items above → found ≡ cause
@@ -149,8 +151,9 @@ pub data ComesFirst (text : List ℕ) (wanted : Vec ℕ Global) (above : ℕ) (c
 
 -- ---- causes
 
--- the text differs at this line from that of the report that its claims make; if a claimed call
--- breaks a rule, the report is made of the calls before it, and the line comes before that call's
+-- The text differs, first at this line, from the text of the report that its claims make. If a
+-- claimed call breaks a rule, the report is made of the calls before this call, and the line comes
+-- before the line of this call.
 pub record DiffersAt (p : Plan) (s : Start) (text wanted : List ℕ) (above : ℕ) : Type 0 where
   pub count : ℕ
   pub follow : AllFollow p (replay_at_start s) (take count (call_claims_of_text text))

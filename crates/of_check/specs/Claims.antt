@@ -87,8 +87,8 @@ end_of_line ws = do
   name ← first_and_other_words ws
   if bytes_eq name.0 (codes "caller") then end_in name.1 else None
 
--- what was read of a line, in front of what was read after it; nothing, if this line could not be
--- read
+-- the list `xs` with the result of reading one line in front; if the line could not be read, the
+-- empty list
 abbrev pub onto_read : {X : Type 0} → Option X → List X → List X
 onto_read None xs = []
 onto_read (Some x) xs = x ∷ xs
@@ -103,7 +103,7 @@ abbrev pub lines_of : Option (Bor (List ℕ)) → List (List ℕ)
 lines_of None = []
 lines_of (Some rest) = text_lines rest.now
 
--- `xs` were read of the first of the lines `ls`, and `rest` are the lines after these
+-- the lines `ls` begin with lines of which `xs` were read; `rest` are the lines after these
 pub record HasReadLines {X : Type 0} (read : List (List ℕ) → Option X) (ls : List (List ℕ))
     (xs : List X) (rest : List (List ℕ)) : Type 0 where
   pub found : xs ≡ read_lines read ls

@@ -21,7 +21,8 @@ claimed_line entries e = record {
 abbrev pub left_of : Plan → (done : List ℕ) → ℕ → ℕ
 left_of p done c = length (scripts_of p c) - slice_index done c
 
--- the line is possible for a caller that had this many scripts to do, if the last sequence is `seq`
+-- the line may be the line of a caller that had this many scripts to do, if the report's last
+-- sequence is `seq`
 pub record IsEnding (p : Plan) (scripts seq : ℕ) (l : Line) : Type 0 where
   pub open_call : HasOpenCall l.state l.answered l.entries
   pub ended : HasEndState l.state l.answered scripts seq p.limit
@@ -31,8 +32,9 @@ pub record IsEnding (p : Plan) (scripts seq : ℕ) (l : Line) : Type 0 where
 abbrev pub end_at : List EndClaim → ℕ → EndClaim
 end_at ends c = slice_index_or ends c (record { state = Done; answered = 0; longest = 0 })
 
--- the line of a caller, by its claim: `done` says how many scripts of each caller were done at the
--- start, `counts` how many are done now, and the entries are those in between
+-- The line of a caller by what the text claims. The list `done` says how many scripts of each
+-- caller were done at the start, and `counts` how many are done now. The line's number of entries
+-- is the difference.
 abbrev pub claimed_line_at : (done counts : List ℕ) → List EndClaim → ℕ → Line
 claimed_line_at done counts ends c =
     claimed_line (slice_index counts c - slice_index done c) (end_at ends c)

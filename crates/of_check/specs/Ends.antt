@@ -16,7 +16,7 @@ use Rattle.of_check.specs.declared.ends.LeftRule.TheVariants.{Callers, Blocks, S
 
 -- ---- the last call that a caller announced
 
--- the last announced one of these entries, or `before` if none is announced
+-- the last entry of the list that was announced; `before` if none was announced
 abbrev pub last_announced : (before : Option Entry) → List Entry → Option Entry
 last_announced before [] = before
 last_announced before (e ∷ es) = last_announced (if e.announced then Some e else before) es
@@ -25,7 +25,7 @@ last_announced before (e ∷ es) = last_announced (if e.announced then Some e el
 abbrev pub last_call : Report → (caller : ℕ) → Option Entry
 last_call r c = last_announced None (entries_of r c)
 
--- the code's entry as contracts see it, if there is one
+-- the entry as contracts see it, for an entry as the code has it; None for None
 abbrev pub entry_in : Option TheEntry → Option Entry
 entry_in None = None
 entry_in (Some e) = Some (entry_value e)

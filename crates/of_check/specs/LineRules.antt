@@ -24,8 +24,8 @@ pub record SharePieces (count : ℕ) (one other : List ℕ) : Type 0 where
   pub second : count ≤ length (line_pieces other)
   pub same : take count (line_pieces one) ≡ take count (line_pieces other)
 
--- both lines have a piece with this many before it; the found line's isn't empty, and is not the
--- wanted line's
+-- Both lines have a piece with this many pieces before it. The two pieces differ, and the found
+-- line's piece isn't empty.
 pub record HasOtherPiece (found wanted : List ℕ) (before : ℕ) : Type 0 where
   pub there : before < length (line_pieces found)
   pub wants : before < length (line_pieces wanted)
@@ -36,8 +36,8 @@ pub record HasOtherPiece (found wanted : List ℕ) (before : ℕ) : Type 0 where
 abbrev pub IsStoreName : List ℕ → Type 0
 IsStoreName name = (name ≡ codes "register") ⊎ (name ≡ codes "key") ⊎ (name ≡ codes "queue")
 
--- the wanted line begins with this word; the lines share the first `before` pieces, and differ in
--- the next one
+-- the wanted line begins with this word, the two lines have the same first `before` pieces, and
+-- their next pieces differ
 pub record IsOtherIn (kind : List ℕ) (before : ℕ) (found wanted : List ℕ) : Type 0 where
   pub name : piece_at wanted 0 ≡ kind
   pub same : SharePieces before found wanted
@@ -47,8 +47,8 @@ pub record IsOtherIn (kind : List ℕ) (before : ℕ) (found wanted : List ℕ) 
 abbrev pub HasMorePieces : List ℕ → Type 0
 HasMorePieces line = 1 < length (line_pieces line)
 
--- What a reason other than `Spelling` says of a line that was found in place of the wanted one. The
--- reply of an entry is its sixth piece and those after it.
+-- What is true of a line that was found in place of the wanted line, if this reason was given;
+-- `Spelling` says nothing. The reply of an entry is its sixth piece and those after it.
 abbrev pub SaysOfLine : LineRule → (found wanted : List ℕ) → Type 0
 SaysOfLine AfterEnd found wanted = wanted ≡ []
 SaysOfLine Store found wanted =

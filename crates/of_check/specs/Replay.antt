@@ -62,9 +62,9 @@ abbrev pub course_end : Plan → Replay → List CallClaim → Replay
 course_end p c [] = c
 course_end p c (q ∷ qs) = course_end p (after_claimed_call p c q) qs
 
--- After the last claim may come: an announced call at the next sequence, or, if the last is
--- announced and of a lower caller, at the same one; or a read at the same sequence, if the last is
--- announced or a read of no higher caller
+-- Which call may come after the last one. An announced call may come at the next sequence; or at
+-- the same sequence, if the last call was announced and is of a lower caller. A read may come at
+-- the same sequence, if the last call was announced, or was a read of the same or a lower caller.
 abbrev pub MayFollowWithin : (last_announced announced : Bool) → (last next : CallClaim) → Type 0
 MayFollowWithin true true last q =
     (q.seq ≡ last.seq + 1) ⊎ ((q.seq ≡ last.seq) × (last.caller < q.caller))
@@ -96,7 +96,7 @@ replay_value r = record { counts = r.counts.items; last = r.last; store = r.stor
 abbrev pub entries_so_far : RustReplay → List Entry
 entries_so_far r = map entry_value r.entries.items
 
--- one more call has run, which was one that might come next
+-- one more call has run; before it ran, it was a call that may come next
 pub record HasRunCall (p : Plan) (before now : RustReplay) (q : CallClaim) : Type 0 where
   pub follows : MayFollow p (replay_value before) q
   pub course : replay_value now ≡ after_claimed_call p (replay_value before) q

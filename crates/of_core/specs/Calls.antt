@@ -40,25 +40,27 @@ abbrev pub operations_begun : List Event → ℕ → List (List ℕ)
 operations_begun [] i = []
 operations_begun (e ∷ es) i = operation_begun e i ++ operations_begun es i
 
--- how a turn has ended its call: a list of one outcome, or of none
+-- the outcome with which a turn has ended its call, as a list: of one outcome, or empty if the turn
+-- has ended no call
 abbrev pub outcome_of_turn : Turn → List Outcome
 outcome_of_turn NoCall = []
 outcome_of_turn Open = []
 outcome_of_turn (Ended o) = o ∷ []
 
--- how a step that led from one machine to the other has ended its call: a list of one outcome, or
--- of none
+-- the outcome with which a step that led from one machine to the other has ended its call, as a
+-- list: of one outcome, or empty if the step has ended no call
 abbrev pub outcome_of_step : (before now : CallState) → List Outcome
 outcome_of_step m d = outcome_of_turn (turn_of m d)
 
--- how a call ends whose machine is lost and replaced: as lost, if the call was open and the new
--- machine has no open call; a list of one outcome, or of none
+-- the outcome of a call whose machine is lost and replaced, as a list: the call ends as lost if it
+-- was open and the new machine has no open call; otherwise the list is empty
 abbrev pub outcome_of_loss : (committed : ℕ) → (was_idle now_idle : Bool) → List Outcome
 outcome_of_loss s true now_idle = []
 outcome_of_loss s false true = Lost s ∷ []
 outcome_of_loss s false false = []
 
--- how an event has ended a call of caller i: a list of one outcome, or of none
+-- the outcome with which an event has ended a call of caller i, as a list: of one outcome, or empty
+-- if the event has ended no call of the caller
 abbrev pub outcome_of_event : Setup → Moment → Event → ℕ → List Outcome
 outcome_of_event S w (Begins j op) i = []
 outcome_of_event S w (Turns j) i =
@@ -119,15 +121,15 @@ outcome_seq (Answered s announced raw steps) = s
 outcome_seq (Spent s) = s
 outcome_seq (Lost s) = s
 
--- the outcome is not before the sequence `low`: the sequence of an announced call's answer is above
--- `low`, and the sequence of any other outcome is at least `low`
+-- the outcome is no older than the sequence `low`: the sequence of an announced call's answer is
+-- above `low`, and the sequence of any other outcome is at least `low`
 abbrev pub IsNotBefore : ℕ → Outcome → Type 0
 IsNotBefore low (Answered s true raw steps) = low < s
 IsNotBefore low (Answered s false raw steps) = low ≤ s
 IsNotBefore low (Spent s) = low ≤ s
 IsNotBefore low (Lost s) = low ≤ s
 
--- the outcome that stands for a place beyond the end of a list of outcomes
+-- the outcome that `get_or` gives beyond the end of a list of outcomes
 abbrev pub no_outcome : Outcome
 no_outcome = Spent 0
 
@@ -174,15 +176,15 @@ OutcomeStands S B w i ticket op (Spent s) =
 OutcomeStands S B w i ticket op (Lost s) =
     (s ≤ B.seq + length w.batches) × IsSplitAt B w i ticket s
 
--- if the read is caller i's, it is the unannounced answer of one of the calls that the caller has
--- begun after its first `before` calls
+-- if the read is caller i's, the caller has begun this call after its first `before` calls, and the
+-- call's outcome is an unannounced answer with the read's sequence and reply
 abbrev pub IsOutcome : (before i : ℕ) → List (List ℕ) → List Outcome → Read → Type 0
 IsOutcome before i ops outs r = r.caller ≡ i → (x : ℕ) × (steps : ℕ) × (x < length outs)
     × (r.ticket ≡ before + x + 1) × (r.op ≡ get_or ops x [])
     × (get_or outs x no_outcome ≡ Answered r.seq false r.raw steps)
 
--- if the call c is caller i's, the caller has begun it after its first `before` calls, and `ops`
--- has its operation
+-- if the call c is caller i's, the caller has begun it after its first `before` calls, and the
+-- operation of c is the one that the list `ops` has for it
 abbrev pub WasBegun : (before i : ℕ) → List (List ℕ) → Call → Type 0
 WasBegun before i ops c = c.caller ≡ i
     → (before < c.ticket) × (c.ticket ≤ before + length ops)
@@ -204,14 +206,14 @@ pub record HasCalls (S : Setup) (B : TableStart) (before : ℕ) (w : Moment) (i 
   -- the machine holds the last outcome, or none if it is new
   pub last : IsIdle (machine_in w i)
       → ((machine_in w i).answer ≡ None) ⊎ ((machine_in w i).answer ≡ last_outcome outs)
-  -- each outcome is in the history
+  -- the history agrees with each outcome (`OutcomeStands`)
   pub each : (x : ℕ) → x < length outs
       → OutcomeStands S B w i (before + x + 1) (get_or ops x []) (get_or outs x no_outcome)
-  -- of two outcomes, the later one is of no older state than the earlier, and of a newer one if it
-  -- is an announced call's answer
+  -- the sequences of outcomes don't fall from one call to a later one, and rise if the later call
+  -- is answered as announced
   pub rising : (x y : ℕ) → x < y → y < length outs
       → IsNotBefore (outcome_seq (get_or outs x no_outcome)) (get_or outs y no_outcome)
-  -- a try of the open call reads no older state than an outcome has
+  -- a try of the open call reads a state that is no older than the sequence of any outcome
   pub reads_from : (x : ℕ) → x < length outs
       → ReadsFrom (outcome_seq (get_or outs x no_outcome)) (machine_in w i)
   -- each of the caller's reads in the history is an outcome

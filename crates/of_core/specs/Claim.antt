@@ -54,9 +54,10 @@ pub record UsesOneState (S : Setup) (B : TableStart) (w : Moment) (i : ℕ) (m :
   pub known : knows_state m.place ≡ true → Agrees m.known (numbers_after B w.batches m.seq)
   pub own : OwnCellsAreOfState S (state_after B w.batches m.seq) i m m.place
 
--- The cell c may have held this word, by the history: the current-transaction word names a batch
--- and its owner, a request is open or closes a batch of its caller, a data word is of some state,
--- and a log word of a batch's sequence is of that batch's log.
+-- What the history says of a word that the cell c may have held. A current-transaction word names a
+-- batch and the batch's owner. A request that is newer than the start opens a transaction or closes
+-- a batch of its caller. A data word is the word of some state. A log word with the sequence of a
+-- batch of its caller is a word of that batch's log.
 pub record HasHeld (S : Setup) (B : TableStart) (ws : List ℕ) (bs : List Batch) (c v : ℕ)
     : Type 0 where
   pub current : c ≡ 0 → WasHeldByCurrent B ws bs v
@@ -128,12 +129,13 @@ pub record IsSound (S : Setup) (B : TableStart) (w : Moment) : Type 0 where
   pub recovers : (a : ℕ) → a < S.cells
       → recovered_data S.callers S.cells (durable_word S w.words) a
       ≡ data_word_after B w.batches (durable_seq S w.words) a
-  -- in the state at the durable sequence, each caller's own cells hold its last call
+  -- in the state at the durable sequence, each caller's own cells hold the caller's last call in a
+  -- batch
   pub own : (i : ℕ) → i < S.callers → OwnCellsShowLast S B w.batches (durable_seq S w.words) i
   -- no word that recovery gives is newer than the durable sequence
   pub old : (a : ℕ) → a < S.cells
       → seq_of (recovered_data S.callers S.cells (durable_word S w.words) a) ≤ durable_seq S w.words
-  -- the durable sequence is no older than the start, and no newer than the last batch
+  -- the durable sequence is at least the start's sequence, and at most the last batch's
   pub from : B.seq ≤ durable_seq S w.words
   pub reaches : durable_seq S w.words ≤ B.seq + length w.batches
   -- the owner that the durable current-transaction word names is a caller
@@ -145,14 +147,15 @@ pub record IsSound (S : Setup) (B : TableStart) (w : Moment) : Type 0 where
   pub met : (k i : ℕ) → B.seq < k → k < B.seq + length w.batches → i < S.callers
       → (batch_at B w.batches k).announcements i ≡ announcement_of S w.words i
       → seq_of (announcement_of S w.words i) ≤ last_ticket_by S B w.batches (k + 1) i
-  -- the owner of each batch is a caller
+  -- each batch's owner is the number of one of the table's callers
   pub owners : (k : ℕ) → B.seq < k → k ≤ B.seq + length w.batches
       → (batch_at B w.batches k).owner < S.callers
   -- the current-transaction word counts the batches. Each data cell is of the last state; while the
   -- last transaction is open, it may still be of the state before
   pub count : committed_seq w.words ≡ B.seq + length w.batches
   pub data_cells : DataCellsMatchState S B w.words w.batches
-  -- no durable word is above its cell's word, and each may have been held by its cell
+  -- no durable word is above its cell's word, and each durable word is one that its cell may have
+  -- held (`HasHeld`)
   pub low : (c : ℕ) → c < cell_count S → durable_word S w.words c ≤ get_or w.words c 0
   pub held : (c : ℕ) → c < cell_count S → HasHeld S B w.words w.batches c (durable_word S w.words c)
   -- each round and each try has used the cells of only one state
@@ -162,6 +165,7 @@ pub record IsSound (S : Setup) (B : TableStart) (w : Moment) : Type 0 where
   pub within : (i : ℕ) → i < S.callers → (machine_in w i).steps ≤ bound S
   -- an idle machine counts no steps, as it has no open call
   pub at_rest : (i : ℕ) → i < S.callers → (machine_in w i).place ≡ Idle → (machine_in w i).steps ≡ 0
-  -- each idle machine's last outcome is in the history, at the durable sequence at most
+  -- the history agrees with the last outcome of each idle machine, and this outcome's sequence is
+  -- at most the durable one
   pub answered : (i : ℕ) → i < S.callers → (machine_in w i).place ≡ Idle
       → OutcomeIsInHistory S B w i (machine_in w i) (machine_in w i).answer

@@ -52,7 +52,8 @@ DoneAfterTwoCommits S Lawful = EachSchedule S Lawful (λ B n es.
 
 -- Lost tries and rounds.
 
--- whether a try or a round begins at this place, or a script word is stored, as after the last try
+-- whether this place is one to which a call goes when it begins, or after a try or a round is given
+-- up: a try or a round begins here, or the call begins to be announced
 abbrev pub begins_at : Place → Bool
 begins_at TryCurrent = true
 begins_at (StoreScript j) = true

@@ -19,8 +19,9 @@ pub data Event : Type 0 where
   Turns : ℕ → Event
   -- a cell is loaded for an eviction
   Loads : ℕ → Event
-  -- the durable word of a cell is raised to a word that was loaded from the cell for an eviction:
-  -- the number is the index, from 0, among the words that were loaded so
+  -- the durable word of a cell is raised to a word that was loaded from the cell for an eviction.
+  -- The number is the index of this word, from 0, in the list of all words that were loaded for
+  -- evictions
   Evicts : ℕ → Event
   -- a whole eviction in one step: the durable word of a cell is raised to the word that the cell
   -- holds

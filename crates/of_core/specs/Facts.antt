@@ -18,8 +18,8 @@ loads_current_at TryCurrent = true
 loads_current_at LoadCurrent = true
 loads_current_at p = false
 
--- the sequence that the machine's round or try goes by, or of the transaction that it applies:
--- m.seq; 0 at a place before the load of the current-transaction word
+-- the sequence on whose state the machine's round or try works, or of the transaction that the
+-- machine applies: m.seq; but 0 at a place before the load of the current-transaction word
 abbrev pub rests_on_seq_at : CallState → Place → ℕ
 rests_on_seq_at m Idle = 0
 rests_on_seq_at m TryCurrent = 0
@@ -39,8 +39,8 @@ LastStepTells S m p (Some (Answered s true raw steps)) = (s ≤ m.seq) × (steps
 LastStepTells S m p (Some (Spent s)) = (s ≡ m.seq) × (s ≡ S.limit)
 LastStepTells S m p (Some (Lost s)) = ⊥
 
--- after the step the call is still open and has made one step more, or, if `ended`, it has an
--- outcome as `LastStepTells` says
+-- if `ended` is true, the step has ended the call with an outcome of which `LastStepTells` holds;
+-- otherwise the call is still open, and has made one step more
 abbrev pub CountsStepOrEnds : Setup → CallState → Place → CallState → (ended : Bool) → Type 0
 CountsStepOrEnds S m p d true = LastStepTells S m p d.answer × (m.seq ≤ rests_on_seq_at m p)
 CountsStepOrEnds S m p d false = (d.steps ≡ m.steps + 1) × (d.answer ≡ m.answer)
@@ -58,9 +58,9 @@ pub record IsStepAtPlace (S : Setup) (m : CallState) (n : ℕ) (p : Place) (d : 
   pub caller : d.caller ≡ m.caller
   pub made : d.made ≡ m.made
   pub op : d.op ≡ m.op
-  -- a load of the current-transaction word commits nothing, and the machine then goes by the
-  -- sequence that it found, or by an older one. After any other step it goes by no newer sequence
-  -- than before, or by that of the batch that the step commits
+  -- A load of the current-transaction word commits nothing, and after it the machine works at the
+  -- sequence that was found, or at an older one. After any other step the machine works at no newer
+  -- sequence than before, or at that of the batch that the step commits.
   pub loads : loads_current_at p ≡ true → (added ≡ []) × (rests_on_seq_at d d.place ≤ seq_of n)
   pub rests : loads_current_at p ≡ false
       → rests_on_seq_at d d.place ≤ rests_on_seq_at m p + length added
@@ -91,9 +91,10 @@ ReadsFrom low m = HasBegunTry m m.place → low ≤ m.seq
 abbrev pub read_of_call : CallState → RawReply → (s : ℕ) → Read
 read_of_call m raw s = record { caller = m.caller; ticket = m.made; op = m.op; raw = raw; seq = s }
 
--- what is true of the outcome of a call's last step, which leads from m to d: its sequence is no
--- newer than the one that m goes by (`rests_on_seq`), and an answer counts all steps of the call.
--- An unannounced answer is a read of the history, of no older state than the try reads
+-- What is true of the outcome of a call's last step, which leads from m to d. The outcome's
+-- sequence is at most `rests_on_seq` of m, and an answer counts all steps of the call. An
+-- unannounced answer is a read of the history, and the read's state is no older than the one that
+-- the try reads.
 abbrev pub TellsOutcome : Setup → CallState → CallState → Outcome → Type 0
 TellsOutcome S m d (Answered s true raw steps) =
     (s ≤ rests_on_seq m) × (steps ≡ m.steps + 1) × (step_reads m d ≡ [])
@@ -112,16 +113,17 @@ pub record IsStep (S : Setup) (B : TableStart) (w : Moment) (m : CallState) (n :
   pub made : d.made ≡ m.made
   pub op : d.op ≡ m.op
   -- a load of the current-transaction word finds the sequence of the last batch, and commits
-  -- nothing; the machine's round or try then goes by this sequence or an older one (`rests_on_seq`)
+  -- nothing; after it the machine's round or try works at this sequence or at an older one
+  -- (`rests_on_seq`)
   pub finds_last : loads_current m ≡ true
       → (seq_of n ≡ B.seq + length w.batches) × (bs ≡ []) × (rests_on_seq d ≤ seq_of n)
-  -- after any other step the machine goes by no newer sequence than before, or by that of the batch
-  -- that the step commits
+  -- after any other step the machine works at no newer sequence than before, or at that of the
+  -- batch that the step commits
   pub rests_on : loads_current m ≡ false → rests_on_seq d ≤ rests_on_seq m + length bs
-  -- after the step, a try reads the same state as before, or it has begun at the last batch
+  -- after the step, a try reads the same state as before, or a try has begun at the last batch
   pub reads_from : (low : ℕ) → low ≤ B.seq + length w.batches → ReadsFrom low m → ReadsFrom low d
-  -- a step commits at most one batch, which is the caller's, and only if the machine goes by the
-  -- sequence of the last batch
+  -- a step commits at most one batch. It is the caller's batch, and the machine's round worked on
+  -- the state after the last batch
   pub few : length bs ≤ 1
   pub owner : All (λ (b : Batch). b.owner ≡ m.caller) bs
   pub commits : 0 < length bs → rests_on_seq m ≡ B.seq + length w.batches

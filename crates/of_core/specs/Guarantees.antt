@@ -63,8 +63,8 @@ pub record Guarantees (S : Setup) (B : TableStart) (i : ℕ) (ws : List ℕ) (bs
   -- the log words of the other callers stay
   pub logs : (j : ℕ) → j < S.callers → (j ≡ i → ⊥) → (x : ℕ) → x < 2 * most_entries S + 1
       → log_word_of S vs j x ≡ log_word_of S ws j x
-  -- a log word stays or gets a higher sequence; if a batch is new, i's log words have at most its
-  -- sequence
+  -- A log word stays or gets a higher sequence. If the step commits a batch, no log word of caller
+  -- i has a sequence above the batch's.
   pub log_how : (j x : ℕ) → j < S.callers → x < 2 * most_entries S + 1
       → (log_word_of S vs j x ≡ log_word_of S ws j x)
       ⊎ (seq_of (log_word_of S ws j x) < seq_of (log_word_of S vs j x))

@@ -56,8 +56,8 @@ WasHeldByCurrent B ws bs w =
     (B.seq ≤ seq_of w) × (B.seq < seq_of w → payload_of w ≡ (batch_at B bs (seq_of w)).owner)
     × (seq_of w ≡ B.seq → payload_of w ≡ B.owner)
 
--- the cell e.0 has held the word e.1, and does not hold a lower one now; a word that is loaded for
--- an eviction is of this kind
+-- what the invariant says of a word e.1 that was loaded from the cell e.0 for an eviction: the cell
+-- has held this word, and its word now is no lower
 pub record IsLoaded (S : Setup) (B : TableStart) (ws : List ℕ) (bs : List Batch) (e : ℕ × ℕ)
     : Type 0 where
   pub place : e.0 < cell_count S
@@ -65,7 +65,8 @@ pub record IsLoaded (S : Setup) (B : TableStart) (ws : List ℕ) (bs : List Batc
   pub was_cur : e.0 ≡ 0 → WasHeldByCurrent B ws bs e.1
   pub held : (a : ℕ) → a < S.cells → e.0 ≡ S.callers + 1 + a → WasHeldByCell B ws bs a e.1
   pub request : (j : ℕ) → j < S.callers → e.0 ≡ j + 1 → IsRequest B ws bs j e.1
-  -- a word with the present sequence of its log cell is the present word of that cell
+  -- a word of a log is a word of its batch's log; and if the loaded word has the sequence that its
+  -- log cell has now, it is the word that the cell holds now
   pub log : (j x : ℕ) → j < S.callers → x < 2 * most_entries S + 1 → e.0 ≡ log_at S j x
       → IsLogWord B ws bs j x e.1
       × (seq_of e.1 ≡ seq_of (log_word_of S ws j x) → e.1 ≡ log_word_of S ws j x)

@@ -66,7 +66,7 @@ EachLoaded S Lawful Law =
     (B : TableStart) (w : Moment) → MeetsInvariant S Lawful B w
     → (e : ℕ × ℕ) → IsLoaded S B w.words w.batches e → Law B w e
 
--- the law holds of each number that is stored after the table's own words
+-- the law holds if any number is stored in any word that comes after the table's own words
 abbrev pub EachBeside : Setup → (List ℕ → Type 0) → (TableStart → Moment → (c v : ℕ) → Type 0)
     → Type 0
 EachBeside S Lawful Law =
@@ -116,15 +116,15 @@ IsRaise (Store c v) = ⊥
 IsRaise (Exchange c old new) = ⊥
 IsRaise (Raise c v) = Unit {0}
 
--- the machine's next step is a raise, which leads to the same machine whatever it finds, and
--- commits nothing
+-- the machine's next step is a raise that commits nothing and leads to the same machine whatever
+-- word it finds
 abbrev pub GoesBlindly : Setup → CallState → Type 0
 GoesBlindly S m =
     IsRaise (want S m) × ((n k : ℕ) → take_word S m n ≡ take_word S m k)
     × ((ws : List ℕ) (n : ℕ) → step_batches S ws m n ≡ [])
 
--- a machine goes on in the same way whatever its step on a durable word finds: each such step is a
--- raise, and commits nothing
+-- each step on a durable word is a raise that commits nothing and leads to the same machine
+-- whatever word it finds
 abbrev pub StepBlind : Setup → (List ℕ → Type 0) → Type 0
 StepBlind S Lawful = EachMachine S Lawful (λ B w i m.
     ((c : ℕ) → c < cell_count S → word_of (want S m) ≡ durable_at S c → ⊥) ⊎ GoesBlindly S m)
@@ -141,7 +141,7 @@ NewCallsWereOpen S Lawful = EachStep S Lawful (λ B w i m n.
     (k : ℕ) → B.seq + length w.batches < k → k ≤ B.seq + length (after_step S i m n w).batches
     → All (IsOpenCall w) (batch_at B (after_step S i m n w).batches k).calls)
 
--- to begin a call keeps the invariant; the new call goes by no sequence yet (`rests_on_seq` is 0),
+-- to begin a call keeps the invariant; the new call works at no sequence yet (`rests_on_seq` is 0),
 -- and has loaded no current-transaction word in a try
 abbrev pub BeginsKeepInvariant : Setup → (List ℕ → Type 0) → Type 0
 BeginsKeepInvariant S Lawful =
@@ -160,28 +160,29 @@ StepsKeepLoaded S Lawful = EachStep S Lawful (λ B w i m n.
     (e : ℕ × ℕ) → IsLoaded S B w.words w.batches e
     → IsLoaded S B (after_step S i m n w).words (after_step S i m n w).batches e)
 
--- an eviction raises the durable word of a cell to a word that was loaded before. This keeps the
--- invariant, and other words that were loaded for evictions may still be raised
+-- The raise of an eviction keeps the invariant. It raises the durable word of a cell to a word that
+-- was loaded from the cell before. Each other word that was loaded for an eviction may still be
+-- raised afterwards.
 abbrev pub RaisesKeepInvariant : Setup → (List ℕ → Type 0) → Type 0
 RaisesKeepInvariant S Lawful =
     EachLoaded S Lawful (λ B w e. MeetsInvariant S Lawful B (after_raise S w e)
     × ((d : ℕ × ℕ) → IsLoaded S B w.words w.batches d
     → IsLoaded S B (after_raise S w e).words w.batches d))
 
--- an eviction that raises a durable word lowers no durable word
+-- the raise of an eviction lowers no durable word
 abbrev pub RaisesNeverLower : Setup → (List ℕ → Type 0) → Type 0
 RaisesNeverLower S Lawful = EachLoaded S Lawful (λ B w e.
     (c : ℕ) → durable_word S w.words c ≤ durable_word S (after_raise S w e).words c)
 
--- a number that is stored after the table's own words changes nothing of the invariant, nor of the
--- words that were loaded for evictions
+-- To store a number in a word that comes after the table's own words keeps the invariant. Each word
+-- that was loaded for an eviction may still be raised afterwards.
 abbrev pub WordsBehindAreFree : Setup → (List ℕ → Type 0) → Type 0
 WordsBehindAreFree S Lawful = EachBeside S Lawful (λ B w c v.
     MeetsInvariant S Lawful B (record w { words = set w.words c v })
     × ((e : ℕ × ℕ) → IsLoaded S B w.words w.batches e
     → IsLoaded S B (set w.words c v) w.batches e))
 
--- a table at its start, with idle machines, meets the invariant, and an idle machine goes by no
+-- a table at its start, with idle machines, meets the invariant, and an idle machine works at no
 -- sequence (`rests_on_seq` is 0)
 abbrev pub StartsMeetInvariant : Setup → (List ℕ → Type 0) → Type 0
 StartsMeetInvariant S Lawful =
@@ -231,12 +232,12 @@ BeginsAddOneCall S Lawful = EachBegin S Lawful (λ B w i d op.
     GainsCalls S B i (op ∷ []) [] w (after_begin S i d op w)
     × KeepsOthersCalls S B i w (after_begin S i d op w))
 
--- an eviction that raises a durable word changes no caller's calls
+-- the raise of an eviction changes no caller's calls
 abbrev pub RaisesKeepCalls : Setup → (List ℕ → Type 0) → Type 0
 RaisesKeepCalls S Lawful = EachLoaded S Lawful (λ B w e.
     (i : ℕ) → i < S.callers → KeepsCalls S B i w (after_raise S w e))
 
--- a number that is stored after the table's own words changes no caller's calls
+-- to store a number in a word that comes after the table's own words changes no caller's calls
 abbrev pub WordsBehindKeepCalls : Setup → (List ℕ → Type 0) → Type 0
 WordsBehindKeepCalls S Lawful = EachBeside S Lawful (λ B w c v.
     (i : ℕ) → i < S.callers → KeepsCalls S B i w (record w { words = set w.words c v }))
@@ -442,7 +443,7 @@ TurnsKeepIdle =
     (S : Setup) (m : CallState) (n : ℕ) → m.place ≡ Idle
     → (take_word S m n ≡ m) × (step_reads m m ≡ [])
 
--- an idle machine goes by no sequence (`rests_on_seq` is 0), and is in no try
+-- an idle machine works at no sequence (`rests_on_seq` is 0), and is in no try
 abbrev pub IdleRestsOnNothing : Type 0
 IdleRestsOnNothing =
     (m : CallState) → m.place ≡ Idle → (rests_on_seq m ≡ 0) × ((low : ℕ) → ReadsFrom low m)
@@ -453,7 +454,7 @@ abbrev pub StepsFindTheirWord : Type 0
 StepsFindTheirWord =
     (S : Setup) (ws : List ℕ) (m : CallState) → IsFoundBy (want S m) ws (word_found S ws m)
 
--- a turn of a caller is the next step of its machine, for any number that this step may find
+-- if a turn of a caller finds a number that the caller's next step may find, the turn is this step
 abbrev pub TurnsAreSteps : Type 0
 TurnsAreSteps = (S : Setup) (w : Moment) (i n : ℕ) → IsFoundBy (want S (machine_in w i)) w.words n
     → after_event S w (Turns i) ≡ after_step S i (machine_in w i) n w

@@ -43,8 +43,8 @@ pub record CallState : Type 0 where
   -- the reply of the machine's own call, and how its last call ended
   pub raw : RawReply
   pub answer : Option Outcome
-  -- the word to which the call last raised the durable word of its caller's request; 0 if the call
-  -- has not raised it
+  -- the word to which the open call last raised the durable word of its caller's request; 0 if the
+  -- call has not raised that durable word
   pub kept : ℕ
   -- the steps that the open call has made
   pub steps : ℕ
@@ -53,8 +53,8 @@ pub record CallState : Type 0 where
   pub first : ℕ
   -- how many tries the call has begun
   pub tries : ℕ
-  -- the caller that the scan has come to, its announcement and its script words as loaded, and the
-  -- calls run so far
+  -- for a scan: the caller that it has come to, this caller's announcement and script words as
+  -- loaded, and the calls that the scan has run so far
   pub scan : ℕ
   pub heard : ℕ
   pub script : List ℕ
@@ -156,7 +156,7 @@ abbrev pub log_of : List ℕ → List (ℕ × ℕ)
 log_of [] = []
 log_of (n ∷ ws) = entries_of_words ws
 
--- all entries of the log, from entry f on and then from the first one on
+-- all entries of the log in a circle: first entry f and those after it, then the entries before f
 abbrev pub entries_going_round : ℕ → List (ℕ × ℕ) → List (ℕ × ℕ)
 entries_going_round f es = drop f es ++ take f es
 

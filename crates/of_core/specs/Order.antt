@@ -24,7 +24,8 @@ abbrev pub no_read : Read
 no_read =
     record { caller = 0; ticket = 0; op = []; raw = record { shape = 0; values = [] }; seq = 0 }
 
--- if both reads are of one caller, the second was made later and has read no older state
+-- if both reads are of one caller, the second has the higher ticket, and its state is no older than
+-- that of the first
 abbrev pub IsLaterRead : (first second : Read) → Type 0
 IsLaterRead r q = r.caller ≡ q.caller → (r.ticket < q.ticket) × (r.seq ≤ q.seq)
 

@@ -176,7 +176,7 @@ module _ (S : Setup) (B : TableStart) (ws : List ℕ) (bs : List Batch) (i : ℕ
     pub in_cells : a < S.cells
     pub unknown : get_or m.known a None ≡ None
 
-  -- RaiseOld: all callers are scanned
+  -- RaiseOld: the scan has passed all callers, and no word of the log is stored yet
   pub record IsRaisingOld : Type 0 where
     pub past : IsPastOwnTicket S B ws bs i m
     pub calm : HasNothingUnderWay S B ws bs i m.seq

@@ -15,15 +15,16 @@ use Rattle.of_core.specs.Laws.{EachSchedule}
 abbrev pub goes_round : (x y v : ℕ) → Bool
 goes_round x y v = if x == y then false else nat_lt y v
 
--- how many of the events change the durable word of the cell c to one that is still below v
+-- how many of the events change the durable word of the cell c to another word that is still below
+-- v
 abbrev pub lower_changes : Setup → Moment → List Event → (c v : ℕ) → ℕ
 lower_changes S w [] c v = 0
 lower_changes S w (e ∷ es) c v =
     one_if (goes_round (durable_word S w.words c) (durable_word S (after_event S w e).words c) v)
     + lower_changes S (after_event S w e) es c v
 
--- a word that was loaded for an eviction, with its cell, can change the durable word x of the cell
--- c to one below v
+-- whether the cell and word e, which were loaded for an eviction, can still change the durable word
+-- x of the cell c to one below v
 abbrev pub is_pending : (x c v : ℕ) → ℕ × ℕ → Bool
 is_pending x c v e = (e.0 == c) && (nat_lt x e.1 && nat_lt e.1 v)
 
@@ -32,8 +33,8 @@ abbrev pub pending_among : (x c v : ℕ) → List (ℕ × ℕ) → ℕ
 pending_among x c v [] = 0
 pending_among x c v (e ∷ es) = one_if (is_pending x c v e) + pending_among x c v es
 
--- how many words loaded for evictions are above the durable word of the cell c and below v, and so
--- may still be raised there
+-- how many of the words that were loaded for evictions can still raise the durable word of the cell
+-- c to a word below v
 abbrev pub pending : Setup → Moment → (c v : ℕ) → ℕ
 pending S w c v = pending_among (durable_word S w.words c) c v w.loaded
 

@@ -13,8 +13,8 @@ use Rattle.of_core.specs.TableMoment.{Batch, TableStart}
 use Rattle.of_core.specs.History.{batch_at, numbers_after, last_ticket_by}
 use Rattle.of_core.specs.WordsMatch.{IsRequest, IsLastOpen}
 
--- v, to which a machine of caller i may raise its durable request, is at most the request, and is a
--- word that the request may have held
+-- the word v, to which a machine of caller i may raise the durable word of the caller's request, is
+-- at most the request, and is a word that the request may have held
 pub record KnowsOwnRequest (B : TableStart) (ws : List ℕ) (bs : List Batch) (i v : ℕ) : Type 0 where
   pub low : v ≤ request_of ws i
   pub held : IsRequest B ws bs i v

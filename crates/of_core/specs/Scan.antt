@@ -39,8 +39,8 @@ pub record IsOverlayOf (S : Setup) (xs : List ℕ) (cs : List Call) (es : List (
       (numbers_after_calls S.meaning xs cs)
   pub replies : CallsHaveReplies S.meaning xs cs
   pub own : All (LogsOwnCells S es) cs
-  -- an entry for a cell below the operations' cells is for an own cell of a caller of one of the
-  -- calls
+  -- each entry for a cell before the first cell of the operations is for an own cell of the caller
+  -- of one of the calls
   pub rows : (j : ℕ) → j < length es → (get_or es j (0, 0)).0 < first_operation_cell S
       → (y : ℕ) × (y < length cs)
       × IsCellOfCaller S (get_or cs y no_call).caller (get_or es j (0, 0)).0
@@ -65,7 +65,8 @@ pub record HasScannedUpTo (S : Setup) (B : TableStart) (ws : List ℕ) (bs : Lis
   pub over : IsOverlayOf S (numbers_after B bs s) cs es
   pub taken : All (WasTakenByScan S (state_after B bs s)) cs
   pub below : All (λ (c : Call). c.caller < n) cs
-  -- if there are many data cells, the log is at most as long as the n callers' shares of it
+  -- with more than FEW_DATA_CELLS data cells, the log has at most LOG_SHARE entries for each of the
+  -- n callers
   pub short : (S.cells ≤ FEW_DATA_CELLS) ⊎ (length es ≤ n * LOG_SHARE)
   pub ordered : CallersRise cs
   pub announced : s ≡ committed_seq ws → All (IsAnnouncedCall S ws) cs

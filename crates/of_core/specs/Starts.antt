@@ -16,8 +16,8 @@ abbrev pub closed_request : ℕ → ℕ
 closed_request zero = 0
 closed_request (suc s) = pack (suc s) 1
 
--- the cells at a start: its current-transaction word and its data words, its owner's request
--- closed, and 0 everywhere else
+-- the cells at a start: the current-transaction word and the data words of the start, the request
+-- of its owner closed, and 0 everywhere else
 unfoldable pub first_cells : (callers cells : ℕ) → TableStart → List ℕ
 first_cells callers cells B =
     (pack B.seq B.owner ∷ set (replicate callers 0) B.owner (closed_request B.seq))

@@ -31,8 +31,8 @@ touched_bound S op reads writes =
     footprint S op (longest_log S writes) (most_loads S reads)
     (most_tries (S.meaning.reads_only op)) 3
 
--- for all numbers of cells that limit what each operation of the work reads and writes, the steps
--- are at most the bound for these numbers
+-- if no operation of the work reads more than `reads` cells or writes more than `writes`, the steps
+-- are at most the bound for these two numbers, whatever the two numbers are
 abbrev pub IsWithinTouched : Setup → (List ℕ → Type 0) → (op : List ℕ) → (steps : ℕ) → Type 0
 IsWithinTouched S Lawful op steps =
     (reads writes : ℕ) → TouchesFew S.meaning Lawful S.cells reads writes

@@ -57,8 +57,8 @@ module _ (S : Setup) (B : TableStart) (ws : List ℕ) (bs : List Batch) (i : ℕ
     pub log : IsReorderingOf (batch_at B bs m.seq).log m.log
     pub done : (k : ℕ) → k < j → IsApplied S ws m.seq (log_entry m k).0
 
-  -- the helper m has loaded x log words of m.owner. While the owner's request is still open, they
-  -- are the first x words of the batch's log
+  -- The helper m has loaded x words of the log of m.owner. If the owner's request is still open,
+  -- these are the first x words of the log of batch m.seq.
   pub record IsCopyingLog (m : CallState) (x : ℕ) : Type 0 where
     pub helping : IsHelping m
     pub helps : m.helps ≡ true

@@ -75,10 +75,10 @@ pub record DataCellsMatchState (S : Setup) (B : TableStart) (ws : List ℕ) (bs 
 -- the history, which it may still have open
 pub record RequestsMatchBatches (S : Setup) (B : TableStart) (ws : List ℕ) (bs : List Batch)
     : Type 0 where
-  -- the request of a batch's owner closes the batch, if there is a later batch
+  -- if there is a later batch, the request of a batch's owner closes the batch
   pub closed : (k : ℕ) → B.seq < k → k < committed_seq ws
       → pack k 0 < request_of ws (batch_at B bs k).owner
-  -- the request of the last batch's owner is the one that opens that batch, or a greater one
+  -- the request of the last batch's owner is the word that opens that batch, or a greater word
   pub latest : B.seq < committed_seq ws
       → pack (committed_seq ws) 0 ≤ request_of ws (committed_owner ws)
   -- the request of the start's owner closes the start's transaction
@@ -89,9 +89,10 @@ abbrev pub WasHeldByCell : TableStart → List ℕ → List Batch → ℕ → �
 WasHeldByCell B ws bs a w =
     (k : ℕ) × (B.seq ≤ k) × (k ≤ committed_seq ws) × (w ≡ data_word_after B bs k a)
 
--- no durable word is above its cell's word. While the durable request of a batch's owner opens the
--- batch, the batch's log is durable. The durable data cells are of the state at the durable
--- sequence or, while that transaction is open, of the state before
+-- No durable word is above its cell's word. As long as the durable request of a batch's owner opens
+-- the batch, the batch's log is durable. The durable data cells are those of the state at the
+-- durable sequence; while the transaction of that sequence is open, some may still be of the state
+-- before.
 pub record DurableWordsMatch (S : Setup) (B : TableStart) (ws : List ℕ) (bs : List Batch)
     : Type 0 where
   -- no durable word is above its cell's
@@ -104,25 +105,26 @@ pub record DurableWordsMatch (S : Setup) (B : TableStart) (ws : List ℕ) (bs : 
   -- if the durable sequence is the start's, the durable current-transaction word names the start's
   -- owner
   pub first : durable_seq S ws ≡ B.seq → payload_of (durable_word S ws 0) ≡ B.owner
-  -- the durable sequence is the last committed one, or the one before it if the last transaction is
-  -- open
+  -- the durable sequence is the last committed one; or the last transaction is open, and the
+  -- durable sequence is the one before
   pub step : (committed_seq ws ≡ durable_seq S ws)
       ⊎ ((committed_seq ws ≡ durable_seq S ws + 1) × IsLastOpen B ws)
   -- no data cell is newer than the durable sequence
   pub fresh : (a : ℕ) → a < S.cells → seq_of (data_word S ws a) ≤ durable_seq S ws
-  -- each durable data cell is of the state at the durable sequence, or, if that transaction is
-  -- open, of the state before
+  -- each durable data cell is of the state at the durable sequence; while the transaction of that
+  -- sequence is open, it may still be of the state before
   pub cells : (a : ℕ) → a < S.cells
       → (durable_cell S ws a ≡ data_word_after B bs (durable_seq S ws) a)
       ⊎ (IsLastOpen B ws × (committed_seq ws ≡ durable_seq S ws)
       × (durable_cell S ws a ≡ data_word_after B bs (durable_seq S ws - 1) a))
-  -- the durable request of the start's owner closes the start's transaction, if there was one
+  -- if a transaction was committed before the start, the durable request of the start's owner
+  -- closes it
   pub begun : 0 < B.seq → pack B.seq 0 < durable_request S ws B.owner
-  -- the durable request of each batch's owner is the one that opens that batch, or a greater one
+  -- the durable request of each batch's owner is the word that opens that batch, or a greater word
   pub floor : (k : ℕ) → B.seq < k → k ≤ committed_seq ws
       → pack k 0 ≤ durable_request S ws (batch_at B bs k).owner
-  -- while the durable request of a batch's owner opens that batch, the owner's log words, on the
-  -- table and durable, are those of the batch's log
+  -- as long as the durable request of a batch's owner opens that batch, the log words of the owner
+  -- and their durable words are the words of the batch's log
   pub logs : (k : ℕ) → B.seq < k → k ≤ committed_seq ws → (i : ℕ) → (batch_at B bs k).owner ≡ i
       → durable_request S ws i ≡ pack k 0 → (x v : ℕ) → x < length (log_words (batch_at B bs k).log)
       → get_or (log_words (batch_at B bs k).log) x 0 ≡ v
@@ -199,7 +201,7 @@ IsRequest B ws bs j w =
     ⊎ ((payload_of w ≡ 1) × (seq_of w ≤ committed_seq ws)
     × ((batch_at B bs (seq_of w)).owner ≡ j))
 
--- if caller j has committed the batch of w's sequence, then w is word x of that batch's log
+-- if caller j has committed the batch with the sequence of w, then w is word x of that batch's log
 abbrev pub IsLogWord : TableStart → List ℕ → List Batch → ℕ → ℕ → ℕ → Type 0
 IsLogWord B ws bs j x w =
     B.seq < seq_of w → seq_of w ≤ committed_seq ws → (batch_at B bs (seq_of w)).owner ≡ j
@@ -215,10 +217,12 @@ pub record WordsHaveTheirKind (S : Setup) (B : TableStart) (ws : List ℕ) (bs :
   -- each durable request that is newer than the start opens a transaction or closes one of its
   -- caller's batches
   pub dur_requests : (j : ℕ) → j < S.callers → IsRequest B ws bs j (durable_request S ws j)
-  -- a log word with the sequence of one of its caller's batches is that of the batch's log
+  -- if a caller has committed the batch with the sequence of one of its log words, this is a word
+  -- of the batch's log
   pub logs : (j x : ℕ) → j < S.callers → x < 2 * most_entries S + 1
       → IsLogWord B ws bs j x (log_word_of S ws j x)
-  -- a durable log word with the sequence of one of its caller's batches is that of the batch's log
+  -- the same of the durable words: if a caller has committed the batch with the sequence of the
+  -- durable word of one of its log words, this is a word of the batch's log
   pub dur_logs : (j x : ℕ) → j < S.callers → x < 2 * most_entries S + 1
       → IsLogWord B ws bs j x (durable_log S ws j x)
   -- each entry in a caller's log names a data cell, also if the round that stored the log has not

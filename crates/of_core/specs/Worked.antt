@@ -22,8 +22,8 @@ abbrev pub known_or : ℕ → (ℕ → WalkEnd) → Option ℕ → WalkEnd
 known_or a next None = Needs a
 known_or a next (Some v) = next v
 
--- a walk that loads the n cells from a on, and then ends as `end` says for vs with the numbers of
--- these cells after it
+-- how a walk ends that loads the n cells from a on: as the function `end` says for the list `vs`
+-- with the numbers of these cells after it
 abbrev pub loaded_more : List (Option ℕ) → (a n : ℕ) → List ℕ → (List ℕ → WalkEnd) → WalkEnd
 loaded_more known a zero vs end = end vs
 loaded_more known a (suc n) vs end =

@@ -15,13 +15,13 @@ use Rattle.of_core.specs.Invariant.{MeetsInvariant}
 use Rattle.of_core.specs.Events.{Event, IsSchedule, opening_moment, after_events}
 use Rattle.of_core.specs.Laws.{EachSchedule}
 
--- a run of the call c on the state, with the numbers that the log `before` gives to cells in place
--- of theirs
+-- a run of the call c on the state; if the log `before` has an entry for a cell, the run uses the
+-- number of this entry in place of the state's
 pub record RunOf (S : Setup) (state : List ℕ) (before : List (ℕ × ℕ)) (c : Call) : Type 0 where
   -- the cells of the state that the run knew
   pub known : List (Option ℕ)
   pub agrees : Agrees known state
-  -- what the run wrote; the reply that it gave is the call's
+  -- what the run wrote; the run gave the reply that the call has
   pub writes : List (ℕ × ℕ)
   pub gives : S.meaning.walk (overlaid known before) c.op ≡ Gives writes c.raw
 

@@ -39,8 +39,8 @@ abbrev pub WasRefused : (w n : ℕ) → (before now : Hand) → Type 0
 WasRefused w n before now =
     (n ≢ w) × (found_by now ≡ found_by before ++ n ∷ []) × (stored_by now ≡ stored_by before)
 
--- each call of the member's caller, in the batches that the member has seen, is one that the member
--- counts as begun: its ticket is at most the number of these
+-- In the batches that the member has seen, the ticket of each call of the member's caller is at
+-- most the number of calls that the member counts as begun.
 abbrev pub TicketsUpTo : {W : Type 0} → (W → Meaning) → Row W → Member → Type 0
 TicketsUpTo meaning r m =
     let B = row_start meaning r in

@@ -41,8 +41,8 @@ pub record DoorMeetsRule (May : Member → Type 0) (s : State (Option Member) Ha
       → get_elem? s.views k ≡ maybe.some w
       → v.holds ≡ true → w.holds ≡ true → j ≡ k
 
--- A hand's exchange of the word `old` for 2 has found n. If n is `old`, the hand has got the slot,
--- which holds what that word says; otherwise only the hand's log has changed.
+-- By an exchange of the word `old` for 2, a hand has found n. If n is `old`, the hand has got the
+-- slot, which holds what the word `old` says. Otherwise only the hand's log has changed.
 abbrev pub TakesSlot : (Member → Type 0) → (old : ℕ) → Me (Option Member) HandLog → (n : ℕ)
     → Me (Option Member) HandLog → Type 0
 TakesSlot May old me n after =
@@ -50,6 +50,6 @@ TakesSlot May old me n after =
     × (after ≡ (log_after_exchange n true me.0, (0, x) ∷ me.1)))
     × (n ≢ old → after ≡ (log_after_exchange n false me.0, me.1))
 
--- a store of the word n has given the slot back
+-- by storing the word n, the hand has given the slot back
 abbrev pub GivesSlotBack : (n : ℕ) → (me after : Me (Option Member) HandLog) → Type 0
 GivesSlotBack n me after = after ≡ (after_store n me.0, rest me.1)

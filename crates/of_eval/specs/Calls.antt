@@ -17,7 +17,7 @@ run_word plot w = word_program (base plot) plot.blocks w
 abbrev pub script : Plot → List ℕ → Program RawReply
 script plot op = script_program (base plot) plot.blocks op
 
--- the same result, but Ok holds `raw`, the reply as cells hold it
+-- the result with the reply `raw` in place of the flag in Ok; an error stays as it is
 abbrev pub in_cells : RawReply → Result Bool Need → Result RawReply Need
 in_cells raw (Ok ended) = Ok raw
 in_cells raw (Err need) = Err need

@@ -101,7 +101,7 @@ pub record HasRightCounts (o blocks : ℕ) (m : ℕ → ℕ) (n : ℕ) (chains :
   pub lengths : (q : ℕ) → queue_chain blocks q < n
       → m (length_at o q) ≡ length (chains (queue_chain blocks q))
 
--- the cell that points to the next block of chain n after the blocks met so far
+-- the cell with the pointer that comes after the blocks met so far in chain n
 abbrev pub pointer_cell : ℕ → ℕ → ℕ → (ℕ → List ℕ) → ℕ
 pointer_cell o blocks n chains = cell_after o (front_at o blocks n) (chains n)
 
@@ -109,8 +109,8 @@ pointer_cell o blocks n chains = cell_after o (front_at o blocks n) (chains n)
 abbrev pub IsMet : (ℕ → List ℕ) → ℕ → Type 0
 IsMet chains b = (c : ℕ) × ContainsNumber (chains c) b
 
--- the pointer after the blocks met so far leads to block b, which is below fresh and was not met
--- before
+-- the pointer after the blocks met so far in chain n leads to block b, which was taken at least
+-- once and was not met before
 pub record LeadsToNewBlock (o blocks : ℕ) (m : ℕ → ℕ) (n : ℕ) (chains : ℕ → List ℕ) (b : ℕ)
     : Type 0 where
   pub pointer : m (pointer_cell o blocks n chains) ≡ b + 1

@@ -77,7 +77,8 @@ queue_plain s q items l =
           rw (changed_other (λ y. queue s y) q items x n) (get_or-set_other s.queues q x items [] n)
     ]
 
--- a program that is followed by another one has the effect of both
+-- if a first program and a second one that goes on with its answer have effects one after the
+-- other, the two as one program have the effect of both
 after_first : {A : Type 0} (o blocks : ℕ) (m : ℕ → ℕ) (f : Program A) (g : A → Program InstrResult)
     (e : InstrEffect) → StaysBetween o (cells_at o blocks) f m
     → HasEffect o blocks (memory_after f m) (g (program_answer f m)) e
@@ -276,8 +277,8 @@ module _ (o blocks : ℕ) (few : blocks ≤ MOST_BLOCKS) (m : ℕ → ℕ) (s : 
   ordered_case true f e d = (tt, refl)
   ordered_case false f e d = d
 
-  -- an instruction on keys in their order has its effect: the cells have as many blocks as the
-  -- store has room
+  -- an instruction on keys in their order has its effect, because the store has room for as many
+  -- keys and items as the cells have blocks
   ordered : (f : Program InstrResult) (e : InstrEffect) → Does f e
       → Does (ordered_program blocks f) (ordered_effect s e)
   ordered f e d =

@@ -71,7 +71,8 @@ runs_then o blocks n f g m done x i h = record {
   leads = subst (LeadsToOutcome o blocks x) (sym (after_then f g m)) h.leads;
 }
 
--- the words have their outcome if the first one has its effect and the others have their outcome
+-- words have their outcome if the first word has its effect and the words after it have their
+-- outcome
 first_word_does : (o blocks n : ℕ) (further : Option ℕ → Program RawReply)
     (others : Store → ScriptOutcome) (done : List (Option ℕ)) (m : ℕ → ℕ) (r : InstrResult)
     (e : InstrEffect) → GivesEffect o blocks e r m → Leaves e

@@ -44,7 +44,7 @@ CellsStandFor p cells s = DataCellsStandFor p.callers p.instrs p.blocks (memory_
 abbrev pub HasBegun : Plot → List ℕ → Type 0
 HasBegun p cells = HasSoundHead p.callers p.instrs p.blocks (memory_of cells)
 
--- how many entries of the owners table are 0: blocks that were not met yet
+-- how many blocks were not met yet: the number of zeros in the owners table
 abbrev pub unmet_count : List ℕ → ℕ
 unmet_count [] = 0
 unmet_count (x ∷ owners) = cond (eqb x 0) 1 0 + unmet_count owners
@@ -123,7 +123,8 @@ LinkIsAtFault cells cell owners (Unlawful at) =
     (at ≡ cell)
     × ((b : ℕ) × (memory_of cells cell ≡ b + 1) × ((length owners ≤ b) ⊎ (get_or owners b 0 ≢ 0)))
 
--- if the walk came to the queues, the count of keys was compared with the keys met, and is right
+-- if the walk came to the queues, the count of keys was compared with the number of keys met, and
+-- is the same
 abbrev pub KeysAreCounted : Plot → List ℕ → Store → Type 0
 KeysAreCounted p cells s =
     (owners : List ℕ) → IsBeforeChain p cells (queue_chain p.blocks 0) 0 owners s

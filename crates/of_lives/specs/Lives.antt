@@ -10,8 +10,9 @@ pub record Life : Type 0 where
   pub plan : Plan
   pub report : Report
 
--- how many scripts of a caller are done after these entries of the caller, if `n` were done before:
--- all up to its last announced entry, and still `n` if none was announced
+-- How many scripts of a caller are done after these entries of the caller, if `n` were done before:
+-- all scripts up to that of the last announced entry. If no entry was announced, `n` scripts are
+-- done.
 abbrev pub done_behind : (n : ℕ) → List Entry → ℕ
 done_behind n [] = n
 done_behind n (e ∷ es) = done_behind (if e.announced then e.index + 1 else n) es
@@ -35,8 +36,8 @@ start_behind s l = record {
   finished = finished_behind s l;
 }
 
--- the start that the last of these lives leaves, if the first begins at `s`, and each other one at
--- the start that the life before it leaves
+-- the start after these lives: the first life begins at `s`, and each later one at the start that
+-- the life before it leaves
 abbrev pub start_behind_all : Start → List Life → Start
 start_behind_all s [] = s
 start_behind_all s (l ∷ ls) = start_behind_all (start_behind s l) ls

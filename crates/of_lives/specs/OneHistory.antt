@@ -23,8 +23,9 @@ own_in ls c = filter (λ e. e.caller == c) (entries_in ls)
 abbrev pub IsAnnouncedBefore : Entry → Entry → Type 0
 IsAnnouncedBefore e f = (e.seq ≡ f.seq) × IsTrue e.announced × (e.caller < f.caller)
 
--- `e` may come before `f`: the sequence of `e` is no higher; if `f` was announced, it is lower, or
--- `e` was announced at the same sequence by a caller of a lower number
+-- `e` may come before `f` in one history. The sequence of `e` is lower; or both are the same, and
+-- `f` wasn't announced; or both are the same, both entries were announced, and the caller of `e`
+-- has the lower number.
 abbrev pub ComesBefore : Entry → Entry → Type 0
 ComesBefore e f =
     (e.seq ≤ f.seq)
@@ -35,8 +36,8 @@ ComesBefore e f =
 abbrev pub ComesLater : Entry → Entry → Type 0
 ComesLater e f = e.caller ≡ f.caller → IsTrue e.announced → e.index < f.index
 
--- the entry's sequence is from that of `s` to that of `t`, and above that of `s` if the entry was
--- announced
+-- the entry's sequence is at least that of `s` and at most that of `t`; if the entry was announced,
+-- it is above that of `s`
 abbrev pub IsBetween : (s t : Start) → Entry → Type 0
 IsBetween s t e = (s.seq ≤ e.seq) × (e.seq ≤ t.seq) × (IsTrue e.announced → s.seq < e.seq)
 
@@ -93,18 +94,19 @@ pub record AreOneHistory (s : Start) (ls : List Life) : Type 0 where
   pub once : AllPairs ComesLater (entries_in ls)
   -- no entry is a call that was done at the start
   pub behind_start : All (IsBehind s) (entries_in ls)
-  -- each call that is done in the end, and wasn't at the start, is an entry
+  -- each call that was not done at the start and is done in the end is an entry
   pub all_done :
       (c x : ℕ) → finished_of s c ≤ x → x < finished_of (start_behind_all s ls) c
       → Any (IsCall c x) (entries_in ls)
   -- each entry is of a caller that the last start counts
   pub known : All (IsKnownTo (start_behind_all s ls)) (entries_in ls)
-  -- in the end, a caller has the ticket of its last announced call, or of the start if it has none
+  -- in the end, a caller's ticket is that of its last announced call; if none was announced, it is
+  -- the ticket at the start
   pub tickets :
       (c : ℕ)
       → finished_of (start_behind_all s ls) c ≡ done_behind (finished_of s c) (own_in ls c)
-  -- a call that wasn't announced, with no announced call of its caller after it, isn't done: the
-  -- next life runs this caller from this call on, or from an earlier one
+  -- If a call wasn't announced, and no announced call of its caller comes after it, the call isn't
+  -- done: in the next life the caller goes on with this call, or with an earlier one.
   pub not_done :
       (es fs : List Entry) (e : Entry) → entries_in ls ≡ es ++ e ∷ fs
       → NoneAnnouncedOf e.caller (e ∷ fs) → finished_of (start_behind_all s ls) e.caller ≤ e.index
@@ -137,18 +139,20 @@ pub record AreOneHistoryInSpans (s : Start) (spans : List (List Life)) : Type 0 
   pub once : AllPairs ComesLater (entries_of_spans spans)
   -- no entry is a call that was done at the start
   pub behind_start : All (IsBehind s) (entries_of_spans spans)
-  -- each call that is done in the end, and wasn't at the start, is an entry
+  -- each call that was not done at the start and is done in the end is an entry
   pub all_done :
       (c x : ℕ) → finished_of s c ≤ x → x < finished_of (start_behind_spans s spans) c
       → Any (IsCall c x) (entries_of_spans spans)
   -- each entry is of a caller that the last start counts
   pub known : All (IsKnownTo (start_behind_spans s spans)) (entries_of_spans spans)
-  -- in the end, a caller has the ticket of its last announced call, or of the start if it has none
+  -- in the end, a caller's ticket is that of its last announced call; if none was announced, it is
+  -- the ticket at the start
   pub tickets :
       (c : ℕ)
       → finished_of (start_behind_spans s spans) c
       ≡ done_behind (finished_of s c) (own_in_spans spans c)
-  -- a call that wasn't announced, with no announced call of its caller after it, isn't done
+  -- if a call wasn't announced, and no announced call of its caller comes after it, the call isn't
+  -- done
   pub not_done :
       (es fs : List Entry) (e : Entry) → entries_of_spans spans ≡ es ++ e ∷ fs
       → NoneAnnouncedOf e.caller (e ∷ fs)

@@ -48,13 +48,13 @@ adds x k v reads line = record {
   };
 }
 
--- a life in which the second caller adds, by its script `x` at sequence `k`, and the first caller
--- then reads again; both are answered `v`
+-- a life in which the second caller adds, by its script `x` at sequence `k`, and then the first
+-- caller makes its read again; both calls are answered `v`
 abbrev pub adds_and_reads : (x k v : ℕ) → Life
 adds_and_reads x k v = adds x k v (worked_entry k 0 1 false (Some v) ∷ []) (done_with 1 60)
 
--- the second life goes on after the announced calls of the first: the second caller runs its third
--- script, and the first caller makes its read again
+-- The second life goes on after the announced calls of the first: the second caller runs its third
+-- script. The first caller makes its unannounced read again.
 abbrev pub second_life : Life
 second_life = adds_and_reads 2 2 7
 

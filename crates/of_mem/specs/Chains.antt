@@ -12,11 +12,12 @@ use Rattle.of_mem.specs.Numbers.{FitsCell}
 abbrev pub pairs_of : List Entry → List (ℕ × ℕ)
 pairs_of es = map (λ (e : Entry). e.pair) es
 
--- for each entry, the noted number of the last earlier entry with the same home
+-- for each entry, what it notes as the number of the last earlier entry with the same home
 abbrev pub olders_of : List Entry → List ℕ
 olders_of es = map (λ (e : Entry). e.older) es
 
--- among the first n entries, the last one with home h: its place plus 1; 0 if there is none
+-- the number of the last of the first n entries with the home h: its place plus 1; 0 if none of
+-- them has this home
 abbrev pub latest : (homes : ℕ) → List (ℕ × ℕ) → (home n : ℕ) → ℕ
 latest homes es h zero = 0
 latest homes es h (suc n) =

@@ -81,8 +81,9 @@ pub record IsFinishedWalk (M : Meaning) (base size : ℕ) (xs op : List ℕ) (es
   -- an operation that is known to write nothing has no writes
   pub reads : M.reads_only op ≡ true → es ≡ []
 
--- The end of a walk is right about xs, a list with which the known cells agree: the cell that the
--- walk needs is in range and not known, or its writes and reply are those of the operation on xs.
+-- The end of a walk is right about the list xs, with which the known cells agree. If the walk needs
+-- a cell, the cell is in range and not known. If the walk has finished, its writes and its reply
+-- are those of the operation on xs.
 abbrev pub WalkFits : Meaning → ℕ → ℕ → List (Option ℕ) → List ℕ → List ℕ → WalkEnd → Type 0
 WalkFits M base size known xs op (Needs a) = (base ≤ a) × (a < size) × (get_or known a None ≡ None)
 WalkFits M base size known xs op (Gives es r) = IsFinishedWalk M base size xs op es r

@@ -50,7 +50,7 @@ ReadsAt p a result =
 abbrev pub Extends : List (Option ℕ) → List (Option ℕ) → Type 0
 Extends more known = (a v : ℕ) → get_or known a None ≡ Some v → get_or more a None ≡ Some v
 
--- the partial memory without the script's writes if the flag is true, and as it is otherwise
+-- the partial memory as it is, or without the script's writes if the flag is true
 abbrev pub visible : Bool → Part → Part
 visible true p = record p { script = [] }
 visible false p = p
@@ -59,7 +59,7 @@ visible false p = p
 abbrev pub with_known : List (Option ℕ) → Part → Part
 with_known more p = record p { known = more }
 
--- the known cells after these writes are put over them; of several writes to one cell, the first
+-- the known cells with these writes put over them; if two writes are to one cell, the first of them
 -- counts
 abbrev pub overlaid : List (Option ℕ) → List (ℕ × ℕ) → List (Option ℕ)
 overlaid known [] = known

@@ -17,7 +17,7 @@ memory_of xs a = get_or xs a 0
 abbrev pub fresh_part : List (Option ℕ) → Part
 fresh_part known = record { known = known; batch = []; script = [] }
 
--- The end of a walk, from the end of a program's run. If `keeps` says that the reply is no success,
+-- The end of a walk, made of the end of a program's run. If `keeps` answers false for the reply,
 -- the writes are dropped.
 abbrev pub walk_of_run : (RawReply → Bool) → RunEnd RawReply → WalkEnd
 walk_of_run keeps (Lacks a) = Needs a
@@ -52,7 +52,7 @@ pub record AreSound (keeps : RawReply → Bool) (reads : List ℕ → Bool)
   pub zeros : (m : ℕ → ℕ) → ((a : ℕ) → m a ≡ 0) → lawful m
   pub leads : (m : ℕ → ℕ) (op : List ℕ) → lawful m
       → keeps (program_answer (program op) m) ≡ true → lawful (memory_after (program op) m)
-  -- cells below `low` make no difference
+  -- whether a memory is lawful doesn't depend on the cells below `low`
   pub lawful_from : (m n : ℕ → ℕ) → ((a : ℕ) → low ≤ a → m a ≡ n a) → lawful m → lawful n
   pub stays : (op : List ℕ) → StaysFrom low (program op)
   pub inside : (m : ℕ → ℕ) (op : List ℕ) → lawful m → StaysBetween low size (program op) m

@@ -12,16 +12,16 @@ pub record TouchedCells : Type 0 where
 abbrev pub no_cells : ℕ → TouchedCells
 no_cells n = record { known = replicate n None; newest = replicate n None }
 
--- one of the two numbers of each of n cells, as `part` chooses: the cell of entry k of es has that
--- of entry k of hs, and every other cell has none
+-- A list of n cells, each with one of its two numbers, as `part` chooses. The cell that entry k of
+-- es names has a number of entry k of hs, and every other cell has none.
 abbrev pub slots_of : (Option ℕ × Option ℕ → Option ℕ) → ℕ → List (ℕ × ℕ)
     → List (Option ℕ × Option ℕ) → List (Option ℕ)
 slots_of part n [] hs = replicate n None
 slots_of part n (e ∷ es) [] = replicate n None
 slots_of part n (e ∷ es) (h ∷ hs) = set (slots_of part n es hs) e.0 (part h)
 
--- the known and the newest numbers of n cells: the cell of entry k of es has those of entry k of
--- hs, and every other cell has none
+-- A list of n cells with the known and the newest number of each. The cell that entry k of es names
+-- has the numbers of entry k of hs, and every other cell has none.
 abbrev pub cells_of : ℕ → List (ℕ × ℕ) → List (Option ℕ × Option ℕ) → TouchedCells
 cells_of n es hs = record {
   known = slots_of (λ (h : Option ℕ × Option ℕ). h.0) n es hs;

@@ -11,8 +11,8 @@ use Rattle.of_mem.specs.Places.{bucket_count, bucket_at}
 use Rattle.of_mem.specs.Plots.{base}
 use Rattle.of_mem.specs.Stores.{first_at, link_at}
 
--- From the pointer cell `from`, n blocks lead to the pointer cell `to`. Their keys are not `key`,
--- and all cells on the way are known. `o` is the first cell of the store.
+-- Known pointers lead from the pointer cell `from` through n blocks to the pointer cell `to`. The
+-- keys of these blocks are known, and none of them is `key`. `o` is the first cell of the store.
 abbrev pub Passes : ℕ → ℕ → Part → ℕ → ℕ → ℕ → Type 0
 Passes o key p zero from to = from ≡ to
 Passes o key p (suc n) from to =
@@ -25,14 +25,14 @@ abbrev pub lesser_of : ℕ → Option ℕ → Option ℕ
 lesser_of k None = Some k
 lesser_of k (Some b) = if nat_lt b k then Some b else Some k
 
--- the best key after key k: the less of k and the best key so far, or only the best so far if k is
--- below `low`
+-- the least key after the key k is looked at: the less of k and `best`, the least key so far; a key
+-- k below `low` doesn't count
 abbrev pub better_of : ℕ → ℕ → Option ℕ → Option ℕ
 better_of low k best = if nat_lt k low then best else lesser_of k best
 
--- From the pointer cell `from`, n blocks lead to the pointer cell `to`, and all cells on the way
--- are known. `best` is the least key from `low` on before these blocks, and `result` is the least
--- one with their keys.
+-- Known pointers lead from the pointer cell `from` through n blocks to the pointer cell `to`, and
+-- the keys of these blocks are known. `best` is the least key from `low` on before these blocks,
+-- and `result` is the least one together with the keys of these blocks.
 abbrev pub Weighs : ℕ → ℕ → Part → ℕ → ℕ → Option ℕ → ℕ → Option ℕ → Type 0
 Weighs o low p zero from best to result = (from ≡ to) × (best ≡ result)
 Weighs o low p (suc n) from best to result =
@@ -40,9 +40,9 @@ Weighs o low p (suc n) from best to result =
     × (newest_at p from ≡ Some (suc b)) × (newest_at p (first_at o b) ≡ Some k)
     × Weighs o low p n (link_at o b) (better_of low k best) to result
 
--- All pointers and keys of bucket i are known. `best` is the least key from `low` on before this
--- bucket, and `result` is the least one with the keys of the bucket. No more blocks are passed than
--- there are.
+-- All pointers and keys of bucket i are known. `best` is the least key from `low` on in the buckets
+-- before, and `result` is the least one together with the keys of this bucket. The walk passes no
+-- more blocks than the store has.
 pub record WeighsBucket (o blocks low : ℕ) (p : Part) (i : ℕ) (best result : Option ℕ)
     : Type 0 where
   pub passed : ℕ
@@ -53,17 +53,17 @@ pub record WeighsBucket (o blocks low : ℕ) (p : Part) (i : ℕ) (best result :
   pub few : passed ≤ blocks
   pub ends : (last ≡ 0) ⊎ (passed ≡ blocks)
 
--- `result` is the least key from `low` on in the first buckets, as many as the fifth argument says;
--- all their pointers and keys are known
+-- `result` is the least key from `low` on in the first buckets; the fifth argument says how many.
+-- All pointers and keys of these buckets are known.
 abbrev pub WeighsBuckets : ℕ → ℕ → ℕ → Part → ℕ → Option ℕ → Type 0
 WeighsBuckets o blocks low p zero result = result ≡ None
 WeighsBuckets o blocks low p (suc i) result =
     (best : Option ℕ)
     × WeighsBuckets o blocks low p i best × WeighsBucket o blocks low p i best result
 
--- The walk w is right. From the front of its bucket, known cells lead through as many blocks as it
--- passed, to its cell. None of these blocks has the key that is sought; if the least key is sought,
--- the walk's best key is the least one so far.
+-- What is kept of the walk w is true. From the front of the walk's bucket, known cells lead through
+-- as many blocks as the walk has passed, to the walk's cell. If a key is sought, none of these
+-- blocks has it. If the least key is sought, the walk's best key is the least one so far.
 abbrev pub CameTo : ℕ → ℕ → Sought → Part → Walk → Type 0
 CameTo o blocks (Key key) p w =
     (w.passed ≤ blocks)
@@ -73,11 +73,11 @@ CameTo o blocks (LeastFrom low) p w =
     × (best : Option ℕ) × WeighsBuckets o blocks low p w.bucket best
     × Weighs o low p w.passed (bucket_at o blocks w.bucket) best w.cell w.best
 
--- the walk w is right on the known cells of the plot
+-- what is kept of the walk w is true of the known cells of the plot
 abbrev pub HasCome : Plot → Sought → Part → Walk → Type 0
 HasCome plot s p w = CameTo (base plot) plot.blocks s p w
 
--- if a walk is kept, it is right on the known cells
+-- if a walk is kept, what is kept of it is true of the known cells
 abbrev pub IsSoundWalk : KeptWalk → Part → Type 0
 IsSoundWalk k p = k.is_kept ≡ true → CameTo k.base k.blocks k.sought p k.walk
 

@@ -16,8 +16,8 @@ use Rattle.of_memory.specs.History.{Made, Replied, Spent}
 abbrev pub no_reply : RawReply
 no_reply = record { shape = 0; values = [] }
 
--- the result of a script's call, seen as that of a call of cells, but without the reply: an answer
--- keeps its sequence, its steps and whether it was announced, and an error stays
+-- the result of a script's call as the result of a call of cells, but without the reply: an answer
+-- keeps its sequence, its steps and whether it was announced; an error stays as it is
 abbrev pub without_reply : Result Answer RunError → Result RawAnswer RunError
 without_reply (Ok a) =
     Ok (record { seq = a.seq; announced = a.announced; raw = no_reply; steps = a.steps })
@@ -39,8 +39,8 @@ abbrev pub answered_call : List Instr → Answer → Made
 answered_call script a =
     record { script = script; ended = Replied (reply_value_of a.reply) a.seq a.steps a.announced }
 
--- the ended calls of a caller, after a call of this script has had this result: that call is added
--- if it was answered or spent
+-- The list of a caller's ended calls after a call of this script has had this result. If the call
+-- was answered or spent, it is added at the end; otherwise the list stays as it is.
 abbrev pub made_with : List Instr → Result Answer RunError → List Made → List Made
 made_with script (Ok a) ms = ms ++ answered_call script a ∷ []
 made_with script (Err (Stopped asked)) ms = ms

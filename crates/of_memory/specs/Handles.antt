@@ -44,20 +44,21 @@ pub record HasOpen (h : Handle) (script : List Instr) : Type 0 where
   pub is : IsScript script
   pub opened : generic.HasOpen h.cells (map instr_word script)
 
--- A call of this script has had this result. The handle's number has made the calls that it had
--- made before, and this call too if it was answered or spent.
+-- A call of this script has had this result. The list of ended calls of the handle's number gets
+-- this call if it was answered or spent; otherwise the list stays as it is.
 abbrev pub MakesCall : List Instr → Result Answer RunError → (before now : Handle) → Type 0
 MakesCall script result h k =
     (ms : List Made) → HasMade h ms → HasMade k (made_with script result ms)
 
--- The open call, whatever its script, has gone on and had this result. The handle's number has made
--- the calls that it had made before, and this call too if it was answered or spent.
+-- The open call, whatever its script, has gone on and had this result. The list of ended calls of
+-- the handle's number gets this call if it was answered or spent; otherwise the list stays as it
+-- is.
 abbrev pub ResumesCall : Result Answer RunError → (before now : Handle) → Type 0
 ResumesCall result h k =
     (script : List Instr) (ms : List Made) → HasOpen h script → HasMade h ms
     → HasMade k (made_with script result ms)
 
--- if the call was stopped, a call of this script is open; if it was answered or spent, none is open
+-- a call of this script is open if it was stopped, and no call is open if it was answered or spent
 abbrev pub StaysOpenOnlyIfStopped : List Instr → Result Answer RunError → Handle → Type 0
 StaysOpenOnlyIfStopped script (Ok a) h = HasCallOpen h → ⊥
 StaysOpenOnlyIfStopped script (Err (Stopped asked)) h = HasOpen h script
@@ -66,8 +67,9 @@ StaysOpenOnlyIfStopped script (Err InCall) h = Unit {0}
 StaysOpenOnlyIfStopped script (Err NoCall) h = Unit {0}
 StaysOpenOnlyIfStopped script (Err NoTicket) h = Unit {0}
 
--- The open call, whatever its script, has gone on and had this result. If it was stopped, it is
--- still open. If it was answered or spent, no call is open.
+-- The handle `before` had an open call, which has gone on and had this result. If the call was
+-- stopped again, the handle `now` still has it open. If it was answered or spent, `now` has no open
+-- call.
 abbrev pub OpenCallStays : Result Answer RunError → (before now : Handle) → Type 0
 OpenCallStays result h k =
     (script : List Instr) → HasOpen h script → StaysOpenOnlyIfStopped script result k
@@ -93,7 +95,7 @@ tickets_behind h = generic.tickets_behind scripts_meaning h.cells
 abbrev pub looks_of : Handle → ℕ
 looks_of h = generic.looks_of h.cells
 
--- the handle has made no more loads outside of its calls: the count of these loads stayed
+-- the handle has made no load outside of its calls: the count of such loads has stayed the same
 abbrev pub MakesStepsAlone : (before now : Handle) → Type 0
 MakesStepsAlone h k = generic.MakesStepsAlone h.cells k.cells
 
@@ -102,13 +104,13 @@ MakesStepsAlone h k = generic.MakesStepsAlone h.cells k.cells
 abbrev pub MakesAtMost : (most : ℕ) → (before now : Handle) → Type 0
 MakesAtMost most h k = generic.MakesAtMost most h.cells k.cells
 
--- if the handle has an open call: the steps that this call had made, and the steps made since, are
--- together at most this many
+-- if the handle has an open call, the steps that this call had made before, and the steps made
+-- since, are together at most this many
 abbrev pub GoesOnWithin : (most : ℕ) → (before now : Handle) → Type 0
 GoesOnWithin most h k = generic.GoesOnWithin most h.cells k.cells
 
--- if a handle has no open call, the calls that its number has begun are as many as those from
--- before its memory was opened and those that have ended since
+-- If a handle has no open call, the number of calls that its number has begun is the sum of two:
+-- those from before its memory was opened, and those that have ended since.
 abbrev pub CallsAreCounted : Type 0
 CallsAreCounted =
     (h : Handle) (ms : List Made) → IsHandle h → (HasCallOpen h → ⊥) → HasMade h ms

@@ -64,7 +64,8 @@ ExplainsEnd h c t script (Replied r seq steps announced) =
     HasEntry h (record { caller = c; ticket = t; script = script; reply = r })
 ExplainsEnd h c t script (Spent seq) = All (λ (e : HistoryEntry). e.caller ≡ c → e.ticket ≡ t → ⊥) h
 
--- the history explains how these calls of a caller ended; they have the tickets from n + 1 on
+-- the history explains how each call in this list of a caller's ended calls has ended; the first
+-- call of the list has the ticket n + 1
 abbrev pub ExplainsAll : List HistoryEntry → (caller n : ℕ) → List Made → Type 0
 ExplainsAll h c n ms =
     (y : ℕ) → y < length ms
@@ -79,22 +80,23 @@ pub record EntriesRiseBySequence (h : List HistoryEntry) (s : Sequences) : Type 
   pub by_caller : (p q : ℕ) → p < q → q < length h → s.seq p ≡ s.seq q → s.announced q ≡ true
       → (get_or h p no_history_entry).caller < (get_or h q no_history_entry).caller
 
--- an answered call has, in the history, the sequence that its end names, and is announced there
--- exactly if its end says so
+-- if a call with this end was answered and is in the history, it has there the sequence that its
+-- end names, and is announced there exactly if its end says so
 abbrev pub HasSequenceOfEnd : List HistoryEntry → Sequences → (caller ticket : ℕ) → End → Type 0
 HasSequenceOfEnd h s c t (Replied r seq steps announced) =
     (p : ℕ) → p < length h → (get_or h p no_history_entry).caller ≡ c
     → (get_or h p no_history_entry).ticket ≡ t → (s.seq p ≡ seq) × (s.announced p ≡ announced)
 HasSequenceOfEnd h s c t (Spent seq) = Unit {0}
 
--- each of these calls that was answered has, in the history, the sequence that its answer names,
--- and is announced there exactly if the answer says so; the tickets are those from n + 1 on
+-- If a call in this list of a caller's ended calls was answered and is in the history, it has there
+-- the sequence that its answer names, and is announced there exactly if the answer says so. The
+-- first call of the list has the ticket n + 1.
 abbrev pub HaveOwnSequences : List HistoryEntry → Sequences → (caller n : ℕ) → List Made → Type 0
 HaveOwnSequences h s c n ms =
     (y : ℕ) → y < length ms → HasSequenceOfEnd h s c (n + y + 1) (get_or ms y no_made).ended
 
--- the entry is one of these ended calls, which have the tickets from n + 1 on, or it is an open
--- call with the ticket after theirs
+-- the entry is a call of this list of ended calls, whose first call has the ticket n + 1; or it is
+-- an open call, with the ticket after the last of the list
 abbrev pub IsOneOf : (n : ℕ) → List Made → (IsOpenCall : List Instr → Type 0) → HistoryEntry
     → Type 0
 IsOneOf n ms IsOpenCall e =

@@ -31,7 +31,7 @@ setup_with w limit = setup_of w.callers (scripts_data_cells w) limit (scripts_me
 abbrev pub KeepScripts : Setup → View → Type 0
 KeepScripts S v = (n : ℕ) → n < S.callers → KeepsSo n RunsScripts v.kept
 
--- the history explains how the kept caller's calls ended
+-- the history explains how each ended call of the kept caller has ended
 abbrev pub ExplainsKept : Setup → TableStart → List HistoryEntry → KnownCaller → Type 0
 ExplainsKept S B h x =
     (ms : List Made) → AreMade x.ended ms
@@ -50,7 +50,8 @@ abbrev pub HasOpenScript : KnownCaller → List Instr → Type 0
 HasOpenScript x script =
     IsScript script × HasOpenOperation x (map instr_word script)
 
--- each entry of the kept caller in the history is one of its ended calls or its open call
+-- each entry of the history that is a call of the kept caller's number is one of the caller's ended
+-- calls, or its open call
 abbrev pub HasOnlyKept : Setup → TableStart → List HistoryEntry → KnownCaller → Type 0
 HasOnlyKept S B h x =
     (ms : List Made) → AreMade x.ended ms

@@ -69,12 +69,12 @@ pub record HasOpenOf (m : Memory) (n : ℕ) (script : List Instr) : Type 0 where
   pub is : IsScript script
   pub opened : generic.HasOpenOf m.cells n (map instr_word script)
 
--- no handle of number j is out, and number j knows: the first x calls of number n had ended before
--- number k began its call y + 1
+-- no handle of number j is out, and number j knows that the first x calls of number n had ended
+-- before number k began its call y + 1
 abbrev pub HasOrderOf : Memory → (j n x k y : ℕ) → Type 0
 HasOrderOf m j n x k y = generic.HasOrderOf scripts_meaning m.cells j n x k y
 
--- the memory still knows of each ended call that it knew of
+-- of each ended call that the memory knew of before, it still knows
 abbrev pub RemembersAll : (before now : Memory) → Type 0
 RemembersAll m k = generic.RemembersAll scripts_meaning m.cells k.cells
 
@@ -94,18 +94,19 @@ IsFrom m h = generic.IsFrom m.cells h.cells
 abbrev pub IsStill : (before now : Memory) → Type 0
 IsStill m k = generic.IsStill m.cells k.cells
 
--- For each number but n whose caller was in the memory: the caller is still in the memory, with the
--- same ended calls.
+-- For each number other than n: if the number's caller was in the memory, this caller is still
+-- there, with the same ended calls.
 abbrev pub KnowsOthers : ℕ → (before now : Memory) → Type 0
 KnowsOthers n m k = (i : ℕ) (ms : List Made) → i ≢ n → HasMadeOf m i ms → HasMadeOf k i ms
 
--- for each number but n whose caller was in the memory with an open call: the caller is still in
--- the memory, with this call open
+-- for each number other than n: if the number's caller was in the memory with an open call, this
+-- caller is still there, with this call open
 abbrev pub OthersStayOpen : ℕ → (before now : Memory) → Type 0
 OthersStayOpen n m k =
     (i : ℕ) (script : List Instr) → i ≢ n → HasOpenOf m i script → HasOpenOf k i script
 
--- for each number but i: its caller in the memory still knows each order of calls that it knew
+-- for each number other than i: if the number's caller in the memory knew that some calls had ended
+-- before another call began, it still knows this
 abbrev pub OthersKnowOrder : ℕ → (before now : Memory) → Type 0
 OthersKnowOrder i m l = generic.OthersKnowOrder scripts_meaning i m.cells l.cells
 
@@ -126,8 +127,8 @@ TakesNone m k = generic.TakesNone m.cells k.cells
 abbrev pub PutsBack : (before now : Memory) → Handle → Type 0
 PutsBack m k h = generic.PutsBack m.cells k.cells h.cells
 
--- what is saved shows the last call of caller n: there was none since the memory was opened, or it
--- is a call of the history, and its reply is saved
+-- What is saved shows the last call of caller n since the memory was opened: either there was none;
+-- or it is a call of the history, and its reply is saved.
 abbrev pub TellsLastOf : Memory → Saved → List HistoryEntry → ℕ → Type 0
 TellsLastOf m d h n = TellLast (saved_cells d) h n (tickets_before m n)
 

@@ -51,8 +51,9 @@ SavedHolds d s = StandFor (saved_scripts d) (saved_cells d) s
 abbrev pub HoldReply : (cells : List ℕ) → (n : ℕ) → Reply → Type 0
 HoldReply cells n response = HoldsResponse (reply_in MOST_INSTRS (memory_of cells) n) response
 
--- Caller n had made `before` calls. The data cells show its last call since: there was none, or it
--- is the call of the history with the ticket in the cells, and the cells hold its reply.
+-- Caller n had made `before` calls. The data cells show the caller's last call since then: either
+-- there was none; or the history has a call of the caller with the ticket that is in the cells, and
+-- the cells hold its reply.
 abbrev pub TellLast : (cells : List ℕ) → List HistoryEntry → (n before : ℕ) → Type 0
 TellLast cells h n before =
     (generic.own_ticket cells n ≡ before)

@@ -22,7 +22,7 @@ pub record KnowsHandle (m : Memory) (h : Handle) : Type 0 where
   pub only_open : (script : List Instr) → HasOpenOf m (number_of_handle h) script
       → HasOpen h script
 
--- of number n the memory knows exactly the calls that it knew before, ended and open
+-- of number n the memory knows exactly the ended calls and the open call that it knew before
 pub record KnowsSame (n : ℕ) (m k : Memory) : Type 0 where
   pub made : (ms : List Made) → HasMadeOf m n ms → HasMadeOf k n ms
   pub only : (ms : List Made) → HasMadeOf k n ms → HasMadeOf m n ms
@@ -33,8 +33,8 @@ pub record KnowsSame (n : ℕ) (m k : Memory) : Type 0 where
 abbrev pub KnowsRest : (from : ℕ) → (before now : Memory) → Type 0
 KnowsRest from m k = (n : ℕ) → from ≤ n → KnowsSame n m k
 
--- for each number from `from` on: its caller in the memory still knows each order of calls that it
--- knew
+-- for each number from `from` on: if the number's caller in the memory knew that some calls had
+-- ended before another call began, it still knows this
 abbrev pub RestKnowsOrder : (from : ℕ) → (before now : Memory) → Type 0
 RestKnowsOrder from m l =
     (j : ℕ) → from ≤ j → (n x k y : ℕ) → HasOrderOf m j n x k y → HasOrderOf l j n x k y
@@ -50,7 +50,8 @@ pub record HasWorked {J : Type 0} (Does : TaskWork J) (p q : Handle × J) : Type
   pub same : IsSame p.0 q.0
   pub done : Does p.1 p.0 q.1 q.0
 
--- the promise `Does` of a task, with the task's handle seen as one of a memory of cells
+-- what the task promises of its work (`Does`), as a fact about the task and a handle of a memory of
+-- cells
 abbrev pub WorksWith : {J : Type 0} → TaskWork J → generic.TaskWork Scripts J
 WorksWith Does x h y k = HasWorked Does (record { cells = h }, x) (record { cells = k }, y)
 

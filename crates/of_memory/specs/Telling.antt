@@ -20,12 +20,13 @@ use Rattle.of_memory.specs.Memories.{IsFrom, IsStill, StartsWith, RemembersAll, 
 abbrev pub HasHeardOf : Handle → (number count : ℕ) → Type 0
 HasHeardOf h n count = generic.HasHeardOf scripts_meaning h.cells n count
 
--- the handle knows that the first x calls of number n had ended before number k began the call
--- after its first y
+-- the handle knows that the first x calls of number n had ended before number k began its call y +
+-- 1
 abbrev pub KnowsOrder : Handle → (n x k y : ℕ) → Type 0
 KnowsOrder h n x k y = generic.KnowsOrder scripts_meaning h.cells n x k y
 
--- the handle still knows of each ended call that it knew of, and each order of calls that it knew
+-- the handle still knows of each ended call that it knew of, and of each pair of calls which of
+-- them came first, if it knew this
 abbrev pub KeepsKnown : (before now : Handle) → Type 0
 KeepsKnown h k = generic.KeepsKnown scripts_meaning h.cells k.cells
 
@@ -68,12 +69,13 @@ ResumesAfterHeard result h k =
 
 -- ---- handles come and go
 
--- the handle knows each order of calls that the caller of its number knew in the memory
+-- if the caller of the handle's number, in the memory, knew that some calls had ended before
+-- another call began, the handle knows this
 abbrev pub KnowsOrdersOf : Memory → Handle → Type 0
 KnowsOrdersOf m h = generic.KnowsOrdersOf scripts_meaning m.cells h.cells
 
--- the caller of the handle's number is in the memory, and knows each order of calls that the handle
--- knew
+-- the caller of the handle's number is in the memory; if the handle knew that some calls had ended
+-- before another call began, this caller knows it
 abbrev pub LeavesOrder : Handle → Memory → Type 0
 LeavesOrder h m = generic.LeavesOrder scripts_meaning h.cells m.cells
 

@@ -15,8 +15,8 @@ IsNeverStopped result = generic.IsNeverStopped (without_reply result)
 abbrev pub KeepsWithin : (before more now : ℕ) → Result Answer RunError → Type 0
 KeepsWithin before more now result = generic.KeepsWithin before more now (without_reply result)
 
--- A call that had made `before` steps makes at most as many more steps as its stop allows, and is
--- stopped only after these. Without a stop it is never stopped.
+-- A call that had made `before` steps makes at most as many steps more as its stop allows, and it
+-- is stopped only after it has made them all. Without a stop it is never stopped.
 abbrev pub KeepsToStop : (before : ℕ) → (stop : Option ℕ) → (now : ℕ) → Result Answer RunError
     → Type 0
 KeepsToStop before stop now result = generic.KeepsToStop before stop now (without_reply result)

@@ -10,14 +10,15 @@ use Rattle.of_mem.specs.Programs.{NeedsAt}
 use Rattle.of_mem.specs.Walks.{WeighsBuckets, HasCome}
 use Rattle.of_order.specs.OrderPrograms.{least}
 
--- `best` is the least key that is at least `low` in the walk's bucket and in the buckets before it
+-- `best` is the least key, of those that are at least `low`, in the walk's bucket and in the
+-- buckets before it
 abbrev pub HasWeighed : Plot → ℕ → Part → Walk → Option ℕ → Type 0
 HasWeighed plot low p start best =
     WeighsBuckets (base plot) plot.blocks low p (start.bucket + 1) best
 
--- What a walk at `here` becomes when it tries to pass one more block. None: its bucket has no more
--- blocks, and the walk's best key is the best one of this bucket and of those before. `Some next`:
--- `next` is the walk after one more block of the same bucket.
+-- The walk `here` has tried to pass one more block. If the result is None, its bucket has no more
+-- blocks, and the walk's best key is the least one of this bucket and the buckets before. If it is
+-- `Some next`, then `next` is the walk after one more block of the same bucket.
 abbrev pub IsPast : Plot → ℕ → Part → Walk → Option Walk → Type 0
 IsPast plot low p here None = HasWeighed plot low p here here.best
 IsPast plot low p here (Some next) =

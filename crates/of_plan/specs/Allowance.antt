@@ -15,7 +15,8 @@ least_steps p e = if e.announced then length (script_of_entry p e) + 5 else 3
 abbrev pub answered_of : Report → ℕ → List Entry
 answered_of r c = take (caller_line r c).answered (entries_of r c)
 
--- a caller's answered calls can be made with this many steps; None is for no limit
+-- the report agrees with an allowance of steps for a caller: with this many steps the caller can
+-- make its answered calls. None means that there is no limit
 pub record KeepsAllowance (p : Plan) (r : Report) (c : ℕ) (allowance : Option ℕ) : Type 0 where
   -- the least steps of its answered calls add up to at most the allowance
   pub adds_up : IfSome allowance (λ n. sum_by (least_steps p) (answered_of r c) ≤ n)
@@ -23,8 +24,9 @@ pub record KeepsAllowance (p : Plan) (r : Report) (c : ℕ) (allowance : Option 
   pub upto : IfSome allowance (λ n. (caller_line r c).longest ≤ n)
   -- its longest answered call made no fewer than the least steps of any of them
   pub least : All (λ e. least_steps p e ≤ (caller_line r c).longest) (answered_of r c)
-  -- if it is stopped, its allowance is smaller than what its answered calls and one open call can
-  -- use: the steps of the longest for each answered one, and the step bound
+  -- if the caller is stopped, its allowance is smaller than what its answered calls and one open
+  -- call can use: for each answered call the steps of the longest one, and for the open call the
+  -- step bound
   pub used_up : (caller_line r c).state ≡ stopped → (n : ℕ) × (allowance ≡ Some n)
       × (n < (caller_line r c).answered * (caller_line r c).longest + bound_of p)
 

@@ -31,8 +31,8 @@ may_come stage FEvict = is_below_heading stage
 may_come stage FEnd = is_below_heading stage
 may_come _ _ = false
 
--- why a line may not come next at this stage; between the heading and the end it is the reason
--- `below`
+-- the reason why a line may not come next at this stage: which line of the heading is missing, or
+-- that the end has come; otherwise the reason `below`
 abbrev pub place_reason : Stage → (below : Reason) → Reason
 place_reason Start below = TitleExpected
 place_reason Named below = CallersExpected
@@ -41,7 +41,8 @@ place_reason Sized below = below
 place_reason InBody below = below
 place_reason Ended below = AfterEnd
 
--- the greatest number that is read as the first of a line of this form
+-- the greatest number that the code reads as the first number of a line of this form; the number
+-- may still be refused afterwards
 abbrev pub first_read : LineForm → ℕ
 first_read FStop = GREATEST_CELL
 first_read FTurns = GREATEST_CELL

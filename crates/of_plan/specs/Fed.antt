@@ -90,8 +90,8 @@ IsSecondNumberFault p form reason words =
     × (slot_and_rest (line_second_most form) words ≡ Some (second, others))
     × (second_fault p form second ≡ Some reason))
 
--- if nothing is found, the line was skipped, or was read and leads from `old` to `new`; otherwise
--- the line may not come next, and the piece found is at fault for a true reason
+-- if no fault is found, the line was skipped, or it was read and leads from the reading `old` to
+-- `new`; otherwise the line may not come next, and the piece found is at fault for a true reason
 abbrev pub HasFed : (line : List ℕ) → (old new : RustReading) → Option Bad → Type 0
 HasFed line old new found =
     MatchOption found

@@ -43,8 +43,8 @@ pub record IsHeading (h : Heading) : Type 0 where
   pub few_blocks : h.blocks ≤ MOST_PLAN_BLOCKS
   pub limit_range : IfSome h.limit (λ x. (1 ≤ x) × (x ≤ GREATEST_LIMIT))
 
--- an entry's numbers are in range: its caller is one of the heading's, and its cell has a durable
--- word; turns have no upper bound here, since there is one on all together
+-- An entry's numbers are in range: its caller is one of the heading's, and its cell has a durable
+-- word. The number of turns has no upper bound here, because the bound is on all turns together.
 abbrev pub IsEntryInRange : Heading → BodyLine → Type 0
 IsEntryInRange h (Script c script) = (c < h.callers) × IsScript script
 IsEntryInRange h (Stop c x) = (c < h.callers) × (x ≤ LATEST_STOP)
@@ -67,7 +67,7 @@ item_of (Turns c x) = Some (TurnsItem c x)
 item_of (Evict a) = Some (EvictItem a)
 item_of _ = None
 
--- 1 for a script, so that a sum counts them
+-- 1 for a script entry, and 0 for any other; a sum of these counts the scripts
 abbrev pub is_script : BodyLine → ℕ
 is_script (Script c script) = 1
 is_script _ = 0

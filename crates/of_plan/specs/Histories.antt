@@ -31,16 +31,16 @@ pub record IsBatch (p : Plan) (h : History) (k : ℕ) : Type 0 where
       ≡ replies_in_order (h.stores (k - 1)) (map (script_of_entry p) (h.runs k))
   pub leads : last_store (h.stores (k - 1)) (map (script_of_entry p) (h.runs k)) ≡ h.stores k
 
--- an announced entry is among those of its sequence, which is after the start's; the script of a
--- read only reads, and its reply is the one on the store after its sequence
+-- An announced entry is one of the entries of its sequence, which is above the start's. The script
+-- of a read only reads, and its reply is that of the script on the store after the read's sequence.
 abbrev pub EntryHasPlace : Plan → Start → History → Entry → (announced : Bool) → Type 0
 EntryHasPlace p s h e true = (s.seq < e.seq) × IsIn e (h.runs e.seq)
 EntryHasPlace p s h e false =
     All (λ i. IsTrue (reads_only i)) (script_of_entry p e)
     × (e.reply ≡ (run (h.stores e.seq) (script_of_entry p e)).1)
 
--- the entries of a caller are its scripts from the first that isn't done, in their order, each at
--- its place in the history
+-- the entries of a caller are its scripts from the first one that isn't done, in their order, and
+-- each entry has its place in the history (`EntryHasPlace`)
 pub record IsOwn (p : Plan) (s : Start) (h : History) (c : ℕ) : Type 0 where
   pub each : Each (λ e. (e.caller ≡ c) × (s.seq ≤ e.seq) × (e.seq ≤ h.last)
       × EntryHasPlace p s h e e.announced) (h.own c)
@@ -77,7 +77,7 @@ history_report p s h lines = record {
   store = h.stores h.last;
 }
 
--- a caller's line agrees with its entries, and with how it ended
+-- a caller's line agrees with the caller's entries, and with how the caller ended
 pub record FitsLine (p : Plan) (s : Start) (h : History) (c : ℕ) (l : Line) : Type 0 where
   pub entries : l.entries ≡ length (h.own c)
   pub open_call : HasOpenCall l.state l.answered l.entries

@@ -25,8 +25,8 @@ pub record StandInOrder (p : Plan) (s : Start) (r : Report) : Type 0 where
       ≡ range_with_len (finished_of s c) (length (entries_of r c))
   pub of_scripts : (c : ℕ) → c < p.callers → length (entries_of r c) ≤ scripts_left p s c
 
--- a stopped caller may have one entry more than answered calls, for its open call; any other caller
--- has as many entries as answered calls
+-- A stopped caller may have one entry more than answered calls, for its open call. Any other caller
+-- has as many entries as answered calls.
 abbrev pub HasOpenCall : EndState → (answered entries : ℕ) → Type 0
 HasOpenCall done answered entries = entries ≡ answered
 HasOpenCall spent answered entries = entries ≡ answered

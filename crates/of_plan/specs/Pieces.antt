@@ -10,8 +10,8 @@ IsWholePiece words before piece after =
     (words ≡ before ++ piece ∷ text_words after)
     ⊎ ((words ≡ before) × (piece ≡ []) × (after ≡ []))
 
--- `b` is a whole word of the bytes, or their end, and `Is` holds of the words before it and of the
--- word
+-- `b` is a whole word of the bytes, or their end; and the fact `Is` holds of the words before this
+-- word and of the word itself
 pub record IsBad (bytes : List ℕ) (b : Piece) (Is : List (List ℕ) → List ℕ → Type 0) : Type 0 where
   pub before : List (List ℕ)
   pub piece : List ℕ

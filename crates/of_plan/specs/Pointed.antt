@@ -9,8 +9,8 @@ use Rattle.of_plan.specs.ReasonText.{reason_text}
 abbrev pub sign : ℕ → ℕ
 sign b = if nat_lt b 32 then 63 else if nat_lt 126 b then 63 else b
 
--- where the shown part of a line begins: 60 bytes before the piece; or at the line's first byte, if
--- the line has at most 100 bytes or fewer than 60 come before the piece
+-- Where the shown part of a line begins: 60 bytes before the piece. It begins at the line's first
+-- byte if the line has at most 100 bytes, or if fewer than 60 bytes come before the piece.
 abbrev pub first_shown_byte : (size start : ℕ) → ℕ
 first_shown_byte size start = if nat_le size 100 then 0 else start - 60
 

@@ -10,13 +10,13 @@ pub record Language : Type 1 where
   pub words_of : Line → List (List ℕ)
   pub InRange : Line → Type 0
 
--- how far a reading of such lines has come, and how far it is after one more line, if this line may
--- come next
+-- how lines of a language are read: what a reading has found so far, and what it has found after
+-- one more line; None if this line may not come next
 pub record Reader (L : Language) : Type 1 where
   pub Progress : Type 0
   pub next : Progress → L.Line → Option Progress
 
--- how far a reading is after these lines, if each may come next
+-- what a reading has found after these lines; None if one of them may not come next
 abbrev pub after_lines : (L : Language) (R : Reader L) → R.Progress → List L.Line
     → Option R.Progress
 after_lines L R p [] = Some p
@@ -28,8 +28,8 @@ pub record SpellsLine (L : Language) (ws : List (List ℕ)) (l : L.Line) : Type 
   pub words : ws ≡ L.words_of l
   pub range : L.InRange l
 
--- the words are skipped and leave the reading as it was, or they are a line that leads it from `p`
--- to `q`
+-- either the words are a skipped line, and the reading stays as it was; or they are a line of the
+-- language, and lead the reading from `p` to `q`
 abbrev pub ReadsLine : (L : Language) (R : Reader L) → List (List ℕ) → R.Progress → R.Progress
     → Type 0
 ReadsLine L R ws p q =

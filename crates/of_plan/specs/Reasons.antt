@@ -34,16 +34,16 @@ use Rattle.of_plan.specs.Pieces.{IsWholePiece}
 
 -- ---- what comes next after the words of a line
 
--- after these words of a line an instruction comes next: the last word is the caller of a script
--- line, or a semicolon
+-- after these words of a line an instruction comes next: the last of them is the caller's number of
+-- a script line, or a semicolon
 pub record WantsInstr (before : List (List ℕ)) : Type 0 where
   pub caller : List ℕ
   pub others : List (List ℕ)
   pub are : before ≡ codes "script" ∷ caller ∷ others
   pub mark : (others ≡ []) ⊎ ((front : List (List ℕ)) × (others ≡ front ++ semicolon_byte ∷ []))
 
--- after these words a number up to `most` comes next: they are this name, or the name and its first
--- number; `first` and `second` are the greatest numbers there
+-- After these words a number up to `most` comes next. The words are either this name, and `most` is
+-- `first`; or the name and its first number, and `most` is `second`.
 abbrev pub IsAfterName : (name : List ℕ) (first second : ℕ) (words : List (List ℕ)) (most : ℕ)
     → Type 0
 IsAfterName name first second words most =
@@ -98,7 +98,8 @@ IsPlaceOf _ before piece = ⊥
 abbrev pub IsBelowHeading : Stage → Type 0
 IsBelowHeading stage = (stage ≡ Sized) ⊎ (stage ≡ InBody)
 
--- the piece is the first word of a line of the heading; `limit` counts only if the body has begun
+-- the piece is the first word of a line of the heading; the word `limit` counts only after the
+-- heading is over
 abbrev pub IsHeadingWord : Stage → List ℕ → Type 0
 IsHeadingWord stage piece =
     (piece ≡ codes "onefile")

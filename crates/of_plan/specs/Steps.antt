@@ -12,8 +12,8 @@ use Rattle.of_plan.specs.Reading.{reading_value, with_entry, after_line, TakesEn
 abbrev pub HasTakenEntry : (old : Reading) → BodyLine → (new : Reading) → (taken : Bool) → Type 0
 HasTakenEntry old e new taken = TakesEntry (reading_value old) e taken (reading_value new)
 
--- if `may` is true, an entry may come next exactly if the reading `new` can take it; otherwise none
--- may
+-- If `may` is true, an entry may come next exactly if the reading `new` can take it; if `may` is
+-- false, no entry may come next.
 abbrev pub MayTakeEntries : (old new : Reading) → (may : Bool) → Type 0
 MayTakeEntries old new may =
     (e : BodyLine) → after_line (reading_value old) (Body e)

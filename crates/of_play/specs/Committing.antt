@@ -34,7 +34,7 @@ commit_line false k i s calls = []
 abbrev pub batch_line_after : (k i found : ℕ) → List RustCall → List ℕ
 batch_line_after k i found calls = batch_line k i (seq_of found + 1) (map call_value calls)
 
--- the line of event `k`, a turn of caller `i`, if it commits these calls; otherwise nothing. The
--- turn found the word `found`, and the batch has the sequence after that of this word.
+-- The line of event `k`, a turn of caller `i`, if the turn commits these calls; otherwise nothing.
+-- The turn found the word `found`; the batch has the sequence after that of `found`.
 abbrev pub commit_line_after : (commits : Bool) → (k i found : ℕ) → List RustCall → List ℕ
 commit_line_after b k i found calls = commit_line b k i (seq_of found + 1) (map call_value calls)

@@ -26,14 +26,14 @@ address_of n (Back q) = tail_at (base_of n MOST_INSTRS) q
 address_of n (Length q) = length_at (base_of n MOST_INSTRS) q
 address_of n (Block b f) = block_at (base_of n MOST_INSTRS) b f
 
--- the number of a cell, if there are `n` callers and `m` data cells
+-- the number of a cell that a trace names, if there are `n` callers and `m` data cells
 abbrev pub shown_cell_number : (n m : ℕ) → ShownCell → ℕ
 shown_cell_number n m Current = 0
 shown_cell_number n m (Request i) = request_cell i
 shown_cell_number n m (Data a) = data_cell n a
 shown_cell_number n m (Log i x) = log_cell n m i x
 
--- the place of a word in the table
+-- the place in the table of a word that a trace names
 abbrev pub shown_word_place : (n m : ℕ) → ShownWord → ℕ
 shown_word_place n m (Now c) = shown_cell_number n m c
 shown_word_place n m (Durable c) = durable_place n m (shown_cell_number n m c)

@@ -23,8 +23,8 @@ use Rattle.of_play.specs.declared.schedule_run.ScheduleRun.{ScheduleRun}
 abbrev pub machine_left : Plan → List Event → ℕ → CallState
 machine_left p es c = machine_in (moment_after p es) c
 
--- the events may happen one after the other, and each caller has begun its first scripts in order,
--- as many as its machine counts
+-- the events may happen one after the other, and each caller begins its first scripts in order, as
+-- many as its machine counts
 pub record EventsMayFollow (p : Plan) (es : List Event) : Type 0 where
   pub schedule : IsSchedule (plan_setup p) (opening_for p) es
   pub made : (c : ℕ) → c < p.callers → (machine_left p es c).made ≤ length (scripts_of p c)
@@ -35,7 +35,7 @@ pub record EventsMayFollow (p : Plan) (es : List Event) : Type 0 where
 abbrev pub answers_in : ScheduleRun → ℕ → List Answer
 answers_in s c = slice_index_or (map (λ v. v.items) s.answers.items) c []
 
--- the code's table is as these events leave the plan's table, and the code has noted all answers
+-- the code's table is the plan's table as these events leave it, and the code has noted all answers
 pub record StandsAfter (p : Plan) (es : List Event) (s : ScheduleRun) : Type 0 where
   pub follows : EventsMayFollow p es
   pub callers : s.bank.callers ≡ p.callers
@@ -46,7 +46,7 @@ pub record StandsAfter (p : Plan) (es : List Event) (s : ScheduleRun) : Type 0 w
   pub told : (c : ℕ) → c < p.callers
       → AreAnswers (outcomes (plan_setup p) (opening_for p) es c) (answers_in s c)
 
--- the code's table is as some events leave the plan's table, and the code has noted all answers
+-- the code's table is the plan's table as some events leave it, and the code has noted all answers
 pub record IsPlaying (p : Plan) (s : ScheduleRun) : Type 0 where
   pub plan : IsPlan p
   pub events : List Event

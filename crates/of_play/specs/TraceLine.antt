@@ -8,7 +8,7 @@ use Rattle.of_play.specs.declared.trace_text.Change.{Change}
 use Rattle.of_play.specs.TraceText.{step_text, plan_word, change_text}
 use Rattle.of_play.specs.TraceParts.{helper_part, did_part, word_part, reply_part}
 
--- what is printed of how a call has ended; nothing, if it is still open
+-- what is printed of how a call has ended; nothing if the call is still open
 abbrev pub end_text : Option Outcome → List ℕ
 end_text None = []
 end_text (Some (Answered s true raw k)) =

@@ -30,7 +30,7 @@ abbrev pub helper_part : Option ℕ → List ℕ
 helper_part None = []
 helper_part (Some i) = codes "; helps " ++ decimal i
 
--- what is printed of an exchange: it has won, or another word than the expected one was there
+-- what is printed of an exchange: that it has won; or that it has lost, and which word was expected
 abbrev pub exchange_part : (won : Bool) → (old new : ℕ) → List ℕ
 exchange_part true old new = codes "; won"
 exchange_part false old new =
@@ -41,7 +41,8 @@ abbrev pub raise_part : (above : Bool) → (value : ℕ) → List ℕ
 raise_part true v = codes "; wanted " ++ pair_text v
 raise_part false v = []
 
--- what is printed of how a step that found this word went: of an exchange, and of a raise
+-- what is printed of how a step went that has found this word: something only for an exchange and
+-- for a raise
 abbrev pub did_part : Op → (found : ℕ) → List ℕ
 did_part (Load c) found = []
 did_part (Store c v) found = []
@@ -73,7 +74,8 @@ shape_part x =
 abbrev pub field_part : (field x : ℕ) → List ℕ
 field_part f x = if f == 2 then pointer_part x else []
 
--- what is printed of the meaning of a number in a data cell with this use: of a shape or a pointer
+-- what is printed of what a number in a data cell with this use means: something only for a shape
+-- and for a pointer
 abbrev pub cell_use_part : CellUse → ℕ → List ℕ
 cell_use_part (Ticket i) x = []
 cell_use_part (Shape i) x = shape_part x

@@ -15,7 +15,7 @@ IsShapeRow shape words = IsDurableRow shape.callers shape.cells words
 abbrev pub IsClosed : Shape → List ℕ → Type 0
 IsClosed shape words = is_open shape.callers (slice_index words) ≡ false
 
--- the row that a recovery leaves of this row
+-- the row that a recovery makes of this row
 abbrev pub row_after_recovery : Shape → List ℕ → List ℕ
 row_after_recovery shape words = recovered_words shape.callers shape.cells words
 
@@ -23,7 +23,7 @@ row_after_recovery shape words = recovered_words shape.callers shape.cells words
 abbrev pub recovery_writes_of : Shape → List ℕ → List (ℕ × ℕ)
 recovery_writes_of shape words = recovery_writes shape.callers shape.cells (slice_index words)
 
--- the row that a renumbering leaves of this row
+-- the row that a renumbering makes of this row
 abbrev pub row_after_renumbering : Shape → List ℕ → List ℕ
 row_after_renumbering shape words = renumbered_words shape.callers shape.cells words
 

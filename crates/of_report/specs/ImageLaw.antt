@@ -8,7 +8,7 @@ use Rattle.of_store.specs.Store.{Store}
 use Rattle.of_eval.specs.Lawful.{DataCellsStandFor}
 use Rattle.of_report.specs.ImageRow.{DurableRow, row_cell_count, data_numbers_in}
 
--- a caller owns the current transaction
+-- the owner of the current transaction is the number of a caller
 abbrev pub IsOwned : DurableRow → Type 0
 IsOwned r = current_owner (slice_index r.words) < r.callers
 

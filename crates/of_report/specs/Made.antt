@@ -18,8 +18,8 @@ use Rattle.of_report.specs.Found.{HasFound, AreOwn}
 
 -- ---- the entries of one caller
 
--- `told` is the entry of a caller's open call, to the script with this index, if recovery has found
--- the call's ticket; otherwise it is None
+-- `told` is the entry of a caller's open call of the script with this index, if recovery has found
+-- the call's ticket in the caller's ticket cell; otherwise `told` is None
 abbrev pub TellsOpenCall : RecoveredTable → (caller index : ℕ) → Option Entry → Type 0
 TellsOpenCall f c x told =
     (p : Plan) (e : Ended) (extra : List plain.Entry) → HasFound p e f
@@ -69,7 +69,8 @@ abbrev pub HasRecordBehind : Plan → (done : List ℕ) → Ended → Type 0
 HasRecordBehind p done e =
     (s : Start) × (r : plain.Report) × (s.finished ≡ done) × IsLawfulRecord p s e r
 
--- `told` is the report of the record from every such start
+-- `told` is the report of the record that the run has left, from every start at which each caller
+-- has done as many scripts as `done` says
 abbrev pub TellsRecordBehind : Plan → (done : List ℕ) → Ended → Report → Type 0
 TellsRecordBehind p done e told =
     (s : Start) (r : plain.Report) → s.finished ≡ done → IsLawfulRecord p s e r

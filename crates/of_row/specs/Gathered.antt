@@ -25,7 +25,7 @@ pub record IsGathered (callers : ℕ) (v : View) : Type 0 where
   pub none : v.loaded ≡ []
   pub keeps : KeepsAsked callers v
 
--- the view w is v, but for its past, which begins with the past of v
+-- the view w is the view v with a longer past, which begins with the past of v
 abbrev pub HasLongerPast : (before now : View) → Type 0
 HasLongerPast v w = IsPrefix v.past w.past × (w ≡ record v { past = w.past })
 
@@ -48,7 +48,7 @@ pub record LearnsAll (S : Setup) (Lawful : List ℕ → Type 0) (B : TableStart)
   pub own : (c : ℕ) → c < words_before_members S
       → get_or words c 0 ≡ get_or (moment S B w.past).words c 0
 
--- `word` is what word c holds at the moment that the view's past leaves
+-- `word` is the word at the place c of the table at the moment that the view's past leaves
 abbrev pub IsWordOfPast : Setup → TableStart → View → (c word : ℕ) → Type 0
 IsWordOfPast S B v c word = word ≡ get_or (moment S B v.past).words c 0
 

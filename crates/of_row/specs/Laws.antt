@@ -25,9 +25,9 @@ SeesWholeHistory Lawful S =
     (B : TableStart) (ws : List ℕ) (v : View) (m : ViewMeetsRule S Lawful B ws v)
     → v.spent ≡ false → KeepsAll S ws v → v.seen ≡ map seen_batch (moment S B m.rule.events).batches
 
--- For each caller that a view keeps: in the batches that the view has seen, each call with this
--- caller's number is one that the caller has begun; and each ended call of the caller has ended as
--- its outcome says.
+-- What a view has seen agrees with each caller that the view keeps. In the batches that it has
+-- seen, each call with this caller's number is one that the caller has begun. These batches also
+-- show the outcome of each ended call of the caller.
 abbrev pub SeesOwnCalls : (List ℕ → Type 0) → Setup → Type 0
 SeesOwnCalls Lawful S =
     (B : TableStart) (ws : List ℕ) (v : View) → ViewMeetsRule S Lawful B ws v
@@ -46,8 +46,8 @@ EvictionsAreRaised Lawful =
     (S : Setup) (B : TableStart) (ws : List ℕ) (v : View) → ViewMeetsRule S Lawful B ws v
     → v.spent ≡ false → Each (IsRaised S ws) v.evicted
 
--- a member that has no open call stands for a fresh machine of its number that has begun as many
--- calls as the member
+-- a member without an open call stands for a fresh machine of the member's number that has begun as
+-- many calls as the member
 abbrev pub MembersStandForFresh : {X : Type 0} → (X → Meaning) → Type 0
 MembersStandForFresh {X} meaning =
     (member : Member) (m : Machine X) → HasNoCall member
@@ -74,7 +74,8 @@ NewMembersHaveNoCall {X} meaning work =
     (row : Row X) (n : ℕ) (before pass : Pass) (member : Member)
     → HasEnrolled meaning row n before member pass → HasNoCall member
 
--- a member that stands for an idle machine still stands for it when the machine has begun a call
+-- if an idle machine for which a member stands begins a call, the member stands for the machine
+-- with this call too
 abbrev pub BegunMembersStand : {X : Type 0} → (X → Meaning) → X → Type 0
 BegunMembersStand {X} meaning work =
     (member : Member) (m now : Machine X) (op : List ℕ) → IsMemberOf meaning member m

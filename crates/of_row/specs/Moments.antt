@@ -58,7 +58,7 @@ HaveOwnSequence S B order s x =
 abbrev pub HasNoneOf : List Call → (caller : ℕ) → Type 0
 HasNoneOf order i = All (λ (c : Call). c.caller ≢ i) order
 
--- a moment that has these words, but no machines, batches, reads or loads
+-- a moment that has these words, and no machines, batches, reads or loaded words
 abbrev pub words_alone : List ℕ → Moment
 words_alone ws = record { words = ws; machines = []; batches = []; reads = []; loaded = [] }
 

@@ -16,8 +16,8 @@ use Rattle.of_row.specs.Rule.{MeetsRule}
 use Rattle.of_row.specs.Keys.{FitsWork, key_setup, key_start}
 use Rattle.of_row.specs.Turned.{MakesStepOf}
 
--- the number that a step gives if it has found n: a store gives what it stored, and any other step
--- gives n
+-- what a step answers if it has found n: a store answers the number that it stored, any other step
+-- answers n
 abbrev pub number_given : Op → ℕ → ℕ
 number_given (Load c) n = n
 number_given (Store c v) n = v

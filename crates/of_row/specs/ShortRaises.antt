@@ -35,16 +35,17 @@ pub record IsShort (S : Setup) (B : TableStart) (es : List Event) (k c v : ℕ) 
       → durable_after S B es exchange c ≢ durable_after S B es load c
       → v ≤ durable_after S B es again c
 
--- each raise in these events is short, from each moment on at which it is still to be made
+-- each raise in these events is short (`IsShort`), from each moment on at which the raise is still
+-- to come
 pub record HasShortRaises (S : Setup) (B : TableStart) (es : List Event) : Type 0 where
-  -- the raise of a caller that is about to raise a durable word
+  -- the raises of callers: a caller's next step is to raise the durable word of the cell c to v
   pub calls : (k i c v : ℕ) → i < S.callers → c < cell_count S
       → want S (machine_in (moment_at S B es k) i) ≡ Raise (durable_at S c) v
       → IsShort S B es k c v
-  -- the raise of an eviction that has loaded its cell, to the word that it found
+  -- the raises of evictions that have loaded their cell: to the word that was loaded
   pub evictions : (k n : ℕ) → n < length (moment_at S B es k).loaded →
       let e : ℕ × ℕ = get_or (moment_at S B es k).loaded n (0, 0) in IsShort S B es k e.0 e.1
-  -- the raise of an eviction that is made at once, to the word that its cell holds
+  -- the raises of evictions that load and raise in one step: to the word that the cell holds
   pub at_once : (k c : ℕ) → c < cell_count S
       → IsShort S B es k c (get_or (moment_at S B es k).words c 0)
 

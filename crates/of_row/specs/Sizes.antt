@@ -14,8 +14,8 @@ pub record Sizes (W : Type 0) : Type 0 where
 abbrev pub sizes_value : {W : Type 0} → Inside W → Sizes W
 sizes_value m = record { shape = m.shape; limit = m.limit; work = m.work }
 
--- the shape has the callers and data cells that the work needs, and script words for the longest
--- operation; the sequence after the limit still fits into a word
+-- the shape has the callers and data cells that the work needs, and room for the script words of
+-- the longest operation; the sequence after the limit still fits into a word
 pub record SizesFit {W : Type 0} (many size : W → ℕ) (m : Sizes W) : Type 0 where
   pub callers : m.shape.callers ≡ many m.work
   pub instrs : m.shape.instrs ≡ MOST_INSTRS

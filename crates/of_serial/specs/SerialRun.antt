@@ -22,8 +22,8 @@ pub record SerialRun : Type 0 where
   pub seq : ℕ
   pub store : Store
 
--- the cells hold this store: all data cells are known, no write of a script lies over them, those
--- of the callers are 0, and the others stand for the store
+-- The cells hold this store. All data cells are known, and no script has a write left over them.
+-- The callers' own cells are 0, and the other cells stand for the store.
 pub record CellsHoldStore (c : Cells) (s : Store) : Type 0 where
   pub numbers : List ℕ
   pub size : length numbers ≡ scripts_data_cells c.scripts
@@ -32,8 +32,8 @@ pub record CellsHoldStore (c : Cells) (s : Store) : Type 0 where
   pub not_called : (a : ℕ) → a < store_at c.scripts → memory_of numbers a ≡ 0
   pub stored : IsStored (store_at c.scripts) c.scripts.blocks (memory_of numbers) s
 
--- if the cells held a store before, they hold now what the script makes of this store, and the
--- reply is the script's reply
+-- if the cells held a store before, they now hold the store after the script, and the reply is the
+-- script's reply
 abbrev pub RunsScript : List Instr → (before now : Cells) → RustReply → Type 0
 RunsScript script before now reply =
     (s : Store) → CellsHoldStore before s
@@ -79,13 +79,13 @@ course_after p calls = record {
 abbrev pub HasMadeCalls : Plan → RustSerialRun → Type 0
 HasMadeCalls p r = (calls : List CallId) × HasComeTo r (course_after p calls)
 
--- the caller's first calls: all, or as many as there are sequences above `seq` up to the plan's
+-- the caller's first calls, at most as many as there are sequences above `seq` up to the plan's
 -- limit
 abbrev pub calls_within : Plan → (seq caller : ℕ) → List CallId
 calls_within p s c = take (p.limit - s) (calls_of p c)
 
--- after the calls before, the code's run has made the calls of this caller: all, or as many as
--- there are sequences left
+-- after the calls of the callers before, the code's run has made the calls of this caller: all, or
+-- as many as there are sequences left
 abbrev pub RunsCaller : Plan → ℕ → (before now : RustSerialRun) → Type 0
 RunsCaller p c before now =
     (calls : List CallId) → HasComeTo before (course_after p calls)

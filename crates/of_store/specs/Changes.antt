@@ -54,8 +54,8 @@ abbrev pub FailsFirst : List Instr → Type 0
 FailsFirst script = (i j : ℕ) (a b : Instr) → i < j → slice_get script i ≡ Some a
     → slice_get script j ≡ Some b → takes_out a ≡ true → may_fail b ≡ false
 
--- what the instruction will change in the store s, kept so that it can be taken back; `Nothing` if
--- it only reads, or takes something out
+-- how to take back what the instruction will do to the store s: `Nothing` if it only reads, or if
+-- it takes a key or an item out
 abbrev pub change_of : Store → Instr → Change
 change_of s (Load r) = Nothing
 change_of s (StoreInstr r v) = Register r (register s r)
@@ -73,7 +73,7 @@ change_of s First = Nothing
 change_of s (Next k) = Nothing
 change_of s (DropBelow k) = Nothing
 
--- the number in the register that the instruction writes, before it is run; 0 if it writes no
+-- the number that a register holds before the instruction writes it; 0 if the instruction writes no
 -- register
 abbrev pub written_register : Store → Instr → ℕ
 written_register s (StoreInstr r v) = register s r
@@ -81,8 +81,8 @@ written_register s (Add r v) = register s r
 written_register s (Sub r v) = register s r
 written_register s _ = 0
 
--- what an instruction changed, from the number that its register had before and from what it
--- answered
+-- what an instruction has changed; `before` is the number that its register had, and the answer of
+-- the instruction says the rest
 abbrev pub change_after : Instr → (before : ℕ) → (answer : Option ℕ) → Change
 change_after (StoreInstr r v) before answer = Register r before
 change_after (Add r v) before answer = Register r before
