@@ -22,9 +22,9 @@ pub const MOST_ACCOUNTS: u32 = MOST_DATA_CELLS - MOST_CALLERS * OWN_CELLS;
 /// table starts with zeros, so the cell of account 0 holds how much of the money it does not have.
 #[derive(Clone, Copy, Debug, PartialEq, Eq)]
 pub struct Accounts {
-    /// 1 to `MOST_CALLERS`.
+    /// How many callers there are, 1 to `MOST_CALLERS`.
     pub callers: u32,
-    /// 1 to `MOST_ACCOUNTS`.
+    /// How many accounts there are, 1 to `MOST_ACCOUNTS`.
     pub accounts: u32,
     pub money: u32,
     pub ghost some_callers: { 1 ≤ callers },
@@ -126,7 +126,7 @@ impl Accounts {
     }
 }
 
-/// It keeps nothing between two runs.
+/// Accounts keep nothing between two runs of an operation.
 impl MaySuspend for Accounts {
     ghost holds = { λ k p. Unit {0} };
 

@@ -22,13 +22,13 @@ use of_cells::{CellMemory, GREATEST_LIMIT, SavedCells};
 use std::alloc::{AllocError, Global};
 use std::thread::{Threads, for_each_mut};
 
-/// What a teller has made.
+/// The transfers that a teller has made.
 #[derive(Drop)]
 pub struct Log {
     /// The teller's number.
     pub number: u32,
     pub job: Vec<Transfer>,
-    /// The transfers of its job that it has made, in their order.
+    /// The teller's answers to the first transfers of its job, in the job's order.
     pub answers: Vec<Answer>,
 }
 
@@ -36,9 +36,9 @@ pub struct Log {
 #[derive(Drop)]
 pub struct Evening {
     pub logs: Vec<Log>,
-    /// What recovery finds.
+    /// What recovery has found in the closed memory.
     pub saved: SavedCells<Accounts>,
-    /// The numbers of its data cells.
+    /// The numbers of the saved data cells.
     pub cells: Vec<u32>,
 }
 
@@ -204,8 +204,8 @@ fn next_day<R: Threads + Sync>(rt: &R, alloc: Global, evening: &Evening) -> Resu
     Ok(next)
 }
 
-/// Two days of tellers with these jobs. At the end of the first one the last teller is stopped in
-/// the last call of its job. What it came to is in the memory on the second one.
+/// Runs two days of tellers with these jobs. On the first day the last teller is stopped in the
+/// last transfer of its job. On the second day the memory shows whether this transfer took effect.
 pub fn two_days<R: Threads + Sync>(
     rt: &R,
     alloc: Global,

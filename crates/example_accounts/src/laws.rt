@@ -7,7 +7,7 @@ ghost use Rattle.example_accounts.specs.Meaning.{accounts_meaning, LawfulCells};
 use crate::accounts::Accounts;
 use of_mem::laws::programs_touch_few;
 
-/// No operation needs or writes more than the cells of two accounts, however many there are.
+/// An operation reads at most two cells and writes at most two, however many accounts there are.
 pub fn accounts_touch_few(work: Accounts)
     ensures { TouchesFew (accounts_meaning work) (LawfulCells work) (cell_count work) 2 2 }
 {

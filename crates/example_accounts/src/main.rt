@@ -32,11 +32,11 @@ fn list(alloc: Global, transfers: &[Transfer]) -> Result<Vec<Transfer>, AllocErr
     Vec::from_slice(alloc, transfers)
 }
 
-/// The last account.
+/// The number of the last account.
 const LAST: u32 = 999_999;
 
-/// What each of three tellers does. Account 1 never has 900, and there is no account after the
-/// last. The last transfer is the one that is stopped.
+/// The jobs of three tellers. Account 1 never has 900, and the account after the last one doesn't
+/// exist. The teller of the last transfer is stopped in it.
 fn jobs(alloc: Global) -> Result<Vec<Vec<Transfer>>, AllocError>
     ensures { IfOk result (λ jobs. length jobs.items ≡ 3) }
 {
@@ -109,7 +109,8 @@ fn work<R: Threads + Print + Sync>(
     show_end(rt, accounts, &second)
 }
 
-/// Without words, the two days. With a number of accounts and one of rounds it measures a memory.
+/// Without words the program runs the two days. With a number of accounts and a number of rounds it
+/// measures a memory.
 fn main(rt: HostRuntime) -> Result<()> {
     let alloc: Global = rt.alloc();
     let mut words = env::args(&rt)?.skip(1);

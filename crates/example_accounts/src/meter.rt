@@ -1,6 +1,7 @@
-//! What a memory costs by the number of its accounts: it is opened, handles come and go and make
-//! transfers, and it is closed and opened again. After each part a line tells how long it took, and
-//! the program waits for a line of its input, so that its memory can be looked at meanwhile.
+//! What a memory costs, by the number of its accounts. A memory is opened, handles come and go and
+//! make transfers, and the memory is closed and opened again. After each part a line says how long
+//! the part took. Then the program waits for a line of its input, so that its use of memory can be
+//! looked at.
 
 ghost use Rattle.std.specs.Prelude.{◌≡◌, ◌≤◌, IfOk};
 ghost use Rattle.std.specs.List.{All};
@@ -19,13 +20,13 @@ use std::io;
 use std::thread::{Threads, for_each_mut};
 use std::time::{Clock, Duration, Instant};
 
-/// How often a handle is taken and leaves again.
+/// How often a handle is enrolled and leaves again.
 const VISITS: u32 = 1_000;
 
 /// How many callers make transfers at once.
 const AT_ONCE: u32 = 4;
 
-/// How many transfers a round is.
+/// How many transfers a round has.
 const ROUND: u32 = 4;
 
 /// The most rounds.
@@ -223,8 +224,8 @@ fn go_through<R: Threads + Clock + Print + Input + Sync>(
     Ok(())
 }
 
-/// Goes through the parts of the life of a memory with so many accounts, for sixteen callers, with
-/// so many rounds of transfers, and tells how long each took. The error may be that a word is no
+/// Opens, uses, closes and reopens a memory with this many accounts and sixteen callers, with this
+/// many rounds of transfers, and prints how long each part took. An error may say that a word is no
 /// number in its range.
 pub fn measure<R: Threads + Clock + Print + Input + Sync>(
     rt: &R,

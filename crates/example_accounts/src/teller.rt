@@ -16,7 +16,8 @@ pub struct Answer {
 }
 
 impl Answer {
-    /// What was answered; None if the sequences had run out, or the call was lost.
+    /// The reply to the transfer. None if no sequence was left for the call, or if the call was
+    /// lost.
     pub fn reply(&self) -> Option<Reply> {
         match self.outcome {
             Outcome::Answered {
@@ -34,11 +35,13 @@ impl Answer {
 #[derive(Drop)]
 pub struct Teller {
     pub handle: CellHandle<Accounts>,
-    /// Its transfers, in the order in which it makes them.
+    /// The teller's transfers, in the order in which it makes them.
     pub job: Vec<Transfer>,
-    /// How many steps the last one may take. It is stopped then, and stays open.
+    /// How many steps the last transfer may take. A transfer that needs more is stopped, and its
+    /// call stays open.
     pub last_steps: u64,
-    /// Those whose calls have ended. There is room for all of them.
+    /// The transfers whose calls have ended, with their outcomes. The list has room for all
+    /// transfers of the job.
     pub answers: Vec<Answer>,
 }
 
@@ -53,8 +56,8 @@ fn put(answers: &mut Vec<Answer>, answer: Answer)
 }
 
 impl Teller {
-    /// Makes the transfers of its job that are left, one after the other, until it is stopped or no
-    /// ticket is left.
+    /// Makes the transfers that are left of the teller's job, one after the other, until the teller
+    /// is stopped or has no ticket left.
     pub fn work(&mut self)
         requires { Serves self.old }
         ensures { HasWorked self.old self.new }

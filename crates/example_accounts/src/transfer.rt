@@ -1,4 +1,4 @@
-//! A transfer as the words of an operation, and what is answered to it.
+//! A transfer as the words of an operation, and the reply to it.
 
 ghost use Rattle.std.specs.Prelude.{◌≡◌, ◌∷◌, ◌-◌};
 ghost use Rattle.std.proofs.Common.{replicate};
@@ -19,7 +19,7 @@ pub struct Transfer {
 }
 
 impl Transfer {
-    /// The operation's words.
+    /// The transfer as the words of an operation.
     pub fn words(&self) -> [u64; 3]
         ensures { result ≡ transfer_words self.now }
     {
@@ -27,10 +27,10 @@ impl Transfer {
     }
 }
 
-/// What is answered to a transfer.
+/// The reply to a transfer.
 #[derive(Clone, Copy, Debug, PartialEq, Eq)]
 pub enum Reply {
-    /// The amount has moved. The account that it came from now has this balance.
+    /// The amount has moved. The account from which it was taken now has this balance.
     Done { balance: u32 },
     /// Nothing has changed: the account had only this balance.
     Short { balance: u32 },

@@ -6,22 +6,22 @@ use crate::transfer::Transfer;
 use of_memory::laws::calls_are_counted;
 use of_memory::{Handle, Reply, RunError, Saved, Task};
 
-/// A clerk. It goes on with its job from day to day.
+/// A clerk, who goes on with a job from day to day.
 #[derive(Drop)]
 pub struct Clerk {
-    /// Its transfers, in the order in which it makes them.
+    /// The clerk's transfers, in the order in which the clerk makes them.
     pub job: Vec<Transfer>,
-    /// How many steps each of its calls makes at most.
+    /// The most steps of each of the clerk's calls.
     pub steps: u64,
-    /// How many transfers moved what they say.
+    /// How many transfers have moved their amounts.
     pub made: usize,
-    /// How many changed nothing, since an account had too little or too much.
+    /// How many transfers have changed nothing, since an account had too little or too much.
     pub aborted: usize,
-    /// How many calls were answered on this day.
+    /// How many calls of the clerk were answered on this day.
     pub answered: usize,
-    /// Whether it was stopped on this day in a transfer that took no effect.
+    /// Whether the clerk was stopped on this day in a transfer that took no effect.
     pub pending: bool,
-    /// Why it has made no more on this day. None if its job is done.
+    /// Why the clerk has made no more transfers on this day. None if its job is done.
     pub end: Option<RunError>,
     pub ghost few: { made + aborted ≤ vec_len job },
     pub ghost today: { answered ≤ made + aborted },
@@ -89,8 +89,9 @@ impl Clerk {
         }
     }
 
-    /// Counts the transfer in which it was stopped, if others have finished it: then what was saved
-    /// last holds one call more than those that were answered. The next day it isn't stopped.
+    /// Counts the transfer in which the clerk was stopped, if other callers have finished it: then
+    /// the memory that was saved last has one call of the clerk more than those that were answered.
+    /// On the next day no call of the clerk is stopped.
     pub fn settle(&mut self, number: u32, before: &Saved, after: &Saved)
         requires before { IsSaved before.now }
         requires after { IsSaved after.now }

@@ -27,7 +27,7 @@ fn settle_all(clerks: &mut Vec<Clerk>, before: &Saved, after: &Saved)
     }
 }
 
-/// The clerks work at once, each in a thread of its own. Then the memory is closed.
+/// A day: the clerks work at once, each in a thread of its own, and then the memory is closed.
 pub fn day<R: Threads + Sync>(
     rt: &R,
     alloc: Global,
@@ -62,7 +62,7 @@ fn show_stops(rt: &impl Print, clerks: &[Clerk]) -> Result<()> {
     Ok(())
 }
 
-/// Two days, the second of which goes on from the first.
+/// Two days at the bank; the second day goes on from what the first has saved.
 pub fn two_days<R: Threads + Print + Sync>(
     rt: &R,
     alloc: Global,

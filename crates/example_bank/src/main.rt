@@ -84,7 +84,7 @@ fn moving(from: u8, to: u8, amount: u32) -> Transfer
     Transfer { from, to, amount }
 }
 
-/// A clerk with this job, whose calls make at most so many steps.
+/// A clerk with this job, whose calls make at most this many steps.
 fn hire(alloc: Global, steps: u64, job: &[Transfer]) -> Result<Clerk, AllocError> {
     Ok(Clerk {
         job: Vec::from_slice(alloc, job)?,
@@ -114,7 +114,7 @@ fn staff(alloc: Global) -> Result<Vec<Clerk>, AllocError>
     Ok(clerks)
 }
 
-/// The accounts, and what they hold together.
+/// Prints the accounts, and what they hold together.
 fn show(rt: &impl Print, alloc: Global, saved: &Saved) -> Result<()>
     requires { IsSaved saved.now }
 {

@@ -20,7 +20,8 @@ impl Transfer {
     ghost use Rattle.std.specs.Prelude.{◌≡◌};
     ghost use Rattle.example_bank.specs.Transfers.{transfer_script};
 
-    /// Its script. It aborts, and changes nothing, if the first account has less.
+    /// The transfer as a script. It aborts, and changes nothing, if the first account has less than
+    /// the amount.
     pub fn script(&self) -> Script
         ensures { result ≡ transfer_script self.now.from self.now.to self.now.amount }
     {

@@ -61,8 +61,8 @@ fn fill(alloc: Global) -> Result<Saved>
     Ok(memory.close()?)
 }
 
-/// The workers work at once, and then the first one alone: it finishes what a stopped one has
-/// begun.
+/// The workers work at once. Then the first worker works alone, and finishes what a stopped worker
+/// has begun.
 fn work<R: Threads + Sync>(rt: &R, mut memory: Memory, workers: &mut Vec<Worker>) -> Result<Saved>
     requires memory { IsMemory memory }
     requires queue { IsForWorkers memory }
@@ -76,7 +76,8 @@ fn work<R: Threads + Sync>(rt: &R, mut memory: Memory, workers: &mut Vec<Worker>
     Ok(memory.close()?)
 }
 
-/// A day of four workers on what was saved. The third one's calls make at most so many steps.
+/// A day of four workers on what was saved. The calls of the third worker make at most this many
+/// steps.
 fn day<R: Threads + Sync>(rt: &R, alloc: Global, saved: &Saved, steps: u64) -> Result<Saved>
     requires { IsSaved saved.now }
     ensures saved { IfOk result IsSaved }
@@ -86,7 +87,7 @@ fn day<R: Threads + Sync>(rt: &R, alloc: Global, saved: &Saved, steps: u64) -> R
     work(rt, memory, &mut team(alloc, steps)?)
 }
 
-/// Two days. The third worker is stopped on the first one.
+/// Two days of four workers. The third worker is stopped on the first day.
 fn two_days<R: Threads + Sync>(rt: &R, alloc: Global, saved: &Saved) -> Result<(Saved, Saved)>
     requires { IsSaved saved.now }
     ensures saved { IfOk result (λ r. IsSaved r.0 × IsSaved r.1) }
@@ -100,7 +101,8 @@ fn two_days<R: Threads + Sync>(rt: &R, alloc: Global, saved: &Saved) -> Result<(
     Ok((noon, evening))
 }
 
-/// Twelve jobs, and two days on them: what is saved before them, between them and after them.
+/// Puts twelve jobs in a queue and lets workers take them for two days. The result is what is saved
+/// before, between and after the two days.
 fn twelve_jobs<R: Threads + Sync>(rt: &R, alloc: Global) -> Result<(Saved, Saved, Saved)>
     ensures saved { IfOk result (λ r. IsSaved r.0 × IsSaved r.1 × IsSaved r.2) }
     ensures first { IfOk result (λ r. HoldsTwelveJobs r.0) }

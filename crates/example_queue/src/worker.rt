@@ -8,8 +8,8 @@ ghost use Rattle.example_queue.specs.Workers.{OnlyTakes};
 use of_memory::{Handle, Instr, Script, Task};
 use std::alloc::{AllocError, Global};
 
-/// A worker: it counts its jobs in a register of its own. Each of its calls makes at most so many
-/// steps.
+/// A worker counts its jobs in a register of its own. Each of its calls makes at most a given
+/// number of steps.
 #[derive(Drop)]
 pub struct Worker {
     register: u8,
@@ -54,7 +54,7 @@ fn take(handle: &mut Handle, script: &Script, steps: u64)
     let _answer = handle.run_within(script, steps);
 }
 
-/// Four workers. The third one's calls make at most so many steps.
+/// Four workers. The calls of the third one make at most this many steps.
 pub fn team(alloc: Global, steps: u64) -> Result<Vec<Worker>, AllocError> {
     let mut workers = Vec::new(alloc);
     for register in 0..4 {

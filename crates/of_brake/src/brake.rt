@@ -3,8 +3,8 @@
 ghost use Rattle.std.specs.Prelude.{◌≡◌, ℕ, ◌≤◌, false, Option};
 ghost use Rattle.of_brake.specs.Stops.{HasRisen, IsArmedWith, ChargesAsk, HasHeardAnswer, Asked};
 
-/// A brake is asked before each step of one caller, and may deny the step. It may also report how
-/// many steps are left; whether it does never changes.
+/// A brake is asked before each step of one caller, and may deny the step. A brake may also report
+/// how many steps it has left. Whether a brake reports this never changes.
 pub trait Brake: Drop {
     /// How often the brake has denied a step. This count never falls. A denial raises it, unless it
     /// is at 2 ^ 64 - 1.
@@ -20,15 +20,17 @@ pub trait Brake: Drop {
     /// How often the brake was asked: None if it doesn't count this.
     ghost asks: { Self → Option ℕ };
 
-    /// Sets how many steps are left, if the brake reports this. `None` is no limit.
+    /// Gives the brake the number of steps that it has left, if the brake reports this number.
+    /// `None` means that there is no limit.
     fn arm(&mut self, stop: Option<u64>)
         ensures denials { denials self.old ≤ denials self.new }
         ensures armed { IsArmedWith (left self.old) stop (left self.new) }
         ensures answers { answers self.new ≡ answers self.old }
         ensures asks { asks self.new ≡ asks self.old };
 
-    /// Asks whether the caller may make its next step: false denies it. If the brake reports the
-    /// steps left, it denies exactly if none is left, and a granted step takes one off.
+    /// Asks whether the caller may make its next step; the answer false denies the step. A brake
+    /// that reports its steps left denies a step exactly if none is left, and a granted step takes
+    /// one off.
     fn ask(&mut self) -> bool
         ensures denials { denials self.old ≤ denials self.new }
         ensures cause { result ≡ false → HasRisen (denials self.old) (denials self.new) }

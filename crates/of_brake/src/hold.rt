@@ -8,9 +8,9 @@ use std::alloc::{AllocError, Global};
 use std::sync::Arc;
 use std::sync::atomic::{AtomicBool, Ordering};
 
-/// A brake that grants every ask but one. At that ask it looks at the flag of its `Teller` a given
-/// number of times. If a look finds the flag set, it grants the step; otherwise it denies it. It
-/// doesn't report its steps left.
+/// A brake that grants every ask but one. At that ask the brake looks at the flag of its `Teller`,
+/// at most a given number of times. It grants the step if it has found the flag set, and otherwise
+/// denies the step. The brake doesn't report its steps left.
 #[derive(Drop)]
 pub struct Holder {
     told: Arc<AtomicBool, Global>,

@@ -17,7 +17,8 @@ pub trait CellTask<H> {
     /// Which handles the task can work with.
     ghost may: { H → Type 0 } = { λ _. Unit {0} };
 
-    /// What users may know of the work: of the task and its handle before the work, and after it.
+    /// What the task promises of its work: a fact about the task and its handle before the work,
+    /// and about both after the work.
     ghost does: { Self → H → Self → H → Type 0 } = { λ _ _ _ _. Unit {0} };
 
     /// Works with a handle, and gives back the task and the handle.

@@ -70,9 +70,10 @@ impl<W: Work> CellHandle<W> {
         self.number
     }
 
-    /// How many sequences are left at most: those after the last one that the handle knows. It
-    /// knows that of its last ended call, or else the one that the memory knew when the handle
-    /// came. Other handles may have taken some since. No step is made for this.
+    /// The most sequences that may be left: all sequences after the last one that the handle knows.
+    /// This is the sequence of the handle's last ended call; before the first such call, it is the
+    /// one that the memory knew when the handle was enrolled. Other handles may have taken
+    /// sequences since. The call makes no step on the table.
     pub fn sequences_left(&self) -> u32
         ensures { result ≡ left_of_handle self.now }
     {

@@ -14,8 +14,8 @@ use of_core::laws::{every_moment, histories, step_kept};
 use of_mem::Work;
 use of_row::laws::stops_lose_nothing;
 
-/// A number whose handle has no open call has begun the calls from before its memory was opened,
-/// those that the handle has made since, and no others.
+/// If a handle has no open call, its number has begun these calls and no others: those from before
+/// the memory was opened, and those that have ended since.
 pub fn calls_are_counted<W: Work>()
     ensures { CallsAreCounted W.meaning }
 {}
@@ -58,7 +58,8 @@ pub fn calls_come_in_turn<W: Work>()
 {}
 
 /// At each moment of a row, a table may start from what recovery finds in the row's durable words.
-/// One serial history leads to this from the row's start, and has the calls that were answered.
+/// One serial history leads from the row's start to what recovery finds, and it has the calls that
+/// were answered.
 pub fn rows_hold_history<W: Work>(work: W, limit: u32)
     ensures { RowsHoldHistory (W.lawful work) (setup_for W.many W.size W.meaning limit work) }
 {

@@ -45,8 +45,8 @@ impl<W: Work> SavedCells<W> {
         self.limit.saturating_sub(self.seq())
     }
 
-    /// What is saved, with another limit. The limit must not be 0, above `GREATEST_LIMIT` or below
-    /// the last committed sequence: otherwise the error hands back what was saved, unchanged.
+    /// The saved cells with another limit. The limit must be 1 to `GREATEST_LIMIT`, and not below
+    /// the last committed sequence. If it isn't, the error hands back the saved cells, unchanged.
     pub fn with_limit(self, limit: u32) -> Result<SavedCells<W>, LimitError<W>>
         requires { IsSavedCells W.many W.size W.meaning W.lawful self }
         ensures saved { IfOk result (IsSavedCells W.many W.size W.meaning W.lawful) }

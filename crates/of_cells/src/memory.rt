@@ -172,8 +172,9 @@ impl<W: Work> CellMemory<W> {
         self.row.limit()
     }
 
-    /// How many sequences are left at most: those after the last one that the memory knows, from
-    /// its opening and from handles that have left. Other handles may have taken some since.
+    /// The most sequences that may be left: all sequences after the last one that the memory knows.
+    /// The memory knows the sequence with which it was opened, and those that handles knew when
+    /// they left. Other handles may have taken sequences since.
     pub fn sequences_left(&self) -> u32
         ensures { result ≡ left_of_memory self.now }
     {

@@ -181,8 +181,9 @@ impl<W: Work> SavedCells<W> {
         }
     }
 
-    /// The ticket of a caller's last saved call, and its reply as data cells hold it, also if the
-    /// caller was stopped before it had the reply. None if no call of the caller is saved.
+    /// The ticket of a caller's last saved call, and the call's reply as data cells hold it. None
+    /// if no call of the caller is saved. A saved call may be one whose caller was stopped before
+    /// it got the reply.
     pub fn last_reply(&self, number: u32) -> Option<(u32, RawReply)>
         requires saved { IsSavedCells W.many W.size W.meaning W.lawful self.now }
         requires number { number < saved_callers self.now }

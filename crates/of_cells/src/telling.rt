@@ -11,8 +11,8 @@ use of_caller::Caller;
 use of_mem::Work;
 use of_row::{Pass, Row};
 
-/// What a handle knew when `tell` was called: which calls of its memory had ended. News goes to
-/// another thread by value.
+/// What a handle knew when it made the news by `tell`: which calls of its memory had ended. The
+/// news can be moved to another thread.
 #[derive(Drop)]
 pub struct CellNews {
     pub(crate) pass: Pass,

@@ -23,13 +23,14 @@ pub enum EntryRule {
 pub enum EndRule {
     /// The line at this place can't be read as the line of a caller.
     Missing,
-    /// The caller has more entries than answered calls, or fewer, and no open call explains it.
+    /// The number of the caller's entries isn't the number of its answered calls, and no open call
+    /// explains the difference.
     Answered,
-    /// The caller cannot end like this: done with scripts left, stopped or spent with none left, or
-    /// spent below the limit.
+    /// The caller cannot end as its line says: as done with scripts left, as stopped or spent with
+    /// none left, or as spent below the limit.
     Ending,
-    /// The longest call has more steps than a call can have, or it has some though no call was
-    /// answered.
+    /// The line names more steps for the longest call than a call can make, or it names steps
+    /// although no call was answered.
     Steps,
 }
 
@@ -47,8 +48,8 @@ pub enum Cause {
         caller: u32,
         rule: EndRule,
     },
-    /// The line with `above` lines above it is not the one in `wanted`: the text of the report that
-    /// the entries and the lines of callers claim.
+    /// The line that has `above` lines above it differs from the line of `wanted` there. `wanted`
+    /// is the text of the report that the entries and the lines of callers claim.
     Line {
         above: u64,
         wanted: Vec<u8>,

@@ -17,9 +17,9 @@ use of_script::{QUEUES, Reply};
 use of_store::Store;
 use std::collections::BTreeMap;
 
-/// What is wrong with an image that should be where a report ends. The rules are tried in this
-/// order, and the first that the image breaks counts; tickets and replies are tried caller by
-/// caller.
+/// The rule that an image breaks if it isn't the image at which a report ends. The rules are tried
+/// in this order, and the first that the image breaks is named; tickets and replies are tried
+/// caller by caller.
 #[derive(Clone, Copy, Debug, PartialEq, Eq)]
 pub enum LeftRule {
     /// The image has another number of callers than the plan.
@@ -28,10 +28,11 @@ pub enum LeftRule {
     Blocks,
     /// The image's sequence is not the report's.
     Sequence,
-    /// The ticket of this caller in the image is not that of its last announced entry; or, if it
-    /// has none, not that of the start.
+    /// The caller has another ticket in the image than in its last announced entry. If the report
+    /// has no announced entry of the caller, the image must have its ticket at the start.
     Ticket { caller: u32 },
-    /// The reply in this caller's own cells is not that of its last announced entry.
+    /// The caller's own cells in the image have another reply than the caller's last announced
+    /// entry.
     Reply { caller: u32 },
     /// The image's store is not the report's.
     Store,
@@ -159,8 +160,9 @@ fn wrong_call(plan: &Plan, done: &[u32], report: &Report, image: &Image) -> Opti
     None
 }
 
-/// The first rule that an image breaks as the end of a report. None means that the report ends with
-/// this image. `done` says how many scripts of each caller were done at the report's start.
+/// Why a report doesn't end at an image: the first rule that the image breaks. None means that the
+/// report ends at this image. `done` says how many scripts of each caller were done at the report's
+/// start.
 pub fn why_left(plan: &Plan, done: &[u32], report: &Report, image: &Image) -> Option<LeftRule>
     requires done { length done.now ≡ plan.now.callers }
     requires image { IsImage MOST_INSTRS image.now }

@@ -204,12 +204,13 @@ fn has_32_bits(seq: u32)
     ensures { seq ≤ greatest_seq }
 {}
 
-/// Judges a text as a report of a plan from a start: the report, if one that is legal has this text;
-/// otherwise the first line of the text that is wrong. An error means out of memory.
+/// Judges whether a text is the text of a report that is legal for a plan from a start. If it is,
+/// the answer has this report; if it isn't, the answer names the first wrong line of the text. An
+/// error means out of memory.
 ///
-/// The text's entries and lines of callers claim which calls ran, and how callers ended. Running
-/// these calls makes the only report that can be legal, and the text must be the text of that
-/// report.
+/// The entries and the lines of callers in the text claim which calls ran and how callers ended.
+/// Only one report can be legal with these claims: the one that is made by running these calls. So
+/// the text must be the text of this report.
 pub fn judge_from(
     alloc: Global,
     plan: &Plan,
@@ -251,8 +252,9 @@ pub fn judge_from(
     }
 }
 
-/// Judges a text as a report of a plan from the empty start: the report, if one that is legal has
-/// this text; otherwise the first line of the text that is wrong. An error means out of memory.
+/// Judges whether a text is the text of a report that is legal for a plan from the empty start. If
+/// it is, the answer has this report; if it isn't, the answer names the first wrong line of the
+/// text. An error means out of memory.
 pub fn judge(alloc: Global, plan: &Plan, text: &[u8]) -> Result<Judgement, AllocError>
     ensures { IfOk result (IsReportJudgement plan.now text.now) }
 {

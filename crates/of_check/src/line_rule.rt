@@ -10,7 +10,7 @@ use of_script::text::cut;
 pub(crate) enum LineRule {
     /// The text has ended.
     AfterEnd,
-    /// The line or the wanted one is of a store, which is another.
+    /// The line found or the wanted line is one of the store, and the two lines differ.
     Store,
     /// The line is the wanted entry, but has another reply.
     Reply,
@@ -20,7 +20,7 @@ pub(crate) enum LineRule {
     Entries,
     /// The line has another sequence.
     Sequence,
-    /// The line is of one caller more than there are.
+    /// The line is of a caller that the plan doesn't have.
     TooMany,
     /// The line isn't spelled as a report prints it.
     Spelling,

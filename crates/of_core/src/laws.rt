@@ -28,11 +28,12 @@ ghost use Rattle.of_core.specs.Laws.{LongerKeepsStates, PrefixKeepsBatches, Pref
 
 use of_mem::Work;
 
-/// A table at its start meets the invariant, and each step, each begin of a call and each eviction
-/// keeps it. In place of an idle machine, a fresh one may begin its caller's next call, if it is
-/// given how many calls the caller has begun. Each moment that meets the invariant is sound: its
-/// history is legal, and recovery of its durable words gives the state at the durable sequence. The
-/// table has begun at a start that a table may have, and all states of the history are lawful.
+/// A table at its start meets the invariant. Each step, each begin of a call and each eviction
+/// keeps the invariant; a call may also be begun by a fresh machine in place of an idle one, if the
+/// fresh machine is given the number of calls that the caller has begun. Each moment that meets the
+/// invariant is sound: its history is legal, and recovery of its durable words gives the state at
+/// the durable sequence. At such a moment the table has begun at a start that a table may have, and
+/// all states of the history are lawful.
 pub fn step_kept<W: Work>(limit: u32, work: W)
     ensures kept { StepsKeepInvariant
         (setup_for W.many W.size W.meaning limit work) (W.lawful work) }
@@ -62,12 +63,13 @@ pub fn step_kept<W: Work>(limit: u32, work: W)
     ensures grounds { GoodGrounds (setup_for W.many W.size W.meaning limit work) (W.lawful work) }
 {}
 
-/// A new machine may take the place of a caller's machine that is lost, with the thread or the
-/// process that had it, if the words say that the caller has nothing under way: no log and no
-/// request of a transaction that isn't committed, no open transaction, and a durable request. This
-/// keeps the invariant if the new machine counts all reads that its caller was answered. Below the
-/// limit, a new machine that goes on with the announced call counts all of them. No other caller's
-/// calls change. Once a machine may be replaced, this stays so until its caller makes a step.
+/// A new machine may take the place of a machine that was lost with its thread or process. The
+/// table's words must show that the lost machine's caller has nothing under way: no log and no
+/// request of a transaction that isn't committed, no open transaction, and a durable request. The
+/// invariant holds after this, if the new machine's number of calls counts all reads that its
+/// caller was answered. Below the limit, a new machine that goes on with the announced call has
+/// such a number. No other caller's calls change. Once a machine may be replaced, this stays so
+/// until its caller makes a step.
 pub fn taken_over_stands<W: Work>(limit: u32, work: W)
     ensures core { RevivalsKeepCore
         (setup_for W.many W.size W.meaning limit work) (W.lawful work) }
@@ -102,11 +104,12 @@ pub fn calls_kept<W: Work>(limit: u32, work: W)
         (setup_for W.many W.size W.meaning limit work) (W.lawful work) }
 {}
 
-/// Each event, and so each schedule, keeps the invariant. From every start, every schedule leaves a
-/// moment whose history is legal, and recovery of its durable words gives the state at the durable
-/// sequence. Each durable word is one that its cell has held. Machines may be lost and replaced on
-/// the way: when a batch is committed, its calls are the open calls of their callers' present
-/// machines. So a call that a lost machine had begun and not announced is never run.
+/// Each event keeps the invariant, and so does each schedule. From every start, every schedule
+/// leaves a sound moment: its history is legal, and recovery of its durable words gives the state
+/// at the durable sequence. Each durable word is one that its cell has held. This holds also if
+/// machines are lost and replaced. When a batch is committed, each of its calls is the open call of
+/// the machine that its caller has then. So a call that a lost machine had begun and not announced
+/// is never run.
 pub fn every_moment<W: Work>(limit: u32, work: W)
     ensures kept { EventsKeepInvariant
         (setup_for W.many W.size W.meaning limit work) (W.lawful work) }

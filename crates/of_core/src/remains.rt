@@ -44,8 +44,9 @@ pub enum NotYet {
 }
 
 impl Remains {
-    /// The reason why no new machine may take the place of the caller's machine yet; None if one
-    /// may. Once a new machine may, this stays so until the caller makes a step.
+    /// The reason why no new machine may take the place of the caller's machine yet; None if a new
+    /// machine may. Once a new machine may take the place, this stays so until the caller makes a
+    /// step.
     pub fn hindrance(&self, caller: u32) -> Option<NotYet>
         ensures may { result ≡ None → MayRevive self.now caller }
         ensures must { MayRevive self.now caller → result ≡ None }

@@ -17,7 +17,8 @@ use std::alloc::{AllocError, Global};
 use std::marker::Brand;
 use std::snapshot::Snapshot;
 
-/// The word of a door: no member is in it, a member is, or a hand holds the slot.
+/// The words that a door may have: 0 if no member is in it, 1 if a member is, 2 if a hand holds the
+/// slot.
 const NOBODY: u64 = 0;
 
 const MEMBER: u64 = 1;

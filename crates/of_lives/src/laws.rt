@@ -30,9 +30,9 @@ pub fn renumbered_images_start()
     ensures { RenumberedImagesStart }
 {}
 
-/// Recovery makes of the durable words of a life a row from which a table may start: at the life's
-/// last sequence and store, with each caller after its last announced call. So the next life begins
-/// where this one ends.
+/// Recovery makes a row of the durable words that a life leaves, and a table may start from this
+/// row. The table starts at the life's last sequence and store, with each caller after its last
+/// announced call. So the next life begins where this one ends.
 pub fn lives_restart()
     ensures { LivesRestart }
 {

@@ -115,7 +115,7 @@ impl SuspendedRun {
         self.done as usize
     }
 
-    /// What the word at `place` answered, which is one of those that have run.
+    /// What the word at `place` answered. It must be one of the words that have run.
     pub fn value(&self, place: usize) -> Option<u32>
         requires ran { place < self.now.done }
         requires few { place < MOST_INSTRS }
@@ -192,21 +192,23 @@ fn are_same(words: &[u64], others: &[u64]) -> bool
     true
 }
 
-/// A work that may keep, between two runs, how far an operation came. This trait says for which
-/// partial memories what is kept is right. What is kept names its work and its operation itself.
+/// A work that may keep, between two runs, how far an operation came. The members say with which
+/// partial memories what is kept agrees, so that the next run may go on from it.
 pub trait MaySuspend: Copy + Send + Sync {
     ghost use Rattle.std.specs.Prelude.{◌≡◌, ℕ, [], None};
     ghost use Rattle.std.proofs.Common.{get_or};
     ghost use Rattle.of_mem.specs.SuspendedRun.{SuspendedRun};
     ghost use Rattle.of_mem.specs.Part.{Part, learn};
 
-    /// Whether what is kept is right for a partial memory in which the script has written nothing.
+    /// The fact that what is kept agrees with a partial memory in which the script has written
+    /// nothing: a run may go on from what is kept.
     ghost holds: { SuspendedRun → Part → Type 0 };
 
-    /// If no operation is kept, what is kept is right for every partial memory.
+    /// A value that keeps no operation agrees with every partial memory.
     ghost nothing: { (k : SuspendedRun) (p : Part) → k.words ≡ [] → holds k p };
 
-    /// What is kept stays right if a cell becomes known that was not known before.
+    /// What is kept still agrees with the partial memory after a cell becomes known that was not
+    /// known before.
     ghost learns: { (k : SuspendedRun) (p : Part) (a v : ℕ) → get_or p.known a None ≡ None →
         holds k p → holds k (learn p a v) };
 }

@@ -8,12 +8,13 @@ use crate::write_set::WriteSet;
 use std::alloc::{AllocError, Global};
 use std::marker::Model;
 
-/// The known number and the newest number of each of some cells, or none. Only `new` takes memory.
-/// Each call takes the same time however many cells there are, and touches only the memory of cells
-/// that were set.
+/// The known number and the newest number of each cell; a cell that was not set has neither. Only
+/// `new` takes memory. Each call takes the same time however many cells there are, and touches only
+/// the memory of cells that were set.
 #[derive(Drop)]
 pub struct TouchedCells {
-    /// The cells that were set. The number of each entry means nothing.
+    /// The cells that were set, as the addresses of a write-set. The numbers in this write-set are
+    /// not used.
     index: WriteSet,
     /// The known and the newest number of each cell that was set.
     held: Vec<(Option<u32>, Option<u32>)>,

@@ -61,9 +61,10 @@ pub trait Work: MaySuspend {
         ensures { result ≡ size self.now };
 
     /// Runs an operation of 1 to `MOST_INSTRS` words on the known cells with the batch's writes
-    /// over them. It goes on from the word at which `kept` stopped. Ok leaves the operation's
-    /// writes as the script's, and the reply in `out`. An error names the cell that the run needs
-    /// next; then the script has no writes and `out` is as before.
+    /// over them. If `kept` keeps an earlier run of this operation, the run goes on from the word
+    /// at which the earlier one stopped. Ok leaves the operation's writes as the script's, and the
+    /// reply in `out`. An error names the cell that the run needs next; then the script has no
+    /// writes and `out` is as before.
     fn run_on(
         &self,
         part: &mut Part,

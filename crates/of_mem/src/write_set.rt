@@ -9,8 +9,8 @@ use std::alloc::{AllocError, Global};
 use std::marker::Model;
 
 /// A write-set: a map from cells to numbers, in order of first writing. Only `new` takes memory.
-/// `has_entries_of` and `copy_from` go through all entries. All other calls but `new` take the same
-/// time however many cells there are, and however many entries up to some thousands.
+/// `has_entries_of` and `copy_from` go through all entries. Any other call takes the same time for
+/// any number of cells, and for any number of entries up to some thousands.
 #[derive(Drop)]
 pub struct WriteSet {
     room: u32,

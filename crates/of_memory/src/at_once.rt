@@ -16,7 +16,8 @@ pub trait Task {
     ghost use Rattle.of_memory.specs.declared.handle.Handle.{Handle as TheHandle};
     ghost use Rattle.of_memory.specs.Handles.{IsHandle, IsSame};
 
-    /// What users may know of the work: of the task and its handle before the work, and after it.
+    /// What the task promises of its work: a fact about the task and its handle before the work,
+    /// and about both after the work.
     ghost does: { Self → TheHandle → Self → TheHandle → Type 0 } = { λ _ _ _ _. Unit {0} };
 
     /// Works with a handle of a memory.

@@ -41,8 +41,8 @@ pub fn memory_words_hold_history(memory: &Memory)
     words_hold_history(memory.scripts(), memory.limit());
 }
 
-/// A number whose handle has no open call has begun the calls from before its memory was opened,
-/// those that the handle has made since, and no others.
+/// If a handle has no open call, its number has begun these calls and no others: those from before
+/// the memory was opened, and those that have ended since.
 pub fn calls_are_counted()
     ensures { CallsAreCounted }
 {

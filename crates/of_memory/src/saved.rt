@@ -82,8 +82,8 @@ impl Saved {
         self.cells.ticket(number)
     }
 
-    /// The ticket of a caller's last saved call, and its reply, also if the caller was stopped
-    /// before it had the reply. None if no call of the caller is saved.
+    /// The ticket of a caller's last saved call, and the call's reply. None if no call of the
+    /// caller is saved. A saved call may be one whose caller was stopped before it got the reply.
     pub fn last_reply(&self, number: u32) -> Option<(u32, Reply)>
         requires saved { IsSaved self.now }
         requires number { number < saved_callers self.now }
@@ -101,8 +101,8 @@ impl Saved {
         Some((ticket, reply))
     }
 
-    /// What is saved, with another limit. The limit must not be 0, above `GREATEST_LIMIT` or below
-    /// the last committed sequence: otherwise the error hands back what was saved, unchanged.
+    /// The saved memory with another limit. The limit must be 1 to `GREATEST_LIMIT`, and not below
+    /// the last committed sequence. If it isn't, the error hands back the saved memory, unchanged.
     pub fn with_limit(self, limit: u32) -> Result<Saved, LimitError>
         requires { IsSaved self }
         ensures saved { IfOk result IsSaved }

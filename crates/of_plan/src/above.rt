@@ -53,8 +53,8 @@ pub(crate) fn said(wanted: Wanted, line: &[u8]) -> Option<u32>
     }
 }
 
-/// The line with this many lines above it, or an empty one if there is none, and whether it is the
-/// last.
+/// The line that has this many lines above it, or an empty line if the text has no such line; and
+/// whether this line is the last one.
 pub fn line_at(text: &[u8], above: u64) -> (&[u8], bool)
     ensures line { result.0.now ≡ lines_above.line_at (text_lines text.now) above }
     ensures last { IsTrue result.1 → length (text_lines text.now) ≡ above + 1 }
@@ -74,8 +74,9 @@ pub fn line_at(text: &[u8], above: u64) -> (&[u8], bool)
     }
 }
 
-/// The first of the first `above` lines that is wanted: how many lines are above it, and the number
-/// that it says.
+/// Looks through the first `above` lines of the text for the first line that is wanted. The answer
+/// is how many lines come before this line, and the number that it names. None if none of these
+/// lines is wanted.
 pub fn find(text: &[u8], above: u64, wanted: Wanted) -> Option<(u64, u32)>
     ensures { MatchOption result (NoneSays (text_lines text.now) above wanted)
         (λ x. Says (text_lines text.now) above wanted x.0 x.1) }

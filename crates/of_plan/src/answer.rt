@@ -7,10 +7,10 @@ use of_script::Reply;
 pub struct Answer {
     /// The sequence at which the call took effect.
     pub seq: u32,
-    /// Whether the call was announced; only a script that writes nothing can be answered without
-    /// that.
+    /// Whether the call was announced. Only a call whose script writes nothing can be answered
+    /// without being announced.
     pub announced: bool,
-    /// What its script answered.
+    /// What the call's script answered.
     pub reply: Reply,
     /// How many atomic steps the call made.
     pub steps: u64,
@@ -23,11 +23,11 @@ pub enum Ending {
     Done,
     /// The caller was stopped before all its scripts were answered.
     Stopped {
-        /// How many steps its open call has asked for: those that it made, and the one that was
-        /// denied. It is 1 if no call is open.
+        /// For how many steps the caller's open call has asked: those that it made, and the one
+        /// that was denied. This is 1 if the caller has no open call.
         asked: u64,
     },
-    /// No sequence was left for its next call.
+    /// No sequence was left for the caller's next call.
     Spent {
         /// The sequence that the call found.
         seq: u32,

@@ -210,7 +210,7 @@ impl ScheduleRun {
         }
     }
 
-    /// How a caller ends.
+    /// How a caller ends, if the run ends now.
     fn ending(&self, plan: &Plan, caller: u32) -> Ending
         requires caller { caller < plan.now.callers }
         requires playing { IsPlaying plan.now self.now }

@@ -23,7 +23,7 @@ pub struct TraceStep {
     pub place: Place,
     /// The operation of the step.
     pub op: Op,
-    /// The caller whose log the step copied or applied, if it helped.
+    /// The caller whose log the step copied or applied, if the step was one of a help.
     pub helps: Option<u32>,
     pub change: Change,
     /// How the call has ended, if this was its last step.

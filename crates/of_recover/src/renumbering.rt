@@ -29,8 +29,8 @@ fn renumbered_word(shape: &Shape, cell: usize, word: u64) -> u64
     }
 }
 
-/// Renumbers a recovered row, so that sequences begin at 0 again. Each data cell keeps its number,
-/// with sequence 0. All other cells become 0, as in a table on which nothing has happened.
+/// Renumbers a recovered row, so that its sequences begin at 0 again. Each data cell keeps its
+/// number and gets the sequence 0. All other cells become 0, as in a new table.
 pub fn renumber(shape: &Shape, durable: &mut [u64])
     requires row { IsShapeRow shape.now durable.old }
     requires closed { IsClosed shape.now durable.old }
@@ -40,9 +40,9 @@ pub fn renumber(shape: &Shape, durable: &mut [u64])
     renumber_partly(shape, durable, cells);
 }
 
-/// Makes the first `most` writes of a renumbering, in order, or all if there are fewer. The
-/// current-transaction word is written last, since no data cell may be newer than it. So the row
-/// that is left has the same numbers and may be renumbered again (`laws::renumbered_midway`).
+/// Makes the first `most` writes of a renumbering, in order, or all of them if there are fewer. The
+/// current-transaction word is written last, since no data cell may be newer than this word. So the
+/// row that is left has the same numbers and may be renumbered again (`laws::renumbered_midway`).
 pub fn renumber_partly(shape: &Shape, durable: &mut [u64], most: usize)
     requires { IsShapeRow shape.now durable.old }
     ensures { let writes = renumbering_writes_of shape.now durable.old in
