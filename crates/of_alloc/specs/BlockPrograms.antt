@@ -7,7 +7,8 @@ use Rattle.of_mem.specs.Places.{fresh_at, free_at}
 use Rattle.of_mem.specs.Programs.{Program, Done, Read, Write}
 use Rattle.of_mem.specs.Stores.{link_at}
 
--- takes block n, the first that was never taken, if the flag says that there is one
+-- the program takes block n, the first one that was never taken, if the flag says that there is
+-- such a block
 abbrev pub take_fresh : ℕ → ℕ → Bool → Program (Option ℕ)
 take_fresh o n true = Write (fresh_at o) (n + 1) (Done (Some n))
 take_fresh o n false = Done None
@@ -18,8 +19,8 @@ with_fresh o blocks n = take_fresh o n (ltb n blocks)
 abbrev pub with_free_link : ℕ → ℕ → ℕ → Program (Option ℕ)
 with_free_link o b link = Write (free_at o) link (Done (Some b))
 
--- takes a block: the first of the free list, to which the pointer that was read leads, or if the
--- list is empty, one that was never taken
+-- the program takes a block: the first of the free list, to which the pointer leads that was read;
+-- or if the list is empty, one that was never taken
 abbrev pub with_free : ℕ → ℕ → ℕ → Program (Option ℕ)
 with_free o blocks zero = Read (fresh_at o) (with_fresh o blocks)
 with_free o blocks (suc b) = Read (link_at o b) (with_free_link o b)

@@ -66,15 +66,15 @@ pub record HasOut (plot : Plot) (p : Part) (b : ℕ) : Type 0 where
   pub list : IsFreeList (base plot) plot.blocks memory free
   pub out : IsOut (base plot) memory free b
 
--- The call took block r, or none, with the memory m and its free list before. The memory after it
--- is m with the script's writes.
+-- A block was taken from the free list of the memory m, or none. The memory afterwards is m with
+-- the script's writes.
 pub record TakesFromList (plot : Plot) (m : ℕ → ℕ) (free : List ℕ) (r : Option ℕ) (after : Part)
     : Type 0 where
   pub part : IsPartOf after (with_writes m after.script)
   pub takes : TakesBlock (base plot) plot.blocks m free r (with_writes m after.script)
 
--- If the call answered, then for every memory that agrees with `before`, and its free list, it took
--- a block or none as it should. If it took none, it changed nothing.
+-- If the call answered, it took a block or none as it should, for every memory that agrees with
+-- `before` and every free list of this memory. If it took none, it changed nothing.
 pub record TakesFromMemory (plot : Plot) (before after : Part) (result : Result (Option ℕ) Need)
     : Type 0 where
   pub takes : IfOk result (λ r. (m : ℕ → ℕ) (free : List ℕ)
@@ -82,15 +82,15 @@ pub record TakesFromMemory (plot : Plot) (before after : Part) (result : Result 
       → TakesFromList plot m free r after)
   pub none : IfOk result (λ r. r ≡ None → after ≡ before)
 
--- The call gave block b back to the free list of the memory m. The memory after it is m with the
+-- Block b was given back to the free list of the memory m. The memory afterwards is m with the
 -- script's writes.
 pub record GivesToList (plot : Plot) (m : ℕ → ℕ) (free : List ℕ) (b : ℕ) (after : Part)
     : Type 0 where
   pub part : IsPartOf after (with_writes m after.script)
   pub given : IsGiven (base plot) plot.blocks m free b (with_writes m after.script)
 
--- If the call answered, then for every memory that agrees with `before`, and in which block b is
--- out, it put b in front of the free list.
+-- If the call answered, it put block b in front of the free list, for every memory that agrees with
+-- `before` and in which block b is out.
 abbrev pub GivesToMemory : Plot → Part → Part → ℕ → Result (Unit {0}) Need → Type 0
 GivesToMemory plot before after b result =
     IfOk result (λ r. (m : ℕ → ℕ) (free : List ℕ)

@@ -141,8 +141,9 @@ HandsBack p r e w =
 
 -- ---- what holds of all teams
 
--- the record of a team of the plan is lawful, its report is as that of a run (`ReportsRun`), and
--- the report's announced entries are the calls of the batches that the team's pass has seen
+-- The record of a team of the plan is lawful, and its report has all that holds of the report of a
+-- run (`ReportsRun`). The report's announced entries are the calls of the batches that the team's
+-- pass has seen.
 abbrev pub TeamsAreLawful : Plan → Type 0
 TeamsAreLawful p =
     (s : Start) (B : TableStart) (e : Ended) (v : View) → IsTeamOf p s B e v

@@ -51,11 +51,12 @@ pub fn runs_are_lawful()
     ensures allowances { RunsKeepAllowances }
 {}
 
-/// A team of a plan leaves a lawful record, and its report is as that of a run. The announced
-/// entries of the report are the calls of the batches that the team's pass has seen. A caller that
-/// keeps to its stop keeps to this stop as its allowance in the report. A table may start from the
-/// recovered durable words, and this start is where the report ends. Some schedule of the plan's
-/// callers, with the plan's evictions in their order, leaves the same record.
+/// A team of a plan leaves a lawful record, and the record's report has all that holds of the
+/// report of a run. The announced entries of the report are the calls of the batches that the
+/// team's pass has seen. If a caller keeps to its stop, its calls in the report can be made with
+/// this number of steps. A table may start from the recovered durable words, and this start is
+/// where the report ends. Some schedule of the plan's callers, with the plan's evictions in their
+/// order, leaves the same record.
 pub fn teams_are_lawful(plan: &Plan)
     ensures lawful { TeamsAreLawful plan.now }
     ensures allowances { TeamsKeepAllowances plan.now }
@@ -68,17 +69,17 @@ pub fn teams_are_lawful(plan: &Plan)
     runs_are_schedules(limit, scripts);
 }
 
-/// A table may start from what recovery makes of the durable words that a run leaves. It starts
-/// where the run's report ends: at the report's sequence and store, with each caller after its last
-/// announced entry.
+/// Recovery makes a row of the durable words that a run leaves, and a table may start from this
+/// row. The table starts where the run's report ends: at the report's sequence and store, with each
+/// caller after its last announced entry.
 pub fn runs_restart()
     ensures { RunsRestart }
 {}
 
-/// A call comes after each answer that its caller had heard of when the call began: an announced
-/// call at a higher sequence, a read at no lower one. This holds also if the call was stopped and
-/// went on. In the events that lead to any later moment of the row, the call begins after the call
-/// of each answer that its caller knew has ended.
+/// If a caller has heard of an answer when it begins a call, this call comes after the answered one
+/// in the history: at a higher sequence if it is announced, and at no lower one if it is a read.
+/// This holds also if the call was stopped and went on. In the events that lead to any later moment
+/// of the row, the answered call ends before this call begins.
 pub fn answers_are_behind<W: Work>()
     ensures behind { ComesBehind W.meaning W.lawful }
     ensures events { EndsFirst W.meaning W.lawful }

@@ -69,7 +69,8 @@ pub record IsReplyIn {W : Type 0} (d : SavedCells W) (n : ℕ) (raw : RawReply) 
 abbrev pub saved_seq : {W : Type 0} → SavedCells W → ℕ
 saved_seq d = (start_on d.shape d.row.items).seq
 
--- `now` has the work, the number of callers and the numbers of data cells that `before` has
+-- `now` has the same work, the same number of callers and the same numbers in the data cells as
+-- `before`
 pub record SavesSame {W : Type 0} (before now : SavedCells W) : Type 0 where
   pub work : saved_work now ≡ saved_work before
   pub callers : saved_callers now ≡ saved_callers before

@@ -57,9 +57,9 @@ events_known_to c = (sight_of c).past
 abbrev pub steps_made_by : {W : Type 0} → Caller W → ℕ
 steps_made_by c = (last_caller (sight_of c).kept).turns
 
--- From the count `before` to the count `now` the caller's calls have made no more steps than one
--- call of this operation may make, if it had made `made` steps already. The bound counts the cells
--- that operations of the work read and write.
+-- If the count of steps of the caller's calls has risen from `before` to `now`, the call of this
+-- operation that made these steps, and that had made `made` steps already, has kept to a bound on
+-- all its steps. This bound depends on how many cells the operations of the work read and write.
 abbrev pub RisesByTouch : {W : Type 0} → (W → Meaning) → (W → List ℕ → Type 0) → Row W
     → (op : List ℕ) → (made before now : ℕ) → Type 0
 RisesByTouch meaning lawful r op made before now =

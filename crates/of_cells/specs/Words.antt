@@ -53,7 +53,7 @@ AreDurableWords many size meaning lawful work words =
     → (limit : ℕ)
     × IsStartFor many size meaning lawful work limit (words_found many size work words)
 
--- the start that this row of durable words is for a table of the work
+-- the start of a table of the work that begins with this row of durable words
 abbrev pub start_in : {W : Type 0} → (many size : W → ℕ) → W → (row : List ℕ) → TableStart
 start_in many size work row = start_from_durable (many work) (size work) row
 

@@ -8,8 +8,8 @@ use Rattle.of_core.specs.declared.place.Outcome.TheVariants.{Answered, Spent, Lo
 use Rattle.of_core.specs.Table.{Setup}
 use Rattle.of_core.specs.Machine.{CallState, no_cell_known}
 
--- the least steps of a try by how its run goes with no cell known: its two loads, and one more if
--- the run needs a cell
+-- the least steps of a try: its two loads, and a third load if a run with no known cell needs a
+-- cell
 abbrev pub least_of : WalkEnd → ℕ
 least_of (Needs a) = 3
 least_of (Gives es r) = 2
@@ -23,8 +23,8 @@ least_read S op = least_of (S.meaning.walk (no_cell_known S) op)
 abbrev pub least_call : List ℕ → ℕ
 least_call op = length op + 5
 
--- the least steps that a call has made when its try or its round helps: those up to the two loads
--- with which it began
+-- the least steps that a call has made when its try or its round begins to help: all steps up to
+-- the two loads with which the try or the round began
 abbrev pub made_helping : List ℕ → (in_try : Bool) → ℕ
 made_helping op true = 2
 made_helping op false = length op + 3

@@ -95,8 +95,8 @@ pub record HasLoadedAnnouncement (S : Setup) (B : TableStart) (ws : List ℕ) (b
   pub small : payload_of heard ≤ S.instrs
   pub some : 0 < seq_of heard → 1 ≤ payload_of heard
 
--- `script` is the first j words, as loaded, of a call that caller c announces and that the state st
--- has not run
+-- `script` has the first j words, as loaded, of the call that caller c announces; in the state st
+-- this call has not run
 pub record HasLoadedScript (S : Setup) (st ws : List ℕ) (s c heard : ℕ) (script : List ℕ) (j : ℕ)
     : Type 0 where
   pub new : ticket_in_state S st c < seq_of heard

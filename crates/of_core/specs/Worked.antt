@@ -16,8 +16,8 @@ abbrev pub reply_with : List ℕ → RawReply
 reply_with vs =
     record { shape = 2 ^ length vs - 1; values = vs ++ replicate (MOST_INSTRS - length vs) 0 }
 
--- a walk that needs the cell a: if the cell isn't known, the walk ends and says that it needs a;
--- otherwise it goes on by `next` with the cell's number
+-- how a walk goes on that needs the cell a: if the cell isn't known, the walk ends and says that it
+-- needs a; otherwise it goes on by `next` with the cell's number
 abbrev pub known_or : ℕ → (ℕ → WalkEnd) → Option ℕ → WalkEnd
 known_or a next None = Needs a
 known_or a next (Some v) = next v
@@ -34,8 +34,9 @@ abbrev pub numbers_from : List ℕ → (a n : ℕ) → List ℕ
 numbers_from xs a zero = []
 numbers_from xs a (suc n) = get_or xs a 0 ∷ numbers_from xs (a + 1) n
 
--- Two registers, which are the cells a and a + 1. The operation v ∷ [] stores v in the second, and
--- n zeros read the first n: an operation reads if its first word is 0.
+-- A small work with two registers, which are the cells a and a + 1. The operation v ∷ [] stores v
+-- in the second register. An operation of n zeros reads the first n registers. So an operation
+-- reads if its first word is 0.
 abbrev pub is_read : List ℕ → Bool
 is_read op = get_or op 0 0 == 0
 
@@ -59,8 +60,8 @@ register_meaning a = record {
   reads_only = is_read;
 }
 
--- An operation that loads four cells from a on, and then writes the six cells after them, as the
--- first key of an empty map does.
+-- an operation that loads four cells from a on, and then writes the six cells after them; a `put`
+-- of the first key into an empty map does as much
 abbrev pub six_writes : ℕ → ℕ → List (ℕ × ℕ)
 six_writes a v = (a + 4, v) ∷ (a + 5, v) ∷ (a + 6, v) ∷ (a + 7, v) ∷ (a + 8, v) ∷ (a + 9, v) ∷ []
 
@@ -81,7 +82,7 @@ table_with n meaning = setup_of n (n * (MOST_INSTRS + 2) + 10) 100 (meaning (n *
 abbrev pub opening_of_zeros : Setup → Moment
 opening_of_zeros S = opening_moment S (zero_start S) (words_before_members S)
 
--- from zeros, caller 0 begins the operation and makes this many turns
+-- the moment after this, from zeros: caller 0 has begun the operation and made this many turns
 abbrev pub moment_alone : ℕ → (ℕ → Meaning) → List ℕ → (turns : ℕ) → Moment
 moment_alone n meaning op k =
     after_events (table_with n meaning) (opening_of_zeros (table_with n meaning))
@@ -91,8 +92,8 @@ moment_alone n meaning op k =
 abbrev pub other_stores : ℕ → List Event
 other_stores v = Begins 1 (v ∷ []) ∷ replicate 50 (Turns 1)
 
--- caller 0 reads two registers, and before each load of the second, in each try, caller 1 stores
--- there
+-- the moment after this: caller 0 reads two registers in its tries, and in each try caller 1 stores
+-- to the second register before caller 0 loads it
 abbrev pub moment_overtaken : (turns : ℕ) → Moment
 moment_overtaken k =
     after_events (table_with 2 register_meaning)
@@ -112,8 +113,8 @@ two_calls =
     outcomes (table_with 1 register_meaning)
     (opening_of_zeros (table_with 1 register_meaning)) read_and_store 0
 
--- a start after one call of caller 0, whose ticket is 1 and which has stored 7 in the second
--- register
+-- a start after one call of caller 0: the caller's ticket is 1, and the call has stored 7 in the
+-- second register
 abbrev pub one_done : (seq : ℕ) → TableStart
 one_done s = record {
   seq = s;
@@ -121,7 +122,8 @@ one_done s = record {
   cells = pack s 1 ∷ pack s 65536 ∷ (replicate MOST_INSTRS 0 ++ (0 ∷ pack s 7 ∷ replicate 8 0));
 }
 
--- from the start `one_done`, with this limit, caller 0 begins to store and makes this many turns
+-- the moment after this, from the start `one_done` and with this limit: caller 0 has begun to store
+-- and made this many turns
 abbrev pub behind_one : (seq limit turns : ℕ) → Moment
 behind_one s l k =
     let S : Setup = setup_of 1 (MOST_INSTRS + 12) l (register_meaning (MOST_INSTRS + 2)) in

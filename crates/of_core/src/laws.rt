@@ -171,8 +171,9 @@ pub fn ends_in_time<W: Work>(limit: u32, work: W)
     ensures spent { SpentInRounds (setup_for W.many W.size W.meaning limit work) (W.lawful work) }
 {}
 
-/// The formula of the step bound by what operations touch, for a call that may write, and a worked
-/// case: three callers have operations that read and write at most two cells.
+/// The step bound that depends on how many cells operations read and write, as a formula for a call
+/// that may write. And a worked case of it: three callers, whose operations read and write at most
+/// two cells.
 pub fn touched_bounds()
     ensures writes { TouchedBoundOfWrites }
     ensures transfers { TouchedBoundOfTransfers }

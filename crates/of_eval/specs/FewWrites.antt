@@ -1,6 +1,6 @@
--- Scripts write few cells if the store has more than MOST_ORDERED_BLOCKS blocks, since `first`,
--- `next` and `drop-below` don't run then. These lemmas are in specs/ since SoundScripts, the law of
--- an impl, is proved with them.
+-- If the store has more than MOST_ORDERED_BLOCKS blocks, scripts write few cells, since `first`,
+-- `next` and `drop-below` abort. These lemmas are in specs/, not in proofs/, since `impl Work for
+-- Scripts` cites laws that are proved with them.
 use Rattle.std.proofs.Common.{◌≡◌, ℕ, ◌+◌, ◌-◌, ◌*◌, ◌<◌, true, false, Bool, Option, Some, None, Ok, Err, List, [], ◌∷◌, ◌++◌, length, take, length-take, arith}
 use Rattle.std.specs.Prelude.{nat_lt}
 use Rattle.std.proofs.lemmas.Bool.{lt-ltb}

@@ -1,5 +1,5 @@
--- What an instruction does to cells that stand for a store is what it does to the store.
--- These lemmas are in specs/ since SoundScripts, the law of an impl, is proved with them.
+-- An instruction does to cells that stand for a store what it does to the store. These lemmas are
+-- in specs/, not in proofs/, since `impl Work for Scripts` cites laws that are proved with them.
 use Rattle.std.proofs.Common.{◌≡◌, ℕ, ◌+◌, ◌-◌, ◌<◌, ◌≤◌, inl, inr, refl, sym, ap, subst, arith, Bool, true, false, cond, leb, ltb, ◌&&◌, Option, Some, None, Ok, Err, is_none, List, [], ◌∷◌, ◌++◌, length, get_or}
 use Rattle.std.specs.Prelude.{sum_by}
 use Rattle.std.specs.FinMap as fin

@@ -1,6 +1,6 @@
 -- The reply to a script's words keeps the rules for replies of a work: it fits into cells, and it
--- marks only places of its own instructions. These lemmas are in specs/ since SoundScripts, the law
--- of an impl, is proved with them.
+-- marks only places of its own instructions. These lemmas are in specs/, not in proofs/, since
+-- `impl Work for Scripts` cites laws that are proved with them.
 use Rattle.std.proofs.Common.{◌≡◌, ℕ, zero, suc, ◌+◌, ◌-◌, ◌*◌, ◌<◌, ◌≤◌, ◌/◌, ◌%◌, ◌^◌, ◌==◌, true, false, refl, sym, ◌∙◌, ap, subst, arith, Option, Some, None, Ok, Err, List, [], ◌∷◌, ◌++◌, length, get_or, map, replicate, length-append}
 use Rattle.std.specs.List.{AllByRecursion as Each}
 use Rattle.std.specs.Option.{unwrap_or}

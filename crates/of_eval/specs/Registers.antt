@@ -1,6 +1,6 @@
--- After a register is written, the cells stand for the store with this register changed, and
--- nothing else changed. These lemmas are in specs/ since SoundScripts, the law of an impl, is
--- proved with them.
+-- If a register is written, the cells stand for the store with this register changed and nothing
+-- else. These lemmas are in specs/, not in proofs/, since `impl Work for Scripts` cites laws that
+-- are proved with them.
 use Rattle.std.proofs.Common.{◌≡◌, ℕ, ◌+◌, ◌%◌, ◌<◌, ◌≤◌, inl, inr, refl, sym, ◌∙◌, arith, List, [], ◌∷◌, get_or, set, length-set}
 use Rattle.std.proofs.lemmas.Bool.{cases_eq}
 use Rattle.std.proofs.lemmas.List.{get_or-set_same, get_or-set_other}

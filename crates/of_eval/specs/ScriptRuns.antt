@@ -1,5 +1,6 @@
 -- The words of an operation do to cells that stand for a store what they do to the store. These
--- lemmas are in specs/ since SoundScripts, the law of an impl, is proved with them.
+-- lemmas are in specs/, not in proofs/, since `impl Work for Scripts` cites laws that are proved
+-- with them.
 use Rattle.std.proofs.Common.{◌≡◌, ℕ, suc, ◌+◌, ◌<◌, ◌≤◌, refl, sym, ◌∙◌, ap, subst, arith, Option, Some, None, Ok, Err, List, [], ◌∷◌, ◌++◌, length, length-append}
 use Rattle.std.specs.List.{AllByRecursion as Each}
 use Rattle.std.proofs.lemmas.List.{append_assoc, append-nil}

@@ -1,5 +1,6 @@
 -- Scripts use no cell before the first cell of the store, and scripts that only read write nothing.
--- These lemmas are in specs/ since SoundScripts, the law of an impl, is proved with them.
+-- These lemmas are in specs/, not in proofs/, since `impl Work for Scripts` cites laws that are
+-- proved with them.
 use Rattle.std.proofs.Common.{◌≡◌, ℕ, ◌+◌, ◌-◌, Bool, true, false, cond, Option, Some, None, Ok, Err, List, [], ◌∷◌, ◌++◌, arith}
 use Rattle.std.proofs.lemmas.Bool.{false≢true}
 use Rattle.of_mem.specs.declared.work.RawReply.{RawReply}

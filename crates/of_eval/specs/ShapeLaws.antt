@@ -1,5 +1,5 @@
--- Bounds for the parts of a shape. These lemmas are in specs/ since SoundScripts, the law of an
--- impl, is proved with them.
+-- Bounds for the parts of a shape. These lemmas are in specs/, not in proofs/, since `impl Work for
+-- Scripts` cites laws that are proved with them.
 use Rattle.std.proofs.Common.{◌≡◌, ℕ, zero, suc, ◌<◌, ◌≤◌, ◌^◌, List, [], ◌∷◌, length, get_or, Option, Some, None, refl, arith}
 use Rattle.of_script.specs.declared.instr.Cause.{Cause}
 use Rattle.of_script.specs.declared.instr.Cause.TheVariants.{Overflow, Short, NoRoom, Differs, BadOp}

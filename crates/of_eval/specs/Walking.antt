@@ -136,14 +136,15 @@ KeysAreMiscounted p cells s e =
     (owners : List ℕ) → IsBeforeChain p cells (queue_chain p.blocks 0) 0 owners s
     → NamesFault p cells e
 
--- if the walk went through all chains, it met every block, and the cells stand for its store
+-- if the walk went through all chains, it has met every block, and the cells stand for the walk's
+-- store
 abbrev pub AllAreMet : Plot → List ℕ → List ℕ → Type 0
 AllAreMet p cells owners =
     (s : Store) → IsBeforeChain p cells (out_chain p.blocks) (out_chain p.blocks) owners s
     → CellsStandFor p cells s
 
--- if the walk went through all chains, the error names the first cell at fault, since some block
--- was not met
+-- if the walk went through all chains and did not meet some block, the error names the first cell
+-- at fault
 abbrev pub SomeAreUnmet : Plot → List ℕ → List ℕ → LawErr → Type 0
 SomeAreUnmet p cells owners e =
     (s : Store) → IsBeforeChain p cells (out_chain p.blocks) (out_chain p.blocks) owners s

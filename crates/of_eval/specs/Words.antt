@@ -30,7 +30,7 @@ words_outcome s (w ∷ ws) = then_outcome (word_effect s w) (λ t. words_outcome
 abbrev pub run_words : Store → List ℕ → Store × Reply
 run_words s ws = run_result s (words_outcome s ws)
 
--- a reply as the Rust type has it, to a script of n instructions
+-- the reply to a script of n instructions, as a value of the Rust type
 abbrev pub reply_to : ℕ → Reply → RustReply
 reply_to n (Answered vs) = record {
   len = n;

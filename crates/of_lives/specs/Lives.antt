@@ -17,7 +17,8 @@ abbrev pub done_behind : (n : ℕ) → List Entry → ℕ
 done_behind n [] = n
 done_behind n (e ∷ es) = done_behind (if e.announced then e.index + 1 else n) es
 
--- the number of callers of the start or that of the life's plan, whichever is greater
+-- the number of callers after a life: that of the start or that of the life's plan, whichever is
+-- greater
 abbrev pub callers_with : Start → Life → ℕ
 callers_with s l = max (length s.finished) l.plan.callers
 

@@ -45,11 +45,11 @@ IsBetween s t e = (s.seq ≤ e.seq) × (e.seq ≤ t.seq) × (IsTrue e.announced 
 abbrev pub IsAnnouncedAt : ℕ → Entry → Type 0
 IsAnnouncedAt k e = IsTrue e.announced × (e.seq ≡ k)
 
--- the entry's call wasn't done at the start
+-- the entry's call was not done at the start
 abbrev pub IsBehind : Start → Entry → Type 0
 IsBehind s e = finished_of s e.caller ≤ e.index
 
--- the entry's caller is one of those that the start counts
+-- the start counts the scripts of the entry's caller
 abbrev pub IsKnownTo : Start → Entry → Type 0
 IsKnownTo s e = e.caller < length s.finished
 

@@ -62,7 +62,7 @@ second_life = adds_and_reads 2 2 7
 abbrev pub both_lives : List Life
 both_lives = first_life ∷ second_life ∷ []
 
--- the indices of a caller's entries in both lives, in order
+-- the indices of the scripts that a caller's entries run, in both lives, in order
 abbrev pub asked_by : (caller : ℕ) → List ℕ
 asked_by c = map (λ e. e.index) (own_in both_lives c)
 

@@ -32,13 +32,13 @@ EndsAs (Over s) (Replied r t n a) = ⊥
 EndsAs (Over s) (Spent t) = s ≡ t
 EndsAs (Lost s) end = ⊥
 
--- what a caller keeps of an ended call is this call of a script
+-- the ended call, as a caller keeps it, is this call of a script
 pub record IsMade (e : EndedCall) (m : Made) : Type 0 where
   pub script : IsScript m.script
   pub words : e.op ≡ map instr_word m.script
   pub ended : EndsAs e.outcome m.ended
 
--- what a caller keeps of its ended calls are these calls of scripts, in order
+-- the ended calls, as a caller keeps them, are these calls of scripts, in order
 abbrev pub AreMade : List EndedCall → List Made → Type 0
 AreMade [] [] = Unit {0}
 AreMade [] (m ∷ ms) = ⊥

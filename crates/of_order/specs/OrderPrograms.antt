@@ -19,8 +19,8 @@ abbrev pub weigh_key : ℕ → ℕ → (ℕ → Option ℕ → Program (Option �
     → Program (Option ℕ)
 weigh_key o low further b best k = Read (link_at o b) (weigh_link low further best k)
 
--- goes on with a pointer: if it is 0 the bucket ends with the best key so far, and otherwise the
--- key of its block is read
+-- the walk goes on with a pointer: if the pointer is 0, the bucket ends, with the best key so far;
+-- otherwise the walk reads the key of the block
 abbrev pub at_pointer : ℕ → ℕ → (ℕ → Option ℕ → Program (Option ℕ)) → Option ℕ → ℕ
     → Program (Option ℕ)
 at_pointer o low further best zero = Done best
@@ -71,8 +71,8 @@ drop_pointer o low further cell gone zero = Done gone
 drop_pointer o low further cell gone (suc b) =
     Read (first_at o b) (drop_key o low further cell b gone)
 
--- drops from this pointer cell on, which holds this pointer; `gone` is how many keys were dropped
--- so far
+-- the program that drops keys from this pointer cell on, which holds this pointer; `gone` is how
+-- many keys were dropped so far
 abbrev pub drop_walk : ℕ → ℕ → ℕ → ℕ → ℕ → ℕ → Program ℕ
 drop_walk o low zero cell pointer gone = Done gone
 drop_walk o low (suc n) cell pointer gone = drop_pointer o low (drop_walk o low n) cell gone pointer
@@ -83,7 +83,8 @@ drop_front o blocks i low gone front = drop_walk o low blocks (bucket_at o block
 abbrev pub drop_in_program : ℕ → ℕ → ℕ → ℕ → ℕ → Program ℕ
 drop_in_program o blocks i low gone = Read (bucket_at o blocks i) (drop_front o blocks i low gone)
 
--- takes `gone`, the number of dropped keys, off the count of keys n, and answers `gone`
+-- the program that takes `gone`, the number of dropped keys, off the count of keys n, and answers
+-- `gone`
 abbrev pub less_gone : ℕ → ℕ → ℕ → Program ℕ
 less_gone o gone n = Write (keys_at o) (n - gone) (Done gone)
 

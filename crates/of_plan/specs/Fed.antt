@@ -39,7 +39,7 @@ IsInstrFault (Flawed flaw) before piece =
     (most : ℕ) × IsAfterInstr before most × IsNumberFlaw flaw most piece
 IsInstrFault _ before piece = ⊥
 
--- after these words of a script an instruction comes next: there are none, or the last is a
+-- after these words of a script an instruction comes next: there is no word, or the last word is a
 -- semicolon
 abbrev pub EndsInstr : List (List ℕ) → Type 0
 EndsInstr words =

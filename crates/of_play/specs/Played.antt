@@ -10,9 +10,9 @@ use Rattle.of_caller.specs.Tables.{plan_setup}
 use Rattle.of_caller.specs.InTime.{RespectsTime, course_of}
 use Rattle.of_play.specs.Play.{IsPlayed}
 
--- `r` is the report of what a plan's schedule leaves, and it is as that of a run (`ReportsRun`).
--- Each caller keeps to the number of its turns as its allowance, and each call comes after the
--- calls that ended before it began.
+-- `r` is the report of what a plan's schedule leaves, and has all that holds of the report of a run
+-- (`ReportsRun`). Each caller keeps to the number of its turns as its allowance of steps, and each
+-- call comes after the calls that ended before it began.
 pub record IsPlayedReport (p : Plan) (r : Report) : Type 0 where
   pub run : Ended
   pub played : IsPlayed p run

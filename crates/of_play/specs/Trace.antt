@@ -84,7 +84,7 @@ batch_line k i s calls =
     (decimal k ++ codes " " ++ decimal i ++ codes " commits " ++ decimal s)
     ++ flat_map call_part calls ++ codes "\n"
 
--- the batches that the history has at the moment `v`, and did not have at `w`
+-- the batches of the history at the moment `v` that it did not have at the moment `w`
 abbrev pub added_by : (w v : Moment) → List Batch
 added_by w v = drop (length w.batches) v.batches
 

@@ -1,4 +1,4 @@
--- What is claimed of traces besides their text.
+-- What is claimed of traces, apart from their text.
 use Rattle.std.specs.Prelude.{◌≡◌, ℕ, ◌<◌, List, [], ◌∷◌, length, take, get_or}
 use Rattle.std.specs.List.{AllByRecursion}
 use Rattle.of_script.specs.declared.instr.Reply.{Reply}
@@ -45,7 +45,7 @@ abbrev pub TracesEndAsPlays : Type 0
 TracesEndAsPlays =
     (p : Plan) → world_after p (opening_for p) (plan_events p) ≡ moment_after p (play_events p)
 
--- the reply that a trace prints is the one that the call's cells hold
+-- if cells hold a reply, a trace prints this reply for them
 abbrev pub RepliesAreRead : Type 0
 RepliesAreRead = (raw : RawReply) (r : Reply) → length raw.values ≡ MOST_INSTRS → IsHeldBy raw r
     → shown_reply raw ≡ reply_value_of r

@@ -39,11 +39,11 @@ WritesLine f p k e before old new =
     (es : List Event) → StandsAfter p es before
     → AppendsText old new (line_as f p k (moment_after p es) e)
 
--- the text of `c` of these lines, from line `f` on
+-- the text of `c` of these lines, beginning with line `f`
 abbrev pub shown_lines : (first count : ℕ) → List (List ℕ) → List ℕ
 shown_lines f c lines = flat_map (λ line. line) (take c (drop f lines))
 
--- what a trace of this form prints of each of these turns and evictions of a plan
+-- what a trace of this form prints of each turn and eviction in this list of a plan's events
 abbrev pub lines_as : Form → Plan → List Event → List (List ℕ)
 lines_as f p ms = lines_from (line_as f p) p 0 (opening_for p) ms
 

@@ -40,12 +40,12 @@ count_down_program o q v n = Write (length_at o q) (n - 1) (Done (Some v))
 abbrev pub item_after_give : ℕ → ℕ → ℕ → Unit {0} → Program (Option ℕ)
 item_after_give o q v u = Read (length_at o q) (count_down_program o q v)
 
--- gives the block back, takes 1 off the count of items, and answers the item v
+-- the program gives the block back, takes 1 off the count of items, and answers the item v
 abbrev pub give_item_block : ℕ → ℕ → ℕ → ℕ → Program (Option ℕ)
 give_item_block o q b v = then_do (give_program o b) (item_after_give o q v)
 
--- goes on with the link of the block that leaves the queue: if it is 0, no block is left, and the
--- tail becomes 0 too
+-- the program goes on with the link of the block that leaves the queue: if the link is 0, no block
+-- is left in the queue, and its tail becomes 0 too
 abbrev pub new_end : ℕ → ℕ → ℕ → ℕ → ℕ → Program (Option ℕ)
 new_end o q b v zero = Write (tail_at o q) 0 (give_item_block o q b v)
 new_end o q b v (suc t) = give_item_block o q b v
@@ -59,7 +59,8 @@ with_first o q b v = Read (link_at o b) (with_head_link o q b v)
 abbrev pub front_program : ℕ → ℕ → ℕ → Program (Option ℕ)
 front_program o q b = Read (first_at o b) (with_first o q b)
 
--- goes on with the pointer that the head holds: if it is 0, the queue is empty
+-- the program goes on with the pointer in the head of the queue: if the pointer is 0, the queue is
+-- empty
 abbrev pub with_head : ℕ → ℕ → ℕ → Program (Option ℕ)
 with_head o q zero = Done None
 with_head o q (suc b) = front_program o q b

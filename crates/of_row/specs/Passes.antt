@@ -28,7 +28,7 @@ abbrev pub IsFirst : {W : Type 0} → Row W → Pass → Type 0
 IsFirst r p = IsRowPass r p × (view_of_pass p ≡ first_view)
 
 -- The number n is taken: its bit is set in the members word that was found. The pass had tried to
--- enrol n before. It lists this try too, with the word that was found.
+-- enrol n before. Now the pass lists this try too, with the word that was found.
 abbrev pub NumberIsRefused : {W : Type 0} → Row W → ℕ → (before now : Pass) → Taken → Type 0
 NumberIsRefused r n before now taken =
     IsRowPass r now × (bit_at taken.members n ≡ 1) × IsAsked n (view_of_pass before).asked

@@ -21,9 +21,10 @@ pub fn sees_whole<W: Work>(limit: u32, work: W)
     protocol(limit, work);
 }
 
-/// Of each caller that it keeps, a pass or a member has seen only calls that the caller has begun,
-/// each as it ended, whatever passes and members were parted, met or joined before. What the pass
-/// or the member has seen is a legal history.
+/// A pass or a member has seen, of each caller that it keeps, only calls that the caller has begun;
+/// and it has seen the outcome of each ended call of the caller. This holds whatever passes and
+/// members were parted, met or joined before. What the pass or the member has seen is a legal
+/// history.
 pub fn sees_own<W: Work>(limit: u32, work: W)
     ensures own { SeesOwnCalls (W.lawful work) (setup_for W.many W.size W.meaning limit work) }
     ensures legal { SeesLegal (W.lawful work) (setup_for W.many W.size W.meaning limit work) }
@@ -37,9 +38,9 @@ pub fn evictions_are_raised<W: Work>(work: W)
     ensures { EvictionsAreRaised (W.lawful work) }
 {}
 
-/// A member that has no open call stands for a fresh machine of its number. After it has enrolled,
-/// a member has no open call. If the idle machine for which a member stands begins a call, the
-/// member stands for the machine with this call too.
+/// A member that has no open call stands for a fresh machine of the member's number. A member that
+/// has just enrolled has no open call. If an idle machine for which a member stands begins a call,
+/// the member stands for the machine with this call too.
 pub fn members<W: Work>(work: W)
     ensures fresh { MembersStandForFresh W.meaning }
     ensures range { MemberInRange work }
@@ -53,16 +54,16 @@ pub fn idle_members<W: Work>()
     ensures { IdleMembersHaveNoCall W.meaning }
 {}
 
-/// A machine with the row's sizes, limit and work runs on the row. After it has begun a call, it
-/// still does.
+/// A machine with the row's sizes, limit and work runs on the row; so does the machine after it has
+/// begun a call.
 pub fn machines<W: Work>(work: W)
     ensures first { NewMachinesRun work }
     ensures begun { MachinesKeepRunning work }
 {}
 
 /// A run of threads is a schedule. If the first pass keeps a caller of every number that is taken
-/// when the row is closed, then some schedule leaves the row's words, and what the pass has seen
-/// and keeps.
+/// when the row is closed, some schedule leaves the row's words, with a history and calls that
+/// agree with what the pass has seen and keeps.
 pub fn runs_are_schedules<W: Work>(limit: u32, work: W)
     ensures { RunsAreSchedules (W.lawful work) (setup_for W.many W.size W.meaning limit work) }
 {
@@ -79,10 +80,10 @@ pub fn runs_are_linearizable<W: Work>(limit: u32, work: W)
     every_order(limit, work);
 }
 
-/// A row that stops between any two steps loses no call that was answered. Some schedule leaves its
-/// words as they are then. One serial order of calls, by sequence, explains how all calls have
-/// ended, and recovery of the words finds what that order leads to. The words of a closed row have
-/// such an order for all calls that the pass keeps.
+/// A row that stops between any two steps loses no call that was answered. Some schedule leaves the
+/// words that the row has then. One serial order of calls, by sequence, explains how all calls have
+/// ended, and recovery of these words finds the state to which the order leads. The words of a
+/// closed row have such an order too, with all calls that the pass keeps.
 pub fn stops_lose_nothing<W: Work>(limit: u32, work: W)
     ensures stops { StopsLoseNothing (W.lawful work)
         (setup_for W.many W.size W.meaning limit work) }

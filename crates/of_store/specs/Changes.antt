@@ -1,7 +1,7 @@
 -- What an instruction changes in a store, and the store without the change. A script that fails
--- leaves the store as it was. Writes are undone, which needs no memory. To put a removed key or
--- item in again might need memory, so a script that may fail after it has removed one runs on a copy
--- of the store.
+-- leaves the store as it was. A write can be undone without memory. To put a removed key or item
+-- back might need memory. So a script that may fail after it has removed a key or an item runs on a
+-- copy of the store.
 use Rattle.std.specs.Prelude.{◌≡◌, ℕ, zero, suc, ◌-◌, ◌<◌, ◌≤◌, Bool, true, false, List, length, take, slice_get, slice_index_or, Option, Some, None, IsSome, IsNone, Result, Ok, Err}
 use Rattle.std.specs.FinMap as fm
 use Rattle.of_script.specs.declared.instr.Instr.{Instr}
