@@ -89,7 +89,8 @@ pub record TellsStepsMade (S : Setup) (B : TableStart) (d : CallState) (w : View
   pub once : HasOwnOnce S B w.seen y
   pub told : IsToldBy S B w.past d.caller y
 
--- what a call with this result tells its caller; the count of steps went from a to b
+-- what holds after a call has had this result; the count of steps was a before the call and is b
+-- now
 pub record TellsCall (S : Setup) (Lawful : List ℕ → Type 0) (B : TableStart)
     (m : CallState) (v : View) (a : ℕ) (d : CallState) (w : View) (b : ℕ)
     (r : Result Outcome CallErr) : Type 0 where
@@ -125,7 +126,8 @@ pub record TellsCall (S : Setup) (Lawful : List ℕ → Type 0) (B : TableStart)
   pub touched : 0 < steps → IsWithinTouched S Lawful m.op (m.steps + steps)
   pub result : TellsResult S Lawful B m v before steps d w kept r
 
--- what a call tells its caller, a caller of the row; before these steps, m was the call's machine
+-- what holds after a call of a caller of the row has had this result; m was the machine of the call
+-- before it made these steps
 abbrev pub TellsCallOf : {W : Type 0} → (W → Meaning) → (W → List ℕ → Type 0) → Row W
     → (m : CallState) → (before now : Caller W) → (a b : ℕ) → Result Outcome CallErr → Type 0
 TellsCallOf meaning lawful r m before now a b result =

@@ -123,8 +123,8 @@ RunsAreReported =
     (p : Plan) (s : Start) (B : TableStart) (w : Moment) (e : Ended) → IsRunOfPlan p s B w e
     → (r : Report) → IsLawfulRecord p s e r → ReportsRun p s e r
 
--- how many steps caller c has made: those of its ended calls, by their outcomes, and those of its
--- open call
+-- how many steps caller c has made: the steps of its ended calls, by their outcomes, and the steps
+-- of its open call
 abbrev pub steps_made : Moment → (c : ℕ) → List Outcome → ℕ
 steps_made w c outs = total_steps outs + (machine_in w c).steps
 

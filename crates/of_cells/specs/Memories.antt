@@ -216,7 +216,7 @@ abbrev pub HasHistory : {W : Type 0} → (W → Meaning) → CellMemory W → Sa
 HasHistory meaning m d = (h : List Call) × LeadsTo meaning m d h
 
 -- if what is saved has no call of a caller since the memory was opened, the caller's own cells are
--- as they were then, with the reply in them
+-- the same as when the memory was opened, with the reply in them
 abbrev pub SavesOwnCells : {W : Type 0} → (W → Meaning) → CellMemory W → SavedCells W → Type 0
 SavesOwnCells meaning m d = KeepsOwnCells meaning (row_of m) d
 

@@ -137,8 +137,8 @@ pub record IsBackIn {W : Type 0} (m : CellMemory W) (h : CellHandle W) : Type 0 
   pub here : get_or m.callers.items (number_of_handle h) None ≡ Some caller
   pub same : KnowsMore (caller_of h) caller
 
--- the handle of this pair was handed out for the task whose place is the handle's number; the pair
--- with the last task comes first
+-- the handle of this pair was handed out for the pair's task, and the handle's number is the place
+-- of this task in the list; the pair with the last task comes first
 pub record IsHandedOut {W J : Type 0} (meaning : W → Meaning) (m : CellMemory W) (xs : List J)
     (i : ℕ) (p : CellHandle W × J) : Type 0 where
   pub place : number_of_handle p.0 + i + 1 ≡ length xs

@@ -120,10 +120,10 @@ pub record TellsMemory {W : Type 0} (meaning : W → Meaning) (h : CellHandle W)
 
 -- ---- the whole
 
--- Handle a has made its calls and tells of them. Handle b hears the news, and its next call leaves
--- it as c. Later, as e, it leaves the memory m with all that c knew, and what is saved at the close
--- is d. Then each call that a had made comes, in the history, before that next call of b and before
--- each later call of b's number.
+-- If handle b hears the news of handle a, each call that a had made comes in the history before b's
+-- next call and before each later call of b's number. Here c is handle b after its next call, and e
+-- is the same handle when it leaves. The memory m then knows all that c knew, and d is what is
+-- saved at the close.
 abbrev pub ToldCallsComeFirst : {W : Type 0} → (W → Meaning) → Type 0
 ToldCallsComeFirst {W} meaning =
     (m : CellMemory W) (d : SavedCells W) (a b c e : CellHandle W) (news : CellNews)
@@ -136,11 +136,11 @@ ToldCallsComeFirst {W} meaning =
     (number_of_handle a) (tickets_before meaning m (number_of_handle a) + length (made_by a))
     (number_of_handle b) (tickets_before meaning m (number_of_handle b) + length (made_by b))
 
--- Handle a leaves its memory, which is k then. The memory forgets nothing until it is l. Now handle
--- b comes, and its next call leaves it as c. Later, as e, it leaves the memory m with all that c
--- knew, and what is saved at the close is d. Then each call that a had made comes, in the history,
--- before that next call of b and before each later call of b's number, whatever the two numbers
--- are.
+-- If handle a leaves the memory before handle b comes, each call that a had made comes in the
+-- history before b's next call and before each later call of b's number, whatever the two numbers
+-- are. Here k is the memory after a has left, and l the memory when b comes; from k to l nothing is
+-- forgotten. c is handle b after its next call, and e is the same handle when it leaves. The memory
+-- m then knows all that c knew, and d is what is saved at the close.
 abbrev pub CallsComeInTurn : {W : Type 0} → (W → Meaning) → Type 0
 CallsComeInTurn {W} meaning =
     (k l m : CellMemory W) (d : SavedCells W) (a b c e : CellHandle W)

@@ -174,8 +174,9 @@ IsCauseFrom p s text (Caller entries caller rule) =
     × SameAbove text (made_text p s entries text) (entries + 1 + caller)
 IsCauseFrom p s text (LineCause above wanted) = DiffersAt p s text wanted.items above
 
--- the judgement is true: the text is that of this report, which is legal for the plan from the
--- start; or it is that of no legal report, for this cause
+-- The judgement is true. If it is `Legal`, the text is the text of this report, which is legal for
+-- the plan from the start. If it is `Illegal`, the text is the text of no legal report, for this
+-- cause.
 abbrev pub IsJudgement : Plan → Start → (text : List ℕ) → Judgement → Type 0
 IsJudgement p s text (Legal report) = IsTextOf p s text (report_value report)
 IsJudgement p s text (Illegal cause) =

@@ -25,7 +25,7 @@ last_announced before (e ∷ es) = last_announced (if e.announced then Some e el
 abbrev pub last_call : Report → (caller : ℕ) → Option Entry
 last_call r c = last_announced None (entries_of r c)
 
--- the entry as contracts see it, for an entry as the code has it; None for None
+-- an entry in the form that contracts see, for an entry as the code has it; None for None
 abbrev pub entry_in : Option TheEntry → Option Entry
 entry_in None = None
 entry_in (Some e) = Some (entry_value e)
@@ -38,8 +38,8 @@ ticket_after before (Some e) = e.index + 1
 
 -- ---- what an image has of it
 
--- the ticket of a caller in the image is that of its last announced entry; if it has none, that of
--- the start
+-- The ticket of a caller in the image is the ticket of its last announced entry. If the report has
+-- no announced entry of the caller, it is the caller's ticket at the start.
 abbrev pub HasTicket : Start → Report → Image → (caller : ℕ) → Type 0
 HasTicket s r i c = image_ticket i c ≡ ticket_after (finished_of s c) (last_call r c)
 
@@ -58,8 +58,9 @@ pub record HoldsLastCall (s : Start) (r : Report) (i : Image) (c : ℕ) : Type 0
   pub ticket : HasTicket s r i c
   pub reply : HasReply r i c
 
--- the image has the plan's callers and blocks, and it is where the report ends: its sequence, what
--- the callers' own cells hold, and its store
+-- The image has the plan's callers and blocks. It is the one at which the report ends: it has the
+-- report's sequence and store, and the callers' own cells hold what the report says of their last
+-- calls.
 pub record EndsAt (p : Plan) (s : Start) (r : Report) (i : Image) : Type 0 where
   pub callers : i.row.callers ≡ p.callers
   pub blocks : i.row.blocks ≡ p.blocks

@@ -88,7 +88,7 @@ AllFollow p c (q ∷ qs) = MayFollow p c q × AllFollow p (after_claimed_call p 
 
 -- ---- the code's replay
 
--- the code's replay as contracts see it
+-- a replay in the form that contracts see, for a replay as the code has it
 abbrev pub replay_value : RustReplay → Replay
 replay_value r = record { counts = r.counts.items; last = r.last; store = r.store }
 

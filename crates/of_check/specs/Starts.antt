@@ -9,6 +9,6 @@ use Rattle.of_check.specs.declared.start.Start.{Start as TheStart}
 abbrev pub start_where_done : (seq : ℕ) (done : List ℕ) (store : Store) → Start
 start_where_done seq done store = record { store = store; seq = seq; finished = done }
 
--- the code's start as contracts see it
+-- a start in the form that contracts see, for a start as the code has it
 abbrev pub start_of : TheStart → Start
 start_of s = start_where_done s.seq s.finished.items s.store

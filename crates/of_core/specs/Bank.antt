@@ -8,7 +8,7 @@ use Rattle.of_core.specs.Table.{setup_of}
 use Rattle.of_core.specs.Starts.{start_from_durable}
 use Rattle.of_core.specs.Moment.{Bank, IsReached, RunSameWork, call_states, table_word_count}
 
--- what contracts see of a bank: its work, its sizes, its start, its words and its machines
+-- a bank as contracts see it: its work, its sizes, its start, its words and its machines
 abbrev pub bank_value : {W : Type 0} → Inside W → Bank W
 bank_value b = record {
   work = b.work;
@@ -20,7 +20,8 @@ bank_value b = record {
   machines = call_states b.machines.items;
 }
 
--- the sizes fit one another, and the words and machines are those of a moment
+-- the sizes of the bank fit one another, and its words and machines are those of a moment that some
+-- schedule leaves
 pub record IsBank {W : Type 0} (many size : W → ℕ) (meaning : W → Meaning)
     (lawful : W → List ℕ → Type 0) (b : Inside W) : Type 0 where
   pub callers : many b.work ≡ b.shape.callers

@@ -87,7 +87,7 @@ TurnFindsOpenCall w (Evicts k) i = Unit {0}
 TurnFindsOpenCall w (Raises c) i = Unit {0}
 TurnFindsOpenCall w (Revives j made) i = i ≡ j → ⊥
 
--- at every turn of caller i the caller has an open call, and its machine is never replaced
+-- at every turn of caller i the caller has an open call, and the caller's machine is never replaced
 abbrev pub TurnsFindOpenCalls : Setup → Moment → List Event → ℕ → Type 0
 TurnsFindOpenCalls S w [] i = Unit {0}
 TurnsFindOpenCalls S w (e ∷ es) i =

@@ -21,7 +21,8 @@ use Rattle.of_core.specs.History.{state_after, batch_at, EachBatch, EachCall, Is
 use Rattle.of_core.specs.Bound.{bound}
 use Rattle.of_core.specs.Events.{machine_in}
 
--- whether, at this place of a round or a try, the known cells must be those of its state
+-- whether, at this place of a round or a try, the cells that the machine knows must be those of its
+-- state
 abbrev pub knows_state : Place → Bool
 knows_state (TryCell a) = true
 knows_state LoadOwnTicket = true
@@ -47,8 +48,8 @@ OwnCellsAreOfState S st i m LoadShape = FindsOwnTicket S st i m
 OwnCellsAreOfState S st i m (LoadReply j) = FindsOwnTicket S st i m × HasReadReplyUpTo S st i m j
 OwnCellsAreOfState S st i m p = Unit {0}
 
--- a round or a try has used the cells of only one state: the known cells, and what was loaded of
--- the caller's own ones
+-- a round or a try has used the cells of only one state: this holds of the known cells, and of what
+-- was loaded of the caller's own cells
 pub record UsesOneState (S : Setup) (B : TableStart) (w : Moment) (i : ℕ) (m : CallState)
     : Type 0 where
   pub known : knows_state m.place ≡ true → Agrees m.known (numbers_after B w.batches m.seq)
@@ -93,8 +94,8 @@ OutcomeIsInHistory S B w i m (Some (Spent s)) =
     × (s ≤ durable_seq S w.words)
 OutcomeIsInHistory S B w i m (Some (Lost s)) = ⊥
 
--- a call in a batch was begun by its caller; if it is the caller's open call, it is in the batch
--- with that call's words
+-- a call in a batch was begun by its caller; if it is the caller's open call, the batch has it with
+-- the open call's words
 abbrev pub WasBegunByCaller : Setup → TableStart → Moment → Call → Type 0
 WasBegunByCaller S B w c =
     let m : CallState = machine_in w c.caller in

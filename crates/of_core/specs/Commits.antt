@@ -66,24 +66,24 @@ announces_at (StoreScript j) = true
 announces_at StoreAnnouncement = true
 announces_at p = false
 
--- a try or a round is given up only if a batch was committed since it began
+-- if a try or a round was given up, a batch was committed since it began
 abbrev pub GivenUp : Setup → (List ℕ → Type 0) → Type 0
 GivenUp S Lawful = EachStep S Lawful (λ B w i m n.
     announces_at m.place ≡ false → begins_at (take_word S m n).place ≡ true → IsOpen m.place
     → m.seq < last_batch B w)
 
--- What a call may have lost while `commits` batches were committed. Each commit loses it at most
--- one try and one round, so it has begun at most one try and one round more than there were
--- commits. A call that only reads has begun a round only after as many commits as a call may make
--- tries.
+-- Which tries and rounds a call may have lost while `commits` batches were committed. Each commit
+-- makes the call lose at most one try and one round. So the call has begun at most one try and one
+-- round more than there were commits. A call that only reads has begun a round only if there were
+-- as many commits as a call may make tries.
 pub record HasLost (S : Setup) (m : CallState) (commits : ℕ) : Type 0 where
   pub tries : m.tries ≤ commits + 1
   pub rounds : m.rounds ≤ commits + 1
   pub tried : S.meaning.reads_only m.op ≡ true → 1 ≤ m.rounds → MOST_TRIES ≤ commits
 
--- if a caller was idle at an earlier moment, its open call has lost tries and rounds only to the
--- commits since then. Without a commit, a read ends in its first try, and any other call in its
--- first round
+-- If a caller was idle at an earlier moment, its open call has lost tries and rounds only to the
+-- commits since that moment. So without a commit a read ends in its first try, and any other call
+-- in its first round.
 abbrev pub LostToCommits : Setup → (List ℕ → Type 0) → Type 0
 LostToCommits S Lawful =
     (B : TableStart) (w : Moment) → MeetsInvariant S Lawful B w → (es : List Event)

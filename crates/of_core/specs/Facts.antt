@@ -28,9 +28,9 @@ rests_on_seq_at m StoreAnnouncement = 0
 rests_on_seq_at m LoadCurrent = 0
 rests_on_seq_at m p = m.seq
 
--- what is true of the outcome of a call's last step, which machine m makes from place p: an answer
--- counts all steps of the call, and its sequence is at most m.seq; an unannounced answer comes from
--- a try. A spent call ends at the limit. No step ends a call as lost
+-- What holds if the machine m makes the last step of its call from place p. An answer counts all
+-- steps of the call, and its sequence is at most m.seq. An unannounced answer comes from a try. A
+-- spent call ends at the limit. No step ends a call as lost.
 abbrev pub LastStepTells : Setup → CallState → Place → Option Outcome → Type 0
 LastStepTells S m p None = ⊥
 LastStepTells S m p (Some (Answered s false raw steps)) =
@@ -50,7 +50,7 @@ CountsStepOrEnds S m p d false = (d.steps ≡ m.steps + 1) × (d.answer ≡ m.an
 abbrev pub CountsStep : Setup → CallState → Place → CallState → Type 0
 CountsStep S m p d = CountsStepOrEnds S m p d (is_idle d.place)
 
--- a step from the place p has found n, has led from the machine m to d, and has committed the
+-- the machine m has made a step from the place p, has found n, is d now, and has committed the
 -- batches `added`
 pub record IsStepAtPlace (S : Setup) (m : CallState) (n : ℕ) (p : Place) (d : CallState)
     (added : List Batch) : Type 0 where
@@ -104,8 +104,8 @@ TellsOutcome S m d (Answered s false raw steps) =
 TellsOutcome S m d (Spent s) = (s ≤ rests_on_seq m) × (s ≡ S.limit) × (step_reads m d ≡ [])
 TellsOutcome S m d (Lost s) = ⊥
 
--- a step of an open call, at a moment that meets the invariant, has found n, has led from the
--- machine m to d, and has committed the batches bs
+-- the machine m of an open call, at a moment that meets the invariant, has made a step: it has
+-- found n, is d now, and has committed the batches bs
 pub record IsStep (S : Setup) (B : TableStart) (w : Moment) (m : CallState) (n : ℕ) (d : CallState)
     (bs : List Batch) : Type 0 where
   -- caller, number and operation of the call stay

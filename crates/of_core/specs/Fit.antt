@@ -17,8 +17,8 @@ pub record IsScanning (S : Setup) (m : CallState) : Type 0 where
   pub few : length m.calls ≤ m.scan
   pub under : m.seq < S.limit
 
--- no call that the scan has run so far has written the ticket cell of the caller that it has come
--- to
+-- no call that the scan has run so far has written the ticket cell of the next caller, the one that
+-- the scan has come to
 abbrev pub LeavesTicket : Setup → CallState → Type 0
 LeavesTicket S m = value_for m.log (ticket_cell S m.scan) ≡ None
 

@@ -81,16 +81,17 @@ footprint S op longest most tries rounds =
     tries * try_steps longest most + (length op + 1)
     + (rounds * round_steps S longest most + apply_steps longest)
 
--- The open call of the machine m has made this many steps: fewer than what it touches allows, in at
--- most four tries and three rounds. A call that may write makes no try.
+-- The open call of the machine m has made this many steps. They are fewer than the bound for the
+-- logs and the cells that the call touches. The call has begun at most four tries and three rounds;
+-- a call that may write has begun no try.
 pub record HasFootprint (S : Setup) (longest most : ℕ) (m : CallState) (steps : ℕ) : Type 0 where
   pub within : steps < footprint S m.op longest most m.tries m.rounds
   pub tries : m.tries ≤ MOST_TRIES
   pub rounds : m.rounds ≤ 3
   pub untried : S.meaning.reads_only m.op ≡ false → m.tries ≡ 0
 
--- a call that has begun and stays open has made fewer steps than what it touches allows, so its
--- last step comes in time; the size of the memory does not matter
+-- a call that has begun and stays open has made fewer steps than the bound for the logs and the
+-- cells that it touches, whatever the size of the memory; so its last step comes in time
 abbrev pub ByFootprint : Setup → (List ℕ → Type 0) → Type 0
 ByFootprint S Lawful =
     (B : TableStart) (w : Moment) → MeetsInvariant S Lawful B w

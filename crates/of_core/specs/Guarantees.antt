@@ -34,7 +34,7 @@ pub record Guarantees (S : Setup) (B : TableStart) (i : ℕ) (ws : List ℕ) (bs
       ⊎ ((last_ticket_by S B cs k j ≡ seq_of (announcement_of S ws j))
       × (last_ticket_by S B bs (committed_seq ws) j < seq_of (announcement_of S ws j))
       × (committed_seq ws < S.limit))
-  -- a new batch records the announcements of the moment at which it was committed
+  -- a new batch records the announcements that were there when it was committed
   pub snapshot : (k j : ℕ) → committed_seq ws < k → k ≤ committed_seq vs → j < S.callers
       → (batch_at B cs k).announcements j ≡ announcement_of S ws j
   -- a script word or an announcement changes only if its caller is i, and the call that i announced

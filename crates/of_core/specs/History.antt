@@ -102,7 +102,8 @@ abbrev pub HasNoCallBetween : TableStart → List Batch → ℕ → ℕ → ℕ 
 HasNoCallBetween B bs i lo hi = (k : ℕ) → lo < k → k ≤ hi
     → All (λ (c : Call). c.caller ≡ i → ⊥) (batch_at B bs k).calls
 
--- the last call of caller i in the batches up to k, which the caller's own cells hold after batch k
+-- the last call of caller i in the batches up to k; after batch k the caller's own cells hold this
+-- call
 pub record IsNewestCall (S : Setup) (B : TableStart) (bs : List Batch) (k i : ℕ) : Type 0 where
   pub number : ℕ
   pub from : B.seq < number
@@ -114,8 +115,8 @@ pub record IsNewestCall (S : Setup) (B : TableStart) (bs : List Batch) (k i : �
   pub absent : HasNoCallBetween B bs i number k
   pub old : (a : ℕ) → IsCellOfCaller S i a → seq_of (data_word_after B bs k a) ≤ number
 
--- the own cells of caller i in state k hold its last call in the batches up to k; if there is none,
--- they are those of the start
+-- the own cells of caller i in state k hold the caller's last call in the batches up to k; if there
+-- is no such call, the cells are those of the start
 abbrev pub OwnCellsShowLast : Setup → TableStart → List Batch → ℕ → ℕ → Type 0
 OwnCellsShowLast S B bs k i =
     (HasNoCallBetween B bs i B.seq k

@@ -34,8 +34,8 @@ abbrev pub AreInAnswerOrder : List Read → Type 0
 AreInAnswerOrder rs =
     (j k : ℕ) → j < k → k < length rs → IsLaterRead (get_or rs j no_read) (get_or rs k no_read)
 
--- if the call c of batch k and the read r are of one caller, the one that was made first comes
--- first in the history, where a batch comes before the reads of its state
+-- If the call c of batch k and the read r are of one caller, the one that was made first comes
+-- first in the history. In the history a batch comes before the reads of its state.
 abbrev pub StandInCallOrder : ℕ → Call → Read → Type 0
 StandInCallOrder k c r = c.caller ≡ r.caller
     → ((c.ticket < r.ticket) × (k ≤ r.seq)) ⊎ ((r.ticket < c.ticket) × (r.seq < k))
@@ -75,8 +75,8 @@ WasMadeBefore m r false = r.ticket < m.made
 abbrev pub IsOlder : CallState → Place → Read → Type 0
 IsOlder m p r = WasMadeBefore m r (is_idle p)
 
--- the reads of the machine's caller are older than its open call. Nothing that the caller has made,
--- a read or a call in a batch, is newer than the state that its try reads
+-- The caller's reads were made before its open call. If the machine is in a try, no read of the
+-- caller, and no call of the caller in a batch, is newer than the state that the try reads.
 pub record HasOnlyOlderCalls (S : Setup) (B : TableStart) (ws : List ℕ) (bs : List Batch)
     (rs : List Read) (i : ℕ) (m : CallState) (p : Place) : Type 0 where
   pub older : All (λ (r : Read). r.caller ≡ i → IsOlder m p r) rs

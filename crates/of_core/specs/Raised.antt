@@ -10,8 +10,8 @@ use Rattle.of_core.specs.Invariant.{MeetsInvariant, IsLoaded}
 use Rattle.of_core.specs.Events.{Event, after_event, MayHappen, after_events, opening_moment, one_if, machine_in, IsSchedule, AllReplaceNone}
 use Rattle.of_core.specs.Laws.{EachSchedule}
 
--- a raise to v goes round again if the word x that it has loaded has become another word y that is
--- still below v
+-- whether a raise to v goes round again: the word was x when it was loaded, and has become another
+-- word y that is still below v
 abbrev pub goes_round : (x y v : ℕ) → Bool
 goes_round x y v = if x == y then false else nat_lt y v
 
@@ -28,7 +28,7 @@ lower_changes S w (e ∷ es) c v =
 abbrev pub is_pending : (x c v : ℕ) → ℕ × ℕ → Bool
 is_pending x c v e = (e.0 == c) && (nat_lt x e.1 && nat_lt e.1 v)
 
--- how many of these loaded words can change the durable word x of the cell c to one below v
+-- how many of these loaded words can still change the durable word x of the cell c to one below v
 abbrev pub pending_among : (x c v : ℕ) → List (ℕ × ℕ) → ℕ
 pending_among x c v [] = 0
 pending_among x c v (e ∷ es) = one_if (is_pending x c v e) + pending_among x c v es

@@ -37,7 +37,8 @@ pub record MayRevive (r : Remains) (i : ℕ) : Type 0 where
   -- the caller's request is durable
   pub durable : r.durable ≡ r.request
 
--- whether the announced call is newer than the call in the ticket cell, and so may not have run yet
+-- whether the announced call is newer than the call in the ticket cell; if it is, it may not have
+-- run yet
 abbrev pub announces_open_call : Remains → Bool
 announces_open_call r = nat_lt (payload_of r.ticket) (seq_of r.announcement)
 

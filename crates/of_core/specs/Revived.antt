@@ -57,8 +57,8 @@ RevivalsCountOn S Lawful = EachRevival S Lawful (λ B w i made.
     made ≡ m.made → committed_seq w.words < S.limit
     → CountsOn m (revived_machine S (remains_of S w.words i) i made))
 
--- a new machine is idle only if the announced call has run; and if no transaction is open, the call
--- that it goes on with has not run
+-- A new machine is idle only if the announced call has run. If no transaction is open, the call
+-- with which a new machine goes on has not run.
 abbrev pub RevivalsMissNoCall : Setup → (List ℕ → Type 0) → Type 0
 RevivalsMissNoCall S Lawful = EachRevival S Lawful (λ B w i made.
     let ticket : ℕ = seq_of (announcement_of S w.words i) in

@@ -19,7 +19,7 @@ pub record KnowsOwnRequest (B : TableStart) (ws : List ℕ) (bs : List Batch) (i
   pub low : v ≤ request_of ws i
   pub held : IsRequest B ws bs i v
 
--- each call of caller i with the ticket t in the batches has this operation
+-- all calls of caller i with the ticket t in the batches have this operation
 abbrev pub HasOneOperation : TableStart → List ℕ → List Batch → ℕ → ℕ → List ℕ → Type 0
 HasOneOperation B ws bs i t op =
     (k : ℕ) → B.seq < k → k ≤ committed_seq ws

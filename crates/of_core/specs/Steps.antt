@@ -106,12 +106,13 @@ after_read_run m (Gives es r) =
 abbrev pub read_on : Setup → CallState → CallState
 read_on S m = after_read_run m (S.meaning.walk m.known m.op)
 
--- a try begins its run, after the load of the owner's request or after the help
+-- the machine at the beginning of a try's run, after the load of the owner's request or after the
+-- help
 abbrev pub begin_reading : Setup → CallState → CallState
 begin_reading S m = read_on S (record m { known = no_cell_known S; helps = false })
 
--- a try that has met a newer cell is over: the next try begins if there may be `more` tries, and
--- otherwise the call is announced
+-- the machine after a try that has met a newer cell: it begins the next try if `more` is true, and
+-- otherwise it begins to announce the call
 abbrev pub end_try : CallState → (more : Bool) → CallState
 end_try m true = record m { place = TryCurrent }
 end_try m false = record m { place = StoreScript 0 }
@@ -137,8 +138,8 @@ abbrev pub first_round_seq : CallState → ℕ → (none_yet : Bool) → ℕ
 first_round_seq m s true = s
 first_round_seq m s false = m.first
 
--- after the load of the owner's request, or after the help, a round goes on with the load of the
--- caller's own ticket cell
+-- the machine in a round, after the load of the owner's request or after the help: it goes on with
+-- the load of the caller's own ticket cell
 abbrev pub enter : Setup → CallState → CallState
 enter S m = record m {
   place = LoadOwnTicket;
@@ -258,7 +259,8 @@ after_load_ticket S m found false =
 abbrev pub call_as_run : CallState → RawReply → Call
 call_as_run m r = record { caller = m.scan; ticket = seq_of m.heard; op = m.script; raw = r }
 
--- the reply of the machine's own call: a new one if the call that was just run is its own
+-- the reply of the machine's own call: if the call that was just run is its own, the reply of this
+-- run, and otherwise the reply that it had
 abbrev pub own_reply_or : (new old : RawReply) → (own : Bool) → RawReply
 own_reply_or new old true = new
 own_reply_or new old false = old
@@ -380,7 +382,7 @@ take_word_at S m found (RaiseTarget j f) = next_entry m j (nat_lt (j + 1) (lengt
 take_word_at S m found CloseRequest = record m { place = RaiseClosed }
 take_word_at S m found RaiseClosed = after_raise_closed S m m.helps (m.rounds == 0)
 
--- the machine with its step from this place counted, if a call is open
+-- the machine after its step from this place was counted; a step counts only if a call is open
 abbrev pub with_step_counted : Place → CallState → CallState
 with_step_counted Idle m = m
 with_step_counted p m = record m { steps = m.steps + 1 }

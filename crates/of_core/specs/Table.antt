@@ -104,7 +104,7 @@ first_operation_cell S = base_of S.callers S.instrs
 abbrev pub current_word : List ℕ → ℕ
 current_word ws = get_or ws 0 0
 
--- caller i's request, if the words of the table are ws
+-- the request of caller i, if the words of the table are ws
 abbrev pub request_of : List ℕ → ℕ → ℕ
 request_of ws i = get_or ws (request_at i) 0
 

@@ -14,8 +14,8 @@ use Rattle.of_core.specs.Laws.{EachSchedule}
 abbrev pub longest_log : Setup → (writes : ℕ) → ℕ
 longest_log S writes = S.callers * (writes + (S.instrs + 2))
 
--- the most data cells that one try or round loads: the caller's own ticket cell, and for each
--- caller the ticket cell and the cells that its operation reads
+-- The most data cells that one try or round loads: the caller's own ticket cell, and for each
+-- caller its ticket cell and the cells that its operation reads.
 abbrev pub most_loads : Setup → (reads : ℕ) → ℕ
 most_loads S reads = S.callers * (reads + 1) + 1
 

@@ -43,7 +43,7 @@ module _ (S : Setup) (B : TableStart) (ws : List ℕ) (bs : List Batch) (i : ℕ
     pub current_word : WasCurrent S B ws bs m.seq m.owner
     pub calm : HasNothingUnderWay S B ws bs i m.seq
 
-  -- m applies a transaction as a helper if the flag is set, and otherwise as the owner
+  -- the machine m applies a transaction: as a helper if the flag is set, and otherwise as the owner
   abbrev pub AppliesAs : CallState → Bool → Type 0
   AppliesAs m true = IsHelping m
   AppliesAs m false = OwnsTransaction m

@@ -16,7 +16,7 @@ abbrev pub turn_of_outcome : Option Outcome → Turn
 turn_of_outcome None = Open
 turn_of_outcome (Some o) = Ended o
 
--- what a turn answers if it found its machine at this place, and the machine is m after the turn
+-- what a turn answers, if the machine was at this place before the turn and is m after it
 abbrev pub turn_at : Place → CallState → Turn
 turn_at Idle m = NoCall
 turn_at p m = turn_of_outcome (ended_outcome m)

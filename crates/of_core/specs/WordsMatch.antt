@@ -55,7 +55,7 @@ pub record CountsBatches (S : Setup) (B : TableStart) (ws : List ℕ) (bs : List
   -- each batch's log is a possible one
   pub logs : (k : ℕ) → B.seq < k → k ≤ committed_seq ws → IsLog S (batch_at B bs k).log
 
--- the last transaction is open
+-- the last transaction is open: a batch was committed, and its owner's request is open
 pub record IsLastOpen (B : TableStart) (ws : List ℕ) : Type 0 where
   -- a batch was committed
   pub any : B.seq < committed_seq ws
@@ -71,8 +71,8 @@ pub record DataCellsMatchState (S : Setup) (B : TableStart) (ws : List ℕ) (bs 
       → (data_word S ws a ≡ data_word_after B bs (committed_seq ws) a)
       ⊎ (IsLastOpen B ws × (data_word S ws a ≡ data_word_after B bs (committed_seq ws - 1) a))
 
--- the requests of the batches' owners: each closes all of its owner's batches but the last batch of
--- the history, which it may still have open
+-- Which requests the batches' owners have. The request of an owner closes all batches of this
+-- owner; but if the last batch of the history is the owner's, the request may still have it open.
 pub record RequestsMatchBatches (S : Setup) (B : TableStart) (ws : List ℕ) (bs : List Batch)
     : Type 0 where
   -- if there is a later batch, the request of a batch's owner closes the batch
@@ -163,9 +163,9 @@ pub record StatesFollowBatches (S : Setup) (Lawful : List ℕ → Type 0) (B : T
   -- each batch has at least one call
   pub some : (k : ℕ) → B.seq < k → k ≤ B.seq + length bs → 0 < length (batch_at B bs k).calls
 
--- an announcement is of at least one word and at most as many as an operation may have, a caller's
--- announced tickets rise, and a call that was already announced when a batch was committed is run
--- by the next batch at the latest
+-- An announcement is of at least one word, and of at most as many as an operation may have. A
+-- caller's announced tickets rise. A call that was already announced when a batch was committed is
+-- run by the next batch at the latest.
 pub record AnnouncementsAreServed (S : Setup) (B : TableStart) (ws : List ℕ) (bs : List Batch)
     : Type 0 where
   -- an announcement is of at most as many words as an operation may have
@@ -208,7 +208,7 @@ IsLogWord B ws bs j x w =
     → (x < length (log_words (batch_at B bs (seq_of w)).log))
     × (payload_of w ≡ get_or (log_words (batch_at B bs (seq_of w)).log) x 0)
 
--- requests and log words, on the table and durable, have the form that they must have
+-- requests and log words have the form that they must have; so have their durable words
 pub record WordsHaveTheirKind (S : Setup) (B : TableStart) (ws : List ℕ) (bs : List Batch)
     : Type 0 where
   -- each request that is newer than the start opens a transaction or closes one of its caller's

@@ -39,8 +39,8 @@ learn p a v = record p { known = set p.known a (Some v) }
 unfoldable pub write : Part → ℕ → ℕ → Part
 write p a v = record p { script = put_pair p.script a v }
 
--- a read of cell a answered the cell's newest number, or its error names the cell, of which no
--- number is known
+-- a read of cell a answered the cell's newest number; or its error names the cell, and no number of
+-- the cell is known
 abbrev pub ReadsAt : Part → ℕ → Result ℕ Need → Type 0
 ReadsAt p a result =
     MatchResult result (λ v. newest_at p a ≡ Some v)

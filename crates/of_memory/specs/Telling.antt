@@ -89,18 +89,18 @@ TellsMemory h m = generic.TellsMemory scripts_meaning h.cells m.cells
 
 -- ---- the whole
 
--- in some history that leads from the store to what is saved, the calls ms of handle a come before
--- each call of handle b's number that is later than b's calls ks
+-- some history leads from the store to what is saved; in it the calls ms of handle a come before
+-- each call of handle b's number that comes after b's calls ks
 abbrev pub ComeFirst : Memory → Store → Saved → (a b : Handle) → (ms ks : List Made) → Type 0
 ComeFirst m s d a b ms ks =
     (h : List HistoryEntry) × LeadsTo m s d h
     × ComeInOrder h (number_of_handle a) (tickets_before m (number_of_handle a) + length ms)
     (number_of_handle b) (tickets_before m (number_of_handle b) + length ks)
 
--- Handle a has made the calls ms and tells of them. Handle b has made the calls ks and hears the
--- news. Its next call leaves it as c. Later, as e, it leaves the memory m with all that c knew, and
--- what is saved at the close is d. Then each call among ms comes, in the history, before that next
--- call of b and before each later call of b's number.
+-- If handle b hears the news of handle a, each of the calls ms that a had made comes in the history
+-- before b's next call and before each later call of b's number. Here ks are the calls that b had
+-- made, c is handle b after its next call, and e is the same handle when it leaves. The memory m
+-- then knows all that c knew, and d is what is saved at the close.
 abbrev pub ToldCallsComeFirst : Type 0
 ToldCallsComeFirst =
     (m : Memory) (d : Saved) (a b c e : Handle) (news : News) (result : Result Answer RunError)
@@ -110,11 +110,12 @@ ToldCallsComeFirst =
     → KeepsKnown c e → LeavesOrder e m → HasHistory m d
     → (s : Store) → StartsWith m s → ComeFirst m s d a b ms ks
 
--- Handle a has made the calls ms and leaves its memory, which is k then. The memory forgets nothing
--- until it is l. Now handle b comes, whose number has made the calls ks. Its next call leaves it as
--- c. Later, as e, it leaves the memory m with all that c knew, and what is saved at the close is d.
--- Then each call among ms comes, in the history, before that next call of b and before each later
--- call of b's number, whatever the two numbers are.
+-- If handle a leaves the memory before handle b comes, each of the calls ms that a had made comes
+-- in the history before b's next call and before each later call of b's number, whatever the two
+-- numbers are. Here k is the memory after a has left, and l the memory when b comes; from k to l
+-- nothing is forgotten. ks are the calls that b's number had made, c is handle b after its next
+-- call, and e is the same handle when it leaves. The memory m then knows all that c knew, and d is
+-- what is saved at the close.
 abbrev pub CallsComeInTurn : Type 0
 CallsComeInTurn =
     (k l m : Memory) (d : Saved) (a b c e : Handle) (result : Result Answer RunError)

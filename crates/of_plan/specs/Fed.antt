@@ -90,8 +90,9 @@ IsSecondNumberFault p form reason words =
     × (slot_and_rest (line_second_most form) words ≡ Some (second, others))
     × (second_fault p form second ≡ Some reason))
 
--- if no fault is found, the line was skipped, or it was read and leads from the reading `old` to
--- `new`; otherwise the line may not come next, and the piece found is at fault for a true reason
+-- If no fault is found, the line was skipped, or it was read and the reading after it is `new`. If
+-- a fault is found, the line may not come next after the reading `old`, and the piece found is at
+-- fault for a true reason.
 abbrev pub HasFed : (line : List ℕ) → (old new : RustReading) → Option Bad → Type 0
 HasFed line old new found =
     MatchOption found

@@ -30,7 +30,7 @@ IsLineInRange End = Unit {0}
 abbrev pub plan_language : Language
 plan_language = record { Line = PlanLine; words_of = line_words; InRange = IsLineInRange }
 
--- the line of a plan as contracts see it, for a line without a script as the code has it
+-- the line of a plan in the form that contracts see, for a line without a script as the code has it
 abbrev pub line_of_scriptless : ScriptlessLine → PlanLine
 line_of_scriptless ScriptlessTitle = Title
 line_of_scriptless (ScriptlessCallers n) = Callers n

@@ -5,7 +5,7 @@ use Rattle.of_plan.specs.Lines.{text_lines}
 use Rattle.of_plan.specs.Above.{line_at}
 use Rattle.of_plan.specs.ReasonText.{reason_text}
 
--- the byte as it is shown: a question mark for one that has no sign of its own
+-- the byte that is shown for this byte: a question mark if the byte has no sign of its own
 abbrev pub sign : ℕ → ℕ
 sign b = if nat_lt b 32 then 63 else if nat_lt 126 b then 63 else b
 

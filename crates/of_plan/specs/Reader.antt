@@ -28,8 +28,8 @@ pub record SpellsLine (L : Language) (ws : List (List ℕ)) (l : L.Line) : Type 
   pub words : ws ≡ L.words_of l
   pub range : L.InRange l
 
--- either the words are a skipped line, and the reading stays as it was; or they are a line of the
--- language, and lead the reading from `p` to `q`
+-- either the words are a skipped line, and the reading `p` stays as it was; or they are a line of
+-- the language, and the reading after it is `q`
 abbrev pub ReadsLine : (L : Language) (R : Reader L) → List (List ℕ) → R.Progress → R.Progress
     → Type 0
 ReadsLine L R ws p q =

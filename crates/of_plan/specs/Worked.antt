@@ -64,7 +64,7 @@ legal_report = worked_report adds_one loads_six both_done 1 holds_six
 abbrev pub script_twice : Report
 script_twice = worked_report (worked_entry 1 1 0 true (Some 6)) loads_six both_done 1 holds_six
 
--- no legal report: a line counts one entry more than there are
+-- no legal report: a caller's line counts one entry more than the report has
 abbrev pub entry_too_many : Report
 entry_too_many = worked_report adds_one loads_six (record both_done { entries = 3 }) 1 holds_six
 

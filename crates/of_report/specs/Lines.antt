@@ -1,16 +1,16 @@
--- How a caller ended, as contracts see it.
+-- How a caller ended, in the form that contracts see.
 use Rattle.std.specs.Prelude.{◌≡◌, refl}
 use Rattle.of_plan.specs.Report.{EndState as End, done, stopped, spent}
 use Rattle.of_report.specs.declared.report.EndState.{EndState}
 use Rattle.of_report.specs.declared.report.EndState.TheVariants.{Done, Stopped, Spent}
 
--- how a caller ended: the code's value as contracts see it
+-- how a caller ended, in the form that contracts see, for the value that the code has
 abbrev pub end_state_value : EndState → End
 end_state_value Done = done
 end_state_value Stopped = stopped
 end_state_value Spent = spent
 
--- how a caller ended: the code's value for that of contracts
+-- how a caller ended, in the form that the code has, for the value that contracts see
 abbrev pub end_state_for : End → EndState
 end_state_for done = Done
 end_state_for stopped = Stopped

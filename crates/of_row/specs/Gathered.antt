@@ -30,15 +30,15 @@ abbrev pub HasLongerPast : (before now : View) → Type 0
 HasLongerPast v w = IsPrefix v.past w.past × (w ≡ record v { past = w.past })
 
 -- The view's past has all calls and turns of the callers that the view keeps, and all evictions
--- that the view has made. In the words that the past leaves, each eviction has raised its cell's
--- durable word.
+-- that the view has made. In the words to which this past leads, each eviction has raised its
+-- cell's durable word.
 pub record HasWholePast (S : Setup) (B : TableStart) (v : View) : Type 0 where
   pub runs : Each (IsRunBy S B v.past) v.kept
   pub evicts : v.evicted ≡ (moment S B v.past).loaded
   pub raised : Each (IsRaised S (moment S B v.past).words) v.evicted
 
 -- The view v has learnt of all events of the row, and is w now. The row's words meet the rule with
--- v; but for the members word, they are those that the past of w leaves.
+-- v. Apart from the members word, the words are those that the events in the past of w leave.
 pub record LearnsAll (S : Setup) (Lawful : List ℕ → Type 0) (B : TableStart) (v w : View)
     : Type 0 where
   pub learnt : HasLongerPast v w

@@ -8,7 +8,7 @@ use Rattle.of_core.specs.Written.{OwnersTakePart}
 use Rattle.of_core.specs.Grounds.{GoodGrounds}
 use Rattle.of_core.specs.Touched.{ByTouch}
 
--- laws of histories by themselves: how batches are numbered, and what a longer history keeps
+-- laws of histories: how batches are numbered, and what stays the same if a history gets longer
 pub record HistoryLaws : Type 0 where
   pub next : NextBatchIsNumberedNext
   pub batches : LongerKeepsBatches
