@@ -178,8 +178,8 @@ impl<W: Work> Machine<W> {
         };
     }
 
-    /// Forgets all of the calls before but their number, so that the next call begins as on a fresh
-    /// machine.
+    /// Forgets the earlier calls, and keeps only their number, so that the next call begins as on a
+    /// fresh machine.
     fn forget(&mut self)
         ensures { self.new ≡ machine_after W.meaning fresh_call self.old }
     {

@@ -64,8 +64,8 @@ fn read_store(alloc: Global, plot: &Plot, cells: &[u32]) -> Result<Store, LawErr
 }
 
 /// The store for which the data cells stand; the callers' own cells must be sound too. An error
-/// `Unlawful` names the first cell at fault, and the cells stand for no store. They are looked at
-/// in this order: the callers' own cells, registers, the free list, buckets, queues.
+/// `Unlawful` says that the cells stand for no store, and names the first cell at fault. The cells
+/// are looked at in this order: the callers' own cells, registers, the free list, buckets, queues.
 pub fn lawful(alloc: Global, plot: &Plot, cells: &[u32]) -> Result<Store, LawErr>
     requires { length cells.now ≡ data_cell_count plot.now }
     // What is answered is what the cells stand for.

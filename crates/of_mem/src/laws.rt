@@ -27,8 +27,8 @@ pub fn buckets_follow_blocks(blocks: u32)
     ensures odd { 512 < blocks → bucket_count blocks % 2 ≡ 1 }
 {}
 
-/// The greatest number of blocks, and that every plot has at most as many data cells as a table may
-/// have.
+/// The greatest number of blocks as a plain number. And no plot has more data cells than a table
+/// may have.
 pub fn numbers(plot: Plot)
     ensures blocks { MOST_BLOCKS ≡ 16777216 }
     ensures cells { data_cell_count plot ≤ MOST_DATA_CELLS }

@@ -41,7 +41,8 @@ pub fn worked_reports()
     ensures within_bound { IsLegal two_callers (empty_start two_callers) step_too_many → ⊥ }
 {}
 
-/// The greatest limit and stop, and how many callers, blocks, scripts and turns a plan has at most.
+/// The limits of plans as plain numbers: the greatest limit and stop, and the most callers, blocks,
+/// scripts and turns that a plan has.
 pub fn numbers()
     ensures callers { MOST_PLAN_CALLERS ≡ 16 }
     ensures blocks { MOST_PLAN_BLOCKS ≡ 512 }

@@ -14,8 +14,8 @@ use of_store::Store;
 use std::alloc::{AllocError, Global};
 use std::marker::Model;
 
-/// What recovery finds in the durable words of a table. Calls that take an image require that it is
-/// one that a text can have: `IsImage MOST_INSTRS`.
+/// What recovery finds in the durable words of a table. Calls that take an image require that the
+/// image can be the image of a text: `IsImage MOST_INSTRS`.
 #[derive(Drop)]
 pub struct Image {
     /// How many callers the table has: 1 to `of_plan::MOST_PLAN_CALLERS`, if the image is a text's.
