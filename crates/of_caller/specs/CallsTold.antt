@@ -58,8 +58,9 @@ pub record HasEndedWith (S : Setup) (Lawful : List ℕ → Type 0) (B : TableSta
   -- its ticket
   pub last : IsLastStep S Lawful d o
 
--- the open call of the machine m is still open after n more steps, and has a step left; the machine
--- is d now, and y is kept of its caller
+-- After n more steps the open call of the machine m is still open, and has made fewer steps than
+-- the bound. The machine is d now. What is kept of the caller was x and is y now, with the same
+-- ended calls.
 pub record IsStillOpen (S : Setup) (m : CallState) (x : KnownCaller) (n : ℕ) (d : CallState)
     (y : KnownCaller) : Type 0 where
   pub open_call : IsOpen d.place

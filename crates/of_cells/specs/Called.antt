@@ -18,7 +18,7 @@ use Rattle.of_cells.specs.History.{IsMeant}
 use Rattle.of_cells.specs.Times.{calls_begun_in}
 use Rattle.of_cells.specs.Serving.{HasStartedIfOpen, cells_at_start, ended_of, events_known_to}
 
--- the outcome with the same sequence, flag, reply and steps as the answer
+-- the outcome that says the same as the answer: sequence, announced or not, reply and steps
 abbrev pub outcome_of : RawAnswer → Outcome
 outcome_of a = Answered a.seq a.announced a.raw a.steps
 

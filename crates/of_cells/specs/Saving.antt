@@ -139,10 +139,11 @@ RespectsEvents S B es h =
     (n x k y : ℕ) → EndBefore S B es n x k y
     → ComeInOrder h n (done_before S B n + x) k (done_before S B k + y)
 
--- A serial history leads from the numbers of data cells `before` to those `now`. Each call is in it
--- at most once, with a ticket above the number of calls that its caller had made, and the calls of
--- a caller are in the order in which it made them. The history is ordered by sequence. The cells
--- show the last call of each caller; later calls of the caller only read.
+-- A serial history leads from data cells with the numbers `before` to data cells with the numbers
+-- `now`. Each call is in it at most once, with a ticket above the number of calls that its caller
+-- had made. The calls of each caller are in the order in which the caller made them. The history is
+-- ordered by sequence. The cells show the last call of each caller; later calls of the caller only
+-- read.
 pub record HistoryLeads (M : Meaning) (caller_count : ℕ) (made : ℕ → ℕ) (before now : List ℕ)
     (h : List Call) (q : Sequences) : Type 0 where
   pub serial : IsSerial M before h

@@ -11,11 +11,11 @@ use Rattle.of_core.specs.Machine.{Call}
 use Rattle.of_core.specs.MachineValue.{Machine, machine_setup}
 use Rattle.of_core.specs.Fit.{FitsSizes, HasRoomInParts}
 
--- what contracts see of a call that a scan has run
+-- a call that a scan has run, as contracts see it
 abbrev pub call_value : RustCall → Call
 call_value c = record { caller = c.caller; ticket = c.ticket; op = take c.words c.op; raw = c.raw }
 
--- what contracts see of a machine: its work, its sizes, its limit and the state of its call
+-- a machine as contracts see it: its work, its sizes, its limit and the state of its call
 abbrev pub machine_value : {W : Type 0} → Inside W → Machine W
 machine_value m = record {
   work = m.work;
@@ -47,8 +47,8 @@ machine_value m = record {
   };
 }
 
--- what a machine keeps of its fields: its sizes fit its work, its next step is a step on the table,
--- and its lists have the room that it needs
+-- What every machine keeps: its sizes fit its work, its next step is a step on the table, and its
+-- lists have the room that it needs.
 pub record IsFit {W : Type 0} (many size : W → ℕ) (meaning : W → Meaning) (m : Inside W)
     : Type 0 where
   pub instrs : m.shape.instrs ≡ MOST_INSTRS

@@ -9,7 +9,7 @@ use Rattle.of_core.specs.Table.{Setup, setup_of}
 use Rattle.of_core.specs.Machine.{CallState}
 use Rattle.of_core.specs.Steps.{want_at, take_word_at}
 
--- what contracts see of a machine
+-- a machine as contracts see it
 pub record Machine (X : Type 0) : Type 0 where
   -- what runs operations
   pub work : X

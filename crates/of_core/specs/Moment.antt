@@ -10,7 +10,7 @@ use Rattle.of_core.specs.WordsMatch.{MayStart}
 use Rattle.of_core.specs.Events.{Event, after_events, IsSchedule, opening_moment}
 use Rattle.of_core.specs.MachineValue.{Machine}
 
--- what contracts see of a bank
+-- a bank as contracts see it
 pub record Bank (X : Type 0) : Type 0 where
   -- what runs operations
   pub work : X

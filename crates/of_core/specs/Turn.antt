@@ -21,7 +21,7 @@ abbrev pub turn_at : Place → CallState → Turn
 turn_at Idle m = NoCall
 turn_at p m = turn_of_outcome (ended_outcome m)
 
--- what a turn answers if its machine is `before` before the turn and `now` after it
+-- what a turn answers, if it leads from the machine `before` to the machine `now`
 abbrev pub turn_of : (before now : CallState) → Turn
 turn_of before now = turn_at before.place now
 

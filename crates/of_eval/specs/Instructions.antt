@@ -34,8 +34,8 @@ use Rattle.of_eval.specs.Stored.{cell_store, IsStored}
 use Rattle.of_eval.specs.ScriptPrograms.{InstrResult, abort_program, ordered_program, answer_program, answers_number, put_answers, answers_if, need_answers, add_to, add_unless, sub_from, sub_unless, instr_program}
 use Rattle.of_eval.specs.Registers.{register_stands}
 
--- The instruction's answer r and the memory n after it are those of this effect on the store. After
--- an abort only the cause counts, and n may be anything.
+-- the instruction has answered r and left the memory n, and this is what the effect on the store
+-- says; after an abort only the cause counts, and n may be anything
 abbrev pub GivesEffect : ℕ → ℕ → InstrEffect → InstrResult → (ℕ → ℕ) → Type 0
 GivesEffect o blocks (Ok e) r n = (r ≡ Ok e.1) × StandsForStore o blocks n (cell_store e.0)
 GivesEffect o blocks (Err cause) r n = r ≡ Err cause

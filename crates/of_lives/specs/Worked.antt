@@ -74,7 +74,7 @@ replies_to c = map (λ e. e.reply) (own_in both_lives c)
 abbrev pub done_in_both : List ℕ
 done_in_both = (start_behind_all worked_start both_lives).finished
 
--- the reply to a script of one instruction, which answers a number or none
+-- the reply to a script of one instruction, if the instruction has answered this number or none
 abbrev pub one_number_reply : Option ℕ → Reply
 one_number_reply v = Answered (v ∷ [])
 

@@ -22,8 +22,8 @@ IsScriptOperation op = (script : List Instr) × IsScript script × (op ≡ map i
 abbrev pub HoldsResponse : RawReply → Reply → Type 0
 HoldsResponse raw response = (r : RustReply) × IsHeldBy raw r × (reply_value_of r ≡ response)
 
--- the outcome and the end say the same of a call: its reply, its sequence, its steps and whether it
--- was announced, or that it was spent
+-- the outcome of a call and its end say the same: the call has this reply, this sequence, these
+-- steps, and was announced or not; or it was spent
 abbrev pub EndsAs : Outcome → End → Type 0
 EndsAs (Answered s announced raw steps) (Replied r t n a) =
     HoldsResponse raw r × (s ≡ t) × (steps ≡ n) × (announced ≡ a)

@@ -17,8 +17,9 @@ pub record HasFewerKeys (low : ℕ) (first s : CellStore) (gone : ℕ) : Type 0 
   pub others : s ≡ record first { map = s.map }
   pub count : fin.len s.map + gone ≡ fin.len first.map
 
--- The buckets before bucket i have no key below `low` any more. Except for the cell that counts the
--- keys, the cells stand for a store; that cell has the count from before the dropping.
+-- The buckets before bucket i have no key below `low` any more. The cells stand for the store
+-- without the dropped keys, except that the cell that counts the keys still has the count from
+-- before the dropping.
 pub record IsBetweenBuckets (o blocks low i : ℕ) (first : CellStore) (m : ℕ → ℕ) (gone : ℕ)
     : Type 0 where
   pub store : CellStore

@@ -19,7 +19,7 @@ answers_of e c = slice_index_or e.answers c []
 abbrev pub ending_of : Ended → ℕ → Ending
 ending_of e c = slice_index_or e.endings c Done
 
--- the most steps of an answer, 0 if there is none
+-- the greatest number of steps that one of these answers names; 0 if there is no answer
 abbrev pub longest_steps : List Answer → ℕ
 longest_steps [] = 0
 longest_steps (answer ∷ others) = max answer.steps (longest_steps others)

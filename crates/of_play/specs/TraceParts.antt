@@ -51,7 +51,7 @@ did_part (Raise c v) found = raise_part (nat_lt v found) v
 
 -- ---- what the word that was left means
 
--- what is printed of a script word: its instruction, if the word is one
+-- what is printed of a script word: the instruction for which the word stands, if there is one
 abbrev pub instr_part : Option Instr → List ℕ
 instr_part None = []
 instr_part (Some i) = codes "; " ++ instr_text i

@@ -52,7 +52,8 @@ pub record LearnsAll (S : Setup) (Lawful : List ℕ → Type 0) (B : TableStart)
 abbrev pub IsWordOfPast : Setup → TableStart → View → (c word : ℕ) → Type 0
 IsWordOfPast S B v c word = word ≡ get_or (moment S B v.past).words c 0
 
--- if a row is given by its key: the view v has learnt of all events of this row, and is w now
+-- the same for a row that is given by its key: the view v has learnt of all events of this row, and
+-- is now the view w
 abbrev pub LearnsAllOf : {W : Type 0} → (W → Meaning) → (W → List ℕ → Type 0) → Option (RowKey W)
     → View → View → Type 0
 LearnsAllOf meaning lawful None v w = Unit {0}

@@ -81,7 +81,7 @@ words_of_past meaning r v = (moment (setup_at meaning r) (row_start meaning r) v
 abbrev pub KnowsAllDone : {W : Type 0} → (W → Meaning) → Row W → View → Type 0
 KnowsAllDone meaning r v = HasWholePast (setup_at meaning r) (row_start meaning r) v
 
--- the view v has learnt of all events of the row, and is w now
+-- the view v has learnt of all events of the row, and is now the view w
 abbrev pub LearnsAllAt : {W : Type 0} → (W → Meaning) → (W → List ℕ → Type 0) → Row W → View → View
     → Type 0
 LearnsAllAt meaning lawful r v w =
