@@ -47,8 +47,8 @@ pub record IsOtherIn (kind : List ℕ) (before : ℕ) (found wanted : List ℕ) 
 abbrev pub HasMorePieces : List ℕ → Type 0
 HasMorePieces line = 1 < length (line_pieces line)
 
--- What is true of a line that was found in place of the wanted line, if this reason was given;
--- `Spelling` says nothing. The reply of an entry is its sixth piece and those after it.
+-- What a reason says of a line that was found in place of the wanted line. `Spelling` says nothing
+-- of its own (`IsTrueOfLine`). The reply of an entry is its sixth piece and those after it.
 abbrev pub SaysOfLine : LineRule → (found wanted : List ℕ) → Type 0
 SaysOfLine AfterEnd found wanted = wanted ≡ []
 SaysOfLine Store found wanted =

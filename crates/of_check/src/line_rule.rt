@@ -8,7 +8,7 @@ use of_script::text::cut;
 /// What is wrong with a line that is not the wanted one.
 #[derive(Clone, Copy, Debug, PartialEq, Eq)]
 pub(crate) enum LineRule {
-    /// The text has ended.
+    /// The line comes after the end of the wanted text.
     AfterEnd,
     /// The line found or the wanted line is one of the store, and the two lines differ.
     Store,
@@ -20,7 +20,8 @@ pub(crate) enum LineRule {
     Entries,
     /// The line has another sequence.
     Sequence,
-    /// The line is of a caller that the plan doesn't have.
+    /// The line is that of a caller, but the wanted line is that of the sequence: the text has a
+    /// caller too many.
     TooMany,
     /// The line isn't spelled as a report prints it.
     Spelling,

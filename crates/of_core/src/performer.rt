@@ -9,8 +9,9 @@ ghost use Rattle.of_core.specs.Steps.{word_of, words_after};
 
 use crate::place::Op;
 
-/// A way to perform the steps that a machine names, such as on the words of a bank.
-/// `Machine::perform`, which has the step of each place, is written once for all performers.
+/// A way to perform the steps that a machine names, such as on the words of a bank. The function
+/// `Machine::perform` has a form of the step of each place, and is written only once for all
+/// performers.
 pub trait Performer {
     /// What the performer gives for a step, such as the word that the step found.
     type Given;

@@ -32,8 +32,9 @@ pub fn words_hold_history(work: Scripts, limit: u32)
     cells::rows_hold_history(work, limit);
 }
 
-/// At any moment, one serial history leads to what recovery finds in the durable words of a memory,
-/// and it has each call that was answered. A memory may go on from what is found.
+/// At any moment, recovery of a memory's durable words finds the store to which one serial history
+/// leads. This history has each call that was answered. A memory may go on from what recovery
+/// finds.
 pub fn memory_words_hold_history(memory: &Memory)
     requires { IsMemory memory.now }
     ensures { HoldsWordsAlways memory.now }
