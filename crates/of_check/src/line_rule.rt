@@ -20,8 +20,8 @@ pub(crate) enum LineRule {
     Entries,
     /// The line has another sequence.
     Sequence,
-    /// The line is that of a caller, but the wanted line is that of the sequence: the text has a
-    /// caller too many.
+    /// The line is that of a caller, but the wanted line is that of the sequence: the text has one
+    /// line of a caller too many.
     TooMany,
     /// The line isn't spelled as a report prints it.
     Spelling,
