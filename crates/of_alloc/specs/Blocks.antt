@@ -66,15 +66,16 @@ pub record HasOut (plot : Plot) (p : Part) (b : ℕ) : Type 0 where
   pub list : IsFreeList (base plot) plot.blocks memory free
   pub out : IsOut (base plot) memory free b
 
--- A block was taken from the free list of the memory m, or none. The memory afterwards is m with
+-- Block r was taken, or none, in the memory m with this free list. The memory afterwards is m with
 -- the script's writes.
 pub record TakesFromList (plot : Plot) (m : ℕ → ℕ) (free : List ℕ) (r : Option ℕ) (after : Part)
     : Type 0 where
   pub part : IsPartOf after (with_writes m after.script)
   pub takes : TakesBlock (base plot) plot.blocks m free r (with_writes m after.script)
 
--- If the call answered, it took a block or none as it should, for every memory that agrees with
--- `before` and every free list of this memory. If it took none, it changed nothing.
+-- If the call answered, it took a block, or none, as `TakesFromList` says, for every memory that
+-- agrees with `before` and every free list of this memory. If the call took no block, it changed
+-- nothing.
 pub record TakesFromMemory (plot : Plot) (before after : Part) (result : Result (Option ℕ) Need)
     : Type 0 where
   pub takes : IfOk result (λ r. (m : ℕ → ℕ) (free : List ℕ)
@@ -82,7 +83,7 @@ pub record TakesFromMemory (plot : Plot) (before after : Part) (result : Result 
       → TakesFromList plot m free r after)
   pub none : IfOk result (λ r. r ≡ None → after ≡ before)
 
--- Block b was given back to the free list of the memory m. The memory afterwards is m with the
+-- Block b was given back in the memory m with this free list. The memory afterwards is m with the
 -- script's writes.
 pub record GivesToList (plot : Plot) (m : ℕ → ℕ) (free : List ℕ) (b : ℕ) (after : Part)
     : Type 0 where

@@ -10,8 +10,8 @@ saturating_next n = min (n + 1) (2 ^ 64 - 1)
 abbrev pub HasRisen : (before now : ℕ) → Type 0
 HasRisen before now = saturating_next before ≤ now
 
--- After a brake was armed with `stop`, the steps left are `stop`, if the brake reports its steps
--- left; otherwise it reports none before and after.
+-- after a brake was armed with `stop`, it has `stop` steps left, if it reports its steps left;
+-- otherwise it reports none before and after
 abbrev pub IsArmedWith : (before : Option (Option ℕ)) → (stop : Option ℕ)
     → (after : Option (Option ℕ)) → Type 0
 IsArmedWith None stop after = after ≡ None

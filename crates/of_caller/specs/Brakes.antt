@@ -11,7 +11,7 @@ IsStop (Ok o) = ⊥
 IsStop (Err (Stopped asked)) = Unit {0}
 IsStop (Err (Spent seq)) = ⊥
 
--- n of the steps left were used up; if the steps left had no limit, they still have none
+-- n of the steps left were used up; if there was no limit, there still is none
 abbrev pub TakesStepsFrom : (before after : Option ℕ) → (n : ℕ) → Type 0
 TakesStepsFrom None after n = after ≡ None
 TakesStepsFrom (Some left) after n = (rest : ℕ) × (left ≡ n + rest) × (after ≡ Some rest)

@@ -10,11 +10,11 @@ use Rattle.of_core.specs.Machine.{Call}
 use Rattle.of_core.specs.TableMoment.{Moment, TableStart}
 use Rattle.of_core.specs.History.{batch_at}
 
--- the script of a caller's call with this ticket
+-- the script that a caller's call with this ticket runs
 abbrev pub script_of_ticket : Plan → (caller ticket : ℕ) → List Instr
 script_of_ticket p c t = slice_index_or (scripts_of p c) (t - 1) []
 
--- the script of this call
+-- the script that this call runs
 abbrev pub call_script : Plan → Call → List Instr
 call_script p c = script_of_ticket p c.caller c.ticket
 

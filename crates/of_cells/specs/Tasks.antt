@@ -148,8 +148,8 @@ pub record IsHandedOut {W J : Type 0} (meaning : W → Meaning) (m : CellMemory 
   pub was : WasIn m p.0
   pub heard : HearsMemory meaning m p.0
 
--- handles were handed out for the last tasks of xs, each in a pair with its task; the tasks `left`
--- are the first ones of xs, for which no handle was handed out
+-- Handles were handed out for the last tasks of xs, and each is in a pair with its task. The tasks
+-- `left` are the first tasks of xs, for which no handle was handed out.
 pub record HasHandedOut {W J : Type 0} (meaning : W → Meaning) (m k : CellMemory W)
     (xs left : List J) (ss : List (Slot W J)) : Type 0 where
   pub count : length left + length ss ≡ length xs
@@ -167,7 +167,7 @@ pub record MayLeave {W J : Type 0} (meaning : W → Meaning) (m : CellMemory W) 
   pub handle : IsCellHandle meaning p.0
   pub from : IsFrom m p.0
 
--- the handle of each pair in the slots may leave, and the tasks of these pairs then come after the
+-- the handle of each pair in the slots may leave; then the tasks of these pairs come after the
 -- first `first` tasks
 abbrev pub MayAllLeave : {W J : Type 0} → (W → Meaning) → CellMemory W → (first : ℕ)
     → List (Slot W J) → Type 0
@@ -183,9 +183,9 @@ pub record HasLeft {W J : Type 0} (meaning : W → Meaning) (k : CellMemory W) (
   pub known : IsBackIn k p.0
   pub told : TellsMemory meaning p.0 k
 
--- The handle of each pair in ss from place `from` on has left, and its task is in zs at the place
--- that is the handle's number. zs begins with the tasks xs. The callers of the numbers below
--- `length xs`, and from `length xs + length ss` on, are in the memory as before.
+-- For each pair in ss from place `from` on: the pair's handle has left, and its task is in zs at
+-- the place that is the handle's number. The list zs begins with the tasks xs. The callers of the
+-- numbers below `length xs`, and from `length xs + length ss` on, are in the memory as before.
 pub record HasTakenBack {W J : Type 0} (meaning : W → Meaning) (m k : CellMemory W) (xs zs : List J)
     (from : ℕ) (ss : List (Slot W J)) : Type 0 where
   pub count : length zs + from ≡ length xs + length ss

@@ -12,16 +12,16 @@ use Rattle.of_caller.specs.Teams.{IsHandedBack}
 use Rattle.of_lives.specs.Lives.{start_behind}
 use Rattle.of_lives.specs.Restarts.{start_from_row}
 
--- a team has run the plan over a table that starts at `B`, and has handed back the run `e` and a
--- pass with the view `w`; `r` is the report of the run's lawful record
+-- A team has run the plan over a table that starts at `B`. It has handed back the run `e`, and a
+-- pass with the view `w`. `r` is the report of the run's lawful record.
 pub record IsReportOfTeam (p : Plan) (s : Start) (B : TableStart) (e : Ended) (w : View)
     (r : Report)
     : Type 0 where
   pub handed : IsHandedBack p s B e w
   pub report : handed.report ≡ r
 
--- a life that goes on from the image leaves the run `e`, the view `w` and the report `r`: a team
--- has run the plan over a table that starts from the image's row
+-- A life that goes on from the image leaves the run `e`, the view `w` and the report `r`: a team
+-- has run the plan over a table that starts from the image's row, and has left these.
 abbrev pub IsLifeOf : Image → Plan → Ended → View → Report → Type 0
 IsLifeOf i p e w r = IsReportOfTeam p (start_of_image i) (start_from_row p i.row.words) e w r
 

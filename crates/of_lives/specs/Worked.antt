@@ -78,19 +78,20 @@ done_in_both = (start_behind_all worked_start both_lives).finished
 abbrev pub one_number_reply : Option ℕ → Reply
 one_number_reply v = Answered (v ∷ [])
 
--- no second life: it runs a call again that was announced in the first life
+-- a life that cannot be the second one: it runs a call again that was announced in the first life
 abbrev pub runs_again : Life
 runs_again = adds_and_reads 1 2 7
 
--- no second life: it begins at sequence 0 again
+-- a life that cannot be the second one: it begins at sequence 0 again
 abbrev pub begins_anew : Life
 begins_anew = adds_and_reads 2 1 7
 
--- no second life: it begins with an empty store
+-- a life that cannot be the second one: it begins with an empty store
 abbrev pub forgets_store : Life
 forgets_store = adds_and_reads 2 2 1
 
--- no second life: it does not make the first life's read again, as if this read counted as done
+-- a life that cannot be the second one: it does not make the first life's read again, as if this
+-- read counted as done
 abbrev pub skips_read : Life
 skips_read = adds 2 2 7 [] (done_with 0 0)
 

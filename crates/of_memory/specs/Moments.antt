@@ -40,9 +40,10 @@ EachRunsScripts S s =
     (n : ℕ) → n < S.callers → (bit_at (members_of S s.words) n ≡ 0) ⊎ IsKeptByOne s.views n
 
 -- At each moment of a row of these scripts, also between two steps on it, a table may start from
--- what recovery finds in the durable words of that moment. One serial history leads to this from
--- the store that the row has started with. It has each answered call of a caller that a pass or a
--- member keeps, with its reply and its sequence, and besides these calls only open ones.
+-- what recovery finds in the durable words of that moment. One serial history leads from the store
+-- with which the row has started to what recovery finds. The history has each answered call of a
+-- caller that a pass or a member keeps, with its reply and its sequence, and besides these calls
+-- only open ones.
 abbrev pub WordsHoldHistory : Scripts → (limit : ℕ) → Type 0
 WordsHoldHistory w limit =
     let S : Setup = setup_with w limit in

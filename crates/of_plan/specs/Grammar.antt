@@ -51,17 +51,17 @@ IsEntryInRange h (Stop c x) = (c < h.callers) × (x ≤ LATEST_STOP)
 IsEntryInRange h (Turns c x) = (c < h.callers) × (1 ≤ x)
 IsEntryInRange h (Evict a) = a < durable_cells h.callers (data_cells h.callers h.blocks)
 
--- the entry's script, if it is a script of this caller
+-- the script in the entry, if the entry is a script of this caller; otherwise none
 abbrev pub script_in_entry : ℕ → BodyLine → Option (List Instr)
 script_in_entry c (Script d script) = if d == c then Some script else None
 script_in_entry c _ = None
 
--- the entry's stop, if it is a stop of this caller
+-- the number of steps in the entry, if the entry is a stop of this caller; otherwise None
 abbrev pub stop_at : ℕ → BodyLine → Option ℕ
 stop_at c (Stop d x) = if d == c then Some x else None
 stop_at c _ = None
 
--- the entry as an item of the schedule, if it is turns or an eviction
+-- the item of the schedule in the entry, if the entry is turns or an eviction; otherwise None
 abbrev pub item_of : BodyLine → Option Item
 item_of (Turns c x) = Some (TurnsItem c x)
 item_of (Evict a) = Some (EvictItem a)
@@ -72,8 +72,8 @@ abbrev pub is_script : BodyLine → ℕ
 is_script (Script c script) = 1
 is_script _ = 0
 
--- the entries are in range: at most 20,000 scripts, 10,000,000 turns in all, and one stop of each
--- caller
+-- each entry is in range, and the entries together are: at most 20,000 scripts, at most 10,000,000
+-- turns in all, and at most one stop of each caller
 pub record AreEntries (h : Heading) (entries : List BodyLine) : Type 0 where
   pub in_range : AllByRecursion (IsEntryInRange h) entries
   pub few_scripts : sum_by is_script entries ≤ MOST_SCRIPTS
@@ -89,7 +89,7 @@ head_of (x ∷ xs) = Some x
 abbrev pub scripts_in : List BodyLine → ℕ → List (List Instr)
 scripts_in entries c = filter_map (script_in_entry c) entries
 
--- the stop of a caller, if an entry is one
+-- the stop of a caller, if one of the entries is a stop of this caller
 abbrev pub stop_in : List BodyLine → ℕ → Option ℕ
 stop_in entries c = head_of (filter_map (stop_at c) entries)
 

@@ -60,32 +60,32 @@ worked_report third fourth second seq store = record {
 abbrev pub legal_report : Report
 legal_report = worked_report adds_one loads_six both_done 1 holds_six
 
--- no legal report: a script comes a second time
+-- a report that is not legal: a script comes a second time
 abbrev pub script_twice : Report
 script_twice = worked_report (worked_entry 1 1 0 true (Some 6)) loads_six both_done 1 holds_six
 
--- no legal report: a caller's line counts one entry more than the report has
+-- a report that is not legal: a caller's line counts one entry more than the report has
 abbrev pub entry_too_many : Report
 entry_too_many = worked_report adds_one loads_six (record both_done { entries = 3 }) 1 holds_six
 
--- no legal report: no entry was announced at the last sequence
+-- a report that is not legal: no entry was announced at the last sequence
 abbrev pub sequence_left_out : Report
 sequence_left_out = worked_report adds_one loads_six both_done 2 holds_six
 
--- no legal report: a read misses what was added before it
+-- a report that is not legal: a read misses what was added before it
 abbrev pub stale_read : Report
 stale_read = worked_report adds_one (worked_entry 1 0 1 false (Some 5)) both_done 1 holds_six
 
--- no legal report: what was written isn't in the store
+-- a report that is not legal: what was written isn't in the store
 abbrev pub writes_lost : Report
 writes_lost = worked_report adds_one loads_six both_done 1 (empty_store 0)
 
--- no legal report: a caller without a script left is stopped
+-- a report that is not legal: a caller without a script left is stopped
 abbrev pub stopped_at_the_end : Report
 stopped_at_the_end =
     worked_report adds_one loads_six (record both_done { state = stopped }) 1 holds_six
 
--- no legal report: a call made one step more than the step bound
+-- a report that is not legal: a call made one step more than the step bound
 abbrev pub step_too_many : Report
 step_too_many =
     worked_report adds_one loads_six

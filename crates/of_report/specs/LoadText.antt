@@ -16,7 +16,7 @@ sum_lines s =
     ++ decimal (sum_of_values s) ++ codes "\n"
 
 -- the text of a load's report: how many callers and entries there are, the registers that aren't 0,
--- how many keys there are, and the sum of the numbers at them
+-- how many keys there are, and the sum of the numbers at these keys
 abbrev pub load_text : Report → List ℕ
 load_text r =
     ((((codes "onefile load 1\n" ++ codes "callers " ++ decimal (length r.callers) ++ codes "\n")

@@ -79,8 +79,8 @@ course_after p calls = record {
 abbrev pub HasMadeCalls : Plan → RustSerialRun → Type 0
 HasMadeCalls p r = (calls : List CallId) × HasComeTo r (course_after p calls)
 
--- the caller's first calls, at most as many as there are sequences above `seq` up to the plan's
--- limit
+-- the caller's first calls: as many as there are sequences above `seq` up to the plan's limit, or
+-- all calls if they are fewer
 abbrev pub calls_within : Plan → (seq caller : ℕ) → List CallId
 calls_within p s c = take (p.limit - s) (calls_of p c)
 
