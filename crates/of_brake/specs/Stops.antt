@@ -35,12 +35,12 @@ ChargesAsk (Some left) (Some rest) granted = ChargesAskFrom left rest granted
 abbrev pub is_listed : ℕ → List ℕ → Bool
 is_listed n xs = list_any (λ m. m == n) xs
 
--- the count of answered calls went up by one, if the brake keeps one
+-- if the brake counts the answered calls, this count went up by one
 abbrev pub HasHeardAnswer : (before after : Option ℕ) → Type 0
 HasHeardAnswer None after = after ≡ None
 HasHeardAnswer (Some n) after = after ≡ Some (saturating_next n)
 
--- the count of asks went up by one, if the brake keeps one
+-- if the brake counts how often it is asked, this count went up by one
 abbrev pub Asked : (before after : Option ℕ) → Type 0
 Asked None after = after ≡ None
 Asked (Some n) after = after ≡ Some (saturating_next n)

@@ -29,7 +29,7 @@ last_batch B w = B.seq + length w.batches
 abbrev pub announced_ticket : Setup → Moment → (i : ℕ) → ℕ
 announced_ticket S w i = seq_of (announcement_of S w.words i)
 
--- one of the batches up to batch n has the call of caller i with ticket t
+-- a batch up to batch n has the call of caller i with the ticket t
 pub record BatchHasCall (B : TableStart) (bs : List Batch) (n i t : ℕ) : Type 0 where
   pub number : ℕ
   pub from : B.seq < number

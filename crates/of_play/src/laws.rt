@@ -17,8 +17,9 @@ pub fn plans_have_schedules(plan: &Plan)
     plan_keeps_laws(plan);
 }
 
-/// No two data cells, no two cells and no two words of a table get the same name in a trace: the
-/// name that is found for an address, a number or a place stands for it.
+/// In a trace no two data cells, no two cells and no two words of a table have the same name. A
+/// trace finds a name for each address, cell number and place, and this name stands for the same
+/// address, number or place again.
 pub fn words_are_named()
     ensures uses { CellUsesAreNamed }
     ensures cells { CellsAreNamed }

@@ -29,8 +29,8 @@ pub fn recovered_midway(shape: &Shape, durable: &[u64], made: usize)
         ≡ row_after_recovery shape.now durable.now }
 {}
 
-/// Recovery leaves the same row if some data cells have their recovered words already, whichever
-/// they are, as long as the request is not closed.
+/// Recovery leaves the same row if any of the data cells have their recovered words already, as
+/// long as the request is not closed.
 pub fn recovered_underway(shape: &Shape, durable: &[u64], later: &[u64])
     requires row { IsShapeRow shape.now durable.now }
     requires underway { IsUnderway shape.now.callers shape.now.cells durable.now later.now }
