@@ -71,7 +71,8 @@ pub fn limits_agree()
     ensures callers { work.MOST_CALLERS ≡ cell.MOST_CALLERS }
     ensures data_cells { work.MOST_DATA_CELLS ≡ cell.MOST_DATA_CELLS }
     ensures few_data_cells { work.FEW_DATA_CELLS ≡ cell.FEW_DATA_CELLS }
-    // what an operation writes over many data cells, and its caller's own cells, are its share of a log
+    // the cells that an operation writes over many data cells, and its caller's own cells, are the
+    // caller's share of a log
     ensures log_share { work.MOST_WRITES + (work.MOST_INSTRS + 2) ≡ cell.LOG_SHARE }
     ensures script_words { cell.MOST_SCRIPT_WORDS ≡ script.MOST_INSTRS }
     ensures instrs { work.MOST_INSTRS ≡ script.MOST_INSTRS }
