@@ -72,8 +72,8 @@ HasCause steps before answered (Some NoTicket) = before + answered + 1 < 4294967
 -- ---- a clerk that works with a handle
 
 -- The clerk x has worked with a handle for a day, and is now y; the handle is now k. The clerk has
--- counted the answered calls of the handle. If it was stopped, its next transfer is the handle's
--- open call.
+-- counted the answered calls of the handle. If the handle has an open call, the clerk was stopped,
+-- and this call is the next transfer of its job.
 pub record HasWorked (x y : Clerk) (k : Handle) : Type 0 where
   pub made : List Made
   pub has : HasMade k made

@@ -53,7 +53,7 @@ DoneAfterTwoCommits S Lawful = EachSchedule S Lawful (λ B n es.
 -- Lost tries and rounds.
 
 -- whether this place is one to which a call goes when it begins, or after a try or a round is given
--- up: a try or a round begins here, or the call begins to be announced
+-- up: a try or a round begins here, or a script word of the call is stored
 abbrev pub begins_at : Place → Bool
 begins_at TryCurrent = true
 begins_at (StoreScript j) = true

@@ -98,8 +98,8 @@ IsPlaceOf _ before piece = ⊥
 abbrev pub IsBelowHeading : Stage → Type 0
 IsBelowHeading stage = (stage ≡ Sized) ⊎ (stage ≡ InBody)
 
--- the piece is the first word of a line of the heading; the word `limit` counts only after the
--- heading is over
+-- the piece is the first word of a line of the heading; the word `limit` counts only if the body
+-- has begun
 abbrev pub IsHeadingWord : Stage → List ℕ → Type 0
 IsHeadingWord stage piece =
     (piece ≡ codes "onefile")
