@@ -46,8 +46,8 @@ abbrev pub HasReadImageLine : Grammar → (line : List ℕ) → (old new : RustR
     → Result (Unit {0}) Bad → Type 0
 HasReadImageLine g line old new result =
     MatchResult result
-    (λ taken. ReadsLine (image_language g) (image_reader g) (text_words line) (row_reading_value old)
-    (row_reading_value new))
+    (λ taken. ReadsLine (image_language g) (image_reader g) (text_words line)
+    (row_reading_value old) (row_reading_value new))
     (RefusesImageLine g (row_reading_value old) line)
 
 -- if the result is Ok, the line says this number of blocks; otherwise it says none that may come

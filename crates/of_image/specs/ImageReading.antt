@@ -79,7 +79,8 @@ after_line_at g Named p (Callers n) =
 after_line_at g Counted p (Blocks b) = Some (record p {
   stage = Body;
   blocks = b;
-  words = replicate (durable_cells p.callers (data_cell_count_for (instrs_of g.version) p.callers b)) 0;
+  words =
+      replicate (durable_cells p.callers (data_cell_count_for (instrs_of g.version) p.callers b)) 0;
 })
 after_line_at g Body p (Cell c s x) = with_cell p c s x
 after_line_at g Body p End = Some (record p { stage = Ended })

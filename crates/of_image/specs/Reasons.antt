@@ -81,15 +81,18 @@ IsTrueOfImage g (OtherVersion found read) p before piece =
     (p.stage ≡ Start) × (before ≡ codes "onefile" ∷ codes "image" ∷ []) × PieceIsNumber piece found
     × (read ≡ version_number g.version) × (found ≡ read → ⊥)
 IsTrueOfImage g (CallersExpected most) p before piece =
-    (p.stage ≡ Named) × (most ≡ most_callers g.limits) × (before ≡ []) × (piece ≡ codes "callers" → ⊥)
+    (p.stage ≡ Named) × (most ≡ most_callers g.limits) × (before ≡ [])
+    × (piece ≡ codes "callers" → ⊥)
 IsTrueOfImage g (BlocksExpected most) p before piece =
-    (p.stage ≡ Counted) × (most ≡ most_blocks g.limits) × (before ≡ []) × (piece ≡ codes "blocks" → ⊥)
+    (p.stage ≡ Counted) × (most ≡ most_blocks g.limits) × (before ≡ [])
+    × (piece ≡ codes "blocks" → ⊥)
 IsTrueOfImage g AfterEnd p before piece = (p.stage ≡ Ended) × (before ≡ [])
 IsTrueOfImage g UnknownLine p before piece = (p.stage ≡ Body) × (before ≡ []) × IsNoName piece
 IsTrueOfImage g HeadingOver p before piece = (p.stage ≡ Body) × (before ≡ []) × IsHeadingName piece
 IsTrueOfImage g (NoCell cell cells) p before piece =
     (before ≡ codes "cell" ∷ []) × PieceIsNumber piece cell
-    × (cells ≡ durable_cells p.callers (data_cell_count_for (instrs_of g.version) p.callers p.blocks))
+    × (cells
+    ≡ durable_cells p.callers (data_cell_count_for (instrs_of g.version) p.callers p.blocks))
     × (cells ≤ cell)
 IsTrueOfImage g (CellPassed cell) p before piece =
     (before ≡ codes "cell" ∷ []) × PieceIsNumber piece cell × (cell < p.from)
