@@ -398,9 +398,8 @@ int onefile_last_reply(onefile_saved *saved, uint32_t number, onefile_reply *rep
 
 /* Writes what is held into `buffer`, which has room for `room` bytes, as the text of an image, with
  * no zero byte at its end, and its length into `length`. It has the store, and of each caller the
- * last ticket and reply; the limit is not in it. The program `onefile` reads it. The text of a
- * memory with more than 16 callers or 512 blocks is not read again: open such a memory in a file.
- * Behind the text `buffer` is as it was.
+ * last ticket and reply; the limit is not in it. The program `onefile` reads it, if there are at
+ * most 16 callers and 512 blocks. Behind the text `buffer` is as it was.
  * NO_ROOM: only `length` is written, which says how much room is needed. `buffer` may be null if
  * `room` is 0. */
 int onefile_image(onefile_saved *saved, char *buffer, size_t room, size_t *length);

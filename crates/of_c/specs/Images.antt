@@ -5,7 +5,7 @@ use Rattle.of_memory.specs.declared.saved.Saved.{Saved}
 use Rattle.of_memory.specs.declared.error.ImageTextError.{ImageTextError}
 use Rattle.of_memory.specs.declared.error.ImageTextError.TheVariants.{OutOfMemory, Bad, Unlawful, PastLimits}
 use Rattle.of_memory.specs.Saving.{IsSaved, saved_limit}
-use Rattle.of_memory.specs.Texts.{IsOfPlanSize, IsTextOfSaved, TextHolds, IsReadBack}
+use Rattle.of_memory.specs.Texts.{IsTextOfSaved, TextHolds, IsReadBack}
 use Rattle.of_c.specs.declared.codes.TheConstants.{DONE, NO_IMAGE, NO_MEMORY, NO_ROOM}
 use Rattle.of_c.specs.declared.held.Held.{Held}
 use Rattle.of_c.specs.Slots.{HoldsSaved}
@@ -18,14 +18,14 @@ TellsNoText code = (code ≢ DONE) × (code ≢ NO_ROOM)
 abbrev pub HoldsText : (text before now : List ℕ) → Type 0
 HoldsText text before now = now ≡ text ++ slice_range before (length text) (length before)
 
--- Something is held that a memory has left, and P holds of the text that is printed for it. If a
--- plan may have as many callers and blocks, this text is read as what is held.
+-- Something is held that a memory has left, and P holds of the text that is printed for it. This
+-- text is read as what is held.
 pub record HasText (held : Option Held) (P : List ℕ → Type 0) : Type 0 where
   pub left : Saved
   pub is : HoldsSaved held left
   pub text : List ℕ
   pub printed : IsTextOfSaved left text
-  pub holds : IsOfPlanSize left → TextHolds text left
+  pub holds : TextHolds text left
   pub so : P text
 
 -- What the text holds is held, with the greatest limit. If the text is an image of something that a

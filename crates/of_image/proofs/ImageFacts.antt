@@ -17,22 +17,22 @@ use Rattle.of_mem.specs.Plots.{data_cell_count}
 use Rattle.of_mem.specs.Places.{base_of, cells_at}
 use Rattle.of_mem.proofs.Lists.{part_at, part_long}
 use Rattle.of_script.specs.declared.instr.TheConstants.{MOST_INSTRS}
-use Rattle.of_plan.specs.declared.plan.TheConstants.{MOST_PLAN_CALLERS, MOST_PLAN_BLOCKS}
 use Rattle.of_image.specs.declared.error.ImageErr.{ImageErr}
 use Rattle.of_image.specs.declared.error.ImageErr.TheVariants.{Memory}
-use Rattle.of_image.specs.declared.version.Version.{Version}
-use Rattle.of_report.specs.ImageRow.{DurableRow, IsRow, IsRowWithin, IsTableRow, row_cell_count, row_in}
+use Rattle.of_image.specs.declared.grammar.Grammar.{Grammar}
+use Rattle.of_report.specs.ImageRow.{DurableRow, IsRowWithin, IsTableRow, row_cell_count, row_in}
+use Rattle.of_image.specs.Grammar.{IsImageIn}
 use Rattle.of_image.specs.Version.{instrs_of}
 use Rattle.of_report.proofs.Recovery.{row_long}
-use Rattle.of_image.specs.ImageText.{SpellsImage}
+use Rattle.of_image.specs.ImageText.{SpellsIn}
 use Rattle.of_report.specs.ImageLaw.{IsLawfulRow}
 use Rattle.of_image.specs.RowFault.{IsRowFault}
-use Rattle.of_report.specs.Image.{Image, IsImage, IsImageWithin, IsRestored}
+use Rattle.of_report.specs.Image.{Image, IsImageWithin, IsRestored}
 use Rattle.of_image.specs.declared.refusal.ImageFault.TheVariants.{Line, Cell}
 use Rattle.of_image.specs.declared.refusal.Refusal.{Refusal}
 use Rattle.of_image.specs.declared.refusal.Refusal.TheVariants.{Memory as NoMemory, Fault}
-use Rattle.of_image.specs.Faults.{HasImageFault, HasLineFault}
-use Rattle.of_image.specs.Parsed.{ReadsImage, ImageIsRefused, IsNoImage, IsUnlawful, NamesRowFault, refusal_err}
+use Rattle.of_image.specs.Faults.{HasFaultIn, HasLineFault}
+use Rattle.of_image.specs.Parsed.{ReadsIn, IsRefusedIn, HasNoRowIn, IsUnlawfulIn, NamesRowFault, refusal_err}
 use Rattle.of_report.specs.ImageRow.{recovered_row}
 use Rattle.of_image.proofs.ImageTexts.{one_row}
 use Rattle.of_image.proofs.RowLaw.{fault_excludes, one_lawful, one_row_fault}
@@ -98,8 +98,8 @@ restored_is_image {n} {b} instrs r i h k =
       lawful = k.lawful;
     }
 
-pub read_is_image : (v : Version) (text : List ℕ) (i : Image) → ReadsImage v text i → IsImage (instrs_of v) i
-read_is_image v text i h = restored_is_image (instrs_of v) h.raw i h.spelled.row h.restored
+pub read_is_image : (g : Grammar) (text : List ℕ) (i : Image) → ReadsIn g text i → IsImageIn g i
+read_is_image g text i h = restored_is_image (instrs_of g.version) h.raw i h.spelled.row h.restored
 
 -- a row restores to one image
 one_restored : (instrs : ℕ) (r : DurableRow) (i j : Image) → IsRestored instrs r i → IsRestored instrs r j → i ≡ j
@@ -110,58 +110,58 @@ one_restored instrs r i j h k =
     let stores = one_lawful instrs j.row i.store j.store (subst (λ (q : DurableRow). IsLawfulRow instrs q i.store) rows h.lawful) k.lawful in
     λ x. record { row = rows x; seq = seqs x; replayed = replayed x; store = stores x }
 
-pub one_image : (v : Version) (text : List ℕ) (i j : Image) → ReadsImage v text i → ReadsImage v text j → i ≡ j
-one_image v text i j h k = one_restored (instrs_of v) k.raw i j (subst (λ (r : DurableRow). IsRestored (instrs_of v) r i) (one_row v text h.raw k.raw h.spelled k.spelled) h.restored) k.restored
+pub one_image : (g : Grammar) (text : List ℕ) (i j : Image) → ReadsIn g text i → ReadsIn g text j → i ≡ j
+one_image g text i j h k = one_restored (instrs_of g.version) k.raw i j (subst (λ (r : DurableRow). IsRestored (instrs_of g.version) r i) (one_row g text h.raw k.raw h.spelled k.spelled) h.restored) k.restored
 
 -- ---- what is answered
 
 -- an unlawful text has no image
-pub unlawful_excludes : (v : Version) (text : List ℕ) (cell : ℕ) (image : Image) → IsUnlawful v text cell → ReadsImage v text image → ⊥
-unlawful_excludes v text cell image bad h =
-    let same = one_row v text bad.raw h.raw bad.spelled h.spelled in
-    fault_excludes (instrs_of v) (recovered_row (instrs_of v) h.raw) image.store cell (subst (λ (q : DurableRow). IsLawfulRow (instrs_of v) q image.store) h.restored.row h.restored.lawful)
-    (subst (λ (q : DurableRow). IsRowFault (instrs_of v) (recovered_row (instrs_of v) q) cell) same bad.fault)
+pub unlawful_excludes : (g : Grammar) (text : List ℕ) (cell : ℕ) (image : Image) → IsUnlawfulIn g text cell → ReadsIn g text image → ⊥
+unlawful_excludes g text cell image bad h =
+    let same = one_row g text bad.raw h.raw bad.spelled h.spelled in
+    fault_excludes (instrs_of g.version) (recovered_row (instrs_of g.version) h.raw) image.store cell (subst (λ (q : DurableRow). IsLawfulRow (instrs_of g.version) q image.store) h.restored.row h.restored.lawful)
+    (subst (λ (q : DurableRow). IsRowFault (instrs_of g.version) (recovered_row (instrs_of g.version) q) cell) same bad.fault)
 
 -- and one cell at fault
-pub one_unlawful : (v : Version) (text : List ℕ) (c d : ℕ) → IsUnlawful v text c → IsUnlawful v text d → c ≡ d
-one_unlawful v text c d h k =
-    let same = one_row v text h.raw k.raw h.spelled k.spelled in
-    one_row_fault (instrs_of v) (recovered_row (instrs_of v) k.raw) c d (subst (λ (q : DurableRow). IsRowFault (instrs_of v) (recovered_row (instrs_of v) q) c) same h.fault) k.fault
+pub one_unlawful : (g : Grammar) (text : List ℕ) (c d : ℕ) → IsUnlawfulIn g text c → IsUnlawfulIn g text d → c ≡ d
+one_unlawful g text c d h k =
+    let same = one_row g text h.raw k.raw h.spelled k.spelled in
+    one_row_fault (instrs_of g.version) (recovered_row (instrs_of g.version) k.raw) c d (subst (λ (q : DurableRow). IsRowFault (instrs_of g.version) (recovered_row (instrs_of g.version) q) c) same h.fault) k.fault
 
 -- a text with an image is answered by it
-pub only_image : (v : Version) (text : List ℕ) (r : Result Image Refusal) → IfOk r (λ i. ReadsImage v text i) → IfErr r (HasImageFault v text) → (image : Image) → ReadsImage v text image → MatchResult r (λ i. i ≡ image) (λ e. e ≡ NoMemory)
-only_image v text (Ok i) ok err image h = one_image v text i image ok h
-only_image v text (Err NoMemory) ok err image h = refl
-only_image v text (Err (Fault (Line piece))) ok err image h = absurd (err.bad.none (h.raw, h.spelled))
-only_image v text (Err (Fault (Cell cell law))) ok err image h = absurd (unlawful_excludes v text cell image (record { raw = err.raw; spelled = err.spelled; fault = record { law = law; breaks = err.breaks } }) h)
+pub only_image : (g : Grammar) (text : List ℕ) (r : Result Image Refusal) → IfOk r (λ i. ReadsIn g text i) → IfErr r (HasFaultIn g text) → (image : Image) → ReadsIn g text image → MatchResult r (λ i. i ≡ image) (λ e. e ≡ NoMemory)
+only_image g text (Ok i) ok err image h = one_image g text i image ok h
+only_image g text (Err NoMemory) ok err image h = refl
+only_image g text (Err (Fault (Line piece))) ok err image h = absurd (err.bad.none (h.raw, h.spelled))
+only_image g text (Err (Fault (Cell cell law))) ok err image h = absurd (unlawful_excludes g text cell image (record { raw = err.raw; spelled = err.spelled; fault = record { law = law; breaks = err.breaks } }) h)
 
 -- a fault by the line or the cell that it names
-pub image_refused : (v : Version) (text : List ℕ) (e : Refusal) → HasImageFault v text e → ImageIsRefused v text (refusal_err e)
-image_refused v text NoMemory h = tt
-image_refused v text (Fault (Line piece)) h = h.bad
-image_refused v text (Fault (Cell cell law)) h = record { raw = h.raw; spelled = h.spelled; fault = record { law = law; breaks = h.breaks } }
+pub image_refused : (g : Grammar) (text : List ℕ) (e : Refusal) → HasFaultIn g text e → IsRefusedIn g text (refusal_err e)
+image_refused g text NoMemory h = tt
+image_refused g text (Fault (Line piece)) h = h.bad
+image_refused g text (Fault (Cell cell law)) h = record { raw = h.raw; spelled = h.spelled; fault = record { law = law; breaks = h.breaks } }
 
-pub no_image : (v : Version) (text : List ℕ) (e : Refusal) → HasLineFault v text e → IsNoImage v text (refusal_err e)
-no_image v text NoMemory h = tt
-no_image v text (Fault (Line piece)) h = h.bad
-no_image v text (Fault (Cell cell law)) h = absurd h
+pub no_image : (g : Grammar) (text : List ℕ) (e : Refusal) → HasLineFault g text e → HasNoRowIn g text (refusal_err e)
+no_image g text NoMemory h = tt
+no_image g text (Fault (Line piece)) h = h.bad
+no_image g text (Fault (Cell cell law)) h = absurd h
 
 -- the same where the row's data cells stand as a plot says
-plot_faulty : (v : Version) (p : Plot) (r : DurableRow) → p.instrs ≡ instrs_of v → row_in p r.words ≡ r → (e : Refusal) → NamesRowFault p.instrs (recovered_row p.instrs (row_in p r.words)) e → NamesRowFault (instrs_of v) (recovered_row (instrs_of v) r) e
-plot_faulty v p r instrs is e h = subst (λ (n : ℕ). NamesRowFault n (recovered_row n r) e) instrs (subst (λ (q : DurableRow). NamesRowFault p.instrs (recovered_row p.instrs q) e) is h)
+plot_faulty : (g : Grammar) (p : Plot) (r : DurableRow) → p.instrs ≡ instrs_of g.version → row_in p r.words ≡ r → (e : Refusal) → NamesRowFault p.instrs (recovered_row p.instrs (row_in p r.words)) e → NamesRowFault (instrs_of g.version) (recovered_row (instrs_of g.version) r) e
+plot_faulty g p r instrs is e h = subst (λ (n : ℕ). NamesRowFault n (recovered_row n r) e) instrs (subst (λ (q : DurableRow). NamesRowFault p.instrs (recovered_row p.instrs q) e) is h)
 
 -- so the cell that is named is at fault in the text
-pub plot_faults : (v : Version) (text : List ℕ) (p : Plot) (r : DurableRow) (e : Refusal) → p.instrs ≡ instrs_of v → row_in p r.words ≡ r → SpellsImage v text r → NamesRowFault p.instrs (recovered_row p.instrs (row_in p r.words)) e → HasImageFault v text e
-plot_faults v text p r e instrs is s h = go e (plot_faulty v p r instrs is e h)
+pub plot_faults : (g : Grammar) (text : List ℕ) (p : Plot) (r : DurableRow) (e : Refusal) → p.instrs ≡ instrs_of g.version → row_in p r.words ≡ r → SpellsIn g text r → NamesRowFault p.instrs (recovered_row p.instrs (row_in p r.words)) e → HasFaultIn g text e
+plot_faults g text p r e instrs is s h = go e (plot_faulty g p r instrs is e h)
   where
-    go : (e : Refusal) → NamesRowFault (instrs_of v) (recovered_row (instrs_of v) r) e → HasImageFault v text e
+    go : (e : Refusal) → NamesRowFault (instrs_of g.version) (recovered_row (instrs_of g.version) r) e → HasFaultIn g text e
     go NoMemory k = tt
     go (Fault (Line piece)) k = absurd k
     go (Fault (Cell cell law)) k = record { raw = r; spelled = s; breaks = k }
 
 -- what recovery finds in it is the text's image
-pub plot_read : (v : Version) (text : List ℕ) (p : Plot) (r : DurableRow) (i : Image) → p.instrs ≡ instrs_of v → row_in p r.words ≡ r → SpellsImage v text r → IsRestored p.instrs (row_in p r.words) i → ReadsImage v text i
-plot_read v text p r i instrs is s h = record {
+pub plot_read : (g : Grammar) (text : List ℕ) (p : Plot) (r : DurableRow) (i : Image) → p.instrs ≡ instrs_of g.version → row_in p r.words ≡ r → SpellsIn g text r → IsRestored p.instrs (row_in p r.words) i → ReadsIn g text i
+plot_read g text p r i instrs is s h = record {
   raw = r;
   spelled = s;
   restored = subst (λ (n : ℕ). IsRestored n r i) instrs (subst (λ (q : DurableRow). IsRestored p.instrs q i) is h);
@@ -209,9 +209,9 @@ slice_small ws a n le h c = elim (cases_lt c n) [
 twice_within : (d k : ℕ) → d + d ≤ d + d + k + 1
 twice_within d k = omega arith
 
-pub table_is_row : (p : Plot) (ws : List ℕ) → p.instrs ≡ MOST_INSTRS → length ws ≡ table_words p.callers MOST_INSTRS (data_cell_count p) → ((c : ℕ) → get_or ws c 0 < 2 ^ 64) → p.callers ≤ MOST_PLAN_CALLERS → p.blocks ≤ MOST_PLAN_BLOCKS
-    → IsRow MOST_INSTRS (row_in p (slice_range ws (durable_cells p.callers (data_cell_count p)) (durable_cells p.callers (data_cell_count p) + durable_cells p.callers (data_cell_count p))))
-table_is_row p ws instrs long small few_callers few_blocks = record {
+pub table_is_row : (n b : ℕ) (p : Plot) (ws : List ℕ) → p.instrs ≡ MOST_INSTRS → length ws ≡ table_words p.callers MOST_INSTRS (data_cell_count p) → ((c : ℕ) → get_or ws c 0 < 2 ^ 64) → p.callers ≤ n → p.blocks ≤ b
+    → IsRowWithin n b MOST_INSTRS (row_in p (slice_range ws (durable_cells p.callers (data_cell_count p)) (durable_cells p.callers (data_cell_count p) + durable_cells p.callers (data_cell_count p))))
+table_is_row n b p ws instrs long small few_callers few_blocks = record {
   some_callers = p.some_callers;
   few_callers = few_callers;
   few_blocks = few_blocks;

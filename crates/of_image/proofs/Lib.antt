@@ -1,3 +1,5 @@
+pub mod Bounds
+pub mod Numbers
 pub mod ImageLines
 pub mod ImageProgress
 pub mod ImageTexts

@@ -31,6 +31,7 @@ use Rattle.std.proofs.lemmas.List.{map-append}
 use Rattle.of_image.specs.declared.error.ImageErr.{ImageErr}
 use Rattle.of_image.specs.declared.error.ImageErr.TheVariants.{Memory, Bad, Unlawful}
 use Rattle.of_image.specs.declared.version.Version.TheVariants.{One, Two}
+use Rattle.of_image.specs.Grammar.{plan_grammar}
 use Rattle.of_image.specs.ImageText.{image_text}
 use Rattle.of_report.proofs.Lines.{range_push}
 use Rattle.of_image.proofs.ImageFacts.{read_is_image, one_image, unlawful_excludes}
@@ -284,7 +285,7 @@ moved_whole few many callers blocks n words items e is = is ∙ ap (λ (k : ℕ)
 -- the text of the moved row of a version 1 image
 pub migrates : (before after : List ℕ) (i : Image) → ReadsImage One before i → after ≡ image_text Two (moved_row 8 MOST_INSTRS i.row) → Migrates before after
 migrates before after i read is =
-    let h = read_is_image One before i read in
+    let h = read_is_image (plan_grammar One) before i read in
     record {
       image = i;
       read = read;
@@ -292,7 +293,7 @@ migrates before after i read is =
       moved = has_moved 8 MOST_INSTRS i.row (omega arith);
       again = subst (λ (t : List ℕ). ReadsImage Two t (moved_image 8 MOST_INSTRS i)) (sym is) (record {
         raw = moved_row 8 MOST_INSTRS i.row;
-        spelled = printed_again Two (moved_row 8 MOST_INSTRS i.row) (moved_is_row 8 MOST_INSTRS i h (omega arith) (omega arith));
+        spelled = printed_again (plan_grammar Two) (moved_row 8 MOST_INSTRS i.row) (moved_is_row 8 MOST_INSTRS i h (omega arith) (omega arith));
         restored = moved_restored 8 MOST_INSTRS i h (omega arith) (omega arith);
       });
     }
@@ -300,7 +301,7 @@ migrates before after i read is =
 -- a text with an image is answered by its moved row
 pub only_migrated : (before : List ℕ) (r : Result (Vec ℕ Global) ImageErr) → IfOk r (λ v. Migrates before v.items) → IfErr r (ImageIsRefused One before) → (image : Image) → ReadsImage One before image
     → MatchResult r (λ v. v.items ≡ image_text Two (moved_row 8 MOST_INSTRS image.row)) (λ e. e ≡ Memory)
-only_migrated before (Ok v) ok err image h = ok.text ∙ ap (λ (i : Image). image_text Two (moved_row 8 MOST_INSTRS i.row)) (one_image One before ok.image image ok.read h)
+only_migrated before (Ok v) ok err image h = ok.text ∙ ap (λ (i : Image). image_text Two (moved_row 8 MOST_INSTRS i.row)) (one_image (plan_grammar One) before ok.image image ok.read h)
 only_migrated before (Err Memory) ok err image h = refl
 only_migrated before (Err (Bad line)) ok err image h = absurd (err.none (h.raw, h.spelled))
-only_migrated before (Err (Unlawful cell)) ok err image h = absurd (unlawful_excludes One before cell image err h)
+only_migrated before (Err (Unlawful cell)) ok err image h = absurd (unlawful_excludes (plan_grammar One) before cell image err h)

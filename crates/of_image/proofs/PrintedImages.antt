@@ -5,22 +5,25 @@ use Rattle.std.specs.List.{AllByRecursion, enumerate_from}
 use Rattle.std.proofs.lemmas.List.{append-nil}
 use Rattle.std.proofs.lemmas.List.Concat.{flat_map-append}
 use Rattle.of_plan.specs.Lines.{text_lines, unskipped_words, is_skipped}
+use Rattle.of_image.specs.declared.grammar.Grammar.{Grammar}
 use Rattle.of_image.specs.declared.version.Version.{Version}
 use Rattle.of_image.specs.declared.line.ImageLine.{ImageLine}
 use Rattle.of_image.specs.declared.line.ImageLine.TheVariants.{Title, Callers, Blocks, Cell, End}
-use Rattle.of_report.specs.ImageRow.{DurableRow, IsRow}
-use Rattle.of_image.specs.Version.{version_number, instrs_of}
-use Rattle.of_image.specs.ImageText.{image_line_words, cell_line, cell_lines, image_line_text, image_cell_text, image_lines, image_text, SpellsImage}
+use Rattle.of_report.specs.ImageRow.{DurableRow}
+use Rattle.of_image.specs.Grammar.{IsRowIn}
+use Rattle.of_image.specs.Version.{version_number}
+use Rattle.of_image.specs.ImageText.{image_line_words, cell_line, cell_lines, image_line_text, image_cell_text, image_lines, image_text, SpellsIn}
 use Rattle.of_image.specs.ImageReading.{IsImageLineInRange}
 use Rattle.of_plan.proofs.PlainWords.{Plains, plain_name, plain_number, line_first}
+use Rattle.of_image.proofs.Bounds.{few_callers, few_blocks}
 use Rattle.of_image.proofs.ImageProgress.{image_in_range}
 
-plain_line : (l : ImageLine) → IsImageLineInRange l → Plains (image_line_words l)
-plain_line (Title v) r = (plain_name (codes "onefile") (omega arith) refl refl, (plain_name (codes "image") (omega arith) refl refl, (plain_number v (omega arith), tt)))
-plain_line (Callers n) r = (plain_name (codes "callers") (omega arith) refl refl, (plain_number n (omega arith), tt))
-plain_line (Blocks n) r = (plain_name (codes "blocks") (omega arith) refl refl, (plain_number n (omega arith), tt))
-plain_line (Cell c s p) r = (plain_name (codes "cell") (omega arith) refl refl, (plain_number c (omega (arith, r.0)), (plain_number s (omega (arith, r.1)), (plain_number p (omega (arith, r.2)), tt))))
-plain_line End r = (plain_name (codes "end") (omega arith) refl refl, tt)
+plain_line : (g : Grammar) (l : ImageLine) → IsImageLineInRange g l → Plains (image_line_words l)
+plain_line g (Title v) r = (plain_name (codes "onefile") (omega arith) refl refl, (plain_name (codes "image") (omega arith) refl refl, (plain_number v (omega arith), tt)))
+plain_line g (Callers n) r = (plain_name (codes "callers") (omega arith) refl refl, (plain_number n (omega (arith, r, few_callers g.limits)), tt))
+plain_line g (Blocks n) r = (plain_name (codes "blocks") (omega arith) refl refl, (plain_number n (omega (arith, r, few_blocks g.limits)), tt))
+plain_line g (Cell c s p) r = (plain_name (codes "cell") (omega arith) refl refl, (plain_number c (omega (arith, r.0)), (plain_number s (omega (arith, r.1)), (plain_number p (omega (arith, r.2)), tt))))
+plain_line g End r = (plain_name (codes "end") (omega arith) refl refl, tt)
 
 stays : (l : ImageLine) → is_skipped (image_line_words l) ≡ false
 stays (Title v) = refl
@@ -29,12 +32,12 @@ stays (Blocks n) = refl
 stays (Cell c s p) = refl
 stays End = refl
 
-printed_lines : (ls : List ImageLine) → AllByRecursion IsImageLineInRange ls → unskipped_words (text_lines (flat_map image_line_text ls)) ≡ map image_line_words ls
-printed_lines [] r = refl
-printed_lines (l ∷ ls) r = line_first (image_line_words l) (flat_map image_line_text ls) (plain_line l r.0) (stays l) ∙ ap (λ (all : List (List (List ℕ))). image_line_words l ∷ all) (printed_lines ls r.1)
+printed_lines : (g : Grammar) (ls : List ImageLine) → AllByRecursion (IsImageLineInRange g) ls → unskipped_words (text_lines (flat_map image_line_text ls)) ≡ map image_line_words ls
+printed_lines g [] r = refl
+printed_lines g (l ∷ ls) r = line_first (image_line_words l) (flat_map image_line_text ls) (plain_line g l r.0) (stays l) ∙ ap (λ (all : List (List (List ℕ))). image_line_words l ∷ all) (printed_lines g ls r.1)
 
-pub printed_again : (v : Version) (r : DurableRow) → IsRow (instrs_of v) r → SpellsImage v (image_text v r) r
-printed_again v r h = record { row = h; each = printed_lines (image_lines v r) (image_in_range v r h) }
+pub printed_again : (g : Grammar) (r : DurableRow) → IsRowIn g r → SpellsIn g (image_text g.version r) r
+printed_again g r h = record { row = h; each = printed_lines g (image_lines g.version r) (image_in_range g r h) }
 
 -- cell by cell
 pub cells_text : (c : ℕ) (ws : List ℕ) → flat_map image_cell_text (enumerate_from c ws) ≡ flat_map image_line_text (cell_lines c ws)

@@ -16,6 +16,7 @@ use Rattle.of_eval.specs.Lawful.{DataCellsStandFor}
 use Rattle.of_report.specs.ImageRow.{DurableRow, IsRow, row_cell_count, data_numbers_in}
 use Rattle.of_report.specs.Image.{Image, IsImage}
 use Rattle.of_image.specs.declared.version.Version.TheVariants.{Two}
+use Rattle.of_image.specs.Grammar.{plan_grammar}
 use Rattle.of_image.specs.ImageText.{image_text}
 use Rattle.of_image.specs.Parsed.{ReadsImage}
 use Rattle.of_image.specs.RenumberedImage.{renumbered_row, renumbered_image, Renumbers}
@@ -81,7 +82,7 @@ module _ (i : Image) (h : IsImage MOST_INSTRS i) where
     renumbered_is_read : ReadsImage Two (image_text Two (renumbered_image i).row) (renumbered_image i)
     renumbered_is_read = record {
       raw = renumbered_row MOST_INSTRS r;
-      spelled = printed_again Two (renumbered_row MOST_INSTRS r) renumbered_is_row;
+      spelled = printed_again (plan_grammar Two) (renumbered_row MOST_INSTRS r) renumbered_is_row;
       restored = record {
         row = (let e = sym anew.settled in λ j. record r { words = e j });
         seq = sym anew.seq;

@@ -7,9 +7,11 @@ use Rattle.of_image.specs.declared.refusal.ImageFault.TheVariants.{Line, Cell}
 use Rattle.of_image.specs.declared.refusal.Refusal.{Refusal}
 use Rattle.of_image.specs.declared.refusal.Refusal.TheVariants.{Memory, Fault}
 use Rattle.of_image.specs.declared.law.Law.{Law}
+use Rattle.of_image.specs.declared.grammar.Grammar.{Grammar}
 use Rattle.of_image.specs.declared.version.Version.{Version}
+use Rattle.of_image.specs.Grammar.{plan_grammar}
 use Rattle.of_image.specs.Version.{instrs_of}
-use Rattle.of_image.specs.ImageText.{SpellsImage}
+use Rattle.of_image.specs.ImageText.{SpellsIn}
 use Rattle.of_image.specs.RowFault.{Breaks}
 use Rattle.of_image.specs.Parsed.{ReadsImage}
 use Rattle.of_image.specs.Reasons.{IsLineFault}
@@ -20,25 +22,36 @@ HasImage v text = (image : Image) × ReadsImage v text image
 
 -- the text is in the grammar; in what recovery finds in its row this cell is the first at fault,
 -- and it breaks this law
-pub record IsCellFault (v : Version) (text : List ℕ) (cell : ℕ) (law : Law) : Type 0 where
+pub record IsCellFault (g : Grammar) (text : List ℕ) (cell : ℕ) (law : Law) : Type 0 where
   pub raw : DurableRow
-  pub spelled : SpellsImage v text raw
-  pub breaks : Breaks law (instrs_of v) (recovered_row (instrs_of v) raw) cell
+  pub spelled : SpellsIn g text raw
+  pub breaks :
+      Breaks law (instrs_of g.version) (recovered_row (instrs_of g.version) raw) cell
 
 -- the fault is true of the text: a bad line, or a cell of what recovery finds
-abbrev pub IsImageFaultOf : Version → List ℕ → ImageFault → Type 0
-IsImageFaultOf v text (Line p) = IsLineFault v text p
-IsImageFaultOf v text (Cell cell law) = IsCellFault v text cell law
+abbrev pub IsImageFaultIn : Grammar → List ℕ → ImageFault → Type 0
+IsImageFaultIn g text (Line p) = IsLineFault g text p
+IsImageFaultIn g text (Cell cell law) = IsCellFault g text cell law
 
 -- the refusal is true of a text that has no row: it names the bad line; if memory ran out, nothing
 -- is promised
-abbrev pub HasLineFault : Version → List ℕ → Refusal → Type 0
-HasLineFault v text Memory = Unit {0}
-HasLineFault v text (Fault (Line piece)) = IsLineFault v text piece
-HasLineFault v text (Fault (Cell cell law)) = ⊥
+abbrev pub HasLineFault : Grammar → List ℕ → Refusal → Type 0
+HasLineFault g text Memory = Unit {0}
+HasLineFault g text (Fault (Line piece)) = IsLineFault g text piece
+HasLineFault g text (Fault (Cell cell law)) = ⊥
 
 -- the refusal is true of a text that has no image: it names the fault; if memory ran out, nothing
 -- is promised
+abbrev pub HasFaultIn : Grammar → List ℕ → Refusal → Type 0
+HasFaultIn g text Memory = Unit {0}
+HasFaultIn g text (Fault fault) = IsImageFaultIn g text fault
+
+-- ---- texts of a version, within the limits of a plan
+
+-- the fault is true of the text
+abbrev pub IsImageFaultOf : Version → List ℕ → ImageFault → Type 0
+IsImageFaultOf v text fault = IsImageFaultIn (plan_grammar v) text fault
+
+-- the refusal is true of a text that has no image
 abbrev pub HasImageFault : Version → List ℕ → Refusal → Type 0
-HasImageFault v text Memory = Unit {0}
-HasImageFault v text (Fault fault) = IsImageFaultOf v text fault
+HasImageFault v text refusal = HasFaultIn (plan_grammar v) text refusal

@@ -2,14 +2,14 @@
 use Rattle.std.specs.Prelude.{ℕ, ◌+◌, ◌≤◌, ◌==◌, nat_lt, nat_le, List, [], length, replicate, slice_set, if◌then◌else◌, Option, Some, None}
 use Rattle.of_cell.specs.Words.{pack}
 use Rattle.of_cell.specs.Cells.{durable_cells}
-use Rattle.of_plan.specs.declared.plan.TheConstants.{MOST_PLAN_CALLERS, MOST_PLAN_BLOCKS}
-use Rattle.of_image.specs.declared.version.Version.{Version}
+use Rattle.of_image.specs.declared.grammar.Grammar.{Grammar}
 use Rattle.of_image.specs.declared.line.ImageLine.{ImageLine}
 use Rattle.of_image.specs.declared.line.ImageLine.TheVariants.{Title, Callers, Blocks, Cell, End}
 use Rattle.of_image.specs.declared.reading.Stage.{Stage}
 use Rattle.of_image.specs.declared.reading.Stage.TheVariants.{Start, Named, Counted, Body, Ended}
 use Rattle.of_image.specs.declared.reading.Reading.{Reading as RustReading}
 use Rattle.of_report.specs.ImageRow.{DurableRow, data_cell_count_for}
+use Rattle.of_image.specs.Grammar.{most_callers, most_blocks}
 use Rattle.of_image.specs.Version.{version_number, instrs_of}
 use Rattle.of_image.specs.ImageText.{image_line_words}
 use Rattle.of_plan.specs.Reader.{Language, Reader}
@@ -17,19 +17,19 @@ use Rattle.of_plan.specs.Reader.{Language, Reader}
 -- ---- a line
 
 -- the numbers of a line are in the ranges that hold whatever lines come before it
-abbrev pub IsImageLineInRange : ImageLine → Type 0
-IsImageLineInRange (Title v) = v ≤ 4294967295
-IsImageLineInRange (Callers n) = n ≤ MOST_PLAN_CALLERS
-IsImageLineInRange (Blocks n) = n ≤ MOST_PLAN_BLOCKS
-IsImageLineInRange (Cell c s p) = (c ≤ 4294967295) × (s ≤ 4294967295) × (p ≤ 4294967295)
-IsImageLineInRange End = Unit {0}
+abbrev pub IsImageLineInRange : Grammar → ImageLine → Type 0
+IsImageLineInRange g (Title v) = v ≤ 4294967295
+IsImageLineInRange g (Callers n) = n ≤ most_callers g.limits
+IsImageLineInRange g (Blocks n) = n ≤ most_blocks g.limits
+IsImageLineInRange g (Cell c s p) = (c ≤ 4294967295) × (s ≤ 4294967295) × (p ≤ 4294967295)
+IsImageLineInRange g End = Unit {0}
 
 -- the lines of images, the words of each, and the ranges of its numbers
-abbrev pub image_language : Language
-image_language = record {
+abbrev pub image_language : Grammar → Language
+image_language g = record {
   Line = ImageLine;
   words_of = image_line_words;
-  InRange = IsImageLineInRange;
+  InRange = IsImageLineInRange g;
 }
 
 -- ---- what a line leads to
@@ -71,20 +71,21 @@ with_cell p c s x =
     else Some (record p { words = slice_set p.words c (pack s x); from = c + 1 })
 
 -- the reading after one more line, by what was read last; None if the line may not come next
-abbrev pub after_line_at : Version → Stage → RowReading → ImageLine → Option RowReading
-after_line_at v Start p (Title x) =
-    if x == version_number v then Some (record p { stage = Named }) else None
-after_line_at v Named p (Callers n) =
+abbrev pub after_line_at : Grammar → Stage → RowReading → ImageLine → Option RowReading
+after_line_at g Start p (Title x) =
+    if x == version_number g.version then Some (record p { stage = Named }) else None
+after_line_at g Named p (Callers n) =
     if n == 0 then None else Some (record p { stage = Counted; callers = n })
-after_line_at v Counted p (Blocks b) = Some (record p {
+after_line_at g Counted p (Blocks b) = Some (record p {
   stage = Body;
   blocks = b;
-  words = replicate (durable_cells p.callers (data_cell_count_for (instrs_of v) p.callers b)) 0;
+  words =
+      replicate (durable_cells p.callers (data_cell_count_for (instrs_of g.version) p.callers b)) 0;
 })
-after_line_at v Body p (Cell c s x) = with_cell p c s x
-after_line_at v Body p End = Some (record p { stage = Ended })
-after_line_at v _ p l = None
+after_line_at g Body p (Cell c s x) = with_cell p c s x
+after_line_at g Body p End = Some (record p { stage = Ended })
+after_line_at g _ p l = None
 
 -- how the lines of an image are read, one after the other
-abbrev pub image_reader : Version → Reader image_language
-image_reader v = record { Progress = RowReading; next = λ p l. after_line_at v p.stage p l }
+abbrev pub image_reader : (g : Grammar) → Reader (image_language g)
+image_reader g = record { Progress = RowReading; next = λ p l. after_line_at g p.stage p l }

@@ -1,4 +1,4 @@
--- The grammar of images, and the one printed text of a row.
+-- The lines of an image, the texts that spell a row, and the one printed text of a row.
 use Rattle.std.specs.Prelude.{◌≡◌, ℕ, ◌+◌, List, [], ◌∷◌, ◌++◌, map, flat_map, codes, decimal, if◌then◌else◌, ◌==◌, slice_range}
 use Rattle.std.specs.List.{join_with_byte, enumerate_from}
 use Rattle.of_cell.specs.Words.{seq_of, payload_of}
@@ -6,11 +6,13 @@ use Rattle.of_cell.specs.Cells.{durable_cells}
 use Rattle.of_mem.specs.declared.plot.Plot.{Plot}
 use Rattle.of_mem.specs.Plots.{data_cell_count}
 use Rattle.of_plan.specs.Lines.{text_lines, unskipped_words}
+use Rattle.of_image.specs.declared.grammar.Grammar.{Grammar}
 use Rattle.of_image.specs.declared.version.Version.{Version}
 use Rattle.of_image.specs.declared.line.ImageLine.{ImageLine}
 use Rattle.of_image.specs.declared.line.ImageLine.TheVariants.{Title, Callers, Blocks, Cell, End}
-use Rattle.of_report.specs.ImageRow.{DurableRow, IsRow, row_in}
-use Rattle.of_image.specs.Version.{version_number, instrs_of}
+use Rattle.of_report.specs.ImageRow.{DurableRow, row_in}
+use Rattle.of_image.specs.Grammar.{IsRowIn, plan_grammar}
+use Rattle.of_image.specs.Version.{version_number}
 
 -- the words that spell a line
 abbrev pub image_line_words : ImageLine → List (List ℕ)
@@ -36,14 +38,22 @@ image_lines v r =
     Title (version_number v) ∷ Callers r.callers ∷ Blocks r.blocks
     ∷ (cell_lines 0 r.words ++ End ∷ [])
 
--- the text is in the grammar of this version, and has this row
-pub record SpellsImage (v : Version) (text : List ℕ) (r : DurableRow) : Type 0 where
-  pub row : IsRow (instrs_of v) r
-  pub each : unskipped_words (text_lines text) ≡ map image_line_words (image_lines v r)
+-- the text is in this grammar, and has this row
+pub record SpellsIn (g : Grammar) (text : List ℕ) (r : DurableRow) : Type 0 where
+  pub row : IsRowIn g r
+  pub each : unskipped_words (text_lines text) ≡ map image_line_words (image_lines g.version r)
 
--- the text is in the grammar of this version
+-- the text is in this grammar
+abbrev pub IsTextIn : Grammar → List ℕ → Type 0
+IsTextIn g text = (r : DurableRow) × SpellsIn g text r
+
+-- the text is in the grammar of this version, within the limits of a plan, and has this row
+abbrev pub SpellsImage : Version → List ℕ → DurableRow → Type 0
+SpellsImage v text r = SpellsIn (plan_grammar v) text r
+
+-- the text is in the grammar of this version, within the limits of a plan
 abbrev pub IsImageText : Version → List ℕ → Type 0
-IsImageText v text = (r : DurableRow) × SpellsImage v text r
+IsImageText v text = IsTextIn (plan_grammar v) text
 
 -- the text of a line with its newline, with one space between words
 abbrev pub image_line_text : ImageLine → List ℕ

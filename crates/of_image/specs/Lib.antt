@@ -1,5 +1,6 @@
 pub mod Messages
 pub mod Version
+pub mod Grammar
 pub mod ImageText
 pub mod RowFault
 pub mod Parsed

@@ -7,39 +7,61 @@ use Rattle.of_report.specs.ImageRow.{DurableRow, recovered_row}
 use Rattle.of_report.specs.Image.{Image, IsRestored}
 use Rattle.of_image.specs.declared.error.ImageErr.{ImageErr}
 use Rattle.of_image.specs.declared.error.ImageErr.TheVariants.{Memory, Bad, Unlawful}
+use Rattle.of_image.specs.declared.grammar.Grammar.{Grammar}
 use Rattle.of_image.specs.declared.version.Version.{Version}
+use Rattle.of_image.specs.Grammar.{plan_grammar}
 use Rattle.of_image.specs.Version.{instrs_of}
-use Rattle.of_image.specs.ImageText.{SpellsImage, IsImageText}
+use Rattle.of_image.specs.ImageText.{SpellsIn, IsTextIn}
 use Rattle.of_image.specs.declared.refusal.ImageFault.TheVariants.{Line, Cell}
 use Rattle.of_image.specs.declared.refusal.Refusal.{Refusal}
 use Rattle.of_image.specs.declared.refusal.Refusal.TheVariants.{Memory as NoMemory, Fault}
 use Rattle.of_image.specs.RowFault.{Breaks, IsRowFault}
 
--- the text is in the grammar of this version, and what recovery finds in its row is the image
-pub record ReadsImage (v : Version) (text : List ℕ) (i : Image) : Type 0 where
+-- the text is in this grammar, and what recovery finds in its row is the image
+pub record ReadsIn (g : Grammar) (text : List ℕ) (i : Image) : Type 0 where
   pub raw : DurableRow
-  pub spelled : SpellsImage v text raw
-  pub restored : IsRestored (instrs_of v) raw i
+  pub spelled : SpellsIn g text raw
+  pub restored : IsRestored (instrs_of g.version) raw i
 
 -- the text is in the grammar, and this is the first cell at fault in what recovery finds in its row
-pub record IsUnlawful (v : Version) (text : List ℕ) (cell : ℕ) : Type 0 where
+pub record IsUnlawfulIn (g : Grammar) (text : List ℕ) (cell : ℕ) : Type 0 where
   pub raw : DurableRow
-  pub spelled : SpellsImage v text raw
-  pub fault : IsRowFault (instrs_of v) (recovered_row (instrs_of v) raw) cell
+  pub spelled : SpellsIn g text raw
+  pub fault : IsRowFault (instrs_of g.version) (recovered_row (instrs_of g.version) raw) cell
 
 -- the error is true of a text that has no image: it names the bad line or the cell at fault; if
 -- memory ran out, nothing is promised
-abbrev pub ImageIsRefused : Version → List ℕ → ImageErr → Type 0
-ImageIsRefused v text Memory = Unit {0}
-ImageIsRefused v text (Bad line) = HasBadLine (IsImageText v) text line
-ImageIsRefused v text (Unlawful cell) = IsUnlawful v text cell
+abbrev pub IsRefusedIn : Grammar → List ℕ → ImageErr → Type 0
+IsRefusedIn g text Memory = Unit {0}
+IsRefusedIn g text (Bad line) = HasBadLine (IsTextIn g) text line
+IsRefusedIn g text (Unlawful cell) = IsUnlawfulIn g text cell
 
 -- the error is true of a text that has no row: it names the bad line; if memory ran out, nothing is
 -- promised
+abbrev pub HasNoRowIn : Grammar → List ℕ → ImageErr → Type 0
+HasNoRowIn g text Memory = Unit {0}
+HasNoRowIn g text (Bad line) = HasBadLine (IsTextIn g) text line
+HasNoRowIn g text (Unlawful cell) = ⊥
+
+-- ---- texts of a version, within the limits of a plan
+
+-- what recovery finds in the text's row is the image
+abbrev pub ReadsImage : Version → List ℕ → Image → Type 0
+ReadsImage v text i = ReadsIn (plan_grammar v) text i
+
+-- this is the first cell at fault in what recovery finds in the text's row
+abbrev pub IsUnlawful : Version → List ℕ → (cell : ℕ) → Type 0
+IsUnlawful v text cell = IsUnlawfulIn (plan_grammar v) text cell
+
+-- the error is true of a text that has no image
+abbrev pub ImageIsRefused : Version → List ℕ → ImageErr → Type 0
+ImageIsRefused v text e = IsRefusedIn (plan_grammar v) text e
+
+-- the error is true of a text that has no row
 abbrev pub IsNoImage : Version → List ℕ → ImageErr → Type 0
-IsNoImage v text Memory = Unit {0}
-IsNoImage v text (Bad line) = HasBadLine (IsImageText v) text line
-IsNoImage v text (Unlawful cell) = ⊥
+IsNoImage v text e = HasNoRowIn (plan_grammar v) text e
+
+-- ---- rows
 
 -- the error is true of durable words that have no image: it names the cell at fault; if memory ran
 -- out, nothing is promised

@@ -12,9 +12,10 @@ image_reason_text (TitleExpected version) =
 image_reason_text (OtherVersion found read) =
     codes "an image of version "
     ++ (decimal found ++ (codes "; version " ++ (decimal read ++ codes " is read")))
-image_reason_text CallersExpected =
-    codes "the second line of an image is `callers N`, N from 1 to 16"
-image_reason_text BlocksExpected = codes "the third line of an image is `blocks B`, B from 0 to 512"
+image_reason_text (CallersExpected most) =
+    codes "the second line of an image is `callers N`, N from 1 to " ++ decimal most
+image_reason_text (BlocksExpected most) =
+    codes "the third line of an image is `blocks B`, B from 0 to " ++ decimal most
 image_reason_text AfterEnd = codes "a line after `end`"
 image_reason_text UnknownLine = codes "no line of an image begins with this word"
 image_reason_text (NoCell cell cells) =

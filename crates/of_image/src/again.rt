@@ -6,6 +6,7 @@ ghost use Rattle.of_image.specs.Parsed.{IsNoImage};
 ghost use Rattle.of_image.specs.PrintedAgain.{PrintsAgain};
 
 use crate::error::ImageErr;
+use crate::grammar::{Grammar, Limits};
 use crate::parse::plot_of;
 use crate::parse_row::read_row;
 use crate::printing::print_row;
@@ -19,7 +20,8 @@ pub fn image_again(alloc: Global, text: &[u8]) -> Result<Vec<u8>, ImageErr>
     // If the error names a line, it is the bad one of a text that is not in the grammar.
     ensures err { IfErr result (IsNoImage Two text.now) }
 {
-    let reading = read_row(alloc, Version::Two, text)?;
-    let plot = plot_of(Version::Two, reading.callers, reading.blocks);
-    Ok(print_row(alloc, Version::Two, &plot, &reading.words)?)
+    let (version, limits) = (Version::Two, Limits::Plan);
+    let reading = read_row(alloc, Grammar { version, limits }, text)?;
+    let plot = plot_of(version, reading.callers, reading.blocks);
+    Ok(print_row(alloc, version, &plot, &reading.words)?)
 }

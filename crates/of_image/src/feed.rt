@@ -3,8 +3,10 @@
 ghost use Rattle.std.specs.Prelude.{◌≡◌, ◌≤◌, ℕ, List, [], ◌∷◌, IfOk, IfErr, IfSome, MatchResult, false, Some, None, codes};
 ghost use Rattle.std.specs.Bool.{MatchBool};
 ghost use Rattle.of_script.specs.Text.{text_words, EndsWith};
-ghost use Rattle.of_script.specs.Reading.{slot_and_rest};
+ghost use Rattle.of_script.specs.Reading.{next_number};
 ghost use Rattle.of_cell.specs.Cells.{durable_cells};
+ghost use Rattle.of_mem.specs.declared.plot.TheConstants.{MOST_BLOCKS};
+ghost use Rattle.of_mem.specs.declared.work.TheConstants.{MOST_CALLERS};
 ghost use Rattle.of_report.specs.ImageRow.{data_cell_count_for};
 ghost use Rattle.of_plan.specs.Lines.{is_skipped};
 ghost use Rattle.of_plan.specs.Pieces.{first_word, IsNextWord};
@@ -12,14 +14,17 @@ ghost use Rattle.of_image.specs.declared.reading.Stage.TheVariants.{Start, Named
 ghost use Rattle.of_image.specs.Version.{instrs_of};
 ghost use Rattle.of_image.specs.ImageReading.{row_reading_value, no_row_read};
 ghost use Rattle.of_image.specs.Reasons.{IsHeadingName};
-ghost use Rattle.of_image.specs.Fed.{TooManyWords, IsImageNumberFault, IsBodyRow, HasReadImageLine, HasReadBlocksLine};
+ghost use Rattle.of_image.specs.Fed.{TooManyWords, IsImageNumberFault, HasSomeCallers, IsBodyRow, HasReadImageLine, HasReadBlocksLine};
 
+use crate::grammar::Grammar;
+use crate::parse::plot_of;
 use crate::reading::{Reading, Stage};
 use crate::reason::Reason;
 use crate::version::Version;
 use of_cell::pack;
+use of_mem::{MOST_BLOCKS, MOST_CALLERS};
 use of_plan::pieces::{Piece, next_word, read_slot, read_word, word_too_many};
-use of_plan::{Flaw, MOST_PLAN_BLOCKS, MOST_PLAN_CALLERS};
+use of_plan::{Flaw, table_shape};
 use of_script::text::word;
 use std::alloc::{AllocError, Global};
 
@@ -58,12 +63,14 @@ fn expect<'a>(bytes: &'a [u8], wanted: &[u8], reason: Reason) -> Result<&'a [u8]
 
 // The number that comes next and the bytes after it, or why there is none up to the most.
 #[inline(always)]
+#[tactic(auto, using(crate::proofs::Numbers::slot_number))]
 fn read_number(bytes: &[u8], most: u32) -> Result<(u32, &[u8]), Bad>
+    requires { 1 ≤ most }
     ensures ok { IfOk result
-        (λ x. slot_and_rest most (text_words bytes.now) ≡ Some (x.0, text_words x.1.now)) }
+        (λ x. next_number most (text_words bytes.now) ≡ Some (x.0, text_words x.1.now)) }
     ensures small { IfOk result (λ x. x.0 ≤ most) }
     ensures rest { IfOk result (λ x. EndsWith bytes.now x.1.now) }
-    ensures err { IfErr result (λ bad. slot_and_rest most (text_words bytes.now) ≡ None) }
+    ensures err { IfErr result (λ bad. next_number most (text_words bytes.now) ≡ None) }
     ensures piece { IfErr result (λ bad. IsNextWord bytes.now bad.piece) }
     ensures reason { IfErr result
         (λ bad. IsImageNumberFault bad.reason most (first_word (text_words bytes.now))) }
@@ -122,24 +129,24 @@ fn is_heading_name(name: &[u8]) -> bool
 }
 
 // The number of cells that have a durable word.
-#[tactic(auto, using(of_cell::proofs::Rooms::room_whole, of_mem::proofs::BucketPlaces::few_behind))]
 fn cells(version: Version, callers: u32, blocks: u32) -> u32
-    requires callers { callers ≤ MOST_PLAN_CALLERS }
-    requires blocks { blocks ≤ MOST_PLAN_BLOCKS }
+    requires some { 1 ≤ callers }
+    requires callers { callers ≤ MOST_CALLERS }
+    requires blocks { blocks ≤ MOST_BLOCKS }
     ensures { result
         ≡ durable_cells callers (data_cell_count_for (instrs_of version) callers blocks) }
 {
-    let data = callers * (version.instrs() + 2) + 63 + 3 * blocks;
-    1 + callers + data + callers * (2 * data + 1)
+    table_shape(&plot_of(version, callers, blocks)).durable_cells()
 }
 
 // The number of blocks that a line says.
-fn read_blocks(line: &[u8]) -> Result<u32, Bad>
+fn read_blocks(grammar: Grammar, line: &[u8]) -> Result<u32, Bad>
     requires { is_skipped (text_words line.now) ≡ false }
-    ensures { HasReadBlocksLine line.now result }
+    ensures { HasReadBlocksLine grammar line.now result }
 {
-    let rest = expect(line, b"blocks".as_slice(), Reason::BlocksExpected)?;
-    let (count, end) = read_number(rest, MOST_PLAN_BLOCKS)?;
+    let most = grammar.limits.blocks();
+    let rest = expect(line, b"blocks".as_slice(), Reason::BlocksExpected { most })?;
+    let (count, end) = read_number(rest, most)?;
     expect_end(end)?;
     Ok(count)
 }
@@ -159,12 +166,12 @@ impl Reading {
     }
 
     // Reads a title.
-    fn feed_title(&mut self, version: Version, line: &[u8]) -> Result<(), Bad>
+    fn feed_title(&mut self, grammar: Grammar, line: &[u8]) -> Result<(), Bad>
         requires stage { self.old.stage ≡ Start }
         requires kept { is_skipped (text_words line.now) ≡ false }
-        ensures { HasReadImageLine version line.now self.old self.new result }
+        ensures { HasReadImageLine grammar line.now self.old self.new result }
     {
-        let read = version.number();
+        let read = grammar.version.number();
         let expected = Reason::TitleExpected { version: read };
         let kind = expect(line, b"onefile".as_slice(), expected)?;
         let number = expect(kind, b"image".as_slice(), expected)?;
@@ -178,13 +185,18 @@ impl Reading {
     }
 
     // Reads the number of callers.
-    fn feed_callers(&mut self, version: Version, line: &[u8]) -> Result<(), Bad>
+    fn feed_callers(&mut self, grammar: Grammar, line: &[u8]) -> Result<(), Bad>
         requires stage { self.old.stage ≡ Named }
         requires kept { is_skipped (text_words line.now) ≡ false }
-        ensures { HasReadImageLine version line.now self.old self.new result }
+        ensures { HasReadImageLine grammar line.now self.old self.new result }
     {
-        let rest = expect(line, b"callers".as_slice(), Reason::CallersExpected)?;
-        let (count, end) = read_number(rest, MOST_PLAN_CALLERS)?;
+        let most = grammar.limits.callers();
+        let rest = expect(
+            line,
+            b"callers".as_slice(),
+            Reason::CallersExpected { most },
+        )?;
+        let (count, end) = read_number(rest, most)?;
         if count == 0 {
             return Err(bad_word(rest, Reason::Flawed { flaw: Flaw::Zero }));
         }
@@ -196,12 +208,12 @@ impl Reading {
 
     // Reads the line of a cell, after its name.
     #[inline(always)]
-    fn feed_cell(&mut self, version: Version, line: &[u8], rest: &[u8]) -> Result<(), Bad>
+    fn feed_cell(&mut self, grammar: Grammar, line: &[u8], rest: &[u8]) -> Result<(), Bad>
         requires stage { self.old.stage ≡ Body }
-        requires row { IsBodyRow version (row_reading_value self.old) }
+        requires row { IsBodyRow grammar (row_reading_value self.old) }
         requires words { text_words line.now ≡ codes "cell" ∷ text_words rest.now }
         requires rest { EndsWith line.now rest.now }
-        ensures { HasReadImageLine version line.now self.old self.new result }
+        ensures { HasReadImageLine grammar line.now self.old self.new result }
     {
         let (cell, after) = read_number(rest, u32::MAX)?;
         let (place, cells) = (cell as usize, self.words.len());
@@ -225,17 +237,17 @@ impl Reading {
     }
 
     // Reads a line below the heading.
-    fn feed_body(&mut self, version: Version, line: &[u8]) -> Result<(), Bad>
+    fn feed_body(&mut self, grammar: Grammar, line: &[u8]) -> Result<(), Bad>
         requires stage { self.old.stage ≡ Body }
-        requires row { IsBodyRow version (row_reading_value self.old) }
+        requires row { IsBodyRow grammar (row_reading_value self.old) }
         requires kept { is_skipped (text_words line.now) ≡ false }
-        ensures { HasReadImageLine version line.now self.old self.new result }
+        ensures { HasReadImageLine grammar line.now self.old self.new result }
     {
         let Some((name, rest)) = word(line) else {
             unreachable!()
         };
         if name == b"cell".as_slice() {
-            return self.feed_cell(version, line, rest);
+            return self.feed_cell(grammar, line, rest);
         }
         if name == b"end".as_slice() {
             expect_end(rest)?;
@@ -252,18 +264,19 @@ impl Reading {
     fn feed_blocks(
         &mut self,
         alloc: Global,
-        version: Version,
+        grammar: Grammar,
         line: &[u8],
     ) -> Result<Result<(), Bad>, AllocError>
         requires stage { self.old.stage ≡ Counted }
+        requires some { 1 ≤ self.old.callers }
         requires kept { is_skipped (text_words line.now) ≡ false }
-        ensures { IfOk result (HasReadImageLine version line.now self.old self.new) }
+        ensures { IfOk result (HasReadImageLine grammar line.now self.old self.new) }
     {
-        let count = match read_blocks(line) {
+        let count = match read_blocks(grammar, line) {
             Ok(count) => count,
             Err(bad) => return Ok(Err(bad)),
         };
-        let size = cells(version, self.callers, count) as usize;
+        let size = cells(grammar.version, self.callers, count) as usize;
         let words = vec![in alloc; 0; size]?;
         self.stage = Stage::Body;
         self.blocks = count;
@@ -277,11 +290,12 @@ impl Reading {
     fn feed_any(
         &mut self,
         alloc: Global,
-        version: Version,
+        grammar: Grammar,
         line: &[u8],
     ) -> Result<Result<(), Bad>, AllocError>
-        requires { IsBodyRow version (row_reading_value self.old) }
-        ensures { IfOk result (HasReadImageLine version line.now self.old self.new) }
+        requires counted { HasSomeCallers (row_reading_value self.old) }
+        requires row { IsBodyRow grammar (row_reading_value self.old) }
+        ensures { IfOk result (HasReadImageLine grammar line.now self.old self.new) }
     {
         let Some((name, _)) = word(line) else {
             return Ok(Ok(()));
@@ -290,10 +304,10 @@ impl Reading {
             return Ok(Ok(()));
         }
         match self.stage {
-            Stage::Start => Ok(self.feed_title(version, line)),
-            Stage::Named => Ok(self.feed_callers(version, line)),
-            Stage::Counted => self.feed_blocks(alloc, version, line),
-            Stage::Body => Ok(self.feed_body(version, line)),
+            Stage::Start => Ok(self.feed_title(grammar, line)),
+            Stage::Named => Ok(self.feed_callers(grammar, line)),
+            Stage::Counted => self.feed_blocks(alloc, grammar, line),
+            Stage::Body => Ok(self.feed_body(grammar, line)),
             Stage::Ended => Ok(Err(bad_word(line, Reason::AfterEnd))),
         }
     }
@@ -304,17 +318,18 @@ impl Reading {
     pub(crate) fn feed(
         &mut self,
         alloc: Global,
-        version: Version,
+        grammar: Grammar,
         line: &[u8],
     ) -> Result<Result<(), Bad>, AllocError>
-        requires { IsBodyRow version (row_reading_value self.old) }
-        ensures { IfOk result (HasReadImageLine version line.now self.old self.new) }
+        requires counted { HasSomeCallers (row_reading_value self.old) }
+        requires row { IsBodyRow grammar (row_reading_value self.old) }
+        ensures { IfOk result (HasReadImageLine grammar line.now self.old self.new) }
     {
         if self.stage == Stage::Body {
             if let Some(rest) = after_cell(line) {
-                return Ok(self.feed_cell(version, line, rest));
+                return Ok(self.feed_cell(grammar, line, rest));
             }
         }
-        self.feed_any(alloc, version, line)
+        self.feed_any(alloc, grammar, line)
     }
 }

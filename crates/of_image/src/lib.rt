@@ -4,6 +4,7 @@
 mod again;
 mod error;
 mod feed;
+mod grammar;
 mod law;
 pub mod laws;
 mod line;
@@ -21,9 +22,10 @@ mod words;
 
 pub use again::image_again;
 pub use error::ImageErr;
+pub use grammar::Limits;
 pub use law::Law;
 pub use migration::migrate;
-pub use parse::{image_parse, read};
+pub use parse::{image_parse, image_parse_within, read};
 pub use printing::{image_print, recovered_print};
 pub use reason::Reason;
 pub use refusal::{BadPiece, ImageFault, Refusal, fault};

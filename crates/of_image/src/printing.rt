@@ -6,8 +6,9 @@ ghost use Rattle.of_mem.specs.Plots.{data_cell_count};
 ghost use Rattle.of_mem.specs.declared.work.TheConstants.{MOST_INSTRS};
 ghost use Rattle.of_plan.specs.declared.plan.TheConstants.{MOST_PLAN_CALLERS, MOST_PLAN_BLOCKS};
 ghost use Rattle.of_image.specs.declared.version.Version.TheVariants.{Two};
+ghost use Rattle.of_image.specs.Grammar.{table_grammar};
 ghost use Rattle.of_report.specs.ImageRow.{row_in};
-ghost use Rattle.of_image.specs.ImageText.{image_cell_text, image_cells_text, image_line_text, image_text, table_row, SpellsImage};
+ghost use Rattle.of_image.specs.ImageText.{image_cell_text, image_cells_text, image_line_text, image_text, table_row, SpellsIn, SpellsImage};
 ghost use Rattle.of_report.specs.Image.{IsImage};
 ghost use Rattle.of_report.specs.Image.{image_ticket};
 ghost use Rattle.of_image.specs.RecoveredText.{ticket_line, ticket_lines, recovered_text};
@@ -97,8 +98,11 @@ pub fn image_print(alloc: Global, plot: &Plot, words: &[u64]) -> Result<Vec<u8>,
         ≡ table_words plot.now.callers MOST_INSTRS (data_cell_count plot.now) }
     ensures text { IfOk result (λ text.
         text.items ≡ image_text Two (table_row plot.now words.now)) }
-    // If a plan may have as many callers and blocks, the text spells the row of these words.
-    ensures again { plot.now.callers ≤ MOST_PLAN_CALLERS → plot.now.blocks ≤ MOST_PLAN_BLOCKS →
+    // The text spells the row of these words.
+    ensures again { IfOk result (λ text.
+        SpellsIn table_grammar text.items (table_row plot.now words.now)) }
+    // If a plan may have as many callers and blocks, it spells the row within a plan's limits too.
+    ensures plan { plot.now.callers ≤ MOST_PLAN_CALLERS → plot.now.blocks ≤ MOST_PLAN_BLOCKS →
         IfOk result (λ text. SpellsImage Two text.items (table_row plot.now words.now)) }
 {
     let cells = table_shape(plot).durable_cells() as usize;

@@ -13,10 +13,10 @@ pub enum Reason {
     TitleExpected { version: u32 },
     /// The title is that of version `found`, but version `read` is read.
     OtherVersion { found: u32, read: u32 },
-    /// The number of callers should come here.
-    CallersExpected,
-    /// The number of blocks should come here.
-    BlocksExpected,
+    /// The number of callers, at most `most`, should come here.
+    CallersExpected { most: u32 },
+    /// The number of blocks, at most `most`, should come here.
+    BlocksExpected { most: u32 },
     /// This line comes after the end of the image.
     AfterEnd,
     /// No line of an image begins with this word.
@@ -50,11 +50,17 @@ impl fmt::Display for Reason {
             Reason::OtherVersion { found, read } => {
                 write!(f, "an image of version {found}; version {read} is read")
             }
-            Reason::CallersExpected => {
-                f.write_str("the second line of an image is `callers N`, N from 1 to 16")
+            Reason::CallersExpected { most } => {
+                write!(
+                    f,
+                    "the second line of an image is `callers N`, N from 1 to {most}"
+                )
             }
-            Reason::BlocksExpected => {
-                f.write_str("the third line of an image is `blocks B`, B from 0 to 512")
+            Reason::BlocksExpected { most } => {
+                write!(
+                    f,
+                    "the third line of an image is `blocks B`, B from 0 to {most}"
+                )
             }
             Reason::AfterEnd => f.write_str("a line after `end`"),
             Reason::UnknownLine => f.write_str("no line of an image begins with this word"),

@@ -4,8 +4,8 @@ ghost use Rattle.std.specs.Prelude.{◌≡◌, ◌≤◌, ◌-◌, ℕ, List, le
 ghost use Rattle.of_plan.specs.Lines.{text_lines};
 ghost use Rattle.of_plan.specs.Above.{line_at as the_line};
 ghost use Rattle.of_plan.specs.BadLine.{HasBadLine};
-ghost use Rattle.of_image.specs.declared.version.Version.{Version as TheVersion};
-ghost use Rattle.of_image.specs.ImageText.{IsImageText};
+ghost use Rattle.of_image.specs.declared.grammar.Grammar.{Grammar as TheGrammar};
+ghost use Rattle.of_image.specs.ImageText.{IsTextIn};
 ghost use Rattle.of_image.specs.ImageReading.{RowReading};
 ghost use Rattle.of_image.specs.Reasons.{ImageLinesLeadTo, IsUnendedImage, IsTrueOfImage, IsTrueInImage, IsLineFault};
 ghost use Rattle.of_image.specs.Fed.{RefusesImageLine};
@@ -13,6 +13,7 @@ ghost use Rattle.of_image.specs.Faults.{HasImage, IsImageFaultOf};
 ghost use Rattle.of_image.specs.Messages.{piece_message};
 
 use crate::feed::Bad;
+use crate::grammar::Grammar;
 use crate::law::Law;
 use crate::parse::read;
 use crate::reason::Reason;
@@ -78,9 +79,9 @@ pub fn fault(alloc: Global, version: Version, text: &[u8]) -> Result<Option<Imag
 
 // The reason, with the line above that has the cell or a later one.
 fn with_line(text: &[u8], above: u64, reason: Reason) -> Reason
-    ensures { (v : TheVersion) (p : RowReading) (before : List (List ℕ)) (piece : List ℕ)
-        → ImageLinesLeadTo v text.now above p → IsTrueOfImage v reason p before piece
-        → IsTrueInImage v result text.now above before piece }
+    ensures { (g : TheGrammar) (p : RowReading) (before : List (List ℕ)) (piece : List ℕ)
+        → ImageLinesLeadTo g text.now above p → IsTrueOfImage g reason p before piece
+        → IsTrueInImage g result text.now above before piece }
 {
     let Reason::CellPassed { cell } = reason else {
         return reason;
@@ -92,13 +93,13 @@ fn with_line(text: &[u8], above: u64, reason: Reason) -> Reason
 }
 
 // What is wrong with a text, from what is wrong with its line of this number.
-pub(crate) fn in_text(version: Version, text: &[u8], number: u64, line: &[u8], bad: Bad) -> BadPiece
+pub(crate) fn in_text(grammar: Grammar, text: &[u8], number: u64, line: &[u8], bad: Bad) -> BadPiece
     requires first { 1 ≤ number }
     requires line { line.now ≡ the_line (text_lines text.now) (number - 1) }
-    requires bad { HasBadLine (IsImageText version) text.now number }
-    requires is { (p : RowReading) × ImageLinesLeadTo version text.now (number - 1) p
-        × RefusesImageLine version p line.now bad }
-    ensures { IsLineFault version text.now result }
+    requires bad { HasBadLine (IsTextIn grammar) text.now number }
+    requires is { (p : RowReading) × ImageLinesLeadTo grammar text.now (number - 1) p
+        × RefusesImageLine grammar p line.now bad }
+    ensures { IsLineFault grammar text.now result }
 {
     let end = line.len() - bad.piece.left;
     if let Some(byte) = hidden(line, number - 1) {
@@ -120,12 +121,12 @@ pub(crate) fn in_text(version: Version, text: &[u8], number: u64, line: &[u8], b
 }
 
 // The same of a text without an end, whose last line this is.
-pub(crate) fn at_end(version: Version, text: &[u8], number: u64, line: &[u8]) -> BadPiece
+pub(crate) fn at_end(grammar: Grammar, text: &[u8], number: u64, line: &[u8]) -> BadPiece
     requires first { 1 ≤ number }
     requires line { line.now ≡ the_line (text_lines text.now) (number - 1) }
-    requires bad { HasBadLine (IsImageText version) text.now number }
-    requires none { IsUnendedImage version text.now (number - 1) }
-    ensures { IsLineFault version text.now result }
+    requires bad { HasBadLine (IsTextIn grammar) text.now number }
+    requires none { IsUnendedImage grammar text.now (number - 1) }
+    ensures { IsLineFault grammar text.now result }
 {
     BadPiece {
         line: number,

@@ -24,10 +24,10 @@ use Rattle.of_core.specs.Starts.{IsStartRow, start_from_durable}
 use Rattle.of_caller.proofs.StoresReplay.{number_at}
 use Rattle.of_report.specs.ImageRow.{DurableRow, row_cell_count}
 use Rattle.of_report.specs.ImageLaw.{IsLawfulRow}
-use Rattle.of_report.specs.Image.{Image, IsImage, IsTableImage, IsRestored, image_ticket}
-use Rattle.of_image.specs.declared.version.Version.TheVariants.{Two}
-use Rattle.of_image.specs.ImageText.{SpellsImage, table_row}
-use Rattle.of_image.specs.Parsed.{ReadsImage}
+use Rattle.of_report.specs.Image.{Image, IsTableImage, IsRestored, image_ticket}
+use Rattle.of_image.specs.Grammar.{table_grammar}
+use Rattle.of_image.specs.ImageText.{SpellsIn, table_row}
+use Rattle.of_image.specs.Parsed.{ReadsIn}
 use Rattle.of_image.proofs.RowLaw.{numbers_are}
 use Rattle.of_cells.specs.Saving.{IsSavedCells, saved_words}
 use Rattle.of_memory.specs.declared.saved.Saved.{Saved}
@@ -102,7 +102,7 @@ module _ (d : Saved) (is : IsSaved d) (s : Store) (holds : SavedHolds d s) where
   restored : IsRestored MOST_INSTRS (saved_row d) image
   restored = record { row = (let same = sym start.recovered in λ j. record (saved_row d) { words = same j }); seq = refl; replayed = refl; lawful = lawful }
 
-  pub text_holds : (text : List ℕ) → SpellsImage Two text (saved_row d) → TextHolds text d
+  pub text_holds : (text : List ℕ) → SpellsIn table_grammar text (saved_row d) → TextHolds text d
   text_holds text spelled = (
     image,
     record { raw = saved_row d; spelled = spelled; restored = restored },
@@ -119,15 +119,6 @@ printed_row d w p shape words copy row scripts callers instrs blocks shape_calle
     (λ j. record { callers = callers j; blocks = blocks j; words = words_are j }) ∙ (λ j. record { callers = (scripts j).callers; blocks = (scripts j).blocks; words = saved_words d.cells })
 
 -- ---- what is saved from an image
-
--- a text's image has no more callers and blocks than a table may have
-pub table_image : (i : Image) → IsImage MOST_INSTRS i → IsTableImage MOST_INSTRS i
-table_image i h = record {
-  row = record { some_callers = h.row.some_callers; few_callers = omega (arith, h.row.few_callers); few_blocks = omega (arith, h.row.few_blocks); size = h.row.size; words = h.row.words };
-  settled = h.settled;
-  seq = h.seq;
-  lawful = h.lawful;
-}
 
 -- the image is of these words
 module _ (w : Scripts) (words : List ℕ) (i : Image) (rows : i.row ≡ record { callers = w.callers; blocks = w.blocks; words = words }) (h : IsTableImage MOST_INSTRS i) where
@@ -183,7 +174,7 @@ module _ (d : Saved) (i : Image) (is : IsSavedCells (λ w. w.callers) scripts_da
 
 -- ---- what is read
 
-pub read_cause : (text : List ℕ) (i : Image) (e : ImageTextError) → ReadsImage Two text i → IsPastAll i e → IsTextCause text e
+pub read_cause : (text : List ℕ) (i : Image) (e : ImageTextError) → ReadsIn table_grammar text i → IsPastAll i e → IsTextCause text e
 read_cause text i e reads h = subst (IsTextCause text) (sym h.is) (record { image = i; reads = reads; seq_is = refl; past = h.past })
 
 pub read_back : (text : List ℕ) (i : Image) (r : Result Saved ImageTextError) → IfOk r IsSaved → IfOk r (IsImageOfSaved i) → IfErr r (IsPastAll i) → (d : Saved) → IsSaved d → (holds : TextHolds text d) → i ≡ holds.0 → MatchResult r (IsReadBack d) (λ e. e ≡ OutOfMemory)

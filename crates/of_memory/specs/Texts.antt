@@ -1,14 +1,14 @@
 -- Texts of what is saved, and when two `Saved` hold the same, maybe with other sequences.
-use Rattle.std.specs.Prelude.{◌≡◌, ℕ, ◌<◌, ◌≤◌, List}
+use Rattle.std.specs.Prelude.{◌≡◌, ℕ, ◌<◌, List}
 use Rattle.of_cell.specs.declared.word.TheConstants.{GREATEST_LIMIT}
-use Rattle.of_plan.specs.declared.plan.TheConstants.{MOST_PLAN_CALLERS, MOST_PLAN_BLOCKS}
 use Rattle.of_plan.specs.BadLine.{HasBadLine}
 use Rattle.of_store.specs.Store.{Store, Reply}
 use Rattle.of_report.specs.ImageRow.{DurableRow}
 use Rattle.of_report.specs.Image.{Image, image_ticket}
 use Rattle.of_image.specs.declared.version.Version.TheVariants.{Two}
-use Rattle.of_image.specs.ImageText.{image_text, IsImageText}
-use Rattle.of_image.specs.Parsed.{ReadsImage, IsUnlawful}
+use Rattle.of_image.specs.Grammar.{table_grammar}
+use Rattle.of_image.specs.ImageText.{image_text, IsTextIn}
+use Rattle.of_image.specs.Parsed.{ReadsIn, IsUnlawfulIn}
 use Rattle.of_cells.specs.Saving as generic
 use Rattle.of_cells.specs.Saving.{saved_words}
 use Rattle.of_memory.specs.declared.saved.Saved.{Saved}
@@ -24,11 +24,6 @@ saved_row d = record {
   words = saved_words d.cells;
 }
 
--- what is saved has no more callers and blocks than a plan may have
-pub record IsOfPlanSize (d : Saved) : Type 0 where
-  pub few_callers : (saved_scripts d).callers ≤ MOST_PLAN_CALLERS
-  pub few_blocks : (saved_scripts d).blocks ≤ MOST_PLAN_BLOCKS
-
 -- the text is the one that is printed for what is saved
 abbrev pub IsTextOfSaved : Saved → List ℕ → Type 0
 IsTextOfSaved d text = text ≡ image_text Two (saved_row d)
@@ -40,9 +35,9 @@ pub record IsImageOfSaved (i : Image) (d : Saved) : Type 0 where
   pub store : SavedHolds d i.store
   pub tickets : (n : ℕ) → n < saved_callers d → image_ticket i n ≡ saved_ticket d n
 
--- the text is read as an image of what is saved
+-- the text is read, within the limits of a table, as an image of what is saved
 abbrev pub TextHolds : List ℕ → Saved → Type 0
-TextHolds text d = (i : Image) × ReadsImage Two text i × IsImageOfSaved i d
+TextHolds text d = (i : Image) × ReadsIn table_grammar text i × IsImageOfSaved i d
 
 -- `now` has the store, and the ticket and the last reply of each caller, that `before` has
 pub record SavesSame (before now : Saved) : Type 0 where
@@ -68,13 +63,13 @@ pub record IsPastAll (i : Image) (e : ImageTextError) : Type 0 where
 -- the text is read as an image with this sequence, which is above all limits
 pub record IsPastLimits (text : List ℕ) (seq : ℕ) : Type 0 where
   pub image : Image
-  pub reads : ReadsImage Two text image
+  pub reads : ReadsIn table_grammar text image
   pub seq_is : image.seq ≡ seq
   pub past : GREATEST_LIMIT < seq
 
 -- why nothing that is saved is read from this text
 abbrev pub IsTextCause : List ℕ → ImageTextError → Type 0
 IsTextCause text OutOfMemory = Unit {0}
-IsTextCause text (Bad line) = HasBadLine (IsImageText Two) text line
-IsTextCause text (Unlawful cell) = IsUnlawful Two text cell
+IsTextCause text (Bad line) = HasBadLine (IsTextIn table_grammar) text line
+IsTextCause text (Unlawful cell) = IsUnlawfulIn table_grammar text cell
 IsTextCause text (PastLimits seq) = IsPastLimits text seq

@@ -5,7 +5,7 @@ ghost use Rattle.of_cell.specs.declared.word.TheConstants.{GREATEST_LIMIT};
 ghost use Rattle.of_cell.specs.Cells.{durable_cells, table_words};
 ghost use Rattle.of_mem.specs.declared.work.TheConstants.{MOST_INSTRS};
 ghost use Rattle.of_recover.specs.Row.{IsDurableRow};
-ghost use Rattle.of_report.specs.Image.{IsImage, IsTableImage};
+ghost use Rattle.of_report.specs.Image.{IsTableImage};
 ghost use Rattle.of_memory.specs.Saving.{IsSaved, saved_limit};
 ghost use Rattle.of_memory.specs.Texts.{IsImageOfSaved, IsPastAll};
 
@@ -14,7 +14,7 @@ use crate::saved::Saved;
 use of_cell::Shape;
 use of_cells::SavedCells;
 use of_eval::{Scripts, shape_of};
-use of_image::{ImageErr, image_parse, image_print};
+use of_image::{ImageErr, Limits, image_parse_within, image_print};
 use of_plan::GREATEST_LIMIT;
 use of_report::Image;
 use std::alloc::{AllocError, Global};
@@ -37,18 +37,17 @@ impl Saved {
     ghost use Rattle.std.specs.Prelude.{MatchResult};
     ghost use Rattle.of_memory.specs.declared.saved.Saved.{Saved as AnySaved};
     ghost use Rattle.of_memory.specs.declared.error.ImageTextError.TheVariants.{OutOfMemory};
-    ghost use Rattle.of_memory.specs.Texts.{IsOfPlanSize, IsTextOfSaved, TextHolds, IsReadBack, IsTextCause};
+    ghost use Rattle.of_memory.specs.Texts.{IsTextOfSaved, TextHolds, IsReadBack, IsTextCause};
 
     /// What is saved, as a text: an image, as the command line reads and writes it. The text has
-    /// the store, and the last ticket and reply of each caller, but not the limit. If there are
-    /// more callers or blocks than a plan may have, the text can't be read back. The error is that
-    /// memory ran out.
+    /// the store, and the last ticket and reply of each caller, but not the limit. The command line
+    /// reads it only if a plan may have as many callers and blocks. The error is that memory ran
+    /// out.
     pub fn image_text(&self, alloc: Global) -> Result<Vec<u8>, AllocError>
         requires { IsSaved self.now }
         ensures printed { IfOk result (λ text. IsTextOfSaved self.now text.items) }
-        // If a plan may have as many callers and blocks, the text can be read back.
-        ensures holds { IsOfPlanSize self.now
-            → IfOk result (λ text. TextHolds text.items self.now) }
+        // The text can be read back.
+        ensures holds { IfOk result (λ text. TextHolds text.items self.now) }
     {
         let scripts = self.scripts();
         let words = table_of(alloc, &shape_of(scripts), self.cells.words())?;
@@ -66,7 +65,7 @@ impl Saved {
         ensures back { (d : AnySaved) → IsSaved d → TextHolds text.now d →
             MatchResult result (IsReadBack d) (λ e. e ≡ OutOfMemory) }
     {
-        match image_parse(alloc, text) {
+        match image_parse_within(alloc, Limits::Table, text) {
             Ok(image) => save_image(image),
             Err(ImageErr::Memory) => Err(ImageTextError::OutOfMemory),
             Err(ImageErr::Bad { line }) => Err(ImageTextError::Bad { line }),
@@ -77,7 +76,7 @@ impl Saved {
 
 // What an image holds, if its sequence is within the limits.
 fn save_image(image: Image) -> Result<Saved, ImageTextError>
-    requires { IsImage MOST_INSTRS image }
+    requires { IsTableImage MOST_INSTRS image }
     ensures saved { IfOk result IsSaved }
     ensures image { IfOk result (IsImageOfSaved image) }
     ensures limit { IfOk result (λ d. saved_limit d ≡ GREATEST_LIMIT) }

@@ -49,7 +49,7 @@ pub record IsImageWithin (callers blocks instrs : ℕ) (i : Image) : Type 0 wher
   pub seq : i.seq ≡ current_seq (slice_index i.row.words)
   pub lawful : IsLawfulRow instrs i.row i.store
 
--- an image that can be read from a text: it has no more callers and blocks than a plan may have
+-- an image that a command reads: it has no more callers and blocks than a plan may have
 abbrev pub IsImage : (instrs : ℕ) → Image → Type 0
 IsImage instrs i = IsImageWithin MOST_PLAN_CALLERS MOST_PLAN_BLOCKS instrs i
 

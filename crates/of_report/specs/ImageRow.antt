@@ -45,7 +45,7 @@ pub record IsRowWithin (callers blocks instrs : ℕ) (r : DurableRow) : Type 0 w
   pub size : IsDurableRow r.callers (row_cell_count instrs r) r.words
   pub words : (c : ℕ) → slice_index r.words c < 2 ^ 64
 
--- the row of an image's text, which has no more callers and blocks than a plan may have
+-- the row of an image that a command reads: it has no more callers and blocks than a plan may have
 abbrev pub IsRow : (instrs : ℕ) → DurableRow → Type 0
 IsRow instrs r = IsRowWithin MOST_PLAN_CALLERS MOST_PLAN_BLOCKS instrs r
 

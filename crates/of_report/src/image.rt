@@ -18,10 +18,11 @@ use std::marker::Model;
 /// image can be the image of a text: `IsImage MOST_INSTRS`.
 #[derive(Drop)]
 pub struct Image {
-    /// How many callers the table has: 1 to `of_plan::MOST_PLAN_CALLERS`, if the image is a text's.
+    /// How many callers the table has: 1 to `of_plan::MOST_PLAN_CALLERS`, if a command has read the
+    /// image.
     pub callers: u32,
-    /// How many blocks the table has: at most `of_plan::MOST_PLAN_BLOCKS`, if the image is a
-    /// text's.
+    /// How many blocks the table has: at most `of_plan::MOST_PLAN_BLOCKS`, if a command has read
+    /// the image.
     pub blocks: u32,
     /// The durable words after recovery.
     pub durable: Vec<u64>,

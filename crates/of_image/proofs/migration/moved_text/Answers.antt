@@ -7,7 +7,7 @@ use Rattle.of_report.specs.Image.{Image, IsImage}
 use Rattle.of_report.specs.ImageRow.{row_in, data_cell_count_for}
 use Rattle.of_image.specs.ImageText.{image_text}
 use Rattle.of_image.specs.MovedRow.{moved_words, moved_row}
-use Rattle.of_image.proofs.ImageProgress.{few_cells}
+use Rattle.of_image.proofs.Bounds.{few_cells}
 use Rattle.of_image.proofs.MovedRows.{long}
 use Rattle.of_image.proofs.migration.moved_text.Goals as goal
 
@@ -27,7 +27,7 @@ print_row-requires c =
     let is = moved_is _ _ _ _ 8 MOST_INSTRS i.callers i.blocks _ i.durable.items c.deref-2.result.now c.plot_of-old.ensures.instrs c.plot_of-new.ensures.instrs c.plot_of-old.ensures.callers c.plot_of-old.ensures.blocks c.deref.ensures.value (c.deref-2.ensures.value ∙ c.in_ok-words.ensures) in
     let size : length c.deref-2.result.now ≡ durable_cells i.callers (data_cell_count_for MOST_INSTRS i.callers i.blocks) = ap length is ∙ long 8 MOST_INSTRS i.callers i.blocks i.durable.items (omega arith) in
     let held = subst (IsImage 8) (sym c.image.view_is) c.requires in
-    omega (arith, size, few_cells Two i.callers i.blocks held.row.few_callers held.row.few_blocks)
+    omega (arith, size, few_cells Two i.callers i.blocks (omega (arith, held.row.few_callers)) (omega (arith, held.row.few_blocks)))
 
 pub returns : goal.returns
 returns c =

@@ -6,7 +6,7 @@ use Rattle.of_image.proofs.parse_row.read_row.Given as goal
 
 abbrev pub invariant-loop-reading : goal.invariant-loop-reading
 invariant-loop-reading l = record {
-  read : IsImageReading l.version l.text (text_lines l.rest) l.number (row_reading_value l.reading);
+  read : IsImageReading l.grammar l.text (text_lines l.rest) l.number (row_reading_value l.reading);
   count : l.number + length l.rest ≤ length l.text;
 }
 

@@ -42,7 +42,7 @@ returns g c =
     let run = c.reports_respect_time.ensures.teams (start_of_image i) (start_from_row p i.row.words) e handed.sight handed.team in
     let leaves = told.leaves in
     let left : c.in_ok-left.left.items ≡ image_text Two (durable_row p e) = c.in_ok-left.ensures.text ∙ ap (image_text Two) row in
-    let again : SpellsImage Two (image_text Two (durable_row p e)) (durable_row p e) = subst (λ (t : List ℕ). SpellsImage Two t (durable_row p e)) left (subst (SpellsImage Two c.in_ok-left.left.items) row (c.in_ok-left.ensures.again (omega (arith, callers, c.plot.ensures.plan.few_callers)) (omega (arith, blocks, c.plot.ensures.plan.few_blocks)))) in
+    let again : SpellsImage Two (image_text Two (durable_row p e)) (durable_row p e) = subst (λ (t : List ℕ). SpellsImage Two t (durable_row p e)) left (subst (SpellsImage Two c.in_ok-left.left.items) row (c.in_ok-left.ensures.plan (omega (arith, callers, c.plot.ensures.plan.few_callers)) (omega (arith, blocks, c.plot.ensures.plan.few_blocks)))) in
     record {
       report = report_value c.in_ok-report.field-0.report;
       life = record {

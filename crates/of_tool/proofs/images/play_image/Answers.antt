@@ -75,4 +75,4 @@ returns c =
     let before = c.before.before.before.before in
     both_ok c.image_print.result (λ text. text.items ≡ image_text Two r) (λ text. SpellsImage Two text.items r) _
     (λ text is again. played_image p (play before) (restarts before) c.records_have_images.ensures c.lives_restart.ensures c.one_image.ensures e c.in_ok-ended.ensures.played (report before).0 (played before) text.items (is ∙ ap (image_text Two) row) (subst (SpellsImage Two text.items) row again))
-    c.image_print.ensures.text (c.image_print.ensures.again (omega (arith, callers, c.plot.ensures.plan.few_callers)) (omega (arith, blocks, c.plot.ensures.plan.few_blocks)))
+    c.image_print.ensures.text (c.image_print.ensures.plan (omega (arith, callers, c.plot.ensures.plan.few_callers)) (omega (arith, blocks, c.plot.ensures.plan.few_blocks)))

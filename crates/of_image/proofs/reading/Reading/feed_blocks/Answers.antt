@@ -5,4 +5,4 @@ use Rattle.of_image.proofs.Feeding.{blocks_taken}
 use Rattle.of_image.proofs.reading.Reading.feed_blocks.Goals as goal
 
 pub returns : goal.returns
-returns c = blocks_taken c.args.version (row_reading_value c.args.self.now) _ (text_words c.args.line.now) c.in-Ok.count c.requires.stage c.requires.kept c.in-Ok.ensures.0 c.in-Ok.ensures.1 (search rules)
+returns c = blocks_taken c.args.grammar (row_reading_value c.args.self.now) _ (text_words c.args.line.now) c.in-Ok.count c.requires.stage c.requires.kept c.in-Ok.ensures.0 c.in-Ok.ensures.1 (search rules)

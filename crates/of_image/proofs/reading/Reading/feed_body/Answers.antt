@@ -11,4 +11,4 @@ feed_cell-requires-clause-rest c = ends_behind _ _ _ c.in-Some.ensures.parts
 pub returns-in_err-expect_end : goal.returns-in_err-expect_end
 returns-in_err-expect_end c =
     thrown c.from_residual.result _ _ _ c.from_residual.ensures.1
-    (too_many c.args.version (row_reading_value c.args.self.now) c.args.line.now c.in-Some.rest.now _ End c.requires.kept tt (search rules) (ends_behind _ _ _ c.in-Some.ensures.parts) c.in_err-expect_end.ensures.ends c.in_err-expect_end.ensures.piece c.in_err-expect_end.ensures.reason)
+    (too_many c.args.grammar (row_reading_value c.args.self.now) c.args.line.now c.in-Some.rest.now _ End c.requires.kept tt (search rules) (ends_behind _ _ _ c.in-Some.ensures.parts) c.in_err-expect_end.ensures.ends c.in_err-expect_end.ensures.piece c.in_err-expect_end.ensures.reason)
