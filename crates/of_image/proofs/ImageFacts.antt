@@ -21,7 +21,9 @@ use Rattle.of_image.specs.declared.error.ImageErr.{ImageErr}
 use Rattle.of_image.specs.declared.error.ImageErr.TheVariants.{Memory}
 use Rattle.of_image.specs.declared.grammar.Grammar.{Grammar}
 use Rattle.of_report.specs.ImageRow.{DurableRow, IsRowWithin, IsTableRow, row_cell_count, row_in}
-use Rattle.of_image.specs.Grammar.{IsImageIn}
+use Rattle.of_image.specs.declared.version.Version.TheVariants.{Two}
+use Rattle.of_plan.specs.declared.plan.TheConstants.{MOST_PLAN_CALLERS, MOST_PLAN_BLOCKS}
+use Rattle.of_image.specs.Grammar.{IsImageIn, plan_grammar, table_grammar}
 use Rattle.of_image.specs.Version.{instrs_of}
 use Rattle.of_report.proofs.Recovery.{row_long}
 use Rattle.of_image.specs.ImageText.{SpellsIn}
@@ -217,4 +219,23 @@ table_is_row n b p ws instrs long small few_callers few_blocks = record {
   few_blocks = few_blocks;
   size = row_long p.callers (data_cell_count p) ws _ long refl ∙ ap (λ (n : ℕ). durable_cells p.callers (cells_at (base_of p.callers n) p.blocks)) instrs;
   words = slice_small ws (durable_cells p.callers (data_cell_count p)) (durable_cells p.callers (data_cell_count p)) (subst (λ (n : ℕ). durable_cells p.callers (data_cell_count p) + durable_cells p.callers (data_cell_count p) ≤ n) (sym long) (twice_within (durable_cells p.callers (data_cell_count p)) (p.callers * (MOST_INSTRS + 1)))) small;
+}
+
+-- ---- a row within other limits
+
+same_row : {n b m d : ℕ} → (instrs : ℕ) (r : DurableRow) → r.callers ≤ m → r.blocks ≤ d → IsRowWithin n b instrs r → IsRowWithin m d instrs r
+same_row instrs r few low h = record { some_callers = h.some_callers; few_callers = few; few_blocks = low; size = h.size; words = h.words }
+
+pub plan_in_table : (text : List ℕ) (i : Image) → ReadsIn (plan_grammar Two) text i → ReadsIn table_grammar text i
+plan_in_table text i h = record {
+  raw = h.raw;
+  spelled = record { row = same_row MOST_INSTRS h.raw (omega (arith, h.spelled.row.few_callers)) (omega (arith, h.spelled.row.few_blocks)) h.spelled.row; each = h.spelled.each };
+  restored = h.restored;
+}
+
+pub table_in_plan : (text : List ℕ) (i : Image) → i.row.callers ≤ MOST_PLAN_CALLERS → i.row.blocks ≤ MOST_PLAN_BLOCKS → ReadsIn table_grammar text i → ReadsIn (plan_grammar Two) text i
+table_in_plan text i few low h = record {
+  raw = h.raw;
+  spelled = record { row = same_row MOST_INSTRS h.raw (omega (arith, few, ap (λ (r : DurableRow). r.callers) h.restored.row)) (omega (arith, low, ap (λ (r : DurableRow). r.blocks) h.restored.row)) h.spelled.row; each = h.spelled.each };
+  restored = h.restored;
 }

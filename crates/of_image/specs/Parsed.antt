@@ -1,6 +1,6 @@
 -- How the text of an image is read: what recovery finds in its words, and which line or cell is at
 -- fault in a text that is refused.
-use Rattle.std.specs.Prelude.{◌≡◌, ℕ, List}
+use Rattle.std.specs.Prelude.{◌≡◌, ◌≤◌, ℕ, List}
 use Rattle.of_plan.specs.BadLine.{HasBadLine}
 use Rattle.of_script.specs.declared.instr.TheConstants.{MOST_INSTRS}
 use Rattle.of_report.specs.ImageRow.{DurableRow, recovered_row}
@@ -9,7 +9,9 @@ use Rattle.of_image.specs.declared.error.ImageErr.{ImageErr}
 use Rattle.of_image.specs.declared.error.ImageErr.TheVariants.{Memory, Bad, Unlawful}
 use Rattle.of_image.specs.declared.grammar.Grammar.{Grammar}
 use Rattle.of_image.specs.declared.version.Version.{Version}
-use Rattle.of_image.specs.Grammar.{plan_grammar}
+use Rattle.of_image.specs.declared.version.Version.TheVariants.{Two}
+use Rattle.of_plan.specs.declared.plan.TheConstants.{MOST_PLAN_CALLERS, MOST_PLAN_BLOCKS}
+use Rattle.of_image.specs.Grammar.{plan_grammar, table_grammar}
 use Rattle.of_image.specs.Version.{instrs_of}
 use Rattle.of_image.specs.ImageText.{SpellsIn, IsTextIn}
 use Rattle.of_image.specs.declared.refusal.ImageFault.TheVariants.{Line, Cell}
@@ -98,3 +100,15 @@ HasOneFault =
 abbrev pub OneImage : Type 0
 OneImage =
     (v : Version) (text : List ℕ) (i j : Image) → ReadsImage v text i → ReadsImage v text j → i ≡ j
+
+-- an image that is read within the limits of a plan is read within those of a table
+abbrev pub PlanImagesAreTableImages : Type 0
+PlanImagesAreTableImages =
+    (text : List ℕ) (i : Image) → ReadsImage Two text i → ReadsIn table_grammar text i
+
+-- an image that is read within the limits of a table is read within those of a plan, if a plan may
+-- have as many callers and blocks
+abbrev pub SmallTableImagesArePlanImages : Type 0
+SmallTableImagesArePlanImages =
+    (text : List ℕ) (i : Image) → i.row.callers ≤ MOST_PLAN_CALLERS
+    → i.row.blocks ≤ MOST_PLAN_BLOCKS → ReadsIn table_grammar text i → ReadsImage Two text i

@@ -1,6 +1,7 @@
 //! Laws of images.
 
 ghost use Rattle.of_image.specs.Parsed.{HasOneFault, OneImage, UnlawfulHaveNone};
+ghost use Rattle.of_image.specs.Parsed.{PlanImagesAreTableImages, SmallTableImagesArePlanImages};
 ghost use Rattle.of_image.specs.RunImage.{RecordsHaveImages};
 
 /// The text of the durable words that a run leaves has an image, with the sequence and the store of
@@ -18,4 +19,10 @@ pub fn one_image()
 pub fn unlawful_have_none()
     ensures none { UnlawfulHaveNone }
     ensures one { HasOneFault }
+{}
+
+/// The limits of a plan and those of a table differ only in how large an image may be.
+pub fn limits_read_alike()
+    ensures wider { PlanImagesAreTableImages }
+    ensures narrower { SmallTableImagesArePlanImages }
 {}
