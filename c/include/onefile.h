@@ -19,7 +19,8 @@
  *   ONEFILE_NULL       a pointer is null
  *   ONEFILE_BUSY       another call has the object, or the caller of this number: try again later
  *   ONEFILE_NO_MEMORY  malloc gave none. onefile_call, its forms and onefile_go_on never answer it:
- *                      a call takes no memory
+ *                      a call takes no memory. Nor do onefile_register, onefile_key, onefile_item,
+ *                      onefile_ticket and onefile_last_reply
  *
  * Threads. Any thread may call any function on any object at any time. Calls of different callers
  * run at once. Two calls of one caller do not: the second one is answered ONEFILE_BUSY, and

@@ -1,8 +1,8 @@
 /* refused.c: each allocation of a life is refused in turn. The function answers ONEFILE_NO_MEMORY,
- * has changed nothing, and does what it should when it is called again. Only a function that reads
- * the store can do without one allocation: it asks for the room of a list at once, and if that is
- * refused, it takes the room as the list grows. A call of a script allocates nothing. To be linked
- * with -Wl,--wrap=malloc,--wrap=realloc. */
+ * has changed nothing, and does what it should when it is called again. Only the function that reads
+ * an image can do without one allocation: it asks for the room of a list at once, and if that is
+ * refused, it takes the room as the list grows. A call of a script allocates nothing, and neither
+ * does a question to what was saved. To be linked with -Wl,--wrap=malloc,--wrap=realloc. */
 #include "onefile.h"
 
 #include <stdio.h>
@@ -55,7 +55,7 @@ static void expect(int answer, const char *what) {
     expect(answer, #call);                       \
   } while (0)
 
-/* Makes a call of a script, which allocates nothing. */
+/* Makes a call that allocates nothing. */
 #define CALL(call)                                          \
   do {                                                      \
     long before = asked;                                    \
@@ -97,11 +97,11 @@ static void life(void) {
   AGAIN(renumber(&memory, &saved));
   AGAIN(onefile_free_saved(&saved));
   AGAIN(onefile_close(&memory, &saved));
-  READS(onefile_register(&saved, 1, &value[0]));
-  READS(onefile_key(&saved, 3, &value[1]));
-  READS(onefile_item(&saved, 0, 0, &value[2]));
-  AGAIN(onefile_ticket(&saved, 1, &value[3]));
-  AGAIN(onefile_last_reply(&saved, 1, &reply));
+  CALL(onefile_register(&saved, 1, &value[0]));
+  CALL(onefile_key(&saved, 3, &value[1]));
+  CALL(onefile_item(&saved, 0, 0, &value[2]));
+  CALL(onefile_ticket(&saved, 1, &value[3]));
+  CALL(onefile_last_reply(&saved, 1, &reply));
   AGAIN(onefile_free_saved(&saved));
   if (value[0] != 7 || value[1] != 4 || value[2] != 9 || value[3] != 1 || reply.values[0] != 5) {
     printf("a life ended otherwise\n");

@@ -1,56 +1,25 @@
 //! What C reads of what a memory has left.
 
-ghost use Rattle.std.specs.Prelude.{◌≡◌, ◌≢◌, ◌↔◌, ◌<◌, ◌≤◌, ◌∷◌, [], IfErr, IfOk, None, Some};
+ghost use Rattle.std.specs.Prelude.{◌≡◌, ◌≢◌, ◌↔◌, ◌<◌, ◌≤◌, ◌∷◌, [], None, Some};
 ghost use Rattle.std.specs.Prelude.{slice_get};
 ghost use Rattle.std.specs.FinMap as fm;
 ghost use Rattle.of_store.specs.Store.{register as register_of, queue as queue_of};
 ghost use Rattle.of_script.specs.declared.instr.TheConstants.{GREATEST, QUEUES, REGISTERS};
 ghost use Rattle.of_memory.specs.Saving.{saved_ticket};
-ghost use Rattle.of_c.specs.declared.codes.TheConstants.{ABSENT, DONE, EMPTY, NO_MEMORY, RANGE};
+ghost use Rattle.of_c.specs.declared.codes.TheConstants.{ABSENT, DONE, EMPTY, RANGE};
 ghost use Rattle.of_c.specs.Replies.{LeavesSeqAndSteps};
 ghost use Rattle.of_c.specs.States.{HoldsStore, HasCallerWith, ShowsLast};
-ghost use Rattle.of_c.specs.Causes.{IsOneCode, IsUnread, HoldsNo, IsNotSaved};
+ghost use Rattle.of_c.specs.Causes.{IsOneCode, HoldsNo, IsNotSaved};
 ghost use Rattle.of_c.specs.Causes.{HoldsSavedWith, HasNoTicketOf};
 
-use crate::codes::{ABSENT, DONE, EMPTY, NO_MEMORY, RANGE};
+use crate::codes::{ABSENT, DONE, EMPTY, RANGE};
 use crate::held::Held;
 use crate::reply::CReply;
 use crate::slot::Slot;
 use crate::truth::{OfSaved, surely};
-use of_memory::{Saved, Store};
+use of_memory::Saved;
 use of_script::{GREATEST, QUEUES, REGISTERS};
 use std::alloc::Global;
-
-// The store of what is held, or a code.
-fn store_held(alloc: Global, held: &Held) -> Result<Store, u32>
-    ensures store { IfOk result (λ s. HoldsStore (Some held.now) (λ t. t ≡ s)) }
-    ensures code { IfErr result (IsUnread (Some held.now)) }
-{
-    match held {
-        Held::Saved(kept) => {
-            surely::<Saved, OfSaved>(&kept.saved);
-            match kept.saved.store(alloc) {
-                Ok(store) => Ok(store),
-                Err(_) => Err(NO_MEMORY),
-            }
-        }
-        _ => Err(EMPTY),
-    }
-}
-
-// The store of what a memory has left, or a code. The slot holds what it held.
-fn store_in(alloc: Global, saved: &mut Slot) -> Result<Store, u32>
-    ensures store { IfOk result (λ s. HoldsStore saved.old.raw.held (λ t. t ≡ s)) }
-    ensures code { IfErr result (IsUnread saved.old.raw.held) }
-    ensures same { saved.new.raw.held ≡ saved.old.raw.held }
-{
-    let Some(held) = saved.take(alloc) else {
-        return Err(EMPTY);
-    };
-    let store = store_held(alloc, &held);
-    saved.put(held);
-    store
-}
 
 // Tells a number, if there is one.
 fn tell(number: Option<u32>, value: &mut u32) -> u32
@@ -68,12 +37,23 @@ fn tell(number: Option<u32>, value: &mut u32) -> u32
     }
 }
 
-// An item of a queue, from the front.
-fn item_of(store: &Store, queue: u32, at: u32) -> Option<u32>
-    requires { queue < QUEUES }
-    ensures { result ≡ slice_get (queue_of store.now queue) at }
+// Reads a register, if what is held is what a memory has left.
+fn register_held(held: &Held, register: u32, value: &mut u32) -> u32
+    requires { register < REGISTERS }
+    ensures read { result ≡ DONE → HoldsStore (Some held.now)
+        (λ s. value.new ≡ register_of s register) }
+    ensures codes { IsOneCode (DONE ∷ EMPTY ∷ []) result }
+    ensures empty { (result ≡ EMPTY) ↔ IsNotSaved held.now }
+    ensures unread { result ≢ DONE → value.new ≡ value.old }
 {
-    store.queue(queue).get(at as usize).copied()
+    match held {
+        Held::Saved(kept) => {
+            surely::<Saved, OfSaved>(&kept.saved);
+            *value = kept.saved.register(register);
+            DONE
+        }
+        _ => EMPTY,
+    }
 }
 
 /// Reads the number in a register of the saved store.
@@ -86,7 +66,7 @@ pub extern "C" fn of_c_register(
 ) -> u32
     ensures read { result ≡ DONE → HoldsStore saved.old.raw.held
         (λ s. value.new ≡ register_of s register) }
-    ensures codes { IsOneCode (DONE ∷ RANGE ∷ EMPTY ∷ NO_MEMORY ∷ []) result }
+    ensures codes { IsOneCode (DONE ∷ RANGE ∷ EMPTY ∷ []) result }
     ensures range { (result ≡ RANGE) ↔ (REGISTERS ≤ register) }
     ensures empty { result ≡ EMPTY → HoldsNo IsNotSaved saved.old.raw.held }
     ensures same { saved.new.raw.held ≡ saved.old.raw.held }
@@ -95,12 +75,30 @@ pub extern "C" fn of_c_register(
     if register as usize >= REGISTERS {
         return RANGE;
     }
-    match store_in(alloc, saved) {
-        Ok(store) => {
-            *value = store.register(register);
-            DONE
+    let Some(held) = saved.take(alloc) else {
+        return EMPTY;
+    };
+    let code = register_held(&held, register, value);
+    saved.put(held);
+    code
+}
+
+// Reads the number at a key, if what is held is what a memory has left.
+fn key_held(held: &Held, key: u32, value: &mut u32) -> u32
+    ensures read { result ≡ DONE → HoldsStore (Some held.now)
+        (λ s. fm.get s.keys key ≡ Some value.new) }
+    ensures absent { result ≡ ABSENT → HoldsStore (Some held.now)
+        (λ s. fm.get s.keys key ≡ None) }
+    ensures codes { IsOneCode (DONE ∷ ABSENT ∷ EMPTY ∷ []) result }
+    ensures empty { (result ≡ EMPTY) ↔ IsNotSaved held.now }
+    ensures unread { result ≢ DONE → value.new ≡ value.old }
+{
+    match held {
+        Held::Saved(kept) => {
+            surely::<Saved, OfSaved>(&kept.saved);
+            tell(kept.saved.key(key), value)
         }
-        Err(code) => code,
+        _ => EMPTY,
     }
 }
 
@@ -111,7 +109,7 @@ pub extern "C" fn of_c_key(alloc: Global, saved: &mut Slot, key: u32, value: &mu
         (λ s. fm.get s.keys key ≡ Some value.new) }
     ensures absent { result ≡ ABSENT → HoldsStore saved.old.raw.held
         (λ s. fm.get s.keys key ≡ None) }
-    ensures codes { IsOneCode (DONE ∷ ABSENT ∷ RANGE ∷ EMPTY ∷ NO_MEMORY ∷ []) result }
+    ensures codes { IsOneCode (DONE ∷ ABSENT ∷ RANGE ∷ EMPTY ∷ []) result }
     ensures range { (result ≡ RANGE) ↔ (GREATEST < key) }
     ensures empty { result ≡ EMPTY → HoldsNo IsNotSaved saved.old.raw.held }
     ensures same { saved.new.raw.held ≡ saved.old.raw.held }
@@ -120,9 +118,31 @@ pub extern "C" fn of_c_key(alloc: Global, saved: &mut Slot, key: u32, value: &mu
     if key > GREATEST {
         return RANGE;
     }
-    match store_in(alloc, saved) {
-        Ok(store) => tell(store.key(key), value),
-        Err(code) => code,
+    let Some(held) = saved.take(alloc) else {
+        return EMPTY;
+    };
+    let code = key_held(&held, key, value);
+    saved.put(held);
+    code
+}
+
+// Reads an item of a queue, if what is held is what a memory has left.
+fn item_held(held: &Held, queue: u32, at: u32, value: &mut u32) -> u32
+    requires { queue < QUEUES }
+    ensures read { result ≡ DONE → HoldsStore (Some held.now)
+        (λ s. slice_get (queue_of s queue) at ≡ Some value.new) }
+    ensures absent { result ≡ ABSENT → HoldsStore (Some held.now)
+        (λ s. slice_get (queue_of s queue) at ≡ None) }
+    ensures codes { IsOneCode (DONE ∷ ABSENT ∷ EMPTY ∷ []) result }
+    ensures empty { (result ≡ EMPTY) ↔ IsNotSaved held.now }
+    ensures unread { result ≢ DONE → value.new ≡ value.old }
+{
+    match held {
+        Held::Saved(kept) => {
+            surely::<Saved, OfSaved>(&kept.saved);
+            tell(kept.saved.item(queue, at), value)
+        }
+        _ => EMPTY,
     }
 }
 
@@ -139,7 +159,7 @@ pub extern "C" fn of_c_item(
         (λ s. slice_get (queue_of s queue) at ≡ Some value.new) }
     ensures absent { result ≡ ABSENT → HoldsStore saved.old.raw.held
         (λ s. slice_get (queue_of s queue) at ≡ None) }
-    ensures codes { IsOneCode (DONE ∷ ABSENT ∷ RANGE ∷ EMPTY ∷ NO_MEMORY ∷ []) result }
+    ensures codes { IsOneCode (DONE ∷ ABSENT ∷ RANGE ∷ EMPTY ∷ []) result }
     ensures range { (result ≡ RANGE) ↔ (QUEUES ≤ queue) }
     ensures empty { result ≡ EMPTY → HoldsNo IsNotSaved saved.old.raw.held }
     ensures same { saved.new.raw.held ≡ saved.old.raw.held }
@@ -148,10 +168,12 @@ pub extern "C" fn of_c_item(
     if queue as usize >= QUEUES {
         return RANGE;
     }
-    match store_in(alloc, saved) {
-        Ok(store) => tell(item_of(&store, queue, at), value),
-        Err(code) => code,
-    }
+    let Some(held) = saved.take(alloc) else {
+        return EMPTY;
+    };
+    let code = item_held(&held, queue, at, value);
+    saved.put(held);
+    code
 }
 
 fn ticket_held(held: &Held, number: u32, ticket: &mut u32) -> u32

@@ -1,11 +1,16 @@
-use Rattle.std.proofs.Common.{◌∙◌, sym}
-use Rattle.of_c.proofs.Stores.{store_with}
+use Rattle.std.proofs.Common.{◌≡◌, ◌∙◌, ap, sym, subst}
+use Rattle.std.specs.Prelude.{Option, Some, None, slice_get}
+use Rattle.of_store.specs.Store.{queue}
+use Rattle.of_c.specs.declared.held.Held.{Held}
+use Rattle.of_c.specs.States.{HoldsStore}
 use Rattle.of_c.proofs.states.of_c_item.Goals as goal
 
-pub returns-in-Ok-clause-read : goal.returns-in-Ok-clause-read
-returns-in-Ok-clause-read c done =
-    store_with _ c.in-Ok.ensures.store (sym c.item_of.ensures ∙ c.tell.ensures.some done)
+pub returns-clause-read : goal.returns-clause-read
+returns-clause-read c done =
+    subst (λ (h : Option Held). HoldsStore h (λ s. slice_get (queue s c.args.queue) c.args.at ≡ Some c.item_held-code.new.value))
+    (ap Some c.deref.ensures ∙ sym c.in-Some.ensures.some) (c.item_held-code.ensures.read done)
 
-pub returns-in-Ok-clause-absent : goal.returns-in-Ok-clause-absent
-returns-in-Ok-clause-absent c done =
-    store_with _ c.in-Ok.ensures.store (sym c.item_of.ensures ∙ c.tell.ensures.none done)
+pub returns-clause-absent : goal.returns-clause-absent
+returns-clause-absent c done =
+    subst (λ (h : Option Held). HoldsStore h (λ s. slice_get (queue s c.args.queue) c.args.at ≡ None))
+    (ap Some c.deref.ensures ∙ sym c.in-Some.ensures.some) (c.item_held-code.ensures.absent done)

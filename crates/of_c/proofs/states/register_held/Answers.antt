@@ -1,0 +1,9 @@
+use Rattle.std.proofs.Common.{refl, sym, subst}
+use Rattle.of_c.specs.declared.held.Held.{Held}
+use Rattle.of_c.specs.Slots.{HasSaved}
+use Rattle.of_c.proofs.Stores.{store_with}
+use Rattle.of_c.proofs.states.register_held.Goals as goal
+
+pub returns-in-Saved-clause-read : goal.returns-in-Saved-clause-read
+returns-in-Saved-clause-read c done =
+    store_with c.in-Saved.kept.saved _ (subst (λ (h : Held). HasSaved h c.in-Saved.kept.saved) (sym c.in-Saved.is) refl) c.surely.ensures c.register.ensures
