@@ -6,7 +6,7 @@ ghost use Rattle.of_tool.specs.Ran.{IsRunReport};
 ghost use Rattle.of_tool.specs.Seen.{view_of};
 
 use of_brake::Brake;
-use of_caller::laws::{plan_keeps_laws, reports_respect_time, runs_are_lawful, teams_are_lawful};
+use of_caller::laws::{plan_keeps_laws, reports_respect_time, teams_are_lawful};
 use of_caller::{team, zero_row_for};
 use of_plan::{Ended, Plan};
 use of_report::Report;
@@ -28,7 +28,6 @@ pub fn run_report<R: Threads + Sync>(
         (report_value r.0) r.1.0 (view_of r.1.1)) }
 {
     plan_keeps_laws(plan);
-    runs_are_lawful();
     teams_are_lawful(plan);
     reports_respect_time(plan);
     let (row, pass) = zero_row_for(alloc, plan)?;
