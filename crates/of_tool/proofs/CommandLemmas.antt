@@ -1,5 +1,5 @@
 -- No two commands have the same words, so a command has its own answers alone.
-use Rattle.std.proofs.Common.{◌≡◌, ◌<◌, ◌≤◌, ◌⊎◌, inl, inr, List, ℕ, [], ◌∷◌, length, get_or, Option, None, Some, refl, sym, ap, subst, ◌∙◌, arith}
+use Rattle.std.proofs.Common.{◌≡◌, ◌↔◌, ◌<◌, ◌≤◌, ◌⊎◌, inl, inr, Bool, false, IsTrue, List, ℕ, [], ◌∷◌, length, get_or, Option, None, Some, refl, sym, ap, subst, ◌∙◌, arith}
 use Rattle.std.specs.Prelude.{◌^◌, ◌*◌, codes, decimal, if◌then◌else◌}
 use Rattle.std.specs.Str.Parse.{digits_value}
 use Rattle.std.proofs.lemmas.Fmt.{decimal_is_IsNumeral, decimal_injective}
@@ -11,7 +11,7 @@ use Rattle.of_tool.specs.declared.command.Command.{Command}
 use Rattle.of_tool.specs.declared.command.Command.TheVariants.{Serial, Play, Trace, Commits, Run, Load, Check, CheckLife, Part, Image, Recover, Renumber, Migrate, Continue, Help, Version}
 use Rattle.of_tool.specs.declared.command.HelpWord.TheVariants.{Long, Short, Bare}
 use Rattle.of_tool.specs.Commands.{command_words, IsInRange, IsTrace, IsLoad, IsPartNumber, SpellsUpTo, AreWordsOf, IsNoCommand}
-use Rattle.of_tool.specs.Inputs.{input_of, AskForInput}
+use Rattle.of_tool.specs.Inputs.{Input, input_of, AskForInput}
 
 -- ---- numbers
 
@@ -164,3 +164,20 @@ unread_of words c is none = by (input_of c) refl
     by : (o : Option _) → input_of c ≡ o → input_of c ≡ None
     by None e = e
     by (Some input) e = absurd (none (record { command = c; are = is; input = input; reads = e }))
+
+-- a command asks for input exactly if it reads
+pub asks_by : (words : List (List ℕ)) (c : Command) → AreWordsOf words c → (reads : Bool) → MatchOption (input_of c) (IsTrue reads → ⊥) (λ input. IsTrue reads) → IsTrue reads ↔ AskForInput words
+asks_by words c is reads = by (input_of c) refl
+  where
+    by : (o : Option Input) → input_of c ≡ o → MatchOption o (IsTrue reads → ⊥) (λ input. IsTrue reads) → IsTrue reads ↔ AskForInput words
+    by None e none = (
+      λ reading. absurd (none reading),
+      λ asks.
+          let same : input_of c ≡ Some asks.input = subst (λ (k : Command). input_of k ≡ Some asks.input) (same_command words asks.command c asks.are is) asks.reads in
+          let neither : ◌≡◌ {A = Option Input} None (Some asks.input) = sym e ∙ same in
+          absurd cc,
+    )
+    by (Some input) e asked = (λ reading. record { command = c; are = is; input = input; reads = e }, λ asks. asked)
+
+pub asks_not : (words : List (List ℕ)) → IsNoCommand words → IsTrue false ↔ AskForInput words
+asks_not words none = (λ reading. absurd cc, λ asks. absurd (none asks.command asks.are))

@@ -12,13 +12,12 @@ use Rattle.of_report.specs.Image.{Image as AnImage}
 use Rattle.of_tool.specs.declared.commands.TheConstants.{MOST_INPUT, MOST_WITH_REPORT, MOST_IMAGE}
 use Rattle.of_tool.specs.declared.command.Command.{Command}
 use Rattle.of_tool.specs.declared.command.Command.TheVariants.{Check, CheckLife, Continue}
-use Rattle.of_tool.specs.Commands.{AreWordsOf}
 use Rattle.of_tool.specs.Seen.{Change, ReadsAll}
 use Rattle.of_tool.specs.Inputs.{Input, PlanAlone, PlanAndReport, ImageAlone, ImageAndPlan, WholeLife, AnyTexts, input_of, most_of, AreLeft, IsInputOf, IsValidInput}
 use Rattle.of_tool.specs.declared.refusal.Refusal.{Refusal}
 use Rattle.of_tool.specs.declared.refusal.Refusal.TheVariants.{ReadFault, TooLong, BadPlan, BadImage, UnlawfulImage, DoesNotFit, Illegal}
 use Rattle.of_tool.specs.Refusals.{status_of, HasBadPlan, HasBadImage, HasMisfit, IsIllegal, IsRefused}
-use Rattle.of_tool.specs.Statuses.{IsAnswerTo, Done, Refused, IsAnswer, Ends, IsDone, FindsReportIllegal, FindsLifeIllegal, FindsMisfit, FindsLifeMisfit}
+use Rattle.of_tool.specs.Statuses.{IsAnswerTo, Done, Refused, Told, WriteFault, OutOfMemory, Ends, IsDone, LacksMemory, FindsReportIllegal, FindsLifeIllegal, FindsMisfit, FindsLifeMisfit, ValidIsDone}
 use Rattle.of_tool.proofs.Telling.{answer_to}
 use Rattle.of_tool.proofs.Readings.{read_is, more_bytes, no_plan, no_first, no_second, cut_same, no_fewer}
 
@@ -130,8 +129,7 @@ ends one_cut none c source status text valid calm (Refused refusal) =
     let P : Option Input → Type 0 = λ o. IsInputOf o source.before in
     refused_ends one_cut none c r.input source status r.reads (subst P r.reads valid) calm refusal.why r.cause refusal.status_is
 
--- a command with a valid input is done, or its report or its life is found illegal, or its plan not
--- to fit
-pub ends_where_valid : HasOneCut → UnlawfulHaveNone → (words : List (List ℕ)) (c : Command) (source : Change) (status : ℕ) (text : List ℕ) → AreWordsOf words c → IsValidInput c source.before → ¬ (HasRisen source.faults source.faults_after)
-    → IsAnswer words source status text → Ends c status
-ends_where_valid one_cut none words c source status text is valid calm a = ends one_cut none c source status text valid calm (answer_to words c source status text is a)
+pub valid_is_done : HasOneCut → UnlawfulHaveNone → ValidIsDone
+valid_is_done one_cut none seen c (Told a) is valid calm written = ends one_cut none c seen.source seen.status a.text valid calm (answer_to seen.words c seen.source seen.status a.text is a.answer)
+valid_is_done one_cut none seen c (WriteFault a) is valid calm written = absurd (written a.fault)
+valid_is_done one_cut none seen c (OutOfMemory a) is valid calm written = LacksMemory a.is

@@ -391,15 +391,15 @@ module _ (one_cut : HasOneCut) (one_plan : (text : List ℕ) (plan other : Plan)
 -- ---- and what was written
 
 pub one_status : HasOneCut → ((text : List ℕ) (plan other : Plan) → SpellsPlan text plan → SpellsPlan text other → plan ≡ other) → OneImage → UnlawfulHaveNone → OneStatus
-one_status cut plan image none words seen a b fresh (Told h) (Told k) = one_told cut plan image none seen.source fresh.bytes fresh.known fresh.source words a b h.text k.text h.answer k.answer
-one_status cut plan image none words seen a b fresh (Told h) (WriteFault k) = absurd (stays seen.sink.faults seen.sink.faults_after fresh.sink h.no_fault k.fault)
-one_status cut plan image none words seen a b fresh (Told h) (OutOfMemory k) = absurd (fresh.unfinished (subst IsTrue k.untouched.finished h.written.finished))
-one_status cut plan image none words seen a b fresh (WriteFault h) (Told k) = absurd (stays seen.sink.faults seen.sink.faults_after fresh.sink k.no_fault h.fault)
-one_status cut plan image none words seen a b fresh (WriteFault h) (WriteFault k) = h.is ∙ sym k.is
-one_status cut plan image none words seen a b fresh (WriteFault h) (OutOfMemory k) = absurd (stays seen.sink.faults seen.sink.faults_after fresh.sink k.untouched.faults h.fault)
-one_status cut plan image none words seen a b fresh (OutOfMemory h) (Told k) = absurd (fresh.unfinished (subst IsTrue h.untouched.finished k.written.finished))
-one_status cut plan image none words seen a b fresh (OutOfMemory h) (WriteFault k) = absurd (stays seen.sink.faults seen.sink.faults_after fresh.sink h.untouched.faults k.fault)
-one_status cut plan image none words seen a b fresh (OutOfMemory h) (OutOfMemory k) = h.is ∙ sym k.is
+one_status cut plan image none seen a b fresh (Told h) (Told k) = one_told cut plan image none seen.source fresh.bytes fresh.known fresh.source seen.words a b h.text k.text h.answer k.answer
+one_status cut plan image none seen a b fresh (Told h) (WriteFault k) = absurd (stays seen.sink.faults seen.sink.faults_after fresh.sink h.no_fault k.fault)
+one_status cut plan image none seen a b fresh (Told h) (OutOfMemory k) = absurd (fresh.unfinished (subst IsTrue k.untouched.finished h.written.finished))
+one_status cut plan image none seen a b fresh (WriteFault h) (Told k) = absurd (stays seen.sink.faults seen.sink.faults_after fresh.sink k.no_fault h.fault)
+one_status cut plan image none seen a b fresh (WriteFault h) (WriteFault k) = h.is ∙ sym k.is
+one_status cut plan image none seen a b fresh (WriteFault h) (OutOfMemory k) = absurd (stays seen.sink.faults seen.sink.faults_after fresh.sink k.untouched.faults h.fault)
+one_status cut plan image none seen a b fresh (OutOfMemory h) (Told k) = absurd (fresh.unfinished (subst IsTrue h.untouched.finished k.written.finished))
+one_status cut plan image none seen a b fresh (OutOfMemory h) (WriteFault k) = absurd (stays seen.sink.faults seen.sink.faults_after fresh.sink h.untouched.faults k.fault)
+one_status cut plan image none seen a b fresh (OutOfMemory h) (OutOfMemory k) = h.is ∙ sym k.is
 
 pub one_error : HasOneCut → ((text : List ℕ) (plan other : Plan) → SpellsPlan text plan → SpellsPlan text other → plan ≡ other) → OneImage → UnlawfulHaveNone → HasOneFault → OneError
-one_error cut plan image none fault words seen a b x y fresh p q failed = one_said cut plan image none seen.source fresh.bytes fresh.known fresh.source fault words a b x y p q failed
+one_error cut plan image none fault seen a b x y fresh p q failed = one_said cut plan image none seen.source fresh.bytes fresh.known fresh.source fault seen.words a b x y p q failed

@@ -1,6 +1,7 @@
 -- The report that what a team hands back is: what it promises, that its run is a schedule, and what its brakes say of it.
 use Rattle.std.proofs.Common.{◌≡◌, ◌∙◌, ℕ, ◌+◌, ◌<◌, List, [], ◌∷◌, length, Option, None, Some, ◌==◌, Bool, true, false, length-set, refl, sym, ap, subst, arith}
 use Rattle.std.specs.List.{sum_by}
+use Rattle.std.specs.Prelude.{map, get_or}
 use Rattle.std.proofs.lemmas.List.{get_or-set_other}
 use Rattle.of_cell.specs.Cells.{durable_cells, durable_place, table_words}
 use Rattle.of_cell.specs.Words.{seq_of, payload_of}
@@ -28,27 +29,27 @@ use Rattle.of_caller.specs.Starts.{StartsAtPlan, ZerosAreEmpty}
 use Rattle.of_caller.specs.Tables.{plan_setup, opening_for}
 use Rattle.of_caller.specs.Ends.{ending_at}
 use Rattle.of_caller.specs.Left.{IsLeftBy}
-use Rattle.of_caller.specs.PlanLaws.{KeepsLaws}
-use Rattle.of_caller.specs.Runs.{SchedulesAreMoments, RunsKeepAllowances}
+use Rattle.of_caller.specs.Runs.{RunsKeepAllowances}
 use Rattle.of_caller.specs.Scheduled.{without_members, IsScheduled}
 use Rattle.of_caller.specs.InTime.{RespectsTime, marks_in, course_of, SchedulesRespectTime, TeamsRespectTime}
 use Rattle.of_caller.specs.Stops.{KeepToStop, CallerKeepsStop, KeepStops}
-use Rattle.of_caller.specs.Allowances.{KeepsStopAsAllowance, KeepAllowances}
+use Rattle.of_caller.specs.Allowances.{KeepsStopAsAllowance}
 use Rattle.of_caller.specs.Teams.{IsHandedBack, TeamsKeepAllowances}
 use Rattle.of_report.proofs.Cells.{reply_same, stands_for_same}
 use Rattle.of_play.specs.Played.{IsPlayedReport}
+use Rattle.of_tool.specs.Seen.{StepsLeft}
 use Rattle.of_tool.specs.Ran.{with_schedule, IsRunReport}
 use Rattle.of_play.proofs.PlaysStart.{none_finished}
 use Rattle.of_play.proofs.PlaysEvents.{events_of}
-use Rattle.of_play.proofs.PlaysMoments.{IsPlayable, playable}
+use Rattle.of_play.proofs.PlaysMoments.{IsPlayable}
 use Rattle.of_play.proofs.PlaysSchedule.{items_are_schedule, items_of_plan, items_are_turns}
 use Rattle.of_play.proofs.PlaysSpent.{items_spent_last, items_stay}
 use Rattle.of_play.proofs.PlaysBusy.{stopped_never_idle}
 use Rattle.of_play.proofs.PlaysRecords.{left_keeps_allowance, left_in_time}
 use Rattle.of_tool.proofs.WithSchedule.{events_are, left_is_played, reports_with, keeps_with}
-use Rattle.of_tool.proofs.Promises.{history_of}
+use Rattle.of_tool.proofs.Promises.{history_of, told_stops}
 
-allowed_by : (p : Plan) (r : Report) (e : Ended) (c : ℕ) → (KeepToStop (stop_of p c) (answers_of e c) (ending_of e c) → KeepsAllowance p r c (stop_of p c)) → (o : Option (Option ℕ)) → CallerKeepsStop p e c o → KeepsStopAsAllowance o p r c
+allowed_by : (p : Plan) (r : Report) (e : Ended) (c : ℕ) → (KeepToStop (stop_of p c) (answers_of e c) (ending_of e c) → KeepsAllowance p r c (stop_of p c)) → (o : StepsLeft) → CallerKeepsStop p e c o → KeepsStopAsAllowance o p r c
 allowed_by p r e c keeps None h = tt
 allowed_by p r e c keeps (Some steps) h = keeps h
 
@@ -127,7 +128,7 @@ module _ (p : Plan) (play : IsPlayable p) (kept : RunsKeepAllowances) (time : Sc
   in_time : RespectsTime (empty_start p) (marks_in (plan_setup p) (opening_for p) (events_of p items)) r
   in_time = left_in_time p play (events_of p items) schedule (items_of_plan p play items h.items_in) (items_spent_last p play items schedule) (items_stay p items) (without_members p e) left_so time r here.lawful
 
-  as_played : IsPlayedReport (with_schedule p items) r
+  pub as_played : IsPlayedReport (with_schedule p items) r
   as_played = record {
     run = without_members p e;
     played = left_is_played p items (without_members p e) left_so;
@@ -135,12 +136,6 @@ module _ (p : Plan) (play : IsPlayable p) (kept : RunsKeepAllowances) (time : Sc
     allowance = λ c lt. keeps_with p items r c (Some (sum_by (turns_in c) items)) (keeps c lt);
     in_time = subst (λ (es : List Event). RespectsTime (empty_start p) (marks_in (plan_setup p) (opening_for p) es) r) (sym (events_are p items)) in_time;
   }
-
--- whoever keeps to its stop keeps it as its allowance
-allowed : {A : Type 0} (left : A → Option (Option ℕ)) (p : Plan) (r : Report) (e : Ended) → ((c : ℕ) → c < p.callers → KeepToStop (stop_of p c) (answers_of e c) (ending_of e c) → KeepsAllowance p r c (stop_of p c))
-    → (c : ℕ) (bs : List A) → KeepStops left p e c bs → KeepAllowances left p r c bs
-allowed left p r e keeps c [] h = tt
-allowed left p r e keeps c (b ∷ bs) h = (λ lt. allowed_by p r e c (keeps c lt) (left b) (h.0 lt), allowed left p r e keeps (c + 1) bs h.1)
 
 module _ (p : Plan) (B : TableStart) (e : Ended) (w : View) (at_zeros : B ≡ zero_start (plan_setup p)) (empty : ZerosAreEmpty p) (handed : (s : Start) → StartsAtPlan p s B → IsHandedBack p s B e w) where
   back : IsHandedBack p (empty_start p) (zero_start (plan_setup p)) e w
@@ -150,22 +145,20 @@ module _ (p : Plan) (B : TableStart) (e : Ended) (w : View) (at_zeros : B ≡ ze
   has_report = (back.report, back.reported.lawful)
 
   -- what was handed back is a report of the run with these brakes
-  pub reported : {A : Type 0} (left : A → Option (Option ℕ)) (brakes : List A) (r : Report) → ((q : Report) → IsLawfulRecord p (empty_start p) e q → r ≡ q) → KeepsLaws p → SchedulesAreMoments p → TeamsKeepAllowances p → RunsKeepAllowances
-      → SchedulesRespectTime p → TeamsRespectTime p → KeepStops left p e 0 brakes → IsRunReport left brakes p r e w
-  reported left brakes r made laws moments keeps kept time teams stops =
+  pub reported : {A : Type 0} (left : A → StepsLeft) (brakes : List A) (r : Report) → ((q : Report) → IsLawfulRecord p (empty_start p) e q → r ≡ q) → TeamsKeepAllowances p → TeamsRespectTime p → KeepStops left p e 0 brakes
+      → IsRunReport (map left brakes) p r e w
+  reported left brakes r made keeps teams keep =
       let same : back.report ≡ r = sym (made back.report back.reported.lawful) in
       let reports : ReportsRun p (empty_start p) e r = subst (ReportsRun p (empty_start p) e) same back.reported in
+      let stops : (c : ℕ) → c < p.callers → CallerKeepsStop p e c (get_or (map left brakes) c None) = told_stops left p e brakes keep in
       let after_events = teams (empty_start p) (zero_start (plan_setup p)) e back.sight back.team in
       record {
         course = course_of p (zero_start (plan_setup p)) after_events.0;
         promises = record {
           history = history_of p (empty_start p) e r reports (course_of p (zero_start (plan_setup p)) after_events.0) (after_events.2 r reports.lawful);
           stops = stops;
-          allowances = allowed left p r e (λ c lt. keeps (empty_start p) (zero_start (plan_setup p)) e back.sight back.team r reports.lawful c lt) 0 brakes stops;
+          allowances = λ c lt. allowed_by p r e c (keeps (empty_start p) (zero_start (plan_setup p)) e back.sight back.team r reports.lawful c lt) (get_or (map left brakes) c None) (stops c lt);
         };
-        real = record {
-          run = record { schedule = after_events.0; leaves = after_events.1; course_is = refl; reports = reports };
-          played = as_played p (playable p back.team.plan laws moments empty) kept time e r after_events.0 after_events.1 reports;
-        };
+        real = record { schedule = after_events.0; leaves = after_events.1; course_is = refl; reports = reports };
         table = record { handed = back; report = same };
       }

@@ -7,13 +7,13 @@ use Rattle.of_io.specs.declared.source.ReadErr.TheVariants.{Fault, TooLong as Lo
 use Rattle.of_tool.specs.declared.command.Command.{Command}
 use Rattle.of_tool.specs.declared.status.TheConstants.{DONE, ILLEGAL, DOES_NOT_FIT}
 use Rattle.of_tool.specs.Commands.{AreWordsOf}
-use Rattle.of_tool.specs.Seen.{Change, Seen, IsWritten}
+use Rattle.of_tool.specs.Seen.{Change}
 use Rattle.of_tool.specs.Inputs.{Input, input_of, most_of}
 use Rattle.of_tool.specs.declared.refusal.Refusal.{Refusal}
 use Rattle.of_tool.specs.declared.refusal.Refusal.TheVariants.{ReadFault, TooLong, BadPlan, BadImage, UnlawfulImage, DoesNotFit, Illegal}
 use Rattle.of_tool.specs.Refusals.{status_of, ReadFails, IsRefused, IsRefusal, IsIllegal, HasMisfit, FindsWrong}
-use Rattle.of_tool.specs.Makes.{Makes, Did}
-use Rattle.of_tool.specs.Statuses.{IsAnswerTo, Done, Refused, IsAnswer, To, NoCommand}
+use Rattle.of_tool.specs.Makes.{Makes}
+use Rattle.of_tool.specs.Statuses.{IsAnswerTo, Done, Refused, IsAnswer, To, NoCommand, Told, WriteFault, OutOfMemory, DoneIsMade, FoundIsWrong}
 use Rattle.of_tool.proofs.CommandLemmas.{same_command}
 
 -- an answer to the words is one to their command
@@ -56,8 +56,10 @@ made_of c source status text done (Done is makes) = makes
 made_of c source status text done (Refused refusal) = absurd (not_done refusal.why (sym refusal.status_is ∙ done))
 
 -- what it did, once that is written
-pub did : (words : List (List ℕ)) (c : Command) (seen : Seen) (status : ℕ) (text : List ℕ) → AreWordsOf words c → status ≡ DONE → IsAnswer words seen.source status text → IsWritten seen text → Did c seen
-did words c seen status text is done answer written = record { text = text; makes = made_of c seen.source status text done (answer_to words c seen.source status text is answer); written = written }
+pub done_is_made : DoneIsMade
+done_is_made seen c (Told a) is = record { text = a.text; makes = made_of c seen.source seen.status a.text is.done (answer_to seen.words c seen.source seen.status a.text is.asked a.answer); written = a.written }
+done_is_made seen c (WriteFault a) is = absurd (omega (arith, a.is, is.done))
+done_is_made seen c (OutOfMemory a) is = absurd (omega (arith, a.is, is.done))
 
 illegal_of : (input : Input) (source : Change) (why : Refusal) → IsRefused input source why → status_of why ≡ ILLEGAL → IsIllegal input source
 illegal_of input source ReadFault h e = absurd (omega arith)
@@ -86,5 +88,7 @@ judged_to c source status text (Refused refusal) input reads =
     let cause = subst P same refusal.refused.cause in
     ((λ e. illegal_of input source refusal.why cause (sym refusal.status_is ∙ e)), (λ e. misfit_of input source refusal.why cause (sym refusal.status_is ∙ e)))
 
-pub judges : (words : List (List ℕ)) (c : Command) (source : Change) (status : ℕ) (text : List ℕ) → AreWordsOf words c → IsAnswer words source status text → FindsWrong (input_of c) source status
-judges words c source status text is answer = judged_to c source status text (answer_to words c source status text is answer)
+pub found_is_wrong : FoundIsWrong
+found_is_wrong seen c (Told a) is = judged_to c seen.source seen.status a.text (answer_to seen.words c seen.source seen.status a.text is a.answer)
+found_is_wrong seen c (WriteFault a) is = λ input reads. ((λ e. absurd (omega (arith, a.is, e))), (λ e. absurd (omega (arith, a.is, e))))
+found_is_wrong seen c (OutOfMemory a) is = λ input reads. ((λ e. absurd (omega (arith, a.is, e))), (λ e. absurd (omega (arith, a.is, e))))

@@ -28,7 +28,7 @@ use Rattle.of_tool.specs.declared.command.Command.TheVariants.{Run, Load, Contin
 use Rattle.of_tool.specs.Commands.{AreWordsOf, AreWordsOfTeam}
 use Rattle.of_tool.specs.Ran.{IsRunReport}
 use Rattle.of_tool.specs.Continued.{WritesLife}
-use Rattle.of_tool.specs.Seen.{Change, ReadsAll, RecordHolds}
+use Rattle.of_tool.specs.Seen.{Change, StepsLeft, ReadsAll, RecordHolds}
 use Rattle.of_tool.specs.Inputs.{Input, input_of, most_of, ReadsPlan, ReadsLife}
 use Rattle.of_tool.specs.Refusals.{IsRefused, status_of, text_of}
 use Rattle.of_tool.specs.Makes.{Makes}
@@ -98,47 +98,46 @@ HaveNoLife first second why = (plan : Plan) × SpellsPlan second plan × HasNoIm
 
 -- ---- what a command makes, and what a run has left
 
--- the text is that of the report of the record, which is of the plan that was read
-pub record HoldsRun {A : Type 0} (left : A → Option (Option ℕ)) (brakes : List A) (source : Change)
-    (text : List ℕ) (e : Ended) (w : View) : Type 0 where
+-- the text is the report of a run of the plan that was read; the run has left this record
+pub record HoldsRun (brakes : List StepsLeft) (source : Change) (text : List ℕ) (e : Ended)
+    (w : View) : Type 0 where
   pub plan : Plan
   pub read : ReadsPlan source plan
   pub report : Report
-  pub run : IsRunReport left brakes plan report e w
+  pub run : IsRunReport brakes plan report e w
   pub text_is : text ≡ report_text report
 
--- the text is the summary of the report of the record, which is of the plan of a load
-pub record HoldsLoad {A : Type 0} (left : A → Option (Option ℕ)) (brakes : List A)
-    (callers scripts : ℕ) (text : List ℕ) (e : Ended) (w : View) : Type 0 where
+-- the text is the summary of the report of a run of the plan of a load; the run has left this
+-- record
+pub record HoldsLoad (brakes : List StepsLeft) (callers scripts : ℕ) (text : List ℕ) (e : Ended)
+    (w : View) : Type 0 where
   pub report : Report
-  pub run : IsRunReport left brakes (generated_plan callers scripts) report e w
-  pub whole : IsWholeLoad left brakes (generated_plan callers scripts) report
+  pub run : IsRunReport brakes (generated_plan callers scripts) report e w
+  pub whole : IsWholeLoad brakes (generated_plan callers scripts) report
   pub text_is : text ≡ load_text report
 
--- the text is that of a life with this record, which has gone on from the image by the plan that
--- were read
-pub record HoldsLife {A : Type 0} (left : A → Option (Option ℕ)) (brakes : List A) (source : Change)
-    (text : List ℕ) (e : Ended) (w : View) : Type 0 where
+-- an image and a plan were read; the text is that of a life that has gone on from the image by the
+-- plan, and has left this record
+pub record HoldsLife (brakes : List StepsLeft) (source : Change) (text : List ℕ) (e : Ended)
+    (w : View) : Type 0 where
   pub image : Image
   pub plan : Plan
   pub read : ReadsLife source image plan
-  pub writes : WritesLife left brakes image plan e w text
+  pub writes : WritesLife brakes image plan e w text
 
--- what a command makes of its input, and what a run has left beside it
-abbrev pub MakesWith : {A : Type 0} → (A → Option (Option ℕ)) → List A → Command → Change
-    → List ℕ → Option (Ended × Pass) → Type 0
-MakesWith left brakes Run source text ran = RecordHolds ran (HoldsRun left brakes source text)
-MakesWith left brakes (Load callers scripts) source text ran =
-    RecordHolds ran (HoldsLoad left brakes callers scripts text)
-MakesWith left brakes Continue source text ran =
-    RecordHolds ran (HoldsLife left brakes source text)
-MakesWith left brakes command source text ran = Makes command source text × (ran ≡ None)
+-- the text is what the command makes of its input; a command that runs callers at once leaves a
+-- record too, and another command leaves none
+abbrev pub MakesWith : List StepsLeft → Command → Change → List ℕ → Option (Ended × Pass) → Type 0
+MakesWith brakes Run source text ran = RecordHolds ran (HoldsRun brakes source text)
+MakesWith brakes (Load callers scripts) source text ran =
+    RecordHolds ran (HoldsLoad brakes callers scripts text)
+MakesWith brakes Continue source text ran = RecordHolds ran (HoldsLife brakes source text)
+MakesWith brakes command source text ran = Makes command source text × (ran ≡ None)
 
--- what stands beside the answer to the words: with status 0 what their command makes, and no record
--- but with a command that runs callers at once
-pub record Carries {A : Type 0} (left : A → Option (Option ℕ)) (brakes : List A)
-    (words : List (List ℕ)) (source : Change) (status : ℕ) (text : List ℕ)
-    (ran : Option (Ended × Pass)) : Type 0 where
+-- what goes with the answer to the words: with status 0 the text is what their command makes; there
+-- is a record only with status 0 of a command that runs callers at once
+pub record Carries (brakes : List StepsLeft) (words : List (List ℕ)) (source : Change)
+    (status : ℕ) (text : List ℕ) (ran : Option (Ended × Pass)) : Type 0 where
   pub made : (command : Command) → AreWordsOf words command → status ≡ DONE
-      → MakesWith left brakes command source text ran
+      → MakesWith brakes command source text ran
   pub none : (AreWordsOfTeam words × (status ≡ DONE) → ⊥) → ran ≡ None

@@ -41,13 +41,13 @@ command_words Continue = codes "continue" ∷ []
 command_words (Help word) = help_word word ∷ []
 command_words Version = codes "--version" ∷ []
 
--- so many events from this one on
+-- a trace may have this many events, from event `first` on
 pub record IsTrace (first count : ℕ) : Type 0 where
   pub begins : first ≤ MOST_FIRST
   pub some : 1 ≤ count
   pub few : count ≤ MOST_EVENTS
 
--- so many callers with so many scripts each
+-- a load may have this many callers with this many scripts each
 pub record IsLoad (callers scripts : ℕ) : Type 0 where
   pub some : 1 ≤ callers
   pub few : callers ≤ MOST_PLAN_CALLERS

@@ -1,5 +1,5 @@
 -- What a life that goes on from an image leaves and writes.
-use Rattle.std.specs.Prelude.{◌≡◌, ℕ, List, ◌++◌, Option, All}
+use Rattle.std.specs.Prelude.{◌≡◌, ℕ, List, ◌++◌, All}
 use Rattle.of_plan.specs.Plan.{Plan}
 use Rattle.of_plan.specs.Report.{Report}
 use Rattle.of_plan.specs.Ended.{Ended}
@@ -14,6 +14,7 @@ use Rattle.of_lives.specs.OneHistory.{IsBehind}
 use Rattle.of_lives.specs.Images.{PlanFitsImage}
 use Rattle.of_lives.specs.Restarts.{start_from_row}
 use Rattle.of_lives.specs.Continuing.{IsLifeOf, LeavesImage}
+use Rattle.of_tool.specs.Seen.{StepsLeft}
 use Rattle.of_tool.specs.Ran.{IsHistoryOf, KeepsPromises, IsRealRun}
 
 -- the text of the durable words that a life leaves
@@ -42,19 +43,19 @@ abbrev pub IsRealLife : Image → Plan → List Mark → Ended → Report → Ty
 IsRealLife i p course e r = IsRealRun p (start_of_image i) (start_from_row p i.row.words) course e r
 
 -- the report of a life that goes on from the image by the plan, with these brakes
-pub record IsLifeReport {A : Type 0} (left : A → Option (Option ℕ)) (brakes : List A) (i : Image)
-    (p : Plan) (r : Report) (e : Ended) (w : View) : Type 0 where
+pub record IsLifeReport (brakes : List StepsLeft) (i : Image) (p : Plan) (r : Report) (e : Ended)
+    (w : View) : Type 0 where
   pub course : List Mark
-  pub promises : KeepsPromises left brakes p (start_of_image i) course e r
+  pub promises : KeepsPromises brakes p (start_of_image i) course e r
   pub goes_on : GoesOnFrom i p r e
   pub real : IsRealLife i p course e r
   pub table : IsLifeOf i p e w r
 
--- a life has gone on so, and this is its text
-pub record WritesLife {A : Type 0} (left : A → Option (Option ℕ)) (brakes : List A) (i : Image)
-    (p : Plan) (e : Ended) (w : View) (text : List ℕ) : Type 0 where
+-- the text is that of a life that has gone on from the image by the plan, with these brakes
+pub record WritesLife (brakes : List StepsLeft) (i : Image) (p : Plan) (e : Ended) (w : View)
+    (text : List ℕ) : Type 0 where
   pub report : Report
-  pub life : IsLifeReport left brakes i p report e w
+  pub life : IsLifeReport brakes i p report e w
   pub text_is : text ≡ life_text p report e
 
 -- the text is that of some life that goes on from the image by the plan

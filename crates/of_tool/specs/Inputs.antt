@@ -254,7 +254,7 @@ pub record ReadsFewer (number : ℕ) (source : Change) : Type 0 where
 
 -- ---- valid inputs
 
--- the bytes that are left are these, no more than so many
+-- exactly these bytes are left in the source, and they are at most `most`
 pub record AreLeft (most : ℕ) (left : Option (List ℕ)) (bytes : List ℕ) : Type 0 where
   pub are : left ≡ Some bytes
   pub few : length bytes ≤ most
@@ -266,7 +266,7 @@ pub record IsPlanInput (left : Option (List ℕ)) : Type 0 where
   pub plan : Plan
   pub spelled : SpellsPlan bytes plan
 
--- the bytes that are left are a plan's text and any bytes behind it, within the limit
+-- the bytes that are left in the source are a plan's text and any bytes after it, within the limit
 pub record IsCheckInput (left : Option (List ℕ)) : Type 0 where
   pub bytes : List ℕ
   pub left_is : AreLeft MOST_WITH_REPORT left bytes
@@ -284,8 +284,8 @@ pub record IsImageInput (edition : Edition) (left : Option (List ℕ)) : Type 0 
   pub image : AnImage
   pub image_of : ReadsImage edition bytes image
 
--- the bytes that are left are the text of a lawful image and that of a plan behind it, within the
--- limit
+-- the bytes that are left in the source are the text of a lawful image and that of a plan after it,
+-- within the limit
 pub record IsLifeInput (left : Option (List ℕ)) : Type 0 where
   pub bytes : List ℕ
   pub left_is : AreLeft MOST_WITH_REPORT left bytes
@@ -297,8 +297,8 @@ pub record IsLifeInput (left : Option (List ℕ)) : Type 0 where
   pub plan : Plan
   pub spelled : SpellsPlan second plan
 
--- the bytes that are left are the text of a lawful image, that of a plan, and any bytes behind it,
--- within the limit
+-- the bytes that are left in the source are the text of a lawful image, that of a plan, and any
+-- bytes after these, within the limit
 pub record IsLivedInput (left : Option (List ℕ)) : Type 0 where
   pub bytes : List ℕ
   pub left_is : AreLeft MOST_WITH_REPORT left bytes

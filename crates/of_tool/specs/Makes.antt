@@ -38,7 +38,8 @@ pub record MakesPlay (source : Change) (text : List ℕ) : Type 0 where
   pub played : IsPlayedReport plan report
   pub text_is : text ≡ report_text report
 
--- the text is the lines of so many events of the plan's schedule, from this one on
+-- the whole input is a plan's text, and `text` has the lines of `count` events of the plan's
+-- schedule, from event `first` on
 pub record MakesTrace (first count : ℕ) (source : Change) (text : List ℕ) : Type 0 where
   pub plan : Plan
   pub read : ReadsPlan source plan
@@ -58,8 +59,8 @@ pub record MakesRun (source : Change) (text : List ℕ) : Type 0 where
   pub run : IsSomeRuns plan report
   pub text_is : text ≡ report_text report
 
--- the text is the summary of the report of some run of the plan that is made for so many callers
--- with so many scripts each
+-- the text is the summary of the report of some run of the plan that is made for this many callers
+-- with this many scripts each
 pub record MakesLoad (callers scripts : ℕ) (text : List ℕ) : Type 0 where
   pub report : Report
   pub run : IsSomeRuns (generated_plan callers scripts) report

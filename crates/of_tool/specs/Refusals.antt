@@ -50,7 +50,7 @@ text_of command Illegal = illegal_text command
 
 -- ---- the causes
 
--- a read failed, and no more than so many bytes were taken
+-- a read failed, and at most this many bytes were taken
 pub record ReadFails (most : ℕ) (source : Change) : Type 0 where
   pub fault : HasRisen source.faults source.faults_after
   pub few : TakesAtMost most source.before source.after

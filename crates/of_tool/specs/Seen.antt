@@ -13,14 +13,25 @@ pub record Change : Type 0 where
   pub faults : ℕ
   pub faults_after : ℕ
 
--- what a call saw: its source and its sink, and whether what the sink has was finished, and is
+-- what a brake tells of the steps that it has left: nothing, or how many, or that there is no end
+abbrev pub StepsLeft : Type 0
+StepsLeft = Option (Option ℕ)
+
+-- what a call of `tool` was given, what it did, and what it answered
 pub record Seen : Type 0 where
+  pub words : List (List ℕ)
+  -- what the brake of each caller tells, in order
+  pub brakes : List StepsLeft
   pub source : Change
   pub sink : Change
+  -- whether the sink was finished before the call, and whether it is after the call
   pub was_finished : Bool
   pub finished : Bool
+  pub status : ℕ
+  -- what callers that ran at once have left, if they did
+  pub ran : Option (Ended × Pass)
 
--- of a source or a sink that tells its bytes and its faults so
+-- the change of a source or a sink, by functions that give its bytes and count its faults
 abbrev pub bytes_change : {S : Type 0} → (S → Option (List ℕ)) → (S → ℕ) → S → S → Change
 bytes_change bytes faults old new = record {
   before = bytes old;
@@ -29,17 +40,7 @@ bytes_change bytes faults old new = record {
   faults_after = faults new;
 }
 
--- of a source and a sink that tell theirs so
-abbrev pub seen_by : {S K : Type 0} → (S → Option (List ℕ)) → (S → ℕ) → S → S
-    → (K → Option (List ℕ)) → (K → Bool) → (K → ℕ) → K → K → Seen
-seen_by left failed source source_after written finished faults sink sink_after = record {
-  source = bytes_change left failed source source_after;
-  sink = bytes_change written faults sink sink_after;
-  was_finished = finished sink;
-  finished = finished sink_after;
-}
-
--- the source was read to its end without a fault, and these were the bytes, no more than so many
+-- the source was read to its end without a fault, and these were the bytes, at most `most`
 pub record ReadsAll (most : ℕ) (source : Change) (bytes : List ℕ) : Type 0 where
   pub taken : Consumes source.before source.after bytes
   pub ended : IsAtEnd source.after

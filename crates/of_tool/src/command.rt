@@ -1,8 +1,8 @@
 //! The commands and their words.
 
-ghost use Rattle.std.specs.Prelude.{◌≡◌, ◌∷◌, [], ℕ, None, IsTrue, MatchOption, codes, string_bytes};
+ghost use Rattle.std.specs.Prelude.{◌≡◌, ◌↔◌, ◌∷◌, [], ℕ, None, IsTrue, MatchOption, codes, string_bytes};
 ghost use Rattle.of_tool.specs.Commands.{word_bytes, AreWordsOf, IsNoCommand, SpellsUpTo};
-ghost use Rattle.of_tool.specs.Inputs.{input_of};
+ghost use Rattle.of_tool.specs.Inputs.{input_of, AskForInput};
 ghost use Rattle.of_tool.specs.Answer.{IsMostOf};
 
 use crate::commands::{MOST_IMAGE, MOST_INPUT, MOST_WITH_REPORT};
@@ -85,14 +85,14 @@ pub enum Command {
     /// Reads a plan, runs its schedule step by step, and prints the report of what the schedule
     /// leaves.
     Play,
-    /// Reads a plan, and prints what so many events of its schedule do, from one event on.
+    /// Reads a plan, and prints what `count` events of its schedule do, from event `first` on.
     Trace { first: u32, count: u32 },
     /// Reads a plan, and prints the commits of its schedule.
     Commits,
     /// Reads a plan, runs its callers at once, and prints the report of what they leave.
     Run,
-    /// Runs a load of so many callers with so many scripts each, and prints a summary of the
-    /// report.
+    /// Reads nothing, runs this many callers with this many scripts each, and prints a summary of
+    /// the report.
     Load { callers: u32, scripts: u32 },
     /// Reads a plan and a report, and prints whether the report is a legal one of the plan.
     Check,
@@ -249,5 +249,15 @@ impl Command {
             },
             _ => None,
         }
+    }
+}
+
+/// Whether the words are a command that reads its input.
+pub fn reads_input(words: &[String]) -> bool
+    ensures { IsTrue result ↔ AskForInput (word_bytes words.now) }
+{
+    match Command::from_words(words) {
+        Some(command) => command.reads(),
+        None => false,
     }
 }

@@ -1,17 +1,14 @@
 //! The top call: does what the words of a command line say.
 
-ghost use Rattle.std.specs.Prelude.{◌≡◌, ◌≤◌, ⊤, ℕ, IfOk, MatchResult, None, Some, vec_len};
-ghost use Rattle.of_io.specs.Faults.{HasRisen};
-ghost use Rattle.of_tool.specs.declared.command.Command.{Command};
+ghost use Rattle.std.specs.Prelude.{◌≡◌, ◌≤◌, ⊤, ℕ, IfOk, MatchResult, None, Some, vec_len, map};
 ghost use Rattle.of_tool.specs.declared.command.Command.TheVariants.{Run, Load, Check, Continue};
-ghost use Rattle.of_tool.specs.declared.status.TheConstants.{DONE};
-ghost use Rattle.of_tool.specs.Commands.{word_bytes, command_words, IsLoad, IsInRange, IsPlain, AreWordsOf, AreWordsOfTeam};
-ghost use Rattle.of_tool.specs.Seen.{Change, bytes_change, seen_by, RecordHolds};
-ghost use Rattle.of_tool.specs.Inputs.{PlanAlone, input_of, AskForInput, ReadsPlan, IsValidInput};
-ghost use Rattle.of_tool.specs.Refusals.{IsRefusedFor, FindsWrong};
-ghost use Rattle.of_tool.specs.Makes.{Makes, Did};
-ghost use Rattle.of_tool.specs.Statuses.{IsAnswer, AnswersWords, Ends};
-ghost use Rattle.of_tool.specs.Headline.{RunsPlan, LoadsPlan, ContinuesImage, LeavesTable};
+ghost use Rattle.of_tool.specs.Commands.{word_bytes, IsLoad, IsInRange, IsPlain};
+ghost use Rattle.of_tool.specs.Seen.{Change, bytes_change};
+ghost use Rattle.of_tool.specs.Inputs.{PlanAlone, input_of, AskForInput, ReadsPlan};
+ghost use Rattle.of_tool.specs.Refusals.{IsRefusedFor};
+ghost use Rattle.of_tool.specs.Makes.{Makes};
+ghost use Rattle.of_tool.specs.Statuses.{IsAnswer};
+ghost use Rattle.of_tool.specs.Headline.{IsTopCall};
 ghost use Rattle.of_tool.specs.Answer.{FailsBy, IsInputFor, MakesWith, Carries};
 
 use crate::command::{Command, HELP, VERSION};
@@ -26,9 +23,7 @@ use crate::status;
 use crate::usage::usage;
 use of_brake::Brake;
 use of_check::{Judgement, judge};
-use of_image::laws::unlawful_have_none;
 use of_io::{Sink, Source, write_all};
-use of_plan::texts::one_cut;
 use of_plan::{Ended, Plan, generate, parts};
 use of_play::{ALL_EVENTS, commits, play_report, trace};
 use of_row::Pass;
@@ -132,7 +127,7 @@ fn run_text<R: Threads + Sync>(
     requires { vec_len brakes ≡ 16 }
     ensures { (source : Change) → IsInputFor Run source input.now
         → MatchResult result
-        (λ made. MakesWith (λ b. left b) brakes.items Run source made.0.items made.1)
+        (λ made. MakesWith (map (λ b. left b) brakes.items) Run source made.0.items made.1)
         (FailsBy (IsRefusedFor Run source)) }
 {
     let plan = plan_in(alloc, input)?;
@@ -152,8 +147,8 @@ fn load_text<R: Threads + Sync>(
     requires load { IsLoad callers scripts }
     requires brakes { vec_len brakes ≡ 16 }
     ensures { (source : Change) → IfOk result
-        (λ made. MakesWith (λ b. left b) brakes.items (Load callers scripts) source made.0.items
-        made.1) }
+        (λ made. MakesWith (map (λ b. left b) brakes.items) (Load callers scripts) source
+        made.0.items made.1) }
 {
     let plan = generate(alloc, callers, scripts)?;
     let (report, ran) = run_report(rt, alloc, &plan, brakes)?;
@@ -173,7 +168,7 @@ fn text_for<R: Threads + Sync>(
     requires range { IsInRange command }
     ensures { (source : Change) → IsInputFor command source input.now
         → MatchResult result
-        (λ made. MakesWith (λ b. left b) brakes.items command source made.0.items made.1)
+        (λ made. MakesWith (map (λ b. left b) brakes.items) command source made.0.items made.1)
         (FailsBy (IsRefusedFor command source)) }
 {
     match command {
@@ -197,7 +192,7 @@ fn made_by<R: Threads + Sync, S: Source>(
     requires brakes { vec_len brakes ≡ 16 }
     requires range { IsInRange command }
     ensures made { MatchResult result
-        (λ made. MakesWith (λ b. left b) brakes.items command
+        (λ made. MakesWith (map (λ b. left b) brakes.items) command
         (bytes_change S.remaining S.faults source.old source.new) made.0.items made.1)
         (FailsBy (IsRefusedFor command
         (bytes_change S.remaining S.faults source.old source.new))) }
@@ -219,7 +214,7 @@ fn output_for<R: Threads + Sync, S: Source>(
     ensures answered { IfOk result (λ found. IsAnswer (word_bytes words.now)
         (bytes_change S.remaining S.faults source.old source.new)
         found.0.status found.0.text.items) }
-    ensures carries { IfOk result (λ found. Carries (λ b. left b) brakes.items
+    ensures carries { IfOk result (λ found. Carries (map (λ b. left b) brakes.items)
         (word_bytes words.now) (bytes_change S.remaining S.faults source.old source.new)
         found.0.status found.0.text.items found.1) }
     ensures unread { ¬ (AskForInput (word_bytes words.now)) → source.new ≡ source.old }
@@ -245,10 +240,11 @@ fn output_for<R: Threads + Sync, S: Source>(
     }
 }
 
-/// Does what the words say with the source's bytes, and answers the exit status. `run`, `load` and
-/// `continue` run callers at once, that of number i with the brake at place i; what such a run has
-/// left is put into `ran`, and why the words or the input are refused into `reason`.
-pub fn tool_with_reason<R: Threads + Sync, S: Source, K: Sink>(
+/// Runs the command that the words spell: reads the source, writes the text to the sink, and
+/// answers the exit status. `run`, `load` and `continue` run callers at once, caller i with the
+/// brake at place i, and put what the run has left into `ran`. If the words or the input are
+/// refused, the reason is put into `reason`.
+pub fn tool<R: Threads + Sync, S: Source, K: Sink>(
     rt: &R,
     alloc: Global,
     words: &[String],
@@ -260,49 +256,21 @@ pub fn tool_with_reason<R: Threads + Sync, S: Source, K: Sink>(
 ) -> u8
     requires brakes { vec_len brakes ≡ 16 }
     requires none { ran.old ≡ None }
-    ensures run { word_bytes words.now ≡ command_words Run → result ≡ DONE
-        → RecordHolds ran.new (λ left_by view. RunsPlan (λ b. left b) brakes.items
-        (seen_by S.remaining S.faults source.old source.new
-        K.written K.finished K.faults sink.old sink.new)
-        left_by) }
-    ensures load { (callers scripts : ℕ) → AreWordsOf (word_bytes words.now) (Load callers scripts)
-        → result ≡ DONE
-        → RecordHolds ran.new (λ left_by view. LoadsPlan (λ b. left b) brakes.items callers scripts
-        (seen_by S.remaining S.faults source.old source.new
-        K.written K.finished K.faults sink.old sink.new)
-        left_by) }
-    ensures continued { word_bytes words.now ≡ command_words Continue → result ≡ DONE
-        → RecordHolds ran.new (λ left_by view. ContinuesImage (λ b. left b) brakes.items
-        (seen_by S.remaining S.faults source.old source.new
-        K.written K.finished K.faults sink.old sink.new)
-        left_by) }
-    ensures table { (command : Command) → AreWordsOf (word_bytes words.now) command → result ≡ DONE
-        → LeavesTable (λ b. left b) brakes.items command
-        (seen_by S.remaining S.faults source.old source.new
-        K.written K.finished K.faults sink.old sink.new)
-        ran.new }
-    ensures no_record { ¬ (AreWordsOfTeam (word_bytes words.now) × (result ≡ DONE))
-        → ran.new ≡ None }
-    ensures answered { AnswersWords (word_bytes words.now)
-        (seen_by S.remaining S.faults source.old source.new
-        K.written K.finished K.faults sink.old sink.new)
-        result }
-    ensures done { (command : Command) → AreWordsOf (word_bytes words.now) command → result ≡ DONE
-        → Did command
-        (seen_by S.remaining S.faults source.old source.new
-        K.written K.finished K.faults sink.old sink.new) }
-    ensures judged { (command : Command) → AreWordsOf (word_bytes words.now) command
-        → FindsWrong (input_of command)
-        (bytes_change S.remaining S.faults source.old source.new) result }
+    // THE HEADLINE, and all else that is proved of what the call was given, what it did and what it
+    // answered.
+    ensures answers { IsTopCall (record {
+      words = word_bytes words.now;
+      brakes = map (λ b. left b) brakes.items;
+      source = bytes_change S.remaining S.faults source.old source.new;
+      sink = bytes_change K.written K.faults sink.old sink.new;
+      was_finished = K.finished sink.old;
+      finished = K.finished sink.new;
+      status = result;
+      ran = ran.new;
+    }) }
+    // Only a command that reads a plan, a report or an image reads.
     ensures unread { ¬ (AskForInput (word_bytes words.now)) → source.new ≡ source.old }
-    ensures complete { (command : Command) → AreWordsOf (word_bytes words.now) command
-        → IsValidInput command (S.remaining source.old)
-        → ¬ (HasRisen (S.faults source.old) (S.faults source.new))
-        → ¬ (HasRisen (K.faults sink.old) (K.faults sink.new))
-        → Ends command result }
 {
-    one_cut();
-    unlawful_have_none();
     match output_for(rt, alloc, words, source, brakes) {
         Err(_) => status::OUT_OF_MEMORY,
         Ok((answer, found)) => match write_all(sink, &answer.text) {
@@ -314,94 +282,4 @@ pub fn tool_with_reason<R: Threads + Sync, S: Source, K: Sink>(
             Err(_) => status::WRITE_FAULT,
         },
     }
-}
-
-/// Does what the words say with the source's bytes, and answers the exit status. `run`, `load` and
-/// `continue` run callers at once, that of number i with the brake at place i; what such a run has
-/// left is put into `ran`.
-pub fn tool<R: Threads + Sync, S: Source, K: Sink>(
-    rt: &R,
-    alloc: Global,
-    words: &[String],
-    source: &mut S,
-    sink: &mut K,
-    brakes: Vec<Box<dyn Brake + Send>>,
-    ran: &mut TeamRecord,
-) -> u8
-    requires brakes { vec_len brakes ≡ 16 }
-    requires none { ran.old ≡ None }
-
-    // THE HEADLINE. With status 0 of `run` the report of what the plan's callers left, running at
-    // once, was written: one legal history, in real time, in which callers keep to their brakes. It
-    // comes of a real run, event by event, and the record of that run is in `ran`.
-    ensures run { word_bytes words.now ≡ command_words Run → result ≡ DONE
-        → RecordHolds ran.new (λ left_by view. RunsPlan (λ b. left b) brakes.items
-        (seen_by S.remaining S.faults source.old source.new
-        K.written K.finished K.faults sink.old sink.new)
-        left_by) }
-
-    // With status 0 of `load` the same holds of the plan that is made for it, and the summary of
-    // the report was written.
-    ensures load { (callers scripts : ℕ) → AreWordsOf (word_bytes words.now) (Load callers scripts)
-        → result ≡ DONE
-        → RecordHolds ran.new (λ left_by view. LoadsPlan (λ b. left b) brakes.items callers scripts
-        (seen_by S.remaining S.faults source.old source.new
-        K.written K.finished K.faults sink.old sink.new)
-        left_by) }
-
-    // With status 0 of `continue` the same holds of callers that went on from the image at once.
-    // After the report the image of their durable words was written: the next life can go on from
-    // it.
-    ensures continued { word_bytes words.now ≡ command_words Continue → result ≡ DONE
-        → RecordHolds ran.new (λ left_by view. ContinuesImage (λ b. left b) brakes.items
-        (seen_by S.remaining S.faults source.old source.new
-        K.written K.finished K.faults sink.old sink.new)
-        left_by) }
-
-    // And the table of that run meets the rule of a row. The pass in `ran` has seen all of the run.
-    ensures table { (command : Command) → AreWordsOf (word_bytes words.now) command → result ≡ DONE
-        → LeavesTable (λ b. left b) brakes.items command
-        (seen_by S.remaining S.faults source.old source.new
-        K.written K.finished K.faults sink.old sink.new)
-        ran.new }
-
-    // After any other command or status there is no record.
-    ensures no_record { ¬ (AreWordsOfTeam (word_bytes words.now) × (result ≡ DONE))
-        → ran.new ≡ None }
-
-    // Each status comes for its cause, and what is written is its text. No other status has its
-    // cause then: `laws::one_status`.
-    ensures answered { AnswersWords (word_bytes words.now)
-        (seen_by S.remaining S.faults source.old source.new
-        K.written K.finished K.faults sink.old sink.new)
-        result }
-
-    // With status 0 each command has read its whole input and written what it makes of it: `serial`
-    // the report of serial replay, `play` that of what the schedule leaves, and so on. Each has a
-    // row in the table `Makes`.
-    ensures done { (command : Command) → AreWordsOf (word_bytes words.now) command → result ≡ DONE
-        → Did command
-        (seen_by S.remaining S.faults source.old source.new
-        K.written K.finished K.faults sink.old sink.new) }
-
-    // With status 8 the report that `check` reads, or the life that `check-life` reads, is not
-    // legal. With status 9 the plan that `continue` or `check-life` reads does not fit the image, or
-    // the input of `part` has fewer texts.
-    ensures judged { (command : Command) → AreWordsOf (word_bytes words.now) command
-        → FindsWrong (input_of command)
-        (bytes_change S.remaining S.faults source.old source.new) result }
-
-    // Only a command that reads a plan, a report or an image reads.
-    ensures unread { ¬ (AskForInput (word_bytes words.now)) → source.new ≡ source.old }
-
-    // A command with a valid input is done, or memory runs out, unless a read or a write fails.
-    // What `check`, `continue` and `check-life` judge may be found wrong.
-    ensures complete { (command : Command) → AreWordsOf (word_bytes words.now) command
-        → IsValidInput command (S.remaining source.old)
-        → ¬ (HasRisen (S.faults source.old) (S.faults source.new))
-        → ¬ (HasRisen (K.faults sink.old) (K.faults sink.new))
-        → Ends command result }
-{
-    let mut reason = Vec::new(alloc);
-    tool_with_reason(rt, alloc, words, source, sink, brakes, ran, &mut reason)
 }

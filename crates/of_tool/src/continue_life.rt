@@ -1,6 +1,6 @@
 //! What `continue` does: a life that goes on from an image, and its text.
 
-ghost use Rattle.std.specs.Prelude.{◌≡◌, ◌≤◌, IfOk, MatchResult, vec_len};
+ghost use Rattle.std.specs.Prelude.{◌≡◌, ◌≤◌, IfOk, MatchResult, vec_len, map};
 ghost use Rattle.of_mem.specs.declared.work.TheConstants.{MOST_INSTRS};
 ghost use Rattle.of_report.specs.Image.{IsImage};
 ghost use Rattle.of_lives.specs.Images.{PlanFitsImage};
@@ -23,8 +23,8 @@ use of_row::Pass;
 use std::alloc::{AllocError, Global};
 use std::thread::Threads;
 
-/// Goes on from an image by a plan that fits it. The text is the life's report, and behind it the
-/// image of the durable words that it leaves; the record and the pass are handed out with it.
+/// Goes on from an image by a plan that fits it. The text is the life's report, and after it the
+/// image of the durable words that the life leaves; the run's record and pass are handed out too.
 fn run_life<R: Threads + Sync>(
     rt: &R,
     alloc: Global,
@@ -35,7 +35,7 @@ fn run_life<R: Threads + Sync>(
     requires image { IsImage MOST_INSTRS image.now }
     requires fits { PlanFitsImage image.now plan.now }
     requires brakes { plan.now.callers ≤ vec_len brakes }
-    ensures { IfOk result (λ r. WritesLife (λ b. left b) brakes.items
+    ensures { IfOk result (λ r. WritesLife (map (λ b. left b) brakes.items)
         image.now plan.now r.1.0 (view_of r.1.1) r.0.items) }
 {
     reports_respect_time(plan);
@@ -60,7 +60,7 @@ pub(crate) fn continue_text<R: Threads + Sync>(
     requires { vec_len brakes ≡ 16 }
     ensures { (source : Change) → IsInputFor Continue source input.now
         → MatchResult result
-        (λ made. MakesWith (λ b. left b) brakes.items Continue source made.0.items made.1)
+        (λ made. MakesWith (map (λ b. left b) brakes.items) Continue source made.0.items made.1)
         (FailsBy (IsRefusedFor Continue source)) }
 {
     let (first, second) = parts(input);

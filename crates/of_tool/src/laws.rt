@@ -9,7 +9,8 @@ ghost use Rattle.of_plan.specs.Plan.{data_cells};
 ghost use Rattle.of_tool.specs.HelpText.{help_text};
 ghost use Rattle.of_tool.specs.declared.command.TheConstants.{MOST_EVENTS, MOST_FIRST};
 ghost use Rattle.of_tool.specs.PlayedImage.{ShowsEachPlay};
-ghost use Rattle.of_tool.specs.Statuses.{OneError, OneStatus};
+ghost use Rattle.of_tool.specs.Ran.{RunsArePlayed};
+ghost use Rattle.of_tool.specs.Statuses.{DoneIsMade, FoundIsWrong, OneError, OneStatus, ValidIsDone};
 
 use crate::command::{HELP, VERSION};
 use crate::commands::{MOST_IMAGE, MOST_INPUT, MOST_WITH_REPORT};
@@ -17,7 +18,7 @@ use crate::status::{
     BAD_IMAGE, BAD_PLAN, DOES_NOT_FIT, DONE, ILLEGAL, OUT_OF_MEMORY, READ_FAULT, TOO_LONG, USAGE,
     WRITE_FAULT,
 };
-use of_caller::laws::plan_keeps_laws;
+use of_caller::laws::{plan_keeps_laws, reports_respect_time, runs_are_lawful};
 use of_core::laws::starts;
 use of_eval::Scripts;
 use of_image::laws::{one_image, records_have_images, unlawful_have_none};
@@ -66,11 +67,11 @@ pub fn help_and_version()
     ensures help { HELP.now ≡ help_text }
 {}
 
-/// From what a call saw of its source and its sink, two causes have one status. So the clause
-/// `answered` of `tool` is exact both ways: a status is answered only if its cause is there, and if
-/// the cause of a status is there, that status is answered. The source must tell its bytes, the
-/// counts of faults must be able to rise, and the sink must not be finished before the call. An
-/// error has one text besides, with one line or cell.
+/// What a call was given and did is the cause of one status only, and an error has one text, with
+/// one line or cell. So what `tool` answers (`answered`) is exact both ways: a status is answered
+/// only for its cause, and if the cause of a status is there, that status is answered. This holds
+/// if the source shows its bytes, the counts of faults can still rise, and the sink was not
+/// finished before the call.
 pub fn one_status()
     ensures status { OneStatus }
     ensures text { OneError }
@@ -81,8 +82,31 @@ pub fn one_status()
     unlawful_have_none();
 }
 
-/// The text that `image` prints of a plan is the image of each report that `play` prints of it, and
-/// it starts where that report ends, each caller behind its last announced entry.
+/// What the status of a command says: with 0 it has written what it makes of its whole input, with 8
+/// or 9 its input is wrong. If the input is valid and no read or write fails, the command is done,
+/// or memory runs out, or what `check`, `continue` and `check-life` judge is found wrong.
+pub fn answers_are_true()
+    ensures done { DoneIsMade }
+    ensures judged { FoundIsWrong }
+    ensures complete { ValidIsDone }
+{
+    one_cut();
+    unlawful_have_none();
+}
+
+/// The report of a real run of a plan's callers is one that `play` makes of the same plan, if the
+/// plan's schedule is the turns and evictions of this run.
+pub fn runs_are_played(plan: &Plan)
+    ensures { RunsArePlayed plan.now }
+{
+    plan_keeps_laws(plan);
+    runs_are_lawful();
+    reports_respect_time(plan);
+}
+
+/// The text that `image` prints of a plan is the image of the durable words that the run leaves
+/// whose report `play` prints. The image has the report's sequence and store, and each caller's
+/// ticket in it is that of the caller's last announced entry.
 pub fn images_show_plays(plan: &Plan)
     ensures { ShowsEachPlay plan.now }
 {

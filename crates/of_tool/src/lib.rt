@@ -16,8 +16,10 @@ mod run;
 pub mod status;
 mod usage;
 
-pub use command::{Command, HELP, HelpWord, MOST_EVENTS, MOST_FIRST, MOST_PART, VERSION};
-pub use commands::{MOST_IMAGE, MOST_INPUT, MOST_WITH_REPORT, TeamRecord, tool, tool_with_reason};
+pub use command::{
+    Command, HELP, HelpWord, MOST_EVENTS, MOST_FIRST, MOST_PART, VERSION, reads_input,
+};
+pub use commands::{MOST_IMAGE, MOST_INPUT, MOST_WITH_REPORT, TeamRecord, tool};
 pub use cutting::part;
 pub use legal_life::{LeftFault, LifeCause, check_life, why_life};
 pub use of_play::{commits, play_report, trace};

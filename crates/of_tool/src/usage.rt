@@ -1,20 +1,12 @@
 //! What is said of words that are no command: what the command takes, and how a file is given.
 
-use crate::command::{Command, MOST_EVENTS, MOST_FIRST, MOST_PART};
+use crate::command::{Command, MOST_EVENTS, MOST_FIRST, MOST_PART, reads_input};
 use of_plan::{MOST_PLAN_CALLERS, MOST_SCRIPTS};
 use std::alloc::{AllocError, Global};
 use std::fmt::Write;
 
 // How many columns words take at most. The line that has them is below 200 columns.
 const MOST_COLUMNS: usize = 140;
-
-// Whether the words are a command that reads its input.
-fn read_input(words: &[String]) -> bool {
-    match Command::from_words(words) {
-        Some(command) => command.reads(),
-        None => false,
-    }
-}
 
 // How many columns a character takes at most: none but ASCII takes one for certain.
 fn columns(sign: char) -> usize {
@@ -76,7 +68,7 @@ fn put_redirected(out: &mut String, words: &[String]) -> Result<(), AllocError> 
     let Some((file, command)) = words.split_last() else {
         return Ok(());
     };
-    if !read_input(command) || file.as_str().as_bytes().starts_with(b"-".as_slice()) {
+    if !reads_input(command) || file.as_str().as_bytes().starts_with(b"-".as_slice()) {
         return Ok(());
     }
     out.push_str("input is read from standard input: onefile")?;

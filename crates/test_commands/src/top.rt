@@ -41,8 +41,18 @@ pub fn answer<R: Abort + Threads + Sync + AllocGlobal>(
     }
     assert!(rt; brakes.len() == BRAKES);
     let mut ran = None;
+    let mut reason = Vec::new(alloc);
     let words = owned.as_slice();
-    let status = tool(rt, alloc, words, source, sink, brakes, &mut ran);
+    let status = tool(
+        rt,
+        alloc,
+        words,
+        source,
+        sink,
+        brakes,
+        &mut ran,
+        &mut reason,
+    );
     Ok((status, ran))
 }
 

@@ -8,10 +8,10 @@ use Rattle.of_tool.proofs.Carried.{carries, carries_nothing, makes}
 use Rattle.of_tool.proofs.commands.output_for.Goals as goal
 
 pub returns-in-Ok-clause-answered : goal.returns-in-Ok-clause-answered
-returns-in-Ok-clause-answered g c = To c.in-Some.command c.in-Some.ensures (Done refl (makes _ _ _ _ c.in-Some.command c.in-Ok.ran c.in-Ok.ensures.made))
+returns-in-Ok-clause-answered g c = To c.in-Some.command c.in-Some.ensures (Done refl (makes _ _ _ c.in-Some.command c.in-Ok.ran c.in-Ok.ensures.made))
 
 pub returns-in-Ok-clause-carries : goal.returns-in-Ok-clause-carries
-returns-in-Ok-clause-carries g c = carries _ _ _ _ (word_bytes c.args.words.now) c.in-Ok.ran c.in-Some.command c.in-Some.ensures c.in-Ok.ensures.made
+returns-in-Ok-clause-carries g c = carries _ _ _ (word_bytes c.args.words.now) c.in-Ok.ran c.in-Some.command c.in-Some.ensures c.in-Ok.ensures.made
 
 pub returns-in-Ok-clause-unread : goal.returns-in-Ok-clause-unread
 returns-in-Ok-clause-unread g c = λ none. c.in-Ok.ensures.unread (unread_of (word_bytes c.args.words.now) c.in-Some.command c.in-Some.ensures none)
@@ -22,7 +22,7 @@ returns-in_ok-answer-in-Err-clause-answered g c =
 
 pub returns-in_ok-answer-in-Err-clause-carries : goal.returns-in_ok-answer-in-Err-clause-carries
 returns-in_ok-answer-in-Err-clause-carries g c =
-    carries_nothing _ _ _ _ (word_bytes c.args.words.now) _ (refusal_undone c.in-Some.command _ _ _ (told c.in-Some.command _ c.in_ok-answer-in-Err.field-0 c.in-Err.failure c.in_ok-answer-in-Err.ensures c.in-Err.ensures.made))
+    carries_nothing _ _ _ (word_bytes c.args.words.now) _ (refusal_undone c.in-Some.command _ _ _ (told c.in-Some.command _ c.in_ok-answer-in-Err.field-0 c.in-Err.failure c.in_ok-answer-in-Err.ensures c.in-Err.ensures.made))
 
 pub returns-in_ok-answer-in-Err-clause-unread : goal.returns-in_ok-answer-in-Err-clause-unread
 returns-in_ok-answer-in-Err-clause-unread g c = λ none. c.in-Err.ensures.unread (unread_of (word_bytes c.args.words.now) c.in-Some.command c.in-Some.ensures none)

@@ -11,4 +11,4 @@ pub returns-in_ok-load_text-in-Load : goal.returns-in_ok-load_text-in-Load
 returns-in_ok-load_text-in-Load g c = λ source input. rw c.in-Load.is (c.in_ok-load_text-in-Load.ensures source)
 
 pub returns-in_ok-plain_text-in_default : goal.returns-in_ok-plain_text-in_default
-returns-in_ok-plain_text-in_default g c = λ source input. plain_makes _ _ _ _ _ c.plain_text.ensures.plain (c.in_ok-plain_text-in_default.ensures.made source input)
+returns-in_ok-plain_text-in_default g c = λ source input. plain_makes _ _ _ _ c.plain_text.ensures.plain (c.in_ok-plain_text-in_default.ensures.made source input)

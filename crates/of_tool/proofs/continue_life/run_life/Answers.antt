@@ -11,7 +11,7 @@ use Rattle.of_image.specs.declared.version.Version.TheVariants.{Two}
 use Rattle.of_image.specs.ImageText.{image_text, SpellsImage}
 use Rattle.of_caller.specs.InTime.{course_of}
 use Rattle.of_lives.specs.Restarts.{start_from_row}
-use Rattle.of_tool.proofs.Promises.{history_of}
+use Rattle.of_tool.proofs.Promises.{history_of, told_stops, told_allowances}
 use Rattle.of_tool.proofs.continue_life.run_life.Goals as goal
 
 pub image_print-requires-clause-size : goal.image_print-requires-clause-size
@@ -49,8 +49,8 @@ returns g c =
         course = course_of p (start_from_row p i.row.words) run.0;
         promises = record {
           history = history_of p (start_of_image i) e (report_value c.in_ok-report.field-0.report) told.report (course_of p (start_from_row p i.row.words) run.0) (run.2 (report_value c.in_ok-report.field-0.report) told.report.lawful);
-          stops = told.stops;
-          allowances = told.allowances;
+          stops = told_stops _ p e c.args.brakes.items told.stops;
+          allowances = told_allowances _ p (report_value c.in_ok-report.field-0.report) c.args.brakes.items told.allowances;
         };
         goes_on = record {
           fits = c.requires.fits;
