@@ -123,28 +123,27 @@ LinkIsAtFault cells cell owners (Unlawful at) =
     (at ≡ cell)
     × ((b : ℕ) × (memory_of cells cell ≡ b + 1) × ((length owners ≤ b) ⊎ (get_or owners b 0 ≢ 0)))
 
--- if the walk came to the queues, the count of keys was compared with the number of keys met, and
--- is the same
+-- if the walk has met all chains before those of the queues, the count of keys in the cells is the
+-- number of keys met
 abbrev pub KeysAreCounted : Plot → List ℕ → Store → Type 0
 KeysAreCounted p cells s =
     (owners : List ℕ) → IsBeforeChain p cells (queue_chain p.blocks 0) 0 owners s
     → IsBeforeChain p cells (queue_chain p.blocks 0) (queue_chain p.blocks 0) owners s
 
--- if the walk came to the queues, the error names the first cell at fault
+-- if the walk has met all chains before those of the queues, the error names the first cell at
+-- fault
 abbrev pub KeysAreMiscounted : Plot → List ℕ → Store → LawErr → Type 0
 KeysAreMiscounted p cells s e =
     (owners : List ℕ) → IsBeforeChain p cells (queue_chain p.blocks 0) 0 owners s
     → NamesFault p cells e
 
--- if the walk went through all chains, it has met every block, and the cells stand for the walk's
--- store
+-- if the walk has met all chains, the cells stand for the walk's store
 abbrev pub AllAreMet : Plot → List ℕ → List ℕ → Type 0
 AllAreMet p cells owners =
     (s : Store) → IsBeforeChain p cells (out_chain p.blocks) (out_chain p.blocks) owners s
     → CellsStandFor p cells s
 
--- if the walk went through all chains and did not meet some block, the error names the first cell
--- at fault
+-- if the walk has met all chains, the error names the first cell at fault
 abbrev pub SomeAreUnmet : Plot → List ℕ → List ℕ → LawErr → Type 0
 SomeAreUnmet p cells owners e =
     (s : Store) → IsBeforeChain p cells (out_chain p.blocks) (out_chain p.blocks) owners s

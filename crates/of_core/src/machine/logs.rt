@@ -114,7 +114,7 @@ pub fn first_mark(shape: u32, from: u32, many: u32) -> Option<u32>
     None
 }
 
-/// Makes `list`, which has room for them, the list of these words.
+/// Replaces what `list` holds by these words, for which `list` has room.
 pub fn set_words(list: &mut Vec<u64>, words: &[u64])
     requires { length words.now ≤ vec_capacity list.old }
     ensures words { list.new.items ≡ words.now }
