@@ -48,7 +48,7 @@ module _ (S : Setup) (B : TableStart) (ws : List ℕ) (bs : List Batch) (i : ℕ
   LastOutcomeStands (Some (Spent s)) = WasSpentAt s
   LastOutcomeStands (Some (Lost s)) = ⊥
 
-  -- Idle: the caller has nothing under way, and the last outcome of m stands in the history
+  -- Idle: the caller has no open transaction, and the last outcome of m stands in the history
   pub record IsAtRest : Type 0 where
     pub caller : m.caller ≡ i
     pub calm : HasNothingUnderWay S B ws bs i (committed_seq ws)

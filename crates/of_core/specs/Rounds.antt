@@ -161,8 +161,8 @@ module _ (S : Setup) (B : TableStart) (ws : List ℕ) (bs : List Batch) where
     -- no batch up to m.seq has run the call
     pub left : last_ticket_by S B bs m.seq i < m.made
 
-  -- caller i has nothing under way: its request and its log words are no newer than n, its request
-  -- is durable, and its batches are closed
+  -- caller i's request and its log words are no newer than n, its request is durable, and its
+  -- batches are closed
   pub record HasNothingUnderWay (i n : ℕ) : Type 0 where
     -- the caller's request is no newer than n
     pub own : seq_of (request_of ws i) ≤ n

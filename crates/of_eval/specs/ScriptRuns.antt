@@ -130,7 +130,7 @@ module _ (o blocks : ℕ) (few : blocks ≤ MOST_BLOCKS) where
       (λ t v k. words_run n ws (done ++ v ∷ []) (memory_after (word_program o blocks w) m) t k))
 
 -- The outcome fits these words. If it is Ok, it has one answer for each word, and each answer is
--- None or a number in range. If it is an abort, it names the place of one of the words.
+-- None or a number in range. If it is an abort, it names the index of one of the words.
 abbrev pub AnswerInRange : List ℕ → ScriptOutcome → Type 0
 AnswerInRange ws (Ok e) = (length e.1 ≡ length ws) × Each IsSmall e.1
 AnswerInRange ws (Err p) = p.0 < length ws

@@ -58,8 +58,8 @@ pub record OwnersMatchChains (blocks fresh : ℕ) (chains : ℕ → List ℕ) (o
   pub met : (b : ℕ) → get_or owners b 0 ≢ 0 → IsMet chains b
   pub counted : blocks_in_chains chains (out_chain blocks) + unmet_count owners ≡ fresh
 
--- The walk met the blocks in `chains`, up to chain n. The owners table shows them, and what is
--- counted after the chains before chain k is right.
+-- What is looked at before the chains is sound. The walk met the blocks in `chains`, up to chain n.
+-- The owners table shows them, and what is counted after the chains before chain k is right.
 pub record HasWalked (p : Plot) (cells : List ℕ) (n k : ℕ) (chains : ℕ → List ℕ) (owners : List ℕ) :
     Type 0 where
   pub begun : HasBegun p cells
@@ -67,7 +67,8 @@ pub record HasWalked (p : Plot) (cells : List ℕ) (n k : ℕ) (chains : ℕ →
   pub counted : HasRightCounts (base p) p.blocks (memory_of cells) k chains
   pub painted : OwnersMatchChains p.blocks (memory_of cells (fresh_at (base p))) chains owners
 
--- the store s has the registers, and the keys, values and items of the blocks met so far
+-- the store s has the registers, and the keys, values and items of the blocks met so far; it has as
+-- many keys as blocks of buckets were met
 pub record HoldsWhatWasMet (p : Plot) (cells : List ℕ) (chains : ℕ → List ℕ) (s : Store)
     : Type 0 where
   pub state : IsState s
@@ -83,8 +84,8 @@ pub record HoldsWhatWasMet (p : Plot) (cells : List ℕ) (chains : ℕ → List 
       → map (λ b. memory_of cells (first_at (base p) b)) (chains (queue_chain p.blocks q))
       ≡ queue s q
 
--- The walk has met all chains before chain n and no block of chain n. What is counted after the
--- chains before chain k is right.
+-- The walk has met all chains before chain n and no block of chain n, and the store s has what was
+-- met. What is counted after the chains before chain k is right.
 pub record IsBeforeChain (p : Plot) (cells : List ℕ) (n k : ℕ) (owners : List ℕ) (s : Store)
     : Type 0 where
   pub chains : ℕ → List ℕ
@@ -92,7 +93,7 @@ pub record IsBeforeChain (p : Plot) (cells : List ℕ) (n k : ℕ) (owners : Lis
   pub kept : HoldsWhatWasMet p cells chains s
   pub start : chains n ≡ []
 
--- the walk has met the free list and no other chain, and no store has been made yet
+-- the walk has met all blocks of the free list, and no block of another chain
 pub record HasWalkedFreeList (p : Plot) (cells : List ℕ) (owners : List ℕ) : Type 0 where
   pub chains : ℕ → List ℕ
   pub walked : HasWalked p cells 1 1 chains owners

@@ -51,7 +51,7 @@ RunsAsWalked M known op result script before after =
 abbrev pub SameFrom : ℕ → List ℕ → List ℕ → Type 0
 SameFrom base xs ys = drop base xs ≡ drop base ys
 
--- whether bit j of the shape is 1: the reply has a number at place j
+-- whether bit j of the shape is 1: answer j of the reply is a number
 unfoldable pub is_marked : ℕ → ℕ → Bool
 is_marked shape j = shape / 2 ^ j % 2 == 1
 
@@ -73,10 +73,10 @@ pub record IsFinishedWalk (M : Meaning) (base size : ℕ) (xs op : List ℕ) (es
   pub reply : M.reply xs op ≡ r
   pub shape : FitsCell r.shape
   pub values : All FitsCell r.values
-  -- the shape marks place j only if the script was not aborted and has an instruction there
+  -- the shape marks number j only if the script was not aborted and has an instruction j
   pub marks : (j : ℕ) → j < MOST_INSTRS → is_marked r.shape j ≡ true
       → (r.shape < LEAST_ABORT) × (j < length op) × (j < length r.values)
-  -- at a place that the shape does not mark, the number is 0
+  -- a number that the shape does not mark is 0
   pub rest : (j : ℕ) → j < MOST_INSTRS → is_marked r.shape j ≡ false → get_or r.values j 0 ≡ 0
   -- an operation that is known to write nothing has no writes
   pub reads : M.reads_only op ≡ true → es ≡ []

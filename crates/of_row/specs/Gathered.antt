@@ -48,7 +48,7 @@ pub record LearnsAll (S : Setup) (Lawful : List ℕ → Type 0) (B : TableStart)
   pub own : (c : ℕ) → c < words_before_members S
       → get_or words c 0 ≡ get_or (moment S B w.past).words c 0
 
--- `word` is the word at the place c of the table at the moment that the view's past leaves
+-- `word` is the word with the index c of the table at the moment that the view's past leaves
 abbrev pub IsWordOfPast : Setup → TableStart → View → (c word : ℕ) → Type 0
 IsWordOfPast S B v c word = word ≡ get_or (moment S B v.past).words c 0
 
