@@ -17,8 +17,8 @@ unfoldable pub renumbered_words : (callers cells : ℕ) → List ℕ → List �
 renumbered_words callers cells words =
     map (renumbered_word callers cells (slice_index words)) (range_with_len 0 (length words))
 
--- On the row `new` no transaction has happened yet, and its data cells have the numbers that they
--- have in `old`.
+-- The row `new` has the numbers that the data cells have in `old`, with sequence 0, and 0 in all
+-- other cells. Recovery changes nothing in it.
 pub record BeginsAnew (callers cells : ℕ) (old new : List ℕ) : Type 0 where
   pub size : IsDurableRow callers cells new
   pub seq : current_seq (slice_index new) ≡ 0

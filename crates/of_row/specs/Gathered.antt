@@ -37,8 +37,9 @@ pub record HasWholePast (S : Setup) (B : TableStart) (v : View) : Type 0 where
   pub evicts : v.evicted ≡ (moment S B v.past).loaded
   pub raised : Each (IsRaised S (moment S B v.past).words) v.evicted
 
--- The view v has learnt of all events of the row, and is w now. The row's words meet the rule with
--- v. Apart from the members word, the words are those that the events in the past of w leave.
+-- The view v has learnt of all events of the row, and is w now; its past is whole (`HasWholePast`).
+-- The row's words meet the rule with v. Apart from the members word, the words are those that the
+-- events in the past of w leave.
 pub record LearnsAll (S : Setup) (Lawful : List ℕ → Type 0) (B : TableStart) (v w : View)
     : Type 0 where
   pub learnt : HasLongerPast v w
