@@ -62,7 +62,8 @@ HasDistinctCells es =
     → (get_or es j (0, 0)).0 ≡ (get_or es k (0, 0)).0 → j ≡ k
 
 -- A walk that finished with writes es and reply r is right about the list of cells xs: the
--- operation makes these writes on xs and gives this reply.
+-- operation makes these writes on xs and gives this reply. The writes are of different cells from
+-- `base` on, and all numbers fit into cells.
 pub record IsFinishedWalk (M : Meaning) (base size : ℕ) (xs op : List ℕ) (es : List (ℕ × ℕ))
     (r : RawReply) : Type 0 where
   pub inside : All (λ (e : ℕ × ℕ). (base ≤ e.0) × (e.0 < size) × FitsCell e.1) es
@@ -89,7 +90,7 @@ WalkFits M base size known xs op (Needs a) = (base ≤ a) × (a < size) × (get_
 WalkFits M base size known xs op (Gives es r) = IsFinishedWalk M base size xs op es r
 
 -- there are 1 to MOST_CALLERS callers, and the `size` data cells include the own cells of all of
--- them
+-- them, and are at most MOST_DATA_CELLS
 pub record HasRoom (many size : ℕ) : Type 0 where
   pub some : 1 ≤ many
   pub few : many ≤ MOST_CALLERS
