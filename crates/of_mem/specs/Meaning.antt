@@ -8,8 +8,8 @@ use Rattle.std.proofs.Common.{get_or, set, drop}
 use Rattle.of_mem.specs.declared.part.Need.{Need}
 use Rattle.of_mem.specs.declared.work.RawReply.{RawReply}
 
--- How a run on known cells ends. `Needs a`: it must read cell a, which is not known. `Gives es r`:
--- it finished with the writes es, in order of first writing, and the reply r.
+-- How a run on known cells ends. With `Needs a` it must read cell a, which is not known. With
+-- `Gives es r` it has finished with the writes es, in order of first writing, and the reply r.
 pub data WalkEnd : Type 0 where
   Needs : ℕ → WalkEnd
   Gives : List (ℕ × ℕ) → RawReply → WalkEnd
