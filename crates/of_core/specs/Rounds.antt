@@ -129,7 +129,7 @@ module _ (S : Setup) (B : TableStart) (ws : List ℕ) (bs : List Batch) where
     pub begun_one : 1 ≤ m.rounds
     pub few : m.rounds ≤ 3
 
-  -- m is in a try of a call that only reads
+  -- m is in one of the tries of a call that only reads and isn't announced (`IsUnannounced`)
   pub record IsInTry (i : ℕ) (m : CallState) : Type 0 where
     pub fresh : IsUnannounced i m
     pub reads : S.meaning.reads_only m.op ≡ true
