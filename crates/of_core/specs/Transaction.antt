@@ -39,8 +39,8 @@ module _ (S : Setup) (B : TableStart) (ws : List ℕ) (bs : List Batch) (i : ℕ
     pub unowned : (k : ℕ) → m.seq < k → k ≤ committed_seq ws → (batch_at B bs k).owner ≡ i → ⊥
     pub logs : (y : ℕ) → y < 2 * most_entries S + 1 → seq_of (log_word_of S ws i y) ≤ m.seq
 
-  -- m helps in a round or a try, which has found that transaction m.seq of m.owner is the last one;
-  -- caller i has no open transaction itself (`HasNothingUnderWay`)
+  -- m helps in a round or a try, for which transaction m.seq of m.owner was the last one at some
+  -- moment; caller i has no open transaction itself (`HasNothingUnderWay`)
   pub record IsHelping (m : CallState) : Type 0 where
     pub helper : MayHelp S B ws bs i m
     pub current_word : WasCurrent S B ws bs m.seq m.owner
