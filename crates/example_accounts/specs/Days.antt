@@ -1,5 +1,5 @@
--- What a day leaves: one history that has each answered transfer, and all the money. The next day
--- goes on from what the day before has left.
+-- What a day saves: one history that has each answered transfer, and all the money. The next day
+-- goes on from what the day before has saved.
 use Rattle.std.specs.Prelude.{◌≡◌, ℕ, ◌+◌, ◌<◌, List, length, map, drop}
 use Rattle.std.specs.declared.vec.Vec.{Vec}
 use Rattle.std.proofs.Common.{get_or, replicate, take, Global}
@@ -33,7 +33,8 @@ transfer_of a = a.transfer
 abbrev pub FollowsJob : List Answer → (job : List Transfer) → Type 0
 FollowsJob answers job = map transfer_of answers ≡ take (length answers) job
 
--- the teller has a handle, and its answers are those of the handle's calls
+-- the teller has a handle, its answers are those of the handle's calls, and they are those to the
+-- first transfers of its job
 pub record Serves (t : Teller) : Type 0 where
   pub handle : IsCellHandle accounts_meaning t.handle
   pub answers : made_by t.handle ≡ map ended_call t.answers.items
@@ -44,13 +45,13 @@ pub record IsSameTeller (t u : Teller) : Type 0 where
   pub handle : IsSame t.handle u.handle
   pub job : u.job ≡ t.job
 
--- the teller t is now u: it is the same teller, and still serves its job (`Serves`)
+-- u is the same teller as t, and its answers are those of its handle's calls (`Serves`)
 pub record HasWorked (t u : Teller) : Type 0 where
   pub serves : Serves u
   pub same : IsSameTeller t u
 
--- The list has `count` tellers. The teller at this place serves its job with a handle of the
--- memory. The last teller of the list has number 0, and the first one has the greatest number.
+-- The list has `count` tellers. The teller with the index `place` serves its job with a handle of
+-- the memory. The last teller of the list has number 0, and the first one has the greatest number.
 pub record IsSeatedAt (m : CellMemory Accounts) (count place : ℕ) (t : Teller) : Type 0 where
   pub serves : Serves t
   pub from : IsFrom m t.handle
@@ -107,7 +108,7 @@ abbrev pub IsSavedBank : SavedCells Accounts → Type 0
 IsSavedBank d =
     IsSavedCells (λ (w : Accounts). w.callers) cell_count accounts_meaning LawfulCells d
 
--- What a day leaves, if its tellers were given these jobs. At the beginning of the day the cells of
+-- What a day saves, if its tellers were given these jobs. At the beginning of the day the cells of
 -- the memory had the numbers `before`, and the callers had made as many calls as `tickets` says.
 pub record IsEvening (w : Accounts) (before : List ℕ) (tickets : ℕ → ℕ)
     (given : List (Vec Transfer Global)) (e : Evening) : Type 0 where
@@ -128,18 +129,18 @@ pub record IsEvening (w : Accounts) (before : List ℕ) (tickets : ℕ → ℕ)
   -- there is a log for each job, in the order of the jobs
   pub jobs : map job_of e.logs.items ≡ given
 
--- what the first day leaves: it began with zeros in all cells, and no caller had made a call
+-- what the first day saves: it began with zeros in all cells, and no caller had made a call
 abbrev pub IsFirstEvening : Accounts → List (Vec Transfer Global) → Evening → Type 0
 IsFirstEvening w given e = IsEvening w (replicate (cell_count w) 0) (λ n. 0) given e
 
--- `rest` has what is left of each job: the transfers that are not in the saved memory
+-- `rest` has of each job the transfers that are not in the saved memory
 pub record AreLeft (e : Evening) (rest : List (Vec Transfer Global)) : Type 0 where
   pub size : length rest ≡ length e.logs.items
   pub each : (n : ℕ) (v : Vec Transfer Global) (d : Log) → n < length e.logs.items
       → (get_or rest n v).items ≡ drop (saved_ticket e.saved n) (get_or e.logs.items n d).job.items
 
--- What the next day leaves. It began with the numbers and the calls that the evening before has
--- saved, and the tellers were given what was left of their jobs.
+-- What the next day saves. It began with the numbers and the calls that the evening before has
+-- saved, and the tellers were given the transfers of their jobs that were not in the saved memory.
 pub record IsNextEvening (w : Accounts) (e next : Evening) : Type 0 where
   pub rest : List (Vec Transfer Global)
   pub left : AreLeft e rest

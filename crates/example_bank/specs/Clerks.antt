@@ -18,8 +18,7 @@ use Rattle.example_bank.specs.Calls.{Call, replied_in, scripts_in, made_in, abor
 abbrev pub scripts_of : Clerk → List (List Instr)
 scripts_of c = map (λ t. transfer_script t.from t.to t.amount) c.job.items
 
--- how many transfers of its job the clerk has counted, as made or as aborted; it goes on with the
--- next one
+-- how many transfers of its job the clerk has counted, as made or as aborted
 abbrev pub counted : Clerk → ℕ
 counted c = c.made + c.aborted
 
@@ -72,8 +71,9 @@ HasCause steps before answered (Some NoTicket) = before + answered + 1 < 4294967
 -- ---- a clerk that works with a handle
 
 -- The clerk x has worked with a handle for a day, and is now y; the handle is now k. The clerk has
--- counted the answered calls of the handle. If the handle has an open call, the clerk was stopped,
--- and this call is the next transfer of its job.
+-- counted the answered calls of the handle, and no transfer is pending. If the handle has an open
+-- call, the clerk was stopped, and this call is the next transfer of its job. If the clerk has
+-- ended early, its job isn't done, and the cause for its ending is there (`HasCause`).
 pub record HasWorked (x y : Clerk) (k : Handle) : Type 0 where
   pub made : List Made
   pub has : HasMade k made

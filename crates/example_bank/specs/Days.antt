@@ -43,7 +43,7 @@ one_if false = 0
 
 -- Why the clerk of number n has made no more transfers on a day, and what it has counted on that
 -- day: the calls that were answered, and the transfer in which it was stopped, unless this transfer
--- took no effect and is pending.
+-- is pending.
 pub record HasEnded (c : Saved) (n : ℕ) (x z : Clerk) : Type 0 where
   pub through : IsThrough z
   pub cause : HasCause x.steps (saved_ticket c n) z.answered z.end

@@ -12,8 +12,9 @@ use Rattle.of_memory.specs.Memories.{StartsWith, HasMadeOf, HasOpenOf, callers_o
 use Rattle.of_memory.specs.Saving.{SavedHolds}
 use Rattle.example_queue.specs.Jobs.{TakesJob, twelve_jobs, waiting, jobs_in, done, LosesNoJob, CountsJobs, CountsEach}
 
--- A serial history leads from the store s to the one that is saved. No job is lost in it, and no
--- job is given twice. The workers have counted each job that was given.
+-- A serial history leads from the store s to the one that is saved, and no job is lost in it
+-- (`LosesNoJob`). If register 15 said at its beginning how many jobs wait, the workers have counted
+-- each job that was given (`CountsEach`).
 pub record LeadsWithoutLoss (s : Store) (d : Saved) (h : List HistoryEntry) : Type 0 where
   pub serial : IsSerial s h
   pub ends : SavedHolds d (store_after s h)

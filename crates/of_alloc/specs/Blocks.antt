@@ -33,8 +33,8 @@ pub record IsBlockTaken (o blocks : ℕ) (m : ℕ → ℕ) (free : List ℕ) (b 
   -- at least once
   pub cells : (a : ℕ) → a ≢ free_at o → a ≢ fresh_at o → n a ≡ m a
 
--- The answer of taking a block, and the memory n after it. None: all blocks are out, and no cell
--- changed. `Some b`: block b was taken.
+-- The answer of taking a block, and the memory n after it. None says that all blocks are out, and
+-- no cell changed. `Some b` says that block b was taken.
 abbrev pub TakesBlock : ℕ → ℕ → (ℕ → ℕ) → List ℕ → Option ℕ → (ℕ → ℕ) → Type 0
 TakesBlock o blocks m free None n = (free ≡ []) × (m (fresh_at o) ≡ blocks) × (n ≡ m)
 TakesBlock o blocks m free (Some b) n = IsBlockTaken o blocks m free b n

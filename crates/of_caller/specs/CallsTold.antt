@@ -1,4 +1,5 @@
--- What a call's answer lets its caller know: how it has ended, or that it is still open.
+-- What a caller knows of its call after it has made steps of the call: how the call has ended, or
+-- that it is still open.
 use Rattle.std.specs.Prelude.{◌≡◌, ℕ, ◌+◌, ◌<◌, ◌≤◌, List, [], ◌∷◌, ◌++◌, length, Some, Result, Ok, Err}
 use mathlib.Core.List.{IsPrefix}
 use Rattle.of_mem.specs.Meaning.{Meaning}
@@ -51,8 +52,8 @@ pub record HasEndedWith (S : Setup) (Lawful : List ℕ → Type 0) (B : TableSta
   -- the call's steps are within a bound that counts the cells that operations of the work read and
   -- write, and not how large the memory is
   pub touched : IsWithinTouched S Lawful m.op (m.steps + n)
-  -- an announced call has a sequence above the one seen when the call began; a read has at least
-  -- the one seen
+  -- an announced answer has a sequence above the one seen when the call began; any other outcome
+  -- has at least the one seen
   pub beyond : IsNotBefore (since_after B v x) o
   -- the call is spent exactly if its last step, in a round that began at the limit, did not find
   -- its ticket
@@ -79,9 +80,9 @@ TellsResult S L B m v x n d w y (Err (Stopped asked)) =
 TellsResult S L B m v x n d w y (Err (Spent seq)) = HasEndedWith S L B m v x n d w y (Over seq)
 
 -- What holds after a call has made steps. The member keeps the machine. What the member has seen is
--- a legal history: each call of the caller there has begun, and the outcome of each ended call is
--- there. A call of the caller that was answered as announced is there once. In the events that the
--- member knows, the caller's calls begin and end as the member keeps them.
+-- a legal history. Each call of the caller in it has begun, and the outcome of each ended call of
+-- the caller agrees with it. A call of the caller that was answered as announced is in it once. In
+-- the events that the member knows, the caller's calls begin and end as the member keeps them.
 pub record TellsStepsMade (S : Setup) (B : TableStart) (d : CallState) (w : View) (y : KnownCaller)
     : Type 0 where
   pub machine : y.machine ≡ d

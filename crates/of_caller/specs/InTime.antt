@@ -89,8 +89,8 @@ course_of p B items = marks_in (plan_setup p) (opening_at p B) (events_of_items 
 
 -- ---- what holds of all schedules and teams
 
--- if a schedule of the plan, from any start, leaves a record, the record's report respects the real
--- time of the schedule
+-- if a schedule of the plan, from any start at which a table may start, leaves a record, the
+-- record's report respects the real time of the schedule
 abbrev pub SchedulesRespectTime : Plan → Type 0
 SchedulesRespectTime p =
     (s : Start) (B : TableStart) → MayStart (plan_setup p) (IsLawfulFor p) B

@@ -23,7 +23,7 @@ use Rattle.of_caller.specs.Callers.{IsCaller, caller_call, member_of, sight_of}
 use Rattle.of_caller.specs.Stops.{KeepsStop, KeepToStop, answer_steps, open_call_steps}
 use Rattle.of_caller.specs.Teams.{AreAnswered, KeepsCaller}
 
--- the row is one for the plan, and has started at a start of the plan
+-- the plan is in range, the row is one for it, and the row has started at a start of the plan
 pub record IsPlanRow (p : Plan) (r : Row Scripts) : Type 0 where
   pub plan : IsPlan p
   pub row : IsRowOf p r
@@ -41,15 +41,17 @@ pub record Appends {A : Type 0} (P : A → Type 0) (xs ys : List A) : Type 0 whe
   pub is : ys ≡ xs ++ item ∷ []
   pub holds : P item
 
--- the kept caller has no open call; its first i scripts after those `behind` are answered
+-- the kept caller has no open call, and its first i scripts after the first `behind` have these
+-- answers
 pub record HasAnsweredScripts (p : Plan) (behind c : ℕ) (x : KnownCaller) (answers : List Answer)
     (i : ℕ) : Type 0 where
   pub idle : IsIdle x.machine
   pub answered : AreAnswered p behind c x.ended answers
   pub count : length answers ≡ i
 
--- the caller is between two calls; its first i scripts after those `behind` are answered, and its
--- member keeps its machine
+-- The caller, number c of the row, is between two calls, and has begun `behind` and i calls. Its
+-- member keeps this caller alone, with its machine. Its first i scripts after the first `behind`
+-- have these answers.
 pub record CallerHasAnswered (p : Plan) (behind c : ℕ) (r : Row Scripts) (caller : Caller Scripts)
     (answers : List Answer) (i : ℕ) : Type 0 where
   pub is_caller : IsCaller scripts_meaning r caller
@@ -60,7 +62,8 @@ pub record CallerHasAnswered (p : Plan) (behind c : ℕ) (r : Row Scripts) (call
   pub shown : kept.machine ≡ caller_call caller
   pub going : HasAnsweredScripts p behind c kept answers i
 
--- the caller has made its last call and has ended with these answers and this ending
+-- The caller, number c of this row, has ended. Its member is of the row and keeps this caller
+-- alone. What it keeps agrees with these answers and this ending (`KeepsCaller`).
 pub record CallerHasEnded (p : Plan) (behind c : ℕ) (r : Row Scripts) (caller : Caller Scripts)
     (answers : List Answer) (ending : Ending) : Type 0 where
   pub seat : IsRowMember r (member_of caller)
@@ -113,7 +116,8 @@ module _ {X : Type 0} {Y : X → Type 0} where
   abbrev pub LaneEnds : Plan → Row Scripts → TeamCaller X Y → Ending → Type 0
   LaneEnds p r a ending = CallerHasEnded p a.first a.number r a.caller a.answers.items ending
 
-  -- lane b is lane a after its caller has made all its calls and has ended
+  -- lane b has the number and the first script of lane a, and its caller has ended with the answers
+  -- and the ending that b has
   pub record HasRun (p : Plan) (r : Row Scripts) (a b : TeamCaller X Y) : Type 0 where
     pub number : b.number ≡ a.number
     pub first : b.first ≡ a.first

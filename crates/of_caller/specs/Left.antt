@@ -1,4 +1,4 @@
--- What events leave on a plan's table of zeros.
+-- What events leave on a plan's table of zeros, and when events are of a plan.
 use Rattle.std.specs.Prelude.{◌≡◌, ℕ, ◌≤◌, ◌<◌, List, length, map, take}
 use Rattle.of_plan.specs.Plan.{Plan, scripts_of}
 use Rattle.of_plan.specs.Ended.{Ended, answers_of, ending_of}

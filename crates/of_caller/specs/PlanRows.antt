@@ -10,8 +10,8 @@ use Rattle.of_row.specs.declared.row.Row.{Row}
 use Rattle.of_row.specs.Rows.{key_of, row_start}
 use Rattle.of_caller.specs.Starts.{StartsAtPlan}
 
--- the row is made for the plan: how many callers and cells it has, its limit and its work are the
--- plan's
+-- the row is made for the plan: its numbers of callers and data cells and its limit are the plan's,
+-- and its work has the plan's numbers of callers and blocks
 pub record IsRowOf (p : Plan) (r : Row Scripts) : Type 0 where
   pub callers : (key_of r).callers ≡ p.callers
   pub cells : (key_of r).cells ≡ plan_data_cells p

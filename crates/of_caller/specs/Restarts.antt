@@ -27,8 +27,8 @@ pub record IsHeldIn (m : ℕ → ℕ) (caller : ℕ) (e : Entry) : Type 0 where
   pub held : IsHeldBy (reply_in MOST_INSTRS m caller) reply
   pub response : e.reply ≡ reply_value_of reply
 
--- a caller's own cells hold the last announced one of these entries; if none was announced, the
--- caller's ticket cell holds n
+-- The ticket cell of a caller holds n, or the caller's own cells hold one of these entries that was
+-- announced. The cell holds at least n.
 pub record HoldsLastAnnounced (m : ℕ → ℕ) (caller n : ℕ) (es : List Entry) : Type 0 where
   pub from : n ≤ m (ticket_cell_at MOST_INSTRS caller)
   -- no announced entry has a higher ticket
@@ -36,8 +36,9 @@ pub record HoldsLastAnnounced (m : ℕ → ℕ) (caller n : ℕ) (es : List Entr
   -- the cells hold an announced entry, if their ticket isn't n
   pub has : (m (ticket_cell_at MOST_INSTRS caller) ≡ n) ⊎ Any (IsHeldIn m caller) es
 
--- a table starts where the report of a run ends: at the report's sequence and store, and each
--- caller's own cells hold its last announced entry
+-- The table starts where the report of a run ends: it has the report's sequence, as many data cells
+-- as the plan, and cells that stand for the report's store. Each caller's own cells hold the last
+-- announced entry that the report has of the caller, if it has one (`HoldsLastAnnounced`).
 pub record StartsAfterReport (p : Plan) (s : Start) (r : Report) (B : TableStart) : Type 0 where
   pub seq : B.seq ≡ r.seq
   pub size : length B.cells ≡ plan_data_cells p
@@ -45,7 +46,7 @@ pub record StartsAfterReport (p : Plan) (s : Start) (r : Report) (B : TableStart
   pub callers : (c : ℕ) → c < p.callers
       → HoldsLastAnnounced (start_number B) c (finished_of s c) (entries_of r c)
 
--- a table may start from what recovery makes of the durable words of a run with this report; this
+-- a table may start from what recovery makes of the durable words that this record leaves, and this
 -- start is where the report ends
 abbrev pub MayRestartAfter : Plan → Start → Ended → Report → Type 0
 MayRestartAfter p s e r =

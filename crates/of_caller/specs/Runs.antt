@@ -1,5 +1,5 @@
--- What a run of a plan from a start leaves: the facts of the run's table and of its callers that
--- make the run's record lawful.
+-- A run of a plan from a start: the moments of its table, the record that it leaves, and what holds
+-- of all runs.
 use Rattle.std.specs.Prelude.{◌≡◌, ℕ, ◌+◌, ◌-◌, ◌==◌, ◌≤◌, ◌<◌, if◌then◌else◌, List, [], length, map, take, drop, replicate, Some}
 use Rattle.std.specs.List.{range_with_len}
 use Rattle.std.proofs.Common.{get_or}
@@ -24,8 +24,8 @@ use Rattle.of_caller.specs.Tables.{plan_setup, opening_at, operation_of}
 use Rattle.of_caller.specs.Ends.{OutcomeHoldsReply, AnswersStandBeforeSpent, AreAnswers, ending_if_left}
 use Rattle.of_caller.specs.Starts.{StartsAtPlan}
 
--- these are the operations of caller c's next scripts: of the first `count` scripts after those
--- `behind`, in order
+-- for some `count`, these are the operations of the first `count` scripts of caller c after its
+-- first `behind`, in order
 pub record AreNextScripts (p : Plan) (behind c : ℕ) (ops : List (List ℕ)) : Type 0 where
   pub count : ℕ
   pub few : count ≤ length (scripts_of p c) - behind
@@ -37,8 +37,9 @@ pub record AreNextScripts (p : Plan) (behind c : ℕ) (ops : List (List ℕ)) : 
 abbrev pub ending_of_calls : (outs : List Outcome) → (steps scripts_left answered : ℕ) → Ending
 ending_of_calls outs steps n a = if a == n then Done else ending_if_left (last_outcome outs) steps
 
--- The plan's table has come from the start to this moment. Each caller has begun calls of the
--- operations `ops`, those of its next scripts, and its ended calls have the outcomes `outs`.
+-- The plan is in range, its table has started at this start, and the moment w is sound (`IsSound`).
+-- Each caller has begun calls of the operations `ops`, those of its next scripts, and its ended
+-- calls have the outcomes `outs` (`HasCalls`).
 pub record IsMomentOf (p : Plan) (s : Start) (B : TableStart) (w : Moment) (ops : ℕ → List (List ℕ))
     (outs : ℕ → List Outcome) : Type 0 where
   pub plan : IsPlan p
@@ -49,8 +50,8 @@ pub record IsMomentOf (p : Plan) (s : Start) (B : TableStart) (w : Moment) (ops 
       → HasCalls (plan_setup p) B (finished_of s c) w c (ops c) (outs c)
 
 -- The record's answers and ending of caller c agree with the outcomes of the caller's calls. No
--- call is answered after a spent one, because the place of an answer in the list says to which
--- script it is the answer.
+-- call is answered after a spent one; so the index of an answer says to which script it is the
+-- answer.
 pub record TellsCalls (p : Plan) (s : Start) (w : Moment) (e : Ended) (c : ℕ) (outs : List Outcome)
     : Type 0 where
   pub answers_first : AnswersStandBeforeSpent outs
@@ -58,7 +59,9 @@ pub record TellsCalls (p : Plan) (s : Start) (w : Moment) (e : Ended) (c : ℕ) 
   pub ended : ending_of e c
       ≡ ending_of_calls outs (machine_in w c).steps (scripts_left p s c) (length (answers_of e c))
 
--- a run of the plan from the start has left this record, and the run's table is at this moment
+-- A run of the plan from the start has left this record. The moment w is one of the plan
+-- (`IsMomentOf`); the record's words are all words of the table at it. The record's answers and
+-- endings agree with the outcomes of the calls (`TellsCalls`).
 pub record IsRunOfPlan (p : Plan) (s : Start) (B : TableStart) (w : Moment) (e : Ended)
     : Type 0 where
   pub operations : ℕ → List (List ℕ)
@@ -128,9 +131,9 @@ RunsAreReported =
 abbrev pub steps_made : Moment → (c : ℕ) → List Outcome → ℕ
 steps_made w c outs = total_steps outs + (machine_in w c).steps
 
--- If a caller has made at most n steps, the report agrees with n as the caller's allowance of steps
--- (`KeepsAllowance`). If the caller is stopped and no call of it is spent, it must have made
--- exactly n steps. The caller's open call must have made fewer steps than the bound.
+-- Suppose that a caller has made at most n steps, and exactly n if it is stopped and no call of it
+-- is spent, and that its open call has made fewer steps than the bound. Then n is a possible
+-- allowance of steps for the caller in the report (`KeepsAllowance`).
 abbrev pub RunsKeepAllowances : Type 0
 RunsKeepAllowances =
     (p : Plan) (s : Start) (B : TableStart) (w : Moment) (e : Ended) (run : IsRunOfPlan p s B w e)

@@ -24,8 +24,9 @@ pub record HasSeated (n : ℕ) (v : View) : Type 0 where
   pub loaded : v.loaded ≡ []
   pub below : (m : ℕ) → IsAsked m v.asked → m < n
 
--- a pass with the view v has evicted these cells in their order and done nothing else; its view is
--- w now
+-- Between the views v and w a pass has evicted these cells, in their order. As before are: whether
+-- it is the first pass, which numbers it has tried, and what it keeps of callers. If it had loaded
+-- nothing, it still has loaded nothing.
 pub record EvictsCells (cells : List ℕ) (v w : View) : Type 0 where
   pub first : w.first ≡ v.first
   pub asked : w.asked ≡ v.asked
@@ -38,13 +39,14 @@ abbrev pub done_at : Row Scripts → ℕ → ℕ
 done_at r c = done_before (setup_at scripts_meaning r) (row_start scripts_meaning r) c
 
 module _ {X : Type 0} {Y : X → Type 0} where
-  -- the lane is that of caller n, and this caller has made no call
+  -- the lane is that of caller n, which has made no call; its first script is the first one that
+  -- was not done before the row's start
   pub record IsSeat (p : Plan) (r : Row Scripts) (n : ℕ) (a : TeamCaller X Y) : Type 0 where
     pub ready : IsReady p r a
     pub number : a.number ≡ n
     pub first : a.first ≡ done_at r n
 
-  -- the lanes are those of caller n and of the callers after it, and these have made no call
+  -- the lanes are those of caller n and of the callers after it (`IsSeat`)
   abbrev pub Seated : Plan → Row Scripts → (n : ℕ) → List (TeamCaller X Y) → Type 0
   Seated p r n [] = Unit {0}
   Seated p r n (a ∷ others) = IsSeat p r n a × Seated p r (n + 1) others

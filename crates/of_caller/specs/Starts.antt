@@ -1,4 +1,5 @@
--- When a table starts at a start of a plan: the table's cells stand for this start.
+-- When a table starts at a start of a plan: the table has the start's sequence, its cells stand for
+-- the start's store, and its ticket cells say how many scripts of each caller are done.
 use Rattle.std.specs.Prelude.{◌≡◌, ℕ, ◌<◌, length, map}
 use Rattle.of_cell.specs.Words.{payload_of}
 use Rattle.of_mem.specs.Places.{ticket_cell_at}
@@ -16,8 +17,9 @@ use Rattle.of_caller.specs.Tables.{plan_setup}
 abbrev pub start_number : TableStart → ℕ → ℕ
 start_number B a = memory_of (map payload_of B.cells) a
 
--- A table's start is that of a plan: it has the same sequence, its cells stand for the same store,
--- and each caller's ticket cell holds how many of its scripts are done.
+-- The table starts at this start of the plan: it has the start's sequence, as many data cells as
+-- the plan, and cells that stand for the start's store. The start says for each caller how many of
+-- its scripts are done, and the caller's ticket cell holds this number.
 pub record StartsAtPlan (p : Plan) (s : Start) (B : TableStart) : Type 0 where
   pub seq : B.seq ≡ s.seq
   pub size : length B.cells ≡ plan_data_cells p

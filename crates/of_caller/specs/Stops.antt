@@ -21,7 +21,7 @@ open_call_steps (Stopped asked) = asked - 1
 open_call_steps (Spent seq) = 0
 
 -- A caller that has made this many steps keeps to its stop: it has made at most `stop` steps, and
--- exactly `stop` if it was stopped. Without a stop it isn't stopped.
+-- exactly `stop` if it was stopped. A caller without a stop isn't stopped.
 abbrev pub KeepsStop : (stop : Option ℕ) → (steps : ℕ) → EndState → Type 0
 KeepsStop None steps state = state ≡ stopped → ⊥
 KeepsStop (Some most) steps state = (steps ≤ most) × (state ≡ stopped → steps ≡ most)
@@ -42,8 +42,8 @@ KeepToToldStop (Some steps) stop answers ending = KeepToStop stop answers ending
 abbrev pub CallerKeepsStop : Plan → Ended → (caller : ℕ) → (left : Option (Option ℕ)) → Type 0
 CallerKeepsStop p e c left = KeepToToldStop left (stop_of p c) (answers_of e c) (ending_of e c)
 
--- The list has the brakes of caller c and of the callers after it. Each of these callers whose
--- brake reports its steps left keeps to its stop in the plan.
+-- The list has the brakes of caller c and of the callers after it. Each of these callers that is in
+-- the plan, and whose brake reports its steps left, keeps to its stop in the plan.
 abbrev pub KeepStops : {A : Type 0} → (A → Option (Option ℕ)) → Plan → Ended → (c : ℕ) → List A
     → Type 0
 KeepStops left p e c [] = Unit {0}

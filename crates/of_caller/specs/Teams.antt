@@ -1,4 +1,5 @@
--- What a team hands back: the record of a run, and a pass that has the run's calls.
+-- What a team hands back: the record of a run, and a pass that has the run's calls. What holds of
+-- all teams.
 use Rattle.std.specs.Prelude.{◌≡◌, ℕ, ◌+◌, ◌-◌, ◌≤◌, ◌<◌, ◌⊎◌, List, [], ◌∷◌, ◌++◌, length, map, take, drop, slice_index_or, false, true, IsTrue, All, Any}
 use Rattle.of_eval.specs.declared.scripts.Scripts.{Scripts}
 use Rattle.of_eval.specs.Record.{IsLawfulRecord}
@@ -54,9 +55,10 @@ pub record IsStopped (p : Plan) (op : List ℕ) (asked : ℕ) (m : CallState) : 
   pub at_once : asked ≡ 1 → IsIdle m
   pub open_call : 1 < asked → IsOpen m.place × (m.op ≡ op) × (m.steps + 1 ≡ asked)
 
--- What is kept of caller c beyond its answered calls; x of its n scripts are done. If the caller is
--- done, x is n and nothing more is kept. If it is stopped, its call of script x may be open. If it
--- is spent, the spent call of script x is kept.
+-- What is kept of caller c beyond its answered calls, if x of its n scripts are done. If the caller
+-- is done, x is n, no call is open and nothing more is kept. If it is stopped, it has a script
+-- left, of which a call may be open (`IsStopped`), and nothing more is kept. If it is spent, it has
+-- a script left, no call is open, and the spent call of script x is kept.
 abbrev pub KeepsLastCall : Plan → (c x n : ℕ) → CallState → List EndedCall → Ending → Type 0
 KeepsLastCall p c x n m beyond Done = (x ≡ n) × IsIdle m × (beyond ≡ [])
 KeepsLastCall p c x n m beyond (Stopped asked) =
@@ -65,8 +67,9 @@ KeepsLastCall p c x n m beyond (Spent seq) =
     (x < n) × IsIdle m
     × (beyond ≡ record { op = script_operation_at p c x; outcome = RanOut seq } ∷ [])
 
--- what is kept of caller c agrees with its answers and its ending; the first `behind` of its
--- scripts were done before the start
+-- What is kept of caller c agrees with its answers and its ending: first come its answered calls,
+-- which have these answers, and then what `KeepsLastCall` says. The first `behind` of its scripts
+-- were done before the start.
 pub record KeepsCaller (p : Plan) (behind c : ℕ) (answers : List Answer) (ending : Ending)
     (x : KnownCaller) : Type 0 where
   pub calls : List EndedCall
@@ -87,11 +90,11 @@ KeepsCallerWith c P (x ∷ xs) = ((x.machine.caller ≡ c) × P x) ⊎ KeepsCall
 pub record IsTeamOf (p : Plan) (s : Start) (B : TableStart) (e : Ended) (v : View) : Type 0 where
   pub plan : IsPlan p
   pub starts : StartsAtPlan p s B
-  -- words and view meet the rule of a row, and the view keeps every number that is taken
+  -- words and view meet the rule of a row; the view isn't spent, and keeps every taken number
   pub meets : ViewMeetsRule (plan_setup p) (IsLawfulFor p) B e.words v
   pub live : v.spent ≡ false
   pub keeps_all : KeepsAll (plan_setup p) e.words v
-  -- the pass is the row's first one; it has made the plan's evictions in their order
+  -- the pass is the row's first one; it has loaded no word and made the plan's evictions in order
   pub first : v.first ≡ true
   pub loaded : v.loaded ≡ []
   pub evicted : map (λ e. e.0) v.evicted ≡ evictions_of p
@@ -121,7 +124,9 @@ pub record AnnouncesSeen (B : TableStart) (seen : List SeenBatch) (r : Report) :
       → All (λ d. Any (λ f. IsTrue f.announced × (f.seq ≡ k) × IsEntryOf f d) r.entries)
       (seen_calls B seen k)
 
--- a team has left this record, which is lawful; w is the view of the team's pass, marked as spent
+-- A team has left this record, and w is the view of the team's pass, marked as spent. The record
+-- has a report with all that holds of the report of a run (`ReportsRun`). The report's announced
+-- entries are the calls of the batches that the pass has seen.
 pub record IsHandedBack (p : Plan) (s : Start) (B : TableStart) (e : Ended) (w : View)
     : Type 0 where
   pub sight : View
@@ -149,8 +154,8 @@ TeamsAreLawful p =
     (s : Start) (B : TableStart) (e : Ended) (v : View) → IsTeamOf p s B e v
     → (r : Report) × ReportsRun p s e r × AnnouncesSeen B v.seen r
 
--- in the report of a team of the plan, each caller that keeps to its stop keeps the stop as its
--- allowance
+-- in the report of a team of the plan, the stop of each caller that keeps to its stop is a possible
+-- allowance of steps for the caller (`KeepsAllowance`)
 abbrev pub TeamsKeepAllowances : Plan → Type 0
 TeamsKeepAllowances p =
     (s : Start) (B : TableStart) (e : Ended) (v : View) → IsTeamOf p s B e v

@@ -3,14 +3,14 @@ use Rattle.std.specs.Prelude.{◌≡◌, List, [], ◌∷◌}
 use denote.Ref.{MutBor}
 use denote.Param.Members.{Shared}
 
--- the lists are equally long, and P holds of the two items at each place
+-- the lists are equally long, and P holds of the two items at each index
 abbrev pub AllPaired : {A : Type 0} → (A → A → Type 0) → List A → List A → Type 0
 AllPaired P [] [] = Unit {0}
 AllPaired P [] (y ∷ ys) = ⊥
 AllPaired P (x ∷ xs) [] = ⊥
 AllPaired P (x ∷ xs) (y ∷ ys) = P x y × AllPaired P xs ys
 
--- the first list is at least as long, and P holds of the two items at each place of the second
+-- the first list is at least as long, and P holds of the two items at each index of the second
 abbrev pub PrefixPaired : {A B : Type 0} → (A → B → Type 0) → List A → List B → Type 0
 PrefixPaired P xs [] = Unit {0}
 PrefixPaired P [] (y ∷ ys) = ⊥

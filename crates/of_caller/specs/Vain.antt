@@ -22,8 +22,9 @@ IsSpent (Answered s announced raw steps) = ⊥
 IsSpent (Spent s) = Unit {0}
 IsSpent (Lost s) = ⊥
 
--- the machine's last step led to d with the outcome o; the call is spent exactly if the machine was
--- in a round at the limit and did not find the call's ticket by this step
+-- A machine with an open call has come to d by a step that found a word of the table. The outcome o
+-- is that of a spent call exactly if the machine was in a round at the limit and did not find the
+-- call's ticket by this step.
 pub record IsLastStep (S : Setup) (Lawful : List ℕ → Type 0) (d : CallState) (o : Outcome)
     : Type 0 where
   pub machine : CallState

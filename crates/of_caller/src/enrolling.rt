@@ -75,7 +75,7 @@ fn enrol_one(
     }
 }
 
-/// Enrols every caller of the plan. Each gets the brake at the place of its number, which is armed
+/// Enrols every caller of the plan. Each gets the brake whose index is the caller's number, armed
 /// with the caller's stop. If memory runs out, no caller has made a step.
 pub(crate) fn enrol_all(
     alloc: Global,

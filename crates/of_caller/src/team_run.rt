@@ -128,7 +128,7 @@ fn gather(
 
 /// Runs all callers of a plan at once on a row for it. Each caller runs its scripts from the first
 /// that isn't done. Meanwhile a worker makes the plan's evictions in their order. Each caller has
-/// the brake at the place of its number in `brakes`, armed with the caller's stop in the plan. A
+/// the brake whose index in `brakes` is its number, armed with the caller's stop in the plan. A
 /// caller ends after its last script, at its first stop, or if no sequence is left. After all have
 /// ended, their members are joined to the pass, and the row is closed.
 ///

@@ -49,21 +49,22 @@ log_value_cell callers cells caller entry = log_cell callers cells caller (2 * e
 abbrev pub durable_cells : (callers cells : ℕ) → ℕ
 durable_cells callers cells = 1 + callers + cells + callers * (2 * log_room callers cells + 1)
 
--- The place of a cell's durable word in the shared table. The place of the cell's own word is the
+-- The index of a cell's durable word in the shared table. The index of the cell's own word is the
 -- cell's number.
 abbrev pub durable_place : (callers cells cell : ℕ) → ℕ
 durable_place callers cells cell = durable_cells callers cells + cell
 
--- the place of a caller's script word x; the caller's announcement comes after its last script word
+-- the index of a caller's script word x in the shared table; the caller's announcement comes after
+-- its last script word
 abbrev pub script_place : (callers instrs cells caller x : ℕ) → ℕ
 script_place callers instrs cells caller x =
     durable_cells callers cells + durable_cells callers cells + caller * (instrs + 1) + x
 
--- the place of a caller's announcement in the shared table
+-- the index of a caller's announcement in the shared table
 abbrev pub announce_place : (callers instrs cells caller : ℕ) → ℕ
 announce_place callers instrs cells caller = script_place callers instrs cells caller instrs
 
--- the place of the members word, which says which callers take part; it is the last word of the
+-- the index of the members word, which says which callers take part; it is the last word of the
 -- shared table
 abbrev pub members_place : (callers instrs cells : ℕ) → ℕ
 members_place callers instrs cells =

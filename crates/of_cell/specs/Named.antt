@@ -1,5 +1,5 @@
 -- Names for the cells and the words of the table, with which it is stated that no two cells have
--- the same number, and no two words the same place.
+-- the same number, and no two words the same index.
 use Rattle.std.specs.Prelude.{ℕ, ◌≡◌, ◌<◌}
 use Rattle.of_cell.specs.Cells.{log_room, request_cell, data_cell, log_count_cell, log_addr_cell, log_value_cell, durable_cells, durable_place, script_place, announce_place, members_place, table_words}
 
@@ -62,13 +62,13 @@ word_place callers instrs cells (ScriptWord caller x) = script_place callers ins
 word_place callers instrs cells (Announcement caller) = announce_place callers instrs cells caller
 word_place callers instrs cells Members = members_place callers instrs cells
 
--- words with different names have different places in the table
+-- words with different names have different indices in the table
 abbrev pub WordPlacesDiffer : (callers instrs cells : ℕ) → Type 0
 WordPlacesDiffer callers instrs cells =
     (v w : WordName) → IsWord callers instrs cells v → IsWord callers instrs cells w
     → word_place callers instrs cells v ≡ word_place callers instrs cells w → v ≡ w
 
--- the place of each word is below the number of words in the table
+-- the index of each word is below the number of words in the table
 abbrev pub PlacesBelow : (callers instrs cells : ℕ) → Type 0
 PlacesBelow callers instrs cells =
     (w : WordName) → IsWord callers instrs cells w

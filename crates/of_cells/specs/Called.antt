@@ -48,8 +48,8 @@ IsInCall c = IsOpen (caller_call c).place
 abbrev pub IsOpenAt : {W : Type 0} → (op : List ℕ) → Caller W → Type 0
 IsOpenAt op c = IsInCall c × ((caller_call c).op ≡ op)
 
--- a call of this operation is open if it was stopped, and no call is open if it was answered or
--- spent
+-- if a call of this operation has had this result, it is open if the result is a stop, and no call
+-- is open if it was answered or spent
 abbrev pub LeavesOpen : {W : Type 0} → (op : List ℕ) → Result RawAnswer RunError → Caller W
     → Type 0
 LeavesOpen op (Ok a) c = IsInCall c → ⊥
@@ -77,7 +77,8 @@ WasTried (Err InCall) = ⊥
 WasTried (Err NoCall) = ⊥
 WasTried (Err NoTicket) = ⊥
 
--- the call has made a step
+-- by this result the call has made a step: it was answered or spent, or it was stopped after its
+-- brake was asked more than once
 abbrev pub HasStarted : Result RawAnswer RunError → Type 0
 HasStarted (Ok a) = Unit {0}
 HasStarted (Err (Stopped asked)) = 1 < asked
@@ -86,8 +87,8 @@ HasStarted (Err InCall) = ⊥
 HasStarted (Err NoCall) = ⊥
 HasStarted (Err NoTicket) = ⊥
 
--- If the call has made a step, then before the call the caller knew of no call of its number that
--- had begun and not ended.
+-- If the call has made a step, then before the call the caller knew of at most as many begun calls
+-- of this number as it had ended calls.
 abbrev pub BeginsAsNext : {W : Type 0} → (number : ℕ) → Result RawAnswer RunError → Caller W
     → Type 0
 BeginsAsNext n result c =
@@ -98,8 +99,9 @@ BeginsAsNext n result c =
 abbrev pub BeginsItsNext : {W : Type 0} → Result RawAnswer RunError → Caller W → Type 0
 BeginsItsNext result c = BeginsAsNext (caller_call c).caller result c
 
--- If an open call that had made no step makes one when it goes on, then before that the caller knew
--- of no call of its own number that had begun, besides those that had ended.
+-- Suppose that the caller's open call has made no step, and that the caller keeps no open call
+-- without a step. If the call makes a step when it goes on, then before that the caller knew of no
+-- call of its own number that had begun, besides those that had ended.
 abbrev pub ResumesItsNext : {W : Type 0} → Result RawAnswer RunError → Caller W → Type 0
 ResumesItsNext result c =
     HasStartedIfOpen (last_caller (sight_of c).kept) → (caller_call c).steps ≡ 0

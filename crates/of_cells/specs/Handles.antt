@@ -26,7 +26,7 @@ number_of_handle h = h.number
 abbrev pub caller_of : {W : Type 0} → CellHandle W → Caller W
 caller_of h = h.caller
 
--- the handle is one of some memory
+-- the handle is one of some memory: its caller serves the memory's row with the handle's number
 abbrev pub IsCellHandle : {W : Type 0} → (W → Meaning) → CellHandle W → Type 0
 IsCellHandle meaning h = Serves meaning (home_of h) (number_of_handle h) (caller_of h)
 
@@ -46,8 +46,8 @@ last_operation_of h = (caller_call (caller_of h)).op
 abbrev pub HasOpen : {W : Type 0} → CellHandle W → (op : List ℕ) → Type 0
 HasOpen h op = IsOpenAt op (caller_of h)
 
--- a call of this operation is open if it was stopped, and no call is open if it was answered or
--- spent
+-- if a call of this operation has had this result, it is open if the result is a stop, and no call
+-- is open if it was answered or spent
 abbrev pub StaysOpenOnlyIfStopped : {W : Type 0} → (op : List ℕ) → Result RawAnswer RunError
     → CellHandle W → Type 0
 StaysOpenOnlyIfStopped op result h = LeavesOpen op result (caller_of h)

@@ -17,7 +17,7 @@ HistoriesJoin M =
     → IsSerial M (cells_after M cells h) k → IsSerial M cells (h ++ k)
     × (cells_after M cells (h ++ k) ≡ cells_after M (cells_after M cells h) k)
 
--- operations lead from lawful cells to lawful cells, and the number of cells stays
+-- operations lead from as many lawful cells as `size` says to lawful cells, and to as many
 abbrev pub CellsStayLawful : Meaning → (List ℕ → Type 0) → (size : ℕ) → Type 0
 CellsStayLawful M lawful size =
     (cells : List ℕ) (h : List Call) → length cells ≡ size → lawful cells
@@ -32,7 +32,7 @@ pub record StaysAsOpened {W : Type 0} (meaning : W → Meaning) (before now : Ce
   pub cells : cells_before meaning now ≡ cells_before meaning before
   pub tickets : (n : ℕ) → tickets_before meaning now n ≡ tickets_before meaning before n
 
--- while handles come and go, a memory keeps its work and number of callers, and the cells and
+-- one memory at two times has the same work, the same number of callers, and the same cells and
 -- tickets that it was opened with
 abbrev pub MemoriesStay : {W : Type 0} → (W → Meaning) → Type 0
 MemoriesStay {W} meaning = (m k : CellMemory W) → IsStill m k → StaysAsOpened meaning m k

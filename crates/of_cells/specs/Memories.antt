@@ -30,8 +30,9 @@ use Rattle.of_cells.specs.Handles.{home_of, number_of_handle, caller_of}
 abbrev pub row_of : {W : Type 0} → CellMemory W → Row W
 row_of m = arc_value m.row
 
--- the memory is open: it has the row's first pass, a place for each caller, what handles that have
--- left knew, and empty room for the durable words
+-- the memory is open: it has the row's first pass, a slot for each caller, what handles that have
+-- left knew, and empty room for the durable words; the caller in a slot serves the row with the
+-- number that is the slot's index
 pub record IsCellMemory {W : Type 0} (meaning : W → Meaning) (m : CellMemory W) : Type 0 where
   pub pass : IsRowPass (row_of m) m.pass
   pub first : IsFirstPass m.pass
@@ -83,7 +84,7 @@ pub record HasOpenOf {W : Type 0} (m : CellMemory W) (n : ℕ) (op : List ℕ) :
   pub opened : IsOpenAt op caller
 
 -- no handle of number j is out, and number j knows that the first x calls of number n had ended
--- before number k began its call y + 1
+-- before number k began the call after its first y
 pub record HasOrderOf {W : Type 0} (meaning : W → Meaning) (m : CellMemory W) (j n x k y : ℕ)
     : Type 0 where
   pub caller : Caller W
@@ -149,8 +150,8 @@ abbrev pub OthersKnowOrder : {W : Type 0} → (W → Meaning) → ℕ → (befor
 OthersKnowOrder meaning i m l =
     (j n x k y : ℕ) → j ≢ i → HasOrderOf meaning m j n x k y → HasOrderOf meaning l j n x k y
 
--- The caller of the handle's number was in the memory, and is taken out of it. The handle has this
--- caller's calls, and knows what the caller knew.
+-- The caller of the handle's number was in the memory, and is taken out of it; all other callers
+-- stay. The handle has this caller's calls, and knows what the caller knew.
 pub record TakesOut {W : Type 0} (m k : CellMemory W) (h : CellHandle W) : Type 0 where
   pub caller : Caller W
   pub was : get_or m.callers.items (number_of_handle h) None ≡ Some caller
@@ -162,7 +163,7 @@ abbrev pub TakesNone : {W : Type 0} → (before now : CellMemory W) → Type 0
 TakesNone m k = k.callers.items ≡ m.callers.items
 
 -- a caller with the calls of caller c, which knows all that c knew, is put into the memory as
--- number n
+-- number n; all other numbers have what they had
 pub record PutsCaller {W : Type 0} (n : ℕ) (c : Caller W) (m k : CellMemory W) : Type 0 where
   pub caller : Caller W
   pub same : KnowsMore c caller
@@ -172,13 +173,14 @@ pub record PutsCaller {W : Type 0} (n : ℕ) (c : Caller W) (m k : CellMemory W)
 abbrev pub PutsBack : {W : Type 0} → (before now : CellMemory W) → CellHandle W → Type 0
 PutsBack m k h = PutsCaller (number_of_handle h) (caller_of h) m k
 
--- The history leads from the cells with which the memory was opened to the saved ones. It is
--- serial: each call has the reply that it gets when they are run one after the other. It has each
--- call at most once, and the calls of each caller in the order in which it made them. It is ordered
--- by sequence: sequences do not fall, and of the calls of one sequence the announced ones come
--- first, by caller. It has each call that was answered, with its reply, at the sequence that the
--- answer names. It has no spent call, and besides the answered calls only open ones. What is saved
--- names the last call of each caller; later calls of the caller only read.
+-- The history leads from the cells with which the memory was opened to the saved ones, apart from
+-- the callers' own cells. It is serial: each call has the reply that it gets when they are run one
+-- after the other. It has each call at most once, and the calls of each caller in the order in
+-- which it made them. It is ordered by sequence: sequences do not fall, and of the calls of one
+-- sequence the announced ones come first, by caller. All its calls are of callers of the memory. Of
+-- the callers that are in the memory, it has each answered call, with its reply, at the sequence
+-- that the answer names; it has no spent call, and besides the answered calls only open ones. What
+-- is saved names the last call of each caller; later calls of the caller only read.
 pub record IsOneHistory {W : Type 0} (meaning : W → Meaning) (m : CellMemory W) (d : SavedCells W)
     (h : List Call) : Type 0 where
   pub serial : IsSerial (meaning (work_of m)) (cells_before meaning m) h
@@ -197,8 +199,8 @@ pub record IsOneHistory {W : Type 0} (meaning : W → Meaning) (m : CellMemory W
   pub last : (n : ℕ) → n < callers_of m → TellLast (saved_cells d) h n (tickets_before meaning m n)
   pub upto : (n : ℕ) → n < callers_of m → IsUpTo (meaning (work_of m)) h n (saved_ticket d n)
 
--- The history respects real time, as far as one of the numbers knows it: calls that had ended come
--- before calls that had not begun.
+-- The history respects real time, as far as a caller in the memory knows it: calls that had ended
+-- come before calls that had not begun.
 abbrev pub KeepsTime : {W : Type 0} → (W → Meaning) → CellMemory W → List Call → Type 0
 KeepsTime meaning m h =
     (j n x k y : ℕ) → HasOrderOf meaning m j n x k y
@@ -220,13 +222,14 @@ HasHistory meaning m d = (h : List Call) × LeadsTo meaning m d h
 abbrev pub SavesOwnCells : {W : Type 0} → (W → Meaning) → CellMemory W → SavedCells W → Type 0
 SavesOwnCells meaning m d = KeepsOwnCells meaning (row_of m) d
 
--- why the memory gives no handle for number n
+-- why the memory gives no handle for number n: memory ran out, the memory has no such caller, or
+-- the caller is not in the memory
 abbrev pub IsEnrolCause : {W : Type 0} → CellMemory W → ℕ → EnrolError → Type 0
 IsEnrolCause m n (OutOfMemory e) = Unit {0}
 IsEnrolCause m n (NoCaller k) = (k ≡ n) × (callers_of m ≤ n)
 IsEnrolCause m n (Enrolled k) = (k ≡ n) × (get_or m.callers.items n None ≡ None)
 
--- why no memory is opened with this limit
+-- why no memory is opened with this limit: memory ran out, or the limit is out of its range
 abbrev pub IsOpenCause : (limit : ℕ) → OpenError → Type 0
 IsOpenCause limit (NoRoom e) = Unit {0}
 IsOpenCause limit (Limit k) = (k ≡ limit) × ((limit ≡ 0) ⊎ (GREATEST_LIMIT < limit))

@@ -80,8 +80,8 @@ pub record SavesSame {W : Type 0} (before now : SavedCells W) : Type 0 where
 abbrev pub IsNoLimitOf : {W : Type 0} → SavedCells W → (limit : ℕ) → Type 0
 IsNoLimitOf d limit = (limit ≡ 0) ⊎ ((GREATEST_LIMIT < limit) ⊎ (limit < saved_seq d))
 
--- a memory may go on from what is saved: its sizes are those of the work, and a table may start
--- from its words
+-- a memory may go on from what is saved: its sizes are those of the work, its limit is not too
+-- great, and a table may start from its words
 pub record IsSavedCells {W : Type 0} (many size : W → ℕ) (meaning : W → Meaning)
     (lawful : W → List ℕ → Type 0) (d : SavedCells W) : Type 0 where
   pub callers : d.shape.callers ≡ many d.work
@@ -140,10 +140,10 @@ RespectsEvents S B es h =
     → ComeInOrder h n (done_before S B n + x) k (done_before S B k + y)
 
 -- A serial history leads from data cells with the numbers `before` to data cells with the numbers
--- `now`. Each call is in it at most once, with a ticket above the number of calls that its caller
--- had made. The calls of each caller are in the order in which the caller made them. The history is
--- ordered by sequence. The cells show the last call of each caller; later calls of the caller only
--- read.
+-- `now`, apart from the callers' own cells. Each call is of one of the callers, and is in the
+-- history at most once, with a ticket above the number of calls that its caller had made. The calls
+-- of each caller are in the order in which the caller made them. The history is ordered by
+-- sequence. The cells show the last call of each caller; later calls of the caller only read.
 pub record HistoryLeads (M : Meaning) (caller_count : ℕ) (made : ℕ → ℕ) (before now : List ℕ)
     (h : List Call) (q : Sequences) : Type 0 where
   pub serial : IsSerial M before h
@@ -165,8 +165,8 @@ pub record ExplainsView (S : Setup) (B : TableStart) (h : List Call) (q : Sequen
   pub only : Each (HasOnlyKept S B h) v.kept
   pub time : RespectsEvents S B v.past h
 
--- A history of what callers have made on a row leads to what is saved of the row. The view is that
--- of the pass with which the row was closed.
+-- A history of the calls that callers have made on a row leads to what is saved of the row, and
+-- explains what the view knows (`ExplainsView`).
 pub record SavesHistory {W : Type 0} (meaning : W → Meaning) (r : Row W) (v : View)
     (d : SavedCells W) : Type 0 where
   pub history : List Call

@@ -1,4 +1,4 @@
--- A row of a work, and its callers.
+-- A row of a work, the callers that serve it, and a pass that enrols them.
 use Rattle.std.specs.Prelude.{◌≡◌, ℕ, ◌+◌, ◌<◌, ◌≤◌, ◌⊎◌, List, [], ◌∷◌, length, map, Option, Some, None}
 use Rattle.std.proofs.Common.{get_or}
 use mathlib.Core.List.{IsPrefix}
@@ -57,9 +57,9 @@ events_known_to c = (sight_of c).past
 abbrev pub steps_made_by : {W : Type 0} → Caller W → ℕ
 steps_made_by c = (last_caller (sight_of c).kept).turns
 
--- If the count of steps of the caller's calls has risen from `before` to `now`, the call of this
--- operation that made these steps, and that had made `made` steps already, has kept to a bound on
--- all its steps. This bound depends on how many cells the operations of the work read and write.
+-- The count of steps of a caller's calls has risen from `before` to `now`, or has stayed. If it has
+-- risen, a call of this operation that had made `made` steps before has kept to a bound on all its
+-- steps. This bound depends on how many cells the operations of the work read and write.
 abbrev pub RisesByTouch : {W : Type 0} → (W → Meaning) → (W → List ℕ → Type 0) → Row W
     → (op : List ℕ) → (made before now : ℕ) → Type 0
 RisesByTouch meaning lawful r op made before now =
@@ -70,8 +70,8 @@ RisesByTouch meaning lawful r op made before now =
 abbrev pub HasStartedIfOpen : KnownCaller → Type 0
 HasStartedIfOpen x = IsOpen x.machine.place → 0 < x.machine.steps
 
--- The caller serves the row with this number. It counts its calls, knows which of them have ended,
--- and an open call of it has made a step.
+-- The caller serves the row with this number. It counts its calls, knows that as many of them have
+-- ended as it keeps, and an open call that it keeps has made a step.
 pub record Serves {W : Type 0} (meaning : W → Meaning) (r : Row W) (n : ℕ) (c : Caller W)
     : Type 0 where
   pub caller : IsCaller meaning r c
@@ -104,16 +104,16 @@ pub record Enrols {W : Type 0} (r : Row W) (next : ℕ) (p : Pass) : Type 0 wher
   pub first : IsFirstPass p
   pub below : (number : ℕ) → IsAsked number (view_of_pass p).asked → number < next
 
--- at each place below the count there is a caller of that number, and P holds of it
+-- at each index below the count the list has a caller, and P holds of the index and this caller
 abbrev pub AllStand : {C : Type 0} → (ℕ → C → Type 0) → ℕ → List (Option C) → Type 0
 AllStand {C} P count cs =
     (n : ℕ) → n < count → (c : C) × (get_or cs n None ≡ Some c) × P n c
 
--- there is a caller at each place below the count
+-- at each index below the count the list has a caller
 abbrev pub AllHere : {C : Type 0} → List (Option C) → ℕ → Type 0
 AllHere {C} cs count = (n : ℕ) → n < count → (c : C) × (get_or cs n None ≡ Some c)
 
--- each caller in the list serves the row with the number that is its place
+-- each caller in the list serves the row with the number that is its index
 abbrev pub ServeAll : {W : Type 0} → (W → Meaning) → Row W → List (Option (Caller W)) → Type 0
 ServeAll {W} meaning r cs =
     (n : ℕ) (c : Caller W) → get_or cs n None ≡ Some c → Serves meaning r n c
@@ -129,15 +129,15 @@ pub record IsKeptOf {W : Type 0} (c : Caller W) (x : KnownCaller) : Type 0 where
   pub ended : x.ended ≡ ended_of c
   pub open_call : IsOpen x.machine.place → x.machine ≡ caller_call c
 
--- each caller in the list, at a place below the count, is one of the kept callers: its number and
+-- each caller in the list, at an index below the count, is one of the kept callers: its number and
 -- its calls are kept
 abbrev pub KeepsThose : {W : Type 0} → List (Option (Caller W)) → (count : ℕ) → List KnownCaller
     → Type 0
 KeepsThose {W} cs count xs =
     (n : ℕ) (c : Caller W) → n < count → get_or cs n None ≡ Some c → KeepsSo n (IsKeptOf c) xs
 
--- for each caller in the list, at a place below the count: the events that it knows are the first
--- of these events
+-- the list of events begins with the events that a caller knows, for each caller at an index below
+-- the count
 abbrev pub KnowsPasts : {W : Type 0} → List (Option (Caller W)) → (count : ℕ) → List Event → Type 0
 KnowsPasts {W} cs count es =
     (n : ℕ) (c : Caller W) → n < count → get_or cs n None ≡ Some c → IsPrefix (events_known_to c) es

@@ -55,7 +55,7 @@ GivesBack {W} {J} meaning Does =
     (t u : J) (h k : CellHandle W) → IsCellHandle meaning h → Does t h u k
     → IsCellHandle meaning k × IsSame h k
 
--- a place for a handle with its task, or an empty place
+-- a handle with its task, or nothing
 abbrev pub Slot : Type 0 → Type 0 → Type 0
 Slot W J = Option (CellHandle W × J)
 
@@ -84,7 +84,7 @@ pub record HasWorkedAs {W J : Type 0} (meaning : W → Meaning) (Does : TaskWork
   pub order : LeavesOrder meaning left k
   pub told : TellsMemory meaning left k
 
--- each task has worked with the handle whose number is the place of the task in the list
+-- each task has worked with the handle whose number is the index of the task in the list
 pub record HaveWorked {W J : Type 0} (meaning : W → Meaning) (Does : TaskWork W J)
     (m k : CellMemory W) (xs ys : List J) : Type 0 where
   pub count : length ys ≡ length xs
@@ -137,7 +137,7 @@ pub record IsBackIn {W : Type 0} (m : CellMemory W) (h : CellHandle W) : Type 0 
   pub here : get_or m.callers.items (number_of_handle h) None ≡ Some caller
   pub same : KnowsMore (caller_of h) caller
 
--- the handle of this pair was handed out for the pair's task, and the handle's number is the place
+-- the handle of this pair was handed out for the pair's task, and the handle's number is the index
 -- of this task in the list; the pair with the last task comes first
 pub record IsHandedOut {W J : Type 0} (meaning : W → Meaning) (m : CellMemory W) (xs : List J)
     (i : ℕ) (p : CellHandle W × J) : Type 0 where
@@ -149,7 +149,8 @@ pub record IsHandedOut {W J : Type 0} (meaning : W → Meaning) (m : CellMemory 
   pub heard : HearsMemory meaning m p.0
 
 -- Handles were handed out for the last tasks of xs, and each is in a pair with its task. The tasks
--- `left` are the first tasks of xs, for which no handle was handed out.
+-- `left` are the first tasks of xs, for which no handle was handed out. All other callers are in
+-- the memory as before, and the memory still knows of each ended call that it knew of.
 pub record HasHandedOut {W J : Type 0} (meaning : W → Meaning) (m k : CellMemory W)
     (xs left : List J) (ss : List (Slot W J)) : Type 0 where
   pub count : length left + length ss ≡ length xs
@@ -160,15 +161,16 @@ pub record HasHandedOut {W J : Type 0} (meaning : W → Meaning) (m k : CellMemo
       → get_or k.callers.items i None ≡ get_or m.callers.items i None
   pub remembers : RemembersAll meaning m k
 
--- the handle of this pair may leave; its task then goes to the place that is the handle's number
+-- the handle of pair i is one of this memory, and its number is the index of the pair's task, if
+-- there are `count` tasks and pair 0 has the last one
 pub record MayLeave {W J : Type 0} (meaning : W → Meaning) (m : CellMemory W) (count i : ℕ)
     (p : CellHandle W × J) : Type 0 where
   pub place : number_of_handle p.0 + i + 1 ≡ count
   pub handle : IsCellHandle meaning p.0
   pub from : IsFrom m p.0
 
--- the handle of each pair in the slots may leave; then the tasks of these pairs come after the
--- first `first` tasks
+-- each slot has a pair whose handle may leave (`MayLeave`), if there are `first` tasks before those
+-- of the pairs
 abbrev pub MayAllLeave : {W J : Type 0} → (W → Meaning) → CellMemory W → (first : ℕ)
     → List (Slot W J) → Type 0
 MayAllLeave {W} {J} meaning m first ss =
@@ -176,16 +178,18 @@ MayAllLeave {W} {J} meaning m first ss =
     → (p : CellHandle W × J) × (get_or ss i None ≡ Some p)
     × MayLeave meaning m (first + length ss) i p
 
--- the handle of this pair has left, and its task is at the place that is the handle's number
+-- the handle of this pair has left, its task is in zs at the index that is the handle's number, and
+-- the memory knows of all calls that the handle knew of
 pub record HasLeft {W J : Type 0} (meaning : W → Meaning) (k : CellMemory W) (zs : List J)
     (p : CellHandle W × J) : Type 0 where
   pub task : (d : J) → get_or zs (number_of_handle p.0) d ≡ p.1
   pub known : IsBackIn k p.0
   pub told : TellsMemory meaning p.0 k
 
--- For each pair in ss from place `from` on: the pair's handle has left, and its task is in zs at
--- the place that is the handle's number. The list zs begins with the tasks xs. The callers of the
--- numbers below `length xs`, and from `length xs + length ss` on, are in the memory as before.
+-- For each pair in ss from index `from` on: the pair's handle has left, and its task is in zs at
+-- the index that is the handle's number. The list zs begins with the tasks xs. The callers of the
+-- numbers below `length xs`, and from `length xs + length ss` on, are in the memory as before. The
+-- memory still knows of each ended call that it knew of.
 pub record HasTakenBack {W J : Type 0} (meaning : W → Meaning) (m k : CellMemory W) (xs zs : List J)
     (from : ℕ) (ss : List (Slot W J)) : Type 0 where
   pub count : length zs + from ≡ length xs + length ss

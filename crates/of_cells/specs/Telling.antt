@@ -25,8 +25,8 @@ HasHeardOf meaning h n count =
     ≤ calls_ended_in (setup_at meaning (home_of h)) (row_start meaning (home_of h))
     (events_known_to (caller_of h)) n
 
--- the handle knows that the first x calls of number n had ended before number k began its call y +
--- 1
+-- the handle knows that the first x calls of number n had ended before number k began the call
+-- after its first y
 abbrev pub KnowsOrder : {W : Type 0} → (W → Meaning) → CellHandle W → (n x k y : ℕ) → Type 0
 KnowsOrder meaning h n x k y =
     EndBefore (setup_at meaning (home_of h)) (row_start meaning (home_of h))
@@ -50,7 +50,7 @@ CallsStay h k = KnowsMore (caller_of h) (caller_of k)
 abbrev pub events_told : CellNews → List Event
 events_told a = (view_of_pass a.pass).past
 
--- the news is of the calls of the memory with this row
+-- the news is a pass of this row that keeps no caller
 pub record IsNews {W : Type 0} (r : Row W) (a : CellNews) : Type 0 where
   pub row : IsRowPass r a.pass
   pub nobody : KeepsNobody a.pass

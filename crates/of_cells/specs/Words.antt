@@ -57,7 +57,8 @@ AreDurableWords many size meaning lawful work words =
 abbrev pub start_in : {W : Type 0} → (many size : W → ℕ) → W → (row : List ℕ) → TableStart
 start_in many size work row = start_from_durable (many work) (size work) row
 
--- what is saved is of this work, and has the numbers and the sequence of this row
+-- what is saved is of this work, with as many callers as the work has, and has the numbers and the
+-- sequence of this row
 pub record IsSavedRow {W : Type 0} (many size : W → ℕ) (work : W) (row : List ℕ)
     (d : SavedCells W) : Type 0 where
   pub work_is : saved_work d ≡ work
@@ -89,6 +90,7 @@ IsWordsCause many size work limit words (PastLimit seq) =
 -- which the memory was opened to what recovery finds. Each view that is not spent finds in the
 -- history what the view knows: each answered call of the callers that its pass or member keeps,
 -- with its reply, and besides these only open calls. A number that is not taken has no call in it.
+-- The own cells of a caller with no call since the memory was opened are as they were.
 pub record MayGoOnFromWords {W : Type 0} (many size : W → ℕ) (meaning : W → Meaning)
     (lawful : W → List ℕ → Type 0) (m : CellMemory W) (s : State (Unit {0}) View)
     (words : List ℕ) : Type 0 where

@@ -81,7 +81,7 @@ impl<W: Work> CellMemory<W> {
     ghost use Rattle.of_cells.specs.Tasks.{HasHandedOut, MayAllLeave, HasTakenBack};
     ghost use Rattle.of_cells.specs.Tasks.{HaveWorked, KnowsRest, RestKnowsOrder, IsTaskCause};
 
-    /// Works at all tasks at once. Each task has the handle whose number is the task's place in the
+    /// Works at all tasks at once. Each task has the handle whose number is the task's index in the
     /// list, and a thread of its own if one can be made. Then the handles leave. If a handle can't
     /// be enrolled, no task is begun, and no number stays taken. A task must be able to work with
     /// each handle of a memory, and must give back a handle of the same memory and number.

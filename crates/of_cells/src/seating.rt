@@ -61,7 +61,7 @@ pub(crate) fn seat_all<W: Work>(
     Ok((callers, pass))
 }
 
-/// Takes a caller out of its place.
+/// Takes the caller with this index out of the list.
 pub(crate) fn take_at<W: Work>(callers: &mut Vec<Option<Caller<W>>>, at: usize) -> Option<Caller<W>>
     requires { at < length callers.old.items }
     ensures caller { result ≡ slice_index_or callers.old.items at None }
@@ -70,7 +70,7 @@ pub(crate) fn take_at<W: Work>(callers: &mut Vec<Option<Caller<W>>>, at: usize) 
     callers[at].take()
 }
 
-/// Puts a caller into its place.
+/// Puts a caller into the list at this index.
 pub(crate) fn put_at<W: Work>(callers: &mut Vec<Option<Caller<W>>>, at: usize, caller: Caller<W>)
     requires { at < length callers.old.items }
     ensures { callers.new.items ≡ slice_set callers.old.items at (Some caller) }
@@ -78,7 +78,7 @@ pub(crate) fn put_at<W: Work>(callers: &mut Vec<Option<Caller<W>>>, at: usize, c
     callers[at] = Some(caller);
 }
 
-/// Whether each caller is in its place, and no handle is out.
+/// Whether each caller is in the list, and no handle is out.
 pub(crate) fn all_here<W: Work>(callers: &[Option<Caller<W>>]) -> bool
     ensures { IsTrue result ↔ AllHere callers.now (length callers.now) }
 {

@@ -10,8 +10,8 @@ use of_cell::{GREATEST_LIMIT, seq_of};
 use of_mem::Work;
 use std::alloc::Global;
 
-/// How many words the table of a work has, and where its durable words are among them: one after
-/// the other, from the place `first` on.
+/// How many words the table of a work has, and which of them are its durable words: as many as
+/// `durable` says, one after the other, from the word `first` on.
 #[derive(Clone, Copy, Debug, PartialEq, Eq)]
 pub struct TableSizes {
     pub words: u32,

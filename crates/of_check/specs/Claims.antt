@@ -98,7 +98,7 @@ abbrev pub read_lines : {X : Type 0} → (List (List ℕ) → Option X) → List
 read_lines read [] = []
 read_lines read (l ∷ ls) = onto_read (read (text_words l)) (read_lines read ls)
 
--- the lines of what is left of a text; none if nothing is left
+-- the lines of the rest of a text; none if there is no rest
 abbrev pub lines_of : Option (Bor (List ℕ)) → List (List ℕ)
 lines_of None = []
 lines_of (Some rest) = text_lines rest.now

@@ -36,7 +36,7 @@ abbrev pub ticket_after : (before : ℕ) → Option Entry → ℕ
 ticket_after before None = before
 ticket_after before (Some e) = e.index + 1
 
--- ---- what an image has of it
+-- ---- what an image has of this call
 
 -- The ticket of a caller in the image is the ticket of its last announced entry. If the report has
 -- no announced entry of the caller, it is the caller's ticket at the start.
@@ -68,7 +68,7 @@ pub record EndsAt (p : Plan) (s : Start) (r : Report) (i : Image) : Type 0 where
   pub last_calls : (c : ℕ) → c < p.callers → HoldsLastCall s r i c
   pub store : i.store ≡ r.store
 
--- ---- what is wrong with one
+-- ---- what is wrong with an image
 
 -- the image has the plan's callers and blocks, and the report's sequence
 pub record HasSizes (p : Plan) (r : Report) (i : Image) : Type 0 where

@@ -17,8 +17,8 @@ pub record Replay : Type 0 where
   pub last : CallClaim
   pub store : Store
 
--- the replay at a start: the calls that were done before have run, and only a read may come next at
--- the start's sequence
+-- the replay at a start: the calls that were done before have run, the last call was a read of
+-- caller 0 at the start's sequence, and the store is the start's
 abbrev pub replay_at_start : Start → Replay
 replay_at_start s = record {
   counts = s.finished;

@@ -25,8 +25,8 @@ abbrev pub if_so : {A : Type 0} → Bool → List A → List A
 if_so true xs = xs
 if_so false xs = []
 
--- the operation that caller i begins by this event, as a list of one; an empty list if it begins
--- none
+-- the operation that caller i begins by this event, as a list of one; the list is empty if the
+-- event begins none
 abbrev pub operation_begun : Event → ℕ → List (List ℕ)
 operation_begun (Begins j op) i = if_so (i == j) (op ∷ [])
 operation_begun (Turns j) i = []
@@ -40,7 +40,7 @@ abbrev pub operations_begun : List Event → ℕ → List (List ℕ)
 operations_begun [] i = []
 operations_begun (e ∷ es) i = operation_begun e i ++ operations_begun es i
 
--- the outcome with which a turn has ended its call, as a list: of one outcome, or empty if the turn
+-- the outcome with which a turn has ended its call, as a list of one; the list is empty if the turn
 -- has ended no call
 abbrev pub outcome_of_turn : Turn → List Outcome
 outcome_of_turn NoCall = []
@@ -48,18 +48,18 @@ outcome_of_turn Open = []
 outcome_of_turn (Ended o) = o ∷ []
 
 -- the outcome with which a step that led from one machine to the other has ended its call, as a
--- list: of one outcome, or empty if the step has ended no call
+-- list of one; the list is empty if the step has ended no call
 abbrev pub outcome_of_step : (before now : CallState) → List Outcome
 outcome_of_step m d = outcome_of_turn (turn_of m d)
 
--- the outcome of a call whose machine is lost and replaced, as a list: the call ends as lost if it
--- was open and the new machine has no open call; otherwise the list is empty
+-- the outcome of a call whose machine is lost and replaced, as a list of one: the call ends as lost
+-- if it was open and the new machine has no open call; otherwise the list is empty
 abbrev pub outcome_of_loss : (committed : ℕ) → (was_idle now_idle : Bool) → List Outcome
 outcome_of_loss s true now_idle = []
 outcome_of_loss s false true = Lost s ∷ []
 outcome_of_loss s false false = []
 
--- the outcome with which an event has ended a call of caller i, as a list: of one outcome, or empty
+-- the outcome with which an event has ended a call of caller i, as a list of one; the list is empty
 -- if the event has ended no call of the caller
 abbrev pub outcome_of_event : Setup → Moment → Event → ℕ → List Outcome
 outcome_of_event S w (Begins j op) i = []

@@ -40,8 +40,8 @@ knows_state RaiseRequest = true
 knows_state ExchangeCurrent = true
 knows_state p = false
 
--- at `LoadShape` and `LoadReply`: what the machine m of caller i has loaded from the caller's own
--- cells is what this state has there
+-- if the place is `LoadShape` or `LoadReply`, what the machine m of caller i has loaded from the
+-- caller's own cells is what this state has there
 abbrev pub OwnCellsAreOfState : Setup → (state_after : List ℕ) → (i : ℕ) → CallState → Place
     → Type 0
 OwnCellsAreOfState S st i m LoadShape = FindsOwnTicket S st i m

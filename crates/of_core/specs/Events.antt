@@ -54,8 +54,8 @@ after_event S w (Turns i) =
     after_step S i (machine_in w i) (word_found S w.words (machine_in w i)) w
 
 -- when an event may happen. A call begins only if its caller has no open call, with at least one
--- word and at most as many as an operation may have. A machine is replaced only if its caller has
--- nothing under way, and the new machine counts the same calls
+-- word and at most as many as an operation may have. A machine is replaced only if the words allow
+-- it (`MayRevive`), and the new machine counts the same calls
 abbrev pub MayHappen : Setup → Moment → Event → Type 0
 MayHappen S w (Begins i op) =
     (i < S.callers) × ((machine_in w i).place ≡ Idle) × (1 ≤ length op) × (length op ≤ S.instrs)

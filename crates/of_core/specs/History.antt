@@ -128,7 +128,7 @@ abbrev pub CallersRise : List Call → Type 0
 CallersRise cs = (j k : ℕ) → j < k → k < length cs
     → (get_or cs j no_call).caller < (get_or cs k no_call).caller
 
--- the two replies have the same shape, and the same number at each place that this shape marks
+-- the two replies have the same shape, and the same numbers where this shape marks numbers
 abbrev pub SameWhereMarked : Setup → RawReply → RawReply → Type 0
 SameWhereMarked S r q = (r.shape ≡ q.shape)
     × ((y : ℕ) → y < S.instrs → is_marked r.shape y ≡ true

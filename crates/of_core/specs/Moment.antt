@@ -1,4 +1,4 @@
--- Words and machines of a moment, and what events leave of them.
+-- A bank as contracts see it: the moment of its words and machines, and what events leave of them.
 use Rattle.std.specs.Prelude.{◌≡◌, ℕ, ◌<◌, List, [], length, map}
 use Rattle.std.proofs.Common.{get_or}
 use Rattle.of_cell.specs.Cells as cells

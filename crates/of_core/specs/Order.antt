@@ -19,7 +19,7 @@ pub record IsRead (S : Setup) (B : TableStart) (bs : List Batch) (d : ℕ) (r : 
   pub only : S.meaning.reads_only r.op ≡ true
   pub reply : S.meaning.reply (numbers_after B bs r.seq) r.op ≡ r.raw
 
--- the read that stands for a place beyond the end of a list of reads
+-- the read that `get_or` gives beyond the end of a list of reads
 abbrev pub no_read : Read
 no_read =
     record { caller = 0; ticket = 0; op = []; raw = record { shape = 0; values = [] }; seq = 0 }

@@ -1,4 +1,4 @@
--- Steps of one call in a row on the words of a table.
+-- Steps of one call, one after the other, on the words of a table.
 use Rattle.std.specs.Prelude.{ℕ, zero, suc, ◌<◌, List}
 use Rattle.of_core.specs.Table.{Setup}
 use Rattle.of_core.specs.Machine.{CallState}

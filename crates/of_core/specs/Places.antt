@@ -1,5 +1,7 @@
 -- What each place says of its machine: m is the machine of caller i, at the place, where the words
--- are ws and the history is bs. A fact has the same field name at every place that has it.
+-- are ws and the history is bs. A fact has the same field name at every place that has it. The
+-- comment of a record says what its place has beyond the facts that many places have, such as
+-- `calm`.
 use Rattle.std.specs.Prelude.{ℕ, ◌+◌, ◌*◌, List, [], length, Option, Some, None, true, false, ◌≡◌, ◌≤◌, ◌<◌, ◌⊎◌}
 use Rattle.std.proofs.Common.{get_or, take}
 use Rattle.of_mem.specs.declared.work.RawReply.{RawReply}
@@ -48,7 +50,7 @@ module _ (S : Setup) (B : TableStart) (ws : List ℕ) (bs : List Batch) (i : ℕ
   LastOutcomeStands (Some (Spent s)) = WasSpentAt s
   LastOutcomeStands (Some (Lost s)) = ⊥
 
-  -- Idle: the caller has nothing under way, and the last outcome of m stands in the history
+  -- Idle: the caller has no open transaction, and the last outcome of m stands in the history
   pub record IsAtRest : Type 0 where
     pub caller : m.caller ≡ i
     pub calm : HasNothingUnderWay S B ws bs i (committed_seq ws)

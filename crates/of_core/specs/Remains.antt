@@ -26,7 +26,7 @@ abbrev pub IsOwnOpen : Remains → ℕ → Type 0
 IsOwnOpen r i = (payload_of r.current ≡ i) × (0 < seq_of r.current)
     × (r.request ≡ pack (seq_of r.current) 0)
 
--- caller i has nothing under way, so a new machine may take the place of its lost one
+-- a new machine may take the place of caller i's lost one
 pub record MayRevive (r : Remains) (i : ℕ) : Type 0 where
   -- the caller's log is of no transaction after the last committed one
   pub log : seq_of r.log ≤ seq_of r.current

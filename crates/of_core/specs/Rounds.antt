@@ -129,7 +129,7 @@ module _ (S : Setup) (B : TableStart) (ws : List ℕ) (bs : List Batch) where
     pub begun_one : 1 ≤ m.rounds
     pub few : m.rounds ≤ 3
 
-  -- m is in a try of a call that only reads
+  -- m is in one of the tries of a call that only reads and isn't announced (`IsUnannounced`)
   pub record IsInTry (i : ℕ) (m : CallState) : Type 0 where
     pub fresh : IsUnannounced i m
     pub reads : S.meaning.reads_only m.op ≡ true
@@ -161,8 +161,8 @@ module _ (S : Setup) (B : TableStart) (ws : List ℕ) (bs : List Batch) where
     -- no batch up to m.seq has run the call
     pub left : last_ticket_by S B bs m.seq i < m.made
 
-  -- caller i has nothing under way: its request and its log words are no newer than n, its request
-  -- is durable, and its batches are closed
+  -- caller i's request and its log words are no newer than n, its request is durable, and its
+  -- batches are closed
   pub record HasNothingUnderWay (i n : ℕ) : Type 0 where
     -- the caller's request is no newer than n
     pub own : seq_of (request_of ws i) ≤ n

@@ -31,8 +31,8 @@ pub record LogsOwnCells (S : Setup) (es : List (ℕ × ℕ)) (c : Call) : Type 0
   pub rest : (y : ℕ) → y < S.instrs → is_marked c.raw.shape y ≡ false
       → get_or c.raw.values y 0 ≡ 0
 
--- the log es has what the calls write if they are run in order on the numbers xs, and their
--- callers' own cells
+-- The log es is a possible log (`IsLog`). It has what the calls write if they are run in order on
+-- the numbers xs, and their callers' own cells. Run so, the calls give the replies that they have.
 pub record IsOverlayOf (S : Setup) (xs : List ℕ) (cs : List Call) (es : List (ℕ × ℕ)) : Type 0 where
   pub is_log : IsLog S es
   pub effect : SameFrom (first_operation_cell S) (with_writes_in xs es)
@@ -83,7 +83,10 @@ pub record HasScannedUpTo (S : Setup) (B : TableStart) (ws : List ℕ) (bs : Lis
       ⊎ ((y : ℕ) × (y < length cs) × ((get_or cs y no_call).caller ≡ c)
       × ((get_or cs y no_call).ticket ≡ seq_of (announcement_of S ws c)))
 
--- `heard` is the announcement of caller c that a scan at sequence s has loaded
+-- What holds of the announcement `heard` that a scan at sequence s has loaded of caller c. Its
+-- numbers are in range. It is the present announcement of c in three cases: c is caller i; s is the
+-- last sequence, and the call of `heard` has not run; or the present announcement was there at the
+-- commit of batch s.
 pub record HasLoadedAnnouncement (S : Setup) (B : TableStart) (ws : List ℕ) (bs : List Batch)
     (i s c heard : ℕ) : Type 0 where
   pub own : c ≡ i → announcement_of S ws c ≡ heard
@@ -95,8 +98,8 @@ pub record HasLoadedAnnouncement (S : Setup) (B : TableStart) (ws : List ℕ) (b
   pub small : payload_of heard ≤ S.instrs
   pub some : 0 < seq_of heard → 1 ≤ payload_of heard
 
--- `script` has the first j words, as loaded, of the call that caller c announces; in the state st
--- this call has not run
+-- `script` has j words. If s is still the last sequence, they are the first words of the call that
+-- caller c announces. The call of `heard` has at least j words, and in the state st it has not run.
 pub record HasLoadedScript (S : Setup) (st ws : List ℕ) (s c heard : ℕ) (script : List ℕ) (j : ℕ)
     : Type 0 where
   pub new : ticket_in_state S st c < seq_of heard

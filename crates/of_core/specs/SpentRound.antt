@@ -1,4 +1,4 @@
--- A call is spent only in one of its rounds, after it has announced.
+-- A call is spent only in one of its rounds, with its announcement on the table.
 use Rattle.std.specs.Prelude.{ℕ, List, length, Some, ◌≡◌, ◌≤◌}
 use Rattle.of_cell.specs.Words.{pack}
 use Rattle.of_core.specs.declared.place.Place.TheVariants.{Idle, LoadOwnTicket}
@@ -9,7 +9,9 @@ use Rattle.of_core.specs.Steps.{take_word}
 use Rattle.of_core.specs.TableMoment.{Moment}
 use Rattle.of_core.specs.Laws.{EachStep}
 
--- the call of the machine m of caller i is spent at s by its next step
+-- where the machine m of caller i is when its next step spends its call at s: before the load of
+-- its own ticket cell, in one of its three rounds, at the sequence s, with its announcement on the
+-- table
 pub record IsSpentInRound (S : Setup) (w : Moment) (i : ℕ) (m : CallState) (s : ℕ) : Type 0 where
   -- the step loads the caller's own ticket cell
   pub place : m.place ≡ LoadOwnTicket
@@ -20,8 +22,7 @@ pub record IsSpentInRound (S : Setup) (w : Moment) (i : ℕ) (m : CallState) (s 
   -- the call's announcement is on the table
   pub says : announcement_of S w.words i ≡ pack m.made (length m.op)
 
--- a step that ends a call as spent is the load of the caller's own ticket cell, in one of the
--- call's rounds
+-- if a step ends an open call as spent at s, the machine is where `IsSpentInRound` says
 abbrev pub SpentInRounds : Setup → (List ℕ → Type 0) → Type 0
 SpentInRounds S Lawful = EachStep S Lawful (λ B w i m n.
     (s : ℕ) → IsOpen m.place → (take_word S m n).place ≡ Idle

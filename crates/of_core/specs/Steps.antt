@@ -201,7 +201,7 @@ abbrev pub after_own_ticket : Setup → CallState → ℕ → (newer there at_li
 after_own_ticket S m found true there at_limit = next_round m
 after_own_ticket S m found false there at_limit = after_own_ticket_found S m found there at_limit
 
--- the first place that the shape marks, among the n places from j on
+-- the first number that the shape marks, among the n numbers from number j on
 abbrev pub first_marked_place : (shape j n : ℕ) → Option ℕ
 first_marked_place shape j zero = None
 first_marked_place shape j (suc n) =

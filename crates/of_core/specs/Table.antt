@@ -1,4 +1,4 @@
--- The words of the shared table: the place of each, and its name.
+-- The words of the shared table: the index of each, and its name.
 use Rattle.std.specs.Prelude.{ℕ, List, [], ◌∷◌, ◌++◌, ◌%◌}
 use Rattle.std.proofs.Common.{get_or, zero, suc}
 use Rattle.of_cell.specs.declared.shape.Shape.{Shape}

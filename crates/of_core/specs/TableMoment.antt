@@ -70,8 +70,8 @@ read_of d (Some (Answered s true raw n)) = []
 read_of d (Some (Spent s)) = []
 read_of d (Some (Lost s)) = []
 
--- the read that a step has answered, if the step has led to the machine d, as a list: of one read,
--- or empty. Only a call's last step may answer a read.
+-- the read that a step has answered, if the step has led to the machine d, as a list of at most one
+-- read; only a call's last step may answer a read
 abbrev pub step_reads_if : CallState → (was_idle now_idle : Bool) → List Read
 step_reads_if d true now_idle = []
 step_reads_if d false true = read_of d d.answer
@@ -81,8 +81,8 @@ step_reads_if d false false = []
 abbrev pub step_reads_at : CallState → Place → List Read
 step_reads_at d p = step_reads_if d (is_idle p) (is_idle d.place)
 
--- the batches that the machine's next step commits if it finds `found`, as a list: of one batch, or
--- empty
+-- the batches that the machine's next step commits if it finds `found`, as a list of at most one
+-- batch
 unfoldable pub step_batches : Setup → List ℕ → CallState → ℕ → List Batch
 step_batches S ws m found = step_batches_at S ws m found m.place
 

@@ -25,7 +25,9 @@ pub record IsApplied (S : Setup) (ws : List ℕ) (s a : ℕ) : Type 0 where
   pub durable : s ≤ seq_of (durable_cell S ws a)
 
 module _ (S : Setup) (B : TableStart) (ws : List ℕ) (bs : List Batch) (i : ℕ) where
-  -- m is the machine of the owner of batch m.seq, and its exchange has committed this batch
+  -- m is the machine of caller i, which owns batch m.seq and no later batch. This batch has m's
+  -- call, the last call of caller i that was run, which the caller still announces. The caller's
+  -- request opens or closes this batch, and its log words are no newer.
   pub record OwnsTransaction (m : CallState) : Type 0 where
     pub caller : m.caller ≡ i
     pub owner : m.owner ≡ i
@@ -37,7 +39,8 @@ module _ (S : Setup) (B : TableStart) (ws : List ℕ) (bs : List Batch) (i : ℕ
     pub unowned : (k : ℕ) → m.seq < k → k ≤ committed_seq ws → (batch_at B bs k).owner ≡ i → ⊥
     pub logs : (y : ℕ) → y < 2 * most_entries S + 1 → seq_of (log_word_of S ws i y) ≤ m.seq
 
-  -- m helps in a round or a try, and caller i has nothing under way itself
+  -- m helps in a round or a try, for which transaction m.seq of m.owner was the last one at some
+  -- moment; caller i has no open transaction itself (`HasNothingUnderWay`)
   pub record IsHelping (m : CallState) : Type 0 where
     pub helper : MayHelp S B ws bs i m
     pub current_word : WasCurrent S B ws bs m.seq m.owner
@@ -69,7 +72,9 @@ module _ (S : Setup) (B : TableStart) (ws : List ℕ) (bs : List Batch) (i : ℕ
         → (x ≤ length (log_words (batch_at B bs m.seq).log))
         × (m.copy ≡ take x (log_words (batch_at B bs m.seq).log))
 
-  -- the first x words of m's log are stored, and the first z of them are durable
+  -- m has scanned all callers, and its round is past the caller's own ticket. The first x words of
+  -- m's log are stored, and the first z of them are durable. The caller's other log words are no
+  -- newer than m.seq.
   pub record HasStoredLog (m : CallState) (x z : ℕ) : Type 0 where
     pub past : IsPastOwnTicket S B ws bs i m
     pub over : HasScannedUpTo S B ws bs i m.seq m.made m.op m.raw m.calls m.log S.callers

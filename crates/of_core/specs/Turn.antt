@@ -1,4 +1,4 @@
--- What a turn answers, and what turns in a row do.
+-- What a turn answers, and what turns of one caller do that come one after the other.
 use Rattle.std.specs.Prelude.{◌≡◌, ℕ, ◌<◌, replicate, Option, Some, None}
 use Rattle.of_mem.specs.Meaning.{Meaning}
 use Rattle.of_core.specs.declared.bank.Turn.{Turn}

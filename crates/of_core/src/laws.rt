@@ -64,12 +64,12 @@ pub fn step_kept<W: Work>(limit: u32, work: W)
 {}
 
 /// A new machine may take the place of a machine that was lost with its thread or process. The
-/// table's words must show that the lost machine's caller has nothing under way: no log and no
-/// request of a transaction that isn't committed, no open transaction, and a durable request. The
-/// invariant holds after this, if the new machine's number of calls counts all reads that its
-/// caller was answered. Below the limit, a new machine that goes on with the announced call has
-/// such a number. No other caller's calls change. Once a machine may be replaced, this stays so
-/// until its caller makes a step.
+/// table's words must show four things: the log and the request of the lost machine's caller are of
+/// no transaction that isn't committed, the caller has no open transaction, and the durable word of
+/// its request is the request's word. The invariant holds after this, if the new machine's number
+/// of calls counts all reads that its caller was answered. Below the limit, a new machine that goes
+/// on with the announced call has such a number. No other caller's calls change. Once a machine may
+/// be replaced, this stays so until its caller makes a step.
 pub fn taken_over_stands<W: Work>(limit: u32, work: W)
     ensures core { RevivalsKeepCore
         (setup_for W.many W.size W.meaning limit work) (W.lawful work) }

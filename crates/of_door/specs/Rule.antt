@@ -17,12 +17,13 @@ abbrev pub IsMemberAtToldDoor : {W : Type 0} → Option (Row W) → ℕ → Memb
 IsMemberAtToldDoor None number m = Unit {0}
 IsMemberAtToldDoor (Some r) number m = IsMemberAtDoor r number m
 
--- the slot of a door whose word is w holds x: no member at 0, and at 1 a member that may be here
+-- x is what the slot of a door holds whose word is w: no member if w is 0, and a member that may be
+-- here if w is 1
 abbrev pub SlotHolds : (Member → Type 0) → (w : ℕ) → Option Member → Type 0
 SlotHolds May w x = (w ≡ 0 → x ≡ None) × (w ≡ 1 → (m : Member) × (x ≡ Some m) × May m)
 
--- at the words 0 and 1 the slot is in the table and holds what the word says; at 2 a hand has taken
--- it out
+-- if the word is 0 or 1, the slot is in the table and holds what the word says; if it is 2, a hand
+-- has taken the slot out
 abbrev pub SlotMatchesWord : (Member → Type 0) → (w : ℕ) → List (maybe.Option (Option Member))
     → Type 0
 SlotMatchesWord May w homes =

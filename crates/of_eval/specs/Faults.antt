@@ -16,7 +16,7 @@ use Rattle.of_eval.specs.Lawful.{OwnCellsAreSound, DataCellsStandFor}
 
 -- ---- the cells of a caller
 
--- the reply as cells hold it, with this shape, and with the number 0 at every place
+-- the reply as cells hold it, with this shape and with all numbers 0
 abbrev pub shape_alone : ℕ → RawReply
 shape_alone shape = record { shape = shape; values = replicate MOST_INSTRS 0 }
 
@@ -26,7 +26,7 @@ pub record IsShapeOf (instrs shape : ℕ) (r : Reply) : Type 0 where
   pub held : IsHeldBy (shape_alone shape) r
   pub few : r.len ≤ instrs
 
--- reply r has a number at place j
+-- reply r has a number as its answer j
 abbrev pub HasNumber : Reply → ℕ → Type 0
 HasNumber r j = is_some (slice_index_or r.values j None) ≡ true
 

@@ -10,7 +10,7 @@ use Rattle.of_store.specs.Store.{Store}
 use Rattle.of_eval.specs.Shapes.{IsHeldBy}
 use Rattle.of_eval.specs.Stored.{IsStored}
 
--- the number at place j of a caller's reply, or 0 if a reply has no such place
+-- number j of a caller's reply, as its cell holds it; 0 if the caller has no such cell
 abbrev pub reply_number : (instrs : ℕ) → (ℕ → ℕ) → (caller j : ℕ) → ℕ
 reply_number instrs m c j = if nat_lt j instrs then m (reply_at instrs c j) else 0
 

@@ -19,7 +19,8 @@ pub record DoesOperation (w : Scripts) (xs op : List ℕ) (s : Store) : Type 0 w
   pub reply : (scripts_meaning w).reply xs op
       ≡ reply_cells (reply_to (length op) (run_words s op).1)
 
--- every operation on cells that stand for a store does to the store what its words do
+-- if cells of the work stand for a store, every operation of at most `MOST_INSTRS` words does to
+-- the store what its words do
 abbrev pub MeansWords : Scripts → Type 0
 MeansWords w =
     (xs op : List ℕ) (s : Store) → length xs ≡ scripts_data_cells w → length op ≤ MOST_INSTRS

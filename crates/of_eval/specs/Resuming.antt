@@ -29,8 +29,8 @@ LooksFor o blocks w key =
     → run_program (word_program o blocks w) p ≡ Lacks a
 
 -- The script may go on from what is kept, however many more cells become known: a run from its
--- first word is the same as a run of the words that are left, with the answers and writes that are
--- kept.
+-- first word is the same as a run of the words that have not run yet, with the answers and writes
+-- that are kept.
 pub record MayResume (o blocks : ℕ) (k : SuspendedRun) (p : Part) : Type 0 where
   pub runs : (more : List (Option ℕ)) → Extends more p.known
       → run_program (words_program o blocks (length k.words) [] k.words) (part_with more p.batch [])

@@ -101,15 +101,15 @@ program_of o blocks (Some i) = instr_program o blocks i
 abbrev pub word_program : ℕ → ℕ → ℕ → Program InstrResult
 word_program o blocks w = program_of o blocks (instr_at w)
 
--- the script goes on with the instruction's answer, or it ends with the reply that it aborted at
--- this place
+-- the script goes on with the instruction's answer; or it ends with a reply that says at which
+-- instruction it aborted, and why
 abbrev pub go_on : ℕ → List (Option ℕ) → (Option ℕ → Program RawReply) → InstrResult
     → Program RawReply
 go_on n done further (Ok v) = further v
 go_on n done further (Err cause) = Done (reply_cells (reply_to n (Aborted (length done) cause)))
 
--- the program of the words that are left of a script of n words; `done` has the answers of the
--- words before
+-- the program of the words `ws` that come last in a script of n words; `done` has the answers of
+-- the words before them
 abbrev pub words_program : ℕ → ℕ → ℕ → List (Option ℕ) → List ℕ → Program RawReply
 words_program o blocks n done [] = Done (reply_cells (reply_to n (Answered done)))
 words_program o blocks n done (w ∷ ws) =

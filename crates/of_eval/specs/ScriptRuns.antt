@@ -129,8 +129,8 @@ module _ (o blocks : ℕ) (few : blocks ≤ MOST_BLOCKS) where
       (program_answer (word_program o blocks w) m) (word_effect s w) a.1 l
       (λ t v k. words_run n ws (done ++ v ∷ []) (memory_after (word_program o blocks w) m) t k))
 
--- the outcome fits these words: Ok has an answer for each word, None or a number of stores, and an
--- abort is at one of the words
+-- The outcome fits these words. If it is Ok, it has one answer for each word, and each answer is
+-- None or a number in range. If it is an abort, it names the index of one of the words.
 abbrev pub AnswerInRange : List ℕ → ScriptOutcome → Type 0
 AnswerInRange ws (Ok e) = (length e.1 ≡ length ws) × Each IsSmall e.1
 AnswerInRange ws (Err p) = p.0 < length ws

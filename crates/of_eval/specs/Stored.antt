@@ -16,7 +16,8 @@ cell_store s = record {
   room = s.room;
 }
 
--- The cells from `o` on stand for the store s, which has room for `blocks` keys and items.
+-- The cells from `o` on stand for the store s, which is in range and has room for `blocks` keys and
+-- items.
 pub record IsStored (o blocks : ℕ) (m : ℕ → ℕ) (s : Store) : Type 0 where
   pub state : IsState s
   pub stands : StandsForStore o blocks m (cell_store s)

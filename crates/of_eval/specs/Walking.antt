@@ -58,8 +58,8 @@ pub record OwnersMatchChains (blocks fresh : ℕ) (chains : ℕ → List ℕ) (o
   pub met : (b : ℕ) → get_or owners b 0 ≢ 0 → IsMet chains b
   pub counted : blocks_in_chains chains (out_chain blocks) + unmet_count owners ≡ fresh
 
--- The walk met the blocks in `chains`, up to chain n. The owners table shows them, and what is
--- counted after the chains before chain k is right.
+-- What is looked at before the chains is sound. The walk met the blocks in `chains`, up to chain n.
+-- The owners table shows them, and what is counted after the chains before chain k is right.
 pub record HasWalked (p : Plot) (cells : List ℕ) (n k : ℕ) (chains : ℕ → List ℕ) (owners : List ℕ) :
     Type 0 where
   pub begun : HasBegun p cells
@@ -67,7 +67,8 @@ pub record HasWalked (p : Plot) (cells : List ℕ) (n k : ℕ) (chains : ℕ →
   pub counted : HasRightCounts (base p) p.blocks (memory_of cells) k chains
   pub painted : OwnersMatchChains p.blocks (memory_of cells (fresh_at (base p))) chains owners
 
--- the store s has the registers, and the keys, values and items of the blocks met so far
+-- the store s has the registers, and the keys, values and items of the blocks met so far; it has as
+-- many keys as blocks of buckets were met
 pub record HoldsWhatWasMet (p : Plot) (cells : List ℕ) (chains : ℕ → List ℕ) (s : Store)
     : Type 0 where
   pub state : IsState s
@@ -83,8 +84,8 @@ pub record HoldsWhatWasMet (p : Plot) (cells : List ℕ) (chains : ℕ → List 
       → map (λ b. memory_of cells (first_at (base p) b)) (chains (queue_chain p.blocks q))
       ≡ queue s q
 
--- The walk has met all chains before chain n and no block of chain n. What is counted after the
--- chains before chain k is right.
+-- The walk has met all chains before chain n and no block of chain n, and the store s has what was
+-- met. What is counted after the chains before chain k is right.
 pub record IsBeforeChain (p : Plot) (cells : List ℕ) (n k : ℕ) (owners : List ℕ) (s : Store)
     : Type 0 where
   pub chains : ℕ → List ℕ
@@ -92,7 +93,7 @@ pub record IsBeforeChain (p : Plot) (cells : List ℕ) (n k : ℕ) (owners : Lis
   pub kept : HoldsWhatWasMet p cells chains s
   pub start : chains n ≡ []
 
--- the walk has met the free list and no other chain, and no store has been made yet
+-- the walk has met all blocks of the free list, and no block of another chain
 pub record HasWalkedFreeList (p : Plot) (cells : List ℕ) (owners : List ℕ) : Type 0 where
   pub chains : ℕ → List ℕ
   pub walked : HasWalked p cells 1 1 chains owners
@@ -123,28 +124,27 @@ LinkIsAtFault cells cell owners (Unlawful at) =
     (at ≡ cell)
     × ((b : ℕ) × (memory_of cells cell ≡ b + 1) × ((length owners ≤ b) ⊎ (get_or owners b 0 ≢ 0)))
 
--- if the walk came to the queues, the count of keys was compared with the number of keys met, and
--- is the same
+-- if the walk has met all chains before those of the queues, the count of keys in the cells is the
+-- number of keys met
 abbrev pub KeysAreCounted : Plot → List ℕ → Store → Type 0
 KeysAreCounted p cells s =
     (owners : List ℕ) → IsBeforeChain p cells (queue_chain p.blocks 0) 0 owners s
     → IsBeforeChain p cells (queue_chain p.blocks 0) (queue_chain p.blocks 0) owners s
 
--- if the walk came to the queues, the error names the first cell at fault
+-- if the walk has met all chains before those of the queues, the error names the first cell at
+-- fault
 abbrev pub KeysAreMiscounted : Plot → List ℕ → Store → LawErr → Type 0
 KeysAreMiscounted p cells s e =
     (owners : List ℕ) → IsBeforeChain p cells (queue_chain p.blocks 0) 0 owners s
     → NamesFault p cells e
 
--- if the walk went through all chains, it has met every block, and the cells stand for the walk's
--- store
+-- if the walk has met all chains, the cells stand for the walk's store
 abbrev pub AllAreMet : Plot → List ℕ → List ℕ → Type 0
 AllAreMet p cells owners =
     (s : Store) → IsBeforeChain p cells (out_chain p.blocks) (out_chain p.blocks) owners s
     → CellsStandFor p cells s
 
--- if the walk went through all chains and did not meet some block, the error names the first cell
--- at fault
+-- if the walk has met all chains, the error names the first cell at fault
 abbrev pub SomeAreUnmet : Plot → List ℕ → List ℕ → LawErr → Type 0
 SomeAreUnmet p cells owners e =
     (s : Store) → IsBeforeChain p cells (out_chain p.blocks) (out_chain p.blocks) owners s

@@ -1,5 +1,5 @@
 -- What the words of an operation do to a store. The words of a script do what the script does, and
--- a word that is no instruction aborts at its place.
+-- a word that is no instruction aborts the script.
 use Rattle.std.specs.Prelude.{ℕ, ◌≤◌, ◌-◌, List, [], ◌∷◌, ◌++◌, length, replicate, Option, Some, None, Ok, Err}
 use Rattle.of_script.specs.declared.instr.Instr.{Instr}
 use Rattle.of_script.specs.declared.instr.Cause.TheVariants.{BadOp}

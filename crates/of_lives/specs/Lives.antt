@@ -68,7 +68,7 @@ start_behind_spans s [] = s
 start_behind_spans s (ls ∷ spans) =
     start_behind_spans (renumbered_start (start_behind_all s ls)) spans
 
--- `P` holds of each span and of the start from which it begins
+-- `P` holds of each span and of the start from which the span begins
 abbrev pub EachSpan : (Start → List Life → Type 0) → Start → List (List Life) → Type 0
 EachSpan P s [] = Unit {0}
 EachSpan P s (ls ∷ spans) =

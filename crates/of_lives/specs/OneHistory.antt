@@ -79,7 +79,7 @@ HasAnswered s l =
 
 -- the entries of all lives together are one history from the first start
 pub record AreOneHistory (s : Start) (ls : List Life) : Type 0 where
-  -- serial replay of all lives in order gives all replies, each at its place, and the last store
+  -- serial replay of all lives in order gives all replies, in their order, and the last store
   pub replies : map (λ e. e.reply) (entries_in ls) ≡ replies_in_order s.store (life_scripts ls)
   pub final_store : (start_behind_all s ls).store ≡ last_store s.store (life_scripts ls)
   -- entries are in the order of their sequences; each sequence above the start's, up to the last,
@@ -128,9 +128,9 @@ abbrev pub own_in_spans : List (List Life) → ℕ → List Entry
 own_in_spans spans c = filter (λ e. e.caller == c) (entries_of_spans spans)
 
 -- the entries of all spans together are one history from the first start, though sequences begin
--- anew in each span: renumbering between two lives loses nothing and runs nothing twice
+-- anew in each span
 pub record AreOneHistoryInSpans (s : Start) (spans : List (List Life)) : Type 0 where
-  -- serial replay of all lives in order gives all replies, each at its place, and the last store
+  -- serial replay of all lives in order gives all replies, in their order, and the last store
   pub replies : map (λ e. e.reply) (entries_of_spans spans)
       ≡ replies_in_order s.store (scripts_of_spans spans)
   pub final_store : (start_behind_spans s spans).store

@@ -6,8 +6,8 @@ use Rattle.of_report.specs.ImageRow.{data_numbers_in}
 use Rattle.of_report.specs.Image.{Image, IsImage, start_of_image}
 use Rattle.of_lives.specs.Lives.{renumbered_start}
 
--- The second image has the callers, the store and the numbers of the data cells of the first, and
--- sequence 0. The text that `renumber` prints has such an image.
+-- the second image has the callers, the store and the numbers of the data cells of the first, and
+-- sequence 0
 pub record IsRenumberedImage (i j : Image) : Type 0 where
   pub callers : j.row.callers ≡ i.row.callers
   pub store : j.store ≡ i.store

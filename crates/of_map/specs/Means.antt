@@ -17,8 +17,8 @@ IsPair key v = IsNumber key × IsNumber v
 abbrev pub with_put : CellStore → ℕ → ℕ → CellStore
 with_put s key v = record s { map = fin.insert s.map key v }
 
--- The answer of a put: `Over w` if the key had the value w. If the key was absent it is `New`, or
--- `Full` if there is no room.
+-- The answer of a put. It is `Over w` if the key had the value w, `New` if the key was absent and
+-- there is room, and `Full` if the key was absent and there is no room.
 abbrev pub put_answer : Option ℕ → Bool → Put
 put_answer (Some w) room = Over w
 put_answer None true = New

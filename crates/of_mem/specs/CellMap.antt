@@ -14,7 +14,7 @@ abbrev pub put_pair : List (ℕ × ℕ) → ℕ → ℕ → List (ℕ × ℕ)
 put_pair [] a v = (a, v) ∷ []
 put_pair (e ∷ es) a v = if e.0 == a then (a, v) ∷ es else e ∷ put_pair es a v
 
--- the list as it is if the address has a place in it; otherwise the list with (a, v) added at the
+-- the list as it is if the address has an entry in it; otherwise the list with (a, v) added at the
 -- end
 abbrev pub with_last_pair : List (ℕ × ℕ) → ℕ → ℕ → Option ℕ → List (ℕ × ℕ)
 with_last_pair es a v None = es ++ (a, v) ∷ []

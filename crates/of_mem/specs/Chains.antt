@@ -1,6 +1,6 @@
 -- How the code finds an address among the entries. Each address has a home, its remainder by the
 -- number of homes. The entries of one home are linked from the last to the first, and for each home
--- the number of its last entry is noted. An entry's number is its place plus 1. No public contract
+-- the number of its last entry is noted. An entry's number is its index plus 1. No public contract
 -- uses these definitions.
 use Rattle.std.specs.Prelude.{◌≡◌, ℕ, zero, suc, ◌<◌, ◌≤◌, ◌⊎◌, ◌==◌, ◌%◌, if◌then◌else◌, List, length, map}
 use Rattle.std.proofs.Common.{get_or}
@@ -16,14 +16,14 @@ pairs_of es = map (λ (e : Entry). e.pair) es
 abbrev pub olders_of : List Entry → List ℕ
 olders_of es = map (λ (e : Entry). e.older) es
 
--- the number of the last of the first n entries with the home h: its place plus 1; 0 if none of
+-- the number of the last of the first n entries with the home h: its index plus 1; 0 if none of
 -- them has this home
 abbrev pub latest : (homes : ℕ) → List (ℕ × ℕ) → (home n : ℕ) → ℕ
 latest homes es h zero = 0
 latest homes es h (suc n) =
     if entry_address es n % homes == h then suc n else latest homes es h n
 
--- the note at place k, 0 if there is none
+-- the note with the index k, 0 if there is none
 abbrev pub note_at : List ℕ → ℕ → ℕ
 note_at ns k = get_or ns k 0
 

@@ -8,8 +8,8 @@ use Rattle.std.proofs.Common.{get_or, set, drop}
 use Rattle.of_mem.specs.declared.part.Need.{Need}
 use Rattle.of_mem.specs.declared.work.RawReply.{RawReply}
 
--- How a run on known cells ends. `Needs a`: it must read cell a, which is not known. `Gives es r`:
--- it finished with the writes es, in order of first writing, and the reply r.
+-- How a run on known cells ends. With `Needs a` it must read cell a, which is not known. With
+-- `Gives es r` it has finished with the writes es, in order of first writing, and the reply r.
 pub data WalkEnd : Type 0 where
   Needs : ℕ → WalkEnd
   Gives : List (ℕ × ℕ) → RawReply → WalkEnd
@@ -51,7 +51,7 @@ RunsAsWalked M known op result script before after =
 abbrev pub SameFrom : ℕ → List ℕ → List ℕ → Type 0
 SameFrom base xs ys = drop base xs ≡ drop base ys
 
--- whether bit j of the shape is 1: the reply has a number at place j
+-- whether bit j of the shape is 1: answer j of the reply is a number
 unfoldable pub is_marked : ℕ → ℕ → Bool
 is_marked shape j = shape / 2 ^ j % 2 == 1
 
@@ -62,7 +62,8 @@ HasDistinctCells es =
     → (get_or es j (0, 0)).0 ≡ (get_or es k (0, 0)).0 → j ≡ k
 
 -- A walk that finished with writes es and reply r is right about the list of cells xs: the
--- operation makes these writes on xs and gives this reply.
+-- operation makes these writes on xs and gives this reply. The writes are of different cells from
+-- `base` on, and all numbers fit into cells.
 pub record IsFinishedWalk (M : Meaning) (base size : ℕ) (xs op : List ℕ) (es : List (ℕ × ℕ))
     (r : RawReply) : Type 0 where
   pub inside : All (λ (e : ℕ × ℕ). (base ≤ e.0) × (e.0 < size) × FitsCell e.1) es
@@ -73,10 +74,10 @@ pub record IsFinishedWalk (M : Meaning) (base size : ℕ) (xs op : List ℕ) (es
   pub reply : M.reply xs op ≡ r
   pub shape : FitsCell r.shape
   pub values : All FitsCell r.values
-  -- the shape marks place j only if the script was not aborted and has an instruction there
+  -- the shape marks number j only if the script was not aborted and has an instruction j
   pub marks : (j : ℕ) → j < MOST_INSTRS → is_marked r.shape j ≡ true
       → (r.shape < LEAST_ABORT) × (j < length op) × (j < length r.values)
-  -- at a place that the shape does not mark, the number is 0
+  -- a number that the shape does not mark is 0
   pub rest : (j : ℕ) → j < MOST_INSTRS → is_marked r.shape j ≡ false → get_or r.values j 0 ≡ 0
   -- an operation that is known to write nothing has no writes
   pub reads : M.reads_only op ≡ true → es ≡ []
@@ -89,7 +90,7 @@ WalkFits M base size known xs op (Needs a) = (base ≤ a) × (a < size) × (get_
 WalkFits M base size known xs op (Gives es r) = IsFinishedWalk M base size xs op es r
 
 -- there are 1 to MOST_CALLERS callers, and the `size` data cells include the own cells of all of
--- them
+-- them, and are at most MOST_DATA_CELLS
 pub record HasRoom (many size : ℕ) : Type 0 where
   pub some : 1 ≤ many
   pub few : many ≤ MOST_CALLERS

@@ -12,7 +12,7 @@ base p = base_of p.callers p.instrs
 abbrev pub data_cell_count : Plot → ℕ
 data_cell_count p = cells_at (base p) p.blocks
 
--- The use of a data cell: what it is for. The numbers name a caller, a place in its reply, a
+-- The use of a data cell: what it is for. The numbers name a caller, a number of its reply, a
 -- register, a bucket, a queue, or a block and its field.
 pub data DataPlace : Type 0 where
   Ticket : ℕ → DataPlace

@@ -34,9 +34,9 @@ meaning_of keeps reads program = record {
   reads_only = reads;
 }
 
--- A reply that fits the operation `op`. Its shape and numbers fit into cells. Only places of
--- instructions of a script that was not aborted are marked, and each place that is not marked has
--- the number 0.
+-- A reply that fits the operation `op`. Its shape and numbers fit into cells. The shape marks a
+-- number only for an instruction of a script that was not aborted, and each number that is not
+-- marked is 0.
 pub record IsReplyTo (op : List ℕ) (r : RawReply) : Type 0 where
   pub shape : FitsCell r.shape
   pub values : All FitsCell r.values

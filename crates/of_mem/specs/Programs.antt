@@ -17,8 +17,8 @@ then_do (Done r) g = g r
 then_do (Read a k) g = Read a (λ v. then_do (k v) g)
 then_do (Write a v f) g = Write a v (then_do f g)
 
--- How a program ends on partial memory. `Lacks a`: it must read cell a, which is not known. `Ends r
--- p`: it answered r and left the partial memory p.
+-- How a program ends on partial memory. With `Lacks a` it must read cell a, which is not known.
+-- With `Ends r p` it has answered r and left the partial memory p.
 pub data RunEnd (A : Type 0) : Type 0 where
   Lacks : ℕ → RunEnd A
   Ends : A → Part → RunEnd A

@@ -16,11 +16,11 @@ pub struct Entry {
     /// The address, and the number written there.
     pub pair: (u32, u32),
     /// The number of the last earlier entry with the same home, 0 if there is none. An entry's
-    /// number is its place plus 1.
+    /// number is its index plus 1.
     pub older: u32,
 }
 
-/// The number of the last entry with this home, 0 if there is none. An entry's number is its place
+/// The number of the last entry with this home, 0 if there is none. An entry's number is its index
 /// plus 1. A note that names no entry, or an entry with another home, is out of date and counts as
 /// 0.
 pub fn front(fronts: &[u32], entries: &[Entry], home: u32) -> u32
@@ -41,7 +41,7 @@ pub fn front(fronts: &[u32], entries: &[Entry], home: u32) -> u32
     }
 }
 
-/// The place of the entry with this address, if there is one. Mostly it is the last entry of its
+/// The index of the entry with this address, if there is one. Mostly it is the last entry of its
 /// home, and no chain is followed.
 #[inline(always)]
 pub fn find(fronts: &[u32], entries: &[Entry], addr: u32) -> Option<usize>
@@ -76,7 +76,7 @@ fn find_elsewhere(fronts: &[u32], entries: &[Entry], addr: u32) -> Option<usize>
     search(entries, last, addr)
 }
 
-/// The place of the entry with this address, if there is one, from the number of the last entry of
+/// The index of the entry with this address, if there is one, from the number of the last entry of
 /// its home.
 pub fn search(entries: &[Entry], last: u32, addr: u32) -> Option<usize>
     requires last { last
@@ -96,7 +96,7 @@ pub fn search(entries: &[Entry], last: u32, addr: u32) -> Option<usize>
     }
 }
 
-/// The place of the entry with this address, if there is one, found by following the whole chain.
+/// The index of the entry with this address, if there is one, found by following the whole chain.
 // out of line, so that what is called often is small
 #[cold]
 #[inline(never)]

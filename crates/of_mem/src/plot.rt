@@ -137,7 +137,7 @@ impl Plot {
         self.row(caller) + 1
     }
 
-    /// The address of the cell that holds the number at a place of a caller's reply.
+    /// The address of the cell that holds number `place` of a caller's reply.
     pub fn reply(&self, caller: u32, place: u32) -> u32
         requires caller { caller < self.now.callers }
         requires place { place < self.now.instrs }

@@ -115,7 +115,7 @@ impl SuspendedRun {
         self.done as usize
     }
 
-    /// What the word at `place` answered. It must be one of the words that have run.
+    /// What the word with the index `place` answered. It must be one of the words that have run.
     pub fn value(&self, place: usize) -> Option<u32>
         requires ran { place < self.now.done }
         requires few { place < MOST_INSTRS }

@@ -28,8 +28,8 @@ pub const MOST_WRITES: u32 = 238;
 /// cause.
 pub const LEAST_ABORT: u32 = 1 << 26;
 
-/// A reply as a caller's own cells hold it: its shape, and a number at each place, which is 0 if
-/// the shape marks no number there.
+/// A reply as a caller's own cells hold it: its shape, and its numbers. A number that the shape
+/// doesn't mark is 0.
 #[derive(Clone, Copy, Debug, PartialEq, Eq)]
 pub struct RawReply {
     pub shape: u32,

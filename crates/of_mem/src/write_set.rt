@@ -66,7 +66,7 @@ impl WriteSet {
         self.entries.is_empty()
     }
 
-    /// The place of the entry with this address, if there is one.
+    /// The index of the entry with this address, if there is one.
     #[inline(always)]
     pub(crate) fn find(&self, addr: u32) -> Option<usize>
         ensures map { IsWriteSet self.now }
@@ -84,7 +84,7 @@ impl WriteSet {
         Some(self.entries[place].pair.1)
     }
 
-    /// The place of the entry with this address, if there is one. Otherwise an entry with this
+    /// The index of the entry with this address, if there is one. Otherwise an entry with this
     /// number is added at the end.
     pub(crate) fn enter(&mut self, addr: u32, value: u32) -> Option<usize>
         requires { addr < self.old.room }

@@ -49,7 +49,8 @@ made_with script (Err InCall) ms = ms
 made_with script (Err NoCall) ms = ms
 made_with script (Err NoTicket) ms = ms
 
--- the call has made a step
+-- by this result the call has made a step: it was answered or spent, or it was stopped after its
+-- brake was asked more than once
 abbrev pub HasStarted : Result Answer RunError → Type 0
 HasStarted result = generic.HasStarted (without_reply result)
 

@@ -28,7 +28,7 @@ number_of_handle h = generic.number_of_handle h.cells
 abbrev pub HasCallOpen : Handle → Type 0
 HasCallOpen h = generic.HasCallOpen h.cells
 
--- the handle is one of some memory, and all calls of its number are calls of scripts
+-- the handle is one of some memory of scripts, and all calls of its number are calls of scripts
 pub record IsHandle (h : Handle) : Type 0 where
   pub handle : generic.IsCellHandle scripts_meaning h.cells
   pub row : IsScriptsRow (home_of h)
@@ -58,7 +58,8 @@ ResumesCall result h k =
     (script : List Instr) (ms : List Made) → HasOpen h script → HasMade h ms
     → HasMade k (made_with script result ms)
 
--- a call of this script is open if it was stopped, and no call is open if it was answered or spent
+-- if a call of this script has had this result, it is open in the handle if the result is a stop,
+-- and no call is open if it was answered or spent
 abbrev pub StaysOpenOnlyIfStopped : List Instr → Result Answer RunError → Handle → Type 0
 StaysOpenOnlyIfStopped script (Ok a) h = HasCallOpen h → ⊥
 StaysOpenOnlyIfStopped script (Err (Stopped asked)) h = HasOpen h script

@@ -28,14 +28,15 @@ InvariantsHold =
     → All (λ (e : HistoryEntry). kind e.script ≡ true) h
     → holds (store_after s h) ≡ true
 
--- the memory has as many callers as before, and the same store and tickets that it was opened with
+-- the memory has as many callers as before, and the same tickets that it was opened with; if it was
+-- opened with a store before, it was opened with this store now
 pub record StaysAsOpened (before now : Memory) : Type 0 where
   pub callers : callers_of now ≡ callers_of before
   pub store : (s : Store) → StartsWith before s → StartsWith now s
   pub tickets : (n : ℕ) → tickets_before now n ≡ tickets_before before n
 
--- while handles come and go, a memory keeps its number of callers, and the store and tickets that
--- it was opened with
+-- one memory at two times has the same number of callers, and the same store and tickets that it
+-- was opened with
 abbrev pub MemoriesStay : Type 0
 MemoriesStay = (m k : Memory) → IsStill m k → StaysAsOpened m k
 

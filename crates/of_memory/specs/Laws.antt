@@ -65,9 +65,9 @@ RespectsEvents S B es h =
     → ComeInOrder h n (done_before S B n + x) k (done_before S B k + y)
 
 -- A serial history leads from the store to the one that data cells with these numbers stand for.
--- Each call is in it at most once, and the calls of each caller are in the order in which it made
--- them. The history is ordered by sequence. Each caller had made `made` calls before; the cells
--- show its last call, and its later calls only read.
+-- Each call is of one of the callers, and is in the history at most once; the calls of each caller
+-- are in the order in which it made them. The history is ordered by sequence. Each caller had made
+-- `made` calls before; the cells show its last call, and its later calls only read.
 pub record HistoryLeads (w : Scripts) (caller_count : ℕ) (made : ℕ → ℕ) (s : Store) (now : List ℕ)
     (h : List HistoryEntry) (q : Sequences) : Type 0 where
   pub serial : IsSerial s h
@@ -88,8 +88,8 @@ pub record ExplainsView (S : Setup) (B : TableStart) (h : List HistoryEntry) (q 
   pub only : Each (HasOnlyKept S B h) v.kept
   pub time : RespectsEvents S B v.past h
 
--- a serial history leads from the store to what recovery finds in the durable words, and each of
--- the views finds in the history what the view knows
+-- A serial history leads from the store `s` to what recovery finds in the durable words `words`. It
+-- explains what each of the views knows (`ExplainsView`); `OfViews` says which views these are.
 pub record HistoryFound (w : Scripts) (limit : ℕ) (B : TableStart) (s : Store) (words : List ℕ)
     (OfViews : (View → Type 0) → Type 0) : Type 0 where
   pub history : List HistoryEntry
@@ -98,10 +98,11 @@ pub record HistoryFound (w : Scripts) (limit : ℕ) (B : TableStart) (s : Store)
       (numbers_found w.callers (scripts_data_cells w) words) history sequences
   pub views : OfViews (ExplainsView (setup_with w limit) B history sequences)
 
--- If words and a view meet the rule of a row of these scripts, and the view keeps each caller, a
--- table may start from what recovery finds in the durable words. From the store that the row has
--- started with, a serial history leads to what is found. If the row's start held a reply to the
--- last call of each caller, what is found does too.
+-- Suppose that words and a view meet the rule of a row of these scripts, that the view isn't spent,
+-- and that it keeps the caller of each number, with calls of scripts alone. Then a table may start
+-- from what recovery finds in the durable words. From the store that the row has started with, a
+-- serial history leads to what is found, and explains what the view knows. If the row's start held
+-- a reply to the last call of each caller, what is found does too.
 abbrev pub HoldsHistory : Scripts → (limit : ℕ) → Type 0
 HoldsHistory w limit =
     let S : Setup = setup_with w limit in

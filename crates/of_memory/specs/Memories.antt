@@ -70,7 +70,7 @@ pub record HasOpenOf (m : Memory) (n : ℕ) (script : List Instr) : Type 0 where
   pub opened : generic.HasOpenOf m.cells n (map instr_word script)
 
 -- no handle of number j is out, and number j knows that the first x calls of number n had ended
--- before number k began its call y + 1
+-- before number k began the call after its first y
 abbrev pub HasOrderOf : Memory → (j n x k y : ℕ) → Type 0
 HasOrderOf m j n x k y = generic.HasOrderOf scripts_meaning m.cells j n x k y
 
@@ -114,8 +114,8 @@ OthersKnowOrder i m l = generic.OthersKnowOrder scripts_meaning i m.cells l.cell
 abbrev pub HasNoneOpen : Memory → Type 0
 HasNoneOpen m = generic.HasNoneOpen m.cells
 
--- The caller of the handle's number was in the memory, and is taken out of it. The handle has this
--- caller's calls, and knows what the caller knew.
+-- The caller of the handle's number was in the memory, and is taken out of it; all other callers
+-- stay. The handle has this caller's calls, and knows what the caller knew.
 abbrev pub TakesOut : (before now : Memory) → Handle → Type 0
 TakesOut m k h = generic.TakesOut m.cells k.cells h.cells
 
@@ -135,10 +135,11 @@ TellsLastOf m d h n = TellLast (saved_cells d) h n (tickets_before m n)
 -- The history leads from the store with which the memory was opened to the saved one. It is serial:
 -- each call has the reply that it gets when they are run one after the other. It has each call at
 -- most once, and the calls of each caller in the order in which it made them. It is ordered by
--- sequence. It has each call that was answered, with its reply, at the sequence that the answer
--- names. It has no spent call, and besides the answered calls only open ones. What is saved names
--- the last call of each caller; later calls of the caller only read. The history respects real
--- time, as far as one of the numbers knows it.
+-- sequence. All its calls are of callers of the memory. Of the callers that are in the memory, it
+-- has each answered call, with its reply, at the sequence that the answer names; it has no spent
+-- call, and besides the answered calls only open ones. What is saved names the last call of each
+-- caller; later calls of the caller only read. The history respects real time, as far as a caller
+-- in the memory knows it.
 pub record LeadsTo (m : Memory) (s : Store) (d : Saved) (h : List HistoryEntry) : Type 0 where
   pub serial : IsSerial s h
   pub ends : SavedHolds d (store_after s h)
@@ -156,15 +157,17 @@ pub record LeadsTo (m : Memory) (s : Store) (d : Saved) (h : List HistoryEntry) 
   pub time : (j n x k y : ℕ) → HasOrderOf m j n x k y
       → ComeInOrder h n (tickets_before m n + x) k (tickets_before m k + y)
 
--- a history leads from the store with which the memory was opened to what is saved
+-- a history leads from each store with which the memory was opened to what is saved
 abbrev pub HasHistory : Memory → Saved → Type 0
 HasHistory m d = (s : Store) → StartsWith m s → (h : List HistoryEntry) × LeadsTo m s d h
 
--- why the memory gives no handle for number n
+-- why the memory gives no handle for number n: memory ran out, the memory has no such caller, or
+-- the caller is not in the memory
 abbrev pub IsEnrolCause : Memory → ℕ → EnrolError → Type 0
 IsEnrolCause m n e = generic.IsEnrolCause m.cells n e
 
--- why no memory is opened with these callers, blocks and limit
+-- why no memory is opened with these callers, blocks and limit: memory ran out, or one of the three
+-- is out of its range
 abbrev pub IsOpenCause : (callers blocks limit : ℕ) → OpenError → Type 0
 IsOpenCause callers blocks limit (OutOfMemory e) = Unit {0}
 IsOpenCause callers blocks limit (Callers k) =

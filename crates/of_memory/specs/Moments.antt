@@ -39,11 +39,12 @@ abbrev pub EachRunsScripts : Setup → State (Unit {0}) View → Type 0
 EachRunsScripts S s =
     (n : ℕ) → n < S.callers → (bit_at (members_of S s.words) n ≡ 0) ⊎ IsKeptByOne s.views n
 
--- At each moment of a row of these scripts, also between two steps on it, a table may start from
--- what recovery finds in the durable words of that moment. One serial history leads from the store
--- with which the row has started to what recovery finds. The history has each answered call of a
--- caller that a pass or a member keeps, with its reply and its sequence, and besides these calls
--- only open ones.
+-- Suppose that the row's start held a reply to the last call of each caller, and that the limit is
+-- in its range. At each moment of a row of these scripts, also between two steps on it, if all
+-- calls of the numbers that are taken are calls of scripts, a table may start from what recovery
+-- finds in the durable words of that moment. One serial history leads from the store with which the
+-- row has started to what recovery finds. The history has each answered call of a caller that a
+-- pass or a member keeps, with its reply and its sequence, and besides these calls only open ones.
 abbrev pub WordsHoldHistory : Scripts → (limit : ℕ) → Type 0
 WordsHoldHistory w limit =
     let S : Setup = setup_with w limit in
@@ -53,9 +54,10 @@ WordsHoldHistory w limit =
     AreStartWords w limit words
     × ((t : Store) → StandsAt w B t → HistoryFound w limit B t words (λ P. EachView P s.views))
 
--- At each moment of the memory's row, also between two steps on it, a memory may go on from what
--- recovery finds in the durable words of that moment. One serial history leads to what is found
--- from the store with which the memory was opened.
+-- At each moment of the memory's row, also between two steps on it, if all calls of the numbers
+-- that are taken are calls of scripts, a memory may go on from what recovery finds in the durable
+-- words of that moment. One serial history leads to what is found from the store with which the
+-- memory was opened.
 abbrev pub HoldsWordsAlways : Memory → Type 0
 HoldsWordsAlways m =
     let S : Setup = setup_at scripts_meaning (row_of m) in

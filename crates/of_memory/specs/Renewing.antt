@@ -20,8 +20,9 @@ pub record GoesOnFromSaved (d : Saved) (m : Memory) : Type 0 where
   pub none : (n : ℕ) → n < saved_callers d → HasMadeOf m n []
   pub idle : HasNoneOpen m
 
--- No handle of the memory m was out, and d is what m has left. One serial history, with each call
--- that was answered, leads to d. The last committed sequence in d is 0.
+-- No handle of the memory m was out, and d is what was saved of m, with its callers and its limit;
+-- a memory may go on from d. One serial history, with each call that was answered, leads to d. The
+-- last committed sequence in d is 0.
 pub record LeavesRenumbered (m : Memory) (d : Saved) : Type 0 where
   pub here : HasNoHandleOut m
   pub saved : IsSaved d

@@ -35,8 +35,9 @@ HoldsLastReplies w B = HoldLastReplies w (map payload_of B.cells)
 abbrev pub made_before : Row Scripts → ℕ → ℕ
 made_before r n = generic.made_before scripts_meaning r n
 
--- The row has the callers and the data cells of its scripts. The data cells with which it started
--- stand for some store, and hold a reply to the last call of each caller.
+-- The row has the callers and the data cells of its scripts, and its limit is in range. The data
+-- cells with which it started stand for some store, and hold a reply to the last call of each
+-- caller.
 pub record IsScriptsRow (r : Row Scripts) : Type 0 where
   pub callers : (key_of r).callers ≡ (key_of r).work.callers
   pub cells : (key_of r).cells ≡ scripts_data_cells (key_of r).work

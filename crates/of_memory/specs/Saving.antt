@@ -36,7 +36,8 @@ saved_callers d = generic.saved_callers d.cells
 abbrev pub saved_ticket : Saved → ℕ → ℕ
 saved_ticket d n = generic.saved_ticket d.cells n
 
--- a memory may go on from what is saved; it holds a store, and a reply to each caller's last call
+-- a memory may go on from what is saved; this holds a store and a reply to each caller's last call,
+-- and its limit is at least 1
 pub record IsSaved (d : Saved) : Type 0 where
   pub saved : generic.IsSavedCells (λ w. w.callers) scripts_data_cells scripts_meaning LawfulCells
       d.cells

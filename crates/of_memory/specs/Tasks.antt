@@ -73,7 +73,7 @@ pub record HasWorkedAs {J : Type 0} (Does : TaskWork J) (n : ℕ) (m k : Memory)
   pub order : LeavesOrder left k
   pub told : TellsMemory left k
 
--- each task has worked with the handle whose number is the place of the task in the list
+-- each task has worked with the handle whose number is the index of the task in the list
 pub record HaveWorked {J : Type 0} (Does : TaskWork J) (m k : Memory) (xs ys : List J)
     : Type 0 where
   pub count : length ys ≡ length xs

@@ -20,8 +20,8 @@ use Rattle.of_memory.specs.Memories.{IsFrom, IsStill, StartsWith, RemembersAll, 
 abbrev pub HasHeardOf : Handle → (number count : ℕ) → Type 0
 HasHeardOf h n count = generic.HasHeardOf scripts_meaning h.cells n count
 
--- the handle knows that the first x calls of number n had ended before number k began its call y +
--- 1
+-- the handle knows that the first x calls of number n had ended before number k began the call
+-- after its first y
 abbrev pub KnowsOrder : Handle → (n x k y : ℕ) → Type 0
 KnowsOrder h n x k y = generic.KnowsOrder scripts_meaning h.cells n x k y
 
@@ -37,7 +37,7 @@ CallsStay h k = generic.CallsStay h.cells k.cells
 
 -- ---- news
 
--- the news is of the calls of the memory with this row
+-- the news is a pass of this row that keeps no caller
 abbrev pub IsNews : Row Scripts → News → Type 0
 IsNews r a = generic.IsNews r a
 

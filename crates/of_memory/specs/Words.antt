@@ -71,8 +71,8 @@ WordsHold callers blocks words d =
 abbrev pub words_found : Scripts → List ℕ → List ℕ
 words_found w words = recovered_words w.callers (scripts_data_cells w) words
 
--- a table for these scripts, with this limit, may start from what recovery finds in the words, and
--- what is found holds a reply to the last call of each caller
+-- a table for these scripts, with this limit, may start from what recovery finds in the words; what
+-- is found holds a reply to the last call of each caller, and the limit is in its range
 pub record AreStartWords (w : Scripts) (limit : ℕ) (words : List ℕ) : Type 0 where
   pub row : IsStartRow (setup_with w limit) (LawfulCells w) (words_found w words)
   pub replies : HoldsLastReplies w
@@ -92,7 +92,7 @@ pub record IsPastLimit (limit : ℕ) (words : List ℕ) (seq : ℕ) : Type 0 whe
   pub is : seq ≡ current_seq (slice_index words)
   pub past : limit < seq
 
--- why nothing that is saved is found in these words, with these callers, blocks and limit
+-- why these words, with these callers, blocks and limit, give nothing that is saved
 abbrev pub IsWordsCause : (callers blocks limit : ℕ) → List ℕ → WordsError → Type 0
 IsWordsCause callers blocks limit words OutOfMemory = Unit {0}
 IsWordsCause callers blocks limit words (Callers k) =

@@ -65,7 +65,7 @@ impl Memory {
     ghost use Rattle.of_memory.specs.Memories.{IsMemory, IsStill, RemembersAll};
     ghost use Rattle.of_memory.specs.Tasks.{HaveWorked, KnowsRest, RestKnowsOrder, IsTaskCause};
 
-    /// Works at all tasks at once. Each task has the handle whose number is the task's place in the
+    /// Works at all tasks at once. Each task has the handle whose number is the task's index in the
     /// list, and a thread of its own if one can be made. Then the handles leave. If a handle can't
     /// be enrolled, no task is begun, and no number stays taken.
     pub fn at_once<J: Task + Send + Drop, R: Threads + Sync>(

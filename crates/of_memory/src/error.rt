@@ -102,7 +102,7 @@ impl StdError for InUse {}
 pub enum RenumberError {
     /// A handle of the memory is out. The memory is handed back as it was.
     InUse(Memory),
-    /// Memory ran out for the new table. The old memory is closed, and this is what it has left,
+    /// Memory ran out for the new table. The old memory is closed, and this is what is saved of it,
     /// with 0 as the last committed sequence.
     OutOfMemory(Saved),
 }

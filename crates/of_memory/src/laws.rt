@@ -14,27 +14,29 @@ use of_cell::laws::{largest, smallest};
 use of_cells::laws as cells;
 use of_eval::Scripts;
 
-/// A closed row on which callers have run only scripts holds one serial history of scripts on the
-/// plain store. The history has each call that was answered, with its reply, and recovery finds the
-/// store at its end.
+/// If callers have run only scripts on a closed row, and its pass keeps all of them, the row holds
+/// one serial history of scripts on the plain store. The history has each call that was answered,
+/// with its reply, and recovery finds the store at its end.
 pub fn history_is_held(work: Scripts, limit: u32)
     ensures { HoldsHistory work limit }
 {
     cells::rows_hold_history(work, limit);
 }
 
-/// A process that is killed at any moment loses no call that was answered. `Saved::from_words`
-/// takes the durable words of that moment: a memory may go on from what recovery finds in them, and
-/// one serial history leads to what is found.
+/// At each moment of a row on which callers run only scripts, also between two steps on it,
+/// recovery finds in the durable words what one serial history leads to. The history has each
+/// answered call of the callers that a pass or a member keeps, and a table may start from what is
+/// found.
 pub fn words_hold_history(work: Scripts, limit: u32)
     ensures { WordsHoldHistory work limit }
 {
     cells::rows_hold_history(work, limit);
 }
 
-/// At any moment, recovery of a memory's durable words finds the store to which one serial history
-/// leads. This history has each call that was answered. A memory may go on from what recovery
-/// finds.
+/// At each moment of a memory's row, also between two steps on it, recovery of the durable words
+/// finds the store to which one serial history leads, if a pass or a member keeps the caller of
+/// each taken number. This history has each answered call of these callers. A memory may go on from
+/// what recovery finds.
 pub fn memory_words_hold_history(memory: &Memory)
     requires { IsMemory memory.now }
     ensures { HoldsWordsAlways memory.now }

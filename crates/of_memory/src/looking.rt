@@ -78,8 +78,8 @@ impl Saved {
         self.number(self.plot().length(q))
     }
 
-    /// The item of a queue at the place `at`, from 0 at the front. None exactly if the queue has no
-    /// item there.
+    /// The item of a queue with index `at`, from 0 at the front. None exactly if the queue has no
+    /// such item.
     pub fn item(&self, q: u32, at: u32) -> Option<u32>
         requires saved { IsSaved self.now }
         requires queue { q < QUEUES }

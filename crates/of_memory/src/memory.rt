@@ -171,10 +171,10 @@ impl Memory {
         }
     }
 
-    /// Closes the memory, and opens a new one that goes on from what the old one has left, with
-    /// sequences that begin anew. What the old one has left is handed out too, with each caller's
-    /// last ticket and reply. If a handle is out, and only then, the error hands the old memory
-    /// back. If memory runs out for the new table, the error hands out what the old one has left.
+    /// Closes the memory, and opens a new one that goes on from what is saved of the old one, with
+    /// sequences that begin anew. What is saved is handed out too, with each caller's last ticket
+    /// and reply. If a handle is out, and only then, the error hands the old memory back. If memory
+    /// runs out for the new table, the error hands out what is saved.
     pub fn renumbered(self) -> Result<Renumbered, RenumberError>
         requires { IsMemory self }
         ensures memory { IfOk result (λ r. IsMemory r.memory) }

@@ -16,8 +16,8 @@ use of_mem::{MOST_BLOCKS, MOST_CALLERS};
 use of_plan::GREATEST_LIMIT;
 use std::alloc::Global;
 
-/// How many words the table of a memory has, and where its durable words are among them: one after
-/// the other, from the place `first` on.
+/// How many words the table of a memory has, and which of them are its durable words: as many as
+/// `durable` says, one after the other, from the word `first` on.
 #[derive(Clone, Copy, Debug, PartialEq, Eq)]
 pub struct TableSizes {
     pub words: u32,

@@ -30,8 +30,9 @@ pub record IsBetweenBuckets (o blocks low i : ℕ) (first : CellStore) (m : ℕ 
   pub cleared : (key : ℕ) → key < low → key % bucket_count blocks < i
       → fin.get store.map key ≡ None
 
--- Inside bucket i: the keys of the blocks before this pointer cell are not below `low`, and the
--- blocks of the last argument come after the cell.
+-- The keys of the blocks of bucket i before this pointer cell are not below `low`, and the blocks
+-- of the last argument come after the cell. The cell holds `pointer`. The buckets before are as
+-- `IsBetweenBuckets` says.
 pub record IsInsideBucket (o blocks low i : ℕ) (first : CellStore) (m : ℕ → ℕ)
     (cell pointer gone : ℕ) (behind : List ℕ) : Type 0 where
   pub state : IsBetweenBuckets o blocks low i first m gone

@@ -24,9 +24,9 @@ pub record KeepsAllowance (p : Plan) (r : Report) (c : ℕ) (allowance : Option 
   pub upto : IfSome allowance (λ n. (caller_line r c).longest ≤ n)
   -- its longest answered call made no fewer than the least steps of any of them
   pub least : All (λ e. least_steps p e ≤ (caller_line r c).longest) (answered_of r c)
-  -- if the caller is stopped, its allowance is smaller than what its answered calls and one open
-  -- call can use: for each answered call the steps of the longest one, and for the open call the
-  -- step bound
+  -- if the caller is stopped, it has an allowance, and this is smaller than what its answered calls
+  -- and one open call can use: for each answered call the steps of the longest one, and for the
+  -- open call the step bound
   pub used_up : (caller_line r c).state ≡ stopped → (n : ℕ) × (allowance ≡ Some n)
       × (n < (caller_line r c).answered * (caller_line r c).longest + bound_of p)
 

@@ -43,8 +43,9 @@ pub record IsHeading (h : Heading) : Type 0 where
   pub few_blocks : h.blocks ≤ MOST_PLAN_BLOCKS
   pub limit_range : IfSome h.limit (λ x. (1 ≤ x) × (x ≤ GREATEST_LIMIT))
 
--- An entry's numbers are in range: its caller is one of the heading's, and its cell has a durable
--- word. The number of turns has no upper bound here, because the bound is on all turns together.
+-- An entry is in range. Its caller is one of the heading's. Its script is a script, its stop is at
+-- most `LATEST_STOP`, it has at least one turn, and its cell has a durable word. The number of
+-- turns has no upper bound here, because the bound is on all turns together.
 abbrev pub IsEntryInRange : Heading → BodyLine → Type 0
 IsEntryInRange h (Script c script) = (c < h.callers) × IsScript script
 IsEntryInRange h (Stop c x) = (c < h.callers) × (x ≤ LATEST_STOP)

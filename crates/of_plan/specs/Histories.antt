@@ -20,8 +20,9 @@ pub record History : Type 0 where
   pub own : ℕ → List Entry
   pub stores : ℕ → Store
 
--- the announced entries of sequence k are by caller, and serial replay of them leads from the store
--- before to the one after
+-- Sequence k has at least one announced entry. Its announced entries are by caller, of callers of
+-- the plan, and among their callers' own entries. Serial replay of them, from the store after
+-- sequence k - 1, gives their replies and leads to the store after k.
 pub record IsBatch (p : Plan) (h : History) (k : ℕ) : Type 0 where
   pub some : 0 < length (h.runs k)
   pub each : Each (λ e. (e.seq ≡ k) × (e.announced ≡ true) × (e.caller < p.callers)
@@ -31,16 +32,18 @@ pub record IsBatch (p : Plan) (h : History) (k : ℕ) : Type 0 where
       ≡ replies_in_order (h.stores (k - 1)) (map (script_of_entry p) (h.runs k))
   pub leads : last_store (h.stores (k - 1)) (map (script_of_entry p) (h.runs k)) ≡ h.stores k
 
--- An announced entry is one of the entries of its sequence, which is above the start's. The script
--- of a read only reads, and its reply is that of the script on the store after the read's sequence.
+-- The history has this entry. If it was announced, it is among the announced entries of its
+-- sequence, which is above the start's. If it is a read, its script only reads, and its reply is
+-- that of the script on the store after its sequence.
 abbrev pub EntryHasPlace : Plan → Start → History → Entry → (announced : Bool) → Type 0
 EntryHasPlace p s h e true = (s.seq < e.seq) × IsIn e (h.runs e.seq)
 EntryHasPlace p s h e false =
     All (λ i. IsTrue (reads_only i)) (script_of_entry p e)
     × (e.reply ≡ (run (h.stores e.seq) (script_of_entry p e)).1)
 
--- the entries of a caller are its scripts from the first one that isn't done, in their order, and
--- each entry has its place in the history (`EntryHasPlace`)
+-- The entries of caller c are of its scripts from the first one that isn't done, one after the
+-- other, and are ordered as in a report. Each has a sequence from the start's up to the last one,
+-- and the history has it (`EntryHasPlace`).
 pub record IsOwn (p : Plan) (s : Start) (h : History) (c : ℕ) : Type 0 where
   pub each : Each (λ e. (e.caller ≡ c) × (s.seq ≤ e.seq) × (e.seq ≤ h.last)
       × EntryHasPlace p s h e e.announced) (h.own c)
@@ -48,8 +51,9 @@ pub record IsOwn (p : Plan) (s : Start) (h : History) (c : ℕ) : Type 0 where
   pub few : length (h.own c) ≤ scripts_left p s c
   pub order : AllPairs StandsBefore (h.own c)
 
--- each sequence after the start's is a batch that leads from the store before it to the store after
--- it, and each caller has its own entries
+-- The store after the start's sequence is the start's. Each later sequence, up to the last one, is
+-- a batch that leads from the store before it to the store after it. Each caller of the plan has
+-- its own entries.
 pub record IsHistory (p : Plan) (s : Start) (h : History) : Type 0 where
   pub from : s.seq ≤ h.last
   pub begins : h.stores s.seq ≡ s.store
@@ -77,7 +81,8 @@ history_report p s h lines = record {
   store = h.stores h.last;
 }
 
--- a caller's line agrees with the caller's entries, and with how the caller ended
+-- a caller's line counts the caller's entries and agrees with how the caller ended, and the
+-- caller's longest call is within the step bound
 pub record FitsLine (p : Plan) (s : Start) (h : History) (c : ℕ) (l : Line) : Type 0 where
   pub entries : l.entries ≡ length (h.own c)
   pub open_call : HasOpenCall l.state l.answered l.entries
@@ -89,7 +94,8 @@ pub record LinesFit (p : Plan) (s : Start) (h : History) (lines : List Line) : T
   pub each_caller : length lines ≡ p.callers
   pub each : (c : ℕ) → c < p.callers → FitsLine p s h c (slice_index_or lines c no_line)
 
--- the report of a history is legal, and its entries of a caller are the caller's
+-- if each caller has a line that fits a history, the report of this history with these lines is
+-- legal, and its entries of a caller are the caller's
 abbrev pub HistoriesAreLegal : Plan → Start → Type 0
 HistoriesAreLegal p s =
     (h : History) (lines : List Line) → IsHistory p s h → LinesFit p s h lines

@@ -16,8 +16,8 @@ script_of_entry p e = slice_index_or (scripts_of p e.caller) e.index []
 abbrev pub scripts_left : Plan → Start → ℕ → ℕ
 scripts_left p s c = length (scripts_of p c) - finished_of s c
 
--- the entries of each caller are its scripts from the first that isn't done, one after the other,
--- each once
+-- each entry is of a caller of the plan, and the entries of each caller are its scripts from the
+-- first that isn't done, one after the other, each once
 pub record StandInOrder (p : Plan) (s : Start) (r : Report) : Type 0 where
   pub of_callers : All (λ e. e.caller < p.callers) r.entries
   pub one_by_one : (c : ℕ) → c < p.callers
@@ -60,8 +60,8 @@ HasSequence p s e =
     MatchBool e.announced (s.seq < e.seq)
     ((s.seq ≤ e.seq) × All (λ i. IsTrue (reads_only i)) (script_of_entry p e))
 
--- the entries are ordered by sequence, and each sequence above the start's, up to the report's, has
--- an announced one; if there is none, the report's sequence is the start's
+-- The entries are ordered by sequence, and no sequence is above the report's, which is at least the
+-- start's. Each sequence above the start's, up to the report's, has an announced entry.
 pub record StandBySequence (p : Plan) (s : Start) (r : Report) : Type 0 where
   pub order : AllPairs StandsBefore r.entries
   pub sequences : All (λ e. HasSequence p s e × (e.seq ≤ r.seq)) r.entries
@@ -90,7 +90,9 @@ HasEndState spent answered scripts_left seq limit = (answered < scripts_left) ×
 abbrev pub LineIsWithinBound : Plan → Line → Type 0
 LineIsWithinBound p l = (l.longest ≤ bound_of p) × (l.answered ≡ 0 → l.longest ≡ 0)
 
--- the report is one history of the plan's scripts from the start
+-- the report is one history of the plan's scripts from the start, with its replies and its last
+-- store; each caller's line agrees with its entries and its ending, and its longest call is within
+-- the step bound
 pub record IsLegal (p : Plan) (s : Start) (r : Report) : Type 0 where
   pub in_order : StandInOrder p s r
   pub open_calls : CountOpenCalls p r

@@ -42,23 +42,23 @@ pub record WantsInstr (before : List (List ℕ)) : Type 0 where
   pub are : before ≡ codes "script" ∷ caller ∷ others
   pub mark : (others ≡ []) ⊎ ((front : List (List ℕ)) × (others ≡ front ++ semicolon_byte ∷ []))
 
--- After these words a number up to `most` comes next. The words are either this name, and `most` is
--- `first`; or the name and its first number, and `most` is `second`.
+-- A number up to `most` comes after these words. The words are either this name, and `most` is
+-- `first`; or the name and its first number, if it has one, and `most` is `second`.
 abbrev pub IsAfterName : (name : List ℕ) (first second : ℕ) (words : List (List ℕ)) (most : ℕ)
     → Type 0
 IsAfterName name first second words most =
     ((words ≡ name ∷ []) × (most ≡ first))
     ⊎ ((x : ℕ) × (words ≡ name ∷ (if first == 0 then [] else decimal x ∷ [])) × (most ≡ second))
 
--- after these words, an instruction's name or the name and a number, a number up to `most` comes
--- next
+-- The words are an instruction's name, or its name and its first number. A number up to `most`
+-- comes after them.
 abbrev pub IsAfterInstr : (words : List (List ℕ)) (most : ℕ) → Type 0
 IsAfterInstr words most =
     (name : List ℕ) × (i : Instr) × (form_named name ≡ Some i)
     × IsAfterName name (first_most i) (second_most i) words most
 
--- after these words of a line a number up to `most` comes next: of a line with numbers alone, the
--- caller of a script, or of an instruction
+-- A number up to `most` comes after these words of a line. It is a number of a line that has only
+-- numbers after its name, the caller of a script, or a number of an instruction.
 abbrev pub WantsNumber : (before : List (List ℕ)) (most : ℕ) → Type 0
 WantsNumber before most =
     ((form : LineForm)

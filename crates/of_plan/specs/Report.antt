@@ -13,13 +13,14 @@ pub record Entry : Type 0 where
   pub announced : Bool
   pub reply : Reply
 
--- all scripts answered, stopped before that, or no sequence left
+-- how a caller ended: with all scripts answered, stopped before that, or with no sequence left
 pub data EndState : Type 0 where
   done : EndState
   stopped : EndState
   spent : EndState
 
--- how a caller ended: its answered calls, its entries, and the steps of its longest answered call
+-- how a caller ended, how many calls of it were answered, how many entries it has, and how many
+-- steps its longest answered call made
 pub record Line : Type 0 where
   pub state : EndState
   pub answered : ℕ
@@ -39,7 +40,7 @@ pub record Start : Type 0 where
   pub seq : ℕ
   pub finished : List ℕ
 
--- nothing is stored and nothing is done
+-- the start with an empty store, sequence 0 and no script done
 abbrev pub empty_start : Plan → Start
 empty_start p = record { store = empty_store p.blocks; seq = 0; finished = replicate p.callers 0 }
 

@@ -18,8 +18,8 @@ use crate::pointing::point_out;
 use crate::reason::Reason;
 use std::alloc::{AllocError, Global};
 
-/// Where a text is no plan, and why: the bad line, counted from 1; the piece of it at fault, from
-/// the byte `start` to before `end`; and the reason.
+/// Where a text is no plan, and why: the bad line, counted from 1; the piece at fault, which is the
+/// bytes of this line from `start` to before `end`, counted from 0; and the reason.
 #[derive(Clone, Copy, Debug, PartialEq, Eq)]
 pub struct BadPiece {
     pub line: u64,

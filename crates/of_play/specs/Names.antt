@@ -1,5 +1,5 @@
--- The names of the words of a plan's table. of_cell and of_mem define the place of each word; here
--- the name for each place is found.
+-- The names of the words of a plan's table. of_cell and of_mem define the index of each word in the
+-- table; here the name for each index is found.
 use Rattle.std.specs.Prelude.{◌≡◌, ℕ, ◌+◌, ◌-◌, ◌*◌, ◌/◌, ◌%◌, ◌<◌, ◌==◌, nat_lt, if◌then◌else◌}
 use Rattle.of_cell.specs.Cells.{log_room, request_cell, data_cell, log_cell, durable_cells, durable_place, script_place, announce_place, members_place, table_words}
 use Rattle.of_mem.specs.declared.work.TheConstants.{MOST_INSTRS}
@@ -33,7 +33,7 @@ shown_cell_number n m (Request i) = request_cell i
 shown_cell_number n m (Data a) = data_cell n a
 shown_cell_number n m (Log i x) = log_cell n m i x
 
--- the place in the table of a word that a trace names
+-- the index in the table of a word that a trace names
 abbrev pub shown_word_place : (n m : ℕ) → ShownWord → ℕ
 shown_word_place n m (Now c) = shown_cell_number n m c
 shown_word_place n m (Durable c) = durable_place n m (shown_cell_number n m c)
@@ -82,7 +82,7 @@ cell_at n m c =
 abbrev pub row_word : (i x : ℕ) → ShownWord
 row_word i x = if x == MOST_INSTRS then Announcement i else Script i x
 
--- the word at the place `w` of the table, if there are `n` callers and `m` data cells
+-- the word with the index `w` in the table, if there are `n` callers and `m` data cells
 abbrev pub word_at_place : (n m w : ℕ) → ShownWord
 word_at_place n m w =
     if nat_lt w (durable_cells n m) then Now (cell_at n m w)
@@ -101,7 +101,7 @@ CellUsesAreNamed = (n a : ℕ) → address_of n (cell_use_at n a) ≡ a
 abbrev pub CellsAreNamed : Type 0
 CellsAreNamed = (n m c : ℕ) → shown_cell_number n m (cell_at n m c) ≡ c
 
--- the name that `word_at_place` finds for a place in a table stands for this place
+-- the name that `word_at_place` finds for the index of a word in a table stands for this index
 abbrev pub WordsAreNamed : Type 0
 WordsAreNamed =
     (n m w : ℕ) → w < table_words n MOST_INSTRS m → shown_word_place n m (word_at_place n m w) ≡ w

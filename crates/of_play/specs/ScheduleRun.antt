@@ -35,7 +35,8 @@ pub record EventsMayFollow (p : Plan) (es : List Event) : Type 0 where
 abbrev pub answers_in : ScheduleRun → ℕ → List Answer
 answers_in s c = slice_index_or (map (λ v. v.items) s.answers.items) c []
 
--- the code's table is the plan's table as these events leave it, and the code has noted all answers
+-- the events may happen one after the other (`EventsMayFollow`), the code's table is the plan's
+-- table as these events leave it, and the code has noted all answers
 pub record StandsAfter (p : Plan) (es : List Event) (s : ScheduleRun) : Type 0 where
   pub follows : EventsMayFollow p es
   pub callers : s.bank.callers ≡ p.callers
@@ -46,7 +47,8 @@ pub record StandsAfter (p : Plan) (es : List Event) (s : ScheduleRun) : Type 0 w
   pub told : (c : ℕ) → c < p.callers
       → AreAnswers (outcomes (plan_setup p) (opening_for p) es c) (answers_in s c)
 
--- the code's table is the plan's table as some events leave it, and the code has noted all answers
+-- the plan is in range, the code's table is the plan's table as some events leave it, and the code
+-- has noted all answers
 pub record IsPlaying (p : Plan) (s : ScheduleRun) : Type 0 where
   pub plan : IsPlan p
   pub events : List Event
@@ -58,7 +60,7 @@ MakesMoves p moves before now =
     (es : List Event) → StandsAfter p es before
     → StandsAfter p (es ++ events_from p (moment_after p es) moves) now
 
--- the code has made `made` turns of the caller in a row, at most `most`
+-- the code has made `made` turns of the caller, one after the other, and at most `most`
 pub record MakesTurnsInRow (p : Plan) (c most made : ℕ) (before now : ScheduleRun) : Type 0 where
   pub few : made ≤ most
   pub moves : MakesMoves p (turns_by c made) before now

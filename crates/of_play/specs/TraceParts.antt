@@ -97,7 +97,7 @@ request_part v =
     else if payload_of v == 0 then codes "; open"
     else codes "; closed"
 
--- what is printed of a word of a log: those at odd places hold the address of a data cell
+-- what is printed of a word of a log: those with odd numbers hold the address of a data cell
 abbrev pub log_part : (n at x : ℕ) → List ℕ
 log_part n at x = if at % 2 == 1 then codes "; " ++ cell_use_text (cell_use_at n x) else []
 

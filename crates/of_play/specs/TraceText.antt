@@ -97,7 +97,7 @@ abbrev pub named_change : (n : ℕ) → ShownWord → (found left : ℕ) → Lis
 named_change n w found left =
     word_text n w ++ codes ": " ++ word_value_text w found ++ codes " -> " ++ word_value_text w left
 
--- the word at this place of a plan's table
+-- the word with this index in a plan's table
 abbrev pub plan_word : Plan → (place : ℕ) → ShownWord
 plan_word p w = word_at_place p.callers (data_cells p.callers p.blocks) w
 

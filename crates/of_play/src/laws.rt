@@ -17,9 +17,9 @@ pub fn plans_have_schedules(plan: &Plan)
     plan_keeps_laws(plan);
 }
 
-/// In a trace no two data cells, no two cells and no two words of a table have the same name. A
-/// trace finds a name for each address, cell number and place, and this name stands for the same
-/// address, number or place again.
+/// A trace finds a name for the address of each data cell, for the number of each cell, and for the
+/// index of each word of a table. The name is of just this address, number or index. So no two data
+/// cells, no two cells and no two words have the same name.
 pub fn words_are_named()
     ensures uses { CellUsesAreNamed }
     ensures cells { CellsAreNamed }

@@ -178,7 +178,7 @@ impl ShownWord {
         }
     }
 
-    /// The word at this place of the table.
+    /// The word with this index in the table.
     pub fn at(shape: &Shape, place: u32) -> ShownWord
         requires { shape.now.instrs ≡ MOST_INSTRS }
         ensures { result ≡ word_at_place shape.now.callers shape.now.cells place }

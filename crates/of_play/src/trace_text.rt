@@ -14,7 +14,7 @@ use std::fmt::Write;
 /// What a step or an eviction has done to a word of the table.
 #[derive(Clone, Copy)]
 pub struct Change {
-    /// The place of the word in the table.
+    /// The index of the word in the table.
     pub word: u32,
     /// The value that was found in the word.
     pub found: u64,

@@ -11,8 +11,9 @@ use Rattle.of_mem.specs.Stores.{queue_chain, CellStore}
 use Rattle.of_mem.specs.Calls.{PlotStandsForStore}
 use Rattle.of_alloc.specs.Blocks.{HasOut}
 
--- block b is one of the plot's, so it can be put at the end of queue q; the count of items can grow
--- by 1 and still fit into a cell
+-- q is the number of a queue, and block b is one of the plot's. If they are known, the pointer to
+-- the last block of queue q is at most the number of blocks, and the count of its items can grow by
+-- 1 and still fit into a cell.
 pub record CanAppend (plot : Plot) (p : Part) (q b : ℕ) : Type 0 where
   pub fits : length p.known ≡ data_cell_count plot
   pub queue : q < QUEUES
@@ -20,7 +21,7 @@ pub record CanAppend (plot : Plot) (p : Part) (q b : ℕ) : Type 0 where
   pub tail : (t : ℕ) → newest_at p (tail_at (base plot) q) ≡ Some t → t ≤ plot.blocks
   pub items : (n : ℕ) → newest_at p (length_at (base plot) q) ≡ Some n → FitsCell (n + 1)
 
--- the count of items of queue q is at least 1, so 1 can be taken off
+-- the count of items of queue q, if it is known, is at least 1, so 1 can be taken off
 pub record CanCount (plot : Plot) (p : Part) (q : ℕ) : Type 0 where
   pub fits : length p.known ≡ data_cell_count plot
   pub queue : q < QUEUES

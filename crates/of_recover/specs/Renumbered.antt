@@ -17,8 +17,8 @@ unfoldable pub renumbered_words : (callers cells : ℕ) → List ℕ → List �
 renumbered_words callers cells words =
     map (renumbered_word callers cells (slice_index words)) (range_with_len 0 (length words))
 
--- On the row `new` no transaction has happened yet, and its data cells have the numbers that they
--- have in `old`.
+-- The row `new` has the numbers that the data cells have in `old`, with sequence 0, and 0 in all
+-- other cells. Recovery changes nothing in it.
 pub record BeginsAnew (callers cells : ℕ) (old new : List ℕ) : Type 0 where
   pub size : IsDurableRow callers cells new
   pub seq : current_seq (slice_index new) ≡ 0
@@ -38,9 +38,9 @@ renumbering_writes callers cells words =
     map (λ j. (last - j, renumbered_word callers cells (slice_index words) (last - j)))
     (range_with_len 0 (length words))
 
--- What is true of the row `new` if a renumbering of `old` has stopped after some of its writes: the
--- data cells have the same numbers in both rows, and if a table may start from `old`, it may start
--- from `new`.
+-- What is true of the row `new` if a renumbering of `old` has stopped after some of its writes. Its
+-- data cells have the numbers that they have in `old`, and recovery changes nothing in it. A second
+-- renumbering leaves the same row as one that has not stopped.
 pub record BeginsAnewPartly (callers cells : ℕ) (old new : List ℕ) : Type 0 where
   pub size : IsDurableRow callers cells new
   -- a recovery of the row changes nothing

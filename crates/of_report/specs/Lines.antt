@@ -1,4 +1,4 @@
--- How a caller ended, in the form that contracts see.
+-- How a caller ended: the form that contracts see for the form that the code has, and back.
 use Rattle.std.specs.Prelude.{◌≡◌, refl}
 use Rattle.of_plan.specs.Report.{EndState as End, done, stopped, spent}
 use Rattle.of_report.specs.declared.report.EndState.{EndState}

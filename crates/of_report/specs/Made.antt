@@ -39,7 +39,7 @@ TellsOwnEntries f e c first told =
     (p : Plan) (s : Start) (own : List plain.Entry) → HasFound p e f → finished_of s c ≡ first
     → OwnEntries p s e c own → map entry_value told ≡ own
 
--- ---- those of all callers, if `done` says how many scripts of each are done at the start
+-- ---- all callers; `done` says how many scripts of each are done at the start
 
 -- `told` are the entries of all callers, one caller after the other
 abbrev pub TellsAllEntries : Plan → (done : List ℕ) → Ended → List Entry → Type 0

@@ -37,8 +37,9 @@ pub record HasWholePast (S : Setup) (B : TableStart) (v : View) : Type 0 where
   pub evicts : v.evicted ≡ (moment S B v.past).loaded
   pub raised : Each (IsRaised S (moment S B v.past).words) v.evicted
 
--- The view v has learnt of all events of the row, and is w now. The row's words meet the rule with
--- v. Apart from the members word, the words are those that the events in the past of w leave.
+-- The view v has learnt of all events of the row, and is w now; its past is whole (`HasWholePast`).
+-- The row's words meet the rule with v. Apart from the members word, the words are those that the
+-- events in the past of w leave.
 pub record LearnsAll (S : Setup) (Lawful : List ℕ → Type 0) (B : TableStart) (v w : View)
     : Type 0 where
   pub learnt : HasLongerPast v w
@@ -48,7 +49,7 @@ pub record LearnsAll (S : Setup) (Lawful : List ℕ → Type 0) (B : TableStart)
   pub own : (c : ℕ) → c < words_before_members S
       → get_or words c 0 ≡ get_or (moment S B w.past).words c 0
 
--- `word` is the word at the place c of the table at the moment that the view's past leaves
+-- `word` is the word with the index c of the table at the moment that the view's past leaves
 abbrev pub IsWordOfPast : Setup → TableStart → View → (c word : ℕ) → Type 0
 IsWordOfPast S B v c word = word ≡ get_or (moment S B v.past).words c 0
 

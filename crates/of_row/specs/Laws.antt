@@ -25,9 +25,9 @@ SeesWholeHistory Lawful S =
     (B : TableStart) (ws : List ℕ) (v : View) (m : ViewMeetsRule S Lawful B ws v)
     → v.spent ≡ false → KeepsAll S ws v → v.seen ≡ map seen_batch (moment S B m.rule.events).batches
 
--- What a view has seen agrees with each caller that the view keeps. In the batches that it has
--- seen, each call with this caller's number is one that the caller has begun. These batches also
--- show the outcome of each ended call of the caller.
+-- What a view that isn't spent has seen agrees with each caller that the view keeps (`KeepsOwn`).
+-- In the batches that it has seen, each call with this caller's number is one that the caller has
+-- begun. These batches also show the outcome of each ended call of the caller.
 abbrev pub SeesOwnCalls : (List ℕ → Type 0) → Setup → Type 0
 SeesOwnCalls Lawful S =
     (B : TableStart) (ws : List ℕ) (v : View) → ViewMeetsRule S Lawful B ws v

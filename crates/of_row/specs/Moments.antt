@@ -16,9 +16,8 @@ use Rattle.of_row.specs.Rule.{IsRaised, MeetsRule, ViewMeetsRule, EachFree}
 use Rattle.of_row.specs.Rule.{ticket_at, ended_operation_at, outcome_at}
 use Rattle.of_row.specs.Trail.{first_of, moment, HasPast, IsRunBy, HasDoneNothing, EachView}
 
--- The events lead from the row's start to this moment. A step of a member is a turn of its caller;
--- a call begins right before its first turn; an eviction is a load and, later, a raise. No machine
--- is replaced.
+-- The events lead from the row's start to this moment, and replace no machine. Each view that isn't
+-- spent agrees with them.
 pub record IsReachedBy (S : Setup) (B : TableStart) (s : State (Unit {0}) View) (es : List Event)
     : Type 0 where
   pub schedule : IsSchedule S (first_of S B) es

@@ -23,7 +23,7 @@ enrolled_caller meaning r n p =
     new_known_caller (setup_at meaning r) (row_start meaning r) n
     (seen_seq (row_start meaning r) (view_of_pass p).seen)
 
--- the pass is the row's first one, and has made no step yet
+-- the pass is the row's first one, and its view is `first_view`
 abbrev pub IsFirst : {W : Type 0} → Row W → Pass → Type 0
 IsFirst r p = IsRowPass r p × (view_of_pass p ≡ first_view)
 
@@ -35,7 +35,8 @@ NumberIsRefused r n before now taken =
     × (view_of_pass now ≡ after_ask n taken.members (view_of_pass before))
 
 -- The number n was free in the members word that was found, and `member` has it now. The member has
--- seen what the pass has seen, and has made no call on this row.
+-- seen what the pass has seen, which is a legal history, and has made no call on this row. The pass
+-- lists the try.
 pub record HasEnrolled {W : Type 0} (meaning : W → Meaning) (r : Row W) (n : ℕ) (before : Pass)
     (member : Member) (now : Pass) : Type 0 where
   pub at_row : IsRowMember r member × IsRowPass r now

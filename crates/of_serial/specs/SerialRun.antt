@@ -39,7 +39,8 @@ RunsScript script before now reply =
     (s : Store) → CellsHoldStore before s
     → CellsHoldStore now (run s script).0 × (reply_value_of reply ≡ (run s script).1)
 
--- the code's run has the entries, the sequence and the store of the serial run `h`
+-- the code's run has the entries, the sequence and the store of the serial run `h`, and each reply
+-- of its entries is whole
 pub record HasComeTo (r : RustSerialRun) (h : SerialRun) : Type 0 where
   pub entries : map entry_value r.entries.items ≡ h.entries
   pub whole : All HasWholeReply r.entries.items

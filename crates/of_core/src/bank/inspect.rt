@@ -61,7 +61,7 @@ impl<W: Work> Bank<W> {
         self.machines[caller as usize].calls()
     }
 
-    /// The word of the table at the index `place`.
+    /// The word of the table with the index `place`.
     pub fn word(&self, place: u32) -> u64
         requires { place < table_word_count (bank_setup W.meaning self.now) }
         ensures { result ≡ get_or self.now.words place 0 }

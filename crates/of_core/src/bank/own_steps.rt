@@ -1,4 +1,4 @@
-//! Steps of one machine in a row, on words that are its own for that while.
+//! Steps of one machine, one after the other, on words that are its own for that while.
 
 ghost use Rattle.std.specs.Prelude.{◌≡◌, ◌<◌, ◌≤◌, length};
 ghost use Rattle.of_core.specs.Table.{words_before_members};

@@ -98,8 +98,8 @@ pub fn put_copy(log: &mut WriteSet, copy: &[u32], helper: u32)
     }
 }
 
-/// Of the `many` places from `from` on, the first that a reply's shape marks; None if the shape
-/// marks none of them.
+/// Of the `many` numbers of a reply from number `from` on, the first that the reply's shape marks;
+/// None if the shape marks none of them.
 #[tactic(auto, unfolding(of_mem::specs::Meaning::is_marked))]
 pub fn first_mark(shape: u32, from: u32, many: u32) -> Option<u32>
     requires { from + many ≤ MOST_INSTRS }
@@ -114,7 +114,7 @@ pub fn first_mark(shape: u32, from: u32, many: u32) -> Option<u32>
     None
 }
 
-/// Makes `list`, which has room for them, the list of these words.
+/// Replaces what `list` holds by these words, for which `list` has room.
 pub fn set_words(list: &mut Vec<u64>, words: &[u64])
     requires { length words.now ≤ vec_capacity list.old }
     ensures words { list.new.items ≡ words.now }
