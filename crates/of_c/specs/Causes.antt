@@ -1,4 +1,4 @@
--- Which code a call from C answers, and why. Any call may run out of memory.
+-- Which code a call from C answers, and why. A call that allocates may run out of memory.
 use Rattle.std.specs.Prelude.{◌≡◌, ◌≢◌, ◌⊎◌, ℕ, ◌<◌, ◌≤◌, List, [], ◌∷◌, Option, Some, None, length}
 use Rattle.std.proofs.Common.{get_or}
 use Rattle.of_cell.specs.declared.word.TheConstants.{GREATEST_LIMIT}
@@ -70,8 +70,8 @@ HasNoNumber n m = callers_of m ≤ n
 abbrev pub IsEnrolled : ℕ → TheMemory → Type 0
 IsEnrolled n m = get_or m.cells.callers.items n None ≡ None
 
--- the memory is still the same: it has the callers in it that it had, and knows of every number
--- what it knew
+-- the memory is still the same: it has the same callers in it, knows of each number exactly the
+-- ended calls and the open call that it knew, and forgets no ended call and no order of calls
 pub record KnowsAll (m k : TheMemory) : Type 0 where
   pub still : IsStill m k
   pub none : TakesNone m k

@@ -28,8 +28,9 @@ pub record HasText (held : Option Held) (P : List ℕ → Type 0) : Type 0 where
   pub holds : TextHolds text left
   pub so : P text
 
--- What the text holds is held, with the greatest limit. If the text is an image of something that a
--- memory has left, then what is held has the same durable words.
+-- The slot now holds a saved memory, with the greatest limit, of which the text is an image. If the
+-- text is also an image of something that a memory has saved, both have the same durable words,
+-- store, tickets and last replies.
 pub record HoldsRead (text : List ℕ) (now : Option Held) : Type 0 where
   pub left : Saved
   pub is : HoldsSaved now left

@@ -9,7 +9,7 @@ use of_script::MOST_INSTRS;
 const EARLIER_INSTRS: u32 = 8;
 
 /// A version of the text of images. It says how many instructions scripts have at most, and so how
-/// large a caller's own cells are.
+/// many own cells each caller has.
 #[derive(Clone, Copy, Debug, PartialEq, Eq)]
 pub enum Version {
     /// Scripts have at most eight instructions.

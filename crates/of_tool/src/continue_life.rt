@@ -50,7 +50,7 @@ fn run_life<R: Threads + Sync>(
     Ok((text, (ended, pass)))
 }
 
-/// The text that `continue` prints, and what the life has left.
+/// The text that `continue` prints, and the life's record with the pass of its team.
 pub(crate) fn continue_text<R: Threads + Sync>(
     rt: &R,
     alloc: Global,
