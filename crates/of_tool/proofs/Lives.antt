@@ -8,6 +8,7 @@ use Rattle.of_report.specs.ReportText.{TextTellsReport}
 use Rattle.of_report.specs.Image.{Image, start_of_image, image_ticket}
 use Rattle.of_lives.specs.Images.{PlanFitsImage}
 use Rattle.of_image.specs.declared.version.Version.TheVariants.{Two}
+use Rattle.of_image.specs.Grammar.{plan_grammar}
 use Rattle.of_image.specs.ImageText.{image_text}
 use Rattle.of_image.specs.PrintedAgain.{PrintsAgain}
 use Rattle.of_image.specs.Parsed.{UnlawfulHaveNone}
@@ -40,7 +41,7 @@ broken p s r i Store b e = b.2 e.store
 -- a text that is printed again otherwise is not the printed one
 pub otherwise : (text again : List ℕ) → PrintsAgain text again → again ≢ text → IsPrinted text → ⊥
 otherwise text again prints other printed =
-    other (prints.is ∙ ap (image_text Two) (one_row Two text prints.row printed.row prints.spelled printed.spelled) ∙ sym printed.is)
+    other (prints.is ∙ ap (image_text Two) (one_row (plan_grammar Two) text prints.row printed.row prints.spelled printed.spelled) ∙ sym printed.is)
 
 module _ (i : Image) (p : Plan) (told left : List ℕ) (life : IsLegalLife i p told left) where
   in_range : life.report.seq ≤ 4294967295
@@ -65,7 +66,7 @@ module _ (i : Image) (p : Plan) (told left : List ℕ) (life : IsLegalLife i p t
       → (r : Report) → IsTextOf p (start_of_image i) told r → (next : Image) → IsLeft left next → (rule : LeftRule) → BreaksLeft p (start_of_image i) r next rule → ⊥
   ends_not_elsewhere one plan low r is next reads rule b =
       let report : life.report ≡ r = one p (start_of_image i) life.report r plan low life.legal is.legal (sym life.text_is ∙ is.is) in
-      let image : life.next ≡ next = one_image Two left life.next next life.left_is.reads reads.reads in
+      let image : life.next ≡ next = one_image (plan_grammar Two) left life.next next life.left_is.reads reads.reads in
       broken p (start_of_image i) r next rule b (subst (λ (x : Report). EndsAt p (start_of_image i) x next) report (subst (λ (y : Image). EndsAt p (start_of_image i) life.report y) image life.ends))
 
 -- as many scripts are done at the start as the plan has callers

@@ -1,4 +1,8 @@
-use Rattle.std.proofs.Common.{sym, ◌∙◌}
+use Rattle.std.proofs.Common.{sym, subst, ◌∙◌}
+use Rattle.of_image.specs.declared.version.Version.TheVariants.{Two}
+use Rattle.of_image.specs.ImageText.{IsImageText}
+use Rattle.of_image.specs.Parsed.{ImageIsRefused}
+use Rattle.of_plan.specs.BadLine.{HasBadLine}
 use Rattle.of_check.proofs.Verdicts.{differs, same_bytes}
 use Rattle.of_tool.proofs.Lives.{otherwise}
 use Rattle.of_tool.proofs.legal_life.read_left.Goals as goal
@@ -16,3 +20,8 @@ returns-clause-read c =
       printed = record { row = prints.row; spelled = prints.spelled; is = sym same ∙ c.as_slice.ensures.value ∙ prints.is };
       reads = c.in-Ok.ensures.ok;
     }
+
+pub returns-in-Err-Bad-clause-read : goal.returns-in-Err-Bad-clause-read
+returns-in-Err-Bad-clause-read c =
+    let refused = subst (ImageIsRefused Two c.args.text.now) c.in-Err-Bad.field-0-is c.in-Err-Bad.ensures.err in
+    subst (HasBadLine (IsImageText Two) c.args.text.now) (sym c.in-Err-Bad.line-is) refused
