@@ -1,7 +1,7 @@
 -- What a call from C answers: a code, and a reply that shows the call's result.
 use Rattle.std.specs.Prelude.{◌≡◌, ◌≢◌, ℕ, ◌==◌, if◌then◌else◌, List, map, Option, Some, None, Result, Ok, Err}
 use Rattle.of_script.specs.declared.instr.Instr.{Instr}
-use Rattle.of_script.specs.Language.{IsScript, instr_word}
+use Rattle.of_script.specs.Language.{IsScript, HoldsOfScript, instr_word}
 use Rattle.of_script.specs.Text.{SpellsScript}
 use Rattle.of_plan.specs.declared.answer.Answer.{Answer}
 use Rattle.of_memory.specs.declared.handle.Handle.{Handle}
@@ -135,8 +135,8 @@ CallsSlot Does o (Some before) now reply code = CallsSome Does o before now repl
 abbrev pub CallsWords : List ℕ → (stop : Option ℕ) → (before now : Option Held) → CReply
     → (code : ℕ) → Type 0
 CallsWords words stop before now reply code =
-    (script : List Instr) → IsScript script → map instr_word script ≡ words
-    → CallsSlot (CallsScript script stop) CALL_OPEN before now reply code
+    HoldsOfScript words
+    (λ script. CallsSlot (CallsScript script stop) CALL_OPEN before now reply code)
 
 -- no script has these words
 abbrev pub AreNoScript : List ℕ → Type 0

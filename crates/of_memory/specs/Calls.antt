@@ -4,7 +4,7 @@ use Rattle.std.specs.List.{All}
 use Rattle.of_mem.specs.declared.work.RawReply.{RawReply}
 use Rattle.of_script.specs.declared.instr.Instr.{Instr}
 use Rattle.of_script.specs.declared.instr.Reply.{Reply as RustReply}
-use Rattle.of_script.specs.Language.{IsScript, instr_word}
+use Rattle.of_script.specs.Language.{AreOfScript, IsScript, instr_word}
 use Rattle.of_store.specs.Store.{Reply}
 use Rattle.of_store.specs.Replies.{reply_value_of}
 use Rattle.of_eval.specs.Shapes.{IsHeldBy}
@@ -16,7 +16,7 @@ use Rattle.of_memory.specs.History.{End, Replied, Spent, Made}
 
 -- the words are those of a script
 abbrev pub IsScriptOperation : List ℕ → Type 0
-IsScriptOperation op = (script : List Instr) × IsScript script × (op ≡ map instr_word script)
+IsScriptOperation op = AreOfScript op
 
 -- the raw reply holds a reply of the code that stands for this reply
 abbrev pub HoldsResponse : RawReply → Reply → Type 0
