@@ -67,7 +67,7 @@ module _ {S : Setup} {Lawful : List ℕ → Type 0} {B : TableStart} where
     level : durable_request S ws j ≡ request_of ws j
     level = may.durable
 
-    stays : request_of vs j ≡ request_of ws j
+    pub stays : request_of vs j ≡ request_of ws j
     stays = go (v.requests j member other)
       where
         go : (request_of vs j ≡ request_of ws j) ⊎ ((B.seq < committed_seq ws) × ((batch_at B bs (committed_seq ws)).owner ≡ j) × (request_of ws j ≡ pack (committed_seq ws) 0) × (request_of vs j ≡ pack (committed_seq ws) 1)) → request_of vs j ≡ request_of ws j

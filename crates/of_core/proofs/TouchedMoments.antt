@@ -1,6 +1,6 @@
 -- If operations touch few cells, no call makes more steps than the bound by that, in each schedule
 -- from a start.
-use Rattle.std.proofs.Common.{◌≡◌, ◌⊎◌, inl, inr, ℕ, ◌+◌, ◌*◌, ◌-◌, ◌<◌, ◌≤◌, List, [], ◌∷◌, length, get_or, set, take, max, refl, sym, ◌∙◌, ap, subst, arith, Bool, true, false}
+use Rattle.std.proofs.Common.{◌≡◌, ◌⊎◌, inl, inr, ℕ, ◌+◌, ◌*◌, ◌-◌, ◌<◌, ◌≤◌, List, [], ◌∷◌, length, get_or, take, max, refl, sym, ◌∙◌, ap, subst, arith, Bool, true, false}
 use Rattle.std.proofs.lemmas.Bool.{cases_eq}
 use Rattle.std.proofs.lemmas.List.{get_or-set_same, get_or-set_other}
 use Rattle.of_cell.specs.declared.word.TheConstants.{PAYLOADS}
@@ -20,7 +20,7 @@ use Rattle.of_core.specs.declared.remains.Remains.{Remains}
 use Rattle.of_core.specs.Remains.{remains_of, announces_open_call, revived_if, revived_machine}
 use Rattle.of_core.proofs.Revived.{said_front, said_length}
 use Rattle.of_core.specs.Events.{Event, Begins, Turns, Loads, Evicts, Raises, Revives, after_event, after_raise, MayHappen, machine_in, after_events, IsSchedule, opening_moment, start_ticket}
-use Rattle.of_core.specs.Footprint.{Touches, HasFootprint, footprint, try_steps, round_steps, apply_steps}
+use Rattle.of_core.specs.Footprint.{Touches, HasFootprint, try_steps, round_steps, apply_steps}
 use Rattle.of_core.specs.Touched.{longest_log, most_loads, most_tries, IsWithinTouched, TouchedBoundOfWrites, TouchedBoundOfTransfers}
 use Rattle.of_core.proofs.Stability.{log_in}
 use Rattle.of_core.proofs.Found.{found_now, stepped_is}

@@ -2,12 +2,14 @@
 use Rattle.std.specs.Prelude.{ℕ, List, true, false, ◌≡◌, ◌≤◌, ◌<◌}
 use Rattle.std.specs.List.{All}
 use Rattle.of_cell.specs.Words.{seq_of}
-use Rattle.of_core.specs.Table.{Setup, announcement_of, committed_seq}
+use Rattle.of_core.specs.Table.{Setup, request_of, announcement_of, committed_seq}
 use Rattle.of_core.specs.Machine.{CallState}
 use Rattle.of_core.specs.TableMoment.{Moment, TableStart, Read, after_step}
 use Rattle.of_core.specs.History.{last_ticket_by}
 use Rattle.of_core.specs.WordsMatch.{IsLastOpen}
 use Rattle.of_core.specs.Order.{IsOlder}
+use Rattle.of_core.specs.Facts.{ReadsFrom, rests_on_seq}
+use Rattle.of_core.specs.declared.remains.Remains.{Remains}
 use Rattle.of_core.specs.Invariant.{MeetsInvariant, MeetsCore}
 use Rattle.of_core.specs.Events.{after_raise, machine_in}
 use Rattle.of_core.specs.Laws.{EachStep, EachLoaded, KeepsOthersCalls}
@@ -29,6 +31,12 @@ HasOlderReads w i d = All (λ (r : Read). r.caller ≡ i → IsOlder d d.place r
 -- the new machine's number of calls is large enough for the caller's answered reads
 abbrev pub CountsReads : Setup → Moment → (i made : ℕ) → Type 0
 CountsReads S w i made = HasOlderReads w i (revived_machine S (remains_of S w.words i) i made)
+
+-- a new machine works at no sequence yet, and no try of it has read a state
+abbrev pub RevivedRestOnNothing : Setup → Type 0
+RevivedRestOnNothing S = (r : Remains) (i made : ℕ) →
+    let d : CallState = revived_machine S r i made in
+    (rests_on_seq d ≡ 0) × ((low : ℕ) → ReadsFrom low d)
 
 -- a new machine keeps what the invariant says of words, history and machines, whatever number of
 -- calls it is given
@@ -79,6 +87,13 @@ abbrev pub StepsLeaveRevivable : Setup → (List ℕ → Type 0) → Type 0
 StepsLeaveRevivable S Lawful = EachStep S Lawful (λ B w j m n.
     (i : ℕ) → i < S.callers → (i ≡ j → ⊥) → MayRevive (remains_of S w.words i) i
     → MayRevive (remains_of S (after_step S j m n w).words i) i)
+
+-- if the machine of a caller may be replaced, a step of another caller leaves the caller's request
+-- as it is
+abbrev pub StepsKeepRequest : Setup → (List ℕ → Type 0) → Type 0
+StepsKeepRequest S Lawful = EachStep S Lawful (λ B w j m n.
+    (i : ℕ) → i < S.callers → (i ≡ j → ⊥) → MayRevive (remains_of S w.words i) i
+    → request_of (after_step S j m n w).words i ≡ request_of w.words i)
 
 -- if the machine of a caller may be replaced, it may still be replaced after an eviction raises a
 -- word that was loaded before

@@ -16,7 +16,7 @@ ghost use Rattle.of_core.specs.Written.{LogsAreWrites, OwnersTakePart, CellsRise
 ghost use Rattle.of_core.specs.Needed.{LoadsNeeded, CopiesOpenLogs};
 ghost use Rattle.of_core.specs.SpentRound.{SpentInRounds};
 ghost use Rattle.of_core.specs.Grounds.{GoodGrounds};
-ghost use Rattle.of_core.specs.Revived.{RevivalsKeepCore, RevivalsKeepInvariant, OpenCallsCountReads, RevivalsCountOn, RevivalsMissNoCall, RevivalsKeepOthers, StepsLeaveRevivable, RaisesLeaveRevivable};
+ghost use Rattle.of_core.specs.Revived.{RevivalsKeepCore, RevivalsKeepInvariant, OpenCallsCountReads, RevivalsCountOn, RevivalsMissNoCall, RevivedRestOnNothing, RevivalsKeepOthers, StepsLeaveRevivable, StepsKeepRequest, RaisesLeaveRevivable};
 ghost use Rattle.of_core.specs.Raised.{RaisesHeld, RaisesAreShort, EvictionsAreShort, CellsLevel};
 ghost use Rattle.of_core.specs.Raised.{RaisesUndisturbed, EvictionsUndisturbed, RaisesStand};
 ghost use Rattle.of_core.specs.Laws.{FirstWordsHoldStart, FirstMachinesAreIdle, ZerosMayStart};
@@ -68,8 +68,9 @@ pub fn step_kept<W: Work>(limit: u32, work: W)
 /// no transaction that isn't committed, the caller has no open transaction, and the durable word of
 /// its request is the request's word. The invariant holds after this, if the new machine's number
 /// of calls counts all reads that its caller was answered. Below the limit, a new machine that goes
-/// on with the announced call has such a number. No other caller's calls change. Once a machine may
-/// be replaced, this stays so until its caller makes a step.
+/// on with the announced call has such a number. A new machine works at no sequence yet. No other
+/// caller's calls change. Once a machine may be replaced, this stays so until its caller makes a
+/// step, and no other caller changes its request.
 pub fn taken_over_stands<W: Work>(limit: u32, work: W)
     ensures core { RevivalsKeepCore
         (setup_for W.many W.size W.meaning limit work) (W.lawful work) }
@@ -79,11 +80,14 @@ pub fn taken_over_stands<W: Work>(limit: u32, work: W)
         (setup_for W.many W.size W.meaning limit work) (W.lawful work) }
     ensures counted { RevivalsCountOn
         (setup_for W.many W.size W.meaning limit work) (W.lawful work) }
+    ensures rests { RevivedRestOnNothing (setup_for W.many W.size W.meaning limit work) }
     ensures ran { RevivalsMissNoCall
         (setup_for W.many W.size W.meaning limit work) (W.lawful work) }
     ensures others { RevivalsKeepOthers
         (setup_for W.many W.size W.meaning limit work) (W.lawful work) }
     ensures steps { StepsLeaveRevivable
+        (setup_for W.many W.size W.meaning limit work) (W.lawful work) }
+    ensures request { StepsKeepRequest
         (setup_for W.many W.size W.meaning limit work) (W.lawful work) }
     ensures raises { RaisesLeaveRevivable
         (setup_for W.many W.size W.meaning limit work) (W.lawful work) }

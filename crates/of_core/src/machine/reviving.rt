@@ -36,7 +36,6 @@ impl<W: Work> Machine<W> {
         requires caller { caller < shape.callers }
         requires limit { limit ≤ GREATEST_LIMIT }
         requires may { MayRevive remains.now caller }
-        requires words { payload_of remains.now.announcement ≤ MOST_INSTRS }
         ensures work { IfOk result (λ m. m.work ≡ work) }
         ensures callers { IfOk result (λ m. m.callers ≡ shape.callers) }
         ensures cells { IfOk result (λ m. m.cells ≡ shape.cells) }
@@ -57,7 +56,6 @@ impl<W: Work> Machine<W> {
     /// Goes on with the announced call, at the beginning of a round.
     fn go_on(&mut self, remains: &Remains)
         requires idle { self.old.call.place ≡ Place.Idle }
-        requires words { payload_of remains.now.announcement ≤ MOST_INSTRS }
         ensures { self.new ≡ record self.old {
           call = record self.old.call {
             op = take (payload_of remains.now.announcement) remains.now.script;
@@ -66,9 +64,10 @@ impl<W: Work> Machine<W> {
           };
         } }
     {
-        let words = payload_of(remains.announcement) as usize;
+        let words = payload_of(remains.announcement);
+        let there = (words as usize).min(MOST_INSTRS);
         self.op.clear();
-        match self.op.extend_from_slice(&remains.script[..words]) {
+        match self.op.extend_from_slice(&remains.script[..there]) {
             Ok(()) => {}
             // there is room for the words of every operation
             Err(_) => unreachable!(),

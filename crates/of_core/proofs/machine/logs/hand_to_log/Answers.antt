@@ -1,4 +1,4 @@
-use Rattle.std.proofs.Common.{◌≡◌, ◌<◌, ℕ, List, length, get_or, ◌∙◌, ap, sym, refl, arith}
+use Rattle.std.proofs.Common.{◌≡◌, ◌<◌, ℕ, List, length, get_or, ◌∙◌, ap, sym, arith}
 use Rattle.of_mem.specs.Part.{Part}
 use Rattle.of_mem.specs.WriteSet.{WriteSet}
 use Rattle.of_mem.specs.CellMap.{put_pair}
