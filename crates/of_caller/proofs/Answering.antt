@@ -12,6 +12,7 @@ use Rattle.of_core.specs.Machine.{IsOpen}
 use Rattle.of_core.specs.Turn.{IsIdle}
 use Rattle.of_core.specs.Calls.{NoneSpent}
 use Rattle.of_row.specs.Views.{EndedCall, KnownCaller}
+use Rattle.of_row.specs.Runs.{HasNoLoss}
 use Rattle.of_caller.specs.Tables.{operation_of}
 use Rattle.of_caller.specs.Ends.{AreAnswers, TellsAnswer}
 use Rattle.of_caller.specs.Teams.{script_operation_at, KeepsCaller}
@@ -60,6 +61,7 @@ module _ (p : Plan) (behind c : ℕ) where
       ended = sym (append-nil x.ended);
       answered = g.answered;
       last = (omega (arith, first, all, g.count), g.idle, refl);
+      unlost = g.unlost;
     }
 
     -- the brake denied the first step of the next call
@@ -74,9 +76,10 @@ module _ (p : Plan) (behind c : ℕ) where
         record { some = omega arith; within = omega arith; at_once = λ one. g.idle; open_call = λ more. absurd (omega (arith, more)) },
         refl,
       );
+      unlost = g.unlost;
     }
 
-    module _ (less : i < rest) (y : KnownCaller) where
+    module _ (less : i < rest) (y : KnownCaller) (unlost : HasNoLoss y) where
       -- one script more is answered
       pub is_answered : (k : ℕ) (announced : Bool) (raw : RawReply) (steps : ℕ) (a : Answer) → IsIdle y.machine → y.ended ≡ x.ended ++ record { op = script_operation_at p c (behind + i); outcome = Answered k announced raw steps } ∷ [] → TellsAnswer (Answered k announced raw steps) a
           → HasAnsweredScripts p behind c y (answers ++ a ∷ []) (i + 1)
@@ -95,6 +98,7 @@ module _ (p : Plan) (behind c : ℕ) where
               told = subst (λ (os : List Outcome). AreAnswers os (answers ++ a ∷ [])) (sym outs) (told_more (map (λ (f : EndedCall). f.outcome) x.ended) answers k announced raw steps a g.answered.none_spent g.answered.told tells);
             };
             count = count;
+            unlost = unlost;
           }
 
       -- the next call is open, and the brake denied its next step
@@ -114,6 +118,7 @@ module _ (p : Plan) (behind c : ℕ) where
           },
           refl,
         );
+        unlost = unlost;
       }
 
       -- no sequence was left for the next call
@@ -124,4 +129,5 @@ module _ (p : Plan) (behind c : ℕ) where
         ended = kept;
         answered = g.answered;
         last = (omega (arith, less, g.count), idle, ap (λ (op : List ℕ). record { op = op; outcome = Spent k } ∷ []) next_is);
+        unlost = unlost;
       }

@@ -34,7 +34,7 @@ ended_low : (S : Setup) (B : TableStart) (bs : List Batch) (r i t : ℕ) (op : L
 ended_low S B bs r i t op (Answered s true raw steps) h = h.1
 ended_low S B bs r i t op (Answered s false raw steps) h = h.1
 ended_low S B bs r i t op (Spent s) h = h.1
-ended_low S B bs r i t op (Lost s) h = absurd h
+ended_low S B bs r i t op (Lost s) h = h.1
 
 higher : (low high : ℕ) (o : Outcome) → low ≤ high → IsNotBefore high o → IsNotBefore low o
 higher low high (Answered s true raw steps) l h = omega arith

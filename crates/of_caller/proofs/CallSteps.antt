@@ -33,6 +33,7 @@ pub record Progress (S : Setup) (L : List ℕ → Type 0) (B : TableStart) (m : 
   pub none : n ≡ 0 → (w ≡ v) × (d ≡ m)
   pub some : 0 < n → TellsStepsMade S B d w kept
   pub turns : kept.turns ≡ before.turns + n
+  pub losses : kept.losses ≡ before.losses
   pub looks : w.looks ≡ v.looks
   pub since : 0 < n → kept.since ≡ since_after B v before
   pub behind : 0 < n → length (operations_begun v.past m.caller) ≤ length (operations_known before)
@@ -145,6 +146,7 @@ module _ (S : Setup) (L : List ℕ → Type 0) (B : TableStart) (d0 : CallState)
     none = λ z. absurd (omega (arith, z));
     some = λ h. record { machine = refl; legal = t.legal; own = t.own p.kept p.kept_now; once = t.once p.kept p.kept_now; told = t.told p.kept p.kept_now };
     turns = omega (arith, p.turns);
+    losses = p.losses;
     looks = t.looks ∙ p.looks;
     since = λ h. since_is;
     behind = λ h. behind_is;

@@ -24,6 +24,7 @@ use Rattle.of_core.specs.Bound.{bound}
 use Rattle.of_core.specs.Turn.{IsIdle}
 use Rattle.of_core.specs.Calls.{IsAnswered}
 use Rattle.of_row.specs.Views.{KnownCaller, View, seen_seq, seen_history}
+use Rattle.of_row.specs.Runs.{HasNoLoss}
 use Rattle.of_row.specs.Rule.{CallHasEnded}
 use Rattle.of_row.specs.Turned.{IsMeantReply}
 use Rattle.of_row.specs.Rows.{setup_at}
@@ -79,6 +80,10 @@ module _ (p : Plan) (r : Row Scripts) (row : IsPlanRow p r) where
     before_is : told.before ≡ q.kept
     before_is = same_kept told.before q.kept (sym told.kept_before ∙ q.kept_is)
 
+    -- the call replaced no machine
+    unlost_now : HasNoLoss told.kept
+    unlost_now = told.losses ∙ ap (λ (k : KnownCaller). k.losses) before_is ∙ q.going.unlost
+
     -- a view that didn't change keeps the same
     same_view : told.steps ≡ 0 → told.kept ≡ q.kept
     same_view none = same_kept told.kept q.kept (sym told.kept_now ∙ ap (λ (v : View). v.kept) (told.none none) ∙ q.kept_is)
@@ -126,7 +131,7 @@ module _ (p : Plan) (r : Row Scripts) (row : IsPlanRow p r) where
         kept_is = told.kept_now;
         shown = shown_now;
         going = subst (λ (l : List Answer). HasAnsweredScripts p n c told.kept l (i + 1)) (sym more.is)
-            (is_answered p n c q.kept answers i q.going less told.kept k announced raw steps more.item idle_now
+            (is_answered p n c q.kept answers i q.going less told.kept unlost_now k announced raw steps more.item idle_now
             (ended_is ∙ ap (λ (u : Outcome). q.kept.ended ++ record { op = script_operation_at p c (n + i); outcome = u } ∷ []) answer) (subst (λ (u : Outcome). TellsAnswer u more.item) answer more.holds));
       }
 
@@ -137,7 +142,7 @@ module _ (p : Plan) (r : Row Scripts) (row : IsPlanRow p r) where
         kept = told.kept;
         kept_is = told.kept_now;
         number = ap (λ (m : CallState). m.caller) shown_now ∙ number_now;
-        keeps = is_spent_now p n c q.kept answers i q.going less told.kept k idle_now (ended_is ∙ ap (λ (u : Outcome). q.kept.ended ++ record { op = script_operation_at p c (n + i); outcome = u } ∷ []) spent);
+        keeps = is_spent_now p n c q.kept answers i q.going less told.kept unlost_now k idle_now (ended_is ∙ ap (λ (u : Outcome). q.kept.ended ++ record { op = script_operation_at p c (n + i); outcome = u } ∷ []) spent);
       }
 
     -- the brake denied a step
@@ -163,7 +168,7 @@ module _ (p : Plan) (r : Row Scripts) (row : IsPlanRow p r) where
               kept_is = told.kept_now;
               number = ap (λ (m : CallState). m.caller) shows ∙ told.caller ∙ q.number;
               keeps = subst (λ (k : ℕ). KeepsCaller p n c answers (Halted k) told.kept) (sym count)
-                  (is_stopped p n c q.kept answers i q.going less told.kept told.steps (omega (arith, more)) (ap (λ (m : CallState). is_idle m.place) shows ∙ stays.open_call) (ap (λ (m : CallState). m.op) shows ∙ told.op ∙ is)
+                  (is_stopped p n c q.kept answers i q.going less told.kept unlost_now told.steps (omega (arith, more)) (ap (λ (m : CallState). is_idle m.place) shows ∙ stays.open_call) (ap (λ (m : CallState). m.op) shows ∙ told.op ∙ is)
                   (ap (λ (m : CallState). m.steps) shows ∙ stays.steps ∙ omega arith) (omega (arith, within, stays.steps)) (stays.kept ∙ ap (λ (k : KnownCaller). k.ended) before_is));
             }
 

@@ -319,7 +319,7 @@ module _ (p : Plan) (laws : KeepsLaws p) (runs : RunsAreSchedules (IsLawfulFor p
 
   -- the events are those of the plan's callers with these items
   same : es ≡ events_of_items p B items
-  same = same_events p O es h.schedule h.prompt (λ i l. (told i l).busy) (next_so [] es refl) ∙ ap (events_from p O) (sym (items_move es))
+  same = same_events p O es h.schedule h.prompt (λ i l. (told i l).busy (keeps p laws runs s B e v t i l).2.unlost) (next_so [] es refl) ∙ ap (events_from p O) (sym (items_move es))
 
   -- what the team has left, and the events that have led there
   pub team_scheduled : (xs : List Item) × IsScheduled p s B xs e × ((ran p laws runs s B e v t).0 ≡ events_of_items p B xs)

@@ -56,6 +56,7 @@ new_caller p r n before m now h c is same rests made =
         idle = ap (λ (d : CallState). d.place) shown ∙ rests;
         answered = record { few = omega arith; scripts = ap (map operation_of) (sym (take_none (drop (done_at r n) (scripts_of p n)))); none_spent = tt; told = tt };
         count = refl;
+        unlost = refl;
       };
     }
   where

@@ -26,7 +26,7 @@ use Rattle.of_caller.proofs.RowStarts.{meets_for, done_is}
 use Rattle.of_caller.proofs.Pairs.{both_length}
 use Rattle.of_caller.proofs.Seated.{kept_in, gathered_is, kept_so}
 
-is_kept : (c : ℕ) (P : KnownCaller → Type 0) (xs : List KnownCaller) → KeepsCallerWith c P xs → IsCallerKept c xs
+pub is_kept : (c : ℕ) (P : KnownCaller → Type 0) (xs : List KnownCaller) → KeepsCallerWith c P xs → IsCallerKept c xs
 is_kept c P [] q = absurd q
 is_kept c P (x ∷ xs) (inl q) = inl q.0
 is_kept c P (x ∷ xs) (inr q) = inr (is_kept c P xs q)

@@ -25,7 +25,8 @@ use Rattle.of_core.specs.Calls.{HasCalls, operations_begun, outcomes, total_step
 use Rattle.of_row.specs.Views.{SeenBatch, KnownCaller, View, seen_batch, seen_history}
 use Rattle.of_row.specs.Told.{outcomes_of}
 use Rattle.of_row.specs.Trail.{IsToldBy, IsRunBy}
-use Rattle.of_row.specs.Runs.{HasRun, RunsAreSchedules}
+use Rattle.of_row.specs.Rule.{members_of, HasOtherNumber, HasDistinctNumbers, IsAtHome, ViewFits, IsCallerKept}
+use Rattle.of_row.specs.Runs.{HasRun, HasNoLoss, RunsAreSchedules}
 use Rattle.of_caller.specs.Tables.{plan_setup, IsLawfulFor, opening_at}
 use Rattle.of_caller.specs.Ends.{AnswersStandBeforeSpent, AreAnswers}
 use Rattle.of_caller.specs.PlanLaws.{KeepsLaws}
@@ -36,6 +37,7 @@ use Rattle.of_caller.specs.Teams.{KeepsCaller, KeepsCallerWith, IsTeamOf, seen_c
 use Rattle.of_caller.proofs.Schedules.{ticket_is}
 use Rattle.of_caller.proofs.KeptCallers.{TellsRecord, tells_record, told_steps}
 use Rattle.of_caller.proofs.SeenEntries.{announces}
+use Rattle.of_caller.proofs.TeamEnds.{is_kept}
 use Rattle.of_caller.proofs.Records.{facts}
 use Rattle.of_caller.proofs.RecordsLawful.{report_left, lawful_left}
 use Rattle.of_caller.proofs.RecordsReports.{run_reports}
@@ -49,6 +51,37 @@ one_of c P Q [] q a = absurd q
 one_of c P Q (x ∷ xs) (inl q) a = (x, q.0, q.1, a.0)
 one_of c P Q (x ∷ xs) (inr q) a = one_of c P Q xs q a.1
 
+-- what follows from P holds of the caller that is kept with a number
+kept_with : (c : ℕ) (P Q : KnownCaller → Type 0) → ((x : KnownCaller) → P x → Q x) → (xs : List KnownCaller) → KeepsCallerWith c P xs → KeepsCallerWith c Q xs
+kept_with c P Q f [] q = absurd q
+kept_with c P Q f (x ∷ xs) (inl q) = inl (q.0, f x q.1)
+kept_with c P Q f (x ∷ xs) (inr q) = inr (kept_with c P Q f xs q)
+
+-- if P bounds the number of a caller, a number that is kept is below the bound
+below_all : (n : ℕ) (P : KnownCaller → Type 0) → ((x : KnownCaller) → P x → x.machine.caller < n) → (c : ℕ) (xs : List KnownCaller) → EachKept P xs → IsCallerKept c xs → c < n
+below_all n P f c [] a q = absurd q
+below_all n P f c (x ∷ xs) a (inl q) = subst (λ (i : ℕ). i < n) q (f x a.0)
+below_all n P f c (x ∷ xs) a (inr q) = below_all n P f c xs a.1 q
+
+-- the number of x is none of those kept
+none_other : (x : KnownCaller) (xs : List KnownCaller) → EachKept (HasOtherNumber x) xs → IsCallerKept x.machine.caller xs → ⊥
+none_other x [] a q = q
+none_other x (y ∷ xs) a (inl q) = a.0 q
+none_other x (y ∷ xs) a (inr q) = none_other x xs a.1 q
+
+-- P holds of each kept caller if it holds of one with each number that is kept, since no number is kept twice
+each_kept : (P : KnownCaller → Type 0) (xs : List KnownCaller) → HasDistinctNumbers xs → ((c : ℕ) → IsCallerKept c xs → KeepsCallerWith c P xs) → EachKept P xs
+each_kept P [] apart all = tt
+each_kept P (x ∷ xs) apart all = (here (all x.machine.caller (inl refl)), each_kept P xs apart.1 (λ c kept. further c kept (all c (inr kept))))
+  where
+    here : KeepsCallerWith x.machine.caller P (x ∷ xs) → P x
+    here (inl q) = q.1
+    here (inr q) = absurd (none_other x xs apart.0 (is_kept x.machine.caller P xs q))
+
+    further : (c : ℕ) → IsCallerKept c xs → KeepsCallerWith c P (x ∷ xs) → KeepsCallerWith c P xs
+    further c kept (inl q) = absurd (none_other x xs apart.0 (subst (λ (i : ℕ). IsCallerKept i xs) (sym q.0) kept))
+    further c kept (inr q) = q
+
 module _ (p : Plan) (laws : KeepsLaws p) (runs : RunsAreSchedules (IsLawfulFor p) (plan_setup p)) (s : Start) (B : TableStart) (e : Ended) (v : View) (t : IsTeamOf p s B e v) where
   abbrev pub T : Setup
   T = plan_setup p
@@ -56,9 +89,21 @@ module _ (p : Plan) (laws : KeepsLaws p) (runs : RunsAreSchedules (IsLawfulFor p
   abbrev pub O : Moment
   O = opening_at p B
 
+  -- each caller that the pass keeps has its first machine: its number is that of one of the plan's callers, and no number is kept twice
+  unlost : EachKept HasNoLoss v.kept
+  unlost = each_kept HasNoLoss v.kept fits.apart of_number
+    where
+      fits : ViewFits T B t.meets.state.words t.meets.rule.events t.meets.rule.home t.meets.rule.chief t.meets.seat v
+      fits = t.meets.rule.each t.meets.seat v t.meets.view t.live
+
+      of_number : (c : ℕ) → IsCallerKept c v.kept → KeepsCallerWith c HasNoLoss v.kept
+      of_number c kept =
+          let lt : c < p.callers = below_all p.callers (IsAtHome T t.meets.rule.home (members_of T t.meets.state.words) t.meets.seat) (λ x a. a.in_range) c v.kept fits.kept kept in
+          kept_with c (KeepsCaller p (finished_of s c) c (answers_of e c) (ending_of e c)) HasNoLoss (λ x k. k.unlost) v.kept (t.each c lt)
+
   -- the events of some schedule have led to all this
   pub ran : (es : List Event) × HasRun (plan_setup p) (IsLawfulFor p) B e.words v es
-  ran = runs B e.words v t.meets t.live t.first t.loaded t.keeps_all
+  ran = runs B e.words v t.meets t.live t.first t.loaded t.keeps_all unlost
 
   abbrev pub es : List Event
   es = ran.0

@@ -9,7 +9,7 @@ use Rattle.of_row.specs.Views.{View}
 use Rattle.of_row.specs.declared.member.Member.{Member}
 use Rattle.of_row.specs.declared.row.Row.{Row}
 use Rattle.of_row.specs.Rows.{IsRowMember, RunsOnRow, IsMemberOf, HasNoCall}
-use Rattle.of_row.specs.Rows.{view_of_member, calls_of_member}
+use Rattle.of_row.specs.Rows.{view_of_member, calls_of_member, caller_kept_by}
 use Rattle.of_caller.specs.declared.caller.Caller.{Caller}
 
 -- the member with which the caller makes its calls
@@ -40,6 +40,10 @@ pub record IsCaller {W : Type 0} (meaning : W → Meaning) (r : Row W) (c : Call
   pub member : IsMemberOf meaning (member_of c) c.machine
   pub within : IsOpen (caller_call c).place
       → (caller_call c).steps < bound (machine_setup meaning c.machine)
+
+-- the caller's machine is the one that its member keeps: its call, if one is open, has made a step
+abbrev pub HoldsKeptMachine : {W : Type 0} → Caller W → Type 0
+HoldsKeptMachine c = caller_call c ≡ (caller_kept_by (member_of c)).machine
 
 -- if a caller of some row has no open call, the member m that it leaves has no open call either,
 -- and m has made as many calls as the caller's number has begun

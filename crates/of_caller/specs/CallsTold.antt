@@ -118,6 +118,8 @@ pub record TellsCall (S : Setup) (Lawful : List ℕ → Type 0) (B : TableStart)
       → length (operations_begun v.past m.caller) ≤ length (operations_known before)
   -- the caller's turns on the table have risen by the same number as the count of steps
   pub turns : kept.turns ≡ before.turns + steps
+  -- no machine of the caller was replaced meanwhile
+  pub losses : kept.losses ≡ before.losses
   -- besides these steps the caller has made no load
   pub looks : w.looks ≡ v.looks
   -- the member keeps the last sequence that was seen when the call began, also if the call was

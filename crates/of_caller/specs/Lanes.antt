@@ -13,6 +13,7 @@ use Rattle.of_core.specs.declared.place.Outcome.{Outcome}
 use Rattle.of_core.specs.declared.place.Outcome.TheVariants.{Answered, Spent, Lost}
 use Rattle.of_core.specs.Turn.{IsIdle}
 use Rattle.of_row.specs.Views.{KnownCaller}
+use Rattle.of_row.specs.Runs.{HasNoLoss}
 use Rattle.of_row.specs.Rows.{IsRowMember}
 use Rattle.of_row.specs.declared.row.Row.{Row}
 use Rattle.of_caller.specs.declared.caller.Caller.{Caller}
@@ -41,17 +42,18 @@ pub record Appends {A : Type 0} (P : A → Type 0) (xs ys : List A) : Type 0 whe
   pub is : ys ≡ xs ++ item ∷ []
   pub holds : P item
 
--- the kept caller has no open call, and its first i scripts after the first `behind` have these
--- answers
+-- the kept caller has no open call, and its machine was never replaced; its first i scripts after
+-- the first `behind` have these answers
 pub record HasAnsweredScripts (p : Plan) (behind c : ℕ) (x : KnownCaller) (answers : List Answer)
     (i : ℕ) : Type 0 where
   pub idle : IsIdle x.machine
   pub answered : AreAnswered p behind c x.ended answers
   pub count : length answers ≡ i
+  pub unlost : HasNoLoss x
 
 -- The caller, number c of the row, is between two calls, and has begun `behind` and i calls. Its
 -- member keeps this caller alone, with its machine. Its first i scripts after the first `behind`
--- have these answers.
+-- have these answers, and its machine was never replaced.
 pub record CallerHasAnswered (p : Plan) (behind c : ℕ) (r : Row Scripts) (caller : Caller Scripts)
     (answers : List Answer) (i : ℕ) : Type 0 where
   pub is_caller : IsCaller scripts_meaning r caller

@@ -22,6 +22,7 @@ use Rattle.of_row.specs.declared.row.Row.{Row}
 use Rattle.of_row.specs.Views.{SeenBatch, EndedCall, KnownCaller, View, seen_history}
 use Rattle.of_row.specs.Rule.{ViewMeetsRule, KeepsAll}
 use Rattle.of_row.specs.Turned.{copied_view}
+use Rattle.of_row.specs.Runs.{HasNoLoss}
 use Rattle.of_caller.specs.Tables.{plan_setup, IsLawfulFor, operation_of}
 use Rattle.of_caller.specs.Starts.{StartsAtPlan}
 use Rattle.of_caller.specs.Ends.{AreAnswers}
@@ -69,7 +70,7 @@ KeepsLastCall p c x n m beyond (Spent seq) =
 
 -- What is kept of caller c agrees with its answers and its ending: first come its answered calls,
 -- which have these answers, and then what `KeepsLastCall` says. The first `behind` of its scripts
--- were done before the start.
+-- were done before the start. Its machine was never replaced.
 pub record KeepsCaller (p : Plan) (behind c : ℕ) (answers : List Answer) (ending : Ending)
     (x : KnownCaller) : Type 0 where
   pub calls : List EndedCall
@@ -78,6 +79,8 @@ pub record KeepsCaller (p : Plan) (behind c : ℕ) (answers : List Answer) (endi
   pub answered : AreAnswered p behind c calls answers
   pub last :
       KeepsLastCall p c (behind + length answers) (length (scripts_of p c)) x.machine beyond ending
+  -- the caller's machine is its first one
+  pub unlost : HasNoLoss x
 
 -- the list has a caller with this number of which P holds
 abbrev pub KeepsCallerWith : (c : ℕ) → (KnownCaller → Type 0) → List KnownCaller → Type 0

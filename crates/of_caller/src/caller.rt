@@ -5,13 +5,14 @@ ghost use Rattle.of_mem.specs.declared.work.TheConstants.{MOST_INSTRS};
 ghost use Rattle.of_core.specs.Machine.{IsOpen};
 ghost use Rattle.of_core.specs.Turn.{IsIdle};
 ghost use Rattle.of_brake.specs.Stops.{HasRisen};
-ghost use Rattle.of_row.specs.Rows.{calls_of_member, IsRowMember, HasNoCall};
+ghost use Rattle.of_row.specs.Rows.{calls_of_member, IsRowMember, IsSameMember, HasNoCall};
+ghost use Rattle.of_row.specs.Replacing.{RevivesMember, RefusesMember};
 
 use of_brake::{Brake, Steps};
 use of_core::{Machine, Outcome};
 use of_mem::Work;
 use of_row::laws::{idle_members, machines, members};
-use of_row::{Member, Row};
+use of_row::{Member, NotRevived, Row};
 use std::alloc::{AllocError, Global};
 use std::sync::ledger::Ledger;
 use thiserror::Error;
@@ -36,7 +37,7 @@ pub struct Caller<W: Work> {
 }
 
 impl<W: Work> Caller<W> {
-    ghost use Rattle.of_caller.specs.Callers.{IsCaller, LeavesIdleMember, member_of};
+    ghost use Rattle.of_caller.specs.Callers.{IsCaller, LeavesIdleMember, HoldsKeptMachine, member_of};
     ghost use Rattle.of_caller.specs.Callers.{caller_call, calls_begun_by};
     ghost use Rattle.of_caller.specs.CallsTold.{TellsCallOf, call_begun_by};
     ghost use Rattle.of_caller.specs.Brakes.{IsStop, StopsAt, UsesCountedSteps, HearsAnswerOnce};
@@ -62,6 +63,33 @@ impl<W: Work> Caller<W> {
         let number = member.number();
         let made = member.made();
         match Machine::new(alloc, row.shape(), row.limit(), number, made, row.work()) {
+            Ok(machine) => Ok(Caller { member, machine }),
+            Err(error) => Err((member, error)),
+        }
+    }
+
+    /// Makes a caller of a member whose machine is lost with its thread or process. The caller goes
+    /// on with the call that the member's caller had announced, if this call has not run. `made` is
+    /// how many calls of the member's caller have made a step. With an error the member comes back,
+    /// and may try again.
+    pub fn revive(
+        alloc: Global,
+        row: &Row<W>,
+        mut member: Member,
+        made: u32,
+    ) -> Result<Caller<W>, (Member, NotRevived)>
+        requires row { IsRowMember row.now member }
+        requires made { made ≡ calls_of_member member }
+        ensures caller { IfOk result (IsCaller W.meaning row.now) }
+        ensures machine { IfOk result HoldsKeptMachine }
+        ensures revived { IfOk result (λ c.
+            RevivesMember W.meaning W.lawful row.now member (member_of c)) }
+        ensures row { IfErr result (λ e. IsRowMember row.now e.0) }
+        ensures same { IfErr result (λ e. IsSameMember member e.0) }
+        ensures refused { IfErr result (λ e.
+            RefusesMember W.meaning W.lawful row.now member e.0 e.1) }
+    {
+        match row.revive(alloc, &mut member, made) {
             Ok(machine) => Ok(Caller { member, machine }),
             Err(error) => Err((member, error)),
         }
@@ -130,7 +158,7 @@ impl<W: Work> Caller<W> {
         }
         match self.machine.answer() {
             Some(Outcome::Spent { seq }) => Err(CallErr::Spent { seq }),
-            // a row replaces no machine
+            // no step of a call loses the call
             Some(Outcome::Lost { .. }) => unreachable!(),
             Some(outcome) => {
                 brake.answered();

@@ -22,11 +22,11 @@ use Rattle.of_core.specs.Laws.{IsRaise, GoesBlindly}
 use Rattle.of_core.proofs.Parts.{run_append, operations_append, outcomes_append}
 use Rattle.of_row.specs.Views.{seen_batch}
 use Rattle.of_core.specs.WordsMatch.{MayStart}
-use Rattle.of_row.specs.Trail.{first_of, whole_of, at_once, TurnIsNext, IsPrompt, AreSteps, evictions}
+use Rattle.of_row.specs.Trail.{first_of, whole_of, at_once, TurnIsNext, IsPrompt, AreSteps, revivals_in_event, revival_count, evictions}
 use Rattle.of_row.specs.RowLaws.{RowLaws}
 use Rattle.of_row.proofs.Frames.{found_as}
 use Rattle.of_row.proofs.Fronts.{each_append}
-use Rattle.of_row.proofs.Events.{schedule_append, turns_append, busy_append}
+use Rattle.of_row.proofs.Events.{schedule_append, turns_append, revivals_append, busy_append}
 
 -- ---- words with what was loaded raised
 
@@ -184,6 +184,19 @@ operations_at_once (e ∷ es) i = operations_append (whole_of e) (at_once es) i 
 pub turns_at_once : (es : List Event) (i : ℕ) → turn_count i (at_once es) ≡ turn_count i es
 turns_at_once [] i = refl
 turns_at_once (e ∷ es) i = omega (arith, turns_append i (whole_of e) (at_once es), turns_same e i, turns_at_once es i)
+
+revivals_same : (e : Event) (i : ℕ) → revival_count i (whole_of e) ≡ revivals_in_event i e
+revivals_same (Begins j op) i = refl
+revivals_same (Turns j) i = refl
+revivals_same (Loads c) i = refl
+revivals_same (Evicts k) i = refl
+revivals_same (Raises c) i = refl
+revivals_same (Revives j made) i = omega arith
+
+-- and so are the machines that are replaced
+pub revivals_at_once : (es : List Event) (i : ℕ) → revival_count i (at_once es) ≡ revival_count i es
+revivals_at_once [] i = refl
+revivals_at_once (e ∷ es) i = omega (arith, revivals_append i (whole_of e) (at_once es), revivals_same e i, revivals_at_once es i)
 
 module _ (S : Setup) (L : List ℕ → Type 0) (laws : RowLaws S L) (B : TableStart) where
   module _ (w v : Moment) (good : MeetsInvariant S L B w) (room : HasRoom S w) (same : Alike S w v) where
@@ -346,10 +359,11 @@ module _ (S : Setup) (L : List ℕ → Type 0) (laws : RowLaws S L) (B : TableSt
       let long : length w.words ≡ words_before_members S + 1 = (laws.words B may.start (words_before_members S + 1) (omega arith)).long in
       all_follow w w (laws.start B may (words_before_members S + 1) (omega arith)).0 record { long = omega (arith, long); inside = tt } record { words = refl; machines = refl; batches = refl; reads = refl } es kept s
 
--- steps on a row, with evictions made at once, are as in the schedule of a plan
-pub prompt_at_once : (es : List Event) → AreSteps es → IsPrompt (at_once es)
-prompt_at_once [] a = tt
-prompt_at_once (Begins i op ∷ es) a = (next es a.0, prompt_at_once es a.1)
+-- steps on a row that replace no machine, with evictions made at once, are as in the schedule of a
+-- plan
+pub prompt_at_once : (es : List Event) → AreSteps es → AllReplaceNone es → IsPrompt (at_once es)
+prompt_at_once [] a kept = tt
+prompt_at_once (Begins i op ∷ es) a kept = (next es a.0, prompt_at_once es a.1 kept.1)
   where
     next : (es : List Event) → TurnIsNext i es → TurnIsNext i (at_once es)
     next [] t = absurd t
@@ -359,11 +373,11 @@ prompt_at_once (Begins i op ∷ es) a = (next es a.0, prompt_at_once es a.1)
     next (Evicts k ∷ es) t = absurd t
     next (Raises c ∷ es) t = absurd t
     next (Revives j made ∷ es) t = absurd t
-prompt_at_once (Turns i ∷ es) a = prompt_at_once es a
-prompt_at_once (Loads c ∷ es) a = prompt_at_once es a
-prompt_at_once (Evicts k ∷ es) a = prompt_at_once es a
-prompt_at_once (Raises c ∷ es) a = absurd a
-prompt_at_once (Revives i made ∷ es) a = absurd a
+prompt_at_once (Turns i ∷ es) a kept = prompt_at_once es a kept.1
+prompt_at_once (Loads c ∷ es) a kept = prompt_at_once es a kept.1
+prompt_at_once (Evicts k ∷ es) a kept = prompt_at_once es a kept.1
+prompt_at_once (Raises c ∷ es) a kept = absurd a
+prompt_at_once (Revives i made ∷ es) a kept = absurd kept.0
 
 -- and evict the cells that were loaded
 pub evicts_loaded : (S : Setup) (w : Moment) (es : List Event) → AreSteps es → map (λ (e : ℕ × ℕ). e.0) (after_events S w es).loaded ≡ map (λ (e : ℕ × ℕ). e.0) w.loaded ++ evictions (at_once es)
@@ -376,4 +390,4 @@ evicts_loaded S w (Loads c ∷ es) a =
     ∙ append_assoc (map (λ (e : ℕ × ℕ). e.0) w.loaded) (c ∷ []) (evictions (at_once es)))
 evicts_loaded S w (Evicts k ∷ es) a = evicts_loaded S (after_event S w (Evicts k)) es a
 evicts_loaded S w (Raises c ∷ es) a = absurd a
-evicts_loaded S w (Revives i made ∷ es) a = absurd a
+evicts_loaded S w (Revives i made ∷ es) a = evicts_loaded S (after_event S w (Revives i made)) es a

@@ -4,21 +4,30 @@ use Rattle.std.specs.List.{All}
 use Rattle.std.proofs.lemmas.Bool.{cases_lt}
 use Rattle.std.proofs.lemmas.List.{length-append, length-map, get_or-map, get_or_append_left, get_or_push}
 use Rattle.of_core.specs.declared.place.Outcome.{Outcome}
+use Rattle.of_core.specs.declared.place.Outcome.TheVariants.{Answered, Spent, Lost}
 use Rattle.of_core.specs.Table.{Setup, words_before_members}
 use Rattle.of_core.specs.Machine.{Call, CallState, is_idle, no_call}
 use Rattle.of_core.specs.TableMoment.{Moment, TableStart, Batch}
 use Rattle.of_core.specs.History.{batch_at}
 use Rattle.of_core.specs.WordsMatch.{MayStart}
 use Rattle.of_core.specs.Events.{Event, IsSchedule, machine_in, start_ticket}
-use Rattle.of_core.specs.Calls.{HasCalls, WasBegun, IsNotBefore, no_outcome, outcome_seq}
+use Rattle.of_core.specs.Calls.{HasCalls, OutcomeStands, WasBegun, IsNotBefore, no_outcome, outcome_seq}
 use Rattle.of_core.specs.Laws.{EveryCallStands}
 use Rattle.of_core.specs.Written.{OwnersTakePart}
-use Rattle.of_row.specs.Views.{SeenBatch, EndedCall, KnownCaller, no_ended, IsSeenPrefix, seen_seq}
+use Rattle.of_row.specs.Views.{SeenBatch, EndedCall, KnownCaller, no_ended, IsSeenPrefix, seen_history, seen_seq}
 use Rattle.of_row.specs.Told.{open_operation, operations_known, outcomes_of}
 use Rattle.of_row.specs.Trail.{first_of, moment, IsRunBy, HasDoneNothing}
-use Rattle.of_row.specs.Rule.{done_before, open_call_count, outcome_at, CountsMade, EachCallBetween, HasOwn, IsCallOf, IsCallOfIfOwn, OutcomesRise, KnowsCallsOf, NoneOwned, seen_last_seq}
+use Rattle.of_row.specs.Rule.{done_before, open_call_count, outcome_at, CountsMade, EachCallBetween, CallHasEnded, NoneAfterLoss, ticket_at, ended_operation_at, HasOwn, IsCallOf, IsCallOfIfOwn, OutcomesRise, KnowsCallsOf, NoneOwned, seen_last_seq}
 use Rattle.of_row.proofs.Tellings.{begun_open}
 use Rattle.of_row.proofs.Fronts.{ended_seen, seen_calls}
+
+-- a call in a batch after s is newer than those that are in batches up to s
+newer : (t k s ticket : ℕ) → (ticket ≤ t → k ≤ s) → s < k → t < ticket
+newer t k s ticket old low = go (cases_lt t ticket)
+  where
+    go : (t < ticket) ⊎ (ticket ≤ t) → t < ticket
+    go (inl l) = l
+    go (inr l) = absurd (omega (arith, old l, low))
 
 -- how many calls it has begun
 begun_many : (x : KnownCaller) → length (operations_known x) ≡ length x.ended + open_call_count (is_idle x.machine.place)
@@ -88,8 +97,22 @@ module _ (S : Setup) (B : TableStart) (w : Moment) (x : KnownCaller) (is : machi
     own_calls = λ k l u. subst (λ (z : List Call). All (λ (c : Call). c.caller ≡ x.machine.caller → IsCallOf S B x c) z) (sym (seen_calls B cs w.batches k f l u)) (own_calls k l (omega (arith, u, f.few)));
     made = counts_made;
     each = λ y l. ended_seen S B cs w.batches x.machine.caller (done_before S B x.machine.caller + y + 1) (get_or x.ended y no_ended).op (outcome_at x.ended y) f (h.each y l);
+    lost = λ y l. none_after y l (outcome_at x.ended y) refl;
     rising = rises;
   }
+    where
+      -- the core says so of the whole history
+      none_after : (y : ℕ) → y < length x.ended → (o : Outcome) → outcome_at x.ended y ≡ o → NoneAfterLoss B (seen_history cs) (seen_seq B cs) x.machine.caller (ticket_at S B x y) o
+      none_after y l (Answered s announced raw steps) e = tt
+      none_after y l (Spent s) e = tt
+      none_after y l (Lost s) e = λ k low up.
+          let outs : List Outcome = outcomes_of x in
+          let many : length outs ≡ length x.ended = length-map x.ended (λ (e : EndedCall). e.outcome) in
+          let one : get_or outs y no_outcome ≡ Lost s = get_or-map (λ (e : EndedCall). e.outcome) x.ended y no_ended no_outcome l ∙ e in
+          let said : OutcomeStands S B w x.machine.caller (before + y + 1) (get_or (operations_known x) y []) (Lost s) = subst (λ (o : Outcome). OutcomeStands S B w x.machine.caller (before + y + 1) (get_or (operations_known x) y []) o) one (calls.each y (omega (arith, l, many))) in
+          let from : B.seq ≤ s = (subst (λ (o : Outcome). CallHasEnded S B w.batches (seen_seq B cs) x.machine.caller (ticket_at S B x y) (ended_operation_at x.ended y) o) e (h.each y l)).0 in
+          subst (λ (z : List Call). All (λ (c : Call). c.caller ≡ x.machine.caller → ticket_at S B x y < c.ticket) z) (sym (seen_calls B cs w.batches k f (omega (arith, from, low)) up))
+          (λ j d n q. newer (ticket_at S B x y) k s (get_or (batch_at B w.batches k).calls j d).ticket (said.1 k (omega (arith, from, low)) (omega (arith, up, f.few)) j d n q).0 low)
 
 -- a caller that has done nothing has committed no batch: its own call would be in it
 pub unowned : (S : Setup) (L : List ℕ → Type 0) → EveryCallStands S L → OwnersTakePart S L → (B : TableStart) → MayStart S L B → (es : List Event) → IsSchedule S (first_of S B) es → (n : ℕ) → n < S.callers → HasDoneNothing es n → NoneOwned B (moment S B es).batches B.seq n

@@ -11,7 +11,7 @@ use Rattle.of_row.specs.Rule.{done_before, members_of, KnowsCallsOf, ViewFits, M
 use Rattle.of_row.specs.RowLaws.{RowLaws}
 use Rattle.of_row.specs.Turned.{new_known_caller}
 use Rattle.of_row.specs.FreshMembers.{fresh_member_view}
-use Rattle.of_row.proofs.Events.{new_runs, steps_replace_none}
+use Rattle.of_row.proofs.Events.{new_runs}
 use Rattle.of_row.proofs.Calls.{unowned}
 
 pub fresh_fits : (S : Setup) (L : List ℕ → Type 0) → RowLaws S L → (B : TableStart) (s : State (Unit {0}) View) (r : MeetsRule S L B s) (n : ℕ)
@@ -23,7 +23,7 @@ fresh_fits S L laws B s r n below on none = record {
   met = tt;
   kept = (record { in_range = below; home_is = refl; taken = on }, tt);
   apart = (tt, tt);
-  runs = (new_runs S B laws.machines r.events (steps_replace_none r.events r.steps) n B.seq below none, tt);
+  runs = (new_runs S B laws.machines r.events n B.seq below none, tt);
   knows = (known, tt);
   raised = tt;
   first = λ e. cc;

@@ -1,6 +1,6 @@
 -- A pass that keeps a caller of each number that is taken: it may learn of all events, and each word
 -- that it loads from then on is that of the moment which they leave.
-use Rattle.std.proofs.Common.{◌≡◌, ◌==◌, ℕ, zero, suc, ◌+◌, ◌<◌, ◌≤◌, ◌⊎◌, inl, inr, false, Option, Some, List, [], ◌∷◌, ◌++◌, length, get_or, set, refl, sym, ◌∙◌, ap, subst, arith}
+use Rattle.std.proofs.Common.{◌≡◌, ◌==◌, ℕ, ◌+◌, ◌<◌, ◌≤◌, ◌⊎◌, inl, inr, false, Option, Some, List, [], ◌∷◌, ◌++◌, length, get_or, set, refl, sym, ◌∙◌, ap, subst, arith}
 use Rattle.std.specs.Int.{bit_at}
 use Rattle.std.specs.List.{AllByRecursion as Each}
 use Rattle.std.proofs.lemmas.Bool.{cases_eq, eq-eqb}
@@ -25,7 +25,7 @@ use Rattle.of_row.proofs.AtOnce.{raised_already}
 use Rattle.of_row.proofs.Events.{turns_append}
 use Rattle.of_row.proofs.Fixed.{allows_with}
 use Rattle.of_row.proofs.Frames.{seats_set}
-use Rattle.of_row.proofs.Fronts.{each_map}
+use Rattle.of_row.proofs.Fronts.{each_map, each_at}
 use Rattle.of_row.proofs.Moves.{other_views, loads_so}
 use Rattle.of_row.proofs.Pasts.{prefix_self}
 use Rattle.of_row.proofs.RowLaws.{word_at}
@@ -41,11 +41,6 @@ loaded_more S w (Loads c ∷ es) = omega (arith, loaded_more S (after_event S w 
 loaded_more S w (Evicts k ∷ es) = loaded_more S (after_event S w (Evicts k)) es
 loaded_more S w (Raises c ∷ es) = loaded_more S (after_event S w (Raises c)) es
 loaded_more S w (Revives i made ∷ es) = loaded_more S (after_event S w (Revives i made)) es
-
-each_at : {A : Type 0} (P : A → Type 0) (xs : List A) (k : ℕ) (d : A) → k < length xs → Each P xs → P (get_or xs k d)
-each_at P [] k d l all = absurd (omega (arith, l))
-each_at P (x ∷ xs) zero d l all = all.0
-each_at P (x ∷ xs) (suc k) d l all = each_at P xs k d (omega (arith, l)) all.1
 
 -- a turn is counted
 turn_counted : (i : ℕ) (es : List Event) → turn_count i (Turns i ∷ es) ≡ 0 → ⊥
@@ -68,7 +63,7 @@ words_stay S w (Begins i op ∷ es) may steps none few up = absurd (next_counted
 words_stay S w (Turns i ∷ es) may steps none few up = absurd (turn_counted i es (none i may.0))
 words_stay S w (Loads c ∷ es) may steps none few up = absurd (omega (arith, few, loaded_more S (after_event S w (Loads c)) es, length-append w.loaded ((c, get_or w.words c 0) ∷ [])))
 words_stay S w (Raises c ∷ es) may steps none few up = absurd steps
-words_stay S w (Revives i made ∷ es) may steps none few up = absurd steps
+words_stay S w (Revives i made ∷ es) may steps none few up = words_stay S (after_event S w (Revives i made)) es may.1 steps (λ j low. omega (arith, none j low)) few up
 words_stay S w (Evicts k ∷ es) may steps none few up =
     let e : ℕ × ℕ = get_or w.loaded k (0, 0) in
     let same : after_event S w (Evicts k) ≡ w = λ i. record w { words = raised_already w.words (durable_at S e.0) e.1 (each_at (IsRaised S w.words) w.loaded k (0, 0) may.0 up).1 i } in
@@ -82,7 +77,7 @@ steps_rest (Turns i ∷ es) ds a = steps_rest es ds a
 steps_rest (Loads c ∷ es) ds a = steps_rest es ds a
 steps_rest (Evicts k ∷ es) ds a = steps_rest es ds a
 steps_rest (Raises c ∷ es) ds a = absurd a
-steps_rest (Revives i made ∷ es) ds a = absurd a
+steps_rest (Revives i made ∷ es) ds a = steps_rest es ds a
 
 -- events that both tell of a caller have as many turns of it
 turns_alike : (S : Setup) (B : TableStart) (es ds : List Event) (n : ℕ) (xs : List KnownCaller) → IsCallerKept n xs → Each (IsRunBy S B es) xs → Each (IsRunBy S B ds) xs → turn_count n es ≡ turn_count n ds

@@ -23,7 +23,6 @@ use Rattle.of_row.specs.Trail.{first_of, moment, IsToldBy, IsRunBy, EachView}
 use Rattle.of_row.specs.RowLaws.{RowLaws}
 use Rattle.of_row.specs.Moments.{IsReachedBy, ExplainsEndedCalls, HaveOwnSequence, HasNoneOf, words_alone, LosesNothing, HoldsCalls}
 use Rattle.of_row.proofs.RowLaws.{good_of, word_at}
-use Rattle.of_row.proofs.Events.{steps_replace_none}
 use Rattle.of_row.proofs.Fronts.{each_both}
 
 module _ (S : Setup) (L : List ℕ → Type 0) (B : TableStart) (s : State (Unit {0}) View) (r : MeetsRule S L B s) where
@@ -36,7 +35,6 @@ module _ (S : Setup) (L : List ℕ → Type 0) (B : TableStart) (s : State (Unit
   pub reached : IsReachedBy S B s es
   reached = record {
     schedule = r.schedule;
-    machines_stay = steps_replace_none es r.steps;
     words = word_at S L B s r;
     seen = λ j v at live. (r.each j v at live).seen;
     pasts = λ j v at live. (r.each j v at live).past;

@@ -16,9 +16,9 @@ use Rattle.of_core.proofs.Parts.{run_append, operations_append, outcomes_append}
 use Rattle.of_row.specs.Views.{EndedCall, KnownCaller, View}
 use Rattle.of_row.specs.Turned.{StandsForMachine, known_after_step}
 use Rattle.of_row.specs.Told.{operations_known}
-use Rattle.of_row.specs.Trail.{first_of, moment, AreSteps, IsToldBy, IsRunBy, HasDoneNothing, HasPast}
+use Rattle.of_row.specs.Trail.{first_of, moment, AreSteps, revival_count, IsToldBy, IsRunBy, HasDoneNothing, HasPast}
 use Rattle.of_row.proofs.Pasts.{prefix_more}
-use Rattle.of_row.proofs.Events.{schedule_append, turns_append, busy_append, steps_append}
+use Rattle.of_row.proofs.Events.{schedule_append, turns_append, revivals_append, busy_append, steps_append}
 use Rattle.of_row.proofs.Members.{place_made}
 use Rattle.of_row.proofs.Tellings.{begun_idle, begun_open, begun_after, outcomes_after}
 
@@ -56,6 +56,7 @@ module _ (S : Setup) (B : TableStart) (es : List Event) (schedule : IsSchedule S
     pub operations : (j : ℕ) → operations_begun before j ≡ if_so (j == i) new
     pub outcomes : (j : ℕ) → outcomes S W before j ≡ []
     pub turns : (j : ℕ) → turn_count j before ≡ 0
+    pub revivals : (j : ℕ) → revival_count j before ≡ 0
     pub busy : (j : ℕ) → TurnsFindOpenCalls S W before j
     pub steps : AreSteps (before ++ Turns i ∷ [])
 
@@ -72,6 +73,7 @@ module _ (S : Setup) (B : TableStart) (es : List Event) (schedule : IsSchedule S
         operations = λ j. sym (none_only (j == i));
         outcomes = λ j. refl;
         turns = λ j. refl;
+        revivals = λ j. refl;
         busy = λ j. tt;
         steps = tt;
       }
@@ -86,6 +88,7 @@ module _ (S : Setup) (B : TableStart) (es : List Event) (schedule : IsSchedule S
         operations = λ j. append-nil (if_so (j == i) (q.op ∷ []));
         outcomes = λ j. refl;
         turns = λ j. refl;
+        revivals = λ j. refl;
         busy = λ j. (tt, tt);
         steps = (refl, tt);
       }
@@ -160,6 +163,13 @@ module _ (S : Setup) (B : TableStart) (es : List Event) (schedule : IsSchedule S
         let z : turn_count j p.before ≡ 0 = p.turns j in
         omega (arith, a, b, z)
 
+    revivals_now : (j : ℕ) → revival_count j after ≡ revival_count j es
+    revivals_now j =
+        let a : revival_count j after ≡ revival_count j es + revival_count j more = revivals_append j es more in
+        let b : revival_count j more ≡ revival_count j p.before + 0 = revivals_append j p.before (Turns i ∷ []) in
+        let z : revival_count j p.before ≡ 0 = p.revivals j in
+        omega (arith, a, b, z)
+
     busy_now : (j : ℕ) → TurnsFindOpenCalls S (first_of S B) es j → TurnsFindOpenCalls S (first_of S B) after j
     busy_now j b = busy_append S (first_of S B) es more j b (busy_append S W p.before (Turns i ∷ []) j (p.busy j) (λ (q : j ≡ i). subst (λ (k : ℕ). IsOpen (machine_in (after_events S W p.before) k).place) (sym q) (subst (λ (m : CallState). IsOpen m.place) (sym (ap (λ (w : Moment). machine_in w i) p.leads ∙ here)) o), tt))
 
@@ -170,7 +180,8 @@ module _ (S : Setup) (B : TableStart) (es : List Event) (schedule : IsSchedule S
         begun = begun_after B v x d e o answers ∙ (ap (λ (z : List ℕ). ops ++ z ∷ []) op ∙ (sym p.begun ∙ ((λ k. run_by.told.begun k ++ if_so (sym (eq-eqb i i refl) k) p.new) ∙ sym (operations_now i))));
         ended = outcomes_after B v x d e o answers ∙ ((λ k. run_by.told.ended k ++ if_so (sym (eq-eqb i i refl) k) (outcome_of_step d e)) ∙ sym (outcomes_now i));
         turned = let c : one_if (i == i) ≡ 1 = ap one_if (eq-eqb i i refl) in omega (arith, run_by.told.turned, turns_now i, c);
-        busy = busy_now i run_by.told.busy;
+        lost = run_by.told.lost ∙ sym (revivals_now i);
+        busy = λ q. busy_now i (run_by.told.busy q);
       };
       machine_is = ap (machine_in (moment S B after)) caller ∙ (ap (λ (w : Moment). machine_in w i) to ∙ now);
     }
@@ -194,11 +205,12 @@ module _ (S : Setup) (B : TableStart) (es : List Event) (schedule : IsSchedule S
         begun = t.begun ∙ sym begun_else;
         ended = t.ended ∙ sym (outcomes_now j ∙ ((λ k. outcomes S (first_of S B) es j ++ if_so (not_same k) (outcome_of_step d e)) ∙ append-nil (outcomes S (first_of S B) es j)));
         turned = t.turned ∙ sym turned_else;
-        busy = busy_now j t.busy;
+        lost = t.lost ∙ sym (revivals_now j);
+        busy = λ q. busy_now j (t.busy q);
       }
 
       pub other_free : HasDoneNothing es j → HasDoneNothing after j
-      other_free h = (begun_else ∙ h.0, turned_else ∙ h.1)
+      other_free h = (begun_else ∙ h.0, turned_else ∙ h.1, revivals_now j ∙ h.2)
 
     pub other_run : (z : KnownCaller) → (i ≡ z.machine.caller → ⊥) → IsRunBy S B es z → IsRunBy S B after z
     other_run z away r = record { told = other_told z.machine.caller away z r.told; machine_is = other_machine z.machine.caller away ∙ r.machine_is }

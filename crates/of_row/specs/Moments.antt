@@ -9,19 +9,17 @@ use Rattle.of_core.specs.Table.{Setup, words_before_members}
 use Rattle.of_core.specs.Machine.{Call}
 use Rattle.of_core.specs.TableMoment.{Moment, TableStart}
 use Rattle.of_core.specs.Starts.{IsDurable, IsStartRow}
-use Rattle.of_core.specs.Events.{Event, IsSchedule, AllReplaceNone}
+use Rattle.of_core.specs.Events.{Event, IsSchedule}
 use Rattle.of_core.specs.Linear.{ExplainsOutcome, Linearizes, Sequences, StandsBySequence, HasOwnSequence, IsBySequence, IsRecovered}
 use Rattle.of_row.specs.Views.{KnownCaller, View, IsSeenPrefix}
 use Rattle.of_row.specs.Rule.{IsRaised, MeetsRule, ViewMeetsRule, EachFree}
 use Rattle.of_row.specs.Rule.{ticket_at, ended_operation_at, outcome_at}
 use Rattle.of_row.specs.Trail.{first_of, moment, HasPast, IsRunBy, HasDoneNothing, EachView}
 
--- The events lead from the row's start to this moment, and replace no machine. Each view that isn't
--- spent agrees with them.
+-- The events lead from the row's start to this moment. Each view that isn't spent agrees with them.
 pub record IsReachedBy (S : Setup) (B : TableStart) (s : State (Unit {0}) View) (es : List Event)
     : Type 0 where
   pub schedule : IsSchedule S (first_of S B) es
-  pub machines_stay : AllReplaceNone es
   -- the table's own words are those that the events leave
   pub words : (c : ℕ) → c < words_before_members S
       → get_or s.words c 0 ≡ get_or (moment S B es).words c 0

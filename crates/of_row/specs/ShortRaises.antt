@@ -8,7 +8,7 @@ use Rattle.of_core.specs.declared.place.Op.TheVariants.{Raise}
 use Rattle.of_core.specs.Table.{Setup, cell_count, durable_at, durable_word}
 use Rattle.of_core.specs.Steps.{want}
 use Rattle.of_core.specs.TableMoment.{Moment, TableStart}
-use Rattle.of_core.specs.Events.{Event, machine_in}
+use Rattle.of_core.specs.Events.{Event, machine_in, AllReplaceNone}
 use Rattle.of_core.specs.Raised.{lower_changes}
 use Rattle.of_row.specs.Views.{View}
 use Rattle.of_row.specs.Rule.{MeetsRule}
@@ -49,11 +49,12 @@ pub record HasShortRaises (S : Setup) (B : TableStart) (es : List Event) : Type 
   pub at_once : (k c : ℕ) → c < cell_count S
       → IsShort S B es k c (get_or (moment_at S B es k).words c 0)
 
--- in each schedule that leads to a moment that meets the row's rule, the raises are short
+-- in each schedule that leads to a moment that meets the row's rule and replaces no machine, the
+-- raises are short
 abbrev pub MomentsHaveShortRaises : (List ℕ → Type 0) → Setup → Type 0
 MomentsHaveShortRaises Lawful S =
     (B : TableStart) (s : State (Unit {0}) View) → MeetsRule S Lawful B s
-    → (es : List Event) → IsReachedBy S B s es → HasShortRaises S B es
+    → (es : List Event) → IsReachedBy S B s es → AllReplaceNone es → HasShortRaises S B es
 
 -- the raises of the run of a closed row are short
 abbrev pub RunsHaveShortRaises : (List ℕ → Type 0) → Setup → Type 0

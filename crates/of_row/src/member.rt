@@ -6,6 +6,8 @@ ghost use Rattle.of_row.specs.Views.{IsSole};
 
 use crate::view::View;
 use atomic_table::Seat;
+use of_core::NotYet;
+use std::alloc::AllocError;
 
 /// A seat on a row for a thread that makes no calls. Contracts see what the pass knows. Each
 /// eviction that the pass has begun is finished.
@@ -53,3 +55,15 @@ pub struct Taken {
 /// The error of `Row::step`: the brake denied the step.
 #[derive(Drop)]
 pub struct Stopped;
+
+/// The error of `Row::revive`: why the member has no new machine.
+#[derive(Drop)]
+pub enum NotRevived {
+    /// The table's words don't allow it yet. If the caller's log or request is of a transaction
+    /// that isn't committed, the next commit of any caller ends this.
+    NotYet(NotYet),
+    /// The sequence has come to the row's limit. No call can take effect any more.
+    AtLimit,
+    /// There was no memory for the machine.
+    OutOfMemory(AllocError),
+}

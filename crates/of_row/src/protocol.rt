@@ -5,6 +5,7 @@ ghost use Rattle.of_row.specs.RowLaws.{RowLaws};
 
 use of_core::laws::{
     batches, ends_in_time, every_call, every_moment, histories, machines, starts, step_kept,
+    taken_over_stands,
 };
 use of_mem::Work;
 
@@ -18,6 +19,7 @@ pub(crate) fn protocol<W: Work>(limit: u32, work: W)
     ends_in_time(limit, work);
     batches(limit, work);
     starts(limit, work);
+    taken_over_stands(limit, work);
     machines();
     histories();
 }
