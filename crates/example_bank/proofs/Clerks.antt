@@ -1,6 +1,7 @@
 -- A clerk goes on with its job.
 use Rattle.std.proofs.Common.{◌≡◌, ℕ, ◌+◌, ◌<◌, ◌⊎◌, inl, inr, List, [], ◌∷◌, ◌++◌, length, get_or, take, map, Option, Some, None, Ok, Err, vec_len, refl, sym, ap, subst, ◌∙◌, arith, append_assoc}
 use Rattle.std.proofs.lemmas.List.{append-nil, length-append, length-map, get_or-map, take_more}
+use Rattle.std.proofs.lemmas.List.Elements.{All-push}
 use Rattle.of_script.specs.declared.instr.Instr.{Instr}
 use Rattle.of_store.specs.Store.{Reply}
 use Rattle.of_store.specs.Replies.{reply_value_of}
@@ -8,14 +9,14 @@ use Rattle.of_plan.specs.declared.answer.Answer.{Answer}
 use Rattle.of_cells.specs.declared.error.RunError.{RunError}
 use Rattle.of_cells.specs.declared.error.RunError.TheVariants.{Stopped, Spent as NoneLeft, InCall, NoCall, NoTicket}
 use Rattle.of_memory.specs.declared.handle.Handle.{Handle}
-use Rattle.of_memory.specs.History.{Made, Replied, Spent}
+use Rattle.of_memory.specs.History.{Made, Replied, Spent, Lost}
 use Rattle.of_memory.specs.Called.{LeavesAsItWas}
 use Rattle.of_memory.specs.Handles.{IsHandle, HasMade, HasOpen, HasCallOpen, MakesCall, StaysOpenOnlyIfStopped, OpensOnly, RefusesCall, CallsAreCounted, tickets_behind, steps_so_far, IsSame}
 use Rattle.of_memory.specs.Within.{KeepsWithin}
 use Rattle.example_bank.specs.declared.transfer.Transfer.{Transfer}
 use Rattle.example_bank.specs.declared.clerk.Clerk.{Clerk}
 use Rattle.example_bank.specs.Transfers.{transfer_script}
-use Rattle.example_bank.specs.Calls.{Call, with_end, replied_in, scripts_in}
+use Rattle.example_bank.specs.Calls.{Call, with_end, replied_in, IsNotLost, scripts_in}
 use Rattle.example_bank.specs.Clerks.{scripts_of, counted, next_script, Counts, CountsReply, CountsNone, IsStopped, IsNotSpent, IsEarly, HasCause, HasWorked, GoesOn}
 use Rattle.example_bank.proofs.Counts.{made_join, aborted_join, scripts_join, one_each}
 
@@ -28,6 +29,7 @@ replied_join (m ∷ ms) ns = go m.ended (replied_join ms ns)
     go : (end : _) → replied_in (ms ++ ns) ≡ replied_in ms ++ replied_in ns → with_end m.script end (replied_in (ms ++ ns)) ≡ with_end m.script end (replied_in ms) ++ replied_in ns
     go (Replied r seq steps announced) is = ap (λ (l : List Call). (m.script, r) ∷ l) is
     go (Spent seq) is = is
+    go (Lost seq) is = is
 
 pub counts_none : (x y : Clerk) → y.job ≡ x.job → CountsNone x y → Counts x y []
 counts_none x y job none = record {
@@ -103,6 +105,7 @@ module _ (y z : Clerk) (h k : Handle) (script : List Instr) (is : script ≡ nex
       record {
         made = w.made ++ m ∷ [];
         has = makes w.made w.has;
+        none_lost = All-push (λ (c : Made). IsNotLost c.ended) w.made m w.none_lost tt;
         counts = subst (Counts x z) (sym calls) (counts_join x y z _ _ w.counts one);
         answered = omega (arith, answered, w.answered, ap length calls, length-append (replied_in w.made) ((next_script y, r) ∷ []));
         whole = λ not. omega (arith, answered, w.whole (subst IsNotSpent (sym ended) tt), length-append w.made (m ∷ []));
@@ -122,6 +125,7 @@ module _ (y z : Clerk) (h k : Handle) (script : List Instr) (is : script ≡ nex
       record {
         made = w.made;
         has = has;
+        none_lost = w.none_lost;
         counts = subst (Counts x z) (append-nil (replied_in w.made)) (counts_join x y z _ _ w.counts (counts_none y z stay.job stay.none));
         answered = stay.answered ∙ w.answered;
         whole = λ not. stay.answered ∙ w.whole (subst IsNotSpent (sym ended) tt);
@@ -158,6 +162,7 @@ module _ (y z : Clerk) (h k : Handle) (script : List Instr) (is : script ≡ nex
       record {
         made = w.made ++ m ∷ [];
         has = makes w.made w.has;
+        none_lost = All-push (λ (c : Made). IsNotLost c.ended) w.made m w.none_lost tt;
         counts = subst (Counts x z) (append-nil (replied_in w.made) ∙ sym calls) (counts_join x y z _ _ w.counts (counts_none y z stay.job stay.none));
         answered = stay.answered ∙ w.answered ∙ ap length (sym calls);
         whole = λ not. absurd (subst IsNotSpent end not);

@@ -3,7 +3,7 @@ use Rattle.std.proofs.Common.{◌≡◌, ℕ, ◌+◌, ◌<◌, ◌≤◌, ◌�
 use Rattle.std.specs.List.{All}
 use Rattle.std.proofs.lemmas.Bool.{cases_lt, true≢false}
 use Rattle.std.proofs.lemmas.List.{append-nil, length-append, get_or_append_left, get_or-append-add, length-map}
-use Rattle.std.proofs.lemmas.List.Elements.{All-map}
+use Rattle.std.proofs.lemmas.List.Elements.{All-map, All-push}
 use Rattle.of_script.specs.declared.instr.Instr.{Instr}
 use Rattle.of_script.specs.declared.instr.Instr.TheVariants.{Count}
 use Rattle.of_store.specs.Store.{Store}
@@ -20,7 +20,7 @@ use Rattle.of_memory.specs.Tasks.{TaskWork, HasWorkedAs}
 use Rattle.example_bank.specs.declared.transfer.Transfer.{Transfer}
 use Rattle.example_bank.specs.declared.clerk.Clerk.{Clerk}
 use Rattle.example_bank.specs.Transfers.{IsTransfer, transfer_script}
-use Rattle.example_bank.specs.Calls.{replied_in, calls_of}
+use Rattle.example_bank.specs.Calls.{replied_in, calls_of, IsNotLost}
 use Rattle.example_bank.specs.Clerks.{scripts_of, counted, next_script, Counts, CountsNone, IsStopped, IsEarly, IsNotSpent, HasCause, HasWorked, IsThrough, WorksOn, Settles, SettlesEnd, IsPending, IsFinished}
 use Rattle.example_bank.specs.Days.{HasEnded, open_in, one_if}
 use Rattle.example_bank.proofs.Own.{NoneOpen, own_calls}
@@ -78,7 +78,7 @@ module _ (c : Saved) (m k : Memory) (n : ℕ) (x y : Clerk) (tickets : tickets_b
 
       -- its calls that were answered are all that it has
       all_known : HasOnly h n t ms NoneOpen → Counts x y (calls_of n h)
-      all_known only = subst (Counts x y) (sym (own_calls n t ms h leads.order (leads.made n ms made_now) only)) has_worked.0.counts
+      all_known only = subst (Counts x y) (sym (own_calls n t ms h leads.order has_worked.0.none_lost (leads.made n ms made_now) only)) has_worked.0.counts
 
       as_none : (e : HistoryEntry) → IsOneOf t ms (HasOpenOf k n) e → ((e.ticket ≡ t + length ms + 1) → HasOpenOf k n e.script → ⊥) → IsOneOf t ms NoneOpen e
       as_none e (inl one) not = inl one
@@ -129,9 +129,12 @@ module _ (c : Saved) (m k : Memory) (n : ℕ) (x y : Clerk) (tickets : tickets_b
           has_it g (inl (i, lt, ticket, script)) = inl (i, omega (arith, lt, length-append ms (one ∷ [])), ticket, script ∙ ap (λ (u : Made). u.script) (sym (get_or_append_left ms (one ∷ []) no_made i lt)))
           has_it g (inr (ticket, opened)) = inl (length ms, omega (arith, length-append ms (one ∷ [])), ticket, (open_now g.script opened).1 ∙ ap (λ (u : Made). u.script) (sym at_end))
 
+          none_lost : All (λ (m : Made). IsNotLost m.ended) all
+          none_lost = All-push (λ (m : Made). IsNotLost m.ended) ms one has_worked.0.none_lost tt
+
           counts_it : Counts x z (calls_of n h)
           counts_it =
-              let own = own_calls n t all h leads.order explains (λ i g lt own. has_it (get_or h i g) (leads.only n ms made_now i g lt own)) in
+              let own = own_calls n t all h leads.order none_lost explains (λ i g lt own. has_it (get_or h i g) (leads.only n ms made_now i g lt own)) in
               subst (Counts x z) (sym (own ∙ replied_join ms (one ∷ []))) (counts_join x y z _ _ has_worked.0.counts (counts_one y z e.reply room settles.job (f.one e.reply holds)))
 
         was_finished : IsFinished n c d y z → Counts x z (calls_of n h)

@@ -1,11 +1,11 @@
 -- Of one caller a history has the calls that were answered, in their order.
 use Rattle.std.proofs.Common.{◌≡◌, ◌≢◌, ℕ, zero, suc, ◌+◌, ◌<◌, ◌≤◌, ◌⊎◌, inl, inr, Bool, true, false, ◌==◌, if◌then◌else◌, List, [], ◌∷◌, length, get_or, refl, sym, ap, subst, ◌∙◌, arith}
-use Rattle.std.specs.List.{AllByRecursion as Each}
+use Rattle.std.specs.List.{All, AllByRecursion as Each}
 use Rattle.std.proofs.lemmas.Bool.{cases_lt}
 use Rattle.std.proofs.lemmas.Bool.Decides.{nat_tests}
 use Rattle.of_script.specs.declared.instr.Instr.{Instr}
-use Rattle.of_memory.specs.History.{HistoryEntry, no_history_entry, StandsInOrder, IsLater, End, Replied, Spent, Made, no_made, ExplainsEnd, ExplainsAll, IsOneOf, HasOnly}
-use Rattle.example_bank.specs.Calls.{Call, calls_of, with_end, replied_in}
+use Rattle.of_memory.specs.History.{HistoryEntry, no_history_entry, StandsInOrder, IsLater, End, Replied, Spent, Lost, Made, no_made, ExplainsEnd, ExplainsAll, IsOneOf, HasOnly}
+use Rattle.example_bank.specs.Calls.{Call, calls_of, with_end, replied_in, IsNotLost}
 
 -- ---- entries of one caller
 
@@ -36,6 +36,7 @@ rises t (x ∷ es) e rising (inr is) = let low = rises x.ticket es e rising.1 is
 abbrev EndIn : List HistoryEntry → (caller ticket : ℕ) → List Instr → End → Type 0
 EndIn es n k script (Replied r seq steps announced) = In es (record { caller = n; ticket = k; script = script; reply = r })
 EndIn es n k script (Spent seq) = Each (λ (e : HistoryEntry). e.ticket ≡ k → ⊥) es
+EndIn es n k script (Lost seq) = ⊥
 
 -- no call is open
 abbrev pub NoneOpen : List Instr → Type 0
@@ -56,6 +57,7 @@ module _ (n t : ℕ) (m : Made) (ms : List Made) where
   later_end e es y script (Replied r seq steps announced) at (inl same) = absurd (omega (arith, at, ap (λ (f : HistoryEntry). f.ticket) same))
   later_end e es y script (Replied r seq steps announced) at (inr is) = subst (λ (k : ℕ). In es (record { caller = n; ticket = k; script = script; reply = r })) (omega arith) is
   later_end e es y script (Spent seq) at none = subst (λ (k : ℕ). Each (λ (f : HistoryEntry). f.ticket ≡ k → ⊥) es) (omega arith) none.1
+  later_end e es y script (Lost seq) at lost = absurd lost
 
   end_at : (es : List HistoryEntry) (y : ℕ) (script : List Instr) (end : End) → EndIn es n (t + suc y + 1) script end → EndIn es n (t + 1 + y + 1) script end
   end_at es y script end is = subst (λ (k : ℕ). EndIn es n k script end) (omega arith) is
@@ -96,6 +98,7 @@ own_are n t (m ∷ ms) es rising only ends = go (λ others. own_are n (t + 1) ms
         let others : calls_in es ≡ replied_in ms = others_are es up (later_ones n t m ms (t + 1) es (omega arith) up only)
         (λ y lt. end_at n t m ms es y (get_or ms y no_made).script (get_or ms y no_made).ended (ends (suc y) (omega (arith, lt)))) in
         others ∙ sym (ap (λ (x : End). with_end m.script x (replied_in ms)) is)
+    go others_are (Lost seq) is = absurd (subst (EndIn es n (t + 0 + 1) m.script) is (ends 0 (omega arith)))
 
 -- ---- the entries of a caller in a history
 
@@ -161,17 +164,18 @@ module _ (n : ℕ) where
   above_of t ms e (inl one) = omega (arith, one.1)
   above_of t ms e (inr one) = absurd one.1
 
-  end_in : (h : List HistoryEntry) (k : ℕ) (script : List Instr) (end : End) → ExplainsEnd h n k script end → EndIn (entries_of n h) n k script end
-  end_in h k script (Replied r seq steps announced) found = in_own h _ refl found.0 found.1 found.2
-  end_in h k script (Spent seq) none = each_own (λ (e : HistoryEntry). e.ticket ≡ k → ⊥) h (each_of (λ (e : HistoryEntry). e.caller ≡ n → e.ticket ≡ k → ⊥) h (λ i lt. none i no_history_entry lt))
+  end_in : (h : List HistoryEntry) (k : ℕ) (script : List Instr) (end : End) → IsNotLost end → ExplainsEnd h n k script end → EndIn (entries_of n h) n k script end
+  end_in h k script (Replied r seq steps announced) not found = in_own h _ refl found.0 found.1 found.2
+  end_in h k script (Spent seq) not none = each_own (λ (e : HistoryEntry). e.ticket ≡ k → ⊥) h (each_of (λ (e : HistoryEntry). e.caller ≡ n → e.ticket ≡ k → ⊥) h (λ i lt. none i no_history_entry lt))
+  end_in h k script (Lost seq) not explained = absurd not
 
-  -- If a history has the calls of a caller as they have ended, and no other of it, then its calls
-  -- there are those that were answered, in their order.
-  pub own_calls : (t : ℕ) (ms : List Made) (h : List HistoryEntry) → StandsInOrder h → ExplainsAll h n t ms → HasOnly h n t ms NoneOpen → calls_of n h ≡ replied_in ms
-  own_calls t ms h order all only =
+  -- If a history has the calls of a caller as they have ended, and no other of it, and none of them
+  -- was lost, then its calls there are those that were answered, in their order.
+  pub own_calls : (t : ℕ) (ms : List Made) (h : List HistoryEntry) → StandsInOrder h → All (λ (m : Made). IsNotLost m.ended) ms → ExplainsAll h n t ms → HasOnly h n t ms NoneOpen → calls_of n h ≡ replied_in ms
+  own_calls t ms h order none_lost all only =
       let one : HistoryEntry → Type 0 = λ e. e.caller ≡ n → IsOneOf t ms NoneOpen e in
       let each : Each one h = each_of one h (λ i lt. only i no_history_entry lt) in
       let up : Each (above t) h = each_of (above t) h (λ i lt mine. above_of t ms (get_or h i no_history_entry) (only i no_history_entry lt mine)) in
       calls_are h
       ∙ own_are n t ms (entries_of n h) (rising_of t h order up) (each_own (IsOneOf t ms NoneOpen) h each)
-      (λ y lt. end_in h (t + y + 1) (get_or ms y no_made).script (get_or ms y no_made).ended (all y lt))
+      (λ y lt. end_in h (t + y + 1) (get_or ms y no_made).script (get_or ms y no_made).ended (none_lost y no_made lt) (all y lt))

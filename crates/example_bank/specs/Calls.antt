@@ -2,7 +2,7 @@
 use Rattle.std.specs.Prelude.{ℕ, ◌+◌, ◌==◌, List, [], ◌∷◌, map, if◌then◌else◌}
 use Rattle.of_script.specs.declared.instr.Instr.{Instr}
 use Rattle.of_store.specs.Store.{Reply, Answered, Aborted}
-use Rattle.of_memory.specs.History.{HistoryEntry, End, Replied, Spent, Made}
+use Rattle.of_memory.specs.History.{HistoryEntry, End, Replied, Spent, Lost, Made}
 
 -- a script, and its reply
 abbrev pub Call : Type 0
@@ -38,7 +38,14 @@ aborted_in (c ∷ cs) = was_aborted c.1 + aborted_in cs
 abbrev pub with_end : List Instr → End → List Call → List Call
 with_end script (Replied r seq steps announced) cs = (script, r) ∷ cs
 with_end script (Spent seq) cs = cs
+with_end script (Lost seq) cs = cs
 
 abbrev pub replied_in : List Made → List Call
 replied_in [] = []
 replied_in (m ∷ ms) = with_end m.script m.ended (replied_in ms)
+
+-- the call was answered or spent, and wasn't lost with its machine
+abbrev pub IsNotLost : End → Type 0
+IsNotLost (Replied r seq steps announced) = Unit {0}
+IsNotLost (Spent seq) = Unit {0}
+IsNotLost (Lost seq) = ⊥

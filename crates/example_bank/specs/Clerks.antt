@@ -1,5 +1,6 @@
 -- A clerk, its job, and what it has done of the job.
 use Rattle.std.specs.Prelude.{◌≡◌, ℕ, ◌+◌, ◌<◌, ◌≤◌, List, [], ◌++◌, length, map, take, Option, Some, None, true, false, vec_len, ◌⊎◌}
+use Rattle.std.specs.List.{All}
 use Rattle.std.proofs.Common.{get_or}
 use Rattle.of_script.specs.declared.instr.Instr.{Instr}
 use Rattle.of_store.specs.Store.{Reply}
@@ -12,7 +13,7 @@ use Rattle.of_memory.specs.Handles.{HasMade, HasOpen, HasCallOpen, tickets_behin
 use Rattle.of_memory.specs.Saving.{HoldsReply, saved_ticket}
 use Rattle.example_bank.specs.declared.clerk.Clerk.{Clerk}
 use Rattle.example_bank.specs.Transfers.{transfer_script}
-use Rattle.example_bank.specs.Calls.{Call, replied_in, scripts_in, made_in, aborted_in, was_made, was_aborted}
+use Rattle.example_bank.specs.Calls.{Call, replied_in, IsNotLost, scripts_in, made_in, aborted_in, was_made, was_aborted}
 
 -- the scripts of the clerk's transfers, in the order of its job
 abbrev pub scripts_of : Clerk → List (List Instr)
@@ -71,12 +72,14 @@ HasCause steps before answered (Some NoTicket) = before + answered + 1 < 4294967
 -- ---- a clerk that works with a handle
 
 -- The clerk x has worked with a handle for a day, and is now y; the handle is now k. The clerk has
--- counted the answered calls of the handle, and no transfer is pending. If the handle has an open
--- call, the clerk was stopped, and this call is the next transfer of its job. If the clerk has
--- ended early, its job isn't done, and the cause for its ending is there (`HasCause`).
+-- counted the answered calls of the handle, none of the handle's calls was lost, and no transfer is
+-- pending. If the handle has an open call, the clerk was stopped, and this call is the next transfer
+-- of its job. If the clerk has ended early, its job isn't done, and the cause for its ending is there
+-- (`HasCause`).
 pub record HasWorked (x y : Clerk) (k : Handle) : Type 0 where
   pub made : List Made
   pub has : HasMade k made
+  pub none_lost : All (λ (m : Made). IsNotLost m.ended) made
   pub counts : Counts x y (replied_in made)
   pub answered : y.answered ≡ length (replied_in made)
   pub whole : IsNotSpent y.end → y.answered ≡ length made

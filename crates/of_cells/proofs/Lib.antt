@@ -4,6 +4,7 @@ pub mod Times
 pub mod OwnCells
 pub mod Closing
 pub mod Holding
+pub mod LostCalls
 pub mod Still
 pub mod Renumbering
 mod Meant

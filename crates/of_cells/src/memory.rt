@@ -181,6 +181,23 @@ impl<W: Work> CellMemory<W> {
         self.limit().saturating_sub(self.seq)
     }
 
+    /// Evicts the request of this number: makes it durable, so that a lost handle of the number no
+    /// longer lacks a new machine because it isn't (`NotYet::RequestNotDurable`). If the memory has
+    /// no such number, nothing is done.
+    pub fn evict_request(&mut self, number: u32)
+        requires { IsCellMemory W.meaning self.old }
+        ensures memory { IsCellMemory W.meaning self.new }
+        ensures still { IsStill self.old self.new }
+        ensures none { TakesNone self.old self.new }
+        ensures remembers { RemembersAll W.meaning self.old self.new }
+        ensures seq { seq_known_in self.new ≡ seq_known_in self.old }
+    {
+        if number < self.callers() {
+            let request = self.row.shape().request(number);
+            self.row.evict(&mut self.pass, request);
+        }
+    }
+
     /// A handle for this number, which goes on where the last handle of the number left.
     pub fn enrol(&mut self, number: u32) -> Result<CellHandle<W>, EnrolError>
         requires { IsCellMemory W.meaning self.old }

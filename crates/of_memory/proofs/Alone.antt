@@ -7,7 +7,7 @@ use Rattle.of_script.specs.Language.{instr_word}
 use Rattle.of_store.specs.Store.{Store, run, last_store}
 use Rattle.of_memory.specs.declared.memory.Memory.{Memory}
 use Rattle.of_memory.specs.declared.saved.Saved.{Saved}
-use Rattle.of_memory.specs.History.{HistoryEntry, Made, End, Replied, Spent, no_history_entry, no_made, store_after, ExplainsEnd, IsOneOf}
+use Rattle.of_memory.specs.History.{HistoryEntry, Made, End, Replied, Spent, Lost, no_history_entry, no_made, store_after, ExplainsEnd, IsOneOf}
 use Rattle.of_memory.specs.Memories.{HasOpenOf, LeadsTo, tickets_before}
 use Rattle.of_memory.specs.Saving.{SavedHolds}
 use Rattle.of_memory.specs.Joining.{EndsWithReply, HasMadeAlone, LoneCallsAreSaved}
@@ -57,6 +57,7 @@ IsEntryOf h c t script = (p : ℕ) × (p < length h) × ((get_or h p no_history_
 entry_of : (h : List HistoryEntry) (c t : ℕ) (script : List Instr) (end : End) → EndsWithReply end → ExplainsEnd h c t script end → IsEntryOf h c t script
 entry_of h c t script (Replied r seq steps announced) is has = (has.0, has.1, ap (λ (e : HistoryEntry). e.ticket) has.2, ap (λ (e : HistoryEntry). e.script) has.2)
 entry_of h c t script (Spent seq) is has = absurd is
+entry_of h c t script (Lost seq) is has = absurd is
 
 module _ (m : Memory) (n : ℕ) (ms : List Made) (alone : HasMadeAlone m n ms) (s : Store) (d : Saved) (h : List HistoryEntry) (leads : LeadsTo m s d h) where
   abbrev t : ℕ

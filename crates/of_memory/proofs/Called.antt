@@ -1,13 +1,11 @@
 -- What a call of a script comes to, as calls of any work and as calls of scripts.
-use Rattle.std.proofs.Common.{◌≡◌, ℕ, zero, suc, ◌+◌, ◌≤◌, ◌<◌, ◌⊎◌, inl, inr, List, [], ◌∷◌, ◌++◌, length, get_or, map, take, Result, Ok, Err, refl, sym, ap, subst, ◌∙◌, arith}
+use Rattle.std.proofs.Common.{◌≡◌, ℕ, zero, suc, ◌<◌, ◌⊎◌, inl, inr, List, [], ◌∷◌, ◌++◌, length, get_or, map, take, Result, Ok, Err, refl, sym, ap, subst, ◌∙◌, arith}
 use Rattle.std.proofs.Math.Seq.{take-append_seam}
 use Rattle.std.proofs.lemmas.List.{length-map}
 use Rattle.std.proofs.lemmas.List.Elements.{All-push}
 use Rattle.of_script.specs.declared.instr.Instr.{Instr}
-use Rattle.of_script.specs.declared.instr.TheConstants.{MOST_INSTRS}
 use Rattle.of_script.specs.Language.{IsScript, instr_word}
 use Rattle.of_script.proofs.WordLaws.{words_injective}
-use Rattle.of_store.specs.Replies.{reply_value_of}
 use Rattle.of_eval.specs.Scripts.{scripts_meaning}
 use Rattle.of_plan.specs.declared.answer.Answer.{Answer}
 use Rattle.of_core.specs.Machine.{CallState, IsOpen}
@@ -24,7 +22,7 @@ use Rattle.of_memory.specs.History.{Made, no_made, Spent}
 use Rattle.of_memory.specs.Calls.{IsScriptOperation, IsMade, AreMade, AreOfScripts}
 use Rattle.of_memory.specs.Rows.{IsScriptsRow}
 use Rattle.of_memory.specs.Called.{TellsRaw, answered_call, made_with}
-use Rattle.of_memory.specs.Handles.{IsHandle, HasMade, HasOpen, HasCallOpen, IsSame, OpensOnly, StaysOpenOnlyIfStopped}
+use Rattle.of_memory.specs.Handles.{IsHandle, HasCallOpen, IsSame, OpensOnly, StaysOpenOnlyIfStopped}
 use Rattle.of_memory.specs.Telling.{CallsStay}
 
 -- ---- calls that are kept, as calls of scripts
@@ -42,7 +40,7 @@ made_long [] (m ∷ ms) h = absurd h
 made_long (e ∷ es) [] h = absurd h
 made_long (e ∷ es) (m ∷ ms) h = let r : length ms ≡ length es = made_long es ms h.1 in omega (arith, r)
 
-made_more : (es : List EndedCall) (ms : List Made) (e : EndedCall) (m : Made) → AreMade es ms → IsMade e m → AreMade (es ++ e ∷ []) (ms ++ m ∷ [])
+pub made_more : (es : List EndedCall) (ms : List Made) (e : EndedCall) (m : Made) → AreMade es ms → IsMade e m → AreMade (es ++ e ∷ []) (ms ++ m ∷ [])
 made_more [] [] e m h k = (k, tt)
 made_more [] (n ∷ ms) e m h k = absurd h
 made_more (f ∷ es) [] e m h k = absurd h

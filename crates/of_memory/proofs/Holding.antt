@@ -1,6 +1,5 @@
 -- What a memory knows of its callers, as calls of scripts.
-use Rattle.std.proofs.Common.{◌≡◌, ◌≢◌, ℕ, ◌<◌, ◌≤◌, inl, inr, List, [], ◌∷◌, length, get_or, set, Option, Some, None, refl, sym, ap, subst, ◌∙◌, arith}
-use Rattle.std.specs.List.{All, AllByRecursion}
+use Rattle.std.proofs.Common.{◌≡◌, ◌≢◌, ℕ, ◌<◌, inl, inr, List, [], length, get_or, set, Option, Some, None, refl, sym, ap, subst, ◌∙◌, arith}
 use Rattle.std.proofs.lemmas.Bool.{cases_lt}
 use Rattle.std.proofs.lemmas.List.{get_or-set_same, get_or-set_other, get_or_past, length-set}
 use Rattle.std.proofs.lemmas.List.Elements.{All-from_recursion}
@@ -8,19 +7,17 @@ use Rattle.of_mem.proofs.Lists.{same_some}
 use Rattle.of_core.specs.Machine.{CallState, IsOpen}
 use Rattle.of_row.specs.Views.{EndedCall, KnownCaller, last_caller}
 use Rattle.of_caller.specs.declared.caller.Caller.{Caller}
-use Rattle.of_caller.specs.Callers.{caller_call}
 use Rattle.of_eval.specs.declared.scripts.Scripts.{Scripts}
 use Rattle.of_eval.specs.Scripts.{scripts_meaning}
-use Rattle.of_cells.specs.declared.memory.CellMemory.{CellMemory}
 use Rattle.of_cells.specs.Called.{IsOpenAt}
 use Rattle.of_cells.specs.Serving.{KnowsMore, ended_of}
-use Rattle.of_cells.specs.Handles.{IsCellHandle, made_by, last_operation_of}
+use Rattle.of_cells.specs.Handles.{IsCellHandle, last_operation_of}
 use Rattle.of_cells.specs.Memories as generic
 use Rattle.of_memory.specs.declared.memory.Memory.{Memory}
 use Rattle.of_memory.specs.declared.handle.Handle.{Handle}
 use Rattle.of_memory.specs.Calls.{AreOfScripts, IsScriptOperation}
 use Rattle.of_memory.specs.Rows.{IsScriptsRow}
-use Rattle.of_memory.specs.Handles.{IsHandle, HasCallOpen, home_of, number_of_handle}
+use Rattle.of_memory.specs.Handles.{IsHandle, number_of_handle}
 use Rattle.of_memory.specs.Memories.{IsMemory, IsFrom, IsStill, KnowsOthers, OthersStayOpen, TakesOut, TakesNone, PutsBack, row_of}
 
 pub none_of_scripts : AreOfScripts []

@@ -1,12 +1,11 @@
 -- Where a serial history of operations that are scripts' leads from cells to others, one of scripts leads from the store of the first to that of the others.
-use Rattle.std.proofs.Common.{◌≡◌, ℕ, ◌+◌, ◌≤◌, ◌<◌, ◌⊎◌, inl, inr, Bool, List, length, get_or, sym, ap, ◌∙◌, arith}
+use Rattle.std.proofs.Common.{◌≡◌, ℕ, ◌≤◌, ◌<◌, inl, inr, Bool, List, length, get_or, sym, ap, ◌∙◌, arith}
 use Rattle.std.specs.Prelude.{if◌then◌else◌}
 use Rattle.std.proofs.lemmas.Bool.{cases_lt, lt-ltb}
 use Rattle.std.proofs.lemmas.List.{get_or_past}
 use Rattle.std.proofs.lemmas.List.FromFn.{get_or-map-range_with_len}
-use Rattle.of_mem.specs.declared.work.RawReply.{RawReply}
 use Rattle.of_mem.specs.Meaning.{is_marked}
-use Rattle.of_mem.specs.Places.{ticket_cell_at, shape_at, reply_at}
+use Rattle.of_mem.specs.Places.{reply_at}
 use Rattle.of_mem.specs.ProgramWork.{memory_of}
 use Rattle.of_mem.proofs.Standing.{stands_from}
 use Rattle.of_script.specs.declared.instr.TheConstants.{MOST_INSTRS}

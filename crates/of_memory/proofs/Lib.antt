@@ -1,4 +1,5 @@
 pub mod Called
+pub mod Losing
 pub mod Holding
 pub mod Times
 pub mod Replaying

@@ -22,7 +22,7 @@ use Rattle.of_eval.proofs.Meanings.{means_words, words_mean_script}
 use Rattle.of_eval.proofs.ReadsOnly.{reads_of}
 use Rattle.of_plan.specs.Plan.{Plan}
 use Rattle.of_core.specs.declared.place.Outcome.{Outcome}
-use Rattle.of_core.specs.declared.place.Outcome.TheVariants.{Answered, Spent as Over, Lost}
+use Rattle.of_core.specs.declared.place.Outcome.TheVariants.{Answered, Spent as Over, Lost as Gone}
 use Rattle.of_core.specs.Table.{Setup}
 use Rattle.of_core.specs.Machine.{Call, no_call}
 use Rattle.of_core.specs.Linear.{Sequences}
@@ -37,7 +37,7 @@ use Rattle.of_cells.specs.History as generic
 use Rattle.of_cells.specs.Serving.{cells_at_start}
 use Rattle.of_cells.specs.Handles.{RepliesAsMeant}
 use Rattle.of_memory.specs.declared.handle.Handle.{Handle}
-use Rattle.of_memory.specs.History.{HistoryEntry, no_history_entry, Made, no_made, End, Replied, Spent, IsSerial, store_after, StandsInOrder, EntriesRiseBySequence, HasSequenceOfEnd, HaveOwnSequences, HasEntry, ExplainsEnd, ExplainsAll, IsOneOf, HasOnly, ScriptOnlyReads, IsUpTo, ComeInOrder}
+use Rattle.of_memory.specs.History.{HistoryEntry, no_history_entry, Made, no_made, End, Replied, Spent, Lost, IsSerial, store_after, StandsInOrder, EntriesRiseBySequence, HasSequenceOfEnd, HaveOwnSequences, HasEntry, ExplainsEnd, ExplainsAll, IsOneOf, HasOnly, ScriptOnlyReads, IsUpTo, ComeInOrder}
 use Rattle.of_memory.specs.Calls.{IsScriptOperation, HoldsResponse, EndsAs, AreMade}
 use Rattle.of_memory.specs.Called.{HoldsSomeReply}
 use Rattle.of_memory.specs.Handles.{IsHandle, home_of}
@@ -196,9 +196,13 @@ module _ (w : Scripts) where
         let one = has p (among_calls p l) (sym e.caller ∙ mine) (sym e.ticket ∙ same) in
         (one.0 ∙ held.1, one.1 ∙ held.3)
     own q (Answered seq announced raw steps) (Spent t) i ticket held has = absurd held
+    own q (Answered seq announced raw steps) (Lost t) i ticket held has = absurd held
     own q (Over seq) (Replied response t n a) i ticket held has = absurd held
     own q (Over seq) (Spent t) i ticket held has = tt
-    own q (Lost seq) end i ticket held has = absurd held
+    own q (Over seq) (Lost t) i ticket held has = absurd held
+    own q (Gone seq) (Replied response t n a) i ticket held has = absurd held
+    own q (Gone seq) (Spent t) i ticket held has = absurd held
+    own q (Gone seq) (Lost t) i ticket held has = tt
 
     -- ---- how the calls have ended
 
@@ -217,8 +221,12 @@ module _ (w : Scripts) where
     explains : (o : Outcome) (end : End) (i t : ℕ) (op : List ℕ) (script : List Instr) → IsScript script → op ≡ map instr_word script → EndsAs o end → generic.ExplainsEnd cs i t op o → ExplainsEnd hs i t script end
     explains (Answered seq announced raw steps) (Replied response t n a) i ticket op script is words held c = has i ticket op raw script response is words held.0 c
     explains (Answered seq announced raw steps) (Spent t) i ticket op script is words held c = absurd held
+    explains (Answered seq announced raw steps) (Lost t) i ticket op script is words held c = absurd held
     explains (Over seq) (Replied response t n a) i ticket op script is words held c = absurd held
-    explains (Lost seq) end i ticket op script is words held none = absurd held
+    explains (Over seq) (Lost t) i ticket op script is words held none = absurd held
+    explains (Gone seq) (Replied response t n a) i ticket op script is words held none = absurd held
+    explains (Gone seq) (Spent t) i ticket op script is words held none = absurd held
+    explains (Gone seq) (Lost t) i ticket op script is words held none = tt
     explains (Over seq) (Spent t) i ticket op script is words held none =
         All-from_get_or (λ (e : HistoryEntry). e.caller ≡ i → e.ticket ≡ ticket → ⊥) hs no_history_entry
         (λ y l a b. none y no_call (among_calls y l) (sym (at y l).caller ∙ a) (sym (at y l).ticket ∙ b))

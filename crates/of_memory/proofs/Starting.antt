@@ -1,5 +1,5 @@
 -- Where memories of scripts start: empty, or where a closed one has ended.
-use Rattle.std.proofs.Common.{◌≡◌, ℕ, ◌≤◌, ◌<◌, List, [], replicate, get_or, sym, ap, subst, ◌∙◌, length}
+use Rattle.std.proofs.Common.{◌≡◌, ℕ, ◌≤◌, List, replicate, get_or, sym, ap, subst, ◌∙◌, length}
 use Rattle.std.proofs.lemmas.List.{length-map, length-replicate}
 use Rattle.of_cell.specs.declared.word.TheConstants.{GREATEST_LIMIT}
 use Rattle.of_mem.specs.ProgramWork.{memory_of}
@@ -13,7 +13,7 @@ use Rattle.of_cells.specs.Memories.{cell_count_of}
 use Rattle.of_memory.specs.declared.memory.Memory.{Memory}
 use Rattle.of_memory.specs.declared.saved.Saved.{Saved}
 use Rattle.of_memory.specs.Rows.{IsScriptsRow, StandFor, HoldLastReplies}
-use Rattle.of_memory.specs.Saving.{IsSaved, SavedHolds, saved_scripts, saved_cells, saved_callers, saved_limit}
+use Rattle.of_memory.specs.Saving.{IsSaved, saved_scripts, saved_cells, saved_callers, saved_limit}
 use Rattle.of_memory.specs.Memories.{StartsWith, row_of, scripts_work_of, callers_of, limit_of, cells_before}
 
 -- no cell has a number

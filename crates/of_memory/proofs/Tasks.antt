@@ -1,14 +1,11 @@
 -- Tasks that have worked at once, as tasks of scripts.
-use Rattle.std.proofs.Common.{◌≡◌, ℕ, ◌<◌, ◌≤◌, inl, inr, List, [], ◌∷◌, length, get_or, map, Some, None, refl, sym, ap, subst, ◌∙◌, arith}
-use Rattle.std.specs.Prelude.{Result, Ok, Err, OnOk, OnErr}
+use Rattle.std.proofs.Common.{◌≡◌, ℕ, ◌<◌, inl, inr, List, [], ◌∷◌, length, get_or, map, Some, None, refl, sym, ap, subst, ◌∙◌, arith}
 use Rattle.std.proofs.lemmas.Bool.{cases_lt}
 use Rattle.std.proofs.lemmas.List.{get_or_default}
-use Rattle.of_script.specs.declared.instr.Instr.{Instr}
-use Rattle.of_script.specs.Language.{IsScript, instr_word}
+use Rattle.of_script.specs.Language.{instr_word}
 use Rattle.of_row.specs.Views.{EndedCall}
 use Rattle.of_eval.specs.declared.scripts.Scripts.{Scripts}
 use Rattle.of_eval.specs.Scripts.{scripts_meaning}
-use Rattle.of_cells.specs.declared.error.EnrolError.{EnrolError}
 use Rattle.of_cells.specs.declared.handle.CellHandle.{CellHandle}
 use Rattle.of_cells.specs.Handles.{IsCellHandle, made_by, last_operation_of}
 use Rattle.of_cells.specs.Memories as cells
@@ -18,7 +15,7 @@ use Rattle.of_memory.specs.declared.handle.Handle.{Handle}
 use Rattle.of_memory.specs.Calls.{AreMade, AreOfScripts, IsScriptOperation}
 use Rattle.of_memory.specs.Rows.{IsScriptsRow}
 use Rattle.of_memory.specs.Handles.{IsHandle}
-use Rattle.of_memory.specs.Memories.{IsMemory, IsFrom, IsStill}
+use Rattle.of_memory.specs.Memories.{IsMemory, IsStill}
 use Rattle.of_cells.specs.declared.memory.CellMemory.{CellMemory}
 use Rattle.of_cells.proofs.Handing.{knew_handle}
 use Rattle.of_mem.proofs.Lists.{same_some}

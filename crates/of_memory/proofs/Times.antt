@@ -1,5 +1,5 @@
 -- Calls that come one after the other stand in that order in the history.
-use Rattle.std.proofs.Common.{◌≡◌, ℕ, ◌+◌, List, length, Result, sym, subst, ◌∙◌}
+use Rattle.std.proofs.Common.{ℕ, ◌+◌, List, length, Result, sym, subst, ◌∙◌}
 use Rattle.of_store.specs.Store.{Store}
 use Rattle.of_plan.specs.declared.answer.Answer.{Answer}
 use Rattle.of_eval.specs.declared.scripts.Scripts.{Scripts}
@@ -11,7 +11,7 @@ use Rattle.of_cells.specs.Telling.{TellsOf}
 use Rattle.of_memory.specs.declared.handle.Handle.{Handle}
 use Rattle.of_memory.specs.declared.memory.Memory.{Memory}
 use Rattle.of_memory.specs.declared.saved.Saved.{Saved}
-use Rattle.of_memory.specs.History.{HistoryEntry, Made, ComeInOrder}
+use Rattle.of_memory.specs.History.{Made, ComeInOrder}
 use Rattle.of_memory.specs.Called.{HasStarted}
 use Rattle.of_memory.specs.Handles.{HasMade, home_of, number_of_handle}
 use Rattle.of_memory.specs.Memories.{StartsWith, HasHistory, tickets_before}

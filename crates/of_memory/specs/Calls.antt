@@ -9,10 +9,10 @@ use Rattle.of_store.specs.Store.{Reply}
 use Rattle.of_store.specs.Replies.{reply_value_of}
 use Rattle.of_eval.specs.Shapes.{IsHeldBy}
 use Rattle.of_core.specs.declared.place.Outcome.{Outcome}
-use Rattle.of_core.specs.declared.place.Outcome.TheVariants.{Answered, Spent as Over, Lost}
+use Rattle.of_core.specs.declared.place.Outcome.TheVariants.{Answered, Spent as Over, Lost as Gone}
 use Rattle.of_core.specs.Machine.{IsOpen}
 use Rattle.of_row.specs.Views.{EndedCall, KnownCaller}
-use Rattle.of_memory.specs.History.{End, Replied, Spent, Made}
+use Rattle.of_memory.specs.History.{End, Replied, Spent, Lost, Made}
 
 -- the words are those of a script
 abbrev pub IsScriptOperation : List ℕ → Type 0
@@ -23,14 +23,18 @@ abbrev pub HoldsResponse : RawReply → Reply → Type 0
 HoldsResponse raw response = (r : RustReply) × IsHeldBy raw r × (reply_value_of r ≡ response)
 
 -- the outcome of a call and its end say the same: the call has this reply, this sequence, these
--- steps, and was announced or not; or it was spent
+-- steps, and was announced or not; or it was spent; or it was lost
 abbrev pub EndsAs : Outcome → End → Type 0
 EndsAs (Answered s announced raw steps) (Replied r t n a) =
     HoldsResponse raw r × (s ≡ t) × (steps ≡ n) × (announced ≡ a)
 EndsAs (Answered s announced raw steps) (Spent t) = ⊥
+EndsAs (Answered s announced raw steps) (Lost t) = ⊥
 EndsAs (Over s) (Replied r t n a) = ⊥
 EndsAs (Over s) (Spent t) = s ≡ t
-EndsAs (Lost s) end = ⊥
+EndsAs (Over s) (Lost t) = ⊥
+EndsAs (Gone s) (Replied r t n a) = ⊥
+EndsAs (Gone s) (Spent t) = ⊥
+EndsAs (Gone s) (Lost t) = s ≡ t
 
 -- the ended call, as a caller keeps it, is this call of a script
 pub record IsMade (e : EndedCall) (m : Made) : Type 0 where

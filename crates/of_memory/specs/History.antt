@@ -40,10 +40,12 @@ StandsInOrder h =
     → IsLater (get_or h p no_history_entry) (get_or h q no_history_entry)
 
 -- How a call has ended. It was answered with a reply, at a sequence, after this many steps,
--- announced or not; or it was spent, since the sequence had come to the limit.
+-- announced or not; or it was spent, since the sequence had come to the limit; or it was lost with
+-- its machine, at a sequence.
 pub data End : Type 0 where
   Replied : Reply → (seq steps : ℕ) → (announced : Bool) → End
   Spent : (seq : ℕ) → End
+  Lost : (seq : ℕ) → End
 
 -- an ended call of a caller: its script, and how it ended
 pub record Made : Type 0 where
@@ -58,11 +60,12 @@ abbrev pub HasEntry : List HistoryEntry → HistoryEntry → Type 0
 HasEntry h e = (p : ℕ) × (p < length h) × (get_or h p no_history_entry ≡ e)
 
 -- The history agrees with how this call ended: if the call was answered, the history has it, with
--- its reply; if it was spent, the history does not have it.
+-- its reply; if it was spent, the history does not have it. A lost call may be there or not.
 abbrev pub ExplainsEnd : List HistoryEntry → (caller ticket : ℕ) → List Instr → End → Type 0
 ExplainsEnd h c t script (Replied r seq steps announced) =
     HasEntry h (record { caller = c; ticket = t; script = script; reply = r })
 ExplainsEnd h c t script (Spent seq) = All (λ (e : HistoryEntry). e.caller ≡ c → e.ticket ≡ t → ⊥) h
+ExplainsEnd h c t script (Lost seq) = Unit {0}
 
 -- the history explains how each call in this list of a caller's ended calls has ended; the first
 -- call of the list has the ticket n + 1
@@ -87,6 +90,7 @@ HasSequenceOfEnd h s c t (Replied r seq steps announced) =
     (p : ℕ) → p < length h → (get_or h p no_history_entry).caller ≡ c
     → (get_or h p no_history_entry).ticket ≡ t → (s.seq p ≡ seq) × (s.announced p ≡ announced)
 HasSequenceOfEnd h s c t (Spent seq) = Unit {0}
+HasSequenceOfEnd h s c t (Lost seq) = Unit {0}
 
 -- If a call in this list of a caller's ended calls was answered and is in the history, it has there
 -- the sequence that its answer names, and is announced there exactly if the answer says so. The

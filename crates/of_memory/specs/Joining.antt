@@ -6,7 +6,7 @@ use Rattle.of_store.specs.Store.{Store, run, last_store}
 use Rattle.of_memory.specs.declared.memory.Memory.{Memory}
 use Rattle.of_memory.specs.declared.handle.Handle.{Handle}
 use Rattle.of_memory.specs.declared.saved.Saved.{Saved}
-use Rattle.of_memory.specs.History.{HistoryEntry, Made, End, Replied, Spent, IsSerial, store_after}
+use Rattle.of_memory.specs.History.{HistoryEntry, Made, End, Replied, Spent, Lost, IsSerial, store_after}
 use Rattle.of_memory.specs.Handles.{IsSame, HasCallOpen}
 use Rattle.of_memory.specs.Memories.{IsStill, StartsWith, HasMadeOf, HasNoneOpen, HasHistory, TakesOut, PutsBack, callers_of, tickets_before}
 use Rattle.of_memory.specs.Saving.{SavedHolds}
@@ -51,6 +51,7 @@ NoneStaysOpen =
 abbrev pub EndsWithReply : End → Type 0
 EndsWithReply (Replied r seq steps announced) = Unit {0}
 EndsWithReply (Spent seq) = ⊥
+EndsWithReply (Lost seq) = ⊥
 
 -- caller n has made these calls, and each was answered; no other caller has made a call, and no
 -- call is open

@@ -5,6 +5,7 @@ pub mod Called
 pub mod Within
 pub mod Saving
 pub mod Handles
+pub mod Lost
 pub mod Memories
 pub mod Sequences
 pub mod Renewing

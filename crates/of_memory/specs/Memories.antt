@@ -1,5 +1,5 @@
 -- A memory that a program has opened, and what its close leaves.
-use Rattle.std.specs.Prelude.{◌≡◌, ◌≢◌, ℕ, ◌+◌, ◌<◌, ◌≤◌, ◌⊎◌, List, map}
+use Rattle.std.specs.Prelude.{◌≡◌, ◌≢◌, ℕ, ◌+◌, ◌<◌, ◌⊎◌, List, map}
 use Rattle.std.specs.List.{All}
 use Rattle.of_cell.specs.declared.word.TheConstants.{GREATEST_LIMIT}
 use Rattle.of_mem.specs.declared.plot.TheConstants.{MOST_BLOCKS}

@@ -1,5 +1,5 @@
 -- Up to which sequence a handle or a memory knows of commits, and how many sequences come after it.
-use Rattle.std.specs.Prelude.{◌≡◌, ℕ, Result}
+use Rattle.std.specs.Prelude.{ℕ, Result}
 use Rattle.of_plan.specs.declared.answer.Answer.{Answer}
 use Rattle.of_cells.specs.declared.error.RunError.{RunError}
 use Rattle.of_cells.specs.Sequences as generic

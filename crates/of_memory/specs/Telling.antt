@@ -1,5 +1,5 @@
 -- What a handle knows of the calls of its memory, and tells to another handle or to the memory.
-use Rattle.std.specs.Prelude.{◌≡◌, ℕ, ◌+◌, List, length, Result}
+use Rattle.std.specs.Prelude.{ℕ, ◌+◌, List, length, Result}
 use Rattle.of_store.specs.Store.{Store}
 use Rattle.of_plan.specs.declared.answer.Answer.{Answer}
 use Rattle.of_eval.specs.declared.scripts.Scripts.{Scripts}
@@ -13,7 +13,7 @@ use Rattle.of_memory.specs.declared.memory.Memory.{Memory}
 use Rattle.of_memory.specs.declared.saved.Saved.{Saved}
 use Rattle.of_memory.specs.History.{HistoryEntry, Made, ComeInOrder}
 use Rattle.of_memory.specs.Called.{HasStarted, without_reply}
-use Rattle.of_memory.specs.Handles.{HasMade, home_of, number_of_handle}
+use Rattle.of_memory.specs.Handles.{HasMade, number_of_handle}
 use Rattle.of_memory.specs.Memories.{IsFrom, IsStill, StartsWith, RemembersAll, HasHistory, LeadsTo, tickets_before}
 
 -- the handle knows that the first `count` calls of a number since the memory was opened have ended

@@ -111,6 +111,20 @@ impl Memory {
         self.cells.sequences_left()
     }
 
+    /// Evicts the request of this number: makes it durable, so that a lost handle of the number no
+    /// longer lacks a new machine because it isn't (`NotYet::RequestNotDurable`). If the memory has
+    /// no such number, nothing is done.
+    pub fn evict_request(&mut self, number: u32)
+        requires { IsMemory self.old }
+        ensures memory { IsMemory self.new }
+        ensures still { IsStill self.old self.new }
+        ensures none { TakesNone self.old self.new }
+        ensures remembers { RemembersAll self.old self.new }
+        ensures seq { seq_known_in self.new ≡ seq_known_in self.old }
+    {
+        self.cells.evict_request(number);
+    }
+
     // The scripts that it runs.
     pub(crate) fn scripts(&self) -> Scripts
         ensures { result ≡ scripts_work_of self.now }

@@ -1,4 +1,4 @@
-use Rattle.std.proofs.Common.{◌∙◌, ap, refl, Some, Err}
+use Rattle.std.proofs.Common.{◌∙◌, ap, refl, Err}
 use Rattle.of_cells.proofs.Called.{serves_on, open_counts, made_answered, made_spent, made_none, none_after_answer, none_after_spent, open_after_stop, answers_within, stops_within, keeps_answered, keeps_stopped, keeps_over, answered_some, stopped_some, spent_some, rises_within, rises_as_given, rises_by_touch, spent_at_limit, opens_none, kept_fresh, next_call}
 use Rattle.of_cells.proofs.Meant.{meant_answer}
 use Rattle.of_cells.proofs.calling.go_on_counted.Goals as goal
