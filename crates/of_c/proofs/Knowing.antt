@@ -5,7 +5,7 @@ use Rattle.of_memory.specs.Memories.{IsStill, TakesNone, RemembersAll, HasOrderO
 use Rattle.of_memory.specs.Tasks.{KnowsSame}
 use Rattle.of_c.specs.declared.held.Home.{Home}
 use Rattle.of_c.specs.declared.held.Held.{Held}
-use Rattle.of_c.specs.declared.held.Held.TheVariants.{Nothing, Memory, Caller, Saved}
+use Rattle.of_c.specs.declared.held.Held.TheVariants.{Nothing, Memory, Caller, Lost, Saved}
 use Rattle.of_c.specs.Causes.{KnowsAll, KeepsHeld, KeepsSlot}
 
 knows_same : (n : ℕ) (m k : TheMemory) → get_or k.cells.callers.items n None ≡ get_or m.cells.callers.items n None → KnowsSame n m k
@@ -36,10 +36,11 @@ pub keeps_memory : (before : Held) (home now : Home) → before ≡ Memory home 
 keeps_memory before home now is still none remembers =
     subst (λ (h : Held). KeepsHeld h (Memory now)) (sym is) (record { memory = now.memory; is = refl; so = knows_all home.memory now.memory still none remembers })
 
-keeps_held : (h : Held) → KeepsHeld h h
+pub keeps_held : (h : Held) → KeepsHeld h h
 keeps_held Nothing = refl
 keeps_held (Memory home) = record { memory = home.memory; is = refl; so = knows_all home.memory home.memory refl refl (λ n count heard. heard) }
 keeps_held (Caller s) = refl
+keeps_held (Lost v) = refl
 keeps_held (Saved d) = refl
 
 -- what isn't touched stays

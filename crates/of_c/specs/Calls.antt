@@ -17,7 +17,7 @@ use Rattle.of_memory.specs.Sequences.{KnowsSeqOf, left_of_handle}
 use Rattle.of_memory.specs.Within.{EndsWithin, KeepsToStop}
 use Rattle.of_c.specs.declared.codes.TheConstants.{DONE, EMPTY, NO_TICKET, SPENT, STOPPED, CALL_OPEN}
 use Rattle.of_c.specs.declared.held.Held.{Held}
-use Rattle.of_c.specs.declared.held.Held.TheVariants.{Nothing, Memory, Caller, Saved}
+use Rattle.of_c.specs.declared.held.Held.TheVariants.{Nothing, Memory, Caller, Lost, Saved}
 use Rattle.of_c.specs.declared.reply.CReply.{CReply}
 use Rattle.of_c.specs.Replies.{ShowsAnswer}
 use Rattle.of_c.specs.Slots.{HasHandle, HoldsHandle}
@@ -114,6 +114,7 @@ abbrev pub CallsHeld : CallWork → (open_code : ℕ) → (before now : Held) �
 CallsHeld Does o (Caller s) now reply code = HasCalled Does o s.handle now reply code
 CallsHeld Does o Nothing now reply code = HasNoCaller Nothing now code
 CallsHeld Does o (Memory m) now reply code = HasNoCaller (Memory m) now code
+CallsHeld Does o (Lost v) now reply code = HasNoCaller (Lost v) now code
 CallsHeld Does o (Saved d) now reply code = HasNoCaller (Saved d) now code
 
 -- something is still held; if it is a caller, the caller has made its call

@@ -15,7 +15,7 @@ use Rattle.of_memory.specs.Texts.{IsNoLimitOf}
 use Rattle.of_memory.specs.Words.{IsFaultIn, IsPastLimit, durable_count}
 use Rattle.of_c.specs.declared.codes.TheConstants.{EMPTY, NO_MEMORY, NO_START, RANGE}
 use Rattle.of_c.specs.declared.held.Held.{Held}
-use Rattle.of_c.specs.declared.held.Held.TheVariants.{Nothing, Memory, Caller, Saved}
+use Rattle.of_c.specs.declared.held.Held.TheVariants.{Nothing, Memory, Caller, Lost, Saved}
 use Rattle.of_c.specs.Slots.{HoldsMemory, HoldsSaved}
 
 -- the code is one of these
@@ -29,19 +29,30 @@ abbrev pub IsNotMemory : Held → Type 0
 IsNotMemory Nothing = Unit {0}
 IsNotMemory (Memory m) = ⊥
 IsNotMemory (Caller s) = Unit {0}
+IsNotMemory (Lost v) = Unit {0}
 IsNotMemory (Saved d) = Unit {0}
 
 abbrev pub IsNotCaller : Held → Type 0
 IsNotCaller Nothing = Unit {0}
 IsNotCaller (Memory m) = Unit {0}
 IsNotCaller (Caller s) = ⊥
+IsNotCaller (Lost v) = Unit {0}
 IsNotCaller (Saved d) = Unit {0}
 
 abbrev pub IsNotSaved : Held → Type 0
 IsNotSaved Nothing = Unit {0}
 IsNotSaved (Memory m) = Unit {0}
 IsNotSaved (Caller s) = Unit {0}
+IsNotSaved (Lost v) = Unit {0}
 IsNotSaved (Saved d) = ⊥
+
+-- neither a caller is held, nor one without a machine
+abbrev pub IsNotEnrolled : Held → Type 0
+IsNotEnrolled Nothing = Unit {0}
+IsNotEnrolled (Memory m) = Unit {0}
+IsNotEnrolled (Caller s) = ⊥
+IsNotEnrolled (Lost v) = ⊥
+IsNotEnrolled (Saved d) = Unit {0}
 
 -- the slot is empty, or what it holds is not of the kind that is wanted
 abbrev pub HoldsNo : (Held → Type 0) → Option Held → Type 0
@@ -85,6 +96,7 @@ abbrev pub KeepsHeld : (before now : Held) → Type 0
 KeepsHeld (Memory h) now = HoldsMemoryWith (KnowsAll h.memory) (Some now)
 KeepsHeld Nothing now = now ≡ Nothing
 KeepsHeld (Caller s) now = now ≡ Caller s
+KeepsHeld (Lost v) now = now ≡ Lost v
 KeepsHeld (Saved d) now = now ≡ Saved d
 
 -- the slot holds what it held: a memory still knows all that it knew, and anything else is

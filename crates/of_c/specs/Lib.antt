@@ -3,6 +3,7 @@ pub mod Slots
 pub mod Replies
 pub mod Calls
 pub mod Lives
+pub mod Losses
 pub mod States
 pub mod Images
 pub mod Causes

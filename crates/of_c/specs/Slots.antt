@@ -5,13 +5,14 @@ use Rattle.of_memory.specs.declared.handle.Handle.{Handle}
 use Rattle.of_memory.specs.declared.saved.Saved.{Saved as TheSaved}
 use Rattle.of_memory.specs.Memories.{IsFrom}
 use Rattle.of_c.specs.declared.held.Held.{Held}
-use Rattle.of_c.specs.declared.held.Held.TheVariants.{Nothing, Memory, Caller, Saved}
+use Rattle.of_c.specs.declared.held.Held.TheVariants.{Nothing, Memory, Caller, Lost, Saved}
 
 -- what is held is this memory
 abbrev pub HasMemory : Held → TheMemory → Type 0
 HasMemory Nothing m = ⊥
 HasMemory (Memory h) m = h.memory ≡ m
 HasMemory (Caller s) m = ⊥
+HasMemory (Lost v) m = ⊥
 HasMemory (Saved d) m = ⊥
 
 -- what is held is a caller with this handle
@@ -19,6 +20,7 @@ abbrev pub HasHandle : Held → Handle → Type 0
 HasHandle Nothing k = ⊥
 HasHandle (Memory m) k = ⊥
 HasHandle (Caller s) k = s.handle ≡ k
+HasHandle (Lost v) k = ⊥
 HasHandle (Saved d) k = ⊥
 
 -- what is held is `s`, which a memory has left
@@ -26,6 +28,7 @@ abbrev pub HasSaved : Held → TheSaved → Type 0
 HasSaved Nothing s = ⊥
 HasSaved (Memory m) s = ⊥
 HasSaved (Caller c) s = ⊥
+HasSaved (Lost v) s = ⊥
 HasSaved (Saved d) s = d.saved ≡ s
 
 -- the slot holds this memory

@@ -51,3 +51,6 @@ pub const NO_IMAGE: u32 = 17;
 
 /// No memory may go on from what recovery finds in the words.
 pub const NO_START: u32 = 18;
+
+/// No new machine may take the place of a lost one yet.
+pub const NOT_YET: u32 = 27;

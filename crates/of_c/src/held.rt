@@ -1,10 +1,12 @@
-//! What a slot holds: a memory, a caller of a memory, or what a memory has left.
+//! What a slot holds: a memory, a caller of a memory, a caller whose machine is lost, or what a
+//! memory has left.
 
 ghost use Rattle.of_memory.specs.Memories.{IsMemory};
 ghost use Rattle.of_memory.specs.Handles.{IsHandle};
+ghost use Rattle.of_memory.specs.Lost.{IsLostHandle};
 ghost use Rattle.of_memory.specs.Saving.{IsSaved};
 
-use of_memory::{Handle, Memory, Saved};
+use of_memory::{Handle, LostHandle, Memory, Saved};
 
 /// An open memory.
 #[derive(Drop)]
@@ -18,6 +20,13 @@ pub struct Home {
 pub struct Seat {
     pub(crate) handle: Handle,
     ghost is: { ∥ IsHandle handle ∥₁ },
+}
+
+/// An enrolled caller whose machine is lost.
+#[derive(Drop)]
+pub struct Vacant {
+    pub(crate) lost: LostHandle,
+    ghost is: { ∥ IsLostHandle lost ∥₁ },
 }
 
 /// What a closed memory has left.
@@ -34,5 +43,6 @@ pub enum Held {
     Nothing,
     Memory(Home),
     Caller(Seat),
+    Lost(Vacant),
     Saved(Kept),
 }

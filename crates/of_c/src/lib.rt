@@ -6,6 +6,7 @@ mod callers;
 mod codes;
 mod held;
 mod images;
+mod losses;
 mod memories;
 mod pair;
 mod raw;
@@ -15,7 +16,7 @@ mod states;
 mod truth;
 mod words;
 
-pub use held::{Held, Home, Kept, Seat};
+pub use held::{Held, Home, Kept, Seat, Vacant};
 pub use pair::Pair;
 pub use raw::Raw;
 pub use reply::CReply;

@@ -2,11 +2,12 @@
 
 ghost use Rattle.of_memory.specs.Memories.{IsMemory};
 ghost use Rattle.of_memory.specs.Handles.{IsHandle};
+ghost use Rattle.of_memory.specs.Lost.{IsLostHandle};
 ghost use Rattle.of_memory.specs.Saving.{IsSaved};
 ghost use Rattle.of_c.specs.Slots.{AreOfOne};
 
 use crate::pair::Pair;
-use of_memory::{Handle, Memory, Saved};
+use of_memory::{Handle, LostHandle, Memory, Saved};
 
 /// A fact about things of a type.
 pub(crate) trait Claim<T> {
@@ -25,6 +26,13 @@ pub(crate) struct OfHandle;
 
 impl Claim<Handle> for OfHandle {
     ghost claim = { IsHandle };
+}
+
+/// The fact that a lost handle meets `IsLostHandle`.
+pub(crate) struct OfLost;
+
+impl Claim<LostHandle> for OfLost {
+    ghost claim = { IsLostHandle };
 }
 
 /// The fact that what was saved meets `IsSaved`.

@@ -1,4 +1,4 @@
-use Rattle.std.proofs.Common.{◌≡◌, ◌∙◌, ap, sym, subst}
+use Rattle.std.proofs.Common.{◌∙◌, ap, sym, subst}
 use Rattle.std.specs.Prelude.{Option, Some}
 use Rattle.of_c.specs.declared.held.Held.{Held}
 use Rattle.of_c.specs.Calls.{HasSequencesLeft}
