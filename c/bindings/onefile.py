@@ -4,7 +4,7 @@ import ctypes
 import os
 from ctypes import POINTER, c_char_p, c_int, c_size_t, c_uint32, c_uint64, c_void_p
 
-DONE, BUSY, STOPPED, ABSENT, NO_ROOM, NO_FILE = 0, 2, 10, 15, 16, 19
+DONE, BUSY, STOPPED, ABSENT, NO_ROOM, NO_FILE, NOT_YET = 0, 2, 10, 15, 16, 19, 27
 CAUSE_SHORT = 2
 GREATEST_LIMIT = 4294967294
 NO_END = 2**64 - 1
@@ -15,7 +15,7 @@ class Slot(ctypes.Structure):
 
 
 class Guarded(ctypes.Structure):
-    _fields_ = [("busy", c_uint32), ("slot", Slot), ("apart", ctypes.c_char * 64)]
+    _fields_ = [("busy", c_uint32), ("shared", c_uint32), ("slot", Slot), ("apart", ctypes.c_char * 64)]
 
 
 class RawMemory(ctypes.Structure):

@@ -12,6 +12,7 @@ pub const STOPPED: c_int = 10;
 pub const ABSENT: c_int = 15;
 pub const NO_ROOM: c_int = 16;
 pub const NO_FILE: c_int = 19;
+pub const NOT_YET: c_int = 27;
 pub const CAUSE_SHORT: u32 = 2;
 pub const GREATEST_LIMIT: u32 = 4_294_967_294;
 pub const NO_END: u64 = u64::MAX;
@@ -28,6 +29,7 @@ struct Slot {
 #[repr(C)]
 struct Guarded {
     busy: u32,
+    shared: u32,
     slot: Slot,
     apart: [u8; 64],
 }

@@ -70,7 +70,7 @@ enum {
   ONEFILE_FULL = 4,         /* the object that is to be filled is not empty */
   ONEFILE_NO_MEMORY = 5,    /* malloc gave none */
   ONEFILE_RANGE = 6,        /* a number is out of its range */
-  ONEFILE_TAKEN = 7,        /* a caller is enrolled with this number, or had it */
+  ONEFILE_TAKEN = 7,        /* a caller is enrolled with this number */
   ONEFILE_CALL_OPEN = 8,    /* a call of the caller is open */
   ONEFILE_NO_CALL = 9,      /* no call of the caller is open */
   ONEFILE_STOPPED = 10,     /* the steps that were given are made; the call stays open */
@@ -89,7 +89,8 @@ enum {
   ONEFILE_NO_SPACE = 23,    /* the disk is full, or the process may have no file of this size */
   ONEFILE_SYSTEM = 24,      /* the system refused something else: errno says why */
   ONEFILE_OTHER_SIZES = 25, /* the memory in the file has other callers or blocks */
-  ONEFILE_OTHER_VERSION = 26 /* another version of the library has made the file */
+  ONEFILE_OTHER_VERSION = 26, /* another version of the library has made the file */
+  ONEFILE_NOT_YET = 27      /* the number is free only after the next commit: try again */
 };
 
 /* The name of an answer, as "ONEFILE_DONE". "ONEFILE_?" if there is no such answer. */
@@ -114,6 +115,7 @@ typedef struct onefile_slot {
 
 typedef struct onefile_guarded {
   uint32_t busy;
+  uint32_t shared; /* of a caller whose number is kept in a shared file */
   onefile_slot slot;
   char apart[64]; /* a line of the cache, so that no two callers share one */
 } onefile_guarded;
@@ -149,16 +151,18 @@ int onefile_reopen(onefile_memory *memory, onefile_saved *saved);
 /* Enrols the caller with this number. It goes on where this number left. Each call that it begins
  * takes effect after all answered calls of callers that have left before.
  * EMPTY; RANGE if the memory has no such caller; TAKEN; FILE_IN_USE in a forked child, of a memory
- * that its parent has in a file. */
+ * that its parent has in a file; of a shared memory NOT_YET, SPENT and SYSTEM too. */
 int onefile_enrol(onefile_memory *memory, uint32_t number);
 
-/* The same with the first number that is free, which is written into `number`.
- * EMPTY; TAKEN if none is free; FILE_IN_USE. */
+/* The same with the first number that is free, which is written into `number`. Of a shared memory
+ * those that nobody has had in this life come first.
+ * EMPTY; TAKEN if none is free; FILE_IN_USE; NOT_YET, SPENT and SYSTEM as above. */
 int onefile_enrol_any(onefile_memory *memory, uint32_t *number);
 
 /* The caller leaves, and its number is free again. A call that is open stays open: it takes effect
- * once or not at all, and the next caller of this number can go on with it. After a close no call
- * is open, and onefile_ticket tells whether it took effect.
+ * once or not at all, and the next caller of this number can go on with it; of a shared memory only
+ * if it is announced and has not taken effect. After a close no call is open, and onefile_ticket
+ * tells whether it took effect.
  * EMPTY, RANGE. */
 int onefile_leave(onefile_memory *memory, uint32_t number);
 
@@ -224,13 +228,22 @@ int onefile_reopen_file(onefile_memory *memory, const char *path, uint32_t limit
  * in the middle of a call: the others go on and never wait for it, and its open call takes effect
  * once or not at all, perhaps later.
  *
- * A life of the file is from when a first process has it until none has it. In a life one process
- * at most has a number, also if its caller has left or the process was killed: onefile_enrol of
- * another process is answered TAKEN. So a file of 64 callers serves 64 processes in a life, or
- * fewer that use several numbers. A process may enrol its own numbers again. Once no process has
- * the file, the next one to come recovers it, as onefile_reopen_file does, and a life begins with
- * all numbers free, all sequences, and tickets that go on. At SPENT let all processes close the
- * memory.
+ * A life of the file is from when a first process has it until none has it. Once no process has the
+ * file, the next one to come recovers it, as onefile_reopen_file does, and a life begins with all
+ * sequences, and tickets that go on. At SPENT let all processes close the memory.
+ *
+ * One memory at a time has a number: onefile_enrol of another one is answered TAKEN. When the caller
+ * leaves, its memory is let go or its process dies, another one may take the number over, while all
+ * others go on: onefile_enrol goes on from what the table has of this number. If the last owner had
+ * announced a call that has not taken effect, that call is open: a new call is answered CALL_OPEN,
+ * and onefile_go_on ends it. Any other call of the last owner has taken effect, or never will.
+ *
+ * A process that dies may leave words of its number that nobody may write over before a commit. Then
+ * onefile_enrol is answered NOT_YET. The number is free after the next commit of any caller: a call
+ * that writes. At NOT_YET and SPENT, and at NO_MEMORY, the memory may keep the number for itself: for
+ * others it is TAKEN, and no caller is enrolled with it. Let it enrol this number again, or close the
+ * memory. onefile_enrol_any keeps no number that it has not enrolled; it is answered NOT_YET if all
+ * numbers are taken or not yet free, and one is not yet free.
  *
  * There is no saved one to ask. What a later process must know of a call, let the call keep in a
  * register or at a key. onefile_close and onefile_free let the file go for this process alone; a
@@ -240,12 +253,16 @@ int onefile_reopen_file(onefile_memory *memory, const char *path, uint32_t limit
  *
  * What is trusted: that processes which map one file and start from the words that it keeps have
  * one table, which is what a proved memory takes for its own; that a mapping which comes in the
- * place of private pages has the same words; flock; and c/src/shared.c, by which one process at
- * most has a number in a life, nothing but steps of callers is done on the shared pages, and
- * nobody recovers a file that another process has. Proved is, of a row that meets its rule, that
- * what a memory knows of a number at its start fits the rule if that number has done nothing,
- * whatever the others have done (of_row: laws::fresh_members_fit), and each step for all states of
- * the others. What enrolment and leaving tell of earlier calls is proved in one process alone. */
+ * place of private pages has the same words; flock and the locks of fcntl; and c/src/shared.c, by
+ * which one memory at most has a number at a time, the file tells the next owner of a number how
+ * many of its calls were begun, nothing but steps of callers, takeovers and evictions is done on the
+ * shared pages, and nobody recovers a file that another process has. Proved is, of a row that meets
+ * its rule, that what a memory knows of a number at its start fits the rule if that number has done
+ * nothing, whatever the others have done (of_row: laws::fresh_members_fit), and each step for all
+ * states of the others. The takeover is proved in the protocol (of_core: laws::taken_over_stands)
+ * and in the library's calls (of_row: Row::revive, of_memory: LostHandle::revive). That a number
+ * goes from one process to another is not. What enrolment and leaving tell of earlier calls is
+ * proved in one process alone. */
 
 /* Fills `memory` with the memory of the file, which other processes may have: the file is made if
  * there is none, recovered if no process has it, or joined. The limit is that of the process which

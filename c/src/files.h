@@ -11,10 +11,17 @@
 
 enum { PAGE = 4096, MOST_PATH = 4096 };
 
-/* The versions of a file: a memory of one process has it, or processes share it. */
-enum { FOR_ONE = 1, FOR_MANY = 2 };
+/* The versions of a file: a memory of one process has it, or processes share it. A shared file of
+ * version 2 has no counts of calls. */
+enum { FOR_ONE = 1, FOR_MANY = 3 };
 
 #define IS_CLOSED 0x6f66636c6f736564u
+
+/* What a shared file keeps of a number: how many of its calls were begun, or one more. Two numbers
+ * have a line of the cache. */
+typedef struct tally {
+  _Alignas(32) _Atomic uint32_t begun;
+} tally;
 
 /* What is at the front of a file. */
 typedef struct header {
@@ -32,7 +39,10 @@ typedef struct header {
   uint64_t start_sum;    /* of the durable words that the life starts from, behind the table */
   uint64_t share_sum;    /* of the two lines above, and of `sum` */
   _Alignas(64) _Atomic uint64_t used; /* a bit for each number that a process has had */
+  _Alignas(64) tally number[ONEFILE_MOST_CALLERS];
 } header;
+
+_Static_assert(sizeof(header) <= PAGE, "the words are behind the header");
 
 /* A table in a file. */
 typedef struct table {
@@ -43,7 +53,7 @@ typedef struct table {
   int is_opening;          /* no memory has it yet */
   int is_shared;           /* other processes may have it too */
   uint32_t callers;        /* if so: how many there are */
-  uint64_t own;            /* and which of them this memory had, a bit for each */
+  uint64_t lost;           /* and which of them has no machine here, a bit for each */
   _Atomic(onefile_memory *) memory;    /* which is opened on it */
   _Atomic(onefile_memory *) inherited; /* the same in a forked child; null in who has opened it */
 } table;
@@ -65,8 +75,11 @@ void mapped_let_go_files(int could_be);
 /* A place for a table that is empty, or null. The caller has the files. */
 table *mapped_free_table(void);
 
-/* The table in a file on which a memory is open, or null. */
+/* The table in a file on which a memory is open, or null. A table's place, from 1, and the table in
+ * a place. */
 table *mapped_table_of(const onefile_memory *memory);
+uint32_t mapped_place_of(const table *one);
+table *mapped_table_in(uint32_t place);
 
 /* The place has no table any more. */
 void mapped_empty(table *one);
@@ -106,7 +119,8 @@ uint32_t mapped_open_at(birth *born, table *one, char *words, onefile_slot *memo
  * alone. If processes are to share it, no memory is open in it, and nothing is mapped. */
 uint32_t mapped_make(birth *born, table *one, onefile_slot *memory);
 
-/* The last one to let go of a shared file marks it as closed. Its lock is gone then. */
+/* Lets all numbers of a shared file go. The last one to let go of it marks it as closed. Its lock
+ * is gone then. */
 void shared_end_life(int file);
 
 #endif

@@ -75,6 +75,10 @@ table *mapped_table_of(const onefile_memory *memory) {
   return NULL;
 }
 
+uint32_t mapped_place_of(const table *one) { return (uint32_t)(one - tables) + 1; }
+
+table *mapped_table_in(uint32_t place) { return &tables[place - 1]; }
+
 void mapped_empty(table *one) {
   atomic_store(&one->memory, NULL);
   atomic_store(&one->words, 0);
@@ -130,7 +134,9 @@ given rattle_alloc(size_t size, size_t align) {
 given rattle_realloc(void *block, size_t kept, size_t size, size_t align) {
   (void)kept;
   if (table_at(block)) return give(NULL); /* a table stays as large as it is */
-  return give(realloc(block, size ? size : align));
+  void *grown = realloc(block, size ? size : align);
+  ask_large_pages(grown, size, align);
+  return give(grown);
 }
 
 void rattle_dealloc(void *block) {

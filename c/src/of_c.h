@@ -30,6 +30,9 @@ uint32_t of_c_call_text(onefile_slot *caller, const uint8_t *text, size_t length
                         onefile_reply *reply);
 uint32_t of_c_go_on(onefile_slot *caller, uint64_t steps, onefile_reply *reply);
 uint32_t of_c_sequences_left(onefile_slot *caller, uint32_t *left);
+uint32_t of_c_begun(onefile_slot *caller, uint32_t *begun);
+uint32_t of_c_evict_request(onefile_slot *memory, uint32_t number);
+uint32_t of_c_revive(onefile_slot *caller, uint32_t made);
 uint32_t of_c_register(onefile_slot *saved, uint32_t reg, uint32_t *value);
 uint32_t of_c_key(onefile_slot *saved, uint32_t key, uint32_t *value);
 uint32_t of_c_item(onefile_slot *saved, uint32_t queue, uint32_t at, uint32_t *value);

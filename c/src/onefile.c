@@ -18,7 +18,8 @@ const char *onefile_name(int answer) {
       "ONEFILE_NO_TICKET",   "ONEFILE_NO_SCRIPT",   "ONEFILE_IN_USE",   "ONEFILE_ABSENT",
       "ONEFILE_NO_ROOM",     "ONEFILE_NO_IMAGE",    "ONEFILE_BAD_FILE", "ONEFILE_NO_FILE",
       "ONEFILE_FILE_EXISTS", "ONEFILE_FILE_IN_USE", "ONEFILE_TORN",     "ONEFILE_NO_SPACE",
-      "ONEFILE_SYSTEM",      "ONEFILE_OTHER_SIZES", "ONEFILE_OTHER_VERSION"};
+      "ONEFILE_SYSTEM",      "ONEFILE_OTHER_SIZES", "ONEFILE_OTHER_VERSION",
+      "ONEFILE_NOT_YET"};
   return answer >= 0 && (size_t)answer < sizeof names / sizeof *names ? names[answer]
                                                                       : "ONEFILE_?";
 }
@@ -49,14 +50,10 @@ int onefile_reopen(onefile_memory *memory, onefile_saved *saved) {
 
 /* Enrols a caller, if its slot and the memory's are taken. */
 static uint32_t enrol(onefile_memory *memory, uint32_t number) {
-  onefile_guarded *caller = &memory->caller[number];
-  uint32_t answer = shared_take_number(memory, number);
-  if (answer != ONEFILE_DONE) return answer;
-  of_c_pair both = {memory->memory.slot, caller->slot};
-  answer = of_c_enrol(&both, number);
-  memory->memory.slot = both.memory;
-  caller->slot = both.caller;
-  return answer;
+  if (!mapped_is_inherited(memory)) {
+    return shared_has(memory) ? shared_enrol(memory, number) : enrol_caller(memory, number);
+  }
+  return ONEFILE_FILE_IN_USE;
 }
 
 int onefile_enrol(onefile_memory *memory, uint32_t number) {
@@ -70,9 +67,8 @@ int onefile_enrol(onefile_memory *memory, uint32_t number) {
   return (int)answer;
 }
 
-int onefile_enrol_any(onefile_memory *memory, uint32_t *number) {
-  if (!memory || !number) return ONEFILE_NULL;
-  if (!claim(&memory->memory)) return ONEFILE_BUSY;
+/* Enrols the first caller that is free, of a memory that is taken. */
+static uint32_t enrol_first(onefile_memory *memory, uint32_t *number) {
   uint32_t answer = ONEFILE_TAKEN;
   for (uint32_t i = 0; answer == ONEFILE_TAKEN && i < ONEFILE_MOST_CALLERS; i++) {
     onefile_guarded *caller = &memory->caller[i];
@@ -81,8 +77,16 @@ int onefile_enrol_any(onefile_memory *memory, uint32_t *number) {
     release(caller);
     if (answer == ONEFILE_DONE) *number = i;
   }
+  return answer == ONEFILE_RANGE ? ONEFILE_TAKEN : answer;
+}
+
+int onefile_enrol_any(onefile_memory *memory, uint32_t *number) {
+  if (!memory || !number) return ONEFILE_NULL;
+  if (!claim(&memory->memory)) return ONEFILE_BUSY;
+  int is_shared = shared_has(memory) && !mapped_is_inherited(memory);
+  uint32_t answer = is_shared ? shared_enrol_any(memory, number) : enrol_first(memory, number);
   release(&memory->memory);
-  return (int)(answer == ONEFILE_RANGE ? ONEFILE_TAKEN : answer);
+  return (int)answer;
 }
 
 int onefile_leave(onefile_memory *memory, uint32_t number) {
@@ -94,6 +98,7 @@ int onefile_leave(onefile_memory *memory, uint32_t number) {
   uint32_t answer = of_c_leave(&both);
   memory->memory.slot = both.memory;
   caller->slot = both.caller;
+  if (answer == ONEFILE_DONE) shared_leave(caller, number);
   release(caller);
   release(&memory->memory);
   return (int)answer;
@@ -105,8 +110,8 @@ static uint32_t close_taken(onefile_memory *memory, onefile_saved *saved) {
   int is_shared = shared_has(memory);
   if (!saved && !is_shared) return ONEFILE_NULL;
   if (mapped_is_inherited(memory)) return ONEFILE_FILE_IN_USE;
+  if (is_shared) return shared_close(memory);
   if (has_caller(memory)) return ONEFILE_IN_USE;
-  if (is_shared) return of_c_free(&memory->memory.slot);
   return of_c_close(&memory->memory.slot, &saved->saved.slot);
 }
 
@@ -146,7 +151,10 @@ int onefile_renumber(onefile_memory *memory, onefile_saved *saved) {
 int onefile_free(onefile_memory *memory) {
   if (!memory) return ONEFILE_NULL;
   if (!claim_all(memory)) return ONEFILE_BUSY;
-  for (size_t i = 0; i < ONEFILE_MOST_CALLERS; i++) of_c_free(&memory->caller[i].slot);
+  for (size_t i = 0; i < ONEFILE_MOST_CALLERS; i++) {
+    of_c_free(&memory->caller[i].slot);
+    memory->caller[i].shared = 0;
+  }
   uint32_t answer = of_c_free(&memory->memory.slot);
   release_all(memory);
   return (int)answer;
@@ -164,7 +172,9 @@ int onefile_call_within(onefile_memory *memory, uint32_t number, const uint64_t 
   if (number >= ONEFILE_MOST_CALLERS) return ONEFILE_RANGE;
   onefile_guarded *caller = &memory->caller[number];
   if (!claim(caller)) return ONEFILE_BUSY;
+  shared_begin(caller, number);
   uint32_t answer = of_c_call(&caller->slot, words ? words : no_words, count, steps, reply);
+  shared_end(caller, number, answer);
   release(caller);
   return (int)answer;
 }
@@ -181,7 +191,9 @@ int onefile_call_text_within(onefile_memory *memory, uint32_t number, const char
   onefile_guarded *caller = &memory->caller[number];
   if (!claim(caller)) return ONEFILE_BUSY;
   const uint8_t *bytes = text ? (const uint8_t *)text : no_text;
+  shared_begin(caller, number);
   uint32_t answer = of_c_call_text(&caller->slot, bytes, length, steps, reply);
+  shared_end(caller, number, answer);
   release(caller);
   return (int)answer;
 }

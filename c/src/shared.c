@@ -6,10 +6,12 @@
  * memory of its own on private pages, from these words: they are the same for all. No caller has
  * made a step then. Then the pages of the file come in the place of the private ones.
  *
- * So each process has callers of all numbers, in the state from which every number starts. It uses
- * one only if nobody has used it in this life: it sets the number's bit in the header before the
- * caller is enrolled, and the bit stays set until the life ends. Nothing but steps of callers is
- * done on the shared pages: no memory on them is ever closed. */
+ * So each process has callers of all numbers, in the state from which every number starts. Who has
+ * the lock of a number has the number: from enrolment until it leaves or dies. If nobody has had it
+ * in this life, it begins with the machine that the process has for it. Then its bit in the header
+ * is set, and stays so until the life ends. If it was had before, it gets a new machine, made from
+ * the words on the shared pages and from the count of its calls, which is in the header. Nothing
+ * but steps of callers and evictions is done on these pages: no memory on them is ever closed. */
 #define _GNU_SOURCE
 #include "files.h"
 #include "slots.h"
@@ -30,12 +32,26 @@ enum { AGAIN = 1000 };
 /* How often it is tried again, and after how long. */
 enum { MOST_TRIES = 1000, A_MILLISECOND = 1000000 };
 
+/* How often a number's request is evicted before the number is said to be not yet free. */
+enum { MOST_EVICTIONS = 4 };
+
+/* The byte whose lock is that of number 0. No file is so long. */
+#define LOCKS ((off_t)1 << 40)
+
 /* What is asked for. */
 typedef struct wish {
   const char *path;
   uint32_t callers, blocks, limit;
   onefile_memory *memory;
 } wish;
+
+/* The lock of so many numbers from this one on. It is this memory's own, and that of no other one
+ * of this process; the system lets it go when the process ends. */
+static int set_lock(int file, short how, uint32_t number, uint32_t count) {
+  struct flock lock = {.l_type = how, .l_whence = SEEK_SET, .l_len = count};
+  lock.l_start = LOCKS + (off_t)number;
+  return fcntl(file, F_OFD_SETLK, &lock);
+}
 
 /* ---- To have a life of the file. */
 
@@ -98,7 +114,7 @@ static uint32_t join(int file, birth *born, const wish *asked) {
   one->map = NULL;
   one->file = file;
   one->is_opening = one->is_shared = 1;
-  one->own = 0;
+  one->lost = 0;
   atomic_store(&one->memory, asked->memory);
   uint32_t answer = read_start(file, born);
   if (answer == ONEFILE_DONE) answer = open_shared(file, born, one, memory);
@@ -115,6 +131,7 @@ static uint32_t join(int file, birth *born, const wish *asked) {
 
 void shared_end_life(int file) {
   static const uint64_t mark = IS_CLOSED;
+  set_lock(file, F_UNLCK, 0, ONEFILE_MOST_CALLERS); /* a forked child may have the file still */
   if (flock(file, LOCK_EX | LOCK_NB) != 0) return; /* others have it still */
   if (fsync(file) != 0) return;
   if (pwrite(file, &mark, sizeof mark, offsetof(header, closed)) == sizeof mark) fsync(file);
@@ -252,15 +269,119 @@ int shared_has(const onefile_memory *memory) {
   return one && one->is_shared;
 }
 
-/* The bit is set before the caller can make a step, and a process that is killed leaves it set. So
- * in each life one process at most has a number. */
-uint32_t shared_take_number(onefile_memory *memory, uint32_t number) {
-  table *one = mapped_table_of(memory);
-  if (one && one->file < 0) return ONEFILE_FILE_IN_USE;
-  if (!one || !one->is_shared || number >= one->callers) return ONEFILE_DONE;
-  uint64_t bit = (uint64_t)1 << number;
-  if (one->own & bit) return ONEFILE_DONE;
-  if (atomic_fetch_or(&one->map->used, bit) & bit) return ONEFILE_TAKEN;
-  one->own |= bit;
+static uint64_t bit_of(uint32_t number) { return (uint64_t)1 << number; }
+
+/* Takes a number, also one that this memory has. TAKEN, SYSTEM. */
+static uint32_t take_number(const table *one, uint32_t number) {
+  if (set_lock(one->file, F_WRLCK, number, 1) == 0) return ONEFILE_DONE;
+  return errno == EAGAIN || errno == EACCES ? ONEFILE_TAKEN : mapped_refusal();
+}
+
+static void let_go_number(const table *one, uint32_t number) {
+  set_lock(one->file, F_UNLCK, number, 1);
+}
+
+/* Enrols a caller whose number nobody has had in this life. Its count is there before its bit. */
+static uint32_t enrol_new(table *one, onefile_memory *memory, uint32_t number) {
+  uint32_t begun = 0, answer = enrol_caller(memory, number);
+  if (answer != ONEFILE_DONE) return answer;
+  of_c_begun(&memory->caller[number].slot, &begun);
+  atomic_store(&one->map->number[number].begun, begun);
+  atomic_fetch_or(&one->map->used, bit_of(number));
   return ONEFILE_DONE;
+}
+
+/* Enrols a caller whose number was had in this life. It gets a new machine, made from the words on
+ * the shared pages: the one that it has here is older than they are. NOT_YET, SPENT and NO_MEMORY
+ * leave it without one. */
+static uint32_t enrol_again(table *one, onefile_memory *memory, uint32_t number) {
+  uint32_t answer = ONEFILE_NOT_YET;
+  if (!(one->lost & bit_of(number))) {
+    uint32_t enrolled = enrol_caller(memory, number);
+    if (enrolled != ONEFILE_DONE) return enrolled;
+    one->lost |= bit_of(number);
+  }
+  uint32_t begun = atomic_load(&one->map->number[number].begun);
+  for (int tries = 0; answer == ONEFILE_NOT_YET && tries < MOST_EVICTIONS; tries++) {
+    of_c_evict_request(&memory->memory.slot, number);
+    answer = of_c_revive(&memory->caller[number].slot, begun);
+  }
+  if (answer == ONEFILE_DONE) one->lost &= ~bit_of(number);
+  return answer;
+}
+
+uint32_t shared_enrol(onefile_memory *memory, uint32_t number) {
+  table *one = mapped_table_of(memory);
+  onefile_guarded *caller = &memory->caller[number];
+  if (number >= one->callers) return ONEFILE_RANGE;
+  if (caller->slot.state != 0 && !(one->lost & bit_of(number))) return ONEFILE_TAKEN;
+  uint32_t answer = take_number(one, number);
+  if (answer != ONEFILE_DONE) return answer;
+  int was_had = (atomic_load(&one->map->used) & bit_of(number)) != 0;
+  answer = was_had ? enrol_again(one, memory, number) : enrol_new(one, memory, number);
+  if (answer == ONEFILE_DONE) caller->shared = mapped_place_of(one);
+  else if (!(one->lost & bit_of(number))) let_go_number(one, number);
+  return answer;
+}
+
+/* Tries one number of any. If it is not free yet, another process may have it before this one. */
+static uint32_t try_number(table *one, onefile_memory *memory, uint32_t number) {
+  onefile_guarded *caller = &memory->caller[number];
+  if (!claim(caller)) return ONEFILE_TAKEN; /* a call has it */
+  uint32_t answer = shared_enrol(memory, number);
+  if (answer != ONEFILE_DONE && answer != ONEFILE_TAKEN) let_go_number(one, number);
+  release(caller);
+  return answer;
+}
+
+/* First those that nobody has had in this life, then the others. */
+uint32_t shared_enrol_any(onefile_memory *memory, uint32_t *number) {
+  table *one = mapped_table_of(memory);
+  uint64_t used = atomic_load(&one->map->used);
+  uint32_t answer = ONEFILE_TAKEN;
+  for (uint32_t i = 0; i < 2 * one->callers; i++) {
+    uint32_t it = i % one->callers;
+    if (((used & bit_of(it)) != 0) != (i >= one->callers)) continue;
+    uint32_t found = try_number(one, memory, it);
+    if (found == ONEFILE_DONE) *number = it;
+    if (found == ONEFILE_TAKEN) continue;
+    if (answer != ONEFILE_SPENT) answer = found;
+    if (found != ONEFILE_NOT_YET && found != ONEFILE_SPENT) return found;
+  }
+  return answer;
+}
+
+void shared_leave(onefile_guarded *caller, uint32_t number) {
+  if (caller->shared == 0) return;
+  let_go_number(mapped_table_in(caller->shared), number);
+  caller->shared = 0;
+}
+
+uint32_t shared_close(onefile_memory *memory) {
+  uint64_t lost = mapped_table_of(memory)->lost;
+  for (uint32_t i = 0; i < ONEFILE_MOST_CALLERS; i++) {
+    if (memory->caller[i].slot.state != 0 && !(lost & bit_of(i))) return ONEFILE_IN_USE;
+  }
+  for (uint32_t i = 0; i < ONEFILE_MOST_CALLERS; i++) of_c_free(&memory->caller[i].slot);
+  return of_c_free(&memory->memory.slot);
+}
+
+/* ---- Counts of calls. */
+
+static void count(onefile_guarded *caller, uint32_t number, uint32_t more) {
+  uint32_t begun = 0;
+  if (of_c_begun(&caller->slot, &begun) != ONEFILE_DONE || begun > UINT32_MAX - more) return;
+  atomic_store(&mapped_table_in(caller->shared)->map->number[number].begun, begun + more);
+}
+
+/* The count is one more before the call's first step. So it is never too low. If the process dies
+ * before that step, the count is one too high: this call is lost. */
+void shared_begin(onefile_guarded *caller, uint32_t number) {
+  if (caller->shared != 0) count(caller, number, 1);
+}
+
+/* A call that was refused was not begun. */
+void shared_end(onefile_guarded *caller, uint32_t number, uint32_t answer) {
+  if (caller->shared == 0 || answer == ONEFILE_DONE) return;
+  if (answer != ONEFILE_STOPPED && answer != ONEFILE_SPENT) count(caller, number, 0);
 }

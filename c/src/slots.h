@@ -3,7 +3,7 @@
 #ifndef ONEFILE_SLOTS_H
 #define ONEFILE_SLOTS_H
 
-#include "onefile.h"
+#include "of_c.h"
 
 /* Whether the memory was opened in a file by the process that has forked this one: then its table
  * is not here. */
@@ -17,9 +17,20 @@ int shared_has(const onefile_memory *memory);
 int mapped_has(const onefile_memory *memory);
 uint32_t mapped_renumber(onefile_memory *memory, onefile_slot *saved);
 
-/* Takes a number of a shared memory for this process, if none has had it. Of any other memory it
- * is DONE, but in a forked child. TAKEN, FILE_IN_USE. The memory is claimed. */
-uint32_t shared_take_number(onefile_memory *memory, uint32_t number);
+/* Enrols a caller of a shared memory, if no living process has its number. The memory and the
+ * caller's slot are claimed; the second function claims slots itself. TAKEN, NOT_YET, SPENT. */
+uint32_t shared_enrol(onefile_memory *memory, uint32_t number);
+uint32_t shared_enrol_any(onefile_memory *memory, uint32_t *number);
+
+/* Lets the number go of a caller that has left, if it is of a shared memory. */
+void shared_leave(onefile_guarded *caller, uint32_t number);
+
+/* Lets a shared memory go that is claimed with all its callers. IN_USE. */
+uint32_t shared_close(onefile_memory *memory);
+
+/* Of a shared memory, the file is told of a call before it begins, and after it what came of it. */
+void shared_begin(onefile_guarded *caller, uint32_t number);
+void shared_end(onefile_guarded *caller, uint32_t number, uint32_t answer);
 
 static inline int claim(onefile_guarded *one) {
   return __atomic_exchange_n(&one->busy, 1, __ATOMIC_SEQ_CST) == 0;
@@ -59,6 +70,16 @@ static inline int claim_all(onefile_memory *memory) {
 static inline void release_all(onefile_memory *memory) {
   release_callers(memory, ONEFILE_MOST_CALLERS);
   release(&memory->memory);
+}
+
+/* Enrols a caller of a memory, if its slot and the memory's are taken. */
+static inline uint32_t enrol_caller(onefile_memory *memory, uint32_t number) {
+  onefile_guarded *caller = &memory->caller[number];
+  of_c_pair both = {memory->memory.slot, caller->slot};
+  uint32_t answer = of_c_enrol(&both, number);
+  memory->memory.slot = both.memory;
+  caller->slot = both.caller;
+  return answer;
 }
 
 /* Whether a caller is enrolled, if all are taken. */

@@ -1,8 +1,9 @@
 /* deaths.c: processes share a bank, and are killed or stopped at random moments while the others
  * go on: deaths [FOLDER [COUNT]], which is how many are killed. Two to eight are there at once,
- * each with a number of its own. After each death the others must make calls. When no number is
- * left, all are killed at once or leave. Then all the money must be there, each answered call once,
- * and of each caller that was killed at most the open one besides. */
+ * each with a number of its own. After each death the others must make calls, and a new process
+ * takes over that number or another one. At last all are killed at once or leave. Then all the
+ * money must be there, each answered call once, and of each caller that was killed at most the open
+ * one besides. */
 #define BANK_CALLERS 8
 #include "books.h"
 
@@ -15,7 +16,7 @@
 
 /* The next death comes after so many microseconds at most; the others have so many milliseconds to
  * make a call. */
-enum { LONGEST = 12000, SHORT = 800, PATIENCE = 30000 };
+enum { LONGEST = 12000, SHORT = 800, PATIENCE = 30000, DEATHS = 8 };
 
 /* What all processes see: how many calls of each caller were answered, and whether to leave. */
 typedef struct board {
@@ -32,7 +33,29 @@ static pid_t process[CALLERS]; /* 0 if there is none with this number */
 
 /* ---- A process, which is killed or told to leave. */
 
-static void live(const books *known, uint32_t number) {
+/* Enrols a caller, and ends the open call of the one that had the number before. Gives how many of
+ * the number's calls are done. */
+static uint32_t take_over(uint32_t number) {
+  const uint64_t count[] = {onefile_load(ACCOUNTS + number)};
+  uint32_t answered = atomic_load(&seen->answered[number]);
+  onefile_reply reply;
+  int answer;
+  do answer = onefile_enrol(&bank, number);
+  while (answer == ONEFILE_NOT_YET); /* another one makes a commit */
+  MUST(answer == ONEFILE_DONE);
+  answer = onefile_call(&bank, number, count, 1, &reply);
+  if (answer == ONEFILE_CALL_OPEN) {
+    MUST(onefile_go_on(&bank, number, ONEFILE_NO_END, &reply) == ONEFILE_DONE);
+    if (reply.len == INSTRS) MUST(is_reply_to(&reply, answered + 1));
+    answer = onefile_call(&bank, number, count, 1, &reply);
+  }
+  MUST(answer == ONEFILE_DONE);
+  MUST(reply.values[0] == answered || reply.values[0] == answered + 1);
+  atomic_store(&seen->answered[number], reply.values[0]);
+  return reply.values[0];
+}
+
+static void live(uint32_t number) {
   uint64_t script[INSTRS];
   onefile_reply reply;
   int answer;
@@ -40,8 +63,7 @@ static void live(const books *known, uint32_t number) {
   do answer = onefile_share_file(&bank, path, CALLERS, BLOCKS, ONEFILE_GREATEST_LIMIT);
   while (answer == ONEFILE_FILE_IN_USE); /* the machine is busy */
   MUST(answer == ONEFILE_DONE);
-  MUST(onefile_enrol(&bank, number) == ONEFILE_DONE);
-  for (uint32_t call = known->calls[number] + 1; !atomic_load(&seen->is_over); call++) {
+  for (uint32_t call = take_over(number) + 1; !atomic_load(&seen->is_over); call++) {
     write_script(number, call, script);
     MUST(onefile_call(&bank, number, script, INSTRS, &reply) == ONEFILE_DONE);
     MUST(is_reply_to(&reply, call));
@@ -52,10 +74,10 @@ static void live(const books *known, uint32_t number) {
   _exit(0);
 }
 
-static void start(const books *known, uint32_t number) {
+static void start(uint32_t number) {
   process[number] = fork();
   MUST(process[number] >= 0);
-  if (process[number] == 0) live(known, number);
+  if (process[number] == 0) live(number);
 }
 
 /* ---- Deaths. */
@@ -87,18 +109,18 @@ static void end_one(uint32_t number, int must_be_killed) {
   process[number] = 0;
 }
 
-/* A process that is there. */
-static uint32_t one_of_all(void) {
+/* A number that a process has, or one that none has. */
+static uint32_t one_that(int is_there) {
   uint32_t number;
   do number = (uint32_t)random() % CALLERS;
-  while (process[number] == 0);
+  while ((process[number] != 0) != is_there);
   return number;
 }
 
 /* One is killed, or stopped first, and the others go on meanwhile. None is stopped that has made no
  * call yet: while it begins the life, no other has the file. */
 static void kill_one(const books *known, figures *of) {
-  uint32_t number = one_of_all();
+  uint32_t number = one_that(1);
   int has_begun = atomic_load(&seen->answered[number]) > known->calls[number];
   if (has_begun && random() % 4 == 0) {
     int status = 0;
@@ -134,11 +156,11 @@ static void live_and_look(books *known, figures *of, uint32_t at_once) {
   uint32_t answered[CALLERS], next = 0;
   books before = *known;
   for (uint32_t i = 0; i < CALLERS; i++) atomic_store(&seen->answered[i], known->calls[i]);
-  while (next < at_once) start(known, next++);
-  while (next < CALLERS) {
+  while (next < at_once) start(next++);
+  for (int i = 0; i < DEATHS; i++) {
     pause_for(random() % 4 ? LONGEST : SHORT);
     kill_one(known, of);
-    start(known, next++);
+    start(one_that(0));
   }
   pause_for(LONGEST);
   if (random() % 2) kill_one(known, of);

@@ -37,8 +37,8 @@ static int text_within(uint32_t number, const char *script, uint64_t steps) {
 static void names(void) {
   const char *version = ONEFILE_PROVED ? ONEFILE_VERSION : ONEFILE_VERSION " (not proved)";
   expect(__LINE__, strcmp(onefile_version(), version), 0);
-  expect(__LINE__, strcmp(onefile_name(ONEFILE_OTHER_VERSION), "ONEFILE_OTHER_VERSION"), 0);
-  expect(__LINE__, strcmp(onefile_name(ONEFILE_OTHER_VERSION + 1), "ONEFILE_?"), 0);
+  expect(__LINE__, strcmp(onefile_name(ONEFILE_NOT_YET), "ONEFILE_NOT_YET"), 0);
+  expect(__LINE__, strcmp(onefile_name(ONEFILE_NOT_YET + 1), "ONEFILE_?"), 0);
   expect(__LINE__, strcmp(onefile_name(-1), "ONEFILE_?"), 0);
 }
 

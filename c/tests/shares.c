@@ -122,30 +122,36 @@ static void two(void) {
   EXPECT(onefile_free(&third), ONEFILE_EMPTY);
 }
 
-/* In a life a number is for one process, which may leave and come again. */
+/* A number is for one memory at a time. Numbers that nobody has had are the first of any. */
 static void numbers(void) {
   EXPECT(onefile_enrol(&other, 0), ONEFILE_TAKEN);
   EXPECT(onefile_enrol(&memory, 0), ONEFILE_TAKEN);
   EXPECT(onefile_enrol(&memory, CALLERS), ONEFILE_RANGE);
   EXPECT(onefile_leave(&memory, 0), ONEFILE_DONE);
-  EXPECT(onefile_enrol(&other, 0), ONEFILE_TAKEN);
+  EXPECT(onefile_leave(&memory, 0), ONEFILE_EMPTY);
+  EXPECT(onefile_enrol(&other, 0), ONEFILE_DONE);
+  EXPECT(onefile_enrol(&memory, 0), ONEFILE_TAKEN);
+  EXPECT(text(&other, 0, "load 0; put 2 1; del 2"), ONEFILE_DONE);
+  HOLDS(reply.values[0] == 11);
+  EXPECT(onefile_leave(&other, 0), ONEFILE_DONE);
   EXPECT(onefile_enrol(&memory, 0), ONEFILE_DONE);
   EXPECT(text(&memory, 0, "add 0 1"), ONEFILE_DONE);
   EXPECT(onefile_leave(&memory, 0), ONEFILE_DONE);
   EXPECT(onefile_enrol_any(&memory, &value), ONEFILE_DONE);
-  HOLDS(value == 0);
-  EXPECT(onefile_enrol_any(&memory, &value), ONEFILE_DONE);
   HOLDS(value == 2);
+  EXPECT(onefile_enrol_any(&memory, &value), ONEFILE_DONE);
+  HOLDS(value == 3);
   EXPECT(onefile_enrol_any(&other, &value), ONEFILE_DONE);
-  HOLDS(value == 3);
+  HOLDS(value == 0);
   EXPECT(onefile_enrol_any(&other, &value), ONEFILE_TAKEN);
-  HOLDS(value == 3);
+  EXPECT(onefile_enrol_any(&memory, &value), ONEFILE_TAKEN);
+  HOLDS(value == 0);
 }
 
 /* A close lets the file go, and the last one marks it. */
 static void closes(void) {
   EXPECT(onefile_close(&memory, &saved), ONEFILE_IN_USE);
-  EXPECT(onefile_leave(&memory, 0), ONEFILE_DONE);
+  EXPECT(onefile_leave(&memory, 3), ONEFILE_DONE);
   EXPECT(onefile_close(&memory, NULL), ONEFILE_IN_USE);
   EXPECT(onefile_leave(&memory, 2), ONEFILE_DONE);
   EXPECT(onefile_close(&memory, &saved), ONEFILE_DONE);
@@ -155,7 +161,10 @@ static void closes(void) {
   EXPECT(reopen(&memory), ONEFILE_FILE_IN_USE);
   EXPECT(text(&other, 1, "add 0 1"), ONEFILE_DONE);
   EXPECT(share(&memory), ONEFILE_DONE); /* the same life */
-  EXPECT(onefile_enrol_any(&memory, &value), ONEFILE_TAKEN);
+  EXPECT(onefile_enrol(&memory, 1), ONEFILE_TAKEN);
+  EXPECT(onefile_enrol_any(&memory, &value), ONEFILE_DONE);
+  HOLDS(value == 2);
+  EXPECT(onefile_leave(&memory, 2), ONEFILE_DONE);
   EXPECT(close_shared(&memory), ONEFILE_DONE);
   EXPECT(onefile_free(&other), ONEFILE_DONE); /* with two callers that have not left */
   HOLDS(is_closed());
@@ -177,6 +186,7 @@ static void lives(void) {
   EXPECT(text(&other, 0, "add 0 1"), ONEFILE_SPENT);
   EXPECT(onefile_free(&memory), ONEFILE_DONE);
   EXPECT(share(&memory), ONEFILE_DONE); /* the life has not ended */
+  EXPECT(onefile_enrol(&memory, 1), ONEFILE_SPENT);
   EXPECT(onefile_enrol(&memory, 2), ONEFILE_DONE);
   EXPECT(text(&memory, 2, "add 0 1"), ONEFILE_SPENT);
   EXPECT(onefile_free(&memory), ONEFILE_DONE);
@@ -218,7 +228,8 @@ static void many(void) {
   EXPECT(onefile_share_file(&other, all, ONEFILE_MOST_CALLERS, 0, LIMIT), ONEFILE_DONE);
   EXPECT(onefile_enrol(&memory, 32), ONEFILE_DONE);
   EXPECT(onefile_enrol(&other, 32), ONEFILE_TAKEN);
-  EXPECT(onefile_enrol(&other, 0), ONEFILE_DONE); /* no number shares a bit */
+  EXPECT(onefile_enrol_any(&other, &value), ONEFILE_DONE); /* no number shares a bit */
+  HOLDS(value == 0);
   EXPECT(onefile_enrol(&other, ONEFILE_MOST_CALLERS - 1), ONEFILE_DONE);
   EXPECT(onefile_enrol(&memory, ONEFILE_MOST_CALLERS - 1), ONEFILE_TAKEN);
   EXPECT(text(&memory, 32, "add 0 1"), ONEFILE_DONE);
@@ -279,12 +290,14 @@ static void versions(void) {
   uint64_t sum, open = 0;
   read_file(whole);
   memcpy(changed, whole, PAGE);
-  changed[VERSION_AT] = 3;
-  sum = sum_of(changed);
-  memcpy(changed + SUM_AT, &sum, sizeof sum);
-  write_at(0, changed, CLOSED_AT);
-  EXPECT(share(&memory), ONEFILE_OTHER_VERSION);
-  EXPECT(reopen(&memory), ONEFILE_OTHER_VERSION);
+  for (unsigned char version = 2; version <= 4; version += 2) {
+    changed[VERSION_AT] = version;
+    sum = sum_of(changed);
+    memcpy(changed + SUM_AT, &sum, sizeof sum);
+    write_at(0, changed, CLOSED_AT);
+    EXPECT(share(&memory), ONEFILE_OTHER_VERSION);
+    EXPECT(reopen(&memory), ONEFILE_OTHER_VERSION);
+  }
   memcpy(changed, whole, PAGE);
   changed[BOOT_AT] ^= 1;
   sum = sum_of(changed);
@@ -367,7 +380,7 @@ static int enrols_and_adds(void) {
   return answer == ONEFILE_DONE ? text(&memory, 2, "add 4 1") : answer;
 }
 
-/* The number of a process that was killed stays taken until nobody has the file. */
+/* The number of a process that was killed is free, while others have the file. */
 static void killed(void) {
   int in;
   pid_t child = child_that(enrols_and_adds, &in);
@@ -375,9 +388,8 @@ static void killed(void) {
   EXPECT(share(&other), ONEFILE_DONE);
   EXPECT(onefile_enrol(&other, 2), ONEFILE_TAKEN);
   HOLDS(kill(child, SIGKILL) == 0 && waitpid(child, NULL, 0) == child);
-  EXPECT(onefile_enrol(&other, 2), ONEFILE_TAKEN);
-  EXPECT(onefile_enrol(&other, 3), ONEFILE_DONE);
-  EXPECT(text(&other, 3, "add 4 1"), ONEFILE_DONE);
+  EXPECT(onefile_enrol(&other, 2), ONEFILE_DONE);
+  EXPECT(text(&other, 2, "add 4 1"), ONEFILE_DONE);
   HOLDS(reply.values[0] == 2);
   EXPECT(onefile_free(&other), ONEFILE_DONE);
   EXPECT(share(&other), ONEFILE_DONE);
