@@ -5,6 +5,7 @@ pub mod Calls
 pub mod Lives
 pub mod Losses
 pub mod States
+pub mod Asking
 pub mod Images
 pub mod Causes
 pub mod Words

@@ -2,6 +2,7 @@
 //! code. The header c/include/onefile.h is the manual.
 #![tactic(auto)]
 
+mod asking;
 mod callers;
 mod codes;
 mod held;

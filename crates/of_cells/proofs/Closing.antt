@@ -1,7 +1,7 @@
 -- What recovery finds in the words of a table at any moment, and in those of a closed one.
-use Rattle.std.proofs.Common.{◌≡◌, ℕ, ◌+◌, ◌-◌, ◌≤◌, ◌<◌, ◌⊎◌, inl, inr, Bool, true, false, refl, sym, ◌∙◌, ap, subst, arith, List, [], ◌∷◌, ◌++◌, length, get_or, map, take, length-append}
+use Rattle.std.proofs.Common.{◌≡◌, ◌==◌, ℕ, ◌+◌, ◌-◌, ◌≤◌, ◌<◌, ◌⊎◌, inl, inr, Bool, true, false, refl, sym, ◌∙◌, ap, subst, arith, List, [], ◌∷◌, ◌++◌, length, get_or, map, take, length-append}
 use Rattle.std.specs.Prelude.{slice_index}
-use Rattle.std.specs.List.{AllByRecursion as Each}
+use Rattle.std.specs.List.{All, AllByRecursion as Each}
 use Rattle.std.proofs.lemmas.Bool.{cases_lt}
 use Rattle.std.proofs.lemmas.List.{get_or-map, length-map, get_or_append_left}
 use Rattle.std.proofs.lemmas.List.Elements.{All-from_get_or}
@@ -22,11 +22,11 @@ use Rattle.of_recover.proofs.Kept.{data_at}
 use Rattle.of_core.specs.declared.place.Outcome.{Outcome}
 use Rattle.of_core.specs.declared.place.Outcome.TheVariants.{Answered, Spent, Lost}
 use Rattle.of_core.specs.Table.{Setup, setup_of, durable_word, ticket_cell, shape_cell, reply_cell}
-use Rattle.of_core.specs.TableMoment.{TableStart}
+use Rattle.of_core.specs.TableMoment.{Moment, TableStart}
 use Rattle.of_core.specs.Machine.{Call, no_call, is_idle, IsOpen}
-use Rattle.of_core.specs.Events.{Event, start_ticket}
+use Rattle.of_core.specs.Events.{Event, Begins, Turns, Loads, Evicts, Raises, Revives, after_event, IsSchedule, MayHappen, start_ticket}
 use Rattle.of_cells.specs.Times.{calls_ended_in, calls_begun_in}
-use Rattle.of_core.specs.Calls.{operations_begun}
+use Rattle.of_core.specs.Calls.{if_so, operation_begun, operations_begun}
 use Rattle.of_core.specs.Grounds.{GoodGrounds}
 use Rattle.of_core.specs.Laws.{setup_for, StartsMeetInvariant, SchedulesKeepInvariant, InvariantIsSound, FirstStateIsStart}
 use Rattle.of_core.specs.Linear.{ExplainsOutcome, FindsCall, recovered_number}
@@ -36,7 +36,7 @@ use Rattle.of_row.specs.declared.row.Row.{Row}
 use Rattle.of_row.specs.Views.{EndedCall, KnownCaller, View, no_ended}
 use Rattle.of_row.specs.Rule.{MeetsRule, done_before}
 use Rattle.of_row.specs.Told.{open_operation, operations_known}
-use Rattle.of_row.specs.Trail.{IsRunBy}
+use Rattle.of_row.specs.Trail.{first_of, IsRunBy}
 use Rattle.of_row.specs.Rows.{key_of, setup_at, row_start, view_of_pass, IsRowPass, MayStartFrom}
 use Rattle.of_row.specs.Keys.{FitsWork}
 use Rattle.of_row.specs.Passes.{ClosesWithDurable}
@@ -44,8 +44,9 @@ use Rattle.of_row.specs.Moments.{ExplainsEndedCalls, HasNoneOf, HaveOwnSequence,
 use Rattle.of_cells.specs.declared.saved.SavedCells.{SavedCells}
 use Rattle.of_cells.specs.History.{ExplainsEnd, IsOneOf}
 use Rattle.of_cells.specs.Serving.{cells_at_start, made_before}
-use Rattle.of_cells.specs.Moments.{HoldsHistory, RowsHoldHistory, numbers_found, numbers_of}
+use Rattle.of_cells.specs.Moments.{IsSized, HoldsHistory, RowsHoldHistory, numbers_found, numbers_of}
 use Rattle.of_cells.specs.Saving.{ExplainsKept, HaveKeptSequences, HasOpenOperation, HasOnlyKept, RespectsEvents, HistoryLeads, HoldReply, TellLast, IsSavedCells, SavesHistory, KeepsOwnCells, OwnCellsStay, saved_cells, own_ticket}
+use Rattle.of_row.proofs.Fronts.{each_append, each_at}
 use Rattle.of_cells.proofs.OwnCells.{own_stay}
 use Rattle.of_cells.proofs.Holding.{number_at}
 
@@ -73,6 +74,28 @@ begun_at x b place k lt = elim (cases_lt k (length x.ended)) [
     behind false is some high =
         let at : k ≡ length (map (λ (e : EndedCall). e.op) x.ended) = omega (arith, length-append (map (λ (e : EndedCall). e.op) x.ended) (x.machine.op ∷ []), long, some, high) in
         (at ∙ long, is, ap (λ (n : ℕ). get_or (map (λ (e : EndedCall). e.op) x.ended ++ x.machine.op ∷ []) n []) at ∙ get_or-append_seam (map (λ (e : EndedCall). e.op) x.ended) x.machine.op [] [])
+
+-- ---- how many words operations have
+
+abbrev IsSizedOperation : Setup → List ℕ → Type 0
+IsSizedOperation S op = (1 ≤ length op) × (length op ≤ S.instrs)
+
+one_sized : (S : Setup) (w : Moment) (e : Event) → MayHappen S w e → (i : ℕ) → Each (IsSizedOperation S) (operation_begun e i)
+one_sized S w (Begins j op) may i = go (i == j)
+  where
+    go : (b : Bool) → Each (IsSizedOperation S) (if_so b (op ∷ []))
+    go true = ((may.2, may.3), tt)
+    go false = tt
+one_sized S w (Turns j) may i = tt
+one_sized S w (Loads c) may i = tt
+one_sized S w (Evicts k) may i = tt
+one_sized S w (Raises c) may i = tt
+one_sized S w (Revives j made) may i = tt
+
+-- each operation that was begun in a schedule has as many words as it may have
+begun_sized : (S : Setup) (w : Moment) (es : List Event) → IsSchedule S w es → (i : ℕ) → Each (IsSizedOperation S) (operations_begun es i)
+begun_sized S w [] s i = tt
+begun_sized S w (e ∷ es) s i = each_append (IsSizedOperation S) (operation_begun e i) (operations_begun es i) (one_sized S w e s.0 i) (begun_sized S (after_event S w e) es s.1 i)
 
 -- ---- any moment of a row
 
@@ -196,6 +219,15 @@ module _ (callers cell_count limit : ℕ) (M : Meaning) (L : List ℕ → Type 0
           subst (λ (z : List Event × ℕ). start_ticket S B z.1 + calls_begun_in z.0 z.1 < e.ticket) (λ i. (sym cut i, sym later.0 i)) (omega (arith, later.1, before.begun)),
         )
 
+    -- each call has as many words as it may have
+    sized_all : All (IsSized S) h
+    sized_all = All-from_get_or (IsSized S) h no_call (λ y l.
+        let c : Call = get_or h y no_call in
+        let b = (lost.linearizes.begun y no_call l).1 refl in
+        let st : ℕ = start_ticket S B c.caller in
+        let at = each_at (IsSizedOperation S) (operations_begun lost.events c.caller) (c.ticket - st - 1) [] (omega (arith, b.0, b.1)) (begun_sized S (first_of S B) lost.events lost.reached.schedule c.caller) in
+        subst (IsSizedOperation S) (sym b.2) at)
+
     holds : HoldsHistory S L B s words
     holds = record {
       row = starts;
@@ -220,6 +252,7 @@ module _ (callers cell_count limit : ℕ) (M : Meaning) (L : List ℕ → Type 0
         only = each_of owned v.kept (lost.reached.callers j v at live);
         time = on_time v.past (lost.reached.pasts j v at live);
       };
+      sized = sized_all;
       free = λ n low free. none_of n (lost.reached.free n low free).0;
       own = own_cells;
     }

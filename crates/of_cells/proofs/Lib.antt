@@ -6,6 +6,7 @@ pub mod Closing
 pub mod Holding
 pub mod LostCalls
 pub mod Still
+pub mod Looked
 pub mod Renumbering
 mod Meant
 pub mod Handing

@@ -12,4 +12,5 @@ pub mod Telling
 pub mod Joining
 pub mod Tasks
 pub mod Moments
+pub mod Looking
 pub mod Words

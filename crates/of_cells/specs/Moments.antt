@@ -1,5 +1,6 @@
 -- What the words of a row hold at any moment, so also when its process is killed.
-use Rattle.std.specs.Prelude.{◌≡◌, ℕ, ◌<◌, List, map}
+use Rattle.std.specs.Prelude.{◌≡◌, ℕ, ◌<◌, ◌≤◌, List, length, map}
+use Rattle.std.specs.List.{All}
 use Rattle.atomic_table.specs.Table.{State}
 use Rattle.of_cell.specs.Words.{payload_of}
 use Rattle.of_recover.specs.Recovered.{recovered_words}
@@ -22,8 +23,13 @@ numbers_of B = map payload_of B.cells
 abbrev pub numbers_found : (callers cells : ℕ) → (words : List ℕ) → List ℕ
 numbers_found n m words = numbers_of (start_from_durable n m (recovered_words n m words))
 
+-- the call has at least one word, and at most as many as an operation may have
+abbrev pub IsSized : Setup → Call → Type 0
+IsSized S c = (1 ≤ length c.op) × (length c.op ≤ S.instrs)
+
 -- A table may start from what recovery finds in the durable words, and one serial history leads to
--- this from the row's start. Each view that is not spent finds in the history what the view knows.
+-- this from the row's start. Each call of the history has as many words as an operation may have.
+-- Each view that is not spent finds in the history what the view knows.
 -- A number that is not taken has no call in the history, and the own cells of a caller with no call
 -- since the row's start are as they were.
 pub record HoldsHistory (S : Setup) (Lawful : List ℕ → Type 0) (B : TableStart)
@@ -33,6 +39,7 @@ pub record HoldsHistory (S : Setup) (Lawful : List ℕ → Type 0) (B : TableSta
   pub sequences : Sequences
   pub leads : HistoryLeads S.meaning S.callers (done_before S B) (numbers_of B)
       (numbers_found S.callers S.cells words) history sequences
+  pub sized : All (IsSized S) history
   pub views : EachView (ExplainsView S B history sequences) s.views
   pub free : EachFree S s.words (HasNoneOf history)
   pub own : (n : ℕ) → n < S.callers

@@ -25,7 +25,7 @@ pub use memory::CellMemory;
 pub use of_cell::GREATEST_LIMIT;
 pub use of_core::{NotYet, Outcome};
 pub use of_mem::{MOST_INSTRS, RawReply, Work};
-pub use of_row::NotRevived;
+pub use of_row::{NotRevived, NotStill};
 pub use saved::SavedCells;
 pub use telling::CellNews;
 pub use words::{TableSizes, sizes};

@@ -1,5 +1,7 @@
 //! A memory of cells: it is opened, gives out handles, and is closed.
 
+mod looking;
+
 ghost use Rattle.std.specs.Prelude.{◌≡◌};
 ghost use Rattle.of_cell.specs.declared.word.TheConstants.{GREATEST_LIMIT};
 

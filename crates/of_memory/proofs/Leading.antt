@@ -27,7 +27,7 @@ use Rattle.of_memory.specs.Saving.{TellLast}
 use Rattle.of_memory.proofs.Replaying.{Cells, AreScripts, entries, serial, leads, in_order, by_sequence, below, up_to, last_entry}
 
 -- the reply in a caller's own cells is that of the call which they hold
-holds_same : (w : Scripts) (now : List ℕ) (n : ℕ) (c : Call) → HoldReply now n c.raw → SameWhereMarked (setup_with w 1) (reply_in MOST_INSTRS (memory_of now) n) c.raw
+pub holds_same : (w : Scripts) (now : List ℕ) (n : ℕ) (c : Call) → HoldReply now n c.raw → SameWhereMarked (setup_with w 1) (reply_in MOST_INSTRS (memory_of now) n) c.raw
 holds_same w now n c holds = (
   holds.shape,
   λ j k mark.

@@ -7,6 +7,7 @@ pub mod Saving
 pub mod Starting
 pub mod Leading
 pub mod Closing
+pub mod Asked
 pub mod Histories
 pub mod AnyMoment
 pub mod Tasks

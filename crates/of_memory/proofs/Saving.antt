@@ -36,7 +36,7 @@ module _ (d e : Saved) (same : generic.SavesSame d.cells e.cells) where
   }
 
 -- a cell of a reply
-within : (k n v : ℕ) → k < n → v ≡ (if nat_lt k n then v else 0)
+pub within : (k n v : ℕ) → k < n → v ≡ (if nat_lt k n then v else 0)
 within k n v l = let e : nat_lt k n ≡ true = grind (arith, nat_tests) in rw e refl
 
 -- the reply in a caller's own cells

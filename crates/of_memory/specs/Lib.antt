@@ -7,6 +7,7 @@ pub mod Saving
 pub mod Handles
 pub mod Lost
 pub mod Memories
+pub mod Asking
 pub mod Sequences
 pub mod Renewing
 pub mod Laws

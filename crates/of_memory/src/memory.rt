@@ -1,5 +1,7 @@
 //! A memory: it is opened, gives out handles, and is closed.
 
+mod asking;
+
 use crate::error::{InUse, OpenError, RenumberError};
 use crate::handle::Handle;
 use crate::saved::Saved;

@@ -64,7 +64,7 @@ later_revivable r q i m log request up same raised low =
     }
 
 -- no word falls where a word is raised
-lowers_none : (ws : List ℕ) (a x k : ℕ) → get_or ws k 0 ≤ get_or (set ws a (max (get_or ws a 0) x)) k 0
+pub lowers_none : (ws : List ℕ) (a x k : ℕ) → get_or ws k 0 ≤ get_or (set ws a (max (get_or ws a 0) x)) k 0
 lowers_none ws a x k = go (cases_eq k a) (cases_lt a (length ws))
   where
     go : (k ≡ a) ⊎ (k ≡ a → ⊥) → (a < length ws) ⊎ (length ws ≤ a) → get_or ws k 0 ≤ get_or (set ws a (max (get_or ws a 0) x)) k 0

@@ -95,7 +95,7 @@ module _ (S : Setup) (L : List ℕ → Type 0) (B : TableStart) (s : State (Unit
   own_past = record { from = r.from; schedule = r.schedule; runs = fits.runs }
 
   learns : (c : ℕ) → c < words_before_members S → LearnsWord S L B c v (get_or s.words c 0) learnt
-  learns c low = record { is = refl; past = fits.past; own = own_past; word = word_at S L B s r c low }
+  learns c low = record { is = refl; past = fits.past; own = own_past; word = word_at S L B s r c low; state = s; rule = r; now = refl }
 
   learns_rule : MeetsRule S L B record { words = s.words; homes = s.homes; views = set s.views id learnt }
   learns_rule = other_views S L B s r r.home (set s.views id learnt) (seats_set (ViewFits S B s.words r.events r.home r.chief) (ViewFits S B s.words r.events r.home r.chief) s.views id learnt r.each (λ j u away p alive g. g) (λ _. learnt_fits))

@@ -4,6 +4,7 @@ use Rattle.std.specs.Prelude.{◌≡◌, ◌≤◌, ◌<◌, ◌+◌, ℕ, List,
 use Rattle.std.specs.List.{AllByRecursion as Each}
 use Rattle.std.proofs.Common.{get_or}
 use mathlib.Core.List.{IsPrefix}
+use Rattle.atomic_table.specs.Table.{State}
 use Rattle.of_mem.specs.Meaning.{Meaning}
 use Rattle.of_core.specs.declared.place.Place.TheVariants.{Idle}
 use Rattle.of_core.specs.declared.place.Outcome.TheVariants.{Lost}
@@ -18,7 +19,7 @@ use Rattle.of_core.specs.Remains.{remains_of, revived_machine}
 use Rattle.of_row.specs.declared.view.RowKey.{RowKey}
 use Rattle.of_row.specs.Views.{EndedCall, KnownCaller, View, seen_batch}
 use Rattle.of_row.specs.Trail.{first_of, moment, IsToldBy, IsRunBy}
-use Rattle.of_row.specs.Rule.{HasOwn, HasOwnOnce, IsLegalFront}
+use Rattle.of_row.specs.Rule.{HasOwn, HasOwnOnce, IsLegalFront, MeetsRule}
 use Rattle.of_row.specs.Keys.{key_setup, key_start}
 
 -- The view's past has all events up to some moment of the row, and what the view keeps of its
@@ -34,13 +35,17 @@ abbrev pub after_learning : View → List Event → View
 after_learning v es = record v { past = es; looks = v.looks + 1 }
 
 -- A load of the word with the index c has found n. By it the view v has learnt of all events, and is
--- the view w now.
+-- the view w now. At the moment of the load the row was in this state, which meets the rule by
+-- these events.
 pub record LearnsWord (S : Setup) (Lawful : List ℕ → Type 0) (B : TableStart) (c : ℕ) (v : View)
     (n : ℕ) (w : View) : Type 0 where
   pub is : w ≡ after_learning v w.past
   pub past : IsPrefix v.past w.past
   pub own : HasOwnPast S Lawful B w
   pub word : n ≡ get_or (moment S B w.past).words c 0
+  pub state : State (Unit {0}) View
+  pub rule : MeetsRule S Lawful B state
+  pub now : rule.events ≡ w.past
 
 -- the open call of the lost machine m as a lost call, if the new machine d has no open call: a list
 -- of at most one. The loss has the sequence s

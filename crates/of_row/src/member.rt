@@ -67,3 +67,8 @@ pub enum NotRevived {
     /// There was no memory for the machine.
     OutOfMemory(AllocError),
 }
+
+/// The error of `Row::last_reply`: a transaction was open, or was committed, while the cells were
+/// loaded. The next caller that begins a round closes an open transaction.
+#[derive(Clone, Copy, Debug, Drop)]
+pub struct NotStill;

@@ -89,7 +89,7 @@ fn enrolled(mut memory: Memory, number: u32) -> Result<(Memory, Handle), EnrolEr
 }
 
 /// A new memory, and its two handles.
-fn two_handles(alloc: Global) -> Result<(Memory, Handle, Handle), Fail>
+pub(crate) fn two_handles(alloc: Global) -> Result<(Memory, Handle, Handle), Fail>
     ensures memory { IfOk result (λ r. IsMemory r.0) }
     ensures handles { IfOk result (λ r. IsHandle r.1 × IsHandle r.2) }
 {
@@ -100,7 +100,7 @@ fn two_handles(alloc: Global) -> Result<(Memory, Handle, Handle), Fail>
 }
 
 /// A handle makes a call: what its first instruction is answered.
-fn value_of(mut handle: Handle, script: &Script) -> (Handle, Option<u32>)
+pub(crate) fn value_of(mut handle: Handle, script: &Script) -> (Handle, Option<u32>)
     requires { IsHandle handle }
     ensures { IsHandle result.0 }
 {

@@ -76,7 +76,7 @@ impl<W: Work> Row<W> {
     }
 
     // Loads a word, by which the seat learns of all events.
-    fn look_up<O: KeyArgs<W>>(&self, seat: &mut Seat<(), View>, word: u32) -> u64
+    pub(super) fn look_up<O: KeyArgs<W>>(&self, seat: &mut Seat<(), View>, word: u32) -> u64
         requires told { O.key ≡ Some (key_of self.now) }
         requires row { IsSeatOf self.now seat.old }
         requires word { word
