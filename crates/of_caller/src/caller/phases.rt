@@ -1,0 +1,389 @@
+//! The steps of a call, phase by phase. Each phase expects the places in their usual order, so that
+//! the compiler knows the place of most steps, and their code has no jump by the place. At any other
+//! place the phase ends.
+
+ghost use Rattle.std.specs.Prelude.{◌≡◌, ◌<◌, ◌≤◌, OnOk, OnErr};
+ghost use Rattle.of_core.specs.Machine.{IsOpen};
+ghost use Rattle.of_core.specs.declared.place.Place.TheVariants.{CopyLog, LoadTarget};
+
+use super::Caller;
+use of_brake::{Brake, Steps};
+use of_core::Place;
+use of_mem::Work;
+use of_row::{Row, Stopped};
+use std::sync::ledger::Ledger;
+
+impl<W: Work> Caller<W> {
+    ghost use Rattle.of_caller.specs.Callers.{IsCaller, caller_call};
+    ghost use Rattle.of_caller.specs.Going.{LeadsOn, LeadsToDenial, steps_left};
+
+    /// Makes one step, from the machine's place, if the brake allows it.
+    #[inline(always)]
+    fn turn<L: Ledger, B: Brake>(
+        &mut self,
+        place: Place,
+        row: &Row<W>,
+        brake: &mut B,
+        steps: &mut Steps<L>,
+    ) -> Result<(), Stopped>
+        requires caller { IsCaller W.meaning row.now self.old }
+        requires here { place ≡ (caller_call self.old).place }
+        requires open { IsOpen place }
+        ensures caller { IsCaller W.meaning row.now self.new }
+        ensures goes { OnOk result (LeadsOn W.meaning W.lawful B.denials B.left B.answers B.asks
+            row.now self.old brake.old steps.old self.new brake.new steps.new) }
+        ensures denied { OnErr result (LeadsToDenial W.meaning W.lawful B.denials B.left B.answers
+            B.asks row.now self.old brake.old steps.old self.new brake.new steps.new) }
+        ensures falls { OnOk result (steps_left W.meaning self.new < steps_left W.meaning self.old) }
+    {
+        row.step_at(place, &mut self.member, &mut self.machine, brake)?;
+        steps.tick();
+        Ok(())
+    }
+
+    /// Makes a step of the open call, and then those after it, as far as the phases go.
+    #[inline(always)]
+    pub(super) fn go_far<L: Ledger, B: Brake>(
+        &mut self,
+        row: &Row<W>,
+        brake: &mut B,
+        steps: &mut Steps<L>,
+    ) -> Result<(), Stopped>
+        requires caller { IsCaller W.meaning row.now self.old }
+        requires open { IsOpen (caller_call self.old).place }
+        ensures caller { IsCaller W.meaning row.now self.new }
+        ensures goes { OnOk result (LeadsOn W.meaning W.lawful B.denials B.left B.answers B.asks
+            row.now self.old brake.old steps.old self.new brake.new steps.new) }
+        ensures denied { OnErr result (LeadsToDenial W.meaning W.lawful B.denials B.left B.answers
+            B.asks row.now self.old brake.old steps.old self.new brake.new steps.new) }
+        ensures falls { OnOk result
+            (steps_left W.meaning self.new < steps_left W.meaning self.old) }
+    {
+        if let Place::TryCurrent = self.machine.place() {
+            return self.read(row, brake, steps);
+        }
+        if let Place::CopyLog(at) = self.machine.place() {
+            return self.copy(at, row, brake, steps);
+        }
+        if let Place::LoadShape = self.machine.place() {
+            return self.load_reply(row, brake, steps);
+        }
+        let place = self.machine.place();
+        self.turn(place, row, brake, steps)?;
+        self.announce(row, brake, steps)?;
+        self.enter(row, brake, steps)?;
+        self.scan(row, brake, steps)?;
+        self.commit(row, brake, steps)?;
+        self.apply(row, brake, steps)
+    }
+
+    /// Stores script words and the announcement, and begins the first round.
+    #[inline(always)]
+    fn announce<L: Ledger, B: Brake>(
+        &mut self,
+        row: &Row<W>,
+        brake: &mut B,
+        steps: &mut Steps<L>,
+    ) -> Result<(), Stopped>
+        requires caller { IsCaller W.meaning row.now self.old }
+        ensures caller { IsCaller W.meaning row.now self.new }
+        ensures goes { OnOk result (LeadsOn W.meaning W.lawful B.denials B.left B.answers B.asks
+            row.now self.old brake.old steps.old self.new brake.new steps.new) }
+        ensures denied { OnErr result (LeadsToDenial W.meaning W.lawful B.denials B.left B.answers
+            B.asks row.now self.old brake.old steps.old self.new brake.new steps.new) }
+        ensures falls { OnOk result
+            (steps_left W.meaning self.new ≤ steps_left W.meaning self.old) }
+    {
+        while let Place::StoreScript(at) = self.machine.place() {
+            self.turn(Place::StoreScript(at), row, brake, steps)?;
+        }
+        let Place::StoreAnnouncement = self.machine.place() else {
+            return Ok(());
+        };
+        self.turn(Place::StoreAnnouncement, row, brake, steps)?;
+        let Place::LoadCurrent = self.machine.place() else {
+            return Ok(());
+        };
+        self.turn(Place::LoadCurrent, row, brake, steps)
+    }
+
+    /// Loads what a round looks at before its scan.
+    #[inline(always)]
+    fn enter<L: Ledger, B: Brake>(
+        &mut self,
+        row: &Row<W>,
+        brake: &mut B,
+        steps: &mut Steps<L>,
+    ) -> Result<(), Stopped>
+        requires caller { IsCaller W.meaning row.now self.old }
+        ensures caller { IsCaller W.meaning row.now self.new }
+        ensures goes { OnOk result (LeadsOn W.meaning W.lawful B.denials B.left B.answers B.asks
+            row.now self.old brake.old steps.old self.new brake.new steps.new) }
+        ensures denied { OnErr result (LeadsToDenial W.meaning W.lawful B.denials B.left B.answers
+            B.asks row.now self.old brake.old steps.old self.new brake.new steps.new) }
+        ensures falls { OnOk result
+            (steps_left W.meaning self.new ≤ steps_left W.meaning self.old) }
+    {
+        let Place::LoadRequest = self.machine.place() else {
+            return Ok(());
+        };
+        self.turn(Place::LoadRequest, row, brake, steps)?;
+        let Place::LoadOwnTicket = self.machine.place() else {
+            return Ok(());
+        };
+        self.turn(Place::LoadOwnTicket, row, brake, steps)
+    }
+
+    /// Copies the log of an open transaction, and looks whether it is still open.
+    #[inline(always)]
+    fn copy<L: Ledger, B: Brake>(
+        &mut self,
+        at: u32,
+        row: &Row<W>,
+        brake: &mut B,
+        steps: &mut Steps<L>,
+    ) -> Result<(), Stopped>
+        requires caller { IsCaller W.meaning row.now self.old }
+        requires here { CopyLog at ≡ (caller_call self.old).place }
+        ensures caller { IsCaller W.meaning row.now self.new }
+        ensures goes { OnOk result (LeadsOn W.meaning W.lawful B.denials B.left B.answers B.asks
+            row.now self.old brake.old steps.old self.new brake.new steps.new) }
+        ensures denied { OnErr result (LeadsToDenial W.meaning W.lawful B.denials B.left B.answers
+            B.asks row.now self.old brake.old steps.old self.new brake.new steps.new) }
+        ensures falls { OnOk result
+            (steps_left W.meaning self.new < steps_left W.meaning self.old) }
+    {
+        self.turn(Place::CopyLog(at), row, brake, steps)?;
+        while let Place::CopyLog(at) = self.machine.place() {
+            self.turn(Place::CopyLog(at), row, brake, steps)?;
+        }
+        let Place::LookAgain = self.machine.place() else {
+            return Ok(());
+        };
+        self.turn(Place::LookAgain, row, brake, steps)
+    }
+
+    /// Loads the reply of a call that was run.
+    #[inline(always)]
+    fn load_reply<L: Ledger, B: Brake>(
+        &mut self,
+        row: &Row<W>,
+        brake: &mut B,
+        steps: &mut Steps<L>,
+    ) -> Result<(), Stopped>
+        requires caller { IsCaller W.meaning row.now self.old }
+        requires here { Place.LoadShape ≡ (caller_call self.old).place }
+        ensures caller { IsCaller W.meaning row.now self.new }
+        ensures goes { OnOk result (LeadsOn W.meaning W.lawful B.denials B.left B.answers B.asks
+            row.now self.old brake.old steps.old self.new brake.new steps.new) }
+        ensures denied { OnErr result (LeadsToDenial W.meaning W.lawful B.denials B.left B.answers
+            B.asks row.now self.old brake.old steps.old self.new brake.new steps.new) }
+        ensures falls { OnOk result
+            (steps_left W.meaning self.new < steps_left W.meaning self.old) }
+    {
+        self.turn(Place::LoadShape, row, brake, steps)?;
+        while let Place::LoadReply(at) = self.machine.place() {
+            self.turn(Place::LoadReply(at), row, brake, steps)?;
+        }
+        Ok(())
+    }
+
+    /// Looks at announcements up to one that is new, runs its call, and looks at those after it.
+    #[inline(always)]
+    fn scan<L: Ledger, B: Brake>(
+        &mut self,
+        row: &Row<W>,
+        brake: &mut B,
+        steps: &mut Steps<L>,
+    ) -> Result<(), Stopped>
+        requires caller { IsCaller W.meaning row.now self.old }
+        ensures caller { IsCaller W.meaning row.now self.new }
+        ensures goes { OnOk result (LeadsOn W.meaning W.lawful B.denials B.left B.answers B.asks
+            row.now self.old brake.old steps.old self.new brake.new steps.new) }
+        ensures denied { OnErr result (LeadsToDenial W.meaning W.lawful B.denials B.left B.answers
+            B.asks row.now self.old brake.old steps.old self.new brake.new steps.new) }
+        ensures falls { OnOk result
+            (steps_left W.meaning self.new ≤ steps_left W.meaning self.old) }
+    {
+        while let Place::LoadAnnouncement = self.machine.place() {
+            self.look(row, brake, steps)?;
+        }
+        while let Place::LoadScript(at) = self.machine.place() {
+            self.turn(Place::LoadScript(at), row, brake, steps)?;
+        }
+        while let Place::LoadCell(addr) = self.machine.place() {
+            self.turn(Place::LoadCell(addr), row, brake, steps)?;
+        }
+        while let Place::LoadAnnouncement = self.machine.place() {
+            self.look(row, brake, steps)?;
+        }
+        Ok(())
+    }
+
+    /// Looks at the announcement of one caller.
+    #[inline(always)]
+    fn look<L: Ledger, B: Brake>(
+        &mut self,
+        row: &Row<W>,
+        brake: &mut B,
+        steps: &mut Steps<L>,
+    ) -> Result<(), Stopped>
+        requires caller { IsCaller W.meaning row.now self.old }
+        requires here { Place.LoadAnnouncement ≡ (caller_call self.old).place }
+        ensures caller { IsCaller W.meaning row.now self.new }
+        ensures goes { OnOk result (LeadsOn W.meaning W.lawful B.denials B.left B.answers B.asks
+            row.now self.old brake.old steps.old self.new brake.new steps.new) }
+        ensures denied { OnErr result (LeadsToDenial W.meaning W.lawful B.denials B.left B.answers
+            B.asks row.now self.old brake.old steps.old self.new brake.new steps.new) }
+        ensures falls { OnOk result
+            (steps_left W.meaning self.new < steps_left W.meaning self.old) }
+    {
+        self.turn(Place::LoadAnnouncement, row, brake, steps)?;
+        let Place::LoadTicket = self.machine.place() else {
+            return Ok(());
+        };
+        self.turn(Place::LoadTicket, row, brake, steps)
+    }
+
+    /// Stores the log and the request, commits, and begins to apply.
+    #[inline(always)]
+    fn commit<L: Ledger, B: Brake>(
+        &mut self,
+        row: &Row<W>,
+        brake: &mut B,
+        steps: &mut Steps<L>,
+    ) -> Result<(), Stopped>
+        requires caller { IsCaller W.meaning row.now self.old }
+        ensures caller { IsCaller W.meaning row.now self.new }
+        ensures goes { OnOk result (LeadsOn W.meaning W.lawful B.denials B.left B.answers B.asks
+            row.now self.old brake.old steps.old self.new brake.new steps.new) }
+        ensures denied { OnErr result (LeadsToDenial W.meaning W.lawful B.denials B.left B.answers
+            B.asks row.now self.old brake.old steps.old self.new brake.new steps.new) }
+        ensures falls { OnOk result
+            (steps_left W.meaning self.new ≤ steps_left W.meaning self.old) }
+    {
+        let Place::RaiseOld = self.machine.place() else {
+            return Ok(());
+        };
+        self.turn(Place::RaiseOld, row, brake, steps)?;
+        while let Place::StoreLog(at) = self.machine.place() {
+            self.turn(Place::StoreLog(at), row, brake, steps)?;
+            let Place::RaiseLog(at) = self.machine.place() else {
+                return Ok(());
+            };
+            self.turn(Place::RaiseLog(at), row, brake, steps)?;
+        }
+        let Place::StoreRequest = self.machine.place() else {
+            return Ok(());
+        };
+        self.turn(Place::StoreRequest, row, brake, steps)?;
+        let Place::RaiseRequest = self.machine.place() else {
+            return Ok(());
+        };
+        self.turn(Place::RaiseRequest, row, brake, steps)?;
+        let Place::ExchangeCurrent = self.machine.place() else {
+            return Ok(());
+        };
+        self.turn(Place::ExchangeCurrent, row, brake, steps)?;
+        let Place::RaiseCurrent = self.machine.place() else {
+            return Ok(());
+        };
+        self.turn(Place::RaiseCurrent, row, brake, steps)
+    }
+
+    /// Applies the log, and closes the request.
+    #[inline(always)]
+    fn apply<L: Ledger, B: Brake>(
+        &mut self,
+        row: &Row<W>,
+        brake: &mut B,
+        steps: &mut Steps<L>,
+    ) -> Result<(), Stopped>
+        requires caller { IsCaller W.meaning row.now self.old }
+        ensures caller { IsCaller W.meaning row.now self.new }
+        ensures goes { OnOk result (LeadsOn W.meaning W.lawful B.denials B.left B.answers B.asks
+            row.now self.old brake.old steps.old self.new brake.new steps.new) }
+        ensures denied { OnErr result (LeadsToDenial W.meaning W.lawful B.denials B.left B.answers
+            B.asks row.now self.old brake.old steps.old self.new brake.new steps.new) }
+        ensures falls { OnOk result
+            (steps_left W.meaning self.new ≤ steps_left W.meaning self.old) }
+    {
+        while let Place::LoadTarget(entry) = self.machine.place() {
+            self.bring(entry, row, brake, steps)?;
+        }
+        let Place::CloseRequest = self.machine.place() else {
+            return Ok(());
+        };
+        self.turn(Place::CloseRequest, row, brake, steps)?;
+        let Place::RaiseClosed = self.machine.place() else {
+            return Ok(());
+        };
+        self.turn(Place::RaiseClosed, row, brake, steps)
+    }
+
+    /// Applies an entry of the log.
+    #[inline(always)]
+    fn bring<L: Ledger, B: Brake>(
+        &mut self,
+        entry: u32,
+        row: &Row<W>,
+        brake: &mut B,
+        steps: &mut Steps<L>,
+    ) -> Result<(), Stopped>
+        requires caller { IsCaller W.meaning row.now self.old }
+        requires here { LoadTarget entry ≡ (caller_call self.old).place }
+        ensures caller { IsCaller W.meaning row.now self.new }
+        ensures goes { OnOk result (LeadsOn W.meaning W.lawful B.denials B.left B.answers B.asks
+            row.now self.old brake.old steps.old self.new brake.new steps.new) }
+        ensures denied { OnErr result (LeadsToDenial W.meaning W.lawful B.denials B.left B.answers
+            B.asks row.now self.old brake.old steps.old self.new brake.new steps.new) }
+        ensures falls { OnOk result
+            (steps_left W.meaning self.new < steps_left W.meaning self.old) }
+    {
+        self.turn(Place::LoadTarget(entry), row, brake, steps)?;
+        if let Place::RaiseTarget(entry, found) = self.machine.place() {
+            return self.turn(Place::RaiseTarget(entry, found), row, brake, steps);
+        }
+        let Place::ExchangeTarget(entry, found) = self.machine.place() else {
+            return Ok(());
+        };
+        self.turn(Place::ExchangeTarget(entry, found), row, brake, steps)?;
+        let Place::ReloadTarget(entry) = self.machine.place() else {
+            return Ok(());
+        };
+        self.turn(Place::ReloadTarget(entry), row, brake, steps)?;
+        let Place::RaiseTarget(entry, found) = self.machine.place() else {
+            return Ok(());
+        };
+        self.turn(Place::RaiseTarget(entry, found), row, brake, steps)
+    }
+
+    /// Tries a read.
+    #[inline(always)]
+    fn read<L: Ledger, B: Brake>(
+        &mut self,
+        row: &Row<W>,
+        brake: &mut B,
+        steps: &mut Steps<L>,
+    ) -> Result<(), Stopped>
+        requires caller { IsCaller W.meaning row.now self.old }
+        requires here { Place.TryCurrent ≡ (caller_call self.old).place }
+        ensures caller { IsCaller W.meaning row.now self.new }
+        ensures goes { OnOk result (LeadsOn W.meaning W.lawful B.denials B.left B.answers B.asks
+            row.now self.old brake.old steps.old self.new brake.new steps.new) }
+        ensures denied { OnErr result (LeadsToDenial W.meaning W.lawful B.denials B.left B.answers
+            B.asks row.now self.old brake.old steps.old self.new brake.new steps.new) }
+        ensures falls { OnOk result
+            (steps_left W.meaning self.new < steps_left W.meaning self.old) }
+    {
+        self.turn(Place::TryCurrent, row, brake, steps)?;
+        let Place::TryRequest = self.machine.place() else {
+            return Ok(());
+        };
+        self.turn(Place::TryRequest, row, brake, steps)?;
+        while let Place::TryCell(addr) = self.machine.place() {
+            self.turn(Place::TryCell(addr), row, brake, steps)?;
+        }
+        Ok(())
+    }
+}
