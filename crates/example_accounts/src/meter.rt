@@ -14,11 +14,13 @@ use crate::accounts::{Accounts, MOST_ACCOUNTS};
 use crate::transfer::Transfer;
 use anyhow::{Result, ensure};
 use of_cells::{CellHandle, CellMemory, GREATEST_LIMIT, RunError};
-use of_mem::MOST_CALLERS;
 use std::alloc::Global;
 use std::io;
 use std::thread::{Threads, for_each_mut};
 use std::time::{Clock, Duration, Instant};
+
+/// How many callers the memory has.
+const CALLERS: u32 = 16;
 
 /// How often a handle is enrolled and leaves again.
 const VISITS: u32 = 1_000;
@@ -241,7 +243,7 @@ pub fn measure<R: Threads + Clock + Print + Input + Sync>(
     );
     ensure!(rounds <= MOST_ROUNDS, "at most {MOST_ROUNDS} rounds");
     let accounts = Accounts {
-        callers: MOST_CALLERS,
+        callers: CALLERS,
         accounts,
         money: u32::MAX,
     };

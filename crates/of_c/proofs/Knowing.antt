@@ -6,7 +6,9 @@ use Rattle.of_memory.specs.Tasks.{KnowsSame}
 use Rattle.of_c.specs.declared.held.Home.{Home}
 use Rattle.of_c.specs.declared.held.Held.{Held}
 use Rattle.of_c.specs.declared.held.Held.TheVariants.{Nothing, Memory, Caller, Lost, Saved}
+use Rattle.of_memory.specs.Lost.{EvictsRequest, EvictsNone}
 use Rattle.of_c.specs.Causes.{KnowsAll, KeepsHeld, KeepsSlot}
+use Rattle.of_c.specs.Losses.{IsHeldEvicted}
 
 knows_same : (n : ℕ) (m k : TheMemory) → get_or k.cells.callers.items n None ≡ get_or m.cells.callers.items n None → KnowsSame n m k
 knows_same n m k is = record {
@@ -47,3 +49,8 @@ keeps_held (Saved d) = refl
 pub keeps_slot : (held : Option Held) → KeepsSlot held held
 keeps_slot None = refl
 keeps_slot (Some h) = keeps_held h
+
+-- a memory that is held has evicted a request
+pub evicts_held : (n : ℕ) (before : Held) (home now : Home) → before ≡ Memory home → EvictsRequest n home.memory now.memory → EvictsNone n home.memory now.memory → IsHeldEvicted n (Some before) (Some (Memory now))
+evicts_held n before home now is evicted same =
+    subst (λ (h : Held). IsHeldEvicted n (Some h) (Some (Memory now))) (sym is) (record { memory = home.memory; was = refl; next = now.memory; is = refl; evicted = evicted; same = same })

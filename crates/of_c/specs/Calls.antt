@@ -5,6 +5,7 @@ use Rattle.of_script.specs.Language.{IsScript, instr_word}
 use Rattle.of_script.specs.Text.{SpellsScript}
 use Rattle.of_plan.specs.declared.answer.Answer.{Answer}
 use Rattle.of_memory.specs.declared.handle.Handle.{Handle}
+use Rattle.of_memory.specs.Calls.{HoldsOfScript}
 use Rattle.of_cells.specs.declared.error.RunError.{RunError}
 use Rattle.of_cells.specs.declared.error.RunError.TheVariants.{Stopped, Spent, InCall, NoCall, NoTicket}
 use Rattle.of_memory.specs.Called.{LeavesAsItWas}
@@ -136,8 +137,8 @@ CallsSlot Does o (Some before) now reply code = CallsSome Does o before now repl
 abbrev pub CallsWords : List ℕ → (stop : Option ℕ) → (before now : Option Held) → CReply
     → (code : ℕ) → Type 0
 CallsWords words stop before now reply code =
-    (script : List Instr) → IsScript script → map instr_word script ≡ words
-    → CallsSlot (CallsScript script stop) CALL_OPEN before now reply code
+    HoldsOfScript words
+    (λ script. CallsSlot (CallsScript script stop) CALL_OPEN before now reply code)
 
 -- no script has these words
 abbrev pub AreNoScript : List ℕ → Type 0

@@ -5,19 +5,30 @@ use Rattle.of_row.specs.declared.member.NotRevived.{NotRevived}
 use Rattle.of_row.specs.declared.member.NotRevived.TheVariants.{NotYet, AtLimit, OutOfMemory}
 use Rattle.of_memory.specs.declared.handle.Handle.{Handle}
 use Rattle.of_memory.specs.declared.lost.LostHandle.{LostHandle}
+use Rattle.of_memory.specs.declared.memory.Memory.{Memory as TheMemory}
 use Rattle.of_memory.specs.Handles.{calls_begun}
 use Rattle.of_memory.specs.Lost.{calls_stepped_by, calls_begun_by_lost, GivesUp, IsRevived}
-use Rattle.of_memory.specs.Lost.{StaysLost, IsReviveCause}
+use Rattle.of_memory.specs.Lost.{StaysLost, IsReviveCause, EvictsRequest, EvictsNone}
 use Rattle.of_c.specs.declared.codes.TheConstants.{NO_MEMORY, NOT_YET, SPENT}
 use Rattle.of_c.specs.declared.held.Held.{Held}
 use Rattle.of_c.specs.declared.held.Held.TheVariants.{Nothing, Memory, Caller, Lost, Saved}
-use Rattle.of_c.specs.Slots.{HoldsHandle}
+use Rattle.of_c.specs.Slots.{HoldsHandle, HoldsMemory}
 
 -- a caller is held, and its number has begun this many calls
 pub record TellsBegun (held : Option Held) (begun : ℕ) : Type 0 where
   pub handle : Handle
   pub is : HoldsHandle held handle
   pub begun_is : begun ≡ calls_begun handle
+
+-- the memory that is held has evicted the request of caller n; if it has no such caller, it is as it
+-- was
+pub record IsHeldEvicted (n : ℕ) (before now : Option Held) : Type 0 where
+  pub memory : TheMemory
+  pub was : HoldsMemory before memory
+  pub next : TheMemory
+  pub is : HoldsMemory now next
+  pub evicted : EvictsRequest n memory next
+  pub same : EvictsNone n memory next
 
 -- if a caller is held, with a machine or without, its number has made a step of this many calls
 abbrev pub HasSteppedBy : Held → (made : ℕ) → Type 0

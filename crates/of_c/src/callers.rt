@@ -1,6 +1,7 @@
 //! What C does with a caller: calls of scripts.
 
 ghost use Rattle.std.specs.Prelude.{◌≡◌, ◌≢◌, ◌↔◌, ◌∷◌, [], None, Some};
+ghost use Rattle.of_memory.specs.Calls.{IsScriptOperation, HoldsOfScript};
 ghost use Rattle.of_script.specs.Text.{IsFault};
 ghost use Rattle.of_c.specs.declared.codes.TheConstants.{CALL_OPEN, DONE, EMPTY};
 ghost use Rattle.of_c.specs.declared.codes.TheConstants.{NO_CALL, NO_SCRIPT};
@@ -15,7 +16,7 @@ use crate::reply::CReply;
 use crate::slot::Slot;
 use crate::truth::{OfHandle, surely};
 use of_memory::{Answer, Handle, Instr, RunError, Script, ScriptErr, parse};
-use of_script::from_words_into;
+use of_script::{MOST_INSTRS, from_words_into, to_words};
 use std::alloc::Global;
 
 // The stop that C gives as a number of steps; the greatest number means no stop.
@@ -53,20 +54,24 @@ fn code_of(ended: &Result<Answer, RunError>, open_code: u32, reply: &mut CReply)
 }
 
 impl Seat {
-    // Runs a script to its answer.
-    fn run(&mut self, script: &Script) -> Result<Answer, RunError>
-        ensures { CallsScript script.now None self.old.handle result self.new.handle }
+    // Runs the script that has these words, to its answer.
+    fn run(&mut self, words: &[u64]) -> Result<Answer, RunError>
+        requires { IsScriptOperation words.now }
+        ensures { HoldsOfScript words.now
+            (λ s. CallsScript s None self.old.handle result self.new.handle) }
     {
         surely::<Handle, OfHandle>(&self.handle);
-        self.handle.run(script)
+        self.handle.run_words(words)
     }
 
-    // Runs a script, for at most this many steps.
-    fn run_within(&mut self, script: &Script, steps: u64) -> Result<Answer, RunError>
-        ensures { CallsScript script.now (Some steps) self.old.handle result self.new.handle }
+    // Runs the script that has these words, for at most this many steps.
+    fn run_within(&mut self, words: &[u64], steps: u64) -> Result<Answer, RunError>
+        requires { IsScriptOperation words.now }
+        ensures { HoldsOfScript words.now
+            (λ s. CallsScript s (Some steps) self.old.handle result self.new.handle) }
     {
         surely::<Handle, OfHandle>(&self.handle);
-        self.handle.run_within(script, steps)
+        self.handle.run_words_within(words, steps)
     }
 
     // Goes on with the open call, for at most this many steps.
@@ -81,17 +86,18 @@ impl Seat {
     }
 }
 
-// Runs a script, if a caller is held.
-fn run_held(held: &mut Held, script: &Script, limit: Option<u64>, reply: &mut CReply) -> u32
-    ensures runs { CallsHeld (CallsScript script.now limit) CALL_OPEN
-        held.old held.new reply.new result }
+// Runs the script that has these words, if a caller is held.
+fn run_held(held: &mut Held, words: &[u64], limit: Option<u64>, reply: &mut CReply) -> u32
+    requires { IsScriptOperation words.now }
+    ensures runs { HoldsOfScript words.now (λ s. CallsHeld (CallsScript s limit) CALL_OPEN
+        held.old held.new reply.new result) }
     ensures stays { LeavesReply result reply.old reply.new }
 {
     match held {
         // Each arm hands on what its call answers, which spares moving it.
         Held::Caller(seat) => match limit {
-            Some(steps) => code_of(&seat.run_within(script, steps), CALL_OPEN, reply),
-            None => code_of(&seat.run(script), CALL_OPEN, reply),
+            Some(steps) => code_of(&seat.run_within(words, steps), CALL_OPEN, reply),
+            None => code_of(&seat.run(words), CALL_OPEN, reply),
         },
         _ => EMPTY,
     }
@@ -108,22 +114,23 @@ fn go_on_held(held: &mut Held, limit: Option<u64>, reply: &mut CReply) -> u32
     }
 }
 
-// Runs a script, if the slot holds a caller.
+// Runs the script that has these words, if the slot holds a caller.
 fn run_in(
     alloc: Global,
     caller: &mut Slot,
-    script: &Script,
+    words: &[u64],
     limit: Option<u64>,
     reply: &mut CReply,
 ) -> u32
-    ensures runs { CallsSlot (CallsScript script.now limit) CALL_OPEN
+    requires { IsScriptOperation words.now }
+    ensures runs { CallsWords words.now limit
         caller.old.raw.held caller.new.raw.held reply.new result }
     ensures stays { LeavesReply result reply.old reply.new }
 {
     let Some(mut held) = caller.take(alloc) else {
         return EMPTY;
     };
-    let code = run_held(&mut held, script, limit, reply);
+    let code = run_held(&mut held, words, limit, reply);
     caller.put(held);
     code
 }
@@ -148,7 +155,7 @@ pub extern "C" fn of_c_call(
     if !from_words_into(words, &mut script) {
         return NO_SCRIPT;
     }
-    run_in(alloc, caller, &script, limit_of(steps), reply)
+    run_in(alloc, caller, words, limit_of(steps), reply)
 }
 
 /// Runs the script that a text spells, for at most `steps` steps. If the text spells none, the
@@ -170,7 +177,11 @@ pub extern "C" fn of_c_call_text(
     ensures else_stays { IsNoText text.now → ShowsPlaceAlone reply.old reply.new }
 {
     match parse(text) {
-        Ok(script) => run_in(alloc, caller, &script, limit_of(steps), reply),
+        Ok(script) => {
+            let mut words = [0; MOST_INSTRS];
+            let len = to_words(&script, &mut words) as usize;
+            run_in(alloc, caller, &words[..len], limit_of(steps), reply)
+        }
         Err(ScriptErr::Bad { at }) => {
             reply.place = at;
             NO_SCRIPT

@@ -6,7 +6,7 @@ ghost use Rattle.of_c.specs.declared.held.Held.TheVariants.{Lost as HeldLost};
 ghost use Rattle.of_c.specs.Causes.{IsOneCode, HoldsNo, IsNotCaller, IsNotEnrolled, IsNotMemory};
 ghost use Rattle.of_c.specs.Causes.{KeepsHeld, KeepsSlot};
 ghost use Rattle.of_c.specs.Losses.{TellsBegun, HasSteppedBy, HoldsSteppedBy};
-ghost use Rattle.of_c.specs.Losses.{IsHeldRevived, IsHeldLost};
+ghost use Rattle.of_c.specs.Losses.{IsHeldEvicted, IsHeldRevived, IsHeldLost};
 
 use crate::codes::{DONE, EMPTY, NO_MEMORY, NOT_YET, SPENT};
 use crate::held::{Held, Seat, Vacant};
@@ -52,6 +52,7 @@ fn evict_held(held: &mut Held, number: u32) -> u32
     ensures codes { IsOneCode (DONE ∷ EMPTY ∷ []) result }
     ensures empty { (result ≡ EMPTY) ↔ IsNotMemory held.old }
     ensures kept { KeepsHeld held.old held.new }
+    ensures evicted { result ≡ DONE → IsHeldEvicted number (Some held.old) (Some held.new) }
 {
     match held {
         Held::Memory(home) => {
@@ -70,6 +71,8 @@ pub extern "C" fn of_c_evict_request(alloc: Global, memory: &mut Slot, number: u
     ensures codes { IsOneCode (DONE ∷ EMPTY ∷ []) result }
     ensures empty { (result ≡ EMPTY) ↔ HoldsNo IsNotMemory memory.old.raw.held }
     ensures kept { KeepsSlot memory.old.raw.held memory.new.raw.held }
+    ensures evicted { result ≡ DONE
+        → IsHeldEvicted number memory.old.raw.held memory.new.raw.held }
 {
     let Some(mut held) = memory.take(alloc) else {
         return EMPTY;

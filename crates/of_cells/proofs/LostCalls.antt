@@ -1,16 +1,21 @@
 -- What has become of calls whose machine was lost: whether there is a new machine or not.
-use Rattle.std.proofs.Common.{◌≡◌, ◌⊎◌, ℕ, inl, inr, true, false, List, refl, sym, ap, subst, ⊎_elim}
+use Rattle.std.proofs.Common.{◌≡◌, ◌⊎◌, ◌↔◌, ℕ, inl, inr, Bool, true, false, List, refl, sym, ap, subst, ⊎_elim}
+use Rattle.std.specs.Prelude.{IsTrue}
 use mathlib.Core.List.{IsPrefix}
 use Rattle.of_core.specs.declared.place.Place.{Place}
 use Rattle.of_core.specs.declared.place.Place.TheVariants.{Idle}
 use Rattle.of_core.specs.Table.{Setup}
 use Rattle.of_core.specs.Machine.{IsOpen, is_idle}
 use Rattle.of_core.specs.TableMoment.{TableStart}
+use Rattle.of_core.specs.declared.remains.Remains.{Remains}
+use Rattle.of_core.specs.Remains.{remains_of, revived_if, announces_open_call}
 use Rattle.of_row.specs.declared.member.NotRevived.{NotRevived}
 use Rattle.of_row.specs.declared.member.NotRevived.TheVariants.{NotYet, AtLimit, OutOfMemory}
 use Rattle.of_row.specs.Views.{KnownCaller, View, last_caller}
-use Rattle.of_row.specs.Replacing.{GetsMachine, LearntOrRevived, RefusesMachine}
-use Rattle.of_cells.specs.Lost.{CallsGoOn}
+use Rattle.of_row.specs.Trail.{moment}
+use Rattle.of_row.specs.Revivals.{known_after_revival}
+use Rattle.of_row.specs.Replacing.{WasSoBetween, GetsMachine, LearntOrRevived, RefusesMachine}
+use Rattle.of_cells.specs.Lost.{CallsGoOn, AnnouncesOpenCall}
 
 open_or_idle : (p : Place) → IsOpen p ⊎ (p ≡ Idle)
 open_or_idle Idle = inr refl
@@ -33,6 +38,20 @@ module _ (S : Setup) (L : List ℕ → Type 0) (B : TableStart) (v : View) (x : 
           go : IsOpen x.machine.place ⊎ (x.machine.place ≡ Idle) → x.machine.place ≡ Idle
           go (inl o) = absurd (shut o)
           go (inr q) = q
+
+  -- it has an open call exactly if the words said so at the moment at which it was made
+  pub gets_if_announced : GetsMachine S L B v x u y → WasSoBetween S B v u (λ ws. IsOpen y.machine.place ↔ AnnouncesOpenCall S x.machine.caller ws)
+  gets_if_announced g = let f = g.from in (
+    f.0,
+    f.1,
+    f.2,
+    subst (λ (k : KnownCaller). IsOpen k.machine.place ↔ AnnouncesOpenCall S x.machine.caller (moment S B f.0).words) (sym f.3)
+    (said (remains_of S (moment S B f.0).words x.machine.caller) (announces_open_call (remains_of S (moment S B f.0).words x.machine.caller))),
+  )
+    where
+      said : (r : Remains) (b : Bool) → IsOpen (revived_if S r x.machine.caller x.machine.made b).place ↔ IsTrue b
+      said r true = (λ o. refl, λ t. refl)
+      said r false = (λ o. cc, λ t. cc)
 
 -- there is none, and the calls are as they were
 same_calls : (x : KnownCaller) → GoesOnAs x x

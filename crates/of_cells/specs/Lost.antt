@@ -1,11 +1,14 @@
 -- A handle whose machine is lost: the calls of its number, and what becomes of them if a new machine
 -- takes the lost one's place.
-use Rattle.std.specs.Prelude.{◌≡◌, ◌≤◌, ◌+◌, ◌⊎◌, ℕ, List, [], ◌∷◌, ◌++◌, length}
+use Rattle.std.specs.Prelude.{◌≡◌, ◌≤◌, ◌<◌, ◌+◌, ◌⊎◌, ◌↔◌, ℕ, List, [], ◌∷◌, ◌++◌, length, IsTrue}
 use Rattle.std.specs.Arc.{arc_value}
 use mathlib.Core.List.{IsPrefix}
+use Rattle.of_cell.specs.Cells.{request_cell}
 use Rattle.of_mem.specs.Meaning.{Meaning}
 use Rattle.of_core.specs.declared.place.Outcome.TheVariants.{Lost}
+use Rattle.of_core.specs.Table.{Setup}
 use Rattle.of_core.specs.Machine.{IsOpen, is_idle}
+use Rattle.of_core.specs.Remains.{remains_of, announces_open_call}
 use Rattle.of_core.specs.Events.{Event}
 use Rattle.of_row.specs.declared.row.Row.{Row}
 use Rattle.of_row.specs.declared.member.Member.{Member}
@@ -14,11 +17,15 @@ use Rattle.of_row.specs.declared.member.NotRevived.TheVariants.{NotYet, AtLimit,
 use Rattle.of_row.specs.Views.{EndedCall, KnownCaller}
 use Rattle.of_row.specs.Rule.{open_call_count}
 use Rattle.of_row.specs.Rows.{setup_at, row_start, IsRowMember, view_of_member, number_of_member, calls_of_member, caller_kept_by}
+use Rattle.of_row.specs.Passes.{HasEvicted}
 use Rattle.of_row.specs.Replacing.{WasSoBetween, MayNotRevive, IsAtLimit}
 use Rattle.of_caller.specs.Callers.{member_of}
 use Rattle.of_cells.specs.declared.handle.CellHandle.{CellHandle}
+use Rattle.of_cells.specs.declared.memory.CellMemory.{CellMemory}
 use Rattle.of_cells.specs.declared.lost.LostHandle.{LostHandle}
 use Rattle.of_cells.specs.Times.{calls_ended_in}
+use Rattle.of_cells.specs.Sequences.{seq_known_to}
+use Rattle.of_cells.specs.Memories.{callers_of}
 use Rattle.of_cells.specs.Serving.{HasStartedIfOpen, made_before, events_known_to}
 use Rattle.of_cells.specs.Handles.{home_of, number_of_handle, caller_of, made_by, HasCallOpen, HasOpen, last_operation_of, steps_so_far}
 
@@ -55,6 +62,10 @@ HasLostCall h = IsOpen (kept_by_lost h).machine.place
 abbrev pub operation_lost : {W : Type 0} → LostHandle W → List ℕ
 operation_lost h = (kept_by_lost h).machine.op
 
+-- the last sequence that the lost handle knows
+abbrev pub seq_known_to_lost : {W : Type 0} → LostHandle W → ℕ
+seq_known_to_lost h = h.seq
+
 -- the events of the row that the lost handle knows
 abbrev pub events_known_to_lost : {W : Type 0} → LostHandle W → List Event
 events_known_to_lost h = (view_of_member h.member).past
@@ -85,6 +96,7 @@ pub record GivesUp {W : Type 0} (h : CellHandle W) (g : LostHandle W) : Type 0 w
   pub open_call : HasCallOpen h → (steps_so_far h ≡ 0 → ⊥) → HasLostCall g
   pub only : HasLostCall g → HasOpen h (operation_lost g)
   pub begun : calls_begun_by_lost g ≡ calls_stepped_by h
+  pub seq : seq_known_to_lost g ≡ seq_known_to h
   pub past : events_known_to_lost g ≡ events_known_to (caller_of h)
 
 -- What a new machine leaves of calls. If none was open, none is, and no call is added to the ended
@@ -97,10 +109,26 @@ pub record CallsGoOn (was_open : Type 0) (op : List ℕ) (before : List EndedCal
       ⊎ ((now_open → ⊥)
       × ((s : ℕ) × (now ≡ before ++ record { op = op; outcome = Lost s } ∷ [])))
 
+-- the table's words say that the call which caller i has announced is open: it is newer than the
+-- call in the caller's ticket cell
+abbrev pub AnnouncesOpenCall : Setup → (i : ℕ) → List ℕ → Type 0
+AnnouncesOpenCall S i ws = IsTrue (announces_open_call (remains_of S ws i))
+
+-- the new handle has an open call exactly if at some moment meanwhile the words said so
+abbrev pub OpensIfAnnounced : {W : Type 0} → (W → Meaning) → LostHandle W → CellHandle W → Type 0
+OpensIfAnnounced meaning g h =
+    WasSoBetween (setup_at meaning (lost_home g)) (row_start meaning (lost_home g))
+    (view_of_member g.member) (view_of_member (member_of (caller_of h)))
+    (λ ws. HasCallOpen h
+        ↔ AnnouncesOpenCall (setup_at meaning (lost_home g)) (number_of_lost g) ws)
+
 -- the lost handle g has a new machine, and is the handle h now, which knows at least as much
-pub record IsRevived {W : Type 0} (g : LostHandle W) (h : CellHandle W) : Type 0 where
+pub record IsRevived {W : Type 0} (meaning : W → Meaning) (g : LostHandle W) (h : CellHandle W)
+    : Type 0 where
   pub home : home_of h ≡ lost_home g
   pub number : number_of_handle h ≡ number_of_lost g
+  pub seq : seq_known_to h ≡ seq_known_to_lost g
+  pub open_if : OpensIfAnnounced meaning g h
   pub calls : CallsGoOn (HasLostCall g) (operation_lost g) (made_by_lost g)
       (HasCallOpen h) (last_operation_of h) (made_by h)
   pub past : IsPrefix (events_known_to_lost g) (events_known_to (caller_of h))
@@ -111,6 +139,7 @@ pub record StaysLost {W : Type 0} (g k : LostHandle W) : Type 0 where
   pub home : lost_home k ≡ lost_home g
   pub number : number_of_lost k ≡ number_of_lost g
   pub begun : calls_begun_by_lost k ≡ calls_begun_by_lost g
+  pub seq : seq_known_to_lost k ≡ seq_known_to_lost g
   pub calls : CallsGoOn (HasLostCall g) (operation_lost g) (made_by_lost g)
       (HasLostCall k) (operation_lost k) (made_by_lost k)
   pub past : IsPrefix (events_known_to_lost g) (events_known_to_lost k)
@@ -128,3 +157,11 @@ IsReviveCause meaning g k AtLimit =
     WasSoBetween (setup_at meaning (lost_home g)) (row_start meaning (lost_home g))
     (view_of_member g.member) (view_of_member k.member) (IsAtLimit (setup_at meaning (lost_home g)))
 IsReviveCause meaning g k (OutOfMemory error) = Unit {0}
+
+-- the memory has evicted the request of caller n, if it has this caller
+abbrev pub EvictsRequest : {W : Type 0} → (n : ℕ) → (before now : CellMemory W) → Type 0
+EvictsRequest n m k = n < callers_of m → HasEvicted (request_cell n) m.pass k.pass
+
+-- if the memory has no caller n, it is as it was
+abbrev pub EvictsNone : {W : Type 0} → (n : ℕ) → (before now : CellMemory W) → Type 0
+EvictsNone n m k = callers_of m ≤ n → k ≡ m

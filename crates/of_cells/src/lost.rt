@@ -89,7 +89,7 @@ impl<W: Work> LostHandle<W> {
         requires lost { IsLostHandle W.meaning self }
         requires made { made ≡ calls_begun_by_lost self }
         ensures handle { IfOk result (IsCellHandle W.meaning) }
-        ensures revived { IfOk result (IsRevived self) }
+        ensures revived { IfOk result (IsRevived W.meaning self) }
         ensures lost { IfErr result (λ e. IsLostHandle W.meaning e.0) }
         ensures stays { IfErr result (λ e. StaysLost self e.0) }
         ensures cause { IfErr result (λ e. IsReviveCause W.meaning self e.0 e.1) }

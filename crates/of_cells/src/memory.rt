@@ -56,6 +56,7 @@ impl<W: Work> CellMemory<W> {
     ghost use Rattle.of_cells.specs.Memories.{IsOpenCause, IsEnrolCause, HasMadeNothing};
     ghost use Rattle.of_cells.specs.Memories.{TakesOut, TakesNone, PutsCaller, OthersKnowOrder};
     ghost use Rattle.of_cells.specs.Memories.{RemembersAll, SavesOwnCells, IsLimit, events_heard};
+    ghost use Rattle.of_cells.specs.Lost.{EvictsRequest, EvictsNone};
     ghost use Rattle.of_cells.specs.Telling.{KnowsOrdersOf, HearsMemory};
     ghost use Rattle.of_cells.specs.Serving.{events_known_to};
     ghost use mathlib.Core.List.{IsPrefix};
@@ -193,6 +194,8 @@ impl<W: Work> CellMemory<W> {
         ensures none { TakesNone self.old self.new }
         ensures remembers { RemembersAll W.meaning self.old self.new }
         ensures seq { seq_known_in self.new ≡ seq_known_in self.old }
+        ensures evicted { EvictsRequest number self.old self.new }
+        ensures same { EvictsNone number self.old self.new }
     {
         if number < self.callers() {
             let request = self.row.shape().request(number);

@@ -69,11 +69,12 @@ gives_calls h g gives = record {
   open_call = gives.open_call;
   only = λ script had. let b = gives.only had.opened in record { is = had.is; opened = (b.0, b.1 ∙ had.words) };
   begun = gives.begun;
+  seq = gives.seq;
 }
 
 module _ (g : LostHandle) (is : IsLostHandle g) where
   -- a handle with a new machine
-  pub revived_handle : (h : Handle) → IsCellHandle scripts_meaning h.cells → generic.IsRevived g.cells h.cells → IsHandle h
+  pub revived_handle : (h : Handle) → IsCellHandle scripts_meaning h.cells → generic.IsRevived scripts_meaning g.cells h.cells → IsHandle h
   revived_handle h now revived =
       let s = of_scripts_still (HasLostCall g) (HasCallOpen h) (generic.operation_lost g.cells) (last_operation_of h.cells) (generic.made_by_lost g.cells) (made_by h.cells) revived.calls (open_or_shut (generic.kept_by_lost g.cells).machine.place) is.made is.open_call in
       record { handle = now; row = subst IsScriptsRow (sym revived.home) is.row; made = s.0; open_call = s.1 }
@@ -84,10 +85,12 @@ module _ (g : LostHandle) (is : IsLostHandle g) where
       let s = of_scripts_still (HasLostCall g) (HasLostCall k) (generic.operation_lost g.cells) (generic.operation_lost k.cells) (generic.made_by_lost g.cells) (generic.made_by_lost k.cells) stays.calls (open_or_shut (generic.kept_by_lost g.cells).machine.place) is.made is.open_call in
       record { lost = now; row = subst IsScriptsRow (sym stays.home) is.row; made = s.0; open_call = s.1 }
 
-pub revived_calls : (g : LostHandle) (h : Handle) → generic.IsRevived g.cells h.cells → IsRevived g h
+pub revived_calls : (g : LostHandle) (h : Handle) → generic.IsRevived scripts_meaning g.cells h.cells → IsRevived g h
 revived_calls g h revived = record {
   home = revived.home;
   number = revived.number;
+  seq = revived.seq;
+  open_if = revived.open_if;
   none = λ shut. let n = revived.calls.none shut in (n.0, λ ms made. subst (λ (xs : List EndedCall). AreMade xs ms) (sym n.1) made);
   some = λ script had. elim (some_script (HasLostCall g) (HasCallOpen h) (generic.operation_lost g.cells) (last_operation_of h.cells) (generic.made_by_lost g.cells) (made_by h.cells) revived.calls script had.is had.words had.opened) [
     | inl t ↦ inl (record { is = had.is; opened = (t.0, t.1) }, t.2)

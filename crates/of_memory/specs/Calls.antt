@@ -18,6 +18,11 @@ use Rattle.of_memory.specs.History.{End, Replied, Spent, Lost, Made}
 abbrev pub IsScriptOperation : List ℕ → Type 0
 IsScriptOperation op = (script : List Instr) × IsScript script × (op ≡ map instr_word script)
 
+-- P holds of the script that has these words, if there is one; there is never another
+abbrev pub HoldsOfScript : List ℕ → (List Instr → Type 0) → Type 0
+HoldsOfScript words P =
+    (script : List Instr) → IsScript script → map instr_word script ≡ words → P script
+
 -- the raw reply holds a reply of the code that stands for this reply
 abbrev pub HoldsResponse : RawReply → Reply → Type 0
 HoldsResponse raw response = (r : RustReply) × IsHeldBy raw r × (reply_value_of r ≡ response)

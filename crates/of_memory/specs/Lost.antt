@@ -10,9 +10,11 @@ use Rattle.of_row.specs.declared.member.NotRevived.{NotRevived}
 use Rattle.of_cells.specs.Lost as generic
 use Rattle.of_memory.specs.declared.handle.Handle.{Handle}
 use Rattle.of_memory.specs.declared.lost.LostHandle.{LostHandle}
+use Rattle.of_memory.specs.declared.memory.Memory.{Memory}
 use Rattle.of_memory.specs.History.{Made, Lost}
 use Rattle.of_memory.specs.Calls.{AreMade, AreOfScripts, IsScriptOperation}
 use Rattle.of_memory.specs.Rows.{IsScriptsRow}
+use Rattle.of_memory.specs.Sequences.{seq_known_to}
 use Rattle.of_memory.specs.Handles.{home_of, number_of_handle, HasMade, HasOpen, HasCallOpen, steps_so_far}
 
 -- the row of the lost handle's memory
@@ -31,6 +33,10 @@ calls_begun_by_lost g = generic.calls_begun_by_lost g.cells
 -- included
 abbrev pub calls_stepped_by : Handle → ℕ
 calls_stepped_by h = generic.calls_stepped_by h.cells
+
+-- the last sequence that the lost handle knows
+abbrev pub seq_known_to_lost : LostHandle → ℕ
+seq_known_to_lost g = generic.seq_known_to_lost g.cells
 
 -- the lost machine had an open call, of any script
 abbrev pub HasLostCall : LostHandle → Type 0
@@ -62,6 +68,12 @@ pub record GivesUp (h : Handle) (g : LostHandle) : Type 0 where
   pub open_call : HasCallOpen h → (steps_so_far h ≡ 0 → ⊥) → HasLostCall g
   pub only : (script : List Instr) → HadOpen g script → HasOpen h script
   pub begun : calls_begun_by_lost g ≡ calls_stepped_by h
+  pub seq : seq_known_to_lost g ≡ seq_known_to h
+
+-- the new handle has an open call exactly if at some moment meanwhile the table's words said that
+-- the call which its number has announced is open
+abbrev pub OpensIfAnnounced : LostHandle → Handle → Type 0
+OpensIfAnnounced g h = generic.OpensIfAnnounced scripts_meaning g.cells h.cells
 
 -- The lost handle g has a new machine, and is the handle h now. If no call was open, none is, and
 -- none is added to the ended ones. An open call goes on, with the same script, or it is added to the
@@ -69,6 +81,8 @@ pub record GivesUp (h : Handle) (g : LostHandle) : Type 0 where
 pub record IsRevived (g : LostHandle) (h : Handle) : Type 0 where
   pub home : home_of h ≡ lost_home g
   pub number : number_of_handle h ≡ number_of_lost g
+  pub seq : seq_known_to h ≡ seq_known_to_lost g
+  pub open_if : OpensIfAnnounced g h
   pub none : (HasLostCall g → ⊥)
       → (HasCallOpen h → ⊥) × ((ms : List Made) → HadMade g ms → HasMade h ms)
   pub some : (script : List Instr) → HadOpen g script
@@ -84,3 +98,11 @@ StaysLost g k = generic.StaysLost g.cells k.cells
 -- why the lost handle g, which is k now, has got no machine
 abbrev pub IsReviveCause : (before now : LostHandle) → NotRevived → Type 0
 IsReviveCause g k error = generic.IsReviveCause scripts_meaning g.cells k.cells error
+
+-- the memory has evicted the request of caller n, if it has this caller
+abbrev pub EvictsRequest : (n : ℕ) → (before now : Memory) → Type 0
+EvictsRequest n m k = generic.EvictsRequest n m.cells k.cells
+
+-- if the memory has no caller n, it is as it was
+abbrev pub EvictsNone : (n : ℕ) → (before now : Memory) → Type 0
+EvictsNone n m k = generic.EvictsNone n m.cells k.cells

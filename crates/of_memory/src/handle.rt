@@ -33,6 +33,7 @@ pub struct Handle {
 impl Handle {
     ghost use Rattle.std.specs.Prelude.{◌≡◌, ◌+◌, List, ℕ};
     ghost use Rattle.of_script.specs.declared.instr.Instr.{Instr as TheInstr};
+    ghost use Rattle.of_memory.specs.Calls.{IsScriptOperation, HoldsOfScript};
     ghost use Rattle.of_memory.specs.History.{Made};
     ghost use Rattle.of_memory.specs.Called.{LeavesAsItWas};
     ghost use Rattle.of_memory.specs.Within.{EndsWithin, IsNeverStopped, KeepsWithin};
@@ -91,7 +92,30 @@ impl Handle {
         let len = script.len() as usize;
         let mut words = [0; MOST_INSTRS];
         to_words(script, &mut words);
-        match self.cells.run(&words[..len]) {
+        self.run_words(&words[..len])
+    }
+
+    /// Runs the script that has these words, one word for each instruction, as `run` does.
+    pub fn run_words(&mut self, words: &[u64]) -> Result<Answer, RunError>
+        requires handle { IsHandle self.old }
+        requires words { IsScriptOperation words.now }
+        ensures handle { IsHandle self.new }
+        ensures same { IsSame self.old self.new }
+        ensures made { HoldsOfScript words.now (λ s. MakesCall s result self.old self.new) }
+        ensures open_call { HoldsOfScript words.now
+            (λ s. StaysOpenOnlyIfStopped s result self.new) }
+        ensures cause { RefusesCall self.old result }
+        ensures unmade { LeavesAsItWas result self.old self.new }
+        ensures bound { EndsWithin (step_bound_of self.old) result }
+        ensures rise { MakesAtMost (step_bound_of self.old) self.old self.new }
+        ensures stopped { IsNeverStopped result }
+        ensures only { HoldsOfScript words.now (λ s. OpensOnly s self.old self.new) }
+        ensures behind { BeginsAfterHeard result self.old self.new }
+        ensures knows { KeepsKnown self.old self.new }
+        ensures alone { MakesStepsAlone self.old self.new }
+        ensures seq { KnowsSeqOf result self.old self.new }
+    {
+        match self.cells.run(words) {
             Ok(answer) => Ok(typed(answer)),
             Err(error) => Err(error),
         }
@@ -119,7 +143,31 @@ impl Handle {
         let len = script.len() as usize;
         let mut words = [0; MOST_INSTRS];
         to_words(script, &mut words);
-        match self.cells.run_within(&words[..len], steps) {
+        self.run_words_within(&words[..len], steps)
+    }
+
+    /// Runs the script that has these words, as `run_within` does.
+    pub fn run_words_within(&mut self, words: &[u64], steps: u64) -> Result<Answer, RunError>
+        requires handle { IsHandle self.old }
+        requires words { IsScriptOperation words.now }
+        ensures handle { IsHandle self.new }
+        ensures same { IsSame self.old self.new }
+        ensures made { HoldsOfScript words.now (λ s. MakesCall s result self.old self.new) }
+        ensures open_call { HoldsOfScript words.now
+            (λ s. StaysOpenOnlyIfStopped s result self.new) }
+        ensures cause { RefusesCall self.old result }
+        ensures unmade { LeavesAsItWas result self.old self.new }
+        ensures bound { EndsWithin (step_bound_of self.old) result }
+        ensures rise { MakesAtMost (step_bound_of self.old) self.old self.new }
+        ensures within { KeepsWithin 0 steps (steps_so_far self.new) result }
+        ensures given { MakesAtMost steps self.old self.new }
+        ensures only { HoldsOfScript words.now (λ s. OpensOnly s self.old self.new) }
+        ensures behind { BeginsAfterHeard result self.old self.new }
+        ensures knows { KeepsKnown self.old self.new }
+        ensures alone { MakesStepsAlone self.old self.new }
+        ensures seq { KnowsSeqOf result self.old self.new }
+    {
+        match self.cells.run_within(words, steps) {
             Ok(answer) => Ok(typed(answer)),
             Err(error) => Err(error),
         }

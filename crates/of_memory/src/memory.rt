@@ -39,6 +39,7 @@ impl Memory {
     ghost use Rattle.of_memory.specs.Memories.{HasNoneOpen, HasNoHandleOut, HasHandleOut, TakesOut};
     ghost use Rattle.of_memory.specs.Memories.{TakesNone};
     ghost use Rattle.of_memory.specs.Memories.{IsOpenCause, IsEnrolCause};
+    ghost use Rattle.of_memory.specs.Lost.{EvictsRequest, EvictsNone};
     ghost use Rattle.of_memory.specs.Telling.{KnowsOrdersOf, HearsMemory};
     ghost use Rattle.of_memory.specs.Saving.{saved_seq};
     ghost use Rattle.of_memory.specs.Sequences.{seq_known_to, seq_known_in, left_of_memory};
@@ -123,6 +124,8 @@ impl Memory {
         ensures none { TakesNone self.old self.new }
         ensures remembers { RemembersAll self.old self.new }
         ensures seq { seq_known_in self.new ≡ seq_known_in self.old }
+        ensures evicted { EvictsRequest number self.old self.new }
+        ensures same { EvictsNone number self.old self.new }
     {
         self.cells.evict_request(number);
     }

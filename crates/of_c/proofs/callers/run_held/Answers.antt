@@ -6,11 +6,11 @@ use Rattle.of_c.specs.Calls.{CallsScript, CallsHeld}
 use Rattle.of_c.proofs.callers.run_held.Goals as goal
 
 pub returns-in-Some-clause-runs : goal.returns-in-Some-clause-runs
-returns-in-Some-clause-runs c =
-    subst (λ (h : Held). CallsHeld (CallsScript c.args.script.now c.args.limit) CALL_OPEN h (Caller c.run_within.new.self) c.code_of.new.reply c.code_of.result) (sym c.in-Caller.is)
-    (record { handle = c.run_within.new.self.handle; held = refl; answer = c.run_within.result; tells = c.code_of.ensures.tells; does = subst (λ (l : Option ℕ). CallsScript c.args.script.now l c.in-Caller.seat.handle c.run_within.result c.run_within.new.self.handle) (sym c.in-Some.is) c.run_within.ensures })
+returns-in-Some-clause-runs c s is words =
+    subst (λ (h : Held). CallsHeld (CallsScript s c.args.limit) CALL_OPEN h (Caller c.run_within.new.self) c.code_of.new.reply c.code_of.result) (sym c.in-Caller.is)
+    (record { handle = c.run_within.new.self.handle; held = refl; answer = c.run_within.result; tells = c.code_of.ensures.tells; does = subst (λ (l : Option ℕ). CallsScript s l c.in-Caller.seat.handle c.run_within.result c.run_within.new.self.handle) (sym c.in-Some.is) (c.run_within.ensures s is words) })
 
 pub returns-in-None-clause-runs : goal.returns-in-None-clause-runs
-returns-in-None-clause-runs c =
-    subst (λ (h : Held). CallsHeld (CallsScript c.args.script.now c.args.limit) CALL_OPEN h (Caller c.run.new.self) c.code_of-in-None.new.reply c.code_of-in-None.result) (sym c.in-Caller.is)
-    (record { handle = c.run.new.self.handle; held = refl; answer = c.run.result; tells = c.code_of-in-None.ensures.tells; does = subst (λ (l : Option ℕ). CallsScript c.args.script.now l c.in-Caller.seat.handle c.run.result c.run.new.self.handle) (sym c.in-None.is) c.run.ensures })
+returns-in-None-clause-runs c s is words =
+    subst (λ (h : Held). CallsHeld (CallsScript s c.args.limit) CALL_OPEN h (Caller c.run.new.self) c.code_of-in-None.new.reply c.code_of-in-None.result) (sym c.in-Caller.is)
+    (record { handle = c.run.new.self.handle; held = refl; answer = c.run.result; tells = c.code_of-in-None.ensures.tells; does = subst (λ (l : Option ℕ). CallsScript s l c.in-Caller.seat.handle c.run.result c.run.new.self.handle) (sym c.in-None.is) (c.run.ensures s is words) })

@@ -1,47 +1,22 @@
-use Rattle.std.proofs.Common.{Ok, Err, sym, ◌∙◌}
-use Rattle.of_memory.proofs.Called.{begun, answered, failed, opens_only, stays_open, words_are}
-use Rattle.of_memory.proofs.Replaying.{holds_some}
+use Rattle.std.proofs.Common.{sym}
+use Rattle.of_memory.proofs.Called.{words_are}
 use Rattle.of_memory.proofs.handle.Handle.run_within.Goals as goal
 
-pub typed-requires : goal.typed-requires
-typed-requires c =
-    let words = words_are c.args.script.now c.len-len.result c.len-len.ensures.len c.to_words.new.out _ c.to_words.ensures.words in
-    holds_some c.args.self.now c.requires _ (c.args.script.now, c.len-len.ensures.fits, words) c.in-Ok.answer c.in-Ok.ensures.means
+pub run_words_within-requires-clause-words : goal.run_words_within-requires-clause-words
+run_words_within-requires-clause-words c =
+    (c.args.script.now, c.len-len.ensures.fits, words_are c.args.script.now c.len-len.result c.len-len.ensures.len c.to_words.new.out _ c.to_words.ensures.words)
 
-pub returns-in-Ok-clause-handle : goal.returns-in-Ok-clause-handle
-returns-in-Ok-clause-handle c =
+pub returns-clause-made : goal.returns-clause-made
+returns-clause-made c =
     let words = words_are c.args.script.now c.len-len.result c.len-len.ensures.len c.to_words.new.out _ c.to_words.ensures.words in
-    begun c.args.self.now _ _ (Ok c.in-Ok.answer) (c.args.script.now, c.len-len.ensures.fits, words) c.requires c.run_within.ensures.handle c.run_within.ensures.same c.in-Ok.ensures.made c.run_within.ensures.only
+    c.run_words_within.ensures.made c.args.script.now c.len-len.ensures.fits (sym words)
 
-pub returns-in-Ok-clause-made : goal.returns-in-Ok-clause-made
-returns-in-Ok-clause-made c ms made =
+pub returns-clause-open_call : goal.returns-clause-open_call
+returns-clause-open_call c =
     let words = words_are c.args.script.now c.len-len.result c.len-len.ensures.len c.to_words.new.out _ c.to_words.ensures.words in
-    answered _ _ _ c.args.script.now c.len-len.ensures.fits words c.in-Ok.answer c.typed.result c.typed.ensures c.in-Ok.ensures.made ms made
+    c.run_words_within.ensures.open_call c.args.script.now c.len-len.ensures.fits (sym words)
 
-pub returns-in-Ok-clause-only : goal.returns-in-Ok-clause-only
-returns-in-Ok-clause-only c =
+pub returns-clause-only : goal.returns-clause-only
+returns-clause-only c =
     let words = words_are c.args.script.now c.len-len.result c.len-len.ensures.len c.to_words.new.out _ c.to_words.ensures.words in
-    opens_only c.args.self.now _ _ c.args.script.now c.len-len.ensures.fits words c.run_within.ensures.only
-
-pub returns-in-Err-clause-handle : goal.returns-in-Err-clause-handle
-returns-in-Err-clause-handle c =
-    let words = words_are c.args.script.now c.len-len.result c.len-len.ensures.len c.to_words.new.out _ c.to_words.ensures.words in
-    begun c.args.self.now _ _ (Err c.in-Err.error) (c.args.script.now, c.len-len.ensures.fits, words) c.requires c.run_within.ensures.handle c.run_within.ensures.same c.in-Err.ensures.made c.run_within.ensures.only
-
-pub returns-in-Err-clause-made : goal.returns-in-Err-clause-made
-returns-in-Err-clause-made c ms made =
-    let words = words_are c.args.script.now c.len-len.result c.len-len.ensures.len c.to_words.new.out _ c.to_words.ensures.words in
-    failed _ _ _ c.args.script.now c.len-len.ensures.fits words c.in-Err.error c.in-Err.ensures.made ms made
-
-pub returns-in-Err-clause-open_call : goal.returns-in-Err-clause-open_call
-returns-in-Err-clause-open_call c =
-    let words = words_are c.args.script.now c.len-len.result c.len-len.ensures.len c.to_words.new.out _ c.to_words.ensures.words in
-    stays_open _ _ c.args.script.now c.len-len.ensures.fits words c.in-Err.error c.in-Err.ensures.open_call
-
-pub returns-in-Err-clause-only : goal.returns-in-Err-clause-only
-returns-in-Err-clause-only c =
-    let words = words_are c.args.script.now c.len-len.result c.len-len.ensures.len c.to_words.new.out _ c.to_words.ensures.words in
-    opens_only c.args.self.now _ _ c.args.script.now c.len-len.ensures.fits words c.run_within.ensures.only
-
-pub returns-in-Ok-clause-seq : goal.returns-in-Ok-clause-seq
-returns-in-Ok-clause-seq c = c.in-Ok.ensures.seq ∙ sym c.typed.ensures.seq
+    c.run_words_within.ensures.only c.args.script.now c.len-len.ensures.fits (sym words)
