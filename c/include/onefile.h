@@ -90,7 +90,7 @@ enum {
   ONEFILE_SYSTEM = 24,      /* the system refused something else: errno says why */
   ONEFILE_OTHER_SIZES = 25, /* the memory in the file has other callers or blocks */
   ONEFILE_OTHER_VERSION = 26, /* another version of the library has made the file */
-  ONEFILE_NOT_YET = 27      /* the number is free only after the next commit: try again */
+  ONEFILE_NOT_YET = 27      /* it can't be had before others have gone on: try again */
 };
 
 /* The name of an answer, as "ONEFILE_DONE". "ONEFILE_?" if there is no such answer. */
@@ -99,6 +99,7 @@ const char *onefile_name(int answer);
 /* ---- Objects. */
 
 #define ONEFILE_MOST_CALLERS 64
+#define ONEFILE_SPARE_CALLERS 2 /* of these, in a file that onefile_share_file has made */
 #define ONEFILE_MOST_BLOCKS 16777216
 #define ONEFILE_MOST_ORDERED_BLOCKS 512 /* with more, ONEFILE_CAUSE_BAD_OP */
 #define ONEFILE_MOST_INSTRS 16
@@ -150,8 +151,9 @@ int onefile_reopen(onefile_memory *memory, onefile_saved *saved);
 
 /* Enrols the caller with this number. It goes on where this number left. Each call that it begins
  * takes effect after all answered calls of callers that have left before.
- * EMPTY; RANGE if the memory has no such caller; TAKEN; FILE_IN_USE in a forked child, of a memory
- * that its parent has in a file; of a shared memory NOT_YET, SPENT and SYSTEM too. */
+ * EMPTY; RANGE if the memory has no such caller, or if it is a spare one; TAKEN; FILE_IN_USE in a
+ * forked child, of a memory that its parent has in a file; of a shared memory NOT_YET, SPENT and
+ * SYSTEM too. */
 int onefile_enrol(onefile_memory *memory, uint32_t number);
 
 /* The same with the first number that is free, which is written into `number`. Of a shared memory
@@ -238,12 +240,19 @@ int onefile_reopen_file(onefile_memory *memory, const char *path, uint32_t limit
  * announced a call that has not taken effect, that call is open: a new call is answered CALL_OPEN,
  * and onefile_go_on ends it. Any other call of the last owner has taken effect, or never will.
  *
- * A process that dies may leave words of its number that nobody may write over before a commit. Then
- * onefile_enrol is answered NOT_YET. The number is free after the next commit of any caller: a call
- * that writes. At NOT_YET and SPENT, and at NO_MEMORY, the memory may keep the number for itself: for
- * others it is TAKEN, and no caller is enrolled with it. Let it enrol this number again, or close the
- * memory. onefile_enrol_any keeps no number that it has not enrolled; it is answered NOT_YET if all
- * numbers are taken or not yet free, and one is not yet free.
+ * A process that dies may leave words of its number that nobody may write over before a commit.
+ * Then onefile_enrol has a spare caller make one, by a call that changes nothing and takes a
+ * sequence. A file that onefile_share_file has made has two spare callers, after those that it was
+ * asked for. Their numbers are the library's: RANGE answers who enrols them, also if
+ * onefile_reopen_file has opened the file. What was saved of the file has them after the others.
+ *
+ * onefile_enrol is answered NOT_YET if no spare caller can make the commit: two processes died while
+ * they made one, and there was none since; others have both spare callers just now; or the file was
+ * made by onefile_open_file and has none. The number is free after the next commit of any caller: a
+ * call that writes. At NOT_YET and SPENT, and at NO_MEMORY, the memory may keep the number for
+ * itself: for others it is TAKEN, and no caller is enrolled with it. Let it enrol this number again,
+ * or close the memory. onefile_enrol_any keeps no number that it has not enrolled; it is answered
+ * NOT_YET if all numbers are taken or not yet free, and one is not yet free.
  *
  * There is no saved one to ask. What a later process must know of a call, let the call keep in a
  * register or at a key. onefile_close and onefile_free let the file go for this process alone; a
@@ -255,18 +264,19 @@ int onefile_reopen_file(onefile_memory *memory, const char *path, uint32_t limit
  * one table, which is what a proved memory takes for its own; that a mapping which comes in the
  * place of private pages has the same words; flock and the locks of fcntl; and c/src/shared.c, by
  * which one memory at most has a number at a time, the file tells the next owner of a number how
- * many of its calls were begun, nothing but steps of callers, takeovers and evictions is done on the
- * shared pages, and nobody recovers a file that another process has. Proved is, of a row that meets
- * its rule, that what a memory knows of a number at its start fits the rule if that number has done
- * nothing, whatever the others have done (of_row: laws::fresh_members_fit), and each step for all
- * states of the others. The takeover is proved in the protocol (of_core: laws::taken_over_stands)
- * and in the library's calls (of_row: Row::revive, of_memory: LostHandle::revive). That a number
- * goes from one process to another is not. What enrolment and leaving tell of earlier calls is
- * proved in one process alone. */
+ * many of its calls were begun, nothing but steps of callers (spare ones too), takeovers and
+ * evictions is done on the shared pages, and nobody recovers a file that another process has.
+ * Proved is, of a row that meets its rule, that what a memory knows of a number at its start fits
+ * the rule if that number has done nothing, whatever the others have done (of_row:
+ * laws::fresh_members_fit), and each step for all states of the others. The takeover is proved in
+ * the protocol (of_core: laws::taken_over_stands) and in the library's calls (of_row: Row::revive,
+ * of_memory: LostHandle::revive). That a number goes from one process to another is not. What
+ * enrolment and leaving tell of earlier calls is proved in one process alone. */
 
 /* Fills `memory` with the memory of the file, which other processes may have: the file is made if
- * there is none, recovered if no process has it, or joined. The limit is that of the process which
- * makes or recovers it. It may wait for about a second, while another process does this.
+ * there is none, recovered if no process has it, or joined. `callers` is 1 to 62, which is
+ * ONEFILE_MOST_CALLERS without the spare ones. The limit is that of the process which makes or
+ * recovers it. It may wait for about a second, while another process does this.
  * FULL, RANGE, NO_FILE if there is no such folder, BAD_FILE, TORN, NO_SPACE, SYSTEM; OTHER_SIZES,
  * OTHER_VERSION; FILE_IN_USE if a memory of one process has the file, and also after that second.
  * The other way, onefile_reopen_file is answered FILE_IN_USE while processes share the file. */

@@ -12,8 +12,8 @@
 enum { PAGE = 4096, MOST_PATH = 4096 };
 
 /* The versions of a file: a memory of one process has it, or processes share it. A shared file of
- * version 2 has no counts of calls. */
-enum { FOR_ONE = 1, FOR_MANY = 3 };
+ * version 2 has no counts of calls, and one of version 3 has no spare callers. */
+enum { FOR_ONE = 1, FOR_MANY = 4 };
 
 #define IS_CLOSED 0x6f66636c6f736564u
 
@@ -27,9 +27,10 @@ typedef struct tally {
 typedef struct header {
   char magic[8];
   uint32_t version, order;
-  uint32_t callers, blocks;
+  uint32_t callers, blocks; /* all callers, with the spare ones */
   of_c_table table;
-  uint64_t offset; /* of the table */
+  uint32_t offset; /* of the table */
+  uint32_t spare;  /* how many of the callers are spare, the last ones; 0 if made unshared */
   uint64_t lives;  /* how many memories there were, this one too */
   char boot[40];   /* the run of the machine in which the file was made */
   uint64_t sum;    /* of all bytes above */
@@ -52,8 +53,8 @@ typedef struct table {
   int file;                /* its descriptor; -1 in a forked child */
   int is_opening;          /* no memory has it yet */
   int is_shared;           /* other processes may have it too */
-  uint32_t callers;        /* if so: how many there are */
-  uint64_t lost;           /* and which of them has no machine here, a bit for each */
+  uint32_t callers, spare; /* how many there are for users, and how many spare ones after them */
+  uint64_t lost;           /* if it is shared: which of them has no machine here, a bit for each */
   _Atomic(onefile_memory *) memory;    /* which is opened on it */
   _Atomic(onefile_memory *) inherited; /* the same in a forked child; null in who has opened it */
 } table;

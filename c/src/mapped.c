@@ -75,6 +75,11 @@ table *mapped_table_of(const onefile_memory *memory) {
   return NULL;
 }
 
+int mapped_lacks(const onefile_memory *memory, uint32_t number) {
+  const table *one = mapped_table_of(memory);
+  return one && number >= one->callers;
+}
+
 uint32_t mapped_place_of(const table *one) { return (uint32_t)(one - tables) + 1; }
 
 table *mapped_table_in(uint32_t place) { return &tables[place - 1]; }
@@ -206,11 +211,16 @@ static uint32_t read_boot(char boot[40]) {
 
 uint32_t mapped_head_for(birth *born, uint32_t version, uint32_t callers, uint32_t blocks) {
   header *made = &born->head;
-  uint64_t lives = made->lives + 1;
-  *made = (header){.version = version, .order = ORDER, .callers = callers, .blocks = blocks};
+  *made = (header){
+      .version = version,
+      .order = ORDER,
+      .callers = callers,
+      .blocks = blocks,
+      .offset = PAGE,
+      .spare = made->spare,
+      .lives = made->lives + 1,
+  };
   memcpy(made->magic, magic, sizeof magic);
-  made->offset = PAGE;
-  made->lives = lives;
   uint32_t answer = of_c_sizes(callers, blocks, &made->table);
   if (answer == ONEFILE_DONE) answer = read_boot(made->boot);
   made->sum = sum_of(made);
@@ -234,6 +244,7 @@ static size_t size_for(const header *one) {
 static int is_header(const header *one, uint64_t size) {
   of_c_table sizes;
   return (one->closed == 0 || one->closed == IS_CLOSED) && one->offset == PAGE &&
+         (one->spare == 0 || one->spare == ONEFILE_SPARE_CALLERS) && one->callers > one->spare &&
          of_c_sizes(one->callers, one->blocks, &sizes) == ONEFILE_DONE &&
          memcmp(&sizes, &one->table, sizeof sizes) == 0 && size == size_for(one);
 }
@@ -375,6 +386,8 @@ static uint32_t read_back(birth *born, const table *one) {
 }
 
 uint32_t mapped_open_at(birth *born, table *one, char *words, onefile_slot *memory) {
+  one->spare = born->head.spare;
+  one->callers = born->head.callers - one->spare;
   atomic_store(&one->words, (uintptr_t)words);
   awaited.bytes = born->head.table.words * sizeof(uint64_t);
   awaited.count = 0;

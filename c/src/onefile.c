@@ -51,6 +51,7 @@ int onefile_reopen(onefile_memory *memory, onefile_saved *saved) {
 /* Enrols a caller, if its slot and the memory's are taken. */
 static uint32_t enrol(onefile_memory *memory, uint32_t number) {
   if (!mapped_is_inherited(memory)) {
+    if (mapped_lacks(memory, number)) return ONEFILE_RANGE;
     return shared_has(memory) ? shared_enrol(memory, number) : enrol_caller(memory, number);
   }
   return ONEFILE_FILE_IN_USE;
@@ -94,10 +95,7 @@ int onefile_leave(onefile_memory *memory, uint32_t number) {
   if (number >= ONEFILE_MOST_CALLERS) return ONEFILE_RANGE;
   onefile_guarded *caller = &memory->caller[number];
   if (!claim_both(&memory->memory, caller)) return ONEFILE_BUSY;
-  of_c_pair both = {memory->memory.slot, caller->slot};
-  uint32_t answer = of_c_leave(&both);
-  memory->memory.slot = both.memory;
-  caller->slot = both.caller;
+  uint32_t answer = leave_caller(memory, number);
   if (answer == ONEFILE_DONE) shared_leave(caller, number);
   release(caller);
   release(&memory->memory);

@@ -11,7 +11,12 @@
  * in this life, it begins with the machine that the process has for it. Then its bit in the header
  * is set, and stays so until the life ends. If it was had before, it gets a new machine, made from
  * the words on the shared pages and from the count of its calls, which is in the header. Nothing
- * but steps of callers and evictions is done on these pages: no memory on them is ever closed. */
+ * but steps of callers and evictions is done on these pages: no memory on them is ever closed.
+ *
+ * A number whose last owner died with its log half written gets no new machine before a commit.
+ * The last callers of the table are spare: one of them makes that commit. Its number is had for one
+ * call and let go then, as any other one. If the process dies in this call, the other spare caller
+ * makes the next commit, which frees the first one too. */
 #define _GNU_SOURCE
 #include "files.h"
 #include "slots.h"
@@ -19,6 +24,7 @@
 #include <errno.h>
 #include <fcntl.h>
 #include <pthread.h>
+#include <sched.h>
 #include <stdlib.h>
 #include <string.h>
 #include <sys/file.h>
@@ -34,6 +40,9 @@ enum { MOST_TRIES = 1000, A_MILLISECOND = 1000000 };
 
 /* How often a number's request is evicted before the number is said to be not yet free. */
 enum { MOST_EVICTIONS = 4 };
+
+/* How often a commit by a spare caller is tried, if other processes have the spare callers. */
+enum { MOST_NUDGES = 100 };
 
 /* The byte whose lock is that of number 0. No file is so long. */
 #define LOCKS ((off_t)1 << 40)
@@ -91,7 +100,6 @@ static uint32_t open_shared(int file, birth *born, table *one, onefile_slot *mem
   void *map = mmap(NULL, one->size, may, MAP_PRIVATE | MAP_ANONYMOUS, -1, 0);
   if (map == MAP_FAILED) return mapped_refusal();
   one->map = map;
-  one->callers = born->head.callers;
   char *words = (char *)map + PAGE;
   uint32_t answer = mapped_open_at(born, one, words, memory);
   if (answer == ONEFILE_DONE) answer = is_start(born, words);
@@ -103,12 +111,15 @@ static uint32_t open_shared(int file, birth *born, table *one, onefile_slot *mem
   return ONEFILE_DONE;
 }
 
+/* Whether the file has callers and blocks as the wish has. */
+static int has_sizes(const header *head, const wish *asked) {
+  return head->callers - head->spare == asked->callers && head->blocks == asked->blocks;
+}
+
 /* Has the memory of the wish on a life of the file. */
 static uint32_t join(int file, birth *born, const wish *asked) {
   onefile_slot *memory = &asked->memory->memory.slot;
-  if (born->head.callers != asked->callers || born->head.blocks != asked->blocks) {
-    return ONEFILE_OTHER_SIZES;
-  }
+  if (!has_sizes(&born->head, asked)) return ONEFILE_OTHER_SIZES;
   table *one = mapped_free_table();
   if (!one) return ONEFILE_NO_MEMORY;
   one->map = NULL;
@@ -165,7 +176,8 @@ static uint32_t begin_life(birth *born, const wish *asked) {
   onefile_slot first = {0};
   table *one = mapped_free_table();
   if (!one) return ONEFILE_NO_MEMORY;
-  uint32_t answer = mapped_head_for(born, FOR_MANY, asked->callers, asked->blocks);
+  uint32_t callers = asked->callers + born->head.spare;
+  uint32_t answer = mapped_head_for(born, FOR_MANY, callers, asked->blocks);
   born->head.limit = asked->limit;
   if (answer == ONEFILE_DONE) answer = mapped_make(born, one, &first);
   if (answer == ONEFILE_FILE_IN_USE) return AGAIN; /* another process makes the new file */
@@ -182,18 +194,16 @@ static uint32_t begin_life(birth *born, const wish *asked) {
 static uint32_t recover(int file, const wish *asked) {
   birth born = {.path = asked->path};
   uint32_t answer = mapped_go_on_from(file, &born, asked->limit);
-  if (answer == ONEFILE_DONE &&
-      (born.head.callers != asked->callers || born.head.blocks != asked->blocks)) {
-    answer = ONEFILE_OTHER_SIZES;
-  }
+  if (answer == ONEFILE_DONE && !has_sizes(&born.head, asked)) answer = ONEFILE_OTHER_SIZES;
   if (answer == ONEFILE_DONE) answer = begin_life(&born, asked);
   of_c_free(&born.start);
   return answer;
 }
 
 static uint32_t make_first(const wish *asked) {
-  birth born = {.path = asked->path};
-  uint32_t answer = mapped_conceive(&born, asked->callers, asked->blocks, asked->limit);
+  birth born = {.path = asked->path, .head.spare = ONEFILE_SPARE_CALLERS};
+  uint32_t callers = asked->callers + ONEFILE_SPARE_CALLERS;
+  uint32_t answer = mapped_conceive(&born, callers, asked->blocks, asked->limit);
   if (answer == ONEFILE_DONE) answer = begin_life(&born, asked);
   of_c_free(&born.start);
   return answer == ONEFILE_FILE_EXISTS ? AGAIN : answer;
@@ -246,6 +256,7 @@ int onefile_share_file(onefile_memory *memory, const char *path, uint32_t caller
                        uint32_t limit) {
   of_c_table sizes;
   if (!memory || !path) return ONEFILE_NULL;
+  if (callers == 0 || callers > ONEFILE_MOST_CALLERS - ONEFILE_SPARE_CALLERS) return ONEFILE_RANGE;
   if (of_c_sizes(callers, blocks, &sizes) != ONEFILE_DONE) return ONEFILE_RANGE;
   if (limit == 0 || limit > ONEFILE_GREATEST_LIMIT) return ONEFILE_RANGE;
   int could_be;
@@ -310,17 +321,83 @@ static uint32_t enrol_again(table *one, onefile_memory *memory, uint32_t number)
   return answer;
 }
 
+/* Enrols a caller whose number is taken and whose slot is claimed. NOT_YET, SPENT, NO_MEMORY. */
+static uint32_t enrol_taken(table *one, onefile_memory *memory, uint32_t number) {
+  int was_had = (atomic_load(&one->map->used) & bit_of(number)) != 0;
+  uint32_t answer =
+      was_had ? enrol_again(one, memory, number) : enrol_new(one, memory, number);
+  if (answer == ONEFILE_DONE) memory->caller[number].shared = mapped_place_of(one);
+  return answer;
+}
+
+/* ---- Spare callers. */
+
+/* Makes a commit as a spare caller that is enrolled: ends the call that its last owner has left
+ * open, and makes one that aborts in every store. SPENT, NO_TICKET. */
+static uint32_t commit_as(onefile_memory *memory, uint32_t number) {
+  onefile_guarded *caller = &memory->caller[number];
+  const uint64_t script[] = {onefile_store(0, 0), onefile_sub(0, 1)};
+  onefile_reply reply;
+  uint32_t answer = of_c_go_on(&caller->slot, ONEFILE_NO_END, &reply);
+  if (answer != ONEFILE_DONE && answer != ONEFILE_NO_CALL) return answer;
+  shared_begin(caller, number);
+  answer = of_c_call(&caller->slot, script, 2, ONEFILE_NO_END, &reply);
+  shared_end(caller, number, answer);
+  return answer;
+}
+
+/* The same as one that nobody has now. It is let go then, also if it got no machine. TAKEN,
+ * NOT_YET, SPENT, NO_TICKET, NO_MEMORY, SYSTEM. */
+static uint32_t nudge_as(table *one, onefile_memory *memory, uint32_t number) {
+  onefile_guarded *caller = &memory->caller[number];
+  if (!claim(caller)) return ONEFILE_TAKEN; /* a call has it, which is answered EMPTY */
+  uint32_t found = take_number(one, number), has_taken = found == ONEFILE_DONE;
+  if (has_taken) found = enrol_taken(one, memory, number);
+  if (found == ONEFILE_DONE) {
+    found = commit_as(memory, number);
+    leave_caller(memory, number);
+    shared_leave(caller, number);
+  } else if (has_taken) {
+    let_go_number(one, number);
+  }
+  release(caller);
+  return found;
+}
+
+/* Makes a commit as any spare caller. TAKEN if others have a spare caller, NOT_YET if each one is
+ * not free yet, or there is none; SPENT, NO_MEMORY, SYSTEM. */
+static uint32_t nudge(table *one, onefile_memory *memory) {
+  uint32_t answer = ONEFILE_NOT_YET;
+  for (uint32_t i = 0; i < one->spare; i++) {
+    uint32_t found = nudge_as(one, memory, one->callers + i);
+    if (found == ONEFILE_TAKEN) answer = found;
+    else if (found != ONEFILE_NOT_YET && found != ONEFILE_NO_TICKET) return found;
+  }
+  return answer;
+}
+
+/* Enrols a caller whose number is taken. If it is not free yet, a spare caller makes a commit. */
+static uint32_t enrol_freed(table *one, onefile_memory *memory, uint32_t number) {
+  uint32_t answer = enrol_taken(one, memory, number);
+  for (int tries = 0; answer == ONEFILE_NOT_YET && tries < MOST_NUDGES; tries++) {
+    uint32_t found = nudge(one, memory);
+    if (found == ONEFILE_TAKEN) sched_yield();
+    else if (found != ONEFILE_DONE) return found;
+    answer = enrol_taken(one, memory, number);
+  }
+  return answer;
+}
+
+/* ---- Enrolment. */
+
 uint32_t shared_enrol(onefile_memory *memory, uint32_t number) {
   table *one = mapped_table_of(memory);
   onefile_guarded *caller = &memory->caller[number];
-  if (number >= one->callers) return ONEFILE_RANGE;
   if (caller->slot.state != 0 && !(one->lost & bit_of(number))) return ONEFILE_TAKEN;
   uint32_t answer = take_number(one, number);
   if (answer != ONEFILE_DONE) return answer;
-  int was_had = (atomic_load(&one->map->used) & bit_of(number)) != 0;
-  answer = was_had ? enrol_again(one, memory, number) : enrol_new(one, memory, number);
-  if (answer == ONEFILE_DONE) caller->shared = mapped_place_of(one);
-  else if (!(one->lost & bit_of(number))) let_go_number(one, number);
+  answer = enrol_freed(one, memory, number);
+  if (answer != ONEFILE_DONE && !(one->lost & bit_of(number))) let_go_number(one, number);
   return answer;
 }
 

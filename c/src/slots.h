@@ -9,6 +9,9 @@
  * is not here. */
 int mapped_is_inherited(onefile_memory *memory);
 
+/* Whether the memory is in a file, and has no such number for users. */
+int mapped_lacks(const onefile_memory *memory, uint32_t number);
+
 /* Whether processes share the memory. */
 int shared_has(const onefile_memory *memory);
 
@@ -77,6 +80,16 @@ static inline uint32_t enrol_caller(onefile_memory *memory, uint32_t number) {
   onefile_guarded *caller = &memory->caller[number];
   of_c_pair both = {memory->memory.slot, caller->slot};
   uint32_t answer = of_c_enrol(&both, number);
+  memory->memory.slot = both.memory;
+  caller->slot = both.caller;
+  return answer;
+}
+
+/* Lets a caller leave its memory, if both slots are taken. */
+static inline uint32_t leave_caller(onefile_memory *memory, uint32_t number) {
+  onefile_guarded *caller = &memory->caller[number];
+  of_c_pair both = {memory->memory.slot, caller->slot};
+  uint32_t answer = of_c_leave(&both);
   memory->memory.slot = both.memory;
   caller->slot = both.caller;
   return answer;

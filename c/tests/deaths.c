@@ -41,7 +41,7 @@ static uint32_t take_over(uint32_t number) {
   onefile_reply reply;
   int answer;
   do answer = onefile_enrol(&bank, number);
-  while (answer == ONEFILE_NOT_YET); /* another one makes a commit */
+  while (answer == ONEFILE_NOT_YET); /* two have died in commits of spare callers, or make some */
   MUST(answer == ONEFILE_DONE);
   answer = onefile_call(&bank, number, count, 1, &reply);
   if (answer == ONEFILE_CALL_OPEN) {

@@ -175,10 +175,13 @@ static void make_file(uint64_t steps) {
   write_file(before, size);
 }
 
-/* What is wanted of a first file is what an empty memory has. */
-static void make_empty(void) {
+typedef int trial(onefile_memory *memory);
+
+/* What is wanted of a first file is what an empty memory has that is made so. */
+static void make_empty(trial *call) {
   onefile_memory memory = ONEFILE_NONE;
-  MUST(onefile_open_file(&memory, path, CALLERS, BLOCKS, LIMIT));
+  unlink(path);
+  MUST(call(&memory));
   MUST(onefile_free(&memory));
   wanted_length = image_of_file(wanted, sizeof wanted);
   MUST(unlink(path));
@@ -188,8 +191,6 @@ static void make_empty(void) {
 /* ---- What goes wrong. A child says by its status whether the request was reached. */
 
 enum { REACHED = 0, NOT_REACHED = 7 };
-
-typedef int trial(onefile_memory *memory);
 
 static int opens(onefile_memory *memory) {
   return onefile_open_file(memory, path, CALLERS, BLOCKS, LIMIT);
@@ -335,8 +336,9 @@ int main(int argc, char **argv) {
   HOLDS(mkdtemp(folder) != NULL);
   snprintf(path, sizeof path, "%s/memory", folder);
   snprintf(beside, sizeof beside, "%s.new", path);
-  make_empty();
+  make_empty(opens);
   int tried = try_all(opens, refuse) + try_all(opens, killed);
+  make_empty(shares);
   tried += try_all(shares, refuse) + try_all(shares_and_closes, killed);
   for (size_t i = 0; i < sizeof steps / sizeof *steps; i++) {
     make_file(steps[i]);

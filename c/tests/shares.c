@@ -17,7 +17,8 @@
 #include <unistd.h>
 
 enum { CALLERS = 4, BLOCKS = 4, LIMIT = 100000, MOST = 1 << 17, STEPS = 100 };
-enum { VERSION_AT = 8, BOOT_AT = 64, SUM_AT = 104, CLOSED_AT = 112, LIMIT_AT = 120 };
+enum { MOST_SHARED = ONEFILE_MOST_CALLERS - ONEFILE_SPARE_CALLERS };
+enum { VERSION_AT = 8, SPARE_AT = 52, BOOT_AT = 64, SUM_AT = 104, CLOSED_AT = 112, LIMIT_AT = 120 };
 enum { RACERS = 4, TURNS = 60, PAGE = 4096 };
 
 static int tried, wrong;
@@ -84,7 +85,9 @@ static void arguments(void) {
   EXPECT(onefile_share_file(NULL, path, 1, 0, 1), ONEFILE_NULL);
   EXPECT(onefile_share_file(&memory, NULL, 1, 0, 1), ONEFILE_NULL);
   EXPECT(onefile_share_file(&memory, path, 0, 0, 1), ONEFILE_RANGE);
-  EXPECT(onefile_share_file(&memory, path, 65, 0, 1), ONEFILE_RANGE);
+  EXPECT(onefile_share_file(&memory, path, MOST_SHARED + 1, 0, 1), ONEFILE_RANGE);
+  EXPECT(onefile_share_file(&memory, path, ONEFILE_MOST_CALLERS + 1, 0, 1), ONEFILE_RANGE);
+  EXPECT(onefile_share_file(&memory, path, UINT32_MAX, 0, 1), ONEFILE_RANGE);
   EXPECT(onefile_share_file(&memory, path, 1, 16777217, 1), ONEFILE_RANGE);
   EXPECT(onefile_share_file(&memory, path, 1, 0, 0), ONEFILE_RANGE);
   EXPECT(onefile_share_file(&memory, path, 1, 0, UINT32_MAX), ONEFILE_RANGE);
@@ -116,6 +119,7 @@ static void two(void) {
   EXPECT(reopen(&third), ONEFILE_FILE_IN_USE);
   EXPECT(onefile_open_file(&third, path, CALLERS, BLOCKS, LIMIT), ONEFILE_FILE_EXISTS);
   EXPECT(onefile_share_file(&third, path, CALLERS - 1, BLOCKS, LIMIT), ONEFILE_OTHER_SIZES);
+  EXPECT(onefile_share_file(&third, path, CALLERS + 2, BLOCKS, LIMIT), ONEFILE_OTHER_SIZES);
   EXPECT(onefile_share_file(&third, path, CALLERS, BLOCKS + 1, LIMIT), ONEFILE_OTHER_SIZES);
   EXPECT(share_with(&third, 7), ONEFILE_DONE); /* the limit is that of the life */
   EXPECT(onefile_free(&third), ONEFILE_DONE);
@@ -126,7 +130,11 @@ static void two(void) {
 static void numbers(void) {
   EXPECT(onefile_enrol(&other, 0), ONEFILE_TAKEN);
   EXPECT(onefile_enrol(&memory, 0), ONEFILE_TAKEN);
-  EXPECT(onefile_enrol(&memory, CALLERS), ONEFILE_RANGE);
+  for (uint32_t i = CALLERS; i <= CALLERS + ONEFILE_SPARE_CALLERS; i++) {
+    EXPECT(onefile_enrol(&memory, i), ONEFILE_RANGE);
+    EXPECT(text(&memory, i, "load 0"), ONEFILE_EMPTY);
+    EXPECT(onefile_leave(&memory, i), ONEFILE_EMPTY);
+  }
   EXPECT(onefile_leave(&memory, 0), ONEFILE_DONE);
   EXPECT(onefile_leave(&memory, 0), ONEFILE_EMPTY);
   EXPECT(onefile_enrol(&other, 0), ONEFILE_DONE);
@@ -198,16 +206,35 @@ static void lives(void) {
   EXPECT(onefile_free(&memory), ONEFILE_DONE);
 }
 
+/* As many numbers as were asked for are to be had, and no spare one. */
+static void has_numbers(onefile_memory *one) {
+  for (uint32_t i = 0; i < CALLERS; i++) {
+    EXPECT(onefile_enrol_any(one, &value), ONEFILE_DONE);
+    HOLDS(value == i);
+  }
+  EXPECT(onefile_enrol_any(one, &value), ONEFILE_TAKEN);
+  EXPECT(onefile_enrol(one, CALLERS), ONEFILE_RANGE);
+  EXPECT(onefile_enrol(one, CALLERS + ONEFILE_SPARE_CALLERS - 1), ONEFILE_RANGE);
+  for (uint32_t i = 0; i < CALLERS; i++) EXPECT(onefile_leave(one, i), ONEFILE_DONE);
+}
+
 /* A file at rest goes from many to one and back, with all that it has. */
 static void kinds(void) {
   EXPECT(onefile_reopen_file(&memory, path, LIMIT, &saved), ONEFILE_DONE);
   EXPECT(onefile_last_reply(&saved, 2, &reply), ONEFILE_DONE);
   HOLDS(reply.values[0] == 16);
+  EXPECT(onefile_ticket(&saved, CALLERS + ONEFILE_SPARE_CALLERS - 1, &value), ONEFILE_DONE);
+  EXPECT(onefile_ticket(&saved, CALLERS + ONEFILE_SPARE_CALLERS, &value), ONEFILE_RANGE);
   EXPECT(onefile_free_saved(&saved), ONEFILE_DONE);
+  has_numbers(&memory);
+  EXPECT(onefile_renumber(&memory, &saved), ONEFILE_DONE);
+  EXPECT(onefile_free_saved(&saved), ONEFILE_DONE);
+  has_numbers(&memory);
   EXPECT(share(&other), ONEFILE_FILE_IN_USE);
   EXPECT(onefile_close(&memory, NULL), ONEFILE_NULL);
   EXPECT(onefile_free(&memory), ONEFILE_DONE);
   EXPECT(share(&other), ONEFILE_DONE);
+  has_numbers(&other);
   EXPECT(onefile_enrol_any(&other, &value), ONEFILE_DONE);
   EXPECT(text(&other, value, "load 0; get 1"), ONEFILE_DONE);
   HOLDS(reply.values[0] == 16 && reply.values[1] == 2);
@@ -220,20 +247,50 @@ static void kinds(void) {
   EXPECT(onefile_free(&memory), ONEFILE_DONE);
 }
 
+/* A file that one process has made has no spare callers. It is shared with all that it has. */
+static void made_by_one(void) {
+  char first[240];
+  snprintf(first, sizeof first, "%s/first", folder);
+  EXPECT(onefile_open_file(&memory, first, CALLERS, BLOCKS, LIMIT), ONEFILE_DONE);
+  has_numbers(&memory);
+  EXPECT(onefile_free(&memory), ONEFILE_DONE);
+  EXPECT(onefile_share_file(&memory, first, CALLERS - 2, BLOCKS, LIMIT), ONEFILE_OTHER_SIZES);
+  for (int life = 0; life < 2; life++) {
+    EXPECT(onefile_share_file(&memory, first, CALLERS, BLOCKS, LIMIT), ONEFILE_DONE);
+    EXPECT(onefile_share_file(&other, first, CALLERS - 2, BLOCKS, LIMIT), ONEFILE_OTHER_SIZES);
+    has_numbers(&memory);
+    EXPECT(onefile_free(&memory), ONEFILE_DONE);
+  }
+  EXPECT(onefile_reopen_file(&memory, first, LIMIT, &saved), ONEFILE_DONE);
+  EXPECT(onefile_ticket(&saved, CALLERS, &value), ONEFILE_RANGE);
+  EXPECT(onefile_free_saved(&saved), ONEFILE_DONE);
+  has_numbers(&memory);
+  EXPECT(onefile_free(&memory), ONEFILE_DONE);
+  HOLDS(unlink(first) == 0);
+  EXPECT(onefile_open_file(&memory, first, MOST_SHARED + 1, 0, LIMIT), ONEFILE_DONE);
+  EXPECT(onefile_enrol(&memory, MOST_SHARED), ONEFILE_DONE);
+  EXPECT(onefile_free(&memory), ONEFILE_DONE);
+  EXPECT(onefile_share_file(&memory, first, MOST_SHARED + 1, 0, LIMIT), ONEFILE_RANGE);
+  EXPECT(onefile_share_file(&memory, first, MOST_SHARED, 0, LIMIT), ONEFILE_OTHER_SIZES);
+  HOLDS(unlink(first) == 0);
+}
+
 /* As many callers as there may be: a number above 31 is kept as any other. */
 static void many(void) {
   char all[240];
   snprintf(all, sizeof all, "%s/all", folder);
-  EXPECT(onefile_share_file(&memory, all, ONEFILE_MOST_CALLERS, 0, LIMIT), ONEFILE_DONE);
-  EXPECT(onefile_share_file(&other, all, ONEFILE_MOST_CALLERS, 0, LIMIT), ONEFILE_DONE);
+  EXPECT(onefile_share_file(&memory, all, MOST_SHARED, 0, LIMIT), ONEFILE_DONE);
+  EXPECT(onefile_share_file(&other, all, MOST_SHARED, 0, LIMIT), ONEFILE_DONE);
   EXPECT(onefile_enrol(&memory, 32), ONEFILE_DONE);
   EXPECT(onefile_enrol(&other, 32), ONEFILE_TAKEN);
   EXPECT(onefile_enrol_any(&other, &value), ONEFILE_DONE); /* no number shares a bit */
   HOLDS(value == 0);
-  EXPECT(onefile_enrol(&other, ONEFILE_MOST_CALLERS - 1), ONEFILE_DONE);
-  EXPECT(onefile_enrol(&memory, ONEFILE_MOST_CALLERS - 1), ONEFILE_TAKEN);
+  EXPECT(onefile_enrol(&other, MOST_SHARED - 1), ONEFILE_DONE);
+  EXPECT(onefile_enrol(&memory, MOST_SHARED - 1), ONEFILE_TAKEN);
+  EXPECT(onefile_enrol(&memory, MOST_SHARED), ONEFILE_RANGE);
+  EXPECT(onefile_enrol(&memory, ONEFILE_MOST_CALLERS - 1), ONEFILE_RANGE);
   EXPECT(text(&memory, 32, "add 0 1"), ONEFILE_DONE);
-  EXPECT(text(&other, ONEFILE_MOST_CALLERS - 1, "add 0 2"), ONEFILE_DONE);
+  EXPECT(text(&other, MOST_SHARED - 1, "add 0 2"), ONEFILE_DONE);
   HOLDS(reply.values[0] == 3);
   EXPECT(onefile_free(&memory), ONEFILE_DONE);
   EXPECT(onefile_free(&other), ONEFILE_DONE);
@@ -285,24 +342,31 @@ static void spoilt(void) {
   HOLDS(!is_there(beside));
 }
 
-/* The header of another version, and of another run of the machine, with its sum. */
-static void versions(void) {
-  uint64_t sum, open = 0;
-  read_file(whole);
+/* A header with another byte and with its sum. */
+static void change_header(size_t at, unsigned char byte) {
   memcpy(changed, whole, PAGE);
-  for (unsigned char version = 2; version <= 4; version += 2) {
-    changed[VERSION_AT] = version;
-    sum = sum_of(changed);
-    memcpy(changed + SUM_AT, &sum, sizeof sum);
-    write_at(0, changed, CLOSED_AT);
+  changed[at] = byte;
+  uint64_t sum = sum_of(changed);
+  memcpy(changed + SUM_AT, &sum, sizeof sum);
+  write_at(0, changed, CLOSED_AT);
+}
+
+/* The header of another version, with other spare callers, and of another run of the machine. */
+static void versions(void) {
+  static const unsigned char versions[] = {2, 3, 5};
+  uint64_t open = 0;
+  read_file(whole);
+  for (size_t i = 0; i < sizeof versions; i++) {
+    change_header(VERSION_AT, versions[i]);
     EXPECT(share(&memory), ONEFILE_OTHER_VERSION);
     EXPECT(reopen(&memory), ONEFILE_OTHER_VERSION);
   }
-  memcpy(changed, whole, PAGE);
-  changed[BOOT_AT] ^= 1;
-  sum = sum_of(changed);
-  memcpy(changed + SUM_AT, &sum, sizeof sum);
-  write_at(0, changed, CLOSED_AT);
+  for (unsigned char spare = 1; spare <= 7; spare += 2) {
+    change_header(SPARE_AT, spare);
+    EXPECT(share(&memory), ONEFILE_BAD_FILE);
+    EXPECT(reopen(&memory), ONEFILE_BAD_FILE);
+  }
+  change_header(BOOT_AT, whole[BOOT_AT] ^ 1);
   write_at(CLOSED_AT, &open, sizeof open);
   EXPECT(share(&memory), ONEFILE_TORN);
   EXPECT(share(&memory), ONEFILE_TORN);
@@ -596,6 +660,7 @@ int main(int argc, char **argv) {
   closes();
   lives();
   kinds();
+  made_by_one();
   many();
   limited();
   spoilt();

@@ -2,7 +2,8 @@
  * over meanwhile: takeover [FOLDER [COUNT]], which is how many are killed. Each call of a number
  * adds 1 to its own register and to a common one, so each answered call must be there once, and of
  * each process that died at most the open one. Each call keeps to the step bound. First a process
- * dies after each number of steps of its call, then many at random moments. */
+ * dies after each number of steps of its call, then many at random moments. A file that was made by
+ * a process of its own has no spare callers: some numbers wait for a commit there. */
 #define _GNU_SOURCE
 #include "onefile.h"
 
@@ -25,8 +26,9 @@
 #define WORKERS 4
 #endif
 enum { NEIGHBOUR = WORKERS, CALLERS, COMMON = 15, BLOCKS = 6, INSTRS = 6 };
+enum { ALL = CALLERS + ONEFILE_SPARE_CALLERS };
 /* The most steps of a call: `step_bound` of of_cell, with the data cells of such a store. */
-enum { CELLS = 18 * CALLERS + 63 + 3 * BLOCKS, BOUND = 90 + 73 * CELLS + 51 * CALLERS };
+enum { CELLS = 18 * ALL + 63 + 3 * BLOCKS, BOUND = 90 + 73 * CELLS + 51 * ALL };
 /* Which instruction of a call answers the number's own register. */
 enum { OWN = 1 };
 /* The next death comes after so many microseconds at most. One call of SELDOM stops midway. */
@@ -38,8 +40,8 @@ enum { PATIENCE = 1000000, A_TRY = 10 };
 typedef struct board {
   _Atomic uint32_t answered[CALLERS]; /* how many calls that add were answered, or found done */
   _Atomic uint32_t begun[CALLERS];    /* of all calls */
-  _Atomic uint32_t resumed, untold, waits;
-  _Atomic int grandchild;
+  _Atomic uint32_t resumed, untold, waits, nudges;
+  _Atomic int grandchild, must_commit;
 } board;
 
 static board *seen;
@@ -172,10 +174,11 @@ static int dies_going_on(uint64_t steps) {
   return answer == ONEFILE_NO_CALL ? ONEFILE_DONE : answer;
 }
 
-/* This process takes the number over. One commit of another caller frees it, if it is not free. */
-static void take_over(void) {
+/* This process takes the number over. If there are no spare callers, one commit of another caller
+ * frees it, if it is not free. */
+static void take_over(int has_spare) {
   int answer = onefile_enrol(&memory, 0);
-  if (answer == ONEFILE_NOT_YET) {
+  if (answer == ONEFILE_NOT_YET && !has_spare) {
     atomic_fetch_add(&seen->waits, 1);
     MUST(add_within(&memory, 0, ONEFILE_NO_END) == ONEFILE_EMPTY);
     MUST(onefile_go_on(&memory, 0, ONEFILE_NO_END, &reply) == ONEFILE_EMPTY);
@@ -194,12 +197,13 @@ static void take_over(void) {
 }
 
 /* A process dies after so many steps, and another one may die after it. */
-static int die_and_take_over(int (*task)(uint64_t), uint64_t steps, int commits, int others) {
+static int die_and_take_over(int (*task)(uint64_t), uint64_t steps, int kind, int has_spare) {
+  int commits = kind % 2, others = kind / 2 * 2;
   int answer = in_child(task, steps);
   MUST(answer == ONEFILE_STOPPED || answer == ONEFILE_DONE);
   for (int i = 0; i < commits; i++) commit();
   for (int i = 1; i <= others; i++) in_child(dies_going_on, steps * 7 * (uint64_t)i % MOST_STEPS);
-  take_over();
+  take_over(has_spare);
   return answer == ONEFILE_DONE;
 }
 
@@ -221,12 +225,20 @@ static void look_at_rest(int is_exact) {
   MUST(onefile_item(&saved, 0, 0, &ticket) == ONEFILE_ABSENT);
   MUST(onefile_ticket(&saved, 0, &ticket) == ONEFILE_DONE);
   if (is_exact) MUST(ticket == atomic_load(&seen->begun[0]));
+  for (uint32_t i = CALLERS; onefile_ticket(&saved, i, &ticket) == ONEFILE_DONE; i++) {
+    MUST(i < ALL);
+    atomic_fetch_add(&seen->nudges, ticket);
+  }
   MUST(onefile_free_saved(&saved) == ONEFILE_DONE && onefile_free(&last) == ONEFILE_DONE);
   MUST(unlink(path) == 0);
-  memset(seen, 0, sizeof *seen);
 }
 
-static void begin(void) {
+static void begin(int has_spare) {
+  memset(seen, 0, sizeof *seen);
+  if (!has_spare) {
+    int answer = onefile_open_file(&memory, path, CALLERS, BLOCKS, ONEFILE_GREATEST_LIMIT);
+    MUST(answer == ONEFILE_DONE && onefile_free(&memory) == ONEFILE_DONE);
+  }
   share(&memory);
   MUST(onefile_enrol(&memory, NEIGHBOUR) == ONEFILE_DONE);
   MUST(onefile_enrol(&memory, 0) == ONEFILE_DONE);
@@ -239,25 +251,26 @@ static void end(int is_exact) {
   look_at_rest(is_exact);
 }
 
-static void each_step(void) {
-  begin();
+static void each_step(int has_spare) {
+  begin(has_spare);
   for (int kind = 0; kind < 4; kind++) {
     int has_ended = 0;
     for (uint64_t steps = 0; !has_ended && steps < MOST_STEPS; steps++) {
-      has_ended = die_and_take_over(dies_adding, steps, kind % 2, kind / 2 * 2);
+      has_ended = die_and_take_over(dies_adding, steps, kind, has_spare);
     }
     MUST(has_ended);
     for (uint64_t steps = 0; steps < 4; steps++) {
-      die_and_take_over(dies_reading, steps, kind % 2, kind / 2);
+      die_and_take_over(dies_reading, steps, kind, has_spare);
     }
   }
-  MUST(atomic_load(&seen->waits) > 0 && atomic_load(&seen->resumed) > 0);
+  MUST((atomic_load(&seen->waits) > 0) == !has_spare && atomic_load(&seen->resumed) > 0);
   end(1);
+  MUST((atomic_load(&seen->nudges) > 0) == has_spare);
 }
 
 /* ---- Numbers that are not free yet, and others. */
 
-/* A process dies where its number is not free yet. */
+/* A process dies where its number is not free yet, since there are no spare callers. */
 static void die_in_a_log(void) {
   for (uint64_t steps = 0;; steps++) {
     MUST(steps < MOST_STEPS && in_child(dies_adding, steps) == ONEFILE_STOPPED);
@@ -271,7 +284,7 @@ static void die_in_a_log(void) {
  * not if it has asked for any. */
 static void any_number(void) {
   uint32_t number = 0;
-  begin();
+  begin(0);
   die_in_a_log();
   for (uint32_t i = 1; i < WORKERS; i++) {
     MUST(onefile_enrol_any(&memory, &number) == ONEFILE_DONE && number == i);
@@ -303,14 +316,30 @@ static void any_number(void) {
   end(0);
 }
 
+/* If no number is free, any is one that a spare caller has freed. */
+static void any_freed(void) {
+  uint32_t number = 0;
+  begin(1);
+  for (uint32_t i = 1; i < WORKERS; i++) MUST(onefile_enrol(&memory, i) == ONEFILE_DONE);
+  for (uint64_t steps = 0; in_child(dies_adding, steps) == ONEFILE_STOPPED; steps++) {
+    MUST(onefile_enrol_any(&memory, &number) == ONEFILE_DONE && number == 0);
+    MUST(onefile_enrol_any(&memory, &number) == ONEFILE_TAKEN);
+    look(&memory, 0);
+    MUST(onefile_leave(&memory, 0) == ONEFILE_DONE);
+  }
+  for (uint32_t i = 1; i < WORKERS; i++) MUST(onefile_leave(&memory, i) == ONEFILE_DONE);
+  end(0);
+  MUST(atomic_load(&seen->nudges) > 0);
+}
+
 /* Two memories have a number in turn. Each leaves a call open, which the next one ends. */
-static void left_open(void) {
-  begin();
+static void left_open(int has_spare) {
+  begin(has_spare);
   share(&own);
   for (uint64_t steps = 1; steps < MOST_STEPS; steps++) {
     onefile_memory *one = steps % 2 ? &memory : &own;
     int answer = onefile_enrol(one, 0);
-    if (answer == ONEFILE_NOT_YET) {
+    if (answer == ONEFILE_NOT_YET && !has_spare) {
       commit();
       answer = onefile_enrol(one, 0);
     }
@@ -344,7 +373,7 @@ static int dies_with_a_child(uint64_t unused) {
 }
 
 static void childs(void) {
-  begin();
+  begin(1);
   MUST(in_child(dies_with_a_child, 0) == ONEFILE_DONE);
   MUST(onefile_enrol(&memory, 0) == ONEFILE_DONE);
   look(&memory, 0);
@@ -399,6 +428,7 @@ static void live(uint32_t number, unsigned chance, pid_t parent) {
   int answer = onefile_enrol(&own, number);
   for (int tries = 0; answer == ONEFILE_NOT_YET && tries < PATIENCE; tries++) {
     if (tries == 0) atomic_fetch_add(&seen->waits, 1);
+    atomic_store(&seen->must_commit, 1);
     pause_for(A_TRY);
     answer = onefile_enrol(&own, number);
   }
@@ -467,7 +497,7 @@ static void start_some(void) {
 
 static void deaths(unsigned long wanted, int is_told) {
   unsigned long killed = 0, calls = 0;
-  begin();
+  begin(1);
   start_some();
   while (killed < wanted) {
     pause_for(random() % (random() % 4 ? LONGEST : SHORT));
@@ -479,17 +509,19 @@ static void deaths(unsigned long wanted, int is_told) {
       kill(process[victim], SIGKILL);
     }
     killed += restart();
-    if (random() % 4 == 0) commit();
+    if (atomic_exchange(&seen->must_commit, 0)) commit();
   }
   killed += kill_all();
   for (uint32_t i = 0; i < CALLERS; i++) calls += atomic_load(&seen->answered[i]);
   if (is_told) {
-    printf("%lu killed; %lu calls, %u of them ended by the next owner, %u done but not told; "
-           "%u times a number was not free at once\n",
-           killed, calls, atomic_load(&seen->resumed), atomic_load(&seen->untold),
-           atomic_load(&seen->waits));
+    printf("%lu killed; %lu calls, %u of them ended by the next owner, %u done but not told\n",
+           killed, calls, atomic_load(&seen->resumed), atomic_load(&seen->untold));
   }
   end(0);
+  if (is_told) {
+    printf("spare callers made %u calls; %u times a number was not free yet\n",
+           atomic_load(&seen->nudges), atomic_load(&seen->waits));
+  }
 }
 
 int main(int argc, char **argv) {
@@ -498,9 +530,12 @@ int main(int argc, char **argv) {
   seen = mmap(NULL, sizeof *seen, may, MAP_SHARED | MAP_ANONYMOUS, -1, 0);
   if (seen == MAP_FAILED) return 1;
   snprintf(path, sizeof path, "%s/onefile-takeover.%d", argc > 1 ? argv[1] : "/tmp", (int)getpid());
-  each_step();
+  for (int has_spare = 0; has_spare < 2; has_spare++) {
+    each_step(has_spare);
+    left_open(has_spare);
+  }
   any_number();
-  left_open();
+  any_freed();
   childs();
   spent();
   deaths(count, argc > 2);
