@@ -6,6 +6,7 @@
 
 #include "onefile.h"
 
+#include <chrono>
 #include <stdexcept>
 #include <string>
 #include <thread>
@@ -79,11 +80,16 @@ class memory {
 };
 
 // A caller that is enrolled; it leaves when its scope ends. If another one enrols or leaves at that
-// moment, it tries again.
+// moment, it tries again. If its number is not free yet, it tries again for a second.
 class caller {
  public:
   caller(memory &of, uint32_t number) : of(of), number(number) {
-    expect(onefile_enrol(&of.held, number));
+    int answer = onefile_enrol(&of.held, number);
+    for (int tries = 1; answer == ONEFILE_NOT_YET && tries < 1000; tries++) {
+      std::this_thread::sleep_for(std::chrono::milliseconds(1));
+      answer = onefile_enrol(&of.held, number);
+    }
+    expect(answer);
   }
   // With the first number that is free.
   explicit caller(memory &of) : of(of), number(0) { expect(onefile_enrol_any(&of.held, &number)); }
@@ -99,6 +105,13 @@ class caller {
     onefile_reply reply{};
     expect(onefile_call(&of.held, number, words.data(), words.size(), &reply));
     return reply;
+  }
+
+  // Ends the open call, which a killed owner of the number may have left, if one is.
+  bool go_on(onefile_reply &reply) {
+    int answer = onefile_go_on(&of.held, number, ONEFILE_NO_END, &reply);
+    if (answer != ONEFILE_NO_CALL) expect(answer);
+    return answer == ONEFILE_DONE;
   }
 
   // How many sequences are left at most, as far as this caller knows.

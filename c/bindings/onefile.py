@@ -2,12 +2,14 @@
 ONEFILE_LIBRARY names. A refusal is raised. Other threads run during a call."""
 import ctypes
 import os
+import time
 from ctypes import POINTER, c_char_p, c_int, c_size_t, c_uint32, c_uint64, c_void_p
 
-DONE, BUSY, STOPPED, ABSENT, NO_ROOM, NO_FILE, NOT_YET = 0, 2, 10, 15, 16, 19, 27
+DONE, BUSY, NO_CALL, STOPPED, ABSENT, NO_ROOM, NO_FILE, NOT_YET = 0, 2, 9, 10, 15, 16, 19, 27
 CAUSE_SHORT = 2
 GREATEST_LIMIT = 4294967294
 NO_END = 2**64 - 1
+MOST_TRIES, A_MILLISECOND = 1000, 0.001
 
 
 class Slot(ctypes.Structure):
@@ -52,6 +54,7 @@ OF = {
     "free": [POINTER(RawMemory)],
     "call_text_within": [
         POINTER(RawMemory), c_uint32, c_char_p, c_size_t, c_uint64, POINTER(Reply)],
+    "go_on": [POINTER(RawMemory), c_uint32, c_uint64, POINTER(Reply)],
     "register": [POINTER(Guarded), c_uint32, POINTER(c_uint32)],
     "key": [POINTER(Guarded), c_uint32, POINTER(c_uint32)],
     "ticket": [POINTER(Guarded), c_uint32, POINTER(c_uint32)],
@@ -127,7 +130,7 @@ class Memory:
 class Caller:
     """A caller that is enrolled: `with Caller(memory, 0) as own`, or with the first number that is
     free: `with Caller(memory) as own`. It leaves at the end. If another one enrols or leaves at
-    that moment, it tries again."""
+    that moment, it tries again. If its number is not free yet, it tries again for a second."""
 
     def __init__(self, memory, number=None):
         self.memory, self.number = memory, number
@@ -138,8 +141,15 @@ class Caller:
             make("enrol_any", self.memory.held, number)
             self.number = number.value
         else:
-            make("enrol", self.memory.held, self.number)
+            self.enrol()
         return self
+
+    def enrol(self):
+        for _ in range(MOST_TRIES):
+            if make("enrol", self.memory.held, self.number, wanted=(DONE, NOT_YET)) == DONE:
+                return
+            time.sleep(A_MILLISECOND)
+        raise Refusal(name(NOT_YET))
 
     def __exit__(self, *_):
         while make("leave", self.memory.held, self.number, wanted=(DONE, BUSY)) == BUSY:
@@ -151,6 +161,12 @@ class Caller:
         given = (self.memory.held, self.number, text, len(text), steps, reply)
         make("call_text_within", *given, wanted=(wanted,))
         return reply
+
+    def go_on(self):
+        """Ends the open call, which a killed owner of the number may have left. None if none is."""
+        reply = Reply()
+        given = (self.memory.held, self.number, NO_END, reply)
+        return reply if make("go_on", *given, wanted=(DONE, NO_CALL)) == DONE else None
 
     def sequences_left(self):
         """How many sequences are left at most, as far as this caller knows."""

@@ -5,9 +5,12 @@
 use std::cell::UnsafeCell;
 use std::ffi::{c_char, c_int, c_void, CStr, CString};
 use std::fmt;
+use std::thread;
+use std::time::Duration;
 
 pub const DONE: c_int = 0;
 pub const BUSY: c_int = 2;
+pub const NO_CALL: c_int = 9;
 pub const STOPPED: c_int = 10;
 pub const ABSENT: c_int = 15;
 pub const NO_ROOM: c_int = 16;
@@ -16,6 +19,7 @@ pub const NOT_YET: c_int = 27;
 pub const CAUSE_SHORT: u32 = 2;
 pub const GREATEST_LIMIT: u32 = 4_294_967_294;
 pub const NO_END: u64 = u64::MAX;
+const MOST_TRIES: u32 = 1000;
 const MOST_CALLERS: usize = 64;
 const MOST_INSTRS: usize = 16;
 
@@ -95,6 +99,7 @@ extern "C" {
         steps: u64,
         reply: *mut Reply,
     ) -> c_int;
+    fn onefile_go_on(memory: *mut RawMemory, number: u32, steps: u64, reply: *mut Reply) -> c_int;
     fn onefile_register(saved: *mut Guarded, register: u32, value: *mut u32) -> c_int;
     fn onefile_key(saved: *mut Guarded, key: u32, value: *mut u32) -> c_int;
     fn onefile_ticket(saved: *mut Guarded, number: u32, ticket: *mut u32) -> c_int;
@@ -223,8 +228,16 @@ impl Memory {
         })
     }
 
+    /// A caller with this number. If it is not free yet, this tries again for a second.
     pub fn enrol(&self, number: u32) -> Result<Caller<'_>, Refusal> {
-        wanted(unsafe { onefile_enrol(self.0.get(), number) }, DONE)?;
+        let mut answer = NOT_YET;
+        for tries in 0..MOST_TRIES {
+            if answer == NOT_YET {
+                thread::sleep(Duration::from_millis(u64::from(tries > 0)));
+                answer = unsafe { onefile_enrol(self.0.get(), number) };
+            }
+        }
+        wanted(answer, DONE)?;
         Ok(Caller {
             memory: self,
             number,
@@ -268,6 +281,15 @@ impl Caller<'_> {
         self.within(text, NO_END, DONE)
     }
 
+    /// Ends the open call, which a killed owner of the number may have left. None if none is.
+    pub fn go_on(&self) -> Result<Option<Reply>, Refusal> {
+        let mut reply = Reply::default();
+        match unsafe { onefile_go_on(self.memory.0.get(), self.number, NO_END, &mut reply) } {
+            NO_CALL => Ok(None),
+            answer => wanted(answer, DONE).map(|()| Some(reply)),
+        }
+    }
+
     /// How many sequences are left at most, as far as this caller knows.
     pub fn sequences_left(&self) -> Result<u32, Refusal> {
         let mut left = 0;
@@ -287,7 +309,7 @@ impl Caller<'_> {
 impl Drop for Caller<'_> {
     fn drop(&mut self) {
         while unsafe { onefile_leave(self.memory.0.get(), self.number) } == BUSY {
-            std::thread::yield_now();
+            thread::yield_now();
         }
     }
 }
