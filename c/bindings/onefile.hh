@@ -63,6 +63,16 @@ class memory {
   // Lets a shared file go, which all callers of this process have left.
   void detach() { expect(onefile_close(&held, nullptr)); }
 
+  // What the last call of a number that is held answered, while others go on, if one is.
+  bool last_reply_of(uint32_t number, onefile_reply &reply) {
+    int answer;
+    while ((answer = onefile_last_reply_of(&held, number, &reply)) == ONEFILE_BUSY) {
+      std::this_thread::yield();
+    }
+    if (answer != ONEFILE_ABSENT) expect(answer);
+    return answer == ONEFILE_DONE;
+  }
+
   // Has the sequences of a memory begin anew that all callers have left.
   void renumber() {
     onefile_saved left = ONEFILE_NONE;

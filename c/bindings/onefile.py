@@ -54,6 +54,7 @@ OF = {
     "free": [POINTER(RawMemory)],
     "call_text_within": [
         POINTER(RawMemory), c_uint32, c_char_p, c_size_t, c_uint64, POINTER(Reply)],
+    "last_reply_of": [POINTER(RawMemory), c_uint32, POINTER(Reply)],
     "go_on": [POINTER(RawMemory), c_uint32, c_uint64, POINTER(Reply)],
     "register": [POINTER(Guarded), c_uint32, POINTER(c_uint32)],
     "key": [POINTER(Guarded), c_uint32, POINTER(c_uint32)],
@@ -121,6 +122,15 @@ class Memory:
         saved = Saved()
         make("renumber", self.held, saved.held)
         return saved
+
+    def last_reply_of(self, number):
+        """What the last call of a number that is held answered, while others go on. None if none
+        is."""
+        reply, answer = Reply(), BUSY
+        while answer == BUSY:
+            given = (self.held, number, reply)
+            answer = make("last_reply_of", *given, wanted=(DONE, ABSENT, BUSY))
+        return reply if answer == DONE else None
 
     def detach(self):
         """Lets a shared file go, which all callers of this process have left."""

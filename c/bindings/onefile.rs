@@ -99,6 +99,7 @@ extern "C" {
         steps: u64,
         reply: *mut Reply,
     ) -> c_int;
+    fn onefile_last_reply_of(memory: *mut RawMemory, number: u32, reply: *mut Reply) -> c_int;
     fn onefile_go_on(memory: *mut RawMemory, number: u32, steps: u64, reply: *mut Reply) -> c_int;
     fn onefile_register(saved: *mut Guarded, register: u32, value: *mut u32) -> c_int;
     fn onefile_key(saved: *mut Guarded, key: u32, value: *mut u32) -> c_int;
@@ -213,6 +214,18 @@ impl Memory {
         let saved = Saved::none();
         wanted(unsafe { onefile_renumber(self.0.get(), saved.0.get()) }, DONE)?;
         Ok(saved)
+    }
+
+    /// What the last call of a number that is held answered, while others go on. None if none is.
+    pub fn last_reply_of(&self, number: u32) -> Result<Option<Reply>, Refusal> {
+        let mut reply = Reply::default();
+        loop {
+            match unsafe { onefile_last_reply_of(self.0.get(), number, &mut reply) } {
+                BUSY => thread::yield_now(),
+                ABSENT => return Ok(None),
+                answer => return wanted(answer, DONE).map(|()| Some(reply)),
+            }
+        }
     }
 
     /// A caller with the first number that is free.

@@ -19,15 +19,15 @@
  *   ONEFILE_NULL       a pointer is null
  *   ONEFILE_BUSY       another call has the object, or the caller of this number: try again later
  *   ONEFILE_NO_MEMORY  malloc gave none. onefile_call, its forms and onefile_go_on never answer it:
- *                      a call takes no memory. Nor do onefile_register, onefile_key, onefile_item,
- *                      onefile_ticket and onefile_last_reply
+ *                      a call takes no memory. Nor do onefile_last_reply_of, onefile_register,
+ *                      onefile_key, onefile_item, onefile_ticket and onefile_last_reply
  *
  * Threads. Any thread may call any function on any object at any time. Calls of different callers
  * run at once. Two calls of one caller do not: the second one is answered ONEFILE_BUSY, and
- * nobody waits. onefile_enrol and onefile_leave take the memory and the one caller.
- * The others on memories, as onefile_open and onefile_close, take the memory with all its callers.
- * So two callers that enrol or leave at the same moment may be answered BUSY: who must leave tries
- * again. A thread that is cancelled by pthread_cancel ends no function in its middle.
+ * nobody waits. onefile_enrol and onefile_leave take the memory and the one caller,
+ * onefile_last_reply_of takes the memory alone. The others on memories, as onefile_open and
+ * onefile_close, take the memory with all its callers. So two callers that enrol or leave at the
+ * same moment may be answered BUSY: who must leave tries again. A thread that is cancelled by pthread_cancel ends no function in its middle.
  *
  * What you must ensure, since it can't be tested:
  *   - A pointer that is not null points to as much as its type, or the length beside it, says. While
@@ -254,8 +254,9 @@ int onefile_reopen_file(onefile_memory *memory, const char *path, uint32_t limit
  * or close the memory. onefile_enrol_any keeps no number that it has not enrolled; it is answered
  * NOT_YET if all numbers are taken or not yet free, and one is not yet free.
  *
- * There is no saved one to ask. What a later process must know of a call, let the call keep in a
- * register or at a key. onefile_close and onefile_free let the file go for this process alone; a
+ * There is no saved one to ask, but onefile_last_reply_of tells what the last call of a number
+ * answered, also if its process has died. What a later process must know of an earlier call, let
+ * the call keep in a register or at a key. onefile_close and onefile_free let the file go for this process alone; a
  * process that ends does so too. All else is as above: the file doesn't survive the death of the
  * machine while it is open, nobody else may touch it or PATH.new, and a forked child has nothing
  * of the memory but by onefile_free.
@@ -264,8 +265,9 @@ int onefile_reopen_file(onefile_memory *memory, const char *path, uint32_t limit
  * one table, which is what a proved memory takes for its own; that a mapping which comes in the
  * place of private pages has the same words; flock and the locks of fcntl; and c/src/shared.c, by
  * which one memory at most has a number at a time, the file tells the next owner of a number how
- * many of its calls were begun, nothing but steps of callers (spare ones too), takeovers and
- * evictions is done on the shared pages, and nobody recovers a file that another process has.
+ * many of its calls were begun, nothing but steps of callers (spare ones too), takeovers, evictions
+ * and looks at last replies is done on the shared pages, and nobody recovers a file that another
+ * process has.
  * Proved is, of a row that meets its rule, that what a memory knows of a number at its start fits
  * the rule if that number has done nothing, whatever the others have done (of_row:
  * laws::fresh_members_fit), and each step for all states of the others. The takeover is proved in
@@ -402,6 +404,15 @@ int onefile_go_on(onefile_memory *memory, uint32_t number, uint64_t steps, onefi
  * have left. Other callers may have taken some since. It makes no step.
  * EMPTY, RANGE. */
 int onefile_sequences_left(onefile_memory *memory, uint32_t number, uint32_t *left);
+
+/* What the last call of the number that is held answered, whoever has made it, and its ticket, while
+ * others go on: as onefile_last_reply of what was saved. A call that only read is not held. The
+ * answer was right at a moment of this call. `seq`, `announced` and `steps` are not written.
+ * EMPTY, RANGE; ABSENT if no call of the number is held; FILE_IN_USE in a forked child, of a memory
+ * that its parent has in a file. NOT_YET if calls of others took effect all the time, or if one is
+ * half done and its caller doesn't go on: try again. Of a shared memory a spare caller ends such a
+ * call, if it can. */
+int onefile_last_reply_of(onefile_memory *memory, uint32_t number, onefile_reply *reply);
 
 /* ---- What was saved. Each but onefile_from_image answers EMPTY if `saved` is empty. */
 

@@ -38,6 +38,7 @@ uint32_t of_c_key(onefile_slot *saved, uint32_t key, uint32_t *value);
 uint32_t of_c_item(onefile_slot *saved, uint32_t queue, uint32_t at, uint32_t *value);
 uint32_t of_c_ticket(onefile_slot *saved, uint32_t number, uint32_t *ticket);
 uint32_t of_c_last_reply(onefile_slot *saved, uint32_t number, onefile_reply *reply);
+uint32_t of_c_last_reply_of(onefile_slot *memory, uint32_t number, onefile_reply *reply);
 uint32_t of_c_image(onefile_slot *saved, uint8_t *buffer, size_t room, size_t *size);
 uint32_t of_c_from_image(const uint8_t *text, size_t length, onefile_slot *saved);
 uint32_t of_c_sizes(uint32_t callers, uint32_t blocks, of_c_table *sizes);

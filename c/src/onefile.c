@@ -48,13 +48,17 @@ int onefile_reopen(onefile_memory *memory, onefile_saved *saved) {
   return (int)answer;
 }
 
+/* Whether this process may use a number of the memory: RANGE if it is a spare one, FILE_IN_USE. */
+static uint32_t may_use(onefile_memory *memory, uint32_t number) {
+  if (mapped_lacks(memory, number)) return ONEFILE_RANGE;
+  return mapped_is_inherited(memory) ? ONEFILE_FILE_IN_USE : ONEFILE_DONE;
+}
+
 /* Enrols a caller, if its slot and the memory's are taken. */
 static uint32_t enrol(onefile_memory *memory, uint32_t number) {
-  if (!mapped_is_inherited(memory)) {
-    if (mapped_lacks(memory, number)) return ONEFILE_RANGE;
-    return shared_has(memory) ? shared_enrol(memory, number) : enrol_caller(memory, number);
-  }
-  return ONEFILE_FILE_IN_USE;
+  uint32_t answer = may_use(memory, number);
+  if (answer != ONEFILE_DONE) return answer;
+  return shared_has(memory) ? shared_enrol(memory, number) : enrol_caller(memory, number);
 }
 
 int onefile_enrol(onefile_memory *memory, uint32_t number) {
@@ -208,6 +212,38 @@ int onefile_go_on(onefile_memory *memory, uint32_t number, uint64_t steps, onefi
   if (!claim(caller)) return ONEFILE_BUSY;
   uint32_t answer = of_c_go_on(&caller->slot, steps, reply);
   release(caller);
+  return (int)answer;
+}
+
+/* How often a last reply is looked for, if calls of others take effect meanwhile. */
+enum { MOST_LOOKS = 100 };
+
+static uint32_t look_for_reply(onefile_memory *memory, uint32_t number, onefile_reply *reply) {
+  uint32_t answer = ONEFILE_NOT_YET;
+  for (int tries = 0; answer == ONEFILE_NOT_YET && tries < MOST_LOOKS; tries++) {
+    answer = of_c_last_reply_of(&memory->memory.slot, number, reply);
+  }
+  return answer;
+}
+
+/* Looks for a last reply, if the memory's slot is taken. A call whose process has died may be half
+ * done: a commit ends it. */
+static uint32_t find_reply(onefile_memory *memory, uint32_t number, onefile_reply *reply) {
+  uint32_t answer = may_use(memory, number);
+  if (answer == ONEFILE_DONE) answer = look_for_reply(memory, number, reply);
+  if (answer != ONEFILE_NOT_YET || !shared_has(memory)) return answer;
+  shared_nudge(memory);
+  return look_for_reply(memory, number, reply);
+}
+
+int onefile_last_reply_of(onefile_memory *memory, uint32_t number, onefile_reply *reply) {
+  if (!memory || !reply) return ONEFILE_NULL;
+  if (number >= ONEFILE_MOST_CALLERS) return ONEFILE_RANGE;
+  uint32_t answer = ONEFILE_BUSY;
+  if (claim(&memory->memory)) {
+    answer = find_reply(memory, number, reply);
+    release(&memory->memory);
+  }
   return (int)answer;
 }
 

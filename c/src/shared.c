@@ -11,7 +11,8 @@
  * in this life, it begins with the machine that the process has for it. Then its bit in the header
  * is set, and stays so until the life ends. If it was had before, it gets a new machine, made from
  * the words on the shared pages and from the count of its calls, which is in the header. Nothing
- * but steps of callers and evictions is done on these pages: no memory on them is ever closed.
+ * but steps of callers, evictions and looks is done on these pages: no memory on them is ever
+ * closed.
  *
  * A number whose last owner died with its log half written gets no new machine before a commit.
  * The last callers of the table are spare: one of them makes that commit. Its number is had for one
@@ -374,6 +375,10 @@ static uint32_t nudge(table *one, onefile_memory *memory) {
     else if (found != ONEFILE_NOT_YET && found != ONEFILE_NO_TICKET) return found;
   }
   return answer;
+}
+
+void shared_nudge(onefile_memory *memory) {
+  if (shared_has(memory)) nudge(mapped_table_of(memory), memory);
 }
 
 /* Enrols a caller whose number is taken. If it is not free yet, a spare caller makes a commit. */

@@ -25,6 +25,9 @@ uint32_t mapped_renumber(onefile_memory *memory, onefile_slot *saved);
 uint32_t shared_enrol(onefile_memory *memory, uint32_t number);
 uint32_t shared_enrol_any(onefile_memory *memory, uint32_t *number);
 
+/* Has a spare caller make a commit, if the memory is shared. Such a memory is claimed. */
+void shared_nudge(onefile_memory *memory);
+
 /* Lets the number go of a caller that has left, if it is of a shared memory. */
 void shared_leave(onefile_guarded *caller, uint32_t number);
 

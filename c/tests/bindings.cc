@@ -39,13 +39,16 @@ static bool takes_path(const std::string &path) {
   return true;
 }
 
-// Two memories of one file: what one answers the other adds to.
-static uint32_t shares(const std::string &path) {
+// Two memories of one file: what one answers the other adds to, and may ask for.
+static std::string shares(const std::string &path) {
   onefile::memory one(onefile::shared{path}, 2, 4), other(onefile::shared{path}, 2, 4);
   onefile::caller first(one), second(other);
   first.call({onefile_add(3, 5)});
   uint32_t sum = second.call({onefile_add(3, 6)}).values[0];
-  return sum * 10 + first.has_number() * 2 + second.has_number();
+  onefile_reply told{};
+  bool is_told = one.last_reply_of(second.has_number(), told);
+  sum = sum * 10 + first.has_number() * 2 + second.has_number();
+  return std::to_string(sum) + " " + std::to_string(is_told ? told.values[0] : 0);
 }
 
 // All have let the file go, so the next life has all numbers, and the sum.
@@ -90,6 +93,6 @@ int main(int argc, char **argv) {
   renumbers();
   std::string file = std::string(argc > 1 ? argv[1] : "/tmp") + "/onefile-bindings.cc";
   std::remove(file.c_str());
-  uint32_t sum = shares(file);
-  std::printf("two that share a file: %u, and later %u\n", sum, shares_again(file));
+  std::string sums = shares(file);
+  std::printf("two that share a file: %s, and later %u\n", sums.c_str(), shares_again(file));
 }

@@ -38,11 +38,12 @@ def takes_path(path):
 
 
 def shares(path):
-    """Two memories of one file: what one answers the other adds to."""
+    """Two memories of one file: what one answers the other adds to, and may ask for."""
     one, other = (Memory(path=path, callers=2, blocks=4, shared=True) for _ in range(2))
     with Caller(one) as first, Caller(other) as second:
         first.call("add 3 5")
-        return second.call("add 3 6").values[0] * 10 + first.number * 2 + second.number
+        told = second.call("add 3 6").values[0], one.last_reply_of(second.number).values[0]
+        return f"{told[0] * 10 + first.number * 2 + second.number} {told[1]}"
 
 
 def shares_again(path):

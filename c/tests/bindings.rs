@@ -26,14 +26,16 @@ fn stays(of: &Memory, number: u32, met: &AtomicU32, end: Instant) -> bool {
     false
 }
 
-/// Two memories of one file: what one answers the other adds to.
-fn shares(path: &str) -> u32 {
+/// Two memories of one file: what one answers the other adds to, and may ask for.
+fn shares(path: &str) -> String {
     let one = Memory::share(path, 2, 4, GREATEST_LIMIT).expect("a memory");
     let other = Memory::share(path, 2, 4, GREATEST_LIMIT).expect("a memory");
     let (first, second) = (one.enrol_any().expect("0"), other.enrol_any().expect("1"));
     first.call("add 3 5").expect("a call");
     let sum = second.call("add 3 6").expect("a call").values[0];
-    sum * 10 + first.number * 2 + second.number
+    let told = one.last_reply_of(second.number).expect("an answer");
+    let told = told.expect("a call").values[0];
+    format!("{} {told}", sum * 10 + first.number * 2 + second.number)
 }
 
 /// All have let the file go, so the next life has all numbers, and the sum.
@@ -86,6 +88,9 @@ fn main() {
     let folder = std::env::args().nth(1).unwrap_or("/tmp".to_string());
     let path = format!("{folder}/onefile-bindings.rs");
     let _ = std::fs::remove_file(&path);
-    let sum = shares(&path);
-    println!("two that share a file: {sum}, and later {}", shares_again(&path));
+    let sums = shares(&path);
+    println!(
+        "two that share a file: {sums}, and later {}",
+        shares_again(&path)
+    );
 }

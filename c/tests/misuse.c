@@ -56,6 +56,8 @@ static void null_pointers(void) {
   EXPECT(onefile_call(&memory, 0, words, 1, NULL), ONEFILE_NULL);
   EXPECT(onefile_call_text(&memory, 0, NULL, 1, &reply), ONEFILE_NULL);
   EXPECT(onefile_go_on(&memory, 0, 1, NULL), ONEFILE_NULL);
+  EXPECT(onefile_last_reply_of(NULL, 0, &reply), ONEFILE_NULL);
+  EXPECT(onefile_last_reply_of(&memory, 0, NULL), ONEFILE_NULL);
   EXPECT(onefile_register(NULL, 0, &value), ONEFILE_NULL);
   EXPECT(onefile_register(&saved, 0, NULL), ONEFILE_NULL);
   EXPECT(onefile_key(&saved, 0, NULL), ONEFILE_NULL);
@@ -78,6 +80,7 @@ static void empty_objects(void) {
   EXPECT(onefile_free(&memory), ONEFILE_EMPTY);
   EXPECT(text(0, "load 0"), ONEFILE_EMPTY);
   EXPECT(onefile_go_on(&memory, 0, 1, &reply), ONEFILE_EMPTY);
+  EXPECT(onefile_last_reply_of(&memory, 0, &reply), ONEFILE_EMPTY);
   EXPECT(onefile_register(&saved, 0, &value), ONEFILE_EMPTY);
   EXPECT(onefile_key(&saved, 0, &value), ONEFILE_EMPTY);
   EXPECT(onefile_item(&saved, 0, 0, &value), ONEFILE_EMPTY);
@@ -104,6 +107,9 @@ static void numbers(void) {
   EXPECT(text(1, "load 0"), ONEFILE_EMPTY);
   EXPECT(text(64, "load 0"), ONEFILE_RANGE);
   EXPECT(onefile_go_on(&memory, 64, 1, &reply), ONEFILE_RANGE);
+  EXPECT(onefile_last_reply_of(&memory, 2, &reply), ONEFILE_RANGE);
+  EXPECT(onefile_last_reply_of(&memory, 64, &reply), ONEFILE_RANGE);
+  EXPECT(onefile_last_reply_of(&memory, 1, &reply), ONEFILE_ABSENT);
 }
 
 static void scripts(void) {
@@ -130,6 +136,35 @@ static void open_calls(void) {
   EXPECT(onefile_go_on(&memory, 0, 3, &reply), ONEFILE_STOPPED);
   EXPECT(onefile_go_on(&memory, 0, ONEFILE_NO_END, &reply), ONEFILE_DONE);
   EXPECT(onefile_go_on(&memory, 0, ONEFILE_NO_END, &reply), ONEFILE_NO_CALL);
+}
+
+/* What is told of a number's last call that is held, whoever has the number: this one, which stops
+ * after each number of steps, or nobody. It is not told while the call is half done. */
+static void last_replies(void) {
+  uint32_t waits = 0;
+  EXPECT(onefile_open(&other, 2, 0, ONEFILE_GREATEST_LIMIT), ONEFILE_DONE);
+  EXPECT(onefile_enrol(&other, 1), ONEFILE_DONE);
+  EXPECT(onefile_last_reply_of(&other, 1, &reply), ONEFILE_ABSENT);
+  for (uint32_t steps = 0; steps < 60; steps++) {
+    int is_done = onefile_call_text_within(&other, 1, "add 0 1", 7, steps, &reply) == ONEFILE_DONE;
+    reply = (onefile_reply){.seq = 8, .announced = 9, .steps = 7};
+    int answer = onefile_last_reply_of(&other, 1, &reply);
+    EXPECT(reply.seq == 8 && reply.announced == 9 && reply.steps == 7, 1);
+    if (answer == ONEFILE_NOT_YET) waits++;
+    else if (answer == ONEFILE_ABSENT) EXPECT(steps == 0, 1);
+    else EXPECT(answer == ONEFILE_DONE && reply.ticket + 1 == 2 * reply.values[0], 1);
+    if (answer == ONEFILE_DONE) EXPECT(reply.values[0] - steps <= 1, 1);
+    if (!is_done) EXPECT(onefile_go_on(&other, 1, ONEFILE_NO_END, &reply), ONEFILE_DONE);
+    EXPECT(onefile_call_text(&other, 1, "load 0", 6, &reply), ONEFILE_DONE); /* is not held */
+    EXPECT(onefile_last_reply_of(&other, 1, &reply), ONEFILE_DONE);
+    EXPECT(reply.ticket == 2 * steps + 1 && reply.len == 1 && reply.values[0] == steps + 1, 1);
+  }
+  EXPECT(waits > 0 && waits < 60, 1);
+  EXPECT(onefile_leave(&other, 1), ONEFILE_DONE);
+  EXPECT(onefile_last_reply_of(&other, 1, &reply), ONEFILE_DONE);
+  EXPECT(reply.values[0] == 60, 1);
+  EXPECT(onefile_last_reply_of(&other, 0, &reply), ONEFILE_ABSENT);
+  EXPECT(onefile_free(&other), ONEFILE_DONE);
 }
 
 static void the_end(void) {
@@ -240,6 +275,7 @@ int main(void) {
   numbers();
   scripts();
   open_calls();
+  last_replies();
   the_end();
   what_was_saved();
   images();

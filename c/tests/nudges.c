@@ -29,11 +29,11 @@ static void must(int holds, int line, const char *what) {
   _exit(1);
 }
 
-/* ---- What happens to a process in an enrolment. */
+/* ---- What happens to a process in an enrolment, or while it asks for a last reply. */
 
 /* How it goes on, dies or stops after so many steps of a spare caller's calls. */
 enum { GOES_ON, DIES, STOPS };
-static int is_enrolling, fate;
+static int is_watched, fate;
 static uint64_t fate_after;
 /* How many calls spare callers have begun in it, and went on with. */
 static unsigned begun, went_on;
@@ -53,7 +53,7 @@ static void meet_fate(uint32_t answer) {
 
 uint32_t __real_of_c_go_on(onefile_slot *caller, uint64_t steps, onefile_reply *reply);
 uint32_t __wrap_of_c_go_on(onefile_slot *caller, uint64_t steps, onefile_reply *reply) {
-  if (!is_enrolling) return __real_of_c_go_on(caller, steps, reply);
+  if (!is_watched) return __real_of_c_go_on(caller, steps, reply);
   uint32_t answer = __real_of_c_go_on(caller, fate == GOES_ON ? steps : fate_after, reply);
   if (answer == ONEFILE_NO_CALL) return answer;
   went_on++;
@@ -66,8 +66,8 @@ uint32_t __real_of_c_call(onefile_slot *caller, const uint64_t *words, size_t le
                           uint64_t steps, onefile_reply *reply);
 uint32_t __wrap_of_c_call(onefile_slot *caller, const uint64_t *words, size_t length,
                           uint64_t steps, onefile_reply *reply) {
-  begun += is_enrolling != 0;
-  if (!is_enrolling || fate == GOES_ON) {
+  begun += is_watched != 0;
+  if (!is_watched || fate == GOES_ON) {
     return __real_of_c_call(caller, words, length, steps, reply);
   }
   meet_fate(__real_of_c_call(caller, words, length, fate_after, reply));
@@ -75,8 +75,8 @@ uint32_t __wrap_of_c_call(onefile_slot *caller, const uint64_t *words, size_t le
 }
 
 static int is_refused(void) {
-  count += is_enrolling != 0;
-  if (!is_enrolling || (count != refused_at && count != killed_at)) return 0;
+  count += is_watched != 0;
+  if (!is_watched || (count != refused_at && count != killed_at)) return 0;
   if (count == killed_at) _exit(ENDED);
   return 1;
 }
@@ -108,10 +108,10 @@ static void share(onefile_memory *one) {
 }
 
 static int enrol(onefile_memory *one, uint32_t number) {
-  is_enrolling = 1;
+  is_watched = 1;
   count = begun = went_on = 0;
   int answer = onefile_enrol(one, number);
-  is_enrolling = 0;
+  is_watched = 0;
   return answer;
 }
 
@@ -303,6 +303,24 @@ static void turns(void) {
   MUST(onefile_free(&third) == ONEFILE_DONE && onefile_close(&second, NULL) == ONEFILE_DONE);
 }
 
+/* A call that is half done is ended by a commit before the number's last reply is told. */
+static void asks(void) {
+  uint64_t before = in_log;
+  unsigned commits = 0;
+  for (in_log = 0; in_child(dies_adding, 0) == ENDED; in_log++) {
+    is_watched = 1;
+    begun = 0;
+    MUST(onefile_last_reply_of(&memory, 0, &reply) == ONEFILE_DONE && begun <= 1);
+    is_watched = 0;
+    MUST(reply.values[0] - answered[0] <= 1 && reply.cause == 0 && reply.len == 4);
+    commits += begun;
+    take_over(&memory, 0, 0);
+  }
+  take_over(&memory, 0, 0); /* the call that has ended */
+  MUST(commits > 0 && in_log < MOST_STEPS);
+  in_log = before;
+}
+
 /* Requests are refused, or kill the process. */
 static void requests(void) {
   int refused = ENDED, killed = ENDED;
@@ -375,6 +393,7 @@ int main(int argc, char **argv) {
   deaths();
   stops();
   turns();
+  asks();
   requests();
   end();
   spent();

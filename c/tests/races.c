@@ -1,6 +1,7 @@
-/* races.c: sixteen threads enrol callers, make calls, go on with them, leave, close the memory and
- * reopen it, all at once and by chance: races [COUNT]. Each answer must be one that onefile.h
- * allows there. At the end every call that took effect is there, once, and no other. */
+/* races.c: sixteen threads enrol callers, make calls, go on with them, ask for last replies, leave,
+ * close the memory and reopen it, all at once and by chance: races [COUNT]. Each answer must be one
+ * that onefile.h allows there. At the end every call that took effect is there, once, and no other.
+ */
 #include "onefile.h"
 
 #include <pthread.h>
@@ -20,7 +21,7 @@ typedef struct sight {
 
 /* A thread, with what it has seen. */
 typedef struct racer {
-  uint32_t state, seen, closes, busy;
+  uint32_t state, seen, closes, busy, told;
   sight *sights;
 } racer;
 
@@ -78,6 +79,17 @@ static void call(racer *one, uint32_t number) {
   else if (answer == ONEFILE_STOPPED) sched_yield();
 }
 
+/* Asks for the last reply of a number. All calls are announced, so its ticket counts them. */
+static void ask(racer *one, uint32_t number) {
+  onefile_reply reply;
+  int answer = onefile_last_reply_of(&memory, number, &reply);
+  expect(one, number, answer, CODE(DONE) | CODE(EMPTY) | CODE(ABSENT) | CODE(NOT_YET));
+  if (answer != ONEFILE_DONE) return;
+  take_down(one, number, &reply, 0);
+  MUST(reply.ticket == reply.values[0]);
+  one->told++;
+}
+
 /* What was saved has each caller's calls, as many as its ticket says, and their sum. */
 static void look(racer *one) {
   uint32_t calls, ticket, sum = 0;
@@ -125,6 +137,7 @@ static void *race(void *racer_of) {
     case 6:
       expect(one, 0, onefile_reopen(&memory, &saved), CODE(DONE) | CODE(FULL) | CODE(EMPTY));
       break;
+    case 7: case 8: ask(one, number); break;
     default: call(one, number);
     }
   }
@@ -163,7 +176,7 @@ static uint32_t end(racer *one) {
 int main(int argc, char **argv) {
   pthread_t threads[THREADS];
   racer racers[THREADS];
-  uint32_t closes = 0, busy = 0;
+  uint32_t closes = 0, busy = 0, told = 0;
   if (argc > 1) rounds = strtoul(argv[1], NULL, 10);
   MUST(onefile_open(&memory, CALLERS, 0, ONEFILE_GREATEST_LIMIT) == ONEFILE_DONE);
   for (uint32_t i = 0; i < THREADS; i++) {
@@ -177,10 +190,13 @@ int main(int argc, char **argv) {
   for (int i = 0; i < THREADS; i++) {
     closes += racers[i].closes;
     busy += racers[i].busy;
+    told += racers[i].told;
     free(racers[i].sights);
   }
-  MUST(all > 0 && closes > 0);
+  MUST(all > 0 && closes > 0 && told > 0);
   printf("sixteen threads: each answer is one that may come, and each call is there once\n");
-  if (argc > 1) printf("%u calls, %u lives, %u times BUSY\n", all, closes + 1, busy);
+  if (argc > 1) {
+    printf("%u calls, %u lives, %u last replies, %u times BUSY\n", all, closes + 1, told, busy);
+  }
   return 0;
 }

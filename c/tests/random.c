@@ -2,7 +2,8 @@
  * model judges them: random [CALLS [SEED]]. The model runs all scripts one after another, in the
  * order of their sequences; within one the announced ones come first, by caller. Each reply must be
  * the model's, and so must be what is saved whenever the memory is closed, which then goes on. No
- * call may take effect before one that was answered when it began. */
+ * call may take effect before one that was answered when it began. Now and then a thread asks for
+ * its last reply while the others go on. */
 #include "model.h"
 
 #include <pthread.h>
@@ -34,7 +35,7 @@ static onefile_memory memory = ONEFILE_NONE;
 static caller callers[CALLERS];
 static uint64_t seed;
 static atomic_uint newest; /* the last sequence that a call was answered with */
-static atomic_ulong stops;
+static atomic_ulong stops, asked;
 
 #define MUST(holds) must((holds), __LINE__, #holds)
 
@@ -108,8 +109,24 @@ static call call_of(const onefile_reply *reply) {
   return it;
 }
 
+/* What others may ask while this caller makes no call: its last announced call is told as it was
+ * answered, if the calls of others leave a moment for it. */
+static void ask(uint32_t number, const call *last) {
+  onefile_reply found;
+  int answer = onefile_last_reply_of(&memory, number, &found);
+  if (answer != ONEFILE_DONE) {
+    MUST(answer == ONEFILE_BUSY || answer == ONEFILE_NOT_YET);
+    return;
+  }
+  found.seq = found.announced = 0;
+  outcome came = call_of(&found).came;
+  MUST(memcmp(&came, &last->came, sizeof came) == 0);
+  atomic_fetch_add(&asked, 1);
+}
+
 static void *work(void *caller_of) {
   caller *one = caller_of;
+  const call *last = NULL;
   for (uint32_t i = 0; i < one->count; i++) {
     uint64_t state = state_of(one->number, one->before + i), words[MOST];
     instr script[MOST];
@@ -121,20 +138,28 @@ static void *work(void *caller_of) {
     MUST(reply.len == len && reply.announced <= 1 && reply.seq >= answered + reply.announced);
     while (answered < reply.seq && !atomic_compare_exchange_weak(&newest, &answered, reply.seq)) {}
     one->calls[i] = call_of(&reply);
+    if (reply.announced) last = &one->calls[i];
+    if (last && i % CALLERS == one->number) ask(one->number, last);
   }
   return NULL;
 }
+
+/* What the open memory told of each caller's last call at the end of a life. */
+static onefile_reply told[CALLERS];
 
 /* One life of the memory: its callers run at once, and what is left is saved. */
 static void live(onefile_saved *saved, uint32_t each) {
   pthread_t threads[CALLERS];
   for (uint32_t i = 0; i < CALLERS; i++) {
     callers[i].count = each;
-    MUST(onefile_enrol(&memory, i) == ONEFILE_DONE);
+    while (onefile_enrol(&memory, i) == ONEFILE_BUSY) sched_yield(); /* another one asks */
     MUST(pthread_create(&threads[i], NULL, work, &callers[i]) == 0);
   }
+  for (uint32_t i = 0; i < CALLERS; i++) pthread_join(threads[i], NULL);
   for (uint32_t i = 0; i < CALLERS; i++) {
-    pthread_join(threads[i], NULL);
+    told[i] = (onefile_reply){0};
+    int answer = onefile_last_reply_of(&memory, i, &told[i]);
+    MUST(answer == ONEFILE_DONE || answer == ONEFILE_ABSENT);
     MUST(onefile_leave(&memory, i) == ONEFILE_DONE);
   }
   MUST(onefile_close(&memory, saved) == ONEFILE_DONE);
@@ -222,8 +247,10 @@ static void judge_tickets(onefile_saved *saved, uint32_t *tickets) {
     tickets[i] = ticket;
     if (last == 0) continue;
     MUST(onefile_last_reply(saved, i, &reply) == ONEFILE_DONE && reply.ticket == ticket);
-    outcome told = call_of(&reply).came;
-    MUST(memcmp(&told, &callers[i].calls[last - 1].came, sizeof told) == 0);
+    outcome came = call_of(&reply).came;
+    MUST(memcmp(&came, &callers[i].calls[last - 1].came, sizeof came) == 0);
+    outcome before = call_of(&told[i]).came;
+    MUST(told[i].ticket == ticket && memcmp(&came, &before, sizeof came) == 0);
   }
 }
 
@@ -264,11 +291,12 @@ int main(int argc, char **argv) {
     for (uint32_t i = 0; i < CALLERS; i++) callers[i].before += callers[i].count;
   }
   MUST(onefile_free_saved(&saved) == ONEFILE_DONE);
+  MUST(atomic_load(&asked) > 0);
   printf("random calls of sixteen callers: each reply and all that is saved as in the model\n");
   if (argc > 1) {
-    printf("%lu lives, %lu calls announced in %u batches, %lu that read; stopped %lu times; "
-           "aborts: %lu overflow, %lu short, %lu no room, %lu differs\n",
-           lives, seen.announced, seq, seen.reads, stops, seen.causes[1], seen.causes[2],
+    printf("%lu lives, %lu calls announced in %u batches, %lu that read; stopped %lu times, told "
+           "%lu times; aborts: %lu overflow, %lu short, %lu no room, %lu differs\n",
+           lives, seen.announced, seq, seen.reads, stops, asked, seen.causes[1], seen.causes[2],
            seen.causes[3], seen.causes[4]);
   }
   return 0;

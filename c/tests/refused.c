@@ -2,7 +2,7 @@
  * has changed nothing, and does what it should when it is called again. Only the function that reads
  * an image can do without one allocation: it asks for the room of a list at once, and if that is
  * refused, it takes the room as the list grows. A call of a script allocates nothing, and neither
- * does a question to what was saved. To be linked with -Wl,--wrap=malloc,--wrap=realloc. */
+ * does a question to what was saved, nor one for a last reply. To be linked with -Wl,--wrap=malloc,--wrap=realloc. */
 #include "onefile.h"
 
 #include <stdio.h>
@@ -84,6 +84,7 @@ static void life(void) {
   AGAIN(onefile_open(&memory, 2, 4, 100));
   AGAIN(onefile_enrol(&memory, 1));
   CALL(onefile_call_text(&memory, 1, first, sizeof first - 1, &reply));
+  CALL(onefile_last_reply_of(&memory, 1, &reply));
   AGAIN(onefile_leave(&memory, 1));
   AGAIN(onefile_close(&memory, &saved));
   AGAIN(onefile_image(&saved, text, sizeof text, &length));

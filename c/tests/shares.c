@@ -113,6 +113,12 @@ static void two(void) {
   EXPECT(text(&memory, 0, "add 0 5; put 1 2"), ONEFILE_DONE);
   EXPECT(text(&other, 1, "add 0 6; get 1"), ONEFILE_DONE);
   HOLDS(reply.values[0] == 11 && reply.values[1] == 2);
+  EXPECT(onefile_last_reply_of(&other, 0, &reply), ONEFILE_DONE);
+  HOLDS(reply.values[0] == 5 && reply.len == 2 && reply.ticket == 1);
+  EXPECT(onefile_last_reply_of(&memory, 1, &reply), ONEFILE_DONE);
+  HOLDS(reply.values[0] == 11 && reply.ticket == 1);
+  EXPECT(onefile_last_reply_of(&memory, 2, &reply), ONEFILE_ABSENT);
+  EXPECT(onefile_last_reply_of(&memory, CALLERS, &reply), ONEFILE_RANGE);
   EXPECT(text(&memory, 0, "load 0"), ONEFILE_DONE);
   HOLDS(reply.values[0] == 11);
   onefile_memory third = ONEFILE_NONE;
@@ -267,6 +273,7 @@ static void made_by_one(void) {
   has_numbers(&memory);
   EXPECT(onefile_free(&memory), ONEFILE_DONE);
   HOLDS(unlink(first) == 0);
+  EXPECT(onefile_last_reply_of(&memory, 0, &reply), ONEFILE_EMPTY);
   EXPECT(onefile_open_file(&memory, first, MOST_SHARED + 1, 0, LIMIT), ONEFILE_DONE);
   EXPECT(onefile_enrol(&memory, MOST_SHARED), ONEFILE_DONE);
   EXPECT(onefile_free(&memory), ONEFILE_DONE);
@@ -452,6 +459,8 @@ static void killed(void) {
   EXPECT(share(&other), ONEFILE_DONE);
   EXPECT(onefile_enrol(&other, 2), ONEFILE_TAKEN);
   HOLDS(kill(child, SIGKILL) == 0 && waitpid(child, NULL, 0) == child);
+  EXPECT(onefile_last_reply_of(&other, 2, &reply), ONEFILE_DONE);
+  HOLDS(reply.values[0] == 1);
   EXPECT(onefile_enrol(&other, 2), ONEFILE_DONE);
   EXPECT(text(&other, 2, "add 4 1"), ONEFILE_DONE);
   HOLDS(reply.values[0] == 2);
@@ -515,6 +524,7 @@ static int shares_in_child(void) {
   if (onefile_enrol(&memory, 1) != ONEFILE_FILE_IN_USE) return 2;
   if (onefile_enrol_any(&memory, &value) != ONEFILE_FILE_IN_USE) return 3;
   if (onefile_close(&memory, NULL) != ONEFILE_FILE_IN_USE) return 4;
+  if (onefile_last_reply_of(&memory, 0, &reply) != ONEFILE_FILE_IN_USE) return 10;
   if (onefile_free(&memory) != ONEFILE_DONE) return 5;
   if (share(&memory) != ONEFILE_DONE || !is_mapped()) return 6;
   if (onefile_enrol(&memory, 0) != ONEFILE_TAKEN) return 7;
@@ -535,7 +545,7 @@ static void forked(void) {
   }
   pid_t child = fork();
   if (child == 0) _exit(shares_in_child());
-  HOLDS(waitpid(child, &status, 0) == child);
+  HOLDS(waitpid(child, &status, 0) == child && WIFEXITED(status));
   EXPECT(WEXITSTATUS(status), 0);
   EXPECT(reopen(&other), ONEFILE_FILE_IN_USE);
   EXPECT(text(&memory, 0, "add 8 1"), ONEFILE_DONE);

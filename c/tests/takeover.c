@@ -1,7 +1,8 @@
 /* takeover.c: processes share a file, die in the middle of a call, and others take their numbers
  * over meanwhile: takeover [FOLDER [COUNT]], which is how many are killed. Each call of a number
  * adds 1 to its own register and to a common one, so each answered call must be there once, and of
- * each process that died at most the open one. Each call keeps to the step bound. First a process
+ * each process that died at most the open one. What is told of its last call that took effect is
+ * the same. Each call keeps to the step bound. First a process
  * dies after each number of steps of its call, then many at random moments. A file that was made by
  * a process of its own has no spare callers: some numbers wait for a commit there. */
 #define _GNU_SOURCE
@@ -40,7 +41,8 @@ enum { PATIENCE = 1000000, A_TRY = 10 };
 typedef struct board {
   _Atomic uint32_t answered[CALLERS]; /* how many calls that add were answered, or found done */
   _Atomic uint32_t begun[CALLERS];    /* of all calls */
-  _Atomic uint32_t resumed, untold, waits, nudges;
+  _Atomic uint64_t told[CALLERS];     /* which call was told as the last one, and its ticket */
+  _Atomic uint32_t resumed, untold, waits, nudges, asked, unasked;
   _Atomic int grandchild, must_commit;
 } board;
 
@@ -105,25 +107,45 @@ static void add(onefile_memory *one, uint32_t number, uint32_t before) {
   atomic_store(&seen->answered[number], before + 1);
 }
 
+/* What is told of the number's last call that took effect: how many are in its register then. The
+ * ticket rises with that. A call that read may be told too, if it was open at a death. */
+static uint32_t told(onefile_memory *one, uint32_t number) {
+  onefile_reply last = {0};
+  int answer, tries = 0;
+  while ((answer = onefile_last_reply_of(one, number, &last)) == ONEFILE_NOT_YET) {
+    MUST(tries++ < PATIENCE);
+    pause_for(A_TRY);
+  }
+  if (answer == ONEFILE_ABSENT) return 0;
+  MUST(answer == ONEFILE_DONE && last.cause == 0 && (last.len == INSTRS || last.len == 2));
+  uint64_t before = atomic_load(&seen->told[number]), now = last.values[OWN];
+  now = now << 32 | last.ticket;
+  MUST(now == before || (now > before && last.ticket > (uint32_t)before));
+  atomic_store(&seen->told[number], now);
+  return last.values[OWN];
+}
+
 /* A commit of this process, which frees numbers that are not free yet. */
 static void commit(void) { add(&memory, NEIGHBOUR, atomic_load(&seen->answered[NEIGHBOUR])); }
 
 /* What is in the number's register, once it has been taken over: the answered calls, and at most
  * the open one of the dead besides. An open call is ended. */
 static void look(onefile_memory *one, uint32_t number) {
-  uint32_t answered = atomic_load(&seen->answered[number]);
+  uint32_t answered = atomic_load(&seen->answered[number]), last = told(one, number);
   int answer = read_within(one, number, ONEFILE_NO_END), was_open = answer == ONEFILE_CALL_OPEN;
   if (was_open) {
+    MUST(last == answered || last == answered + 1); /* others may have ended it meanwhile */
     MUST(kept(onefile_go_on(one, number, ONEFILE_NO_END, &reply)) == ONEFILE_DONE);
     MUST(reply.cause == 0);
     if (reply.len == INSTRS) MUST(reply.values[OWN] == answered + 1);
+    last = told(one, number);
     answer = read_within(one, number, ONEFILE_NO_END);
     atomic_fetch_add(&seen->resumed, 1);
   }
   atomic_fetch_add(&seen->begun[number], 1);
   MUST(answer == ONEFILE_DONE && reply.given[1]);
   uint32_t there = reply.values[1];
-  MUST(there == answered || there == answered + 1);
+  MUST(there == last && (there == answered || there == answered + 1));
   if (there != answered && !was_open) atomic_fetch_add(&seen->untold, 1);
   atomic_store(&seen->answered[number], there);
 }
@@ -193,7 +215,27 @@ static void take_over(int has_spare) {
   MUST(answer == ONEFILE_DONE);
   look(&memory, 0);
   add(&memory, 0, atomic_load(&seen->answered[0]));
+  MUST(told(&memory, 0) == atomic_load(&seen->answered[0]));
+  MUST((uint32_t)atomic_load(&seen->told[0]) == atomic_load(&seen->begun[0]));
   MUST(onefile_leave(&memory, 0) == ONEFILE_DONE);
+}
+
+/* Others may ask what a number's last call answered. If it is half done and its process has died, a
+ * spare caller ends it, if there is one. */
+static void ask(uint32_t number, int has_spare) {
+  onefile_reply last;
+  uint32_t before = atomic_load(&seen->answered[number]);
+  int answer = onefile_last_reply_of(&memory, number, &last);
+  if (answer == ONEFILE_NOT_YET) {
+    MUST(!has_spare);
+    atomic_fetch_add(&seen->unasked, 1);
+  } else if (answer == ONEFILE_DONE) {
+    MUST(last.values[OWN] >= before);
+    MUST(last.values[OWN] <= atomic_load(&seen->answered[number]) + 1);
+    atomic_fetch_add(&seen->asked, 1);
+  } else {
+    MUST(answer == ONEFILE_ABSENT && before == 0);
+  }
 }
 
 /* A process dies after so many steps, and another one may die after it. */
@@ -203,6 +245,7 @@ static int die_and_take_over(int (*task)(uint64_t), uint64_t steps, int kind, in
   MUST(answer == ONEFILE_STOPPED || answer == ONEFILE_DONE);
   for (int i = 0; i < commits; i++) commit();
   for (int i = 1; i <= others; i++) in_child(dies_going_on, steps * 7 * (uint64_t)i % MOST_STEPS);
+  if (steps % 2) ask(0, has_spare);
   take_over(has_spare);
   return answer == ONEFILE_DONE;
 }
@@ -264,6 +307,7 @@ static void each_step(int has_spare) {
     }
   }
   MUST((atomic_load(&seen->waits) > 0) == !has_spare && atomic_load(&seen->resumed) > 0);
+  MUST((atomic_load(&seen->unasked) > 0) == !has_spare && atomic_load(&seen->asked) > 0);
   end(1);
   MUST((atomic_load(&seen->nudges) > 0) == has_spare);
 }
@@ -510,6 +554,7 @@ static void deaths(unsigned long wanted, int is_told) {
     }
     killed += restart();
     if (atomic_exchange(&seen->must_commit, 0)) commit();
+    ask(victim, 0);
   }
   killed += kill_all();
   for (uint32_t i = 0; i < CALLERS; i++) calls += atomic_load(&seen->answered[i]);
@@ -519,8 +564,10 @@ static void deaths(unsigned long wanted, int is_told) {
   }
   end(0);
   if (is_told) {
-    printf("spare callers made %u calls; %u times a number was not free yet\n",
-           atomic_load(&seen->nudges), atomic_load(&seen->waits));
+    printf("spare callers made %u calls; %u times a number was not free yet; %u last replies were "
+           "told to others, and %u times none was yet\n",
+           atomic_load(&seen->nudges), atomic_load(&seen->waits), atomic_load(&seen->asked),
+           atomic_load(&seen->unasked));
   }
 }
 
