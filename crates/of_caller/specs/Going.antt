@@ -98,8 +98,8 @@ abbrev pub left_by : Setup → CallState → (idle : Bool) → ℕ
 left_by S d true = 0
 left_by S d false = bound S - d.steps
 
-abbrev pub left_of : Setup → CallState → ℕ
-left_of S d = left_by S d (is_idle d.place)
+abbrev pub steps_to_go : Setup → CallState → ℕ
+steps_to_go S d = left_by S d (is_idle d.place)
 
 abbrev pub steps_left : {W : Type 0} → (W → Meaning) → Caller W → ℕ
-steps_left meaning c = left_of (machine_setup meaning c.machine) (caller_call c)
+steps_left meaning c = steps_to_go (machine_setup meaning c.machine) (caller_call c)

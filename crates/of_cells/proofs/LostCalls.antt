@@ -46,7 +46,7 @@ module _ (S : Setup) (L : List ℕ → Type 0) (B : TableStart) (v : View) (x : 
     f.1,
     f.2,
     subst (λ (k : KnownCaller). IsOpen k.machine.place ↔ AnnouncesOpenCall S x.machine.caller (moment S B f.0).words) (sym f.3)
-    (said (remains_of S (moment S B f.0).words x.machine.caller) (announces_open_call (remains_of S (moment S B f.0).words x.machine.caller))),
+        (said (remains_of S (moment S B f.0).words x.machine.caller) (announces_open_call (remains_of S (moment S B f.0).words x.machine.caller))),
   )
     where
       said : (r : Remains) (b : Bool) → IsOpen (revived_if S r x.machine.caller x.machine.made b).place ↔ IsTrue b

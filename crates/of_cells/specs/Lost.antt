@@ -120,7 +120,7 @@ OpensIfAnnounced meaning g h =
     WasSoBetween (setup_at meaning (lost_home g)) (row_start meaning (lost_home g))
     (view_of_member g.member) (view_of_member (member_of (caller_of h)))
     (λ ws. HasCallOpen h
-        ↔ AnnouncesOpenCall (setup_at meaning (lost_home g)) (number_of_lost g) ws)
+    ↔ AnnouncesOpenCall (setup_at meaning (lost_home g)) (number_of_lost g) ws)
 
 -- the lost handle g has a new machine, and is the handle h now, which knows at least as much
 pub record IsRevived {W : Type 0} (meaning : W → Meaning) (g : LostHandle W) (h : CellHandle W)

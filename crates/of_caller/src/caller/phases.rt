@@ -34,7 +34,8 @@ impl<W: Work> Caller<W> {
             row.now self.old brake.old steps.old self.new brake.new steps.new) }
         ensures denied { OnErr result (LeadsToDenial W.meaning W.lawful B.denials B.left B.answers
             B.asks row.now self.old brake.old steps.old self.new brake.new steps.new) }
-        ensures falls { OnOk result (steps_left W.meaning self.new < steps_left W.meaning self.old) }
+        ensures falls { OnOk result
+            (steps_left W.meaning self.new < steps_left W.meaning self.old) }
     {
         row.step_at(place, &mut self.member, &mut self.machine, brake)?;
         steps.tick();
