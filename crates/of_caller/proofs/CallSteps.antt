@@ -17,29 +17,8 @@ use Rattle.of_row.specs.Told.{operations_known}
 use Rattle.of_row.specs.Rule.{CallHasEnded}
 use Rattle.of_row.specs.Turned.{MakesStep, IsMeantReply, TellsSteps, since_by, since_after, ended_call_if, ended_call_of_step, ended_call_of_answer, known_after_step}
 use Rattle.of_caller.specs.CallsTold.{HasEndedWith, IsStillOpen, TellsStepsMade}
+use Rattle.of_caller.specs.Going.{Progress, left_by, left_of}
 use Rattle.of_caller.proofs.SpentSteps.{spent_exactly}
-
--- a call on its way: n steps of it have led from the machine m and the view v to d and w
-pub record Progress (S : Setup) (L : List ℕ → Type 0) (B : TableStart) (m : CallState) (v : View) (n : ℕ) (d : CallState) (w : View) : Type 0 where
-  pub seen : IsPrefix v.seen w.seen
-  pub past : IsPrefix v.past w.past
-  pub caller : d.caller ≡ m.caller
-  pub made : d.made ≡ m.made
-  pub op : d.op ≡ m.op
-  pub before : KnownCaller
-  pub kept : KnownCaller
-  pub kept_before : v.kept ≡ before ∷ []
-  pub kept_now : w.kept ≡ kept ∷ []
-  pub none : n ≡ 0 → (w ≡ v) × (d ≡ m)
-  pub some : 0 < n → TellsStepsMade S B d w kept
-  pub turns : kept.turns ≡ before.turns + n
-  pub losses : kept.losses ≡ before.losses
-  pub looks : w.looks ≡ v.looks
-  pub since : 0 < n → kept.since ≡ since_after B v before
-  pub behind : 0 < n → length (operations_begun v.past m.caller) ≤ length (operations_known before)
-  pub touched : 0 < n → IsWithinTouched S L m.op (m.steps + n)
-  pub still : IsOpen d.place → IsStillOpen S m before n d kept
-  pub ended : IsIdle d → (o : Outcome) × HasEndedWith S L B m v before n d w kept o
 
 -- ---- lists
 
@@ -156,14 +135,6 @@ module _ (S : Setup) (L : List ℕ → Type 0) (B : TableStart) (d0 : CallState)
   }
 
 -- ---- the steps left
-
--- the steps that the open call has left at most
-abbrev pub left_by : Setup → CallState → (idle : Bool) → ℕ
-left_by S d true = 0
-left_by S d false = bound S - d.steps
-
-abbrev pub left_of : Setup → CallState → ℕ
-left_of S d = left_by S d (is_idle d.place)
 
 left_open : (S : Setup) (d : CallState) → IsOpen d.place → left_of S d ≡ bound S - d.steps
 left_open S d o = ap (left_by S d) o

@@ -13,7 +13,8 @@ use Rattle.of_row.specs.declared.row.Row.{Row}
 use Rattle.of_row.specs.Rows.{StepsMember, key_of, setup_at, row_start}
 use Rattle.of_caller.specs.declared.caller.Caller.{Caller}
 use Rattle.of_caller.specs.Callers.{IsCaller, caller_call, sight_of}
-use Rattle.of_caller.proofs.CallSteps.{Progress, goes_by, left_of, falls_by}
+use Rattle.of_caller.specs.Going.{Progress, left_of}
+use Rattle.of_caller.proofs.CallSteps.{goes_by, falls_by}
 
 module _ {W : Type 0} (meaning : W → Meaning) (lawful : W → List ℕ → Type 0) (r : Row W) where
   module _ (c : Caller W) (q : IsCaller meaning r c) (o : IsOpen (caller_call c).place) (b : Caller W) (s : StepsMember meaning lawful r c.machine c.member b.machine b.member) where

@@ -21,6 +21,7 @@ pub mod LastTickets
 pub mod CallSteps
 pub mod CallerSteps
 pub mod BrakeCharges
+pub mod Phases
 pub mod SpentSteps
 pub mod Schedules
 pub mod Answering

@@ -9,6 +9,7 @@ pub mod Runs
 pub mod Callers
 pub mod CallsTold
 pub mod Brakes
+pub mod Going
 pub mod Vain
 pub mod PlanRows
 pub mod Stops

@@ -1,5 +1,7 @@
 //! One caller: it makes its calls with a member of a row.
 
+mod phases;
+
 ghost use Rattle.std.specs.Prelude.{◌≡◌, ◌+◌, ◌<◌, ◌≤◌, ◌↔◌, IfOk, IfErr, IsTrue, length};
 ghost use Rattle.of_mem.specs.declared.work.TheConstants.{MOST_INSTRS};
 ghost use Rattle.of_core.specs.Machine.{IsOpen};
@@ -148,13 +150,12 @@ impl<W: Work> Caller<W> {
         ensures asks { AsksOf (B.asks brake.old) (B.asks brake.new) steps.old steps.new result }
     {
         of_core::laws::machines();
-        let mut asked: u64 = 0;
+        let before = self.machine.steps();
         while !self.machine.is_idle() {
-            asked += 1;
-            let Ok(()) = row.step(&mut self.member, &mut self.machine, brake) else {
+            let Ok(()) = self.go_far(row, brake, steps) else {
+                let asked = self.machine.steps() - before + 1;
                 return Err(CallErr::Stopped { asked });
             };
-            steps.tick();
         }
         match self.machine.answer() {
             Some(Outcome::Spent { seq }) => Err(CallErr::Spent { seq }),

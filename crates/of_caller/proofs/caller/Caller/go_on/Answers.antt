@@ -1,74 +1,57 @@
-use Rattle.std.proofs.Common.{◌∙◌, arith, rules, le_trans}
-use Rattle.of_caller.specs.declared.caller.Caller.{Caller}
-use Rattle.of_caller.specs.Callers.{caller_call}
-use Rattle.of_caller.proofs.CallerSteps.{within_after, falls, goes}
-use Rattle.of_caller.proofs.CallSteps.{open_where}
-use Rattle.of_caller.proofs.BrakeCharges.{gave_more, gave_same, heard_from, asked_more, asked_none, asked_same, gave_none}
+use Rattle.std.proofs.Common.{◌∙◌, sym, subst, arith, rules, le_trans, ℕ, ◌+◌, ◌-◌}
+use Rattle.of_caller.specs.Brakes.{AskedFor, StopsWhenToldUsedUp}
+use Rattle.of_caller.proofs.Phases.{gone_none, told_stop, asked_is, asked_more_than, asked_fits}
+use Rattle.of_caller.proofs.BrakeCharges.{gave_same, asked_more, stopped_at, denied_same, risen_from}
 use Rattle.of_caller.proofs.caller.Caller.go_on.Goals as goal
 
-pub loop-asked-preserved : goal.loop-asked-preserved
-loop-asked-preserved g c =
-    let inv = c.loop-asked.invariant in
+pub loop-self-init : goal.loop-self-init
+loop-self-init g c = record {
+  caller = c.requires.caller;
+  gone = gone_none g.W.Work.meaning g.W.Work.lawful g.B.Brake.denials g.B.Brake.left g.B.Brake.answers g.B.Brake.asks c.args.row.now c.args.self.now c.args.brake.now c.args.steps.now (search rules);
+}
+
+pub overflow_sub-asked : goal.overflow_sub-asked
+overflow_sub-asked g c =
+    let q = c.in_default.ensures.denied c.args.self.now c.args.brake.now c.args.steps.now c.loop-self.invariant.gone in
+    asked_more_than g.W.Work.meaning g.W.Work.lawful g.B.Brake.denials g.B.Brake.left g.B.Brake.answers g.B.Brake.asks c.args.row.now c.args.self.now c.args.brake.now c.args.steps.now c.go_far.new.self c.go_far.new.brake c.go_far.new.steps c.steps.result c.steps-before.result q c.steps.ensures c.steps-before.ensures
+
+pub overflow_add-asked : goal.overflow_add-asked
+overflow_add-asked g c =
+    let q = c.in_default.ensures.denied c.args.self.now c.args.brake.now c.args.steps.now c.loop-self.invariant.gone in
     let row = c.args.row.now in
-    let before = c.loop-asked.self in
-    let now : Caller _ = record { member = c.step.new.member; machine = c.step.new.machine } in
-    let opened = open_where c.machines.ensures.idle_or_open (caller_call before) c.is_idle.result c.is_idle.ensures c.loop-asked-test.true in
-    let step = c.in-Ok.ensures.step in
-    record {
-      caller = record {
-        row = c.in-Ok.ensures.row;
-        machine = c.in-Ok.ensures.machine;
-        member = c.in-Ok.ensures.member;
-        within = within_after g.W.Work.meaning g.W.Work.lawful row before inv.caller opened now step;
-      };
-      progress = goes g.W.Work.meaning g.W.Work.lawful row before inv.caller opened now step _ _ _ inv.progress;
-      steps = omega (arith, inv.steps, c.tick.ensures);
-      denials = le_trans inv.denials c.in-Ok.ensures.denials;
-      answers = c.in-Ok.ensures.answers ∙ inv.answers;
-      asks =
-          let b0 = c.args.brake.now in let b1 = c.loop-asked.brake in let b2 = c.step.new.brake in
-          let asks0 = g.B.Brake.asks b0 in let asks1 = g.B.Brake.asks b1 in let asks2 = g.B.Brake.asks b2 in
-          asked_more asks0 asks1 asks2 c.loop-asked.asked inv.asks c.in-Ok.ensures.asks;
-      uses =
-          let b0 = c.args.brake.now in let b1 = c.loop-asked.brake in let b2 = c.step.new.brake in
-          let left0 = g.B.Brake.left b0 in let left1 = g.B.Brake.left b1 in let left2 = g.B.Brake.left b2 in
-          gave_more left0 left1 left2 c.loop-asked.asked inv.uses c.in-Ok.ensures.left;
-    }
+    omega (arith, asked_fits g.W.Work.meaning g.W.Work.lawful g.B.Brake.denials g.B.Brake.left g.B.Brake.answers g.B.Brake.asks c.args.row.now c.args.self.now c.args.brake.now c.args.steps.now c.go_far.new.self c.go_far.new.brake c.go_far.new.steps c.steps.result c.steps-before.result q c.steps.ensures (omega (arith, row.key.0, row.sizes.shape.few_callers)) (omega (arith, row.key.1, row.sizes.shape.few_cells)))
 
-pub loop-asked-smaller : goal.loop-asked-smaller
-loop-asked-smaller g c =
-    let inv = c.loop-asked.invariant in
-    let row = c.args.row.now in
-    let before = c.loop-asked.self in
-    let now : Caller _ = record { member = c.step.new.member; machine = c.step.new.machine } in
-    let opened = open_where c.machines.ensures.idle_or_open (caller_call before) c.is_idle.result c.is_idle.ensures c.loop-asked-test.true in
-    falls g.W.Work.meaning g.W.Work.lawful row before inv.caller opened now c.in-Ok.ensures.step c.machines.ensures.idle_or_open
+pub returns-in_default-clause-told : goal.returns-in_default-clause-told
+returns-in_default-clause-told g c =
+    let q = c.in_default.ensures.denied c.args.self.now c.args.brake.now c.args.steps.now c.loop-self.invariant.gone in
+    told_stop g.W.Work.meaning g.W.Work.lawful g.B.Brake.denials g.B.Brake.left g.B.Brake.answers g.B.Brake.asks c.args.row.now c.args.self.now c.args.brake.now c.args.steps.now c.go_far.new.self c.go_far.new.brake c.go_far.new.steps (c.steps.result - c.steps-before.result + 1) q (asked_is g.W.Work.meaning g.W.Work.lawful g.B.Brake.denials g.B.Brake.left g.B.Brake.answers g.B.Brake.asks c.args.row.now c.args.self.now c.args.brake.now c.args.steps.now c.go_far.new.self c.go_far.new.brake c.go_far.new.steps c.steps.result c.steps-before.result q c.steps.ensures c.steps-before.ensures)
 
-pub returns-in-Some-clause-left : goal.returns-in-Some-clause-left
-returns-in-Some-clause-left g c =
-    let inv = c.loop-asked.invariant in
-    (c.loop-asked.asked, inv.steps, gave_same _ _ _ _ inv.uses c.answered.ensures.left)
+pub returns-in_default-clause-denials : goal.returns-in_default-clause-denials
+returns-in_default-clause-denials g c =
+    let q = c.in_default.ensures.denied c.args.self.now c.args.brake.now c.args.steps.now c.loop-self.invariant.gone in
+    le_trans q.gone.denied q.denied
 
-pub returns-in-Some-clause-answers : goal.returns-in-Some-clause-answers
-returns-in-Some-clause-answers g c = heard_from _ _ _ c.loop-asked.invariant.answers c.answered.ensures.answers
+pub returns-in_default-clause-cause : goal.returns-in_default-clause-cause
+returns-in_default-clause-cause g c =
+    let q = c.in_default.ensures.denied c.args.self.now c.args.brake.now c.args.steps.now c.loop-self.invariant.gone in
+    λ _. risen_from _ _ _ q.gone.denied q.cause
 
-pub returns-in-Some-clause-asks : goal.returns-in-Some-clause-asks
-returns-in-Some-clause-asks g c =
-    let inv = c.loop-asked.invariant in
-    (c.loop-asked.asked, inv.steps, asked_same _ _ _ _ inv.asks c.answered.ensures.asks)
+pub returns-in_default-clause-stop : goal.returns-in_default-clause-stop
+returns-in_default-clause-stop g c =
+    let q = c.in_default.ensures.denied c.args.self.now c.args.brake.now c.args.steps.now c.loop-self.invariant.gone in
+    subst (λ (n : ℕ). StopsWhenToldUsedUp (g.B.Brake.left c.args.brake.now) n) (sym (asked_is g.W.Work.meaning g.W.Work.lawful g.B.Brake.denials g.B.Brake.left g.B.Brake.answers g.B.Brake.asks c.args.row.now c.args.self.now c.args.brake.now c.args.steps.now c.go_far.new.self c.go_far.new.brake c.go_far.new.steps c.steps.result c.steps-before.result q c.steps.ensures c.steps-before.ensures)) (stopped_at _ _ _ q.gone.count q.gone.uses q.charges)
+
+pub returns-in_default-clause-left : goal.returns-in_default-clause-left
+returns-in_default-clause-left g c =
+    let q = c.in_default.ensures.denied c.args.self.now c.args.brake.now c.args.steps.now c.loop-self.invariant.gone in
+    (q.gone.count, q.gone.steps, gave_same _ _ _ q.gone.count q.gone.uses (denied_same _ _ q.charges))
+
+pub returns-in_default-clause-answers : goal.returns-in_default-clause-answers
+returns-in_default-clause-answers g c =
+    let q = c.in_default.ensures.denied c.args.self.now c.args.brake.now c.args.steps.now c.loop-self.invariant.gone in
+    q.heard ∙ q.gone.heard
 
 pub returns-in_default-clause-asks : goal.returns-in_default-clause-asks
-returns-in_default-clause-asks g c = asked_more _ _ _ _ c.loop-asked.invariant.asks c.step.ensures.asks
-
-pub loop-asked-init : goal.loop-asked-init
-loop-asked-init g c =
-    let b = c.args.brake.now in
-    record {
-      caller = c.requires.caller;
-      progress = search rules;
-      steps = omega arith;
-      denials = omega arith;
-      uses = gave_none _;
-      asks = asked_none _;
-      answers = search rules;
-    }
+returns-in_default-clause-asks g c =
+    let q = c.in_default.ensures.denied c.args.self.now c.args.brake.now c.args.steps.now c.loop-self.invariant.gone in
+    subst (λ (n : ℕ). AskedFor (g.B.Brake.asks c.args.brake.now) (g.B.Brake.asks c.go_far.new.brake) n) (sym (asked_is g.W.Work.meaning g.W.Work.lawful g.B.Brake.denials g.B.Brake.left g.B.Brake.answers g.B.Brake.asks c.args.row.now c.args.self.now c.args.brake.now c.args.steps.now c.go_far.new.self c.go_far.new.brake c.go_far.new.steps c.steps.result c.steps-before.result q c.steps.ensures c.steps-before.ensures)) (asked_more _ _ _ q.gone.count q.gone.asked q.asked)

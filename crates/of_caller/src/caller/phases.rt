@@ -1,0 +1,298 @@
+//! The steps of a call, phase by phase. In each phase the next place is looked for where it mostly
+//! is. The compiler then knows the place of the step and makes a code of its own for it, so that few
+//! steps cost a jump by the place.
+
+ghost use Rattle.std.specs.Prelude.{◌≡◌, ◌<◌, ◌≤◌, OnOk, OnErr};
+ghost use Rattle.of_core.specs.Machine.{IsOpen};
+ghost use Rattle.of_core.specs.declared.place.Place.TheVariants.{LoadTarget};
+
+use super::Caller;
+use of_brake::{Brake, Steps};
+use of_core::Place;
+use of_mem::Work;
+use of_row::{Row, Stopped};
+use std::sync::ledger::Ledger;
+
+impl<W: Work> Caller<W> {
+    ghost use Rattle.of_caller.specs.Callers.{IsCaller, caller_call};
+    ghost use Rattle.of_caller.specs.Going.{LeadsOn, LeadsToDenial, steps_left};
+
+    /// Makes one step, from the machine's place, if the brake allows it.
+    #[inline(always)]
+    fn turn<L: Ledger, B: Brake>(
+        &mut self,
+        place: Place,
+        row: &Row<W>,
+        brake: &mut B,
+        steps: &mut Steps<L>,
+    ) -> Result<(), Stopped>
+        requires caller { IsCaller W.meaning row.now self.old }
+        requires here { place ≡ (caller_call self.old).place }
+        requires open { IsOpen place }
+        ensures caller { IsCaller W.meaning row.now self.new }
+        ensures goes { OnOk result (LeadsOn W.meaning W.lawful B.denials B.left B.answers B.asks
+            row.now self.old brake.old steps.old self.new brake.new steps.new) }
+        ensures denied { OnErr result (LeadsToDenial W.meaning W.lawful B.denials B.left B.answers
+            B.asks row.now self.old brake.old steps.old self.new brake.new steps.new) }
+        ensures falls { OnOk result (steps_left W.meaning self.new < steps_left W.meaning self.old) }
+    {
+        row.step_at(place, &mut self.member, &mut self.machine, brake)?;
+        steps.tick();
+        Ok(())
+    }
+
+    /// Makes a step of the open call, and then those after it, as far as the phases go.
+    #[inline(always)]
+    pub(super) fn go_far<L: Ledger, B: Brake>(
+        &mut self,
+        row: &Row<W>,
+        brake: &mut B,
+        steps: &mut Steps<L>,
+    ) -> Result<(), Stopped>
+        requires caller { IsCaller W.meaning row.now self.old }
+        requires open { IsOpen (caller_call self.old).place }
+        ensures caller { IsCaller W.meaning row.now self.new }
+        ensures goes { OnOk result (LeadsOn W.meaning W.lawful B.denials B.left B.answers B.asks
+            row.now self.old brake.old steps.old self.new brake.new steps.new) }
+        ensures denied { OnErr result (LeadsToDenial W.meaning W.lawful B.denials B.left B.answers
+            B.asks row.now self.old brake.old steps.old self.new brake.new steps.new) }
+        ensures falls { OnOk result
+            (steps_left W.meaning self.new < steps_left W.meaning self.old) }
+    {
+        let place = self.machine.place();
+        self.turn(place, row, brake, steps)?;
+        self.announce(row, brake, steps)?;
+        self.enter(row, brake, steps)?;
+        self.scan(row, brake, steps)?;
+        self.commit(row, brake, steps)?;
+        self.apply(row, brake, steps)?;
+        self.read(row, brake, steps)
+    }
+
+    /// Stores script words, and the announcement.
+    #[inline(always)]
+    fn announce<L: Ledger, B: Brake>(
+        &mut self,
+        row: &Row<W>,
+        brake: &mut B,
+        steps: &mut Steps<L>,
+    ) -> Result<(), Stopped>
+        requires caller { IsCaller W.meaning row.now self.old }
+        ensures caller { IsCaller W.meaning row.now self.new }
+        ensures goes { OnOk result (LeadsOn W.meaning W.lawful B.denials B.left B.answers B.asks
+            row.now self.old brake.old steps.old self.new brake.new steps.new) }
+        ensures denied { OnErr result (LeadsToDenial W.meaning W.lawful B.denials B.left B.answers
+            B.asks row.now self.old brake.old steps.old self.new brake.new steps.new) }
+        ensures falls { OnOk result
+            (steps_left W.meaning self.new ≤ steps_left W.meaning self.old) }
+    {
+        while let Place::StoreScript(at) = self.machine.place() {
+            self.turn(Place::StoreScript(at), row, brake, steps)?;
+        }
+        let Place::StoreAnnouncement = self.machine.place() else {
+            return Ok(());
+        };
+        self.turn(Place::StoreAnnouncement, row, brake, steps)
+    }
+
+    /// Begins a round.
+    #[inline(always)]
+    fn enter<L: Ledger, B: Brake>(
+        &mut self,
+        row: &Row<W>,
+        brake: &mut B,
+        steps: &mut Steps<L>,
+    ) -> Result<(), Stopped>
+        requires caller { IsCaller W.meaning row.now self.old }
+        ensures caller { IsCaller W.meaning row.now self.new }
+        ensures goes { OnOk result (LeadsOn W.meaning W.lawful B.denials B.left B.answers B.asks
+            row.now self.old brake.old steps.old self.new brake.new steps.new) }
+        ensures denied { OnErr result (LeadsToDenial W.meaning W.lawful B.denials B.left B.answers
+            B.asks row.now self.old brake.old steps.old self.new brake.new steps.new) }
+        ensures falls { OnOk result
+            (steps_left W.meaning self.new ≤ steps_left W.meaning self.old) }
+    {
+        let Place::LoadCurrent = self.machine.place() else {
+            return Ok(());
+        };
+        self.turn(Place::LoadCurrent, row, brake, steps)?;
+        let Place::LoadRequest = self.machine.place() else {
+            return Ok(());
+        };
+        self.turn(Place::LoadRequest, row, brake, steps)?;
+        let Place::LoadOwnTicket = self.machine.place() else {
+            return Ok(());
+        };
+        self.turn(Place::LoadOwnTicket, row, brake, steps)
+    }
+
+    /// Loads an announcement, its script, and cells.
+    #[inline(always)]
+    fn scan<L: Ledger, B: Brake>(
+        &mut self,
+        row: &Row<W>,
+        brake: &mut B,
+        steps: &mut Steps<L>,
+    ) -> Result<(), Stopped>
+        requires caller { IsCaller W.meaning row.now self.old }
+        ensures caller { IsCaller W.meaning row.now self.new }
+        ensures goes { OnOk result (LeadsOn W.meaning W.lawful B.denials B.left B.answers B.asks
+            row.now self.old brake.old steps.old self.new brake.new steps.new) }
+        ensures denied { OnErr result (LeadsToDenial W.meaning W.lawful B.denials B.left B.answers
+            B.asks row.now self.old brake.old steps.old self.new brake.new steps.new) }
+        ensures falls { OnOk result
+            (steps_left W.meaning self.new ≤ steps_left W.meaning self.old) }
+    {
+        let Place::LoadAnnouncement = self.machine.place() else {
+            return Ok(());
+        };
+        self.turn(Place::LoadAnnouncement, row, brake, steps)?;
+        while let Place::LoadScript(at) = self.machine.place() {
+            self.turn(Place::LoadScript(at), row, brake, steps)?;
+        }
+        while let Place::LoadCell(addr) = self.machine.place() {
+            self.turn(Place::LoadCell(addr), row, brake, steps)?;
+        }
+        Ok(())
+    }
+
+    /// Stores the log and the request, and exchanges the current-transaction word.
+    #[inline(always)]
+    fn commit<L: Ledger, B: Brake>(
+        &mut self,
+        row: &Row<W>,
+        brake: &mut B,
+        steps: &mut Steps<L>,
+    ) -> Result<(), Stopped>
+        requires caller { IsCaller W.meaning row.now self.old }
+        ensures caller { IsCaller W.meaning row.now self.new }
+        ensures goes { OnOk result (LeadsOn W.meaning W.lawful B.denials B.left B.answers B.asks
+            row.now self.old brake.old steps.old self.new brake.new steps.new) }
+        ensures denied { OnErr result (LeadsToDenial W.meaning W.lawful B.denials B.left B.answers
+            B.asks row.now self.old brake.old steps.old self.new brake.new steps.new) }
+        ensures falls { OnOk result
+            (steps_left W.meaning self.new ≤ steps_left W.meaning self.old) }
+    {
+        let Place::RaiseOld = self.machine.place() else {
+            return Ok(());
+        };
+        self.turn(Place::RaiseOld, row, brake, steps)?;
+        while let Place::StoreLog(at) = self.machine.place() {
+            self.turn(Place::StoreLog(at), row, brake, steps)?;
+            let Place::RaiseLog(at) = self.machine.place() else {
+                return Ok(());
+            };
+            self.turn(Place::RaiseLog(at), row, brake, steps)?;
+        }
+        let Place::StoreRequest = self.machine.place() else {
+            return Ok(());
+        };
+        self.turn(Place::StoreRequest, row, brake, steps)?;
+        let Place::RaiseRequest = self.machine.place() else {
+            return Ok(());
+        };
+        self.turn(Place::RaiseRequest, row, brake, steps)?;
+        let Place::ExchangeCurrent = self.machine.place() else {
+            return Ok(());
+        };
+        self.turn(Place::ExchangeCurrent, row, brake, steps)
+    }
+
+    /// Applies the log, and closes the request.
+    #[inline(always)]
+    fn apply<L: Ledger, B: Brake>(
+        &mut self,
+        row: &Row<W>,
+        brake: &mut B,
+        steps: &mut Steps<L>,
+    ) -> Result<(), Stopped>
+        requires caller { IsCaller W.meaning row.now self.old }
+        ensures caller { IsCaller W.meaning row.now self.new }
+        ensures goes { OnOk result (LeadsOn W.meaning W.lawful B.denials B.left B.answers B.asks
+            row.now self.old brake.old steps.old self.new brake.new steps.new) }
+        ensures denied { OnErr result (LeadsToDenial W.meaning W.lawful B.denials B.left B.answers
+            B.asks row.now self.old brake.old steps.old self.new brake.new steps.new) }
+        ensures falls { OnOk result
+            (steps_left W.meaning self.new ≤ steps_left W.meaning self.old) }
+    {
+        let Place::RaiseCurrent = self.machine.place() else {
+            return Ok(());
+        };
+        self.turn(Place::RaiseCurrent, row, brake, steps)?;
+        while let Place::LoadTarget(entry) = self.machine.place() {
+            self.bring(entry, row, brake, steps)?;
+        }
+        let Place::CloseRequest = self.machine.place() else {
+            return Ok(());
+        };
+        self.turn(Place::CloseRequest, row, brake, steps)?;
+        let Place::RaiseClosed = self.machine.place() else {
+            return Ok(());
+        };
+        self.turn(Place::RaiseClosed, row, brake, steps)
+    }
+
+    /// Applies an entry of the log.
+    #[inline(always)]
+    fn bring<L: Ledger, B: Brake>(
+        &mut self,
+        entry: u32,
+        row: &Row<W>,
+        brake: &mut B,
+        steps: &mut Steps<L>,
+    ) -> Result<(), Stopped>
+        requires caller { IsCaller W.meaning row.now self.old }
+        requires here { LoadTarget entry ≡ (caller_call self.old).place }
+        ensures caller { IsCaller W.meaning row.now self.new }
+        ensures goes { OnOk result (LeadsOn W.meaning W.lawful B.denials B.left B.answers B.asks
+            row.now self.old brake.old steps.old self.new brake.new steps.new) }
+        ensures denied { OnErr result (LeadsToDenial W.meaning W.lawful B.denials B.left B.answers
+            B.asks row.now self.old brake.old steps.old self.new brake.new steps.new) }
+        ensures falls { OnOk result
+            (steps_left W.meaning self.new < steps_left W.meaning self.old) }
+    {
+        self.turn(Place::LoadTarget(entry), row, brake, steps)?;
+        if let Place::RaiseTarget(entry, found) = self.machine.place() {
+            return self.turn(Place::RaiseTarget(entry, found), row, brake, steps);
+        }
+        let Place::ExchangeTarget(entry, found) = self.machine.place() else {
+            return Ok(());
+        };
+        self.turn(Place::ExchangeTarget(entry, found), row, brake, steps)?;
+        let Place::ReloadTarget(entry) = self.machine.place() else {
+            return Ok(());
+        };
+        self.turn(Place::ReloadTarget(entry), row, brake, steps)?;
+        let Place::RaiseTarget(entry, found) = self.machine.place() else {
+            return Ok(());
+        };
+        self.turn(Place::RaiseTarget(entry, found), row, brake, steps)
+    }
+
+    /// Goes on with a try.
+    #[inline(always)]
+    fn read<L: Ledger, B: Brake>(
+        &mut self,
+        row: &Row<W>,
+        brake: &mut B,
+        steps: &mut Steps<L>,
+    ) -> Result<(), Stopped>
+        requires caller { IsCaller W.meaning row.now self.old }
+        ensures caller { IsCaller W.meaning row.now self.new }
+        ensures goes { OnOk result (LeadsOn W.meaning W.lawful B.denials B.left B.answers B.asks
+            row.now self.old brake.old steps.old self.new brake.new steps.new) }
+        ensures denied { OnErr result (LeadsToDenial W.meaning W.lawful B.denials B.left B.answers
+            B.asks row.now self.old brake.old steps.old self.new brake.new steps.new) }
+        ensures falls { OnOk result
+            (steps_left W.meaning self.new ≤ steps_left W.meaning self.old) }
+    {
+        let Place::TryRequest = self.machine.place() else {
+            return Ok(());
+        };
+        self.turn(Place::TryRequest, row, brake, steps)?;
+        while let Place::TryCell(addr) = self.machine.place() {
+            self.turn(Place::TryCell(addr), row, brake, steps)?;
+        }
+        Ok(())
+    }
+}
