@@ -1,6 +1,6 @@
 -- What asks take off the steps of a brake, one after the other.
 use Rattle.std.proofs.Common.{◌≡◌, ℕ, ◌+◌, ◌≤◌, true, false, Option, Some, None, refl, sym, ap, ◌∙◌, suc, subst, arith}
-use Rattle.of_brake.specs.Stops.{HasRisen, ChargesAsk, ChargesAskFrom, HasHeardAnswer, Asked, saturating_next}
+use Rattle.of_brake.specs.Stops.{HasRisen, ChargesAsk, ChargesAskFrom, HasHeardAnswer, Asked}
 use Rattle.of_caller.specs.Brakes.{TakesSteps, TakesStepsFrom, StopsWhenUsedUp, StopsWhenToldUsedUp, AskedFor, later}
 
 gave_of_more : (a b c : Option ℕ) (n : ℕ) → TakesStepsFrom a b n → ChargesAskFrom b c true → TakesStepsFrom a c (n + 1)

@@ -1,6 +1,6 @@
 -- What the steps of a call come to: each step leads from what is told of a call on its way to what is told behind it.
 use Rattle.std.proofs.Common.{◌≡◌, ◌↔◌, IsTrue, ℕ, zero, suc, ◌+◌, ◌-◌, ◌<◌, ◌≤◌, inl, inr, Bool, true, false, List, [], ◌∷◌, ◌++◌, length, Option, Some, refl, sym, ap, ◌∙◌, subst, arith}
-use mathlib.Core.List.{append-nil, IsPrefix}
+use mathlib.Core.List.{append-nil}
 use Rattle.of_mem.proofs.Lists.{prefix_trans}
 use Rattle.of_core.specs.declared.place.Outcome.{Outcome}
 use Rattle.of_core.specs.Table.{Setup}
@@ -16,7 +16,7 @@ use Rattle.of_row.specs.Views.{EndedCall, KnownCaller, View, seen_seq, seen_hist
 use Rattle.of_row.specs.Told.{operations_known}
 use Rattle.of_row.specs.Rule.{CallHasEnded}
 use Rattle.of_row.specs.Turned.{MakesStep, IsMeantReply, TellsSteps, since_by, since_after, ended_call_if, ended_call_of_step, ended_call_of_answer, known_after_step}
-use Rattle.of_caller.specs.CallsTold.{HasEndedWith, IsStillOpen, TellsStepsMade}
+use Rattle.of_caller.specs.CallsTold.{HasEndedWith, IsStillOpen}
 use Rattle.of_caller.specs.Going.{Progress, left_by, left_of}
 use Rattle.of_caller.proofs.SpentSteps.{spent_exactly}
 
