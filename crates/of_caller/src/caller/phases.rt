@@ -126,7 +126,7 @@ impl<W: Work> Caller<W> {
         self.turn(Place::LoadOwnTicket, row, brake, steps)
     }
 
-    /// Loads an announcement, its script, and cells.
+    /// Looks at announcements up to one that is new, runs its call, and looks at those after it.
     #[inline(always)]
     fn scan<L: Ledger, B: Brake>(
         &mut self,
@@ -143,17 +143,44 @@ impl<W: Work> Caller<W> {
         ensures falls { OnOk result
             (steps_left W.meaning self.new ≤ steps_left W.meaning self.old) }
     {
-        let Place::LoadAnnouncement = self.machine.place() else {
-            return Ok(());
-        };
-        self.turn(Place::LoadAnnouncement, row, brake, steps)?;
+        while let Place::LoadAnnouncement = self.machine.place() {
+            self.look(row, brake, steps)?;
+        }
         while let Place::LoadScript(at) = self.machine.place() {
             self.turn(Place::LoadScript(at), row, brake, steps)?;
         }
         while let Place::LoadCell(addr) = self.machine.place() {
             self.turn(Place::LoadCell(addr), row, brake, steps)?;
         }
+        while let Place::LoadAnnouncement = self.machine.place() {
+            self.look(row, brake, steps)?;
+        }
         Ok(())
+    }
+
+    /// Looks at the announcement of one caller.
+    #[inline(always)]
+    fn look<L: Ledger, B: Brake>(
+        &mut self,
+        row: &Row<W>,
+        brake: &mut B,
+        steps: &mut Steps<L>,
+    ) -> Result<(), Stopped>
+        requires caller { IsCaller W.meaning row.now self.old }
+        requires here { Place.LoadAnnouncement ≡ (caller_call self.old).place }
+        ensures caller { IsCaller W.meaning row.now self.new }
+        ensures goes { OnOk result (LeadsOn W.meaning W.lawful B.denials B.left B.answers B.asks
+            row.now self.old brake.old steps.old self.new brake.new steps.new) }
+        ensures denied { OnErr result (LeadsToDenial W.meaning W.lawful B.denials B.left B.answers
+            B.asks row.now self.old brake.old steps.old self.new brake.new steps.new) }
+        ensures falls { OnOk result
+            (steps_left W.meaning self.new < steps_left W.meaning self.old) }
+    {
+        self.turn(Place::LoadAnnouncement, row, brake, steps)?;
+        let Place::LoadTicket = self.machine.place() else {
+            return Ok(());
+        };
+        self.turn(Place::LoadTicket, row, brake, steps)
     }
 
     /// Stores the log and the request, and exchanges the current-transaction word.

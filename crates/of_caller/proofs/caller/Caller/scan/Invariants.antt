@@ -3,6 +3,16 @@ use Rattle.of_caller.specs.Callers.{IsCaller}
 use Rattle.of_caller.specs.Going.{LeadsOn, steps_left}
 use Rattle.of_caller.proofs.caller.Caller.scan.Given as goal
 
+abbrev pub decreases-loop-self : goal.decreases-loop-self
+decreases-loop-self g l = steps_left g.W.Work.meaning l.self
+
+abbrev pub invariant-loop-self : goal.invariant-loop-self
+invariant-loop-self g l = record {
+  caller : IsCaller g.W.Work.meaning l.row l.self;
+  goes : LeadsOn g.W.Work.meaning g.W.Work.lawful g.B.Brake.denials g.B.Brake.left g.B.Brake.answers g.B.Brake.asks l.row l.fn.self l.fn.brake l.fn.steps l.self l.brake l.steps;
+  falls : steps_left g.W.Work.meaning l.self ≤ steps_left g.W.Work.meaning l.fn.self;
+}
+
 abbrev pub decreases-loop-at : goal.decreases-loop-at
 decreases-loop-at g l = steps_left g.W.Work.meaning l.self
 
@@ -18,6 +28,16 @@ decreases-loop-addr g l = steps_left g.W.Work.meaning l.self
 
 abbrev pub invariant-loop-addr : goal.invariant-loop-addr
 invariant-loop-addr g l = record {
+  caller : IsCaller g.W.Work.meaning l.row l.self;
+  goes : LeadsOn g.W.Work.meaning g.W.Work.lawful g.B.Brake.denials g.B.Brake.left g.B.Brake.answers g.B.Brake.asks l.row l.fn.self l.fn.brake l.fn.steps l.self l.brake l.steps;
+  falls : steps_left g.W.Work.meaning l.self ≤ steps_left g.W.Work.meaning l.fn.self;
+}
+
+abbrev pub decreases-loop-self-2 : goal.decreases-loop-self-2
+decreases-loop-self-2 g l = steps_left g.W.Work.meaning l.self
+
+abbrev pub invariant-loop-self-2 : goal.invariant-loop-self-2
+invariant-loop-self-2 g l = record {
   caller : IsCaller g.W.Work.meaning l.row l.self;
   goes : LeadsOn g.W.Work.meaning g.W.Work.lawful g.B.Brake.denials g.B.Brake.left g.B.Brake.answers g.B.Brake.asks l.row l.fn.self l.fn.brake l.fn.steps l.self l.brake l.steps;
   falls : steps_left g.W.Work.meaning l.self ≤ steps_left g.W.Work.meaning l.fn.self;
