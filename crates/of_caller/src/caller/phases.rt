@@ -63,6 +63,8 @@ impl<W: Work> Caller<W> {
         self.turn(place, row, brake, steps)?;
         self.announce(row, brake, steps)?;
         self.enter(row, brake, steps)?;
+        self.copy(row, brake, steps)?;
+        self.load_reply(row, brake, steps)?;
         self.scan(row, brake, steps)?;
         self.commit(row, brake, steps)?;
         self.apply(row, brake, steps)?;
@@ -124,6 +126,59 @@ impl<W: Work> Caller<W> {
             return Ok(());
         };
         self.turn(Place::LoadOwnTicket, row, brake, steps)
+    }
+
+    /// Copies the log of an open transaction, and looks whether it is still open.
+    #[inline(always)]
+    fn copy<L: Ledger, B: Brake>(
+        &mut self,
+        row: &Row<W>,
+        brake: &mut B,
+        steps: &mut Steps<L>,
+    ) -> Result<(), Stopped>
+        requires caller { IsCaller W.meaning row.now self.old }
+        ensures caller { IsCaller W.meaning row.now self.new }
+        ensures goes { OnOk result (LeadsOn W.meaning W.lawful B.denials B.left B.answers B.asks
+            row.now self.old brake.old steps.old self.new brake.new steps.new) }
+        ensures denied { OnErr result (LeadsToDenial W.meaning W.lawful B.denials B.left B.answers
+            B.asks row.now self.old brake.old steps.old self.new brake.new steps.new) }
+        ensures falls { OnOk result
+            (steps_left W.meaning self.new ≤ steps_left W.meaning self.old) }
+    {
+        while let Place::CopyLog(at) = self.machine.place() {
+            self.turn(Place::CopyLog(at), row, brake, steps)?;
+        }
+        let Place::LookAgain = self.machine.place() else {
+            return Ok(());
+        };
+        self.turn(Place::LookAgain, row, brake, steps)
+    }
+
+    /// Loads the reply of a call that was run.
+    #[inline(always)]
+    fn load_reply<L: Ledger, B: Brake>(
+        &mut self,
+        row: &Row<W>,
+        brake: &mut B,
+        steps: &mut Steps<L>,
+    ) -> Result<(), Stopped>
+        requires caller { IsCaller W.meaning row.now self.old }
+        ensures caller { IsCaller W.meaning row.now self.new }
+        ensures goes { OnOk result (LeadsOn W.meaning W.lawful B.denials B.left B.answers B.asks
+            row.now self.old brake.old steps.old self.new brake.new steps.new) }
+        ensures denied { OnErr result (LeadsToDenial W.meaning W.lawful B.denials B.left B.answers
+            B.asks row.now self.old brake.old steps.old self.new brake.new steps.new) }
+        ensures falls { OnOk result
+            (steps_left W.meaning self.new ≤ steps_left W.meaning self.old) }
+    {
+        let Place::LoadShape = self.machine.place() else {
+            return Ok(());
+        };
+        self.turn(Place::LoadShape, row, brake, steps)?;
+        while let Place::LoadReply(at) = self.machine.place() {
+            self.turn(Place::LoadReply(at), row, brake, steps)?;
+        }
+        Ok(())
     }
 
     /// Looks at announcements up to one that is new, runs its call, and looks at those after it.
