@@ -4,7 +4,7 @@
 
 ghost use Rattle.std.specs.Prelude.{◌≡◌, ◌<◌, ◌≤◌, OnOk, OnErr};
 ghost use Rattle.of_core.specs.Machine.{IsOpen};
-ghost use Rattle.of_core.specs.declared.place.Place.TheVariants.{LoadTarget};
+ghost use Rattle.of_core.specs.declared.place.Place.TheVariants.{CopyLog, LoadTarget};
 
 use super::Caller;
 use of_brake::{Brake, Steps};
@@ -59,19 +59,25 @@ impl<W: Work> Caller<W> {
         ensures falls { OnOk result
             (steps_left W.meaning self.new < steps_left W.meaning self.old) }
     {
+        if let Place::TryCurrent = self.machine.place() {
+            return self.read(row, brake, steps);
+        }
+        if let Place::CopyLog(at) = self.machine.place() {
+            return self.copy(at, row, brake, steps);
+        }
+        if let Place::LoadShape = self.machine.place() {
+            return self.load_reply(row, brake, steps);
+        }
         let place = self.machine.place();
         self.turn(place, row, brake, steps)?;
         self.announce(row, brake, steps)?;
         self.enter(row, brake, steps)?;
-        self.copy(row, brake, steps)?;
-        self.load_reply(row, brake, steps)?;
         self.scan(row, brake, steps)?;
         self.commit(row, brake, steps)?;
-        self.apply(row, brake, steps)?;
-        self.read(row, brake, steps)
+        self.apply(row, brake, steps)
     }
 
-    /// Stores script words, and the announcement.
+    /// Stores script words and the announcement, and begins the first round.
     #[inline(always)]
     fn announce<L: Ledger, B: Brake>(
         &mut self,
@@ -94,10 +100,14 @@ impl<W: Work> Caller<W> {
         let Place::StoreAnnouncement = self.machine.place() else {
             return Ok(());
         };
-        self.turn(Place::StoreAnnouncement, row, brake, steps)
+        self.turn(Place::StoreAnnouncement, row, brake, steps)?;
+        let Place::LoadCurrent = self.machine.place() else {
+            return Ok(());
+        };
+        self.turn(Place::LoadCurrent, row, brake, steps)
     }
 
-    /// Begins a round.
+    /// Loads what a round looks at before its scan.
     #[inline(always)]
     fn enter<L: Ledger, B: Brake>(
         &mut self,
@@ -114,10 +124,6 @@ impl<W: Work> Caller<W> {
         ensures falls { OnOk result
             (steps_left W.meaning self.new ≤ steps_left W.meaning self.old) }
     {
-        let Place::LoadCurrent = self.machine.place() else {
-            return Ok(());
-        };
-        self.turn(Place::LoadCurrent, row, brake, steps)?;
         let Place::LoadRequest = self.machine.place() else {
             return Ok(());
         };
@@ -132,19 +138,22 @@ impl<W: Work> Caller<W> {
     #[inline(always)]
     fn copy<L: Ledger, B: Brake>(
         &mut self,
+        at: u32,
         row: &Row<W>,
         brake: &mut B,
         steps: &mut Steps<L>,
     ) -> Result<(), Stopped>
         requires caller { IsCaller W.meaning row.now self.old }
+        requires here { CopyLog at ≡ (caller_call self.old).place }
         ensures caller { IsCaller W.meaning row.now self.new }
         ensures goes { OnOk result (LeadsOn W.meaning W.lawful B.denials B.left B.answers B.asks
             row.now self.old brake.old steps.old self.new brake.new steps.new) }
         ensures denied { OnErr result (LeadsToDenial W.meaning W.lawful B.denials B.left B.answers
             B.asks row.now self.old brake.old steps.old self.new brake.new steps.new) }
         ensures falls { OnOk result
-            (steps_left W.meaning self.new ≤ steps_left W.meaning self.old) }
+            (steps_left W.meaning self.new < steps_left W.meaning self.old) }
     {
+        self.turn(Place::CopyLog(at), row, brake, steps)?;
         while let Place::CopyLog(at) = self.machine.place() {
             self.turn(Place::CopyLog(at), row, brake, steps)?;
         }
@@ -163,17 +172,15 @@ impl<W: Work> Caller<W> {
         steps: &mut Steps<L>,
     ) -> Result<(), Stopped>
         requires caller { IsCaller W.meaning row.now self.old }
+        requires here { Place.LoadShape ≡ (caller_call self.old).place }
         ensures caller { IsCaller W.meaning row.now self.new }
         ensures goes { OnOk result (LeadsOn W.meaning W.lawful B.denials B.left B.answers B.asks
             row.now self.old brake.old steps.old self.new brake.new steps.new) }
         ensures denied { OnErr result (LeadsToDenial W.meaning W.lawful B.denials B.left B.answers
             B.asks row.now self.old brake.old steps.old self.new brake.new steps.new) }
         ensures falls { OnOk result
-            (steps_left W.meaning self.new ≤ steps_left W.meaning self.old) }
+            (steps_left W.meaning self.new < steps_left W.meaning self.old) }
     {
-        let Place::LoadShape = self.machine.place() else {
-            return Ok(());
-        };
         self.turn(Place::LoadShape, row, brake, steps)?;
         while let Place::LoadReply(at) = self.machine.place() {
             self.turn(Place::LoadReply(at), row, brake, steps)?;
@@ -238,7 +245,7 @@ impl<W: Work> Caller<W> {
         self.turn(Place::LoadTicket, row, brake, steps)
     }
 
-    /// Stores the log and the request, and exchanges the current-transaction word.
+    /// Stores the log and the request, commits, and begins to apply.
     #[inline(always)]
     fn commit<L: Ledger, B: Brake>(
         &mut self,
@@ -277,7 +284,11 @@ impl<W: Work> Caller<W> {
         let Place::ExchangeCurrent = self.machine.place() else {
             return Ok(());
         };
-        self.turn(Place::ExchangeCurrent, row, brake, steps)
+        self.turn(Place::ExchangeCurrent, row, brake, steps)?;
+        let Place::RaiseCurrent = self.machine.place() else {
+            return Ok(());
+        };
+        self.turn(Place::RaiseCurrent, row, brake, steps)
     }
 
     /// Applies the log, and closes the request.
@@ -297,10 +308,6 @@ impl<W: Work> Caller<W> {
         ensures falls { OnOk result
             (steps_left W.meaning self.new ≤ steps_left W.meaning self.old) }
     {
-        let Place::RaiseCurrent = self.machine.place() else {
-            return Ok(());
-        };
-        self.turn(Place::RaiseCurrent, row, brake, steps)?;
         while let Place::LoadTarget(entry) = self.machine.place() {
             self.bring(entry, row, brake, steps)?;
         }
@@ -351,7 +358,7 @@ impl<W: Work> Caller<W> {
         self.turn(Place::RaiseTarget(entry, found), row, brake, steps)
     }
 
-    /// Goes on with a try.
+    /// Tries a read.
     #[inline(always)]
     fn read<L: Ledger, B: Brake>(
         &mut self,
@@ -360,14 +367,16 @@ impl<W: Work> Caller<W> {
         steps: &mut Steps<L>,
     ) -> Result<(), Stopped>
         requires caller { IsCaller W.meaning row.now self.old }
+        requires here { Place.TryCurrent ≡ (caller_call self.old).place }
         ensures caller { IsCaller W.meaning row.now self.new }
         ensures goes { OnOk result (LeadsOn W.meaning W.lawful B.denials B.left B.answers B.asks
             row.now self.old brake.old steps.old self.new brake.new steps.new) }
         ensures denied { OnErr result (LeadsToDenial W.meaning W.lawful B.denials B.left B.answers
             B.asks row.now self.old brake.old steps.old self.new brake.new steps.new) }
         ensures falls { OnOk result
-            (steps_left W.meaning self.new ≤ steps_left W.meaning self.old) }
+            (steps_left W.meaning self.new < steps_left W.meaning self.old) }
     {
+        self.turn(Place::TryCurrent, row, brake, steps)?;
         let Place::TryRequest = self.machine.place() else {
             return Ok(());
         };

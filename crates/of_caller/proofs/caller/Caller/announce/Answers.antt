@@ -1,9 +1,15 @@
-use Rattle.std.proofs.Common.{arith}
+use Rattle.std.proofs.Common.{arith, rules}
 use Rattle.of_caller.proofs.Phases.{on_err, ok_then, err_then}
 use Rattle.of_caller.proofs.caller.Caller.announce.Goals as goal
 
 pub returns-in_err-turn-clause-denied : goal.returns-in_err-turn-clause-denied
 returns-in_err-turn-clause-denied g c = on_err c.from_residual.result _ (λ c0 b0 s0 h. c.in_err-turn.ensures.denied c0 b0 s0 (c.loop-at.invariant.goes c0 b0 s0 h))
 
+pub returns-in_err-turn-2 : goal.returns-in_err-turn-2
+returns-in_err-turn-2 g c = record { caller = c.in_err-turn-2.ensures.caller; goes = search rules; denied = on_err c.from_residual-in_err-turn-2.result _ (λ c0 b0 s0 h. c.in_err-turn-2.ensures.denied c0 b0 s0 (c.loop-at.invariant.goes c0 b0 s0 h)); falls = search rules }
+
+pub returns-in_default-place-2 : goal.returns-in_default-place-2
+returns-in_default-place-2 g c = record { caller = c.in_ok-turn-2.ensures.caller; goes = λ c0 b0 s0 h. c.in_ok-turn-2.ensures.goes c0 b0 s0 (c.loop-at.invariant.goes c0 b0 s0 h); denied = tt; falls = omega (arith, c.loop-at.invariant.falls, c.in_ok-turn-2.ensures.falls) }
+
 pub returns : goal.returns
-returns g c = record { caller = c.turn-2.ensures.caller; goes = ok_then c.turn-2.result _ _ c.turn-2.ensures.goes (λ q c0 b0 s0 h. q c0 b0 s0 (c.loop-at.invariant.goes c0 b0 s0 h)); denied = err_then c.turn-2.result _ _ c.turn-2.ensures.denied (λ q c0 b0 s0 h. q c0 b0 s0 (c.loop-at.invariant.goes c0 b0 s0 h)); falls = ok_then c.turn-2.result _ _ c.turn-2.ensures.falls (λ q. omega (arith, q, c.loop-at.invariant.falls)) }
+returns g c = record { caller = c.turn-3.ensures.caller; goes = ok_then c.turn-3.result _ _ c.turn-3.ensures.goes (λ q c0 b0 s0 h. q c0 b0 s0 (c.in_ok-turn-2.ensures.goes c0 b0 s0 (c.loop-at.invariant.goes c0 b0 s0 h))); denied = err_then c.turn-3.result _ _ c.turn-3.ensures.denied (λ q c0 b0 s0 h. q c0 b0 s0 (c.in_ok-turn-2.ensures.goes c0 b0 s0 (c.loop-at.invariant.goes c0 b0 s0 h))); falls = ok_then c.turn-3.result _ _ c.turn-3.ensures.falls (λ q. omega (arith, q, c.loop-at.invariant.falls, c.in_ok-turn-2.ensures.falls)) }

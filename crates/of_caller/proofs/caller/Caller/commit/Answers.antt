@@ -26,5 +26,11 @@ returns-in_err-turn-5 g c = record { caller = c.in_err-turn-5.ensures.caller; go
 pub returns-in_default-place-5 : goal.returns-in_default-place-5
 returns-in_default-place-5 g c = record { caller = c.in_ok-turn-5.ensures.caller; goes = λ c0 b0 s0 h. c.in_ok-turn-5.ensures.goes c0 b0 s0 (c.in_ok-turn-4.ensures.goes c0 b0 s0 (c.loop-at.invariant.goes c0 b0 s0 h)); denied = tt; falls = omega (arith, c.loop-at.invariant.falls, c.in_ok-turn-4.ensures.falls, c.in_ok-turn-5.ensures.falls) }
 
+pub returns-in_err-turn-6 : goal.returns-in_err-turn-6
+returns-in_err-turn-6 g c = record { caller = c.in_err-turn-6.ensures.caller; goes = search rules; denied = on_err c.from_residual-in_err-turn-6.result _ (λ c0 b0 s0 h. c.in_err-turn-6.ensures.denied c0 b0 s0 (c.in_ok-turn-5.ensures.goes c0 b0 s0 (c.in_ok-turn-4.ensures.goes c0 b0 s0 (c.loop-at.invariant.goes c0 b0 s0 h)))); falls = search rules }
+
+pub returns-in_default-place-6 : goal.returns-in_default-place-6
+returns-in_default-place-6 g c = record { caller = c.in_ok-turn-6.ensures.caller; goes = λ c0 b0 s0 h. c.in_ok-turn-6.ensures.goes c0 b0 s0 (c.in_ok-turn-5.ensures.goes c0 b0 s0 (c.in_ok-turn-4.ensures.goes c0 b0 s0 (c.loop-at.invariant.goes c0 b0 s0 h))); denied = tt; falls = omega (arith, c.loop-at.invariant.falls, c.in_ok-turn-4.ensures.falls, c.in_ok-turn-5.ensures.falls, c.in_ok-turn-6.ensures.falls) }
+
 pub returns : goal.returns
-returns g c = record { caller = c.turn-4.ensures.caller; goes = ok_then c.turn-4.result _ _ c.turn-4.ensures.goes (λ q c0 b0 s0 h. q c0 b0 s0 (c.in_ok-turn-5.ensures.goes c0 b0 s0 (c.in_ok-turn-4.ensures.goes c0 b0 s0 (c.loop-at.invariant.goes c0 b0 s0 h)))); denied = err_then c.turn-4.result _ _ c.turn-4.ensures.denied (λ q c0 b0 s0 h. q c0 b0 s0 (c.in_ok-turn-5.ensures.goes c0 b0 s0 (c.in_ok-turn-4.ensures.goes c0 b0 s0 (c.loop-at.invariant.goes c0 b0 s0 h)))); falls = ok_then c.turn-4.result _ _ c.turn-4.ensures.falls (λ q. omega (arith, q, c.loop-at.invariant.falls, c.in_ok-turn-4.ensures.falls, c.in_ok-turn-5.ensures.falls)) }
+returns g c = record { caller = c.turn-5.ensures.caller; goes = ok_then c.turn-5.result _ _ c.turn-5.ensures.goes (λ q c0 b0 s0 h. q c0 b0 s0 (c.in_ok-turn-6.ensures.goes c0 b0 s0 (c.in_ok-turn-5.ensures.goes c0 b0 s0 (c.in_ok-turn-4.ensures.goes c0 b0 s0 (c.loop-at.invariant.goes c0 b0 s0 h))))); denied = err_then c.turn-5.result _ _ c.turn-5.ensures.denied (λ q c0 b0 s0 h. q c0 b0 s0 (c.in_ok-turn-6.ensures.goes c0 b0 s0 (c.in_ok-turn-5.ensures.goes c0 b0 s0 (c.in_ok-turn-4.ensures.goes c0 b0 s0 (c.loop-at.invariant.goes c0 b0 s0 h))))); falls = ok_then c.turn-5.result _ _ c.turn-5.ensures.falls (λ q. omega (arith, q, c.loop-at.invariant.falls, c.in_ok-turn-4.ensures.falls, c.in_ok-turn-5.ensures.falls, c.in_ok-turn-6.ensures.falls)) }

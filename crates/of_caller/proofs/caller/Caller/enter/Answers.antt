@@ -1,15 +1,8 @@
-use Rattle.std.proofs.Common.{arith}
-use Rattle.of_caller.proofs.Phases.{on_err, ok_then, err_then}
+use Rattle.of_caller.proofs.Phases.{ok_then, err_then}
 use Rattle.of_caller.proofs.caller.Caller.enter.Goals as goal
 
-pub returns-in_err-turn-2-clause-denied : goal.returns-in_err-turn-2-clause-denied
-returns-in_err-turn-2-clause-denied g c = on_err c.from_residual-in_err-turn-2.result _ (λ c0 b0 s0 h. c.in_err-turn-2.ensures.denied c0 b0 s0 (c.in_ok-turn.ensures.goes c0 b0 s0 h))
-
-pub returns-in_default-place-2 : goal.returns-in_default-place-2
-returns-in_default-place-2 g c = record { caller = c.in_ok-turn-2.ensures.caller; goes = λ c0 b0 s0 h. c.in_ok-turn-2.ensures.goes c0 b0 s0 (c.in_ok-turn.ensures.goes c0 b0 s0 h); denied = tt; falls = omega (arith, c.in_ok-turn.ensures.falls, c.in_ok-turn-2.ensures.falls) }
-
 pub returns-clause-goes : goal.returns-clause-goes
-returns-clause-goes g c = ok_then c.turn-3.result _ _ c.turn-3.ensures.goes (λ q c0 b0 s0 h. q c0 b0 s0 (c.in_ok-turn-2.ensures.goes c0 b0 s0 (c.in_ok-turn.ensures.goes c0 b0 s0 h)))
+returns-clause-goes g c = ok_then c.turn-2.result _ _ c.turn-2.ensures.goes (λ q c0 b0 s0 h. q c0 b0 s0 (c.in_ok-turn.ensures.goes c0 b0 s0 h))
 
 pub returns-clause-denied : goal.returns-clause-denied
-returns-clause-denied g c = err_then c.turn-3.result _ _ c.turn-3.ensures.denied (λ q c0 b0 s0 h. q c0 b0 s0 (c.in_ok-turn-2.ensures.goes c0 b0 s0 (c.in_ok-turn.ensures.goes c0 b0 s0 h)))
+returns-clause-denied g c = err_then c.turn-2.result _ _ c.turn-2.ensures.denied (λ q c0 b0 s0 h. q c0 b0 s0 (c.in_ok-turn.ensures.goes c0 b0 s0 h))
