@@ -1,6 +1,6 @@
-//! The steps of a call, phase by phase. In each phase the next place is looked for where it mostly
-//! is. The compiler then knows the place of the step and makes a code of its own for it, so that few
-//! steps cost a jump by the place.
+//! The steps of a call, phase by phase. Each phase expects the places in their usual order, so that
+//! the compiler knows the place of most steps, and their code has no jump by the place. At any other
+//! place the phase ends.
 
 ghost use Rattle.std.specs.Prelude.{◌≡◌, ◌<◌, ◌≤◌, OnOk, OnErr};
 ghost use Rattle.of_core.specs.Machine.{IsOpen};
