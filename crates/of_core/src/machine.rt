@@ -5,7 +5,7 @@ ghost use Rattle.std.proofs.Common.{get_or};
 ghost use Rattle.of_mem.specs.declared.work.TheConstants.{MOST_INSTRS};
 ghost use Rattle.of_cell.specs.declared.word.TheConstants.{PAYLOADS};
 ghost use Rattle.of_cell.specs.Cells.{log_room};
-ghost use Rattle.of_core.specs.Table.{cell_count, words_before_members, log_at, durable_at, ticket_word_at, shape_word_at, reply_word_at};
+ghost use Rattle.of_core.specs.Table.{cell_count, words_before_members, log_at, durable_at, ticket_word_at, shape_word_at, reply_word_at, script_word_at};
 ghost use Rattle.of_core.specs.MachineValue.{machine_setup, machine_after, op_at, ended_outcome};
 ghost use Rattle.of_core.specs.Machine.{idle_machine, fresh_call, begin_call, log_words};
 ghost use Rattle.of_core.specs.Steps.{want, take_word, take_word_at, with_step_counted, IsOnTable};
@@ -271,6 +271,18 @@ impl<W: Work> Machine<W> {
         self.own_log + at
     }
 
+    /// The index in the table of script word `at` of a caller; after the last script word comes the
+    /// caller's announcement.
+    #[tactic(auto, using(of_cell::proofs::Rooms::cells_small))]
+    fn script_word(&self, caller: u32, at: u32) -> u32
+        requires caller { caller < self.now.callers }
+        requires at { at ≤ MOST_INSTRS }
+        ensures value { result ≡ script_word_at (machine_setup W.meaning self.now) caller at }
+        ensures below { result < words_before_members (machine_setup W.meaning self.now) }
+    {
+        2 * self.durable + caller * (MOST_INSTRS as u32 + 1) + at
+    }
+
     /// The index in the table of a caller's ticket cell.
     fn ticket_word(&self, caller: u32) -> u32
         requires { caller < self.now.callers }
@@ -334,21 +346,24 @@ impl<W: Work> Machine<W> {
             Place::LoadCell(addr) => by.load(hand, self.shape.data_cell(addr)),
             Place::StoreScript(at) => by.store(
                 hand,
-                self.shape.script_word(self.caller, at),
+                self.script_word(self.caller, at),
                 self.op[at as usize],
             ),
             Place::StoreAnnouncement => by.store(
                 hand,
-                self.shape.announce_word(self.caller),
+                self.script_word(self.caller, MOST_INSTRS as u32),
                 pack(self.made, self.op.len() as u32),
             ),
             Place::CopyLog(at) => by.load(hand, self.shape.log_word(self.owner, at)),
             Place::LoadOwnTicket => by.load(hand, self.ticket_word(self.caller)),
             Place::LoadShape => by.load(hand, self.shape_word()),
             Place::LoadReply(at) => by.load(hand, self.reply_word(at)),
-            Place::LoadAnnouncement => by.load(hand, self.shape.announce_word(self.scan)),
+            Place::LoadAnnouncement => by.load(
+                hand,
+                self.script_word(self.scan, MOST_INSTRS as u32),
+            ),
             Place::LoadTicket => by.load(hand, self.ticket_word(self.scan)),
-            Place::LoadScript(at) => by.load(hand, self.shape.script_word(self.scan, at)),
+            Place::LoadScript(at) => by.load(hand, self.script_word(self.scan, at)),
             Place::RaiseOld => by.raise(
                 hand,
                 self.durable_word(self.shape.request(self.caller)),
