@@ -32,12 +32,13 @@ fn place_behind(more: bool) -> Place
     }
 }
 
-/// The reply of the machine's own call: `new` if the call that was run is its own, and otherwise
-/// `old`.
-fn newer_raw(own: bool, new: &RawReply, old: &RawReply) -> RawReply
-    ensures { result ≡ own_reply_or new.now old.now own }
+/// Keeps the reply `new` of a call that was run, if it is the machine's own call.
+fn keep_reply(own: bool, new: &RawReply, kept: &mut RawReply)
+    ensures { kept.new ≡ own_reply_or new.now kept.old own }
 {
-    if own { *new } else { *old }
+    if own {
+        *kept = *new;
+    }
 }
 
 /// Adds a call that was run to the calls of the batch.
@@ -177,7 +178,7 @@ impl<W: Work> Machine<W> {
                 hand_to_log(&mut self.part, &mut self.log);
                 let op = self.script.as_slice();
                 add_call(&mut self.calls, self.scan, ticket, op, &self.spare);
-                self.raw = newer_raw(self.scan == self.caller, &self.spare, &self.raw);
+                keep_reply(self.scan == self.caller, &self.spare, &mut self.raw);
                 self.scan += 1;
                 self.place = place_behind(self.scan < self.shape.callers);
             }

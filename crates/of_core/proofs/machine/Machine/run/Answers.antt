@@ -92,7 +92,7 @@ returns-in-Ok g c =
     let same : c.hand_to_log.new.part.known ≡ known = ap (λ (p : Part). p.known) c.hand_to_log.ensures.part ∙ c.put_own.ensures.known ∙ ap (λ (p : Part). p.known) c.run.ensures.part in
     let op : c.as_slice-op.result.now ≡ script = c.as_slice-op.ensures.value in
     let calls : map call_value c.add_call.new.calls.items ≡ map call_value c.self.inside.calls.items ++ record { caller = scan; ticket = ticket; op = script; raw = r } ∷ [] = c.add_call.ensures.calls ∙ rw (op, number) refl in
-    rw (← c.self.view_is, walked) (rw (c.place_behind-self-inside.ensures, c.newer_raw-self-inside.ensures, same, entries, calls) refl)
+    rw (← c.self.view_is, walked) (rw (c.place_behind-self-inside.ensures, c.keep_reply.ensures, same, entries, calls) refl)
 
 pub returns-in-Err : goal.returns-in-Err
 returns-in-Err g c =
