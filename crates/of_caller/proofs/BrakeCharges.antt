@@ -30,10 +30,6 @@ gave_none (Some a) = gave_of_none a
 pub gave_same : (a b c : Option (Option ℕ)) (n : ℕ) → TakesSteps a b n → c ≡ b → TakesSteps a c n
 gave_same a b c n u same = subst (λ (left : Option (Option ℕ)). TakesSteps a left n) (sym same) u
 
--- an answer of which a brake is told behind asks, which it doesn't count
-pub heard_from : (a b c : Option ℕ) → b ≡ a → HasHeardAnswer b c → HasHeardAnswer a c
-heard_from a b c same heard = subst (λ (count : Option ℕ). HasHeardAnswer count c) same heard
-
 -- one ask more, behind so many
 pub asked_more : (a b c : Option ℕ) (n : ℕ) → AskedFor a b n → Asked b c → AskedFor a c (n + 1)
 unfolding later
@@ -46,10 +42,6 @@ pub asked_none : (a : Option ℕ) → AskedFor a a 0
 unfolding later
 asked_none None = refl
 asked_none (Some m) = refl
-
--- asks that stay as they are
-pub asked_same : (a b c : Option ℕ) (n : ℕ) → AskedFor a b n → c ≡ b → AskedFor a c n
-asked_same a b c n u same = subst (λ (asks : Option ℕ). AskedFor a asks n) (sym same) u
 
 stop_of : (a b c : Option ℕ) (n : ℕ) → TakesStepsFrom a b n → ChargesAskFrom b c false → StopsWhenUsedUp a (n + 1)
 stop_of None (Some b) c n u k = cc

@@ -17,7 +17,7 @@ use Rattle.of_row.specs.Told.{operations_known}
 use Rattle.of_row.specs.Rule.{CallHasEnded}
 use Rattle.of_row.specs.Turned.{MakesStep, IsMeantReply, TellsSteps, since_by, since_after, ended_call_if, ended_call_of_step, ended_call_of_answer, known_after_step}
 use Rattle.of_caller.specs.CallsTold.{HasEndedWith, IsStillOpen}
-use Rattle.of_caller.specs.Going.{Progress, left_by, left_of}
+use Rattle.of_caller.specs.Going.{Progress, call_left_by, call_left}
 use Rattle.of_caller.proofs.SpentSteps.{spent_exactly}
 
 -- ---- lists
@@ -136,22 +136,15 @@ module _ (S : Setup) (L : List ℕ → Type 0) (B : TableStart) (d0 : CallState)
 
 -- ---- the steps left
 
-left_open : (S : Setup) (d : CallState) → IsOpen d.place → left_of S d ≡ bound S - d.steps
-left_open S d o = ap (left_by S d) o
+left_open : (S : Setup) (d : CallState) → IsOpen d.place → call_left S d ≡ bound S - d.steps
+left_open S d o = ap (call_left_by S d) o
 
-left_idle : (S : Setup) (d : CallState) → IsIdle d → left_of S d ≡ 0
-left_idle S d idle = ap (left_by S d) (ap is_idle idle)
+left_idle : (S : Setup) (d : CallState) → IsIdle d → call_left S d ≡ 0
+left_idle S d idle = ap (call_left_by S d) (ap is_idle idle)
 
 -- a step leaves fewer
-pub falls_by : (S : Setup) (L : List ℕ → Type 0) (B : TableStart) (d : CallState) (v : View) (found : ℕ) (w : View) → IsIdleOrOpen → IsOpen d.place → d.steps < bound S → MakesStep S L B d v found w → left_of S (take_word S d found) < left_of S d
+pub falls_by : (S : Setup) (L : List ℕ → Type 0) (B : TableStart) (d : CallState) (v : View) (found : ℕ) (w : View) → IsIdleOrOpen → IsOpen d.place → d.steps < bound S → MakesStep S L B d v found w → call_left S (take_word S d found) < call_left S d
 falls_by S L B d v found w either o few t = elim (either (take_word S d found).place) [
   | inl idle ↦ omega (arith, left_idle S (take_word S d found) idle, left_open S d o, few)
   | inr begin_call ↦ omega (arith, left_open S (take_word S d found) begin_call, left_open S d o, few, (t.goes_on begin_call).0, (t.goes_on begin_call).1)
-]
-
--- a machine that a test found not idle has an open call
-pub open_where : IsIdleOrOpen → (d : CallState) (b : Bool) → IsTrue b ↔ IsIdle d → b ≡ false → IsOpen d.place
-open_where either d b is no_idle = elim (either d.place) [
-  | inl idle ↦ absurd (let z : true ≡ false = sym (is.1 idle) ∙ no_idle in cc)
-  | inr open_call ↦ open_call
 ]

@@ -13,7 +13,7 @@ use Rattle.of_row.specs.declared.row.Row.{Row}
 use Rattle.of_row.specs.Rows.{StepsMember, key_of, setup_at, row_start}
 use Rattle.of_caller.specs.declared.caller.Caller.{Caller}
 use Rattle.of_caller.specs.Callers.{IsCaller, caller_call, sight_of}
-use Rattle.of_caller.specs.Going.{Progress, left_of}
+use Rattle.of_caller.specs.Going.{Progress, call_left}
 use Rattle.of_caller.proofs.CallSteps.{goes_by, falls_by}
 
 module _ {W : Type 0} (meaning : W → Meaning) (lawful : W → List ℕ → Type 0) (r : Row W) where
@@ -29,9 +29,9 @@ module _ {W : Type 0} (meaning : W → Meaning) (lawful : W → List ℕ → Typ
     within_after = subst (λ (S : Setup). IsOpen (caller_call b).place → (caller_call b).steps < bound S) (sym same_setup)
         (subst (λ (e : CallState). IsOpen e.place → e.steps < bound (machine_setup meaning c.machine)) (sym call_is) (λ opened. (s.1.goes_on opened).1))
 
-    pub falls : IsIdleOrOpen → left_of (machine_setup meaning b.machine) (caller_call b) < left_of (machine_setup meaning c.machine) (caller_call c)
-    falls either = subst (λ (S : Setup). left_of S (caller_call b) < left_of (machine_setup meaning c.machine) (caller_call c)) (sym same_setup)
-        (subst (λ (e : CallState). left_of (machine_setup meaning c.machine) e < left_of (machine_setup meaning c.machine) (caller_call c)) (sym call_is)
+    pub falls : IsIdleOrOpen → call_left (machine_setup meaning b.machine) (caller_call b) < call_left (machine_setup meaning c.machine) (caller_call c)
+    falls either = subst (λ (S : Setup). call_left S (caller_call b) < call_left (machine_setup meaning c.machine) (caller_call c)) (sym same_setup)
+        (subst (λ (e : CallState). call_left (machine_setup meaning c.machine) e < call_left (machine_setup meaning c.machine) (caller_call c)) (sym call_is)
         (falls_by (machine_setup meaning c.machine) (lawful c.machine.work) (row_start meaning r) (caller_call c) (sight_of c) s.0 (sight_of b) either o (q.within o) s.1))
 
     pub goes : (d0 : CallState) (v0 : View) (n : ℕ) → Progress (setup_at meaning r) (lawful (key_of r).work) (row_start meaning r) d0 v0 n (caller_call c) (sight_of c)

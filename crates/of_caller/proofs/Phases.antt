@@ -20,10 +20,6 @@ pub on_err : {A E : Type 0} (r : Result A E) (P : Type 0) → P → OnErr r P
 on_err (Ok a) P p = tt
 on_err (Err e) P p = p
 
-pub on_ok : {A E : Type 0} (r : Result A E) (P : Type 0) → P → OnOk r P
-on_ok (Ok a) P p = p
-on_ok (Err e) P p = tt
-
 pub ok_then : {A E : Type 0} (r : Result A E) (P Q : Type 0) → OnOk r P → (P → Q) → OnOk r Q
 ok_then (Ok a) P Q p f = f p
 ok_then (Err e) P Q p f = tt

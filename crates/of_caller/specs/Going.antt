@@ -94,12 +94,12 @@ LeadsToDenial {W} {B} meaning lawful denials left answers asks r c b s c1 b1 s1 
     → IsDenied meaning lawful denials left answers asks r c0 b0 s0 c1 b1 s1
 
 -- the steps that an open call has left at most, and 0 if the call is not open
-abbrev pub left_by : Setup → CallState → (idle : Bool) → ℕ
-left_by S d true = 0
-left_by S d false = bound S - d.steps
+abbrev pub call_left_by : Setup → CallState → (idle : Bool) → ℕ
+call_left_by S d true = 0
+call_left_by S d false = bound S - d.steps
 
-abbrev pub left_of : Setup → CallState → ℕ
-left_of S d = left_by S d (is_idle d.place)
+abbrev pub call_left : Setup → CallState → ℕ
+call_left S d = call_left_by S d (is_idle d.place)
 
 abbrev pub steps_left : {W : Type 0} → (W → Meaning) → Caller W → ℕ
-steps_left meaning c = left_of (machine_setup meaning c.machine) (caller_call c)
+steps_left meaning c = call_left (machine_setup meaning c.machine) (caller_call c)

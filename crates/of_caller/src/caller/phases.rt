@@ -1,5 +1,5 @@
-//! The steps of a call, phase by phase. Each phase expects the places in their usual order, so that
-//! the compiler knows the place of most steps, and their code has no jump by the place. At any other
+//! The steps of a call, phase by phase. Each phase expects the places in their usual order. So the
+//! compiler knows the place of most steps, and their code has no jump by the place. At any other
 //! place the phase ends.
 
 ghost use Rattle.std.specs.Prelude.{◌≡◌, ◌<◌, ◌≤◌, OnOk, OnErr};
@@ -34,7 +34,8 @@ impl<W: Work> Caller<W> {
             row.now self.old brake.old steps.old self.new brake.new steps.new) }
         ensures denied { OnErr result (LeadsToDenial W.meaning W.lawful B.denials B.left B.answers
             B.asks row.now self.old brake.old steps.old self.new brake.new steps.new) }
-        ensures falls { OnOk result (steps_left W.meaning self.new < steps_left W.meaning self.old) }
+        ensures falls { OnOk result
+            (steps_left W.meaning self.new < steps_left W.meaning self.old) }
     {
         row.step_at(place, &mut self.member, &mut self.machine, brake)?;
         steps.tick();
