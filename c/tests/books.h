@@ -1,6 +1,7 @@
 /* books.h: a bank in a file, and what a memory that goes on from the file must have. For kills.c,
  * steps.c and deaths.c, which has more callers. */
 #define _GNU_SOURCE
+#include "must.h"
 #include "onefile.h"
 
 #include <errno.h>
@@ -28,15 +29,6 @@ typedef struct books {
 
 static onefile_memory bank = ONEFILE_NONE;
 static char path[200];
-
-#define MUST(holds) must((holds), __LINE__, #holds)
-
-static void must(int holds, int line, const char *what) {
-  if (holds) return;
-  printf("line %d: not %s (%s)\n", line, what, strerror(errno));
-  fflush(stdout);
-  _exit(1);
-}
 
 static transfer transfer_of(uint32_t caller, uint32_t call) {
   uint32_t x = caller * 2654435761u ^ call * 2246822519u;

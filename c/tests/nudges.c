@@ -4,6 +4,7 @@
  * their own, by the other spare caller if need be. To be linked with --wrap for each function that
  * is wrapped here. */
 #define _GNU_SOURCE
+#include "must.h"
 #include "onefile.h"
 
 #include <errno.h>
@@ -19,15 +20,6 @@
 
 enum { CALLERS = 4, NEIGHBOUR = CALLERS - 1, COMMON = 15, BLOCKS = 4, LIMIT = 1000000 };
 enum { MOST_STEPS = 400, SPARE = CALLERS };
-
-#define MUST(holds) must((holds), __LINE__, #holds)
-
-static void must(int holds, int line, const char *what) {
-  if (holds) return;
-  printf("line %d: not %s (%s)\n", line, what, strerror(errno));
-  fflush(stdout);
-  _exit(1);
-}
 
 /* ---- What happens to a process in an enrolment, or while it asks for a last reply. */
 
@@ -321,22 +313,23 @@ static void asks(void) {
   in_log = before;
 }
 
+/* Why a child has ended whose request with this number meets its fate. The number is free then. */
+static int with_request(long *fated, long at, int (*task)(uint32_t)) {
+  die_in_log(0);
+  *fated = at;
+  int why = in_child(task, 0);
+  *fated = 0;
+  MUST(why == ENDED || why == NOT_REACHED);
+  take_over(&memory, 0, 0);
+  return why;
+}
+
 /* Requests are refused, or kill the process. */
 static void requests(void) {
   int refused = ENDED, killed = ENDED;
   for (long at = 1; refused == ENDED || killed == ENDED; at++) {
-    die_in_log(0);
-    refused_at = at;
-    refused = in_child(is_refused_once, 0);
-    refused_at = 0;
-    MUST(refused == ENDED || refused == NOT_REACHED);
-    take_over(&memory, 0, 0);
-    die_in_log(0);
-    killed_at = at;
-    killed = in_child(enrols, 0);
-    killed_at = 0;
-    MUST(killed == ENDED || killed == NOT_REACHED);
-    take_over(&memory, 0, 0);
+    refused = with_request(&refused_at, at, is_refused_once);
+    killed = with_request(&killed_at, at, enrols);
     MUST(at < 200);
   }
 }
