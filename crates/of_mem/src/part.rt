@@ -81,6 +81,7 @@ impl Part {
     }
 
     // The same, and says whether it was known before.
+    #[inline(always)]
     pub(crate) fn meet(&mut self, addr: u32, value: u32) -> bool
         requires { addr < length self.old.known }
         ensures learnt { self.new ≡ learn self.old addr value }

@@ -67,6 +67,7 @@ impl TouchedCells {
 
     /// Makes `value` the known and the newest number of a cell, if the cell was not set before.
     /// Otherwise it changes nothing and answers false.
+    #[inline(always)]
     pub fn meet(&mut self, addr: u32, value: u32) -> bool
         requires { addr < length self.old.known }
         ensures { Meets self.old self.new addr value result }
