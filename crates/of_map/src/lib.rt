@@ -21,6 +21,7 @@ pub use answers::Put;
 use of_mem::{Need, Part, Plot, Sought, Walk};
 
 // Where the block of a key stands, None if the key is absent.
+#[inline(always)]
 fn seek(plot: &Plot, part: &mut Part, key: u32) -> Result<Option<Position>, Need>
     requires { HasBucketChain plot.now part.old key }
     ensures part { part.new ≡ part.old }
@@ -55,6 +56,7 @@ fn seek(plot: &Plot, part: &mut Part, key: u32) -> Result<Option<Position>, Need
 }
 
 // Looks at the block to which a cell points.
+#[inline(always)]
 fn look(plot: &Plot, part: &Part, key: u32, cell: u32) -> Result<Look, Need>
     requires { HasChainFrom plot.now part.now cell }
     ensures { Looks plot.now part.now key cell result }
