@@ -5,6 +5,8 @@ import typing
 HEAD = re.compile(r"^( *)(?:pub(?:\([^)]*\))? )?(?:unsafe |async |const |extern \"C\" )*fn (\w+)")
 HOLDER = re.compile(r"^( *)(?:pub(?:\([^)]*\))? )?(?:unsafe )?(?:impl\b|trait )")
 NAME = re.compile(r"\w+(?=\W*$)")
+# A line that no proof sees: a comment, or whether calls of a function are compiled in line.
+UNSEEN = re.compile(r"\s*(//|--|#\[(inline(\(\w+\))?|cold)\]$)")
 
 
 class Function(typing.NamedTuple):
@@ -104,14 +106,14 @@ def function(file, text, at):
     return Function(module_of(file), holder, trait, name)
 
 
-def uncommented(text):
-    """A .rt or .antt file without the lines that are comments."""
-    return "\n".join(it for it in text.split("\n") if not it.lstrip().startswith(("//", "--")))
+def seen(text):
+    """A .rt or .antt file without the lines that no proof sees."""
+    return "\n".join(it for it in text.split("\n") if not UNSEEN.match(it))
 
 
 def contracts(text):
-    """A .rt file without bodies of functions and without comments: what callers may rest on."""
+    """What callers may rest on of a .rt file: what a proof sees of it, but for functions' bodies."""
     lines, gone = text.split("\n"), set()
     for _, first, last in bodies(text):
         gone |= set(range(first + 1, last + 1))
-    return uncommented("\n".join(line for at, line in enumerate(lines) if at not in gone))
+    return seen("\n".join(line for at, line in enumerate(lines) if at not in gone))

@@ -2,8 +2,8 @@
 
 A refusal rests on the crate's sources, definitions and proofs, and on its edits; of the crates
 below it on their definitions and on the contracts of their sources, since nothing above sees a body;
-and on the lines of crates.txt. Comments don't count: no proof sees them. The sum does not name the
-kit: another one may prove more or less.
+and on the lines of crates.txt. Comments and the attributes `inline` and `cold` don't count: no proof
+sees them. The sum does not name the kit: another one may prove more or less.
 """
 import hashlib
 
@@ -24,14 +24,14 @@ def parts(crate, every):
     own = [it for part in ("src", "specs", "proofs") for it in crate.files(part, "*")]
     for file in own:
         if file.is_file():
-            yield str(file.relative_to(repository.TOP)), places.uncommented(file.read_text())
+            yield str(file.relative_to(repository.TOP)), places.seen(file.read_text())
     for file in sorted((trial.WRONG / crate.name).glob("*.edit")):
         yield str(file.relative_to(repository.TOP)), file.read_text()
     for name in [crate.name, *sorted(repository.below(crate.name, every))]:
         yield name, " ".join(every[name].flags + every[name].uses)
     for name in sorted(repository.below(crate.name, every)):
         for file in every[name].files("specs", "antt"):
-            yield str(file.relative_to(repository.TOP)), places.uncommented(file.read_text())
+            yield str(file.relative_to(repository.TOP)), places.seen(file.read_text())
         for file in every[name].files("src", "rt"):
             yield str(file.relative_to(repository.TOP)), places.contracts(file.read_text())
 
