@@ -127,6 +127,7 @@ pub(crate) fn abort_in_cells(len: usize, place: usize, cause: Cause, out: &mut R
 
 /// The reply that these cells hold. None exactly if they hold no reply: the shape is not the shape
 /// of any reply, or a number that it marks is above `GREATEST`.
+#[inline(always)]
 pub fn reply_of(raw: &RawReply) -> Option<Reply>
     ensures some { IfSome result (IsHeldBy raw.now) }
     ensures only { (r : TheReply) → IsHeldBy raw.now r → result ≡ Some r }
@@ -145,6 +146,7 @@ pub fn reply_of(raw: &RawReply) -> Option<Reply>
 }
 
 /// The numbers at the places that a mask marks. None if one of them is above `GREATEST`.
+#[inline(always)]
 fn marked_values(
     mask: u32,
     cells: &[u32; MOST_INSTRS],
@@ -170,6 +172,7 @@ fn marked_values(
 }
 
 /// The reply that these cells hold, if it is of a script that ran to its end.
+#[inline(always)]
 fn answered_reply(raw: &RawReply, len: u32) -> Option<Reply>
     requires len { len ≡ raw.now.shape / 2 ^ 16 % 32 }
     requires some { 1 ≤ len }
@@ -191,6 +194,9 @@ fn answered_reply(raw: &RawReply, len: u32) -> Option<Reply>
 }
 
 /// The reply that these cells hold, if it is of a script that aborted.
+// out of line, so that what is called often is small
+#[cold]
+#[inline(never)]
 fn aborted_reply(raw: &RawReply, len: u32) -> Option<Reply>
     requires len { len ≡ raw.now.shape / 2 ^ 16 % 32 }
     requires some { 1 ≤ len }

@@ -47,6 +47,7 @@ impl TouchedCells {
     }
 
     /// The known number of a cell, or None.
+    #[inline(always)]
     pub fn known(&self, addr: u32) -> Option<u32>
         requires { addr < length self.now.known }
         ensures { result ≡ get_or self.now.known addr None }
@@ -67,6 +68,7 @@ impl TouchedCells {
 
     /// Makes `value` the known and the newest number of a cell, if the cell was not set before.
     /// Otherwise it changes nothing and answers false.
+    #[inline(always)]
     pub fn meet(&mut self, addr: u32, value: u32) -> bool
         requires { addr < length self.old.known }
         ensures { Meets self.old self.new addr value result }

@@ -55,6 +55,7 @@ impl<W: MaySuspend> Workspace<W> {
 
     /// Makes `value` the known number of a cell. If the cell was known already, what the work kept
     /// is forgotten.
+    #[inline(always)]
     pub fn learn(&mut self, addr: u32, value: u32)
         requires { addr < length self.old.known }
         ensures { self.new ≡ learn self.old addr value }

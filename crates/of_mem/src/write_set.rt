@@ -86,6 +86,7 @@ impl WriteSet {
 
     /// The index of the entry with this address, if there is one. Otherwise an entry with this
     /// number is added at the end.
+    #[inline(always)]
     pub(crate) fn enter(&mut self, addr: u32, value: u32) -> Option<usize>
         requires { addr < self.old.room }
         ensures map { IsWriteSet self.old }
