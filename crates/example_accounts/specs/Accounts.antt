@@ -1,5 +1,5 @@
 -- Transfers as programs over cells, and what the accounts hold.
-use Rattle.std.specs.Prelude.{◌≡◌, ℕ, zero, suc, ◌+◌, ◌*◌, ◌-◌, ltb, Bool, true, false, ◌&&◌, List, [], ◌∷◌}
+use Rattle.std.specs.Prelude.{◌≡◌, ℕ, zero, suc, ◌+◌, ◌*◌, ◌-◌, ◌==◌, ltb, Bool, true, false, not, ◌&&◌, List, [], ◌∷◌, length}
 use Rattle.std.proofs.Common.{replicate}
 use Rattle.of_mem.specs.declared.work.RawReply.{RawReply}
 use Rattle.of_mem.specs.declared.work.TheConstants.{MOST_INSTRS}
@@ -87,3 +87,7 @@ transferring w (from ∷ []) = Done (raw_reply NoAccount)
 transferring w (from ∷ to ∷ []) = Done (raw_reply NoAccount)
 transferring w (from ∷ to ∷ amount ∷ []) = moving_if w from to amount (has_both w from to)
 transferring w (from ∷ to ∷ amount ∷ more ∷ words) = Done (raw_reply NoAccount)
+
+-- whether an operation's words are no transfer; then it writes nothing
+abbrev pub is_no_transfer : List ℕ → Bool
+is_no_transfer op = not (length op == 3)

@@ -9,14 +9,14 @@ use Rattle.of_mem.specs.declared.work.RawReply.{RawReply}
 use Rattle.of_mem.specs.declared.work.TheConstants.{MOST_INSTRS}
 use Rattle.of_mem.specs.Numbers.{FitsCell}
 use Rattle.of_mem.specs.Meaning.{IsSoundMeaning, HasRoom, is_marked}
-use Rattle.of_mem.specs.Programs.{Program, program_answer, memory_after, StaysBetween, StaysFrom}
+use Rattle.of_mem.specs.Programs.{Program, program_answer, memory_after, StaysBetween, StaysFrom, OnlyReads}
 use Rattle.of_mem.specs.ProgramWork.{memory_of, IsReplyTo, AreSound}
 use Rattle.of_mem.specs.Touching.{ReadsAtMost, WritesAtMost}
 use Rattle.of_mem.specs.ProgramTouches.{HasSmallPrograms, few_reads, few_writes}
 use Rattle.of_mem.proofs.Sounds.{sound}
 use Rattle.example_accounts.specs.declared.accounts.Accounts.{Accounts}
 use Rattle.example_accounts.specs.declared.transfer.Reply.TheVariants.{Done as Moved, NoAccount}
-use Rattle.example_accounts.specs.Accounts.{first_cell, account_cell, cell_count, flipped, balance_in, total_of, HasAllMoney, raw_reply, paying_in, paying, has_both, moving_if, transferring}
+use Rattle.example_accounts.specs.Accounts.{first_cell, account_cell, cell_count, flipped, balance_in, total_of, HasAllMoney, raw_reply, paying_in, paying, has_both, moving_if, transferring, is_no_transfer}
 use Rattle.example_accounts.specs.Meaning.{accounts_meaning, LawfulCells}
 use Rattle.example_accounts.specs.Money.{flipped_low, with_balance, total_same, zeros, total_with, balance_below}
 
@@ -238,10 +238,17 @@ module _ (w : Accounts) where
   reads_two (from ∷ to ∷ amount ∷ []) = moving_reads from to amount (has_both w from to)
   reads_two (from ∷ to ∷ amount ∷ more ∷ words) = tt
 
+  no_transfer_reads : (op : List ℕ) → is_no_transfer op ≡ true → OnlyReads (transferring w op)
+  no_transfer_reads [] e = tt
+  no_transfer_reads (from ∷ []) e = tt
+  no_transfer_reads (from ∷ to ∷ []) e = tt
+  no_transfer_reads (from ∷ to ∷ amount ∷ []) e = absurd (true≢false (sym e))
+  no_transfer_reads (from ∷ to ∷ amount ∷ more ∷ words) e = tt
+
   -- ---- so they are a work
 
   pub are_sound :
-      AreSound (λ r. true) (λ op. false) (transferring w) (HasAllMoney w) (first_cell w)
+      AreSound (λ r. true) is_no_transfer (transferring w) (HasAllMoney w) (first_cell w)
       (cell_count w)
   are_sound = record {
     zeros = λ m z. zeros w m z;
@@ -254,13 +261,13 @@ module _ (w : Accounts) where
         let two = few_writes 2 (transferring w op) m (writes_two op) in
         inr (omega (arith, two));
     replies = λ m op h. (good m op h).reply;
-    reads_only = λ op e. absurd (true≢false (sym e));
+    reads_only = no_transfer_reads;
   }
 
   pub accounts_sound :
       IsSoundMeaning (accounts_meaning w) (LawfulCells w) (first_cell w) (cell_count w)
   accounts_sound =
-      sound (λ r. true) (λ op. false) (transferring w) (HasAllMoney w) (first_cell w)
+      sound (λ r. true) is_no_transfer (transferring w) (HasAllMoney w) (first_cell w)
       (cell_count w) are_sound
 
   -- each operation reads at most two cells and writes at most two, however many accounts there are
@@ -268,7 +275,7 @@ module _ (w : Accounts) where
       HasSmallPrograms (accounts_meaning w) (LawfulCells w) (first_cell w) (cell_count w) 2 2
   small_programs = record {
     keeps = λ r. true;
-    reads_only = λ op. false;
+    reads_only = is_no_transfer;
     program = transferring w;
     meaning = refl;
     inside = λ xs op sized h. (good (memory_of xs) op h).inside;

@@ -175,8 +175,9 @@ impl Work for Accounts {
         }
     }
 
-    fn reads_only(&self, _op: &[u64]) -> bool {
-        false
+    // words that are no transfer write nothing
+    fn reads_only(&self, op: &[u64]) -> bool {
+        op.len() != 3
     }
 
     ghost fits = { accounts_fit };

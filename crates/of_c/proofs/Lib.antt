@@ -3,3 +3,4 @@ pub mod Boxes
 pub mod Stores
 pub mod Knowing
 pub mod Same
+pub mod Marked

@@ -22,7 +22,7 @@ fn last_reply_of_held(held: &mut Held, number: u32, reply: &mut CReply) -> u32
         → WasHeldSo (ShowsNoCall number) (Some held.old) (Some held.new) }
     ensures busy { result ≡ NOT_YET → WasHeldBusy (Some held.old) (Some held.new) }
     ensures codes { IsOneCode (DONE ∷ ABSENT ∷ RANGE ∷ EMPTY ∷ NOT_YET ∷ []) result }
-    ensures range { result ≡ RANGE → HoldsMemoryWith (HasNoNumber number) (Some held.old) }
+    ensures range { (result ≡ RANGE) ↔ HoldsMemoryWith (HasNoNumber number) (Some held.old) }
     ensures empty { (result ≡ EMPTY) ↔ IsNotMemory held.old }
     ensures kept { KeepsHeld held.old held.new }
     ensures unread { result ≢ DONE → reply.new ≡ reply.old }
@@ -65,7 +65,7 @@ pub extern "C" fn of_c_last_reply_of(
         memory.old.raw.held memory.new.raw.held }
     ensures busy { result ≡ NOT_YET → WasHeldBusy memory.old.raw.held memory.new.raw.held }
     ensures codes { IsOneCode (DONE ∷ ABSENT ∷ RANGE ∷ EMPTY ∷ NOT_YET ∷ []) result }
-    ensures range { result ≡ RANGE → HoldsMemoryWith (HasNoNumber number) memory.old.raw.held }
+    ensures range { (result ≡ RANGE) ↔ HoldsMemoryWith (HasNoNumber number) memory.old.raw.held }
     ensures empty { (result ≡ EMPTY) ↔ HoldsNo IsNotMemory memory.old.raw.held }
     ensures kept { KeepsSlot memory.old.raw.held memory.new.raw.held }
     ensures unread { result ≢ DONE → reply.new ≡ reply.old }

@@ -1,6 +1,7 @@
 //! What C does with a caller: calls of scripts.
 
-ghost use Rattle.std.specs.Prelude.{◌≡◌, ◌≢◌, ◌↔◌, ◌∷◌, [], None, Some};
+ghost use Rattle.std.specs.Prelude.{◌≡◌, ◌≢◌, ◌↔◌, ◌∷◌, [], None, Some, Err};
+ghost use Rattle.of_memory.specs.Called.{HasTyped, HoldsOfTyped};
 ghost use Rattle.of_memory.specs.Calls.{IsScriptOperation, HoldsOfScript};
 ghost use Rattle.of_script.specs.Text.{IsFault};
 ghost use Rattle.of_c.specs.declared.codes.TheConstants.{CALL_OPEN, DONE, EMPTY};
@@ -15,7 +16,7 @@ use crate::held::{Held, Seat};
 use crate::reply::CReply;
 use crate::slot::Slot;
 use crate::truth::{OfHandle, surely};
-use of_memory::{Answer, Handle, Instr, RunError, Script, ScriptErr, parse};
+use of_memory::{Answer, Handle, Instr, RawAnswer, RunError, Script, ScriptErr, parse};
 use of_script::{MOST_INSTRS, from_words_into, to_words};
 use std::alloc::Global;
 
@@ -26,49 +27,62 @@ fn limit_of(steps: u64) -> Option<u64>
     if steps == u64::MAX { None } else { Some(steps) }
 }
 
-// The code of what a call has come to; the reply gets the rest. `open_code` is the code of a call
-// that was refused because a call is open, or because none is. If this weren't inlined, the answer
-// would be moved for it first.
+// The code of a call that was not answered; the reply gets the rest. `open_code` is the code of a
+// call that was refused because a call is open, or because none is.
 #[inline(always)]
-fn code_of(ended: &Result<Answer, RunError>, open_code: u32, reply: &mut CReply) -> u32
-    ensures tells { Tells open_code ended.now result reply.new }
+fn code_of_error(error: RunError, open_code: u32, reply: &mut CReply) -> u32
+    ensures tells { Tells open_code (Err error) result reply.new }
+    ensures stays { LeavesReply result reply.old reply.new }
+{
+    match error {
+        RunError::Stopped { asked } => {
+            reply.steps = asked;
+            STOPPED
+        }
+        RunError::Spent { seq } => {
+            reply.seq = seq;
+            SPENT
+        }
+        RunError::InCall => open_code,
+        RunError::NoCall => open_code,
+        RunError::NoTicket => NO_TICKET,
+    }
+}
+
+// The code of what a new call has come to; the reply gets the rest. If this weren't inlined, the
+// answer would be moved for it first.
+#[inline(always)]
+fn code_of_run(ended: &Result<RawAnswer, RunError>, reply: &mut CReply) -> u32
+    ensures tells { HoldsOfTyped ended.now (λ a. Tells CALL_OPEN a result reply.new) }
     ensures stays { LeavesReply result reply.old reply.new }
 {
     match ended {
         Ok(answer) => {
-            reply.tell(answer);
+            reply.tell_raw(answer);
             DONE
         }
-        Err(RunError::Stopped { asked }) => {
-            reply.steps = *asked;
-            STOPPED
-        }
-        Err(RunError::Spent { seq }) => {
-            reply.seq = *seq;
-            SPENT
-        }
-        Err(RunError::InCall) => open_code,
-        Err(RunError::NoCall) => open_code,
-        Err(RunError::NoTicket) => NO_TICKET,
+        Err(error) => code_of_error(*error, CALL_OPEN, reply),
     }
 }
 
 impl Seat {
     // Runs the script that has these words, to its answer.
-    fn run(&mut self, words: &[u64]) -> Result<Answer, RunError>
+    fn run(&mut self, words: &[u64]) -> Result<RawAnswer, RunError>
         requires { IsScriptOperation words.now }
-        ensures { HoldsOfScript words.now
-            (λ s. CallsScript s None self.old.handle result self.new.handle) }
+        ensures some { HasTyped result }
+        ensures runs { HoldsOfTyped result (λ a. HoldsOfScript words.now
+            (λ s. CallsScript s None self.old.handle a self.new.handle)) }
     {
         surely::<Handle, OfHandle>(&self.handle);
         self.handle.run_words(words)
     }
 
     // Runs the script that has these words, for at most this many steps.
-    fn run_within(&mut self, words: &[u64], steps: u64) -> Result<Answer, RunError>
+    fn run_within(&mut self, words: &[u64], steps: u64) -> Result<RawAnswer, RunError>
         requires { IsScriptOperation words.now }
-        ensures { HoldsOfScript words.now
-            (λ s. CallsScript s (Some steps) self.old.handle result self.new.handle) }
+        ensures some { HasTyped result }
+        ensures runs { HoldsOfTyped result (λ a. HoldsOfScript words.now
+            (λ s. CallsScript s (Some steps) self.old.handle a self.new.handle)) }
     {
         surely::<Handle, OfHandle>(&self.handle);
         self.handle.run_words_within(words, steps)
@@ -96,8 +110,8 @@ fn run_held(held: &mut Held, words: &[u64], limit: Option<u64>, reply: &mut CRep
     match held {
         // Each arm hands on what its call answers, which spares moving it.
         Held::Caller(seat) => match limit {
-            Some(steps) => code_of(&seat.run_within(words, steps), CALL_OPEN, reply),
-            None => code_of(&seat.run(words), CALL_OPEN, reply),
+            Some(steps) => code_of_run(&seat.run_within(words, steps), reply),
+            None => code_of_run(&seat.run(words), reply),
         },
         _ => EMPTY,
     }
@@ -109,7 +123,13 @@ fn go_on_held(held: &mut Held, limit: Option<u64>, reply: &mut CReply) -> u32
     ensures stays { LeavesReply result reply.old reply.new }
 {
     match held {
-        Held::Caller(seat) => code_of(&seat.go_on(limit), NO_CALL, reply),
+        Held::Caller(seat) => match seat.go_on(limit) {
+            Ok(answer) => {
+                reply.tell(&answer);
+                DONE
+            }
+            Err(error) => code_of_error(error, NO_CALL, reply),
+        },
         _ => EMPTY,
     }
 }

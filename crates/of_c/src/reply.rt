@@ -1,9 +1,11 @@
 //! A reply as C reads it.
 
-ghost use Rattle.std.specs.Prelude.{◌≡◌};
+ghost use Rattle.std.specs.Prelude.{◌≡◌, ◌==◌, ◌%◌, length};
+ghost use Rattle.std.specs.Bool.{then_some};
+ghost use Rattle.of_eval.specs.Reading.{marked_in};
 ghost use Rattle.of_c.specs.Replies.{given_flag, given_number, cause_number, ShowsEach};
 
-use of_memory::{Abort, Answer, Cause, Reply};
+use of_memory::{Abort, Answer, Cause, RawAnswer, Reply};
 use of_script::MOST_INSTRS;
 
 /// A reply as C reads it.
@@ -66,6 +68,33 @@ fn write_values(
     }
 }
 
+// The number in a cell if the lowest bit of the marks is 1; 0 if not.
+fn marked_number(marks: u32, cell: u32) -> u32
+    ensures { result ≡ given_number (then_some (marks % 2 == 1) cell) }
+{
+    if marks % 2 == 1 { cell } else { 0 }
+}
+
+// Writes which cells are marked, and their numbers. The lowest bit is the mark of the first cell.
+#[inline(always)]
+fn write_marked(
+    marks: u32,
+    cells: &[u32; MOST_INSTRS],
+    given: &mut [u32; MOST_INSTRS],
+    numbers: &mut [u32; MOST_INSTRS],
+)
+    ensures given { ShowsEach given_flag (marked_in marks cells.now) given.new }
+    ensures numbers { ShowsEach given_number (marked_in marks cells.now) numbers.new }
+    ensures width { length cells.now ≡ MOST_INSTRS }
+{
+    let mut rest = marks;
+    for place in 0..MOST_INSTRS {
+        given[place] = rest % 2;
+        numbers[place] = marked_number(rest, cells[place]);
+        rest /= 2;
+    }
+}
+
 // The number of a cause.
 fn number_of_cause(cause: Cause) -> u32
     ensures { result ≡ cause_number cause }
@@ -80,6 +109,8 @@ fn number_of_cause(cause: Cause) -> u32
 }
 
 impl CReply {
+    ghost use Rattle.of_plan.specs.declared.answer.Answer.{Answer as TheAnswer};
+    ghost use Rattle.of_memory.specs.Called.{TellsRaw};
     ghost use Rattle.of_c.specs.Replies.{ShowsReply, ShowsAnswer, LeavesSeqAndSteps};
 
     /// Writes what a script answered.
@@ -108,6 +139,24 @@ impl CReply {
         ensures { ShowsAnswer answer.now self.new }
     {
         self.show(&answer.reply);
+        self.seq = answer.seq;
+        self.announced = u32::from(answer.announced);
+        self.ticket = 0;
+        self.steps = answer.steps;
+    }
+
+    /// Writes the answer of a call, whose reply is as cells hold it: a shape, and a number for each
+    /// mark.
+    #[inline(always)]
+    pub(crate) fn tell_raw(&mut self, answer: &RawAnswer)
+        ensures { (a : TheAnswer) → TellsRaw answer.now a → ShowsAnswer a self.new }
+    {
+        let shape = answer.raw.shape;
+        self.len = shape / (1 << 16) % 32;
+        let marks = shape % (1 << 16);
+        write_marked(marks, &answer.raw.values, &mut self.given, &mut self.values);
+        self.place = shape / (1 << 21) % 32;
+        self.cause = shape / (1 << 26);
         self.seq = answer.seq;
         self.announced = u32::from(answer.announced);
         self.ticket = 0;

@@ -6,6 +6,7 @@ use Rattle.of_core.specs.declared.place.Outcome.{Outcome}
 use Rattle.of_core.specs.Table.{Setup}
 use Rattle.of_core.specs.Machine.{CallState, IsOpen, is_idle}
 use Rattle.of_core.specs.MachineValue.{machine_setup}
+use Rattle.of_core.specs.OwedRun.{after_run_if}
 use Rattle.of_core.specs.TableMoment.{TableStart}
 use Rattle.of_core.specs.Bound.{bound}
 use Rattle.of_core.specs.Touched.{IsWithinTouched}
@@ -21,6 +22,10 @@ use Rattle.of_caller.specs.declared.caller.Caller.{Caller}
 use Rattle.of_caller.specs.Callers.{caller_call, sight_of}
 use Rattle.of_caller.specs.CallsTold.{HasEndedWith, IsStillOpen, TellsStepsMade}
 use Rattle.of_caller.specs.Brakes.{TakesSteps, AskedFor}
+
+-- the caller; if its machine owes the run of its try, the caller after this run
+abbrev pub true_caller : {W : Type 0} → (W → Meaning) → (owed : Bool) → Caller W → Caller W
+true_caller meaning owed c = record c { machine = after_run_if meaning owed c.machine }
 
 -- n steps of a call have led from the machine m and the view v to d and w
 pub record Progress (S : Setup) (L : List ℕ → Type 0) (B : TableStart) (m : CallState) (v : View)

@@ -10,6 +10,8 @@ pub mod Callers
 pub mod CallsTold
 pub mod Brakes
 pub mod Going
+pub mod Fronts
+pub mod Loading
 pub mod Vain
 pub mod PlanRows
 pub mod Stops

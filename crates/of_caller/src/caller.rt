@@ -1,6 +1,7 @@
 //! One caller: it makes its calls with a member of a row.
 
 mod phases;
+mod reading;
 
 ghost use Rattle.std.specs.Prelude.{◌≡◌, ◌+◌, ◌<◌, ◌≤◌, ◌↔◌, IfOk, IfErr, IsTrue, length};
 ghost use Rattle.of_mem.specs.declared.work.TheConstants.{MOST_INSTRS};

@@ -53,7 +53,7 @@ fn work_with<W: Work, J: CellTask<CellHandle<W>> + Drop>(slot: &mut Option<(Cell
 }
 
 // Each task with its handle, all at once: each in a thread of its own if one can be made.
-fn work_all<W: Work, J: CellTask<CellHandle<W>> + Send + Drop, R: Threads + Sync>(
+fn work_all<W: Work + Send + Sync, J: CellTask<CellHandle<W>> + Send + Drop, R: Threads + Sync>(
     rt: &R,
     slots: &mut [Option<(CellHandle<W>, J)>],
 )
@@ -75,7 +75,7 @@ fn work_all<W: Work, J: CellTask<CellHandle<W>> + Send + Drop, R: Threads + Sync
     );
 }
 
-impl<W: Work> CellMemory<W> {
+impl<W: Work + Send + Sync> CellMemory<W> {
     ghost use Rattle.std.specs.Prelude.{IfErr, OnOk, OnErr};
     ghost use Rattle.of_cells.specs.Memories.{IsCellMemory, IsStill, RemembersAll, callers_of};
     ghost use Rattle.of_cells.specs.Tasks.{HasHandedOut, MayAllLeave, HasTakenBack};
@@ -124,6 +124,13 @@ impl<W: Work> CellMemory<W> {
             }
         }
     }
+}
+
+impl<W: Work> CellMemory<W> {
+    ghost use Rattle.std.specs.Prelude.{IfErr, OnOk, OnErr};
+    ghost use Rattle.of_cells.specs.Memories.{IsCellMemory, IsStill, RemembersAll, callers_of};
+    ghost use Rattle.of_cells.specs.Tasks.{HasHandedOut, MayAllLeave, HasTakenBack};
+    ghost use Rattle.of_cells.specs.Tasks.{HaveWorked, KnowsRest, RestKnowsOrder, IsTaskCause};
 
     /// Hands out a handle for each task, from the last task to the first. After an error, the tasks
     /// that have no handle are left in the list.

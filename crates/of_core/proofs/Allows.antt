@@ -71,6 +71,13 @@ module _ (S : Setup) (Lawful : List ℕ → Type 0) (m : CallState) (found : ℕ
   pub cell_words : (a : ℕ) → m.place ≡ TryCell a → 1 ≤ length m.op
   cell_words a q = (place_at (TryCell a) q).trying.fresh.some
 
+  -- a try's operation only reads
+  pub request_reads : m.place ≡ TryRequest → S.meaning.reads_only m.op ≡ true
+  request_reads q = (place_at TryRequest q).trying.reads
+
+  pub cell_reads : (a : ℕ) → m.place ≡ TryCell a → S.meaning.reads_only m.op ≡ true
+  cell_reads a q = (place_at (TryCell a) q).trying.reads
+
   pub look_words : m.place ≡ LookAgain → 1 ≤ length m.op
   look_words q = helper_words (place_at LookAgain q).copies.helping.helper
 

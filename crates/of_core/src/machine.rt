@@ -20,6 +20,7 @@ mod helping;
 mod inspect;
 mod lists;
 mod logs;
+mod owing;
 mod reviving;
 mod scanning;
 mod trying;

@@ -25,3 +25,6 @@ pub mod Noted
 pub mod OneFault
 pub mod Exact
 mod Looks
+pub mod Asking
+pub mod Answering
+pub mod ReadScripts

@@ -4,6 +4,7 @@
 
 mod lawful_cells;
 pub mod laws;
+mod read;
 mod reply;
 mod scripts;
 mod step;

@@ -4,9 +4,10 @@ ghost use Rattle.std.specs.Prelude.{◌≡◌, ◌≤◌};
 ghost use Rattle.of_mem.specs.declared.work.TheConstants.{MOST_CALLERS};
 ghost use Rattle.of_mem.specs.declared.plot.TheConstants.{MOST_BLOCKS};
 
+use crate::read::read_words;
 use crate::step::word_reads;
 use crate::walk::{reach, resume, run_to_reply};
-use of_mem::{MOST_INSTRS, MaySuspend, Need, Part, Plot, RawReply, SuspendedRun, Work};
+use of_mem::{Cells, MOST_INSTRS, MaySuspend, Need, Part, Plot, RawReply, SuspendedRun, Work};
 use of_plan::Plan;
 
 /// The work that runs scripts on cells: an operation is the words of a script. A word that is no
@@ -95,6 +96,15 @@ impl Work for Scripts {
             return Err(need);
         }
         run_to_reply(&plot, part, kept, op, out)
+    }
+
+    fn read_from<C: Cells>(
+        &self,
+        cells: &mut C,
+        op: &[u64],
+        out: &mut RawReply,
+    ) -> Option<Result<(), Need>> {
+        Some(read_words(&self.plot(), cells, op, out))
     }
 
     fn reads_only(&self, op: &[u64]) -> bool {

@@ -1,9 +1,10 @@
 //! One instruction over cells.
 
-ghost use Rattle.std.specs.Prelude.{◌≡◌, ℕ, IfSome, nat_lt};
+ghost use Rattle.std.specs.Prelude.{◌≡◌, ℕ, IfSome, nat_lt, true};
 ghost use Rattle.of_mem.specs.Calls.{RunsProgram, HasStore};
+ghost use Rattle.of_mem.specs.OnDemand.{MayRun, RunsOn, HasOnlyRead};
 ghost use Rattle.of_mem.specs.Programs.{Done};
-ghost use Rattle.of_script.specs.Language.{IsInstrInRange};
+ghost use Rattle.of_script.specs.Language.{IsInstrInRange, reads_only};
 ghost use Rattle.of_script.specs.declared.instr.Instr.TheVariants.{Load, Store, Add, Sub, Get, Put as PutAt, Del, Need as Needs, Push, Pop, Len, Count, First, Next, DropBelow};
 ghost use Rattle.of_store.specs.declared.store.TheConstants.{MOST_ORDERED_BLOCKS};
 ghost use Rattle.of_eval.specs.ScriptPrograms.{need_answers};
@@ -13,7 +14,7 @@ ghost use Rattle.of_eval.specs.Scripts.{instr_reads};
 ghost use Rattle.of_eval.specs.Resuming.{LooksFor};
 
 use of_map::Put;
-use of_mem::{Need, Part, Plot};
+use of_mem::{Cells, Need, Part, Plot};
 use of_script::{Cause, GREATEST, Instr, from_word};
 use of_store::MOST_ORDERED_BLOCKS;
 
@@ -32,6 +33,25 @@ pub(crate) fn run_word(plot: &Plot, part: &mut Part, word: u64) -> Result<InstrR
     match from_word(word) {
         None => Ok(Err(Cause::BadOp)),
         Some(instr) => step(plot, part, instr),
+    }
+}
+
+/// Runs the instruction for which a word stands on cells that it asks for. The instruction leaves
+/// every store as it is. An error names a cell that must be read and is not known.
+pub(crate) fn read_word<C: Cells>(
+    plot: &Plot,
+    cells: &mut C,
+    word: u64,
+) -> Result<InstrResult, Need>
+    requires may { MayRun (run_word plot.now word) (HasStore plot.now) (C.run cells.old) }
+    requires reads { instr_reads (instr_at word) ≡ true }
+    ensures part { HasOnlyRead (C.run cells.old).part (C.run cells.new).part }
+    ensures runs { RunsOn (run_word plot.now word) (C.run cells.old) (C.run cells.new) result }
+{
+    match from_word(word) {
+        // such a word is not known to leave every store as it is
+        None => unreachable!(),
+        Some(instr) => read_step(plot, cells, instr),
     }
 }
 
@@ -68,32 +88,47 @@ fn step(plot: &Plot, part: &mut Part, instr: Instr) -> Result<InstrResult, Need>
     ensures { RunsProgram (step plot.now instr) part.old part.new result }
 {
     match instr {
-        Instr::Load { reg } => load(plot, part, reg),
         Instr::Store { reg, value } => store(plot, part, reg, value),
         Instr::Add { reg, value } => add(plot, part, reg, value),
         Instr::Sub { reg, value } => sub(plot, part, reg, value),
-        Instr::Get { key } => get(plot, part, key),
         Instr::Put { key, value } => put(plot, part, key, value),
         Instr::Del { key } => del(plot, part, key),
-        Instr::Need { key, value } => need(plot, part, key, value),
         Instr::Push { queue, value } => push(plot, part, queue, value),
         Instr::Pop { queue } => pop(plot, part, queue),
-        Instr::Len { queue } => len(plot, part, queue),
-        Instr::Count => count(plot, part),
-        Instr::First => first(plot, part),
-        Instr::Next { key } => next(plot, part, key),
         Instr::DropBelow { key } => drop_below(plot, part, key),
+        _ => read_step(plot, part, instr),
+    }
+}
+
+/// Runs one instruction that leaves every store as it is, on cells that it asks for.
+fn read_step<C: Cells>(plot: &Plot, cells: &mut C, instr: Instr) -> Result<InstrResult, Need>
+    requires may { MayRun (step plot.now instr) (HasStore plot.now) (C.run cells.old) }
+    requires range { IsInstrInRange instr }
+    requires reads { reads_only instr ≡ true }
+    ensures part { HasOnlyRead (C.run cells.old).part (C.run cells.new).part }
+    ensures runs { RunsOn (step plot.now instr) (C.run cells.old) (C.run cells.new) result }
+{
+    match instr {
+        Instr::Load { reg } => load(plot, cells, reg),
+        Instr::Get { key } => get(plot, cells, key),
+        Instr::Need { key, value } => need(plot, cells, key, value),
+        Instr::Len { queue } => len(plot, cells, queue),
+        Instr::Count => count(plot, cells),
+        Instr::First => first(plot, cells),
+        Instr::Next { key } => next(plot, cells, key),
+        // every other instruction may write
+        _ => unreachable!(),
     }
 }
 
 /// Answers the number in a register.
-#[tactic(auto, using(of_mem::proofs::Runs::run_then_gives, of_mem::proofs::Runs::run_then_needs))]
-fn load(plot: &Plot, part: &Part, reg: u8) -> Result<InstrResult, Need>
-    requires stands { HasStore plot.now part.now }
+fn load<C: Cells>(plot: &Plot, cells: &mut C, reg: u8) -> Result<InstrResult, Need>
+    requires may { MayRun (step plot.now (Load reg)) (HasStore plot.now) (C.run cells.old) }
     requires range { IsInstrInRange (Load reg) }
-    ensures { RunsProgram (step plot.now (Load reg)) part.now part.now result }
+    ensures part { HasOnlyRead (C.run cells.old).part (C.run cells.new).part }
+    ensures runs { RunsOn (step plot.now (Load reg)) (C.run cells.old) (C.run cells.new) result }
 {
-    let value = part.read(plot.register(u32::from(reg)))?;
+    let value = cells.get(plot.register(u32::from(reg)))?;
     Ok(Ok(Some(value)))
 }
 
@@ -141,12 +176,12 @@ fn sub(plot: &Plot, part: &mut Part, reg: u8, value: u32) -> Result<InstrResult,
 }
 
 /// Answers the value at a key.
-#[tactic(auto, using(of_mem::proofs::Runs::run_then_gives, of_mem::proofs::Runs::run_then_needs))]
-fn get(plot: &Plot, part: &mut Part, key: u32) -> Result<InstrResult, Need>
-    requires { HasStore plot.now part.old }
-    ensures { RunsProgram (step plot.now (Get key)) part.old part.new result }
+fn get<C: Cells>(plot: &Plot, cells: &mut C, key: u32) -> Result<InstrResult, Need>
+    requires may { MayRun (step plot.now (Get key)) (HasStore plot.now) (C.run cells.old) }
+    ensures part { HasOnlyRead (C.run cells.old).part (C.run cells.new).part }
+    ensures runs { RunsOn (step plot.now (Get key)) (C.run cells.old) (C.run cells.new) result }
 {
-    let value = of_map::get(plot, part, key)?;
+    let value = of_map::get(plot, cells, key)?;
     Ok(Ok(value))
 }
 
@@ -175,12 +210,13 @@ fn del(plot: &Plot, part: &mut Part, key: u32) -> Result<InstrResult, Need>
 }
 
 /// Aborts unless the value at a key is this one.
-#[tactic(auto, using(of_mem::proofs::Runs::run_then_gives, of_mem::proofs::Runs::run_then_needs))]
-fn need(plot: &Plot, part: &mut Part, key: u32, value: u32) -> Result<InstrResult, Need>
-    requires { HasStore plot.now part.old }
-    ensures { RunsProgram (step plot.now (Needs key value)) part.old part.new result }
+fn need<C: Cells>(plot: &Plot, cells: &mut C, key: u32, value: u32) -> Result<InstrResult, Need>
+    requires may { MayRun (step plot.now (Needs key value)) (HasStore plot.now) (C.run cells.old) }
+    ensures part { HasOnlyRead (C.run cells.old).part (C.run cells.new).part }
+    ensures runs { RunsOn (step plot.now (Needs key value)) (C.run cells.old) (C.run cells.new)
+        result }
 {
-    let found = of_map::get(plot, part, key)?;
+    let found = of_map::get(plot, cells, key)?;
     Ok(compare(found, value))
 }
 
@@ -219,23 +255,23 @@ fn pop(plot: &Plot, part: &mut Part, queue: u8) -> Result<InstrResult, Need>
 }
 
 /// Answers the length of a queue.
-#[tactic(auto, using(of_mem::proofs::Runs::run_then_gives, of_mem::proofs::Runs::run_then_needs))]
-fn len(plot: &Plot, part: &Part, queue: u8) -> Result<InstrResult, Need>
-    requires stands { HasStore plot.now part.now }
+fn len<C: Cells>(plot: &Plot, cells: &mut C, queue: u8) -> Result<InstrResult, Need>
+    requires may { MayRun (step plot.now (Len queue)) (HasStore plot.now) (C.run cells.old) }
     requires range { IsInstrInRange (Len queue) }
-    ensures { RunsProgram (step plot.now (Len queue)) part.now part.now result }
+    ensures part { HasOnlyRead (C.run cells.old).part (C.run cells.new).part }
+    ensures runs { RunsOn (step plot.now (Len queue)) (C.run cells.old) (C.run cells.new) result }
 {
-    let items = of_queue::len(plot, part, u32::from(queue))?;
+    let items = of_queue::len(plot, cells, u32::from(queue))?;
     Ok(Ok(Some(items)))
 }
 
 /// Answers the number of keys.
-#[tactic(auto, using(of_mem::proofs::Runs::run_then_gives, of_mem::proofs::Runs::run_then_needs))]
-fn count(plot: &Plot, part: &Part) -> Result<InstrResult, Need>
-    requires { HasStore plot.now part.now }
-    ensures { RunsProgram (step plot.now Count) part.now part.now result }
+fn count<C: Cells>(plot: &Plot, cells: &mut C) -> Result<InstrResult, Need>
+    requires may { MayRun (step plot.now Count) (HasStore plot.now) (C.run cells.old) }
+    ensures part { HasOnlyRead (C.run cells.old).part (C.run cells.new).part }
+    ensures runs { RunsOn (step plot.now Count) (C.run cells.old) (C.run cells.new) result }
 {
-    let keys = of_map::count(plot, part)?;
+    let keys = of_map::count(plot, cells)?;
     Ok(Ok(Some(keys)))
 }
 
@@ -247,28 +283,28 @@ fn is_large(plot: &Plot) -> bool
 }
 
 /// Answers the least key.
-#[tactic(auto, using(of_mem::proofs::Runs::run_then_gives, of_mem::proofs::Runs::run_then_needs))]
-fn first(plot: &Plot, part: &mut Part) -> Result<InstrResult, Need>
-    requires { HasStore plot.now part.old }
-    ensures { RunsProgram (step plot.now First) part.old part.new result }
+fn first<C: Cells>(plot: &Plot, cells: &mut C) -> Result<InstrResult, Need>
+    requires may { MayRun (step plot.now First) (HasStore plot.now) (C.run cells.old) }
+    ensures part { HasOnlyRead (C.run cells.old).part (C.run cells.new).part }
+    ensures runs { RunsOn (step plot.now First) (C.run cells.old) (C.run cells.new) result }
 {
     if is_large(plot) {
         return Ok(Err(Cause::BadOp));
     }
-    let key = of_order::first(plot, part)?;
+    let key = of_order::first(plot, cells)?;
     Ok(Ok(key))
 }
 
 /// Answers the least key above `key`.
-#[tactic(auto, using(of_mem::proofs::Runs::run_then_gives, of_mem::proofs::Runs::run_then_needs))]
-fn next(plot: &Plot, part: &mut Part, key: u32) -> Result<InstrResult, Need>
-    requires { HasStore plot.now part.old }
-    ensures { RunsProgram (step plot.now (Next key)) part.old part.new result }
+fn next<C: Cells>(plot: &Plot, cells: &mut C, key: u32) -> Result<InstrResult, Need>
+    requires may { MayRun (step plot.now (Next key)) (HasStore plot.now) (C.run cells.old) }
+    ensures part { HasOnlyRead (C.run cells.old).part (C.run cells.new).part }
+    ensures runs { RunsOn (step plot.now (Next key)) (C.run cells.old) (C.run cells.new) result }
 {
     if is_large(plot) {
         return Ok(Err(Cause::BadOp));
     }
-    let next = of_order::next(plot, part, key)?;
+    let next = of_order::next(plot, cells, key)?;
     Ok(Ok(next))
 }
 

@@ -1,4 +1,5 @@
 pub mod Walking
+pub mod WalkingOn
 pub mod Seeks
 pub mod Knows
 pub mod Takings
@@ -7,4 +8,5 @@ pub mod News
 pub mod Changes
 pub mod Dels
 pub mod Wholes
+pub mod GetsOn
 pub mod Staying

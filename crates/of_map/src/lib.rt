@@ -7,9 +7,10 @@ ghost use Rattle.std.specs.FinMap as fin;
 ghost use Rattle.of_mem.specs.Plots.{base, data_cell_count};
 ghost use Rattle.of_mem.specs.Places.{keys_at};
 ghost use Rattle.of_mem.specs.Part.{newest_at};
+ghost use Rattle.of_mem.specs.OnDemand.{MayRun, RunsOn, RunGoesOn, HasOnlyRead};
 ghost use Rattle.of_mem.specs.Calls.{RunsProgram, HasStore, AnswersOfStore, ActsOnStore};
 ghost use Rattle.of_map.specs.declared.answers.Put.TheVariants.{Full};
-ghost use Rattle.of_map.specs.MapPrograms.{seek, get, read_value, put_in_map, change, insert, fill, del, unlink, give_key_back, count_key_down, count};
+ghost use Rattle.of_map.specs.MapPrograms.{seek, look_from, get, read_value, put_in_map, change, insert, fill, del, unlink, give_key_back, count_key_down, count};
 ghost use Rattle.of_mem.specs.Programs.{NeedsAt};
 ghost use Rattle.of_map.specs.Found.{HasBucketChain, HasChainFrom, Looks, CanFill, IsPositionKept, IsUnlinked};
 ghost use Rattle.of_map.specs.Means.{IsPair, PutsValue, after_del};
@@ -18,17 +19,17 @@ mod answers;
 
 use crate::answers::{Look, Position};
 pub use answers::Put;
-use of_mem::{Need, Part, Plot, Sought, Walk};
+use of_mem::{Cells, Need, Part, Plot, Sought, Walk};
 
 // Where the block of a key stands, None if the key is absent.
 #[inline(always)]
-fn seek(plot: &Plot, part: &mut Part, key: u32) -> Result<Option<Position>, Need>
-    requires { HasBucketChain plot.now part.old key }
-    ensures part { part.new ≡ part.old }
-    ensures runs { RunsProgram (seek plot.now key) part.old part.new result }
+fn seek<C: Cells>(plot: &Plot, cells: &mut C, key: u32) -> Result<Option<Position>, Need>
+    requires { MayRun (seek plot.now key) (λ p. HasBucketChain plot.now p key) (C.run cells.old) }
+    ensures part { HasOnlyRead (C.run cells.old).part (C.run cells.new).part }
+    ensures runs { RunsOn (seek plot.now key) (C.run cells.old) (C.run cells.new) result }
 {
     let sought = Sought::Key(key);
-    let start = part.walk(plot, sought);
+    let start = cells.walk_to(plot, sought);
     let mut cell = start.cell;
     for passed in start.passed..plot.blocks + 1 {
         let here = Walk {
@@ -36,17 +37,17 @@ fn seek(plot: &Plot, part: &mut Part, key: u32) -> Result<Option<Position>, Need
             cell,
             ..start
         };
-        match look(plot, part, key, cell) {
+        match look(plot, cells, key, cell) {
             Err(need) => {
-                part.keep_walk(plot, sought, here);
+                cells.keep_walk_to(plot, sought, here);
                 return Err(need);
             }
             Ok(Look::End) => {
-                part.keep_walk(plot, sought, here);
+                cells.keep_walk_to(plot, sought, here);
                 return Ok(None);
             }
             Ok(Look::Here(block)) => {
-                part.keep_walk(plot, sought, here);
+                cells.keep_walk_to(plot, sought, here);
                 return Ok(Some(Position { cell, block }));
             }
             Ok(Look::Past(link)) => cell = link,
@@ -57,20 +58,32 @@ fn seek(plot: &Plot, part: &mut Part, key: u32) -> Result<Option<Position>, Need
 
 // Looks at the block to which a cell points.
 #[inline(always)]
-fn look(plot: &Plot, part: &Part, key: u32, cell: u32) -> Result<Look, Need>
-    requires { HasChainFrom plot.now part.now cell }
-    ensures { Looks plot.now part.now key cell result }
+fn look<C: Cells>(plot: &Plot, cells: &mut C, key: u32, cell: u32) -> Result<Look, Need>
+    requires { MayRun (look_from plot.now key cell) (λ p. HasChainFrom plot.now p cell)
+        (C.run cells.old) }
+    ensures part { HasOnlyRead (C.run cells.old).part (C.run cells.new).part }
+    ensures goes { RunGoesOn (C.run cells.old) (C.run cells.new) }
+    ensures looks { Looks plot.now (C.run cells.new).part key cell result }
 {
-    let pointer = part.read(cell)?;
+    let pointer = cells.get(cell)?;
     if pointer == 0 {
         return Ok(Look::End);
     }
     let block = pointer - 1;
-    let found = part.read(plot.block(block, 0))?;
+    let found = cells.get(plot.block(block, 0))?;
     if found == key {
         return Ok(Look::Here(block));
     }
     Ok(Look::Past(plot.block(block, 2)))
+}
+
+// Seeks a key among the cells that are known.
+fn seek_known(plot: &Plot, part: &mut Part, key: u32) -> Result<Option<Position>, Need>
+    requires { HasBucketChain plot.now part.old key }
+    ensures part { part.new ≡ part.old }
+    ensures runs { RunsProgram (seek plot.now key) part.old part.new result }
+{
+    seek(plot, part, key)
 }
 
 /// Walks towards a key as far as cells are known, and changes nothing that contracts see. An error
@@ -81,32 +94,35 @@ pub fn reach(plot: &Plot, part: &mut Part, key: u32) -> Result<(), Need>
     ensures needs { MatchResult result (λ _. Unit {0})
         (λ need. NeedsAt (seek plot.now key) part.old need.addr) }
 {
-    seek(plot, part, key)?;
+    seek_known(plot, part, key)?;
     Ok(())
 }
 
-/// The value at a key. None if the key is absent. An error names a cell that must be read and is
-/// not known.
-#[tactic(auto, using(of_mem::proofs::Runs::run_then_needs))]
-pub fn get(plot: &Plot, part: &mut Part, key: u32) -> Result<Option<u32>, Need>
-    requires { HasStore plot.now part.old }
-    ensures part { part.new ≡ part.old }
-    ensures runs { RunsProgram (get plot.now key) part.old part.new result }
-    ensures answers { AnswersOfStore plot.now part.old result (λ s. fin.get s.map key) }
+/// The value at a key. None if the key is absent. An error names a cell that must be read and that
+/// `cells` didn't give.
+pub fn get<C: Cells>(plot: &Plot, cells: &mut C, key: u32) -> Result<Option<u32>, Need>
+    requires { MayRun (get plot.now key) (HasStore plot.now) (C.run cells.old) }
+    ensures part { HasOnlyRead (C.run cells.old).part (C.run cells.new).part }
+    ensures runs { RunsOn (get plot.now key) (C.run cells.old) (C.run cells.new) result }
+    ensures answers { AnswersOfStore plot.now (C.run cells.new).part result
+        (λ s. fin.get s.map key) }
 {
-    match seek(plot, part, key)? {
+    match seek(plot, cells, key)? {
         None => Ok(None),
-        Some(place) => read_value(plot, part, place.block),
+        Some(place) => read_value(plot, cells, place.block),
     }
 }
 
 // The value in a block.
-fn read_value(plot: &Plot, part: &Part, block: u32) -> Result<Option<u32>, Need>
-    requires fits { length part.now.known ≡ data_cell_count plot.now }
+#[inline(always)]
+fn read_value<C: Cells>(plot: &Plot, cells: &mut C, block: u32) -> Result<Option<u32>, Need>
+    requires run { MayRun (read_value plot.now block)
+        (λ p. length p.known ≡ data_cell_count plot.now) (C.run cells.old) }
     requires block { block < plot.now.blocks }
-    ensures { RunsProgram (read_value plot.now block) part.now part.now result }
+    ensures part { HasOnlyRead (C.run cells.old).part (C.run cells.new).part }
+    ensures runs { RunsOn (read_value plot.now block) (C.run cells.old) (C.run cells.new) result }
 {
-    let value = part.read(plot.block(block, 1))?;
+    let value = cells.get(plot.block(block, 1))?;
     Ok(Some(value))
 }
 
@@ -120,7 +136,7 @@ pub fn put(plot: &Plot, part: &mut Part, key: u32, value: u32) -> Result<Put, Ne
     ensures runs { RunsProgram (put_in_map plot.now key value) part.old part.new result }
     ensures puts { PutsValue plot.now part.old part.new key value result }
 {
-    match seek(plot, part, key)? {
+    match seek_known(plot, part, key)? {
         Some(place) => change(plot, part, place.block, value),
         None => insert(plot, part, key, value),
     }
@@ -178,7 +194,7 @@ pub fn del(plot: &Plot, part: &mut Part, key: u32) -> Result<Option<u32>, Need>
     ensures acts { ActsOnStore plot.now part.old part.new result
         (λ s. fin.get s.map key) (after_del key) }
 {
-    match seek(plot, part, key)? {
+    match seek_known(plot, part, key)? {
         None => Ok(None),
         Some(place) => unlink(plot, part, key, place),
     }
@@ -216,11 +232,12 @@ fn count_down(plot: &Plot, part: &mut Part, value: u32) -> Result<Option<u32>, N
     Ok(Some(value))
 }
 
-/// The number of keys. An error names the cell that counts them, if it is not known.
-pub fn count(plot: &Plot, part: &Part) -> Result<u32, Need>
-    requires { HasStore plot.now part.now }
-    ensures runs { RunsProgram (count plot.now) part.now part.now result }
-    ensures answers { AnswersOfStore plot.now part.now result (λ s. fin.len s.map) }
+/// The number of keys. An error names the cell that counts them, if `cells` didn't give it.
+pub fn count<C: Cells>(plot: &Plot, cells: &mut C) -> Result<u32, Need>
+    requires { MayRun (count plot.now) (HasStore plot.now) (C.run cells.old) }
+    ensures part { HasOnlyRead (C.run cells.old).part (C.run cells.new).part }
+    ensures runs { RunsOn (count plot.now) (C.run cells.old) (C.run cells.new) result }
+    ensures answers { AnswersOfStore plot.now (C.run cells.new).part result (λ s. fin.len s.map) }
 {
-    part.read(plot.keys())
+    cells.get(plot.keys())
 }

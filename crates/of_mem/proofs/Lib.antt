@@ -2,7 +2,7 @@ pub mod Lists
 pub mod WriteSets
 pub mod Chains
 pub mod Listed
-pub mod Cells
+pub mod CellPlaces
 pub mod Held
 pub mod Newest
 pub mod BucketPlaces
@@ -24,3 +24,4 @@ pub mod Filled
 pub mod FewTouches
 pub mod FewWrites
 pub mod Walks
+pub mod OnDemand

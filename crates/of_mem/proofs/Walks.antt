@@ -50,7 +50,7 @@ module _ (o blocks low : ℕ) (p q : Part) (h : HasMore p q) where
   buckets_more zero result w = w
   buckets_more (suc i) result (best, before, last) = (best, buckets_more i best before, bucket_more i best result last)
 
-came_more : (o blocks : ℕ) (s : Sought) (p q : Part) (w : Walk) → HasMore p q → CameTo o blocks s p w → CameTo o blocks s q w
+pub came_more : (o blocks : ℕ) (s : Sought) (p q : Part) (w : Walk) → HasMore p q → CameTo o blocks s p w → CameTo o blocks s q w
 came_more o blocks (Key key) p q w h c = (c.0, passes_more o key p q w.passed _ w.cell h c.1)
 came_more o blocks (LeastFrom low) p q w h (few, bucket, best, before, here) =
     (few, bucket, best, buckets_more o blocks low p q h w.bucket best before, weighs_more o blocks low p q h w.passed _ best w.cell w.best here)

@@ -6,7 +6,7 @@ use Rattle.std.proofs.lemmas.Bool.Decides.{nat_tests}
 use Rattle.std.proofs.lemmas.List.{set_comm, drop-set-lt, drop-set-add, take_more, length-take, get_or-take, take_all}
 use Rattle.of_mem.specs.CellMap.{put_pair, put_all, IsAbsent}
 use Rattle.of_mem.specs.Meaning.{with_writes_in, HasDistinctCells, SameFrom}
-use Rattle.of_mem.proofs.Cells.{put_all_take}
+use Rattle.of_mem.proofs.CellPlaces.{put_all_take}
 use Rattle.of_mem.proofs.WriteSets.{put-absent}
 
 absent_tail : (e : ℕ × ℕ) (es : List (ℕ × ℕ)) (a : ℕ) → IsAbsent (e ∷ es) a → IsAbsent es a

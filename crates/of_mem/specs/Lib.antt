@@ -13,6 +13,7 @@ pub mod Programs
 pub mod Stores
 pub mod ProgramWork
 pub mod Calls
+pub mod OnDemand
 pub mod Walks
 pub mod Touching
 pub mod ProgramTouches

@@ -1,6 +1,7 @@
 //! Partial memory, the addresses of data cells, and works, which run operations on cells.
 #![tactic(auto)]
 
+mod cells;
 mod index;
 pub mod laws;
 mod part;
@@ -12,6 +13,7 @@ mod work;
 mod workspace;
 mod write_set;
 
+pub use cells::Cells;
 pub use part::{Need, Part};
 pub use plot::{BUCKETS, MOST_BLOCKS, Plot, QUEUES, REGISTERS};
 pub use suspended_run::{MaySuspend, SuspendedRun};

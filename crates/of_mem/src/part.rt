@@ -8,7 +8,7 @@ ghost use Rattle.of_mem.specs.Walks.{HasCome};
 
 use crate::plot::Plot;
 use crate::touched_cells::TouchedCells;
-use crate::walk::{KeptWalk, Sought, Walk, front};
+use crate::walk::{KeptWalk, Sought, Walk};
 use crate::write_set::WriteSet;
 use std::alloc::{AllocError, Global};
 use std::marker::Model;
@@ -108,6 +108,15 @@ impl Part {
             self.last.is_kept = false;
         }
         before
+    }
+
+    /// The known number of a cell, whatever was written over it. None if it is not known.
+    #[inline(always)]
+    pub fn known(&self, addr: u32) -> Option<u32>
+        requires { addr < length self.now.known }
+        ensures { result ≡ get_or self.now.known addr None }
+    {
+        self.cells.known(addr)
     }
 
     /// The newest number of a cell: the script's write, or else the batch's, or else the known
@@ -222,7 +231,7 @@ impl Part {
         if !self.undone && self.last.is_of(plot, sought) {
             return self.last.walk;
         }
-        front(plot, sought)
+        Walk::front(plot, sought)
     }
 
     /// Keeps how far the walk to `sought` came, until the script writes or a known cell gets

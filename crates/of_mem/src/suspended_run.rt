@@ -194,7 +194,7 @@ fn are_same(words: &[u64], others: &[u64]) -> bool
 
 /// A work that may keep, between two runs, how far an operation came. The members say with which
 /// partial memories what is kept agrees, so that the next run may go on from it.
-pub trait MaySuspend: Copy + Send + Sync {
+pub trait MaySuspend: Copy {
     ghost use Rattle.std.specs.Prelude.{◌≡◌, ℕ, [], None};
     ghost use Rattle.std.proofs.Common.{get_or};
     ghost use Rattle.of_mem.specs.SuspendedRun.{SuspendedRun};

@@ -47,6 +47,7 @@ impl TouchedCells {
     }
 
     /// The known number of a cell, or None.
+    #[inline(always)]
     pub fn known(&self, addr: u32) -> Option<u32>
         requires { addr < length self.now.known }
         ensures { result ≡ get_or self.now.known addr None }

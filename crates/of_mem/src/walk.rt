@@ -44,6 +44,17 @@ impl Walk {
             best,
         }
     }
+
+    /// The walk to `sought` that has read nothing yet.
+    #[inline(always)]
+    pub fn front(plot: &Plot, sought: Sought) -> Walk
+        ensures { (p : Part) → HasCome plot.now sought p result }
+    {
+        match sought {
+            Sought::Key(key) => Walk::at_front(plot, key % plot.buckets(), None),
+            Sought::LeastFrom(_) => Walk::at_front(plot, 0, None),
+        }
+    }
 }
 
 // What was sought, over cells of a store that begin at which one, and how far the walk came, if one
@@ -101,16 +112,5 @@ impl KeptWalk {
             && self.base == plot.base()
             && self.blocks == plot.blocks
             && self.sought == sought
-    }
-}
-
-// The walk to this that hasn't read anything.
-#[inline(always)]
-pub(crate) fn front(plot: &Plot, sought: Sought) -> Walk
-    ensures { (p : Part) → HasCome plot.now sought p result }
-{
-    match sought {
-        Sought::Key(key) => Walk::at_front(plot, key % plot.buckets(), None),
-        Sought::LeastFrom(_) => Walk::at_front(plot, 0, None),
     }
 }

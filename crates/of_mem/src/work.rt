@@ -1,10 +1,13 @@
 //! Works: they run operations on cells.
 
-ghost use Rattle.std.specs.Prelude.{◌≡◌, ◌+◌, ◌*◌, ◌≤◌, ℕ, List, [], length};
+ghost use Rattle.std.specs.Prelude.{◌≡◌, ◌+◌, ◌*◌, ◌≤◌, ℕ, List, [], length, true};
+ghost use Rattle.std.specs.Prelude.{IfSome, IfNone};
 ghost use Rattle.of_mem.specs.declared.work.TheConstants.{MOST_INSTRS};
 ghost use Rattle.of_mem.specs.Meaning.{Meaning, IsSoundMeaning, HasRoom, KnowsSome, RunsAsWalked};
+ghost use Rattle.of_mem.specs.OnDemand.{MayReadFrom, HasReadFrom};
 ghost use Rattle.of_mem.specs.Part.{overlaid};
 
+use crate::cells::Cells;
 use crate::part::{Need, Part};
 use crate::suspended_run::{MaySuspend, SuspendedRun};
 use crate::workspace::Workspace;
@@ -107,6 +110,28 @@ pub trait Work: MaySuspend {
             op.now result part.new.script out.old out.new }
     {
         self.run_on(&mut part.part, &mut part.kept, op, out)
+    }
+
+    /// Runs an operation of 1 to `MOST_INSTRS` words that is known to write nothing, on cells that
+    /// it asks for one after the other. Ok leaves the reply in `out`. An error names the cell that
+    /// the run needs next and that `cells` didn't give; then `out` is as before. None if the work
+    /// runs no operation in this way; then nothing was read, and `run` is there.
+    fn read_from<C: Cells>(
+        &self,
+        cells: &mut C,
+        op: &[u64],
+        out: &mut RawReply,
+    ) -> Option<Result<(), Need>>
+        requires may { MayReadFrom (meaning self.now) (lawful self.now) (size self.now) op.now
+            (C.run cells.old) }
+        requires reads { (meaning self.now).reads_only op.now ≡ true }
+        requires some { 1 ≤ length op.now }
+        requires few { length op.now ≤ MOST_INSTRS }
+        ensures ran { IfSome result (λ r. HasReadFrom (meaning self.now) op.now
+            (C.run cells.old) (C.run cells.new) r out.old out.new) }
+        ensures none { IfNone result ((cells.new ≡ cells.old) × (out.new ≡ out.old)) }
+    {
+        None
     }
 
     /// Whether an operation is known to write nothing.

@@ -21,7 +21,7 @@ use Rattle.of_memory.specs.declared.handle.Handle.{Handle}
 use Rattle.of_memory.specs.History.{Made, no_made, Spent}
 use Rattle.of_memory.specs.Calls.{IsScriptOperation, IsMade, AreMade, AreOfScripts}
 use Rattle.of_memory.specs.Rows.{IsScriptsRow}
-use Rattle.of_memory.specs.Called.{TellsRaw, answered_call, made_with}
+use Rattle.of_memory.specs.Called.{TellsRaw, HoldsOfTyped, LeavesAsItWas, answered_call, made_with, no_reply, without_reply}
 use Rattle.of_memory.specs.Handles.{IsHandle, HasCallOpen, IsSame, OpensOnly, StaysOpenOnlyIfStopped}
 use Rattle.of_memory.specs.Telling.{CallsStay}
 
@@ -70,14 +70,14 @@ module _ (op : List ℕ) (es fs : List EndedCall) where
 
   module _ (script : List Instr) (is : IsScript script) (words : op ≡ map instr_word script) where
     -- an answer is that of the script
-    pub answered : (raw : RawAnswer) (a : Answer) → TellsRaw raw a → fs ≡ generic.made_with op (Ok raw) es → (ms : List Made) → AreMade es ms → AreMade fs (made_with script (Ok a) ms)
+    answered : (raw : RawAnswer) (a : Answer) → TellsRaw raw a → fs ≡ generic.made_with op (Ok raw) es → (ms : List Made) → AreMade es ms → AreMade fs (made_with script (Ok a) ms)
     answered raw a told made ms all =
         subst (λ (xs : List EndedCall). AreMade xs (made_with script (Ok a) ms)) (sym made)
         (made_more es ms (record { op = op; outcome = outcome_of raw }) (answered_call script a) all
         (record { script = is; words = words; ended = ((a.reply, told.reply, refl), sym told.seq, sym told.steps, sym told.announced) }))
 
     -- and so is an error
-    pub failed : (e : RunError) → fs ≡ generic.made_with op (Err e) es → (ms : List Made) → AreMade es ms → AreMade fs (made_with script (Err e) ms)
+    failed : (e : RunError) → fs ≡ generic.made_with op (Err e) es → (ms : List Made) → AreMade es ms → AreMade fs (made_with script (Err e) ms)
     failed (Stopped asked) made ms all = subst (λ (xs : List EndedCall). AreMade xs ms) (sym made) all
     failed (NoneLeft seq) made ms all =
         subst (λ (xs : List EndedCall). AreMade xs (made_with script (Err (NoneLeft seq)) ms)) (sym made)
@@ -85,6 +85,39 @@ module _ (op : List ℕ) (es fs : List EndedCall) where
     failed InCall made ms all = subst (λ (xs : List EndedCall). AreMade xs ms) (sym made) all
     failed NoCall made ms all = subst (λ (xs : List EndedCall). AreMade xs ms) (sym made) all
     failed NoTicket made ms all = subst (λ (xs : List EndedCall). AreMade xs ms) (sym made) all
+
+    pub made_typed : (q : Result RawAnswer RunError) → fs ≡ generic.made_with op q es → HoldsOfTyped q (λ a. (ms : List Made) → AreMade es ms → AreMade fs (made_with script a ms))
+    made_typed (Ok raw) made (Ok a) told = answered raw a told made
+    made_typed (Ok raw) made (Err e) told = absurd told
+    made_typed (Err e) made (Ok a) told = absurd told
+    made_typed (Err e) made (Err f) same = subst (λ (x : RunError). (ms : List Made) → AreMade es ms → AreMade fs (made_with script (Err x) ms)) same (failed e made)
+
+-- ---- what a raw result says without its reply
+
+abbrev pub bare : RawAnswer → RawAnswer
+bare a = record a { raw = no_reply }
+
+-- each result of a script's call says it that says the same as the raw result
+pub of_typed : (F : Result RawAnswer RunError → Type 0) → ((a : RawAnswer) → F (Ok a) → F (Ok (bare a))) → (q : Result RawAnswer RunError) → F q → HoldsOfTyped q (λ a. F (without_reply a))
+of_typed F spares (Ok raw) f (Ok a) told = subst (λ (x : RawAnswer). F (Ok x)) same (spares raw f)
+  where
+    same : bare raw ≡ record { seq = a.seq; announced = a.announced; raw = no_reply; steps = a.steps }
+    same = λ i. record { seq = sym told.seq i; announced = sym told.announced i; raw = no_reply; steps = sym told.steps i }
+of_typed F spares (Ok raw) f (Err e) told = absurd told
+of_typed F spares (Err e) f (Ok a) told = absurd told
+of_typed F spares (Err e) f (Err g) same = subst (λ (x : RunError). F (Err x)) same f
+
+-- a refused call leaves a handle as it was, if it leaves its cells so
+pub unmade_typed : (h k : Handle) (q : Result RawAnswer RunError) → generic.LeavesAsItWas q h.cells k.cells → HoldsOfTyped q (λ a. LeavesAsItWas a h k)
+unmade_typed h k q same = of_typed (λ r. generic.LeavesAsItWas r h k) (λ a unsaid. unsaid) q (of_handle q same)
+  where
+    of_handle : (q : Result RawAnswer RunError) → generic.LeavesAsItWas q h.cells k.cells → generic.LeavesAsItWas q h k
+    of_handle (Ok a) same = tt
+    of_handle (Err (Stopped asked)) same = tt
+    of_handle (Err (NoneLeft seq)) same = tt
+    of_handle (Err InCall) same = λ i. record { cells = same i }
+    of_handle (Err NoCall) same = λ i. record { cells = same i }
+    of_handle (Err NoTicket) same = λ i. record { cells = same i }
 
 -- ---- a handle after a call
 
@@ -132,12 +165,18 @@ opens_only h k op script is words only s opened = elim (only (map instr_word s) 
 ]
 
 -- the call stays open if it was stopped
-pub stays_open : (k : Handle) (op : List ℕ) (script : List Instr) → IsScript script → op ≡ map instr_word script → (e : RunError) → handles.StaysOpenOnlyIfStopped op (Err e) k.cells → StaysOpenOnlyIfStopped script (Err e) k
+stays_open : (k : Handle) (op : List ℕ) (script : List Instr) → IsScript script → op ≡ map instr_word script → (e : RunError) → handles.StaysOpenOnlyIfStopped op (Err e) k.cells → StaysOpenOnlyIfStopped script (Err e) k
 stays_open k op script is words (Stopped asked) stays = record { is = is; opened = (stays.0, stays.1 ∙ words) }
 stays_open k op script is words (NoneLeft seq) stays = stays
 stays_open k op script is words InCall stays = tt
 stays_open k op script is words NoCall stays = tt
 stays_open k op script is words NoTicket stays = tt
+
+pub open_typed : (k : Handle) (op : List ℕ) (script : List Instr) → IsScript script → op ≡ map instr_word script → (q : Result RawAnswer RunError) → handles.StaysOpenOnlyIfStopped op q k.cells → HoldsOfTyped q (λ a. StaysOpenOnlyIfStopped script a k)
+open_typed k op script is words (Ok raw) stays (Ok a) told = stays
+open_typed k op script is words (Ok raw) stays (Err e) told = absurd told
+open_typed k op script is words (Err e) stays (Ok a) told = absurd told
+open_typed k op script is words (Err e) stays (Err f) same = subst (λ (x : RunError). StaysOpenOnlyIfStopped script (Err x) k) same (stays_open k op script is words e stays)
 
 -- a handle that has told or heard
 pub same_calls : (h k : Handle) → IsHandle h → IsCellHandle scripts_meaning k.cells → IsSame h k → CallsStay h k → IsHandle k

@@ -1,5 +1,5 @@
 -- A serial order of operations that are scripts' is a serial history of these scripts on the store that the cells stand for.
-use Rattle.std.proofs.Common.{◌≡◌, ℕ, zero, suc, ◌+◌, ◌≤◌, ◌<◌, inl, inr, Bool, true, false, List, [], ◌∷◌, length, get_or, map, Ok, refl, sym, ap, subst, ◌∙◌, arith}
+use Rattle.std.proofs.Common.{◌≡◌, ℕ, zero, suc, ◌+◌, ◌≤◌, ◌<◌, inl, inr, Bool, true, false, List, [], ◌∷◌, length, get_or, map, Result, Ok, Err, refl, sym, ap, subst, ◌∙◌, arith}
 use Rattle.std.specs.Prelude.{IsTrue}
 use Rattle.std.specs.List.{All, AllByRecursion as Each}
 use Rattle.std.proofs.lemmas.List.{length-map}
@@ -33,13 +33,14 @@ use Rattle.of_row.specs.Views.{EndedCall, no_ended}
 use Rattle.of_caller.specs.Moments.{raw_reply_of}
 use Rattle.of_caller.proofs.StoresHeld.{FitsIn, script_fits, held_response, has_reply}
 use Rattle.of_cells.specs.declared.answer.RawAnswer.{RawAnswer}
+use Rattle.of_cells.specs.declared.error.RunError.{RunError}
 use Rattle.of_cells.specs.History as generic
 use Rattle.of_cells.specs.Serving.{cells_at_start}
-use Rattle.of_cells.specs.Handles.{RepliesAsMeant}
+use Rattle.of_cells.specs.Handles.{RepliesAsMeant, RefusesToGoOn, last_operation_of}
 use Rattle.of_memory.specs.declared.handle.Handle.{Handle}
 use Rattle.of_memory.specs.History.{HistoryEntry, no_history_entry, Made, no_made, End, Replied, Spent, Lost, IsSerial, store_after, StandsInOrder, EntriesRiseBySequence, HasSequenceOfEnd, HaveOwnSequences, HasEntry, ExplainsEnd, ExplainsAll, IsOneOf, HasOnly, ScriptOnlyReads, IsUpTo, ComeInOrder}
 use Rattle.of_memory.specs.Calls.{IsScriptOperation, HoldsResponse, EndsAs, AreMade}
-use Rattle.of_memory.specs.Called.{HoldsSomeReply}
+use Rattle.of_memory.specs.Called.{HasTyped}
 use Rattle.of_memory.specs.Handles.{IsHandle, home_of}
 use Rattle.of_memory.specs.Laws.{setup_with}
 use Rattle.of_memory.proofs.Called.{made_at, made_long, same_script}
@@ -281,5 +282,13 @@ module _ (w : Scripts) where
         (entry y, (y, l, refl), is.caller ∙ mine, is.ticket ∙ ticket, has_reply (sizes w) raw (length (call y).op) (entry y).reply is.some is.few is.fits (subst (SameWhereMarked S raw) is.raw same))
 
 -- an answer to a script holds a reply
-pub holds_some : (h : Handle) → IsHandle h → (op : List ℕ) → IsScriptOperation op → (a : RawAnswer) → RepliesAsMeant scripts_meaning op h.cells (Ok a) → HoldsSomeReply a
-holds_some h is op script a meant = meant_reply (key_of (home_of h)).work (cells_at_start scripts_meaning (home_of h)) op is.row.size (is.row.store, is.row.stands) script a.raw meant
+pub some_typed : (h : Handle) → IsHandle h → (op : List ℕ) → IsScriptOperation op → (q : Result RawAnswer RunError) → RepliesAsMeant scripts_meaning op h.cells q → HasTyped q
+some_typed h is op script (Ok a) meant =
+    let r = meant_reply (key_of (home_of h)).work (cells_at_start scripts_meaning (home_of h)) op is.row.size (is.row.store, is.row.stands) script a.raw meant in
+    (Ok (record { seq = a.seq; announced = a.announced; reply = r.0; steps = a.steps }), record { seq = refl; announced = refl; steps = refl; reply = r.1 })
+some_typed h is op script (Err e) meant = (Err e, refl)
+
+-- and so does the answer of a script that goes on
+pub some_resumed : (h : Handle) → IsHandle h → (q : Result RawAnswer RunError) → RefusesToGoOn h.cells q → RepliesAsMeant scripts_meaning (last_operation_of h.cells) h.cells q → HasTyped q
+some_resumed h is (Ok a) opened meant = some_typed h is (last_operation_of h.cells) (is.open_call opened) (Ok a) meant
+some_resumed h is (Err e) refused meant = (Err e, refl)

@@ -2,7 +2,6 @@
 use Rattle.std.specs.Prelude.{◌≡◌, List, [], ◌∷◌, ◌++◌, Result, Ok, Err}
 use Rattle.of_mem.specs.declared.work.RawReply.{RawReply}
 use Rattle.of_script.specs.declared.instr.Instr.{Instr}
-use Rattle.of_script.specs.declared.instr.Reply.{Reply}
 use Rattle.of_store.specs.Replies.{reply_value_of}
 use Rattle.of_eval.specs.Shapes.{IsHeldBy}
 use Rattle.of_plan.specs.declared.answer.Answer.{Answer}
@@ -23,16 +22,29 @@ without_reply (Ok a) =
     Ok (record { seq = a.seq; announced = a.announced; raw = no_reply; steps = a.steps })
 without_reply (Err e) = Err e
 
--- the answer's raw reply holds some reply of a script
-abbrev pub HoldsSomeReply : RawAnswer → Type 0
-HoldsSomeReply a = (r : Reply) × IsHeldBy a.raw r
-
 -- the answer says the same as the raw answer, and has the reply that the raw answer holds
 pub record TellsRaw (raw : RawAnswer) (a : Answer) : Type 0 where
   pub seq : a.seq ≡ raw.seq
   pub announced : a.announced ≡ raw.announced
   pub steps : a.steps ≡ raw.steps
   pub reply : IsHeldBy raw.raw a.reply
+
+-- the result of a script's call says the same as the raw result: it is an answer that tells the raw
+-- one, or the same error
+abbrev pub IsTyped : Result RawAnswer RunError → Result Answer RunError → Type 0
+IsTyped (Ok raw) (Ok a) = TellsRaw raw a
+IsTyped (Ok raw) (Err e) = ⊥
+IsTyped (Err e) (Ok a) = ⊥
+IsTyped (Err e) (Err f) = e ≡ f
+
+-- P holds of each result of a script's call that says the same as the raw result
+abbrev pub HoldsOfTyped : Result RawAnswer RunError → (Result Answer RunError → Type 0) → Type 0
+HoldsOfTyped raw P = (a : Result Answer RunError) → IsTyped raw a → P a
+
+-- some result of a script's call says the same as the raw result: the raw reply of an answer holds
+-- some reply of a script
+abbrev pub HasTyped : Result RawAnswer RunError → Type 0
+HasTyped raw = (a : Result Answer RunError) × IsTyped raw a
 
 -- the ended call of this script with this answer
 abbrev pub answered_call : List Instr → Answer → Made

@@ -1,6 +1,6 @@
 //! A handle: one caller of a memory, for one thread at a time.
 
-ghost use Rattle.of_memory.specs.Called.{HoldsSomeReply, TellsRaw};
+ghost use Rattle.of_memory.specs.Called.{HasTyped, IsTyped};
 
 use crate::memory::Memory;
 use of_cells::{CellHandle, CellNews, RawAnswer, RunError};
@@ -8,20 +8,21 @@ use of_eval::{Scripts, reply_of};
 use of_plan::Answer;
 use of_script::{MOST_INSTRS, Script, to_words};
 
-// The answer of a script's call.
-fn typed(answer: RawAnswer) -> Answer
-    requires { HoldsSomeReply answer }
-    ensures { TellsRaw answer result }
+// The result of a script's call, which says the same as the raw one.
+fn typed(raw: Result<RawAnswer, RunError>) -> Result<Answer, RunError>
+    requires { HasTyped raw }
+    ensures { IsTyped raw result }
 {
+    let answer = raw?;
     let Some(reply) = reply_of(&answer.raw) else {
         unreachable!()
     };
-    Answer {
+    Ok(Answer {
         seq: answer.seq,
         announced: answer.announced,
         reply,
         steps: answer.steps,
-    }
+    })
 }
 
 /// One caller of a memory, for one thread at a time.
@@ -35,7 +36,7 @@ impl Handle {
     ghost use Rattle.of_script.specs.declared.instr.Instr.{Instr as TheInstr};
     ghost use Rattle.of_memory.specs.Calls.{IsScriptOperation, HoldsOfScript};
     ghost use Rattle.of_memory.specs.History.{Made};
-    ghost use Rattle.of_memory.specs.Called.{LeavesAsItWas};
+    ghost use Rattle.of_memory.specs.Called.{LeavesAsItWas, HasTyped, HoldsOfTyped};
     ghost use Rattle.of_memory.specs.Within.{EndsWithin, IsNeverStopped, KeepsWithin};
     ghost use Rattle.of_memory.specs.Handles.{IsHandle, HasMade, HasOpen, IsSame, home_of};
     ghost use Rattle.of_memory.specs.Handles.{MakesCall, ResumesCall, StaysOpenOnlyIfStopped};
@@ -92,33 +93,33 @@ impl Handle {
         let len = script.len() as usize;
         let mut words = [0; MOST_INSTRS];
         to_words(script, &mut words);
-        self.run_words(&words[..len])
+        typed(self.run_words(&words[..len]))
     }
 
-    /// Runs the script that has these words, one word for each instruction, as `run` does.
-    pub fn run_words(&mut self, words: &[u64]) -> Result<Answer, RunError>
+    /// Runs the script that has these words, one word for each instruction, as `run` does. The
+    /// answer's reply is as cells hold it: a shape, and a number for each mark.
+    pub fn run_words(&mut self, words: &[u64]) -> Result<RawAnswer, RunError>
         requires handle { IsHandle self.old }
         requires words { IsScriptOperation words.now }
         ensures handle { IsHandle self.new }
         ensures same { IsSame self.old self.new }
-        ensures made { HoldsOfScript words.now (λ s. MakesCall s result self.old self.new) }
-        ensures open_call { HoldsOfScript words.now
-            (λ s. StaysOpenOnlyIfStopped s result self.new) }
-        ensures cause { RefusesCall self.old result }
-        ensures unmade { LeavesAsItWas result self.old self.new }
-        ensures bound { EndsWithin (step_bound_of self.old) result }
+        ensures some { HasTyped result }
+        ensures made { HoldsOfTyped result (λ a. HoldsOfScript words.now
+            (λ s. MakesCall s a self.old self.new)) }
+        ensures open_call { HoldsOfTyped result (λ a. HoldsOfScript words.now
+            (λ s. StaysOpenOnlyIfStopped s a self.new)) }
+        ensures cause { HoldsOfTyped result (RefusesCall self.old) }
+        ensures unmade { HoldsOfTyped result (λ a. LeavesAsItWas a self.old self.new) }
+        ensures bound { HoldsOfTyped result (EndsWithin (step_bound_of self.old)) }
         ensures rise { MakesAtMost (step_bound_of self.old) self.old self.new }
-        ensures stopped { IsNeverStopped result }
+        ensures stopped { HoldsOfTyped result IsNeverStopped }
         ensures only { HoldsOfScript words.now (λ s. OpensOnly s self.old self.new) }
-        ensures behind { BeginsAfterHeard result self.old self.new }
+        ensures behind { HoldsOfTyped result (λ a. BeginsAfterHeard a self.old self.new) }
         ensures knows { KeepsKnown self.old self.new }
         ensures alone { MakesStepsAlone self.old self.new }
-        ensures seq { KnowsSeqOf result self.old self.new }
+        ensures seq { HoldsOfTyped result (λ a. KnowsSeqOf a self.old self.new) }
     {
-        match self.cells.run(words) {
-            Ok(answer) => Ok(typed(answer)),
-            Err(error) => Err(error),
-        }
+        self.cells.run(words)
     }
 
     /// Runs a script for at most this many steps. If they are too few, the call stays open.
@@ -143,34 +144,35 @@ impl Handle {
         let len = script.len() as usize;
         let mut words = [0; MOST_INSTRS];
         to_words(script, &mut words);
-        self.run_words_within(&words[..len], steps)
+        typed(self.run_words_within(&words[..len], steps))
     }
 
-    /// Runs the script that has these words, as `run_within` does.
-    pub fn run_words_within(&mut self, words: &[u64], steps: u64) -> Result<Answer, RunError>
+    /// Runs the script that has these words, as `run_within` does. The answer's reply is as cells
+    /// hold it.
+    pub fn run_words_within(&mut self, words: &[u64], steps: u64) -> Result<RawAnswer, RunError>
         requires handle { IsHandle self.old }
         requires words { IsScriptOperation words.now }
         ensures handle { IsHandle self.new }
         ensures same { IsSame self.old self.new }
-        ensures made { HoldsOfScript words.now (λ s. MakesCall s result self.old self.new) }
-        ensures open_call { HoldsOfScript words.now
-            (λ s. StaysOpenOnlyIfStopped s result self.new) }
-        ensures cause { RefusesCall self.old result }
-        ensures unmade { LeavesAsItWas result self.old self.new }
-        ensures bound { EndsWithin (step_bound_of self.old) result }
+        ensures some { HasTyped result }
+        ensures made { HoldsOfTyped result (λ a. HoldsOfScript words.now
+            (λ s. MakesCall s a self.old self.new)) }
+        ensures open_call { HoldsOfTyped result (λ a. HoldsOfScript words.now
+            (λ s. StaysOpenOnlyIfStopped s a self.new)) }
+        ensures cause { HoldsOfTyped result (RefusesCall self.old) }
+        ensures unmade { HoldsOfTyped result (λ a. LeavesAsItWas a self.old self.new) }
+        ensures bound { HoldsOfTyped result (EndsWithin (step_bound_of self.old)) }
         ensures rise { MakesAtMost (step_bound_of self.old) self.old self.new }
-        ensures within { KeepsWithin 0 steps (steps_so_far self.new) result }
+        ensures within { HoldsOfTyped result
+            (KeepsWithin 0 steps (steps_so_far self.new)) }
         ensures given { MakesAtMost steps self.old self.new }
         ensures only { HoldsOfScript words.now (λ s. OpensOnly s self.old self.new) }
-        ensures behind { BeginsAfterHeard result self.old self.new }
+        ensures behind { HoldsOfTyped result (λ a. BeginsAfterHeard a self.old self.new) }
         ensures knows { KeepsKnown self.old self.new }
         ensures alone { MakesStepsAlone self.old self.new }
-        ensures seq { KnowsSeqOf result self.old self.new }
+        ensures seq { HoldsOfTyped result (λ a. KnowsSeqOf a self.old self.new) }
     {
-        match self.cells.run_within(words, steps) {
-            Ok(answer) => Ok(typed(answer)),
-            Err(error) => Err(error),
-        }
+        self.cells.run_within(words, steps)
     }
 
     /// Goes on with the open call, to its answer.
@@ -191,10 +193,7 @@ impl Handle {
         ensures alone { MakesStepsAlone self.old self.new }
         ensures seq { KnowsSeqOf result self.old self.new }
     {
-        match self.cells.go_on() {
-            Ok(answer) => Ok(typed(answer)),
-            Err(error) => Err(error),
-        }
+        typed(self.cells.go_on())
     }
 
     /// Goes on with the open call for at most this many steps. If they are too few, it stays open.
@@ -217,10 +216,7 @@ impl Handle {
         ensures alone { MakesStepsAlone self.old self.new }
         ensures seq { KnowsSeqOf result self.old self.new }
     {
-        match self.cells.go_on_within(steps) {
-            Ok(answer) => Ok(typed(answer)),
-            Err(error) => Err(error),
-        }
+        typed(self.cells.go_on_within(steps))
     }
 
     /// What the handle knows, for another handle of its memory to hear: which of its own calls have

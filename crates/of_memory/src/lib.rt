@@ -18,7 +18,9 @@ pub use error::{ImageTextError, InUse, LimitError, OpenError, RenumberError, Wor
 pub use handle::Handle;
 pub use lost::LostHandle;
 pub use memory::{Memory, Renumbered};
-pub use of_cells::{CellNews as News, EnrolError, NotRevived, NotStill, NotYet, RunError};
+pub use of_cells::{
+    CellNews as News, EnrolError, NotRevived, NotStill, NotYet, RawAnswer, RunError,
+};
 pub use of_plan::{Answer, GREATEST_LIMIT};
 pub use of_script::{Abort, Cause, Instr, Reply, Script, ScriptErr, parse};
 pub use of_store::Store;

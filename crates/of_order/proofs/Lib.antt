@@ -6,3 +6,4 @@ pub mod Dropping
 pub mod Drops
 pub mod DropWalks
 pub mod LeastWalk
+pub mod Asking

@@ -5,6 +5,7 @@
 ghost use Rattle.std.specs.Prelude.{◌≡◌, ◌+◌, ◌<◌, length};
 ghost use Rattle.of_mem.specs.Places.{bucket_count};
 ghost use Rattle.of_mem.specs.Calls.{RunsProgram, HasStore, AnswersOfStore, ActsOnStore};
+ghost use Rattle.of_mem.specs.OnDemand.{MayRun, RunsOn, RunGoesOn, HasOnlyRead};
 ghost use Rattle.of_order.specs.OrderPrograms as program;
 ghost use Rattle.of_mem.specs.Walks.{HasCome, better_of};
 ghost use Rattle.of_mem.specs.declared.walk.Sought.TheVariants.{LeastFrom};
@@ -12,41 +13,44 @@ ghost use Rattle.of_order.specs.Means.{least_from, dropped_count, after_drop};
 ghost use Rattle.of_order.specs.Passing.{PassesBlock, PassesBucket};
 ghost use Rattle.of_order.specs.Dropping.{IsDropping, IsDropped};
 
-use of_mem::{Need, Part, Plot, Sought, Walk};
+use of_mem::{Cells, Need, Part, Plot, Sought, Walk};
 
 /// The least key of the map. None if the map has no key. An error names a cell that must be read
-/// and is not known.
-pub fn first(plot: &Plot, part: &mut Part) -> Result<Option<u32>, Need>
-    requires { HasStore plot.now part.old }
-    ensures part { part.new ≡ part.old }
-    ensures runs { RunsProgram (program.first_program plot.now) part.old part.new result }
-    ensures answers { AnswersOfStore plot.now part.old result (λ s. least_from s.map 0) }
+/// and is not known. Nothing is written.
+pub fn first<C: Cells>(plot: &Plot, cells: &mut C) -> Result<Option<u32>, Need>
+    requires { MayRun (program.first_program plot.now) (HasStore plot.now) (C.run cells.old) }
+    ensures part { HasOnlyRead (C.run cells.old).part (C.run cells.new).part }
+    ensures runs { RunsOn (program.first_program plot.now) (C.run cells.old) (C.run cells.new)
+        result }
+    ensures answers { AnswersOfStore plot.now (C.run cells.new).part result
+        (λ s. least_from s.map 0) }
 {
-    least(plot, part, 0)
+    least(plot, cells, 0)
 }
 
 /// The least key above `key`. None if there is none. An error names a cell that must be read and is
-/// not known.
-pub fn next(plot: &Plot, part: &mut Part, key: u32) -> Result<Option<u32>, Need>
-    requires { HasStore plot.now part.old }
-    ensures part { part.new ≡ part.old }
-    ensures runs { RunsProgram (program.next plot.now key) part.old part.new result }
-    ensures answers { AnswersOfStore plot.now part.old result (λ s. least_from s.map (key + 1)) }
+/// not known. Nothing is written.
+pub fn next<C: Cells>(plot: &Plot, cells: &mut C, key: u32) -> Result<Option<u32>, Need>
+    requires { MayRun (program.next plot.now key) (HasStore plot.now) (C.run cells.old) }
+    ensures part { HasOnlyRead (C.run cells.old).part (C.run cells.new).part }
+    ensures runs { RunsOn (program.next plot.now key) (C.run cells.old) (C.run cells.new) result }
+    ensures answers { AnswersOfStore plot.now (C.run cells.new).part result
+        (λ s. least_from s.map (key + 1)) }
 {
-    least(plot, part, u64::from(key) + 1)
+    least(plot, cells, u64::from(key) + 1)
 }
 
 // The least key from this one on, None where there is none. It goes on where a run before lacked a
 // cell.
-fn least(plot: &Plot, part: &mut Part, low: u64) -> Result<Option<u32>, Need>
-    requires { HasStore plot.now part.old }
-    ensures part { part.new ≡ part.old }
-    ensures runs { RunsProgram (program.least plot.now low) part.old part.new result }
+fn least<C: Cells>(plot: &Plot, cells: &mut C, low: u64) -> Result<Option<u32>, Need>
+    requires { MayRun (program.least plot.now low) (HasStore plot.now) (C.run cells.old) }
+    ensures part { HasOnlyRead (C.run cells.old).part (C.run cells.new).part }
+    ensures runs { RunsOn (program.least plot.now low) (C.run cells.old) (C.run cells.new) result }
 {
-    let start = part.walk(plot, Sought::LeastFrom(low));
-    let mut best = pass_bucket(plot, part, low, start)?;
+    let start = cells.walk_to(plot, Sought::LeastFrom(low));
+    let mut best = pass_bucket(plot, cells, low, start)?;
     for bucket in start.bucket + 1..plot.buckets() {
-        best = pass_bucket(plot, part, low, Walk::at_front(plot, bucket, best))?;
+        best = pass_bucket(plot, cells, low, Walk::at_front(plot, bucket, best))?;
     }
     Ok(best)
 }
@@ -54,17 +58,23 @@ fn least(plot: &Plot, part: &mut Part, low: u64) -> Result<Option<u32>, Need>
 // Walks to the end of a bucket, and answers the best key of it and of the buckets before. The walk
 // to a cell that isn't known is kept.
 #[inline(always)]
-fn pass_bucket(plot: &Plot, part: &mut Part, low: u64, start: Walk) -> Result<Option<u32>, Need>
-    requires stands { HasStore plot.now part.old }
-    requires came { HasCome plot.now (LeastFrom low) part.old start }
-    ensures part { part.new ≡ part.old }
-    ensures passes { PassesBucket plot.now low part.old start result }
+fn pass_bucket<C: Cells>(
+    plot: &Plot,
+    cells: &mut C,
+    low: u64,
+    start: Walk,
+) -> Result<Option<u32>, Need>
+    requires may { MayRun (program.least plot.now low) (HasStore plot.now) (C.run cells.old) }
+    requires came { HasCome plot.now (LeastFrom low) (C.run cells.old).part start }
+    ensures part { HasOnlyRead (C.run cells.old).part (C.run cells.new).part }
+    ensures goes { RunGoesOn (C.run cells.old) (C.run cells.new) }
+    ensures passes { PassesBucket plot.now low (C.run cells.new).part start result }
 {
     let mut here = start;
     for step in start.passed..plot.blocks + 1 {
-        match pass_block(plot, part, low, here) {
+        match pass_block(plot, cells, low, here) {
             Err(need) => {
-                part.keep_walk(plot, Sought::LeastFrom(low), here);
+                cells.keep_walk_to(plot, Sought::LeastFrom(low), here);
                 return Err(need);
             }
             Ok(None) => return Ok(here.best),
@@ -77,17 +87,24 @@ fn pass_bucket(plot: &Plot, part: &mut Part, low: u64, start: Walk) -> Result<Op
 
 // The walk past the next block, None where the bucket ends.
 #[inline(always)]
-fn pass_block(plot: &Plot, part: &Part, low: u64, here: Walk) -> Result<Option<Walk>, Need>
-    requires stands { HasStore plot.now part.now }
-    requires came { HasCome plot.now (LeastFrom low) part.now here }
-    ensures { PassesBlock plot.now low part.now here result }
+fn pass_block<C: Cells>(
+    plot: &Plot,
+    cells: &mut C,
+    low: u64,
+    here: Walk,
+) -> Result<Option<Walk>, Need>
+    requires may { MayRun (program.least plot.now low) (HasStore plot.now) (C.run cells.old) }
+    requires came { HasCome plot.now (LeastFrom low) (C.run cells.old).part here }
+    ensures part { HasOnlyRead (C.run cells.old).part (C.run cells.new).part }
+    ensures goes { RunGoesOn (C.run cells.old) (C.run cells.new) }
+    ensures passes { PassesBlock plot.now low (C.run cells.new).part here result }
 {
-    let pointer = part.read(here.cell)?;
+    let pointer = cells.get(here.cell)?;
     if pointer == 0 || here.passed == plot.blocks {
         return Ok(None);
     }
     let block = pointer - 1;
-    let key = part.read(plot.block(block, 0))?;
+    let key = cells.get(plot.block(block, 0))?;
     Ok(Some(Walk {
         passed: here.passed + 1,
         cell: plot.block(block, 2),

@@ -1,12 +1,12 @@
 -- The calls of a queue read and write nothing before the first cell of the store; len writes nothing, push makes six writes at most, and pop five.
 use Rattle.std.proofs.Common.{ℕ, zero, suc, Option, Some, None, arith}
-use Rattle.of_mem.specs.Programs.{StaysFrom, OnlyReads}
+use Rattle.of_mem.specs.Programs.{StaysFrom}
 use Rattle.of_mem.specs.Touching.{WritesAtMost}
 use Rattle.of_mem.proofs.FewWrites.{writes_then}
 use Rattle.of_mem.proofs.Runs.{stays_then}
 use Rattle.of_alloc.specs.BlockPrograms.{take_program}
 use Rattle.of_alloc.proofs.Staying.{take_stays, take_few}
-use Rattle.of_queue.specs.QueuePrograms.{with_tail, push_new, push_program, give_item_block, new_end, with_head, pop_program, len_program}
+use Rattle.of_queue.specs.QueuePrograms.{with_tail, push_new, push_program, give_item_block, new_end, with_head, pop_program}
 
 module _ (o q : ℕ) where
   tail_stays : (b tail : ℕ) → StaysFrom o (with_tail o q b tail)

@@ -1,5 +1,5 @@
 -- What the code of the queues does is what a store does: the runs stay inside, and the store changes as it should.
-use Rattle.std.proofs.Common.{◌≡◌, ℕ, suc, ◌+◌, ◌<◌, ◌≤◌, refl, sym, ◌∙◌, ap, subst, arith, Bool, Option, Some, None, List, [], ◌∷◌, map, length}
+use Rattle.std.proofs.Common.{◌≡◌, ℕ, suc, ◌<◌, ◌≤◌, refl, sym, ◌∙◌, ap, subst, arith, Bool, Option, Some, None, List, [], ◌∷◌, map, length}
 use Rattle.of_mem.specs.declared.plot.TheConstants.{MOST_BLOCKS}
 use Rattle.std.specs.Prelude.{Result}
 use Rattle.of_mem.specs.Places.{head_at, cells_at}
@@ -11,8 +11,10 @@ use Rattle.of_mem.specs.declared.part.Need.{Need}
 use Rattle.of_mem.specs.declared.plot.Plot.{Plot}
 use Rattle.of_mem.specs.Plots.{base}
 use Rattle.of_mem.specs.Calls.{RunsProgram, ActsOnStore, AnswersOfStore}
+use Rattle.of_mem.specs.OnDemand.{Running, RunsOn, HasOnlyRead}
 use Rattle.of_mem.proofs.Calls.{acts, answered}
 use Rattle.of_mem.proofs.Heaps.{front_head}
+use Rattle.of_mem.proofs.OnDemand.{runs_over}
 use Rattle.of_mem.proofs.Runs.{answer_then, after_then, inside_then}
 use Rattle.of_alloc.specs.BlockPrograms.{take_program}
 use Rattle.of_alloc.proofs.Heaped.{TakesOff}
@@ -77,5 +79,10 @@ pop_acts_whole plot q q_in p n result = acts plot (pop plot q) (front_item q) (a
     record { inside = g.0; answers = g.1.0; stands = g.1.1 }) p n result
 
 -- what len answers
-pub len_answers : (plot : Plot) (q : ℕ) → q < 4 → (p : Part) (result : Result ℕ Need) → RunsProgram (len plot q) p p result → AnswersOfStore plot p result (λ s. length (s.queues q))
+len_answers : (plot : Plot) (q : ℕ) → q < 4 → (p : Part) (result : Result ℕ Need) → RunsProgram (len plot q) p p result → AnswersOfStore plot p result (λ s. length (s.queues q))
 len_answers plot q q_in p result = answered plot (len plot q) (λ s. length (s.queues q)) (λ m s h. ((omega arith, omega (arith, q_in), tt), (h.holds.queues q q_in).counted)) p result
+
+-- and where more cells come to be known
+pub lens_on : (plot : Plot) (q : ℕ) → q < 4 → (c d : Running) (result : Result ℕ Need) → HasOnlyRead c.part d.part → RunsOn (len plot q) c d result → AnswersOfStore plot d.part result (λ s. length (s.queues q))
+lens_on plot q q_in c d result same r =
+    len_answers plot q q_in d.part result (subst (λ (p : Part). RunsProgram (len plot q) p d.part result) (sym same) (runs_over (len plot q) c d result r))

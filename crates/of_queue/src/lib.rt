@@ -7,12 +7,13 @@ ghost use Rattle.of_mem.specs.declared.plot.TheConstants.{QUEUES};
 ghost use Rattle.of_mem.specs.Plots.{base, data_cell_count};
 ghost use Rattle.of_mem.specs.Places.{length_at};
 ghost use Rattle.of_mem.specs.Part.{newest_at};
+ghost use Rattle.of_mem.specs.OnDemand.{MayRun, RunsOn, HasOnlyRead};
 ghost use Rattle.of_mem.specs.Calls.{RunsProgram, HasStore, AnswersOfStore, ActsOnStore};
 ghost use Rattle.of_queue.specs.QueuePrograms.{last_cell as last_cell_of, push, append, pop, pop_front, close, give_item_back, count_item_down, len};
 ghost use Rattle.of_queue.specs.Fronts.{CanAppend, CanCount, IsFront, IsPopped};
 ghost use Rattle.of_queue.specs.Means.{IsItem, PushesItem, front_item, after_pop};
 
-use of_mem::{Need, Part, Plot};
+use of_mem::{Cells, Need, Part, Plot};
 
 /// Puts an item at the end of a queue. It answers false exactly if no block is free, and then
 /// writes nothing. An error names a cell that must be read and is not known.
@@ -131,12 +132,15 @@ fn count_down(plot: &Plot, part: &mut Part, queue: u32, item: u32) -> Result<Opt
     Ok(Some(item))
 }
 
-/// The number of items in a queue. An error names the cell that counts them, if it is not known.
-pub fn len(plot: &Plot, part: &Part, queue: u32) -> Result<u32, Need>
-    requires stands { HasStore plot.now part.now }
+/// The number of items in a queue. An error names the cell that counts them, if `cells` didn't give
+/// it.
+pub fn len<C: Cells>(plot: &Plot, cells: &mut C, queue: u32) -> Result<u32, Need>
+    requires stands { MayRun (len plot.now queue) (HasStore plot.now) (C.run cells.old) }
     requires queue { queue < QUEUES }
-    ensures runs { RunsProgram (len plot.now queue) part.now part.now result }
-    ensures answers { AnswersOfStore plot.now part.now result (λ s. length (s.queues queue)) }
+    ensures part { HasOnlyRead (C.run cells.old).part (C.run cells.new).part }
+    ensures runs { RunsOn (len plot.now queue) (C.run cells.old) (C.run cells.new) result }
+    ensures answers { AnswersOfStore plot.now (C.run cells.new).part result
+        (λ s. length (s.queues queue)) }
 {
-    part.read(plot.length(queue))
+    cells.get(plot.length(queue))
 }

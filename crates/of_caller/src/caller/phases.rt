@@ -2,9 +2,10 @@
 //! the compiler knows the place of most steps, and their code has no jump by the place. At any other
 //! place the phase ends.
 
-ghost use Rattle.std.specs.Prelude.{◌≡◌, ◌<◌, ◌≤◌, OnOk, OnErr};
+ghost use Rattle.std.specs.Prelude.{◌≡◌, ◌<◌, ◌≤◌, ℕ, OnOk, OnErr, Ok, Some, None, IsTrue};
 ghost use Rattle.of_core.specs.Machine.{IsOpen};
-ghost use Rattle.of_core.specs.declared.place.Place.TheVariants.{CopyLog, LoadTarget};
+ghost use Rattle.of_core.specs.declared.place.Place.TheVariants.{CopyLog, LoadTarget, TryCell};
+ghost use Rattle.of_core.specs.OwedRun.{OwesRun, with_cell_loaded};
 
 use super::Caller;
 use of_brake::{Brake, Steps};
@@ -15,7 +16,8 @@ use std::sync::ledger::Ledger;
 
 impl<W: Work> Caller<W> {
     ghost use Rattle.of_caller.specs.Callers.{IsCaller, caller_call};
-    ghost use Rattle.of_caller.specs.Going.{LeadsOn, LeadsToDenial, steps_left};
+    ghost use Rattle.of_caller.specs.Going.{LeadsOn, LeadsToDenial, true_caller, steps_left};
+    ghost use Rattle.of_row.specs.Rows.{owes_run};
 
     /// Makes one step, from the machine's place, if the brake allows it.
     #[inline(always)]
@@ -37,9 +39,44 @@ impl<W: Work> Caller<W> {
         ensures falls { OnOk result
             (steps_left W.meaning self.new < steps_left W.meaning self.old) }
     {
-        row.step_at(place, &mut self.member, &mut self.machine, brake)?;
-        steps.tick();
+        if self.turn_owing(place, row, brake, steps)?.is_some() {
+            self.machine.make_run();
+        }
         Ok(())
+    }
+
+    /// Makes one step, as `turn` does, but for the run of a try: if the step leads to one, the
+    /// machine owes it, and the answer is the word that the step found.
+    #[inline(always)]
+    pub(super) fn turn_owing<L: Ledger, B: Brake>(
+        &mut self,
+        place: Place,
+        row: &Row<W>,
+        brake: &mut B,
+        steps: &mut Steps<L>,
+    ) -> Result<Option<u64>, Stopped>
+        requires caller { IsCaller W.meaning row.now self.old }
+        requires here { place ≡ (caller_call self.old).place }
+        requires open { IsOpen place }
+        ensures caller { IsCaller W.meaning row.now
+            (true_caller W.meaning (owes_run result) self.new) }
+        ensures goes { OnOk result (LeadsOn W.meaning W.lawful B.denials B.left B.answers B.asks
+            row.now self.old brake.old steps.old
+            (true_caller W.meaning (owes_run result) self.new) brake.new steps.new) }
+        ensures denied { OnErr result (LeadsToDenial W.meaning W.lawful B.denials B.left B.answers
+            B.asks row.now self.old brake.old steps.old self.new brake.new steps.new) }
+        ensures falls { OnOk result (steps_left W.meaning
+            (true_caller W.meaning (owes_run result) self.new) < steps_left W.meaning self.old) }
+        ensures owes { IsTrue (owes_run result) → OwesRun W.meaning W.lawful self.new.machine }
+        ensures loaded { (a found : ℕ) → place ≡ TryCell a → result ≡ Ok (Some found)
+            → self.new.machine ≡ with_cell_loaded W.meaning self.old.machine a found }
+        ensures over { (a : ℕ) → place ≡ TryCell a → result ≡ Ok None
+            → (caller_call self.new).known ≡ (caller_call self.old).known }
+        ensures same { OnErr result (self.new ≡ self.old) }
+    {
+        let owed = row.step_owing(place, &mut self.member, &mut self.machine, brake)?;
+        steps.tick();
+        Ok(owed)
     }
 
     /// Makes a step of the open call, and then those after it, as far as the phases go.
@@ -62,6 +99,9 @@ impl<W: Work> Caller<W> {
     {
         if let Place::TryCurrent = self.machine.place() {
             return self.read(row, brake, steps);
+        }
+        if let Place::TryCell(addr) = self.machine.place() {
+            return self.read_on(Place::TryCell(addr), row, brake, steps);
         }
         if let Place::CopyLog(at) = self.machine.place() {
             return self.copy(at, row, brake, steps);
@@ -381,10 +421,32 @@ impl<W: Work> Caller<W> {
         let Place::TryRequest = self.machine.place() else {
             return Ok(());
         };
-        self.turn(Place::TryRequest, row, brake, steps)?;
-        while let Place::TryCell(addr) = self.machine.place() {
-            self.turn(Place::TryCell(addr), row, brake, steps)?;
+        self.read_on(Place::TryRequest, row, brake, steps)
+    }
+
+    /// Makes a step of a try, and the run to which it leads.
+    #[inline(always)]
+    fn read_on<L: Ledger, B: Brake>(
+        &mut self,
+        place: Place,
+        row: &Row<W>,
+        brake: &mut B,
+        steps: &mut Steps<L>,
+    ) -> Result<(), Stopped>
+        requires caller { IsCaller W.meaning row.now self.old }
+        requires here { place ≡ (caller_call self.old).place }
+        requires open { IsOpen place }
+        ensures caller { IsCaller W.meaning row.now self.new }
+        ensures goes { OnOk result (LeadsOn W.meaning W.lawful B.denials B.left B.answers B.asks
+            row.now self.old brake.old steps.old self.new brake.new steps.new) }
+        ensures denied { OnErr result (LeadsToDenial W.meaning W.lawful B.denials B.left B.answers
+            B.asks row.now self.old brake.old steps.old self.new brake.new steps.new) }
+        ensures falls { OnOk result
+            (steps_left W.meaning self.new < steps_left W.meaning self.old) }
+    {
+        match self.turn_owing(place, row, brake, steps)? {
+            Some(_) => self.run_read(row, brake, steps),
+            None => Ok(()),
         }
-        Ok(())
     }
 }

@@ -1,13 +1,15 @@
 //! What a machine shows of the step that it makes next, and of the batch that it would commit.
 
-ghost use Rattle.std.specs.Prelude.{◌≡◌, map};
+ghost use Rattle.std.specs.Prelude.{◌≡◌, ◌≤◌, map, take};
+ghost use Rattle.of_mem.specs.declared.work.TheConstants.{MOST_INSTRS};
 ghost use Rattle.of_core.specs.Helping.{helped_owner};
 ghost use Rattle.of_core.specs.Inside.{call_value};
 
 use crate::call::Call;
 use crate::machine::Machine;
+use crate::machine::logs::padded_words;
 use crate::place::Place;
-use of_mem::Work;
+use of_mem::{MOST_INSTRS, Work};
 
 impl<W: Work> Machine<W> {
     /// Where the call is: a place has the name of the step that comes next.
@@ -16,6 +18,14 @@ impl<W: Work> Machine<W> {
         ensures { result ≡ self.now.call.place }
     {
         self.place
+    }
+
+    /// The words of the call's operation, followed by zeros, and how many they are.
+    pub fn operation(&self) -> ([u64; MOST_INSTRS], usize)
+        ensures words { take result.1 result.0 ≡ self.now.call.op }
+        ensures few { result.1 ≤ MOST_INSTRS }
+    {
+        (padded_words(&self.op), self.op.len())
     }
 
     /// The caller whose log the call copies or applies as a helper. None if the call does not help.

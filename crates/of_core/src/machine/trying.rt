@@ -62,7 +62,7 @@ impl<W: Work> Machine<W> {
     }
 
     /// Begins the next try, or begins to announce the call if no more tries are allowed.
-    fn end_try(&mut self)
+    pub(super) fn end_try(&mut self)
         requires some { 1 ≤ length self.old.call.op }
         ensures { self.new ≡ machine_after W.meaning
             (λ S m. end_try m (nat_lt m.tries MOST_TRIES)) self.old }
@@ -79,16 +79,13 @@ impl<W: Work> Machine<W> {
         requires some { 1 ≤ length self.old.call.op }
         ensures { self.new ≡ machine_after W.meaning begin_reading self.old }
     {
-        self.part.clear();
-        self.helps = false;
-        // cells are asked for from here on
-        self.place = Place::TryCell(0);
+        self.open_reading();
         self.read_on();
     }
 
     /// Runs the operation on the known cells of the state. If the run needs another cell, the
     /// machine goes on to load that cell; otherwise the call is answered.
-    fn read_on(&mut self)
+    pub(super) fn read_on(&mut self)
         requires reading { is_reading self.old.call.place ≡ true }
         requires some { 1 ≤ length self.old.call.op }
         requires agrees { KnowsState W.lawful self.old self.old.call.known }

@@ -1,6 +1,5 @@
-use Rattle.std.proofs.Common.{rules}
-use Rattle.of_map.proofs.Wholes.{count_answers}
+use Rattle.of_map.proofs.GetsOn.{counts_on}
 use Rattle.of_map.proofs.count.Goals as goal
 
 pub returns-clause-answers : goal.returns-clause-answers
-returns-clause-answers c = count_answers c.args.plot.now c.args.part.now c.read.result (search rules)
+returns-clause-answers g c = counts_on c.args.plot.now _ (g.C.Cells.run c.get.new.self) c.get.result c.get.ensures.part (rw c.keys.ensures at c.get.ensures.runs)

@@ -6,11 +6,11 @@ use Rattle.of_map.proofs.Knows.{leads_bucket, seek_kept, kept_below}
 use Rattle.of_map.proofs.Wholes.{put_acts}
 use Rattle.of_map.proofs.put.Goals as goal
 
-pub seek-requires : goal.seek-requires
-seek-requires c = leads_bucket c.args.plot.now c.args.part.now c.args.key c.requires.stands
+pub seek_known-requires : goal.seek_known-requires
+seek_known-requires c = leads_bucket c.args.plot.now c.args.part.now c.args.key c.requires.stands
 
 pub change-requires-clause-block : goal.change-requires-clause-block
-change-requires-clause-block c = kept_below c.args.plot.now c.args.part.now c.args.key c.in-Some.place (seek_kept c.args.plot.now c.args.part.now c.seek.new.part c.args.key _ c.in-Some.place c.requires.stands c.in_ok-place.ensures.runs c.in-Some.is)
+change-requires-clause-block c = kept_below c.args.plot.now c.args.part.now c.args.key c.in-Some.place (seek_kept c.args.plot.now c.args.part.now c.seek_known.new.part c.args.key _ c.in-Some.place c.requires.stands c.in_ok-place.ensures.runs c.in-Some.is)
 
 pub returns-in-Some-clause-runs : goal.returns-in-Some-clause-runs
 returns-in-Some-clause-runs c = goes_on (seek c.args.plot.now c.args.key) (put_found (base c.args.plot.now) c.args.plot.now.blocks c.args.key c.args.value) _ _ _ _ (Some c.in-Some.place) c.change.result c.in_ok-place.ensures.runs c.in-Some.is c.change.ensures.runs

@@ -7,10 +7,10 @@ use Rattle.example_accounts.proofs.Tellers.{one_leaves, one_less, log_more, seat
 use Rattle.example_accounts.proofs.day.gather.Goals as goal
 
 pub leave-requires-clause-handle : goal.leave-requires-clause-handle
-leave-requires-clause-handle c κs = (one_leaves c.loop-teller.memory _ c.loop-teller.tellers.items c.pop.new.self.items c.in-Some.teller c.in-Some.ensures.items c.loop-teller.invariant.tellers).1.serves.handle
+leave-requires-clause-handle c = (one_leaves c.loop-teller.memory _ c.loop-teller.tellers.items c.pop.new.self.items c.in-Some.teller c.in-Some.ensures.items c.loop-teller.invariant.tellers).1.serves.handle
 
 pub leave-requires-clause-from : goal.leave-requires-clause-from
-leave-requires-clause-from c κs = (one_leaves c.loop-teller.memory _ c.loop-teller.tellers.items c.pop.new.self.items c.in-Some.teller c.in-Some.ensures.items c.loop-teller.invariant.tellers).1.from
+leave-requires-clause-from c = (one_leaves c.loop-teller.memory _ c.loop-teller.tellers.items c.pop.new.self.items c.in-Some.teller c.in-Some.ensures.items c.loop-teller.invariant.tellers).1.from
 
 pub loop-teller-preserved : goal.loop-teller-preserved
 loop-teller-preserved c =

@@ -1,20 +1,52 @@
-use Rattle.std.proofs.Common.{ℕ, Option, arith, refl, sym, subst}
+use Rattle.std.proofs.Common.{◌≡◌, ◌<◌, ◌≤◌, ℕ, Option, Some, ap, arith, refl, sym, subst}
 use Rattle.of_script.specs.declared.instr.Reply.{Reply}
 use Rattle.of_memory.specs.Asking.{ShowLastCall}
+use Rattle.of_memory.specs.Memories.{callers_of}
 use Rattle.of_memory.proofs.Asked.{so_too}
 use Rattle.of_c.specs.declared.held.Held.{Held}
+use Rattle.of_c.specs.declared.held.Held.TheVariants.{Memory}
+use Rattle.of_c.specs.declared.held.Home.{Home}
 use Rattle.of_c.specs.Asking.{ShowsLastCall, ShowsNoCall}
-use Rattle.of_c.specs.Causes.{KeepsHeld}
+use Rattle.of_c.specs.Causes.{KeepsHeld, HoldsMemoryWith, HasNoNumber}
 use Rattle.of_c.specs.Slots.{HasMemory}
 use Rattle.of_c.proofs.Knowing.{keeps_memory, keeps_held}
 use Rattle.of_c.proofs.asking.last_reply_of_held.Goals as goal
 
+-- a memory that has this number
+has_number : (n : ℕ) (held : Held) (home : Home) → held ≡ Memory home → n < callers_of home.memory → HoldsMemoryWith (HasNoNumber n) (Some held) → ⊥
+has_number n held home is few none =
+    let same : home.memory ≡ none.memory = subst (λ (h : Held). HasMemory h none.memory) is none.is in
+    let past : callers_of none.memory ≤ n = none.so in
+    let many = ap callers_of same in
+    omega (arith, few, past, many)
+
 pub returns-then-number-callers-clause-range : goal.returns-then-number-callers-clause-range
-returns-then-number-callers-clause-range c out = record {
-  memory = c.in-Memory.home.memory;
-  is = subst (λ (h : Held). HasMemory h c.in-Memory.home.memory) (sym c.in-Memory.is) refl;
-  so = omega (arith, c.if-number-callers.true, c.callers.ensures);
-}
+returns-then-number-callers-clause-range c = (
+  λ out. record {
+    memory = c.in-Memory.home.memory;
+    is = subst (λ (h : Held). HasMemory h c.in-Memory.home.memory) (sym c.in-Memory.is) refl;
+    so = omega (arith, c.if-number-callers.true, c.callers.ensures);
+  },
+  λ none. refl,
+)
+
+pub returns-in-Ok-Some-clause-range : goal.returns-in-Ok-Some-clause-range
+returns-in-Ok-Some-clause-range c = (
+  λ out. absurd (omega (arith, out)),
+  λ none. absurd (has_number c.args.number c.args.held.now c.in-Memory.home c.in-Memory.is (omega (arith, c.if-number-callers.false, c.callers.ensures)) none),
+)
+
+pub returns-in-Ok-None-clause-range : goal.returns-in-Ok-None-clause-range
+returns-in-Ok-None-clause-range c = (
+  λ out. absurd (omega (arith, out)),
+  λ none. absurd (has_number c.args.number c.args.held.now c.in-Memory.home c.in-Memory.is (omega (arith, c.if-number-callers.false, c.callers.ensures)) none),
+)
+
+pub returns-in-Err-clause-range : goal.returns-in-Err-clause-range
+returns-in-Err-clause-range c = (
+  λ out. absurd (omega (arith, out)),
+  λ none. absurd (has_number c.args.number c.args.held.now c.in-Memory.home c.in-Memory.is (omega (arith, c.if-number-callers.false, c.callers.ensures)) none),
+)
 
 pub returns-then-number-callers-clause-kept : goal.returns-then-number-callers-clause-kept
 returns-then-number-callers-clause-kept c = subst (KeepsHeld c.args.held.now) c.in-Memory.is (keeps_held c.args.held.now)

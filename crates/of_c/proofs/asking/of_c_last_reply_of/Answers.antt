@@ -1,5 +1,6 @@
-use Rattle.std.proofs.Common.{◌∙◌, ap, sym, subst}
-use Rattle.std.specs.Prelude.{Option, Some}
+use Rattle.std.proofs.Common.{◌≡◌, ◌∙◌, ap, sym, subst}
+use Rattle.std.specs.Prelude.{◌↔◌, Option, Some}
+use Rattle.of_c.specs.declared.codes.TheConstants.{RANGE}
 use Rattle.of_c.specs.declared.held.Held.{Held}
 use Rattle.of_c.specs.Asking.{WasHeldSo, WasHeldBusy, ShowsLastCall, ShowsNoCall}
 use Rattle.of_c.specs.Causes.{HoldsMemoryWith, HasNoNumber}
@@ -24,6 +25,6 @@ returns-clause-busy c later =
     (subst (WasHeldBusy (Some c.deref_mut.result.now)) (sym c.put.ensures) (c.last_reply_of_held-code.ensures.busy later))
 
 pub returns-clause-range : goal.returns-clause-range
-returns-clause-range c out =
-    subst (λ (h : Option Held). HoldsMemoryWith (HasNoNumber c.args.number) h)
-    (ap Some c.deref_mut.ensures.value ∙ sym c.in-Some.ensures.some) (c.last_reply_of_held-code.ensures.range out)
+returns-clause-range c =
+    subst (λ (h : Option Held). (c.last_reply_of_held-code.result ≡ RANGE) ↔ HoldsMemoryWith (HasNoNumber c.args.number) h)
+    (ap Some c.deref_mut.ensures.value ∙ sym c.in-Some.ensures.some) c.last_reply_of_held-code.ensures.range

@@ -1,9 +1,8 @@
 use Rattle.std.proofs.Common.{◌∙◌, sym}
-use denote.Param.Send.{sendable}
 use Rattle.of_cells.proofs.at_once.work_all.Goals as goal
 
 pub for_each_mut-requires-clause-accepts : goal.for_each_mut-requires-clause-accepts
-for_each_mut-requires-clause-accepts g c κs within i p lt at = ((c.requires.may, c.requires.gives, c.requires.slots i p.now lt at), (search sendable depth 20, search sendable depth 20, search sendable depth 20))
+for_each_mut-requires-clause-accepts g c κs within i p lt at = (c.requires.may, c.requires.gives, c.requires.slots i p.now lt at)
 
 pub returns : goal.returns
 returns g c i d lt p is =

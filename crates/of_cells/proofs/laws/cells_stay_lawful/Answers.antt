@@ -3,6 +3,6 @@ use Rattle.of_cells.proofs.laws.cells_stay_lawful.Goals as goal
 
 pub returns : goal.returns
 returns g c =
-    let laws = g.met.W.Work g.world.𝓛 g.world.𝓜 g.world.𝓡 ((λ s x. x), (λ x. x), (λ x. x), λ x. x) in
+    let laws = g.met.W.Work in
     let w = c.args.work in
     stay_lawful (g.W.Work.meaning w) (g.W.Work.lawful w) _ (g.W.Work.size w) (laws.sound w)

@@ -11,7 +11,7 @@ use Rattle.of_cells.proofs.seating.gather.Goals as goal
 use Rattle.of_cells.proofs.seating.gather.Goals.{in-Some, in_default}
 
 pub gather_one-pass-requires-clause-serves : goal.gather_one-pass-requires-clause-serves
-gather_one-pass-requires-clause-serves g c κs within =
+gather_one-pass-requires-clause-serves g c =
     let n = c.loop-number.number in
     let low : n ≤ n = omega arith in
     c.requires.serve n c.in-Some.caller (sym (c.loop-number.invariant.rest n low) ∙ sym c.in-Some.ensures.caller)

@@ -11,7 +11,7 @@ use Rattle.of_core.proofs.bank.idle_machines.Goals as goal
 pub start_ticket-made-requires-clause-own : goal.start_ticket-made-requires-clause-own
 start_ticket-made-requires-clause-own g c =
     let a = c.args in
-    let laws = g.met.W.Work g.world.𝓛 g.world.𝓜 g.world.𝓡 ((λ s x. x), (λ x. x), (λ x. x), λ x. x) in
+    let laws = g.met.W.Work in
     let fits = laws.fits a.work in
     omega (arith, fits.own, c.requires.callers, c.requires.cells)
 

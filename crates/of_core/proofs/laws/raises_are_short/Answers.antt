@@ -6,7 +6,7 @@ use Rattle.of_core.proofs.LevelCells.{settles, undisturbed, raises_stand, evicts
 
 pub returns : goal.returns
 returns g c =
-    let laws = g.met.W.Work g.world.𝓛 g.world.𝓜 g.world.𝓡 ((λ s x. x), (λ x. x), (λ x. x), λ x. x) in
+    let laws = g.met.W.Work in
     let S = setup_for g.W.Work.many g.W.Work.size g.W.Work.meaning c.args.limit c.args.work in
     let L = g.W.Work.lawful c.args.work in
     let sound = laws.sound c.args.work in

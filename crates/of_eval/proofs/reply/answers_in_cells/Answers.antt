@@ -1,4 +1,4 @@
-use Rattle.std.proofs.Common.{◌≡◌, ◌≤◌, ◌<◌, List, Option, Some, ◌≢◌, ℕ, ◌+◌, ◌*◌, ◌^◌, ◌%◌, length, take, get_or, set, refl, sym, ◌∙◌, ap, arith, length-set, None, is_some}
+use Rattle.std.proofs.Common.{◌≡◌, ◌≤◌, ◌<◌, List, Option, Some, ◌≢◌, ℕ, ◌+◌, ◌*◌, ◌^◌, ◌%◌, length, take, get_or, set, sym, ◌∙◌, ap, arith, length-set, None, is_some}
 use Rattle.std.proofs.lemmas.List.{take_more, take_more_set, get_or-set_other}
 use Rattle.of_store.proofs.Values.{none_left}
 use Rattle.of_eval.specs.Shapes.{mask_of}

@@ -9,7 +9,7 @@ use Rattle.of_lives.proofs.Continuing.{row_at, table_at, starts_at, left, keep_a
 use Rattle.of_lives.proofs.life.continue_from.Goals as goal
 
 pub start-requires-clause-row : goal.start-requires-clause-row
-start-requires-clause-row g c κs =
+start-requires-clause-row g c =
     let p = c.args.plan.now in
     let begins = image_begins c.args.image.now p c.requires.image c.requires.fits in
     row_at p c.deref.result.now c.shape.result.callers c.shape.result.cells c.limit.result c.of_plan-work.result.callers c.of_plan-work.result.blocks c.shape.ensures.callers c.shape.ensures.cells c.limit.ensures.value c.of_plan-work.ensures.callers c.of_plan-work.ensures.blocks

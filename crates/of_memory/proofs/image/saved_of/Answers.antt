@@ -4,7 +4,7 @@ use Rattle.of_memory.proofs.Texts.{image_starts, image_saved, image_held}
 use Rattle.of_memory.proofs.image.saved_of.Goals as goal
 
 pub of_recovered-requires-clause-row : goal.of_recovered-requires-clause-row
-of_recovered-requires-clause-row c κ = image_starts (record { callers = c.image.inside.callers; blocks = c.image.inside.blocks; some_callers = c.scripts-1.given.0; few_callers = c.scripts-1.given.1.0; few_blocks = c.scripts-1.given.1.1.0 }) _ c.args.image (sym (ap (λ (v : Image). v.row) c.image.view_is)) c.requires.image c.args.limit c.requires.within
+of_recovered-requires-clause-row c = image_starts (record { callers = c.image.inside.callers; blocks = c.image.inside.blocks; some_callers = c.scripts-1.given.0; few_callers = c.scripts-1.given.1.0; few_blocks = c.scripts-1.given.1.1.0 }) _ c.args.image (sym (ap (λ (v : Image). v.row) c.image.view_is)) c.requires.image c.args.limit c.requires.within
 
 pub returns-clause-saved : goal.returns-clause-saved
 returns-clause-saved c =

@@ -5,9 +5,9 @@ use Rattle.test_cells.proofs.starts.bank_from.Goals as goal
 
 pub start-requires-clause-cells : goal.start-requires-clause-cells
 unfolding buckets_behind
-start-requires-clause-cells c κs = refl
+start-requires-clause-cells c = refl
 
 pub start-requires-clause-row : goal.start-requires-clause-row
 unfolding buckets_behind
-start-requires-clause-row c κs =
+start-requires-clause-row c =
     subst (λ (row : List ℕ). MayStartFrom alone c.args.limit row) (sym c.as_slice.ensures) c.requires.row

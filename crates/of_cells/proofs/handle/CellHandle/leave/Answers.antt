@@ -5,7 +5,7 @@ use Rattle.of_cells.proofs.Times.{order_in, remembers, tells_memory}
 use Rattle.of_cells.proofs.handle.CellHandle.leave.Goals as goal
 
 pub take_in-requires-clause-caller : goal.take_in-requires-clause-caller
-take_in-requires-clause-caller g c κs within = serves_there g.W.Work.meaning c.args.memory.now c.args.self c.requires.from c.requires.handle
+take_in-requires-clause-caller g c = serves_there g.W.Work.meaning c.args.memory.now c.args.self c.requires.from c.requires.handle
 
 pub returns-clause-order : goal.returns-clause-order
 returns-clause-order g c =

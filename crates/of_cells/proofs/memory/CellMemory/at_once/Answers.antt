@@ -3,12 +3,12 @@ use Rattle.of_cells.proofs.Handing.{written, may_work, may_after, all_worked, ot
 use Rattle.of_cells.proofs.memory.CellMemory.at_once.Goals as goal
 
 pub hand_out-requires-clause-few : goal.hand_out-requires-clause-few
-hand_out-requires-clause-few g c κs within =
+hand_out-requires-clause-few g c =
     let long : vec_len c.args.tasks.now ≡ length c.args.tasks.now.items = search rules in
     omega (arith, c.if-len-callers.false, c.callers-callers.ensures, c.len.ensures, long)
 
 pub hand_out-requires-clause-small : goal.hand_out-requires-clause-small
-hand_out-requires-clause-small g c κs within =
+hand_out-requires-clause-small g c =
     let low : c.callers-callers.result < 4294967296 = search rules in
     omega (arith, c.if-len-callers.false, c.len.ensures, low)
 
@@ -17,7 +17,7 @@ work_all-requires-clause-slots g c κs within =
     may_work g.W.Work.meaning c.args.self.now c.hand_out.new.self c.args.tasks.now.items c.hand_out.new.tasks.items c.hand_out.new.slots.items c.in-Ok-hand_out.ensures.out c.as_mut_slice.result.now c.as_mut_slice.ensures.value
 
 pub take_back-requires-clause-room : goal.take_back-requires-clause-room
-take_back-requires-clause-room g c κs within =
+take_back-requires-clause-room g c =
     let e = c.in-Ok-hand_out.ensures in
     let before : vec_len c.args.tasks.now ≡ length c.args.tasks.now.items = search rules in
     let there : vec_len c.args.tasks.now ≤ vec_capacity c.args.tasks.now = search rules in
@@ -26,11 +26,11 @@ take_back-requires-clause-room g c κs within =
     omega (arith, e.out.count, e.room, before, there, left, slots)
 
 pub take_back-requires-in-Err-clause-slots : goal.take_back-requires-in-Err-clause-slots
-take_back-requires-in-Err-clause-slots g c κs within =
+take_back-requires-in-Err-clause-slots g c =
     may_leave_again g.W.Work.meaning c.args.self.now c.hand_out.new.self c.args.tasks.now.items c.hand_out.new.tasks.items c.hand_out.new.slots.items c.in-Err.ensures.out c.in-Err.ensures.still
 
 pub take_back-requires-clause-slots : goal.take_back-requires-clause-slots
-take_back-requires-clause-slots g c κs within =
+take_back-requires-clause-slots g c =
     let m = c.args.self.now in
     let xs = c.args.tasks.now.items in
     let ss = c.hand_out.new.slots.items in

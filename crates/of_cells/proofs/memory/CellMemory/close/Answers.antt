@@ -4,7 +4,7 @@ use Rattle.of_cells.specs.Serving.{AllHere}
 use Rattle.of_cells.proofs.memory.CellMemory.close.Goals as goal
 
 pub close_at_home-requires-clause-here : goal.close_at_home-requires-clause-here
-close_at_home-requires-clause-here g c κs within =
+close_at_home-requires-clause-here g c =
     subst (λ cs. AllHere cs (length cs)) c.deref.ensures.value (c.all_here.ensures.0 c.if-all_here.true)
 
 pub returns-then-all_here-clause-here : goal.returns-then-all_here-clause-here

@@ -7,10 +7,10 @@ use Rattle.of_cells.proofs.Holding.{history}
 use Rattle.of_cells.proofs.memory.CellMemory.close_at_home.Goals as goal
 
 pub gather-pass-requires-clause-serve : goal.gather-pass-requires-clause-serve
-gather-pass-requires-clause-serve g c κs within = subst (λ r. ServeAll g.W.Work.meaning r c.args.self.callers.items) (sym c.deref.ensures) c.requires.memory.serve
+gather-pass-requires-clause-serve g c = subst (λ r. ServeAll g.W.Work.meaning r c.args.self.callers.items) (sym c.deref.ensures) c.requires.memory.serve
 
 pub close-requires-clause-keeps : goal.close-requires-clause-keeps
-close-requires-clause-keeps g c κs within =
+close-requires-clause-keeps g c =
     keeps_asked c.args.self.callers.items _ c.gather-pass.result.seat.me.0 (c.requires.memory.each ∙ ap (λ r. (key_of r).callers) (sym c.deref-2.ensures)) c.requires.here c.gather-pass.ensures.keeps
 
 pub returns-clause-history : goal.returns-clause-history

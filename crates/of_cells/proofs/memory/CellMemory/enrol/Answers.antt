@@ -10,7 +10,7 @@ use Rattle.of_cells.proofs.Times.{order_out, remembers, hears_memory, prefix_sam
 use Rattle.of_cells.proofs.memory.CellMemory.enrol.Goals as goal
 
 pub exchange-requires-clause-caller : goal.exchange-requires-clause-caller
-exchange-requires-clause-caller g c κs within =
+exchange-requires-clause-caller g c =
     subst (λ r. IsCaller g.W.Work.meaning r c.in-Some.caller) (sym c.deref.ensures) (c.requires.serve c.args.number c.in-Some.caller (sym c.in-Some.ensures.caller)).caller
 
 pub returns-in-Some-clause-memory : goal.returns-in-Some-clause-memory

@@ -23,14 +23,14 @@ unreachable-requires g c =
     c.in_default-slot.not-Some may.0 may.1
 
 pub leave-requires-clause-handle : goal.leave-requires-clause-handle
-leave-requires-clause-handle g c κs within =
+leave-requires-clause-handle g c =
     let inv = c.loop-slot.invariant in
     let may = next_leaves g.W.Work.meaning c.args.self.now (length c.args.tasks.now.items) c.args.slots.items c.loop-slot.slots.items c.pop.new.self.items c.in-Some.slot c.requires.slots c.in-Some.ensures.items inv.back.low inv.front in
     let pair : CellHandle g.row.W.Denot × g.row.J.Denot = (c.in-Some-slot.handle, c.in-Some-slot.task) in
     (subst (MayLeave g.W.Work.meaning c.args.self.now _ _) (same_some may.0 pair c.in-Some.slot may.1 c.in-Some-slot.is) may.3).handle
 
 pub leave-requires-clause-from : goal.leave-requires-clause-from
-leave-requires-clause-from g c κs within =
+leave-requires-clause-from g c =
     let inv = c.loop-slot.invariant in
     let may = next_leaves g.W.Work.meaning c.args.self.now (length c.args.tasks.now.items) c.args.slots.items c.loop-slot.slots.items c.pop.new.self.items c.in-Some.slot c.requires.slots c.in-Some.ensures.items inv.back.low inv.front in
     let pair : CellHandle g.row.W.Denot × g.row.J.Denot = (c.in-Some-slot.handle, c.in-Some-slot.task) in

@@ -8,10 +8,10 @@ use Rattle.of_cells.proofs.Holding.{others_set, opens_set, orders_set, low_numbe
 use Rattle.of_cells.proofs.memory.CellMemory.take_in.Goals as goal
 
 pub exchange-requires-clause-caller : goal.exchange-requires-clause-caller
-exchange-requires-clause-caller g c κs within = subst (λ r. IsCaller g.W.Work.meaning r c.args.caller) (sym c.deref.ensures) c.requires.caller.caller
+exchange-requires-clause-caller g c = subst (λ r. IsCaller g.W.Work.meaning r c.args.caller) (sym c.deref.ensures) c.requires.caller.caller
 
-pub put_at-requires-after_bounds : goal.put_at-requires-after_bounds
-put_at-requires-after_bounds g c κs within = low_number g.W.Work.meaning c.args.self.now c.args.number c.args.caller c.requires.memory c.requires.caller
+pub put_at-requires : goal.put_at-requires
+put_at-requires g c = low_number g.W.Work.meaning c.args.self.now c.args.number c.args.caller c.requires.memory c.requires.caller
 
 pub returns-clause-memory : goal.returns-clause-memory
 returns-clause-memory g c =

@@ -19,7 +19,7 @@ returns-clause-size g c = ap (λ r. (key_of r).cells) c.in_ok-memory.ensures.row
 
 pub returns-clause-lawful : goal.returns-clause-lawful
 returns-clause-lawful g c =
-    let laws = g.met.W.Work g.world.𝓛 g.world.𝓜 g.world.𝓡 ((λ s x. x), (λ x. x), (λ x. x), λ x. x) in
+    let laws = g.met.W.Work in
     let w = c.args.work in
     let n = g.W.Work.size w in
     let long = length-replicate n 0 in

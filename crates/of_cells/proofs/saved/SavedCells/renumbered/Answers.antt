@@ -4,7 +4,7 @@ use Rattle.of_cells.proofs.saved.SavedCells.renumbered.Goals as goal
 
 pub returns-clause-saved : goal.returns-clause-saved
 returns-clause-saved g c =
-    let laws = g.met.W.Work g.world.𝓛 g.world.𝓜 g.world.𝓡 ((λ s x. x), (λ x. x), (λ x. x), λ x. x) in
+    let laws = g.met.W.Work in
     let d = c.args.self in
     let h = c.requires in
     let some : 1 ≤ d.shape.callers = omega (arith, h.callers, (laws.fits d.work).some) in

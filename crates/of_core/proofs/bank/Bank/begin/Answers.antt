@@ -59,7 +59,7 @@ returns g c =
     carry M _ old _ (Begins i c.args.op.now ∷ []) c.self.view_is (begun_after M old i s.call seen.1 c.args.op.now _ machines)
 
 pub begin-requires-clause-idle : goal.begin-requires-clause-idle
-begin-requires-clause-idle g c κs within =
+begin-requires-clause-idle g c =
     let b = c.self.inside in
     let inv = c.self.invariant in
     let i : ℕ = c.args.caller in
@@ -70,7 +70,7 @@ begin-requires-clause-idle g c κs within =
     rw (← seen.1) (rw (← c.self.view_is) at c.requires.idle)
 
 pub begin-requires-clause-made : goal.begin-requires-clause-made
-begin-requires-clause-made g c κs within =
+begin-requires-clause-made g c =
     let b = c.self.inside in
     let inv = c.self.invariant in
     let i : ℕ = c.args.caller in

@@ -14,24 +14,24 @@ use Rattle.of_core.proofs.Benches.{table_is}
 use Rattle.of_core.proofs.bank.Bank.new.Goals as goal
 
 pub over-requires-clause-start : goal.over-requires-clause-start
-over-requires-clause-start g c κs within =
+over-requires-clause-start g c =
     let a = c.args in
     let M = g.W.Work.meaning in
     let L = g.W.Work.lawful a.work in
     let S : Setup = setup_of a.shape.callers a.shape.cells a.limit (M a.work) in
-    let laws = g.met.W.Work g.world.𝓛 g.world.𝓜 g.world.𝓡 ((λ s x. x), (λ x. x), (λ x. x), λ x. x) in
+    let laws = g.met.W.Work in
     let sound : IsSoundMeaning (M a.work) L (first_operation_cell S) S.cells = sound_at S (M a.work) L _ _ (sym c.requires.callers) (sym c.requires.cells) refl (laws.sound a.work) in
     let size : c.words.result ≡ table_word_count S = c.words.ensures ∙ ap (λ (k : ℕ). cell_words a.shape.callers k a.shape.cells) c.requires.instrs in
     let words : c.in_ok-words.words.items ≡ replicate (table_word_count S) 0 = c.in_ok-words.ensures.items_if_clones_equal (λ y e. e) ∙ ap (λ (k : ℕ). replicate k 0) size in
     subst (MayStart S L) (sym (zeros_back S L sound a.shape.some_callers (omega (arith, a.shape.few_callers)) c.in_ok-words.words.items (table_word_count S) (omega arith) words)) (zeros_start S L sound a.shape.some_callers)
 
 pub over-requires-clause-words : goal.over-requires-clause-words
-over-requires-clause-words g c κs within =
+over-requires-clause-words g c =
     let a = c.args in
     let M = g.W.Work.meaning in
     let L = g.W.Work.lawful a.work in
     let S : Setup = setup_of a.shape.callers a.shape.cells a.limit (M a.work) in
-    let laws = g.met.W.Work g.world.𝓛 g.world.𝓜 g.world.𝓡 ((λ s x. x), (λ x. x), (λ x. x), λ x. x) in
+    let laws = g.met.W.Work in
     let sound : IsSoundMeaning (M a.work) L (first_operation_cell S) S.cells = sound_at S (M a.work) L _ _ (sym c.requires.callers) (sym c.requires.cells) refl (laws.sound a.work) in
     let size : c.words.result ≡ table_word_count S = c.words.ensures ∙ ap (λ (k : ℕ). cell_words a.shape.callers k a.shape.cells) c.requires.instrs in
     let words : c.in_ok-words.words.items ≡ replicate (table_word_count S) 0 = c.in_ok-words.ensures.items_if_clones_equal (λ y e. e) ∙ ap (λ (k : ℕ). replicate k 0) size in
@@ -44,7 +44,7 @@ returns-clause-start g c =
     let M = g.W.Work.meaning in
     let L = g.W.Work.lawful a.work in
     let S : Setup = setup_of a.shape.callers a.shape.cells a.limit (M a.work) in
-    let laws = g.met.W.Work g.world.𝓛 g.world.𝓜 g.world.𝓡 ((λ s x. x), (λ x. x), (λ x. x), λ x. x) in
+    let laws = g.met.W.Work in
     let sound : IsSoundMeaning (M a.work) L (first_operation_cell S) S.cells = sound_at S (M a.work) L _ _ (sym c.requires.callers) (sym c.requires.cells) refl (laws.sound a.work) in
     let size : c.words.result ≡ table_word_count S = c.words.ensures ∙ ap (λ (k : ℕ). cell_words a.shape.callers k a.shape.cells) c.requires.instrs in
     let words : c.in_ok-words.words.items ≡ replicate (table_word_count S) 0 = c.in_ok-words.ensures.items_if_clones_equal (λ y e. e) ∙ ap (λ (k : ℕ). replicate k 0) size in
@@ -61,7 +61,7 @@ returns-clause-words g c =
     let M = g.W.Work.meaning in
     let L = g.W.Work.lawful a.work in
     let S : Setup = setup_of a.shape.callers a.shape.cells a.limit (M a.work) in
-    let laws = g.met.W.Work g.world.𝓛 g.world.𝓜 g.world.𝓡 ((λ s x. x), (λ x. x), (λ x. x), λ x. x) in
+    let laws = g.met.W.Work in
     let sound : IsSoundMeaning (M a.work) L (first_operation_cell S) S.cells = sound_at S (M a.work) L _ _ (sym c.requires.callers) (sym c.requires.cells) refl (laws.sound a.work) in
     let size : c.words.result ≡ table_word_count S = c.words.ensures ∙ ap (λ (k : ℕ). cell_words a.shape.callers k a.shape.cells) c.requires.instrs in
     let words : c.in_ok-words.words.items ≡ replicate (table_word_count S) 0 = c.in_ok-words.ensures.items_if_clones_equal (λ y e. e) ∙ ap (λ (k : ℕ). replicate k 0) size in
@@ -78,7 +78,7 @@ returns-clause-machines g c =
     let M = g.W.Work.meaning in
     let L = g.W.Work.lawful a.work in
     let S : Setup = setup_of a.shape.callers a.shape.cells a.limit (M a.work) in
-    let laws = g.met.W.Work g.world.𝓛 g.world.𝓜 g.world.𝓡 ((λ s x. x), (λ x. x), (λ x. x), λ x. x) in
+    let laws = g.met.W.Work in
     let sound : IsSoundMeaning (M a.work) L (first_operation_cell S) S.cells = sound_at S (M a.work) L _ _ (sym c.requires.callers) (sym c.requires.cells) refl (laws.sound a.work) in
     let size : c.words.result ≡ table_word_count S = c.words.ensures ∙ ap (λ (k : ℕ). cell_words a.shape.callers k a.shape.cells) c.requires.instrs in
     let words : c.in_ok-words.words.items ≡ replicate (table_word_count S) 0 = c.in_ok-words.ensures.items_if_clones_equal (λ y e. e) ∙ ap (λ (k : ℕ). replicate k 0) size in
@@ -95,7 +95,7 @@ returns-clause-idle g c =
     let M = g.W.Work.meaning in
     let L = g.W.Work.lawful a.work in
     let S : Setup = setup_of a.shape.callers a.shape.cells a.limit (M a.work) in
-    let laws = g.met.W.Work g.world.𝓛 g.world.𝓜 g.world.𝓡 ((λ s x. x), (λ x. x), (λ x. x), λ x. x) in
+    let laws = g.met.W.Work in
     let sound : IsSoundMeaning (M a.work) L (first_operation_cell S) S.cells = sound_at S (M a.work) L _ _ (sym c.requires.callers) (sym c.requires.cells) refl (laws.sound a.work) in
     let size : c.words.result ≡ table_word_count S = c.words.ensures ∙ ap (λ (k : ℕ). cell_words a.shape.callers k a.shape.cells) c.requires.instrs in
     let words : c.in_ok-words.words.items ≡ replicate (table_word_count S) 0 = c.in_ok-words.ensures.items_if_clones_equal (λ y e. e) ∙ ap (λ (k : ℕ). replicate k 0) size in

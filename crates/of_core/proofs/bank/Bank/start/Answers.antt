@@ -13,7 +13,7 @@ pub first_words-requires-clause-owner : goal.first_words-requires-clause-owner
 first_words-requires-clause-owner g c = c.requires.row.may_start.start.owner_in
 
 pub over-requires-clause-start : goal.over-requires-clause-start
-over-requires-clause-start g c κs within =
+over-requires-clause-start g c =
     let a = c.args in
     let S : Setup = setup_of a.shape.callers a.shape.cells a.limit (g.W.Work.meaning a.work) in
     let B : TableStart = start_from_durable a.shape.callers a.shape.cells a.durable.now in
@@ -24,7 +24,7 @@ over-requires-clause-start g c κs within =
     subst (MayStart S (g.W.Work.lawful a.work)) (sym back) c.requires.row.may_start
 
 pub over-requires-clause-words : goal.over-requires-clause-words
-over-requires-clause-words g c κs within =
+over-requires-clause-words g c =
     let a = c.args in
     let S : Setup = setup_of a.shape.callers a.shape.cells a.limit (g.W.Work.meaning a.work) in
     let B : TableStart = start_from_durable a.shape.callers a.shape.cells a.durable.now in

@@ -25,7 +25,7 @@ pub returns-then-is_idle-clause-turn : goal.returns-then-is_idle-clause-turn
 returns-then-is_idle-clause-turn g c = rw (c.if-is_idle.ensures.0 refl) refl
 
 pub perform-found-requires-clause-takes : goal.perform-found-requires-clause-takes
-perform-found-requires-clause-takes g c κs within =
+perform-found-requires-clause-takes g c =
     let b = c.self.inside in
     let inv = c.self.invariant in
     let M = g.W.Work.meaning in
@@ -50,7 +50,7 @@ take_at-requires-clause-open g c =
     let s = c.index_mut-machine.result.now in
     let seen = seen_at b.work b.shape.callers b.shape.cells b.limit b.machines.items i s inv.alike here c.index_mut-machine.ensures.value in
     let same : machine_setup M s ≡ S = ap (machine_setup M) seen.0 in
-    λ κs within q. let e = c.if-is_idle.ensures.1 (rw (← c.self.view_is, seen.1) (sym c.place-place.ensures ∙ q)) in cc
+    λ q. let e = c.if-is_idle.ensures.1 (rw (← c.self.view_is, seen.1) (sym c.place-place.ensures ∙ q)) in cc
 
 pub take_at-requires-clause-good : goal.take_at-requires-clause-good
 take_at-requires-clause-good g c =
@@ -70,13 +70,13 @@ take_at-requires-clause-good g c =
     let n : ℕ = c.perform-found.result in
     let op : want_at (machine_setup M s) s.call p ≡ want S s.call = rw same (asks_here S s.call p at) in
     let found : n ≡ word_found S ws s.call = c.perform-found.ensures.made.0 ∙ ap (λ (o : Op). get_or ws (word_of o) 0) op in
-    let laws = g.met.W.Work g.world.𝓛 g.world.𝓜 g.world.𝓡 ((λ s x. x), (λ x. x), (λ x. x), λ x. x) in
+    let laws = g.met.W.Work in
     let fits = laws.fits b.work in
     let sound : IsSoundMeaning (M b.work) (g.W.Work.lawful b.work) (first_operation_cell S) S.cells = sound_at S (M b.work) (g.W.Work.lawful b.work) _ _ inv.callers inv.cells refl (laws.sound b.work) in
     let own : first_operation_cell S ≤ S.cells = omega (arith, fits.own, inv.callers, inv.cells) in
     let work : s.work ≡ b.work = ap (λ (x : Machine _). x.work) seen.0 in
     let member : i < length (call_states b.machines.items) = omega (arith, held_length b.work b.shape.callers b.shape.cells b.limit b.machines.items) in
-    λ κs within. rw (same, work, found) (meets S (g.W.Work.lawful b.work) sound b.shape.some_callers (omega (arith, b.shape.few_callers)) own (omega arith) (omega (arith, b.shape.few_cells)) _ _ _ inv.reached i s.call inside member seen.1)
+    rw (same, work, found) (meets S (g.W.Work.lawful b.work) sound b.shape.some_callers (omega (arith, b.shape.few_callers)) own (omega arith) (omega (arith, b.shape.few_cells)) _ _ _ inv.reached i s.call inside member seen.1)
 
 pub invariant_of-self : goal.invariant_of-self
 invariant_of-self g c =

@@ -13,7 +13,7 @@ use Rattle.of_core.proofs.TurnsInRow.{may_go_on, stays_reached, stay_long, turne
 use Rattle.of_core.proofs.bank.Bank.turns.Goals as goal
 
 pub make_steps-requires-clause-room : goal.make_steps-requires-clause-room
-make_steps-requires-clause-room g c κs within =
+make_steps-requires-clause-room g c =
     let b = c.self.inside in
     let inv = c.self.invariant in
     let M = g.W.Work.meaning in
@@ -27,7 +27,7 @@ make_steps-requires-clause-room g c κs within =
     subst (λ (T : Setup). words_before_members T ≤ length b.words.items) (sym same) (omega (arith, inv.room))
 
 pub make_steps-requires-clause-good : goal.make_steps-requires-clause-good
-make_steps-requires-clause-good g c κs within =
+make_steps-requires-clause-good g c =
     let b = c.self.inside in
     let inv = c.self.invariant in
     let M = g.W.Work.meaning in
@@ -38,7 +38,7 @@ make_steps-requires-clause-good g c κs within =
     let s = c.index_mut-machine.result.now in
     let seen = seen_at b.work b.shape.callers b.shape.cells b.limit b.machines.items i s inv.alike here c.index_mut-machine.ensures.value in
     let same : machine_setup M s ≡ S = ap (machine_setup M) seen.0 in
-    let laws = g.met.W.Work g.world.𝓛 g.world.𝓜 g.world.𝓡 ((λ s x. x), (λ x. x), (λ x. x), λ x. x) in
+    let laws = g.met.W.Work in
     let fits = laws.fits b.work in
     let sound : IsSoundMeaning (M b.work) (g.W.Work.lawful b.work) (first_operation_cell S) S.cells = sound_at S (M b.work) (g.W.Work.lawful b.work) _ _ inv.callers inv.cells refl (laws.sound b.work) in
     let own : first_operation_cell S ≤ S.cells = omega (arith, fits.own, inv.callers, inv.cells) in

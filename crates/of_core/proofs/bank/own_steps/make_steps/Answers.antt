@@ -13,7 +13,7 @@ use Rattle.of_core.proofs.Benches.{asks_here, goes_on}
 use Rattle.of_core.proofs.bank.own_steps.make_steps.Goals as goal
 
 pub take_at-requires-clause-good : goal.take_at-requires-clause-good
-take_at-requires-clause-good g c κs within =
+take_at-requires-clause-good g c =
     let M = g.W.Work.meaning in
     let first = c.args.machine.now in
     let S : Setup = machine_setup M first in

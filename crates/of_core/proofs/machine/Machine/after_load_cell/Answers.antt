@@ -3,7 +3,7 @@ use Rattle.of_cell.specs.Words.{seq_of}
 use Rattle.of_core.proofs.machine.Machine.after_load_cell.Goals as goal
 
 pub run-requires-clause-agrees : goal.run-requires-clause-agrees
-run-requires-clause-agrees g c κs within =
+run-requires-clause-agrees g c =
     let old : seq_of c.args.found ≤ c.self.inside.seq = omega arith in
     let a = (rw (← c.self.view_is) at c.requires.agrees) old in
     rw (c.learn.ensures, c.payload_of.ensures) a

@@ -6,4 +6,4 @@ pub read_on-requires-clause-agrees : goal.read_on-requires-clause-agrees
 read_on-requires-clause-agrees g c =
     let old : seq_of c.args.found ≤ c.self.inside.seq = omega arith in
     let a = (rw (← c.self.view_is) at c.requires.agrees) old in
-    λ κs o. rw (c.learn.ensures, c.payload_of.ensures) a
+    rw (c.learn.ensures, c.payload_of.ensures) a

@@ -9,11 +9,11 @@ pub run-requires-clause-agrees : goal.run-requires-clause-agrees
 run-requires-clause-agrees g c =
     let batch : c.self.inside.part.batch ≡ [] = c.self.invariant.room.reading (rw (← c.self.view_is) at c.requires.reading) in
     let a = rw (← c.self.view_is) at c.requires.agrees in
-    λ _ _. (a.0, a.1 ∙ sym c.self.invariant.fit.cells, a.2, rw batch a.3)
+    (a.0, a.1 ∙ sym c.self.invariant.fit.cells, a.2, rw batch a.3)
 
 pub invariant_of-self-in-Err : goal.invariant_of-self-in-Err
 invariant_of-self-in-Err g c =
-    let laws = g.met.W.Work g.world.𝓛 g.world.𝓜 g.world.𝓡 ((λ s x. x), (λ x. x), (λ x. x), λ x. x) in
+    let laws = g.met.W.Work in
     let i = c.self.invariant in
     let M = g.W.Work.meaning c.self.inside.work in
     let S : Setup = setup_of c.self.inside.shape.callers c.self.inside.shape.cells c.self.inside.limit M in

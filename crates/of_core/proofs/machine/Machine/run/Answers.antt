@@ -21,7 +21,7 @@ run-requires-clause-agrees g c =
     let before : c.self.inside.part.batch ≡ log = i.room.scanning (rw (← c.self.view_is) at c.requires.scanning) in
     let all : overlaid known c.self.inside.part.batch ≡ overlaid known log = ap (overlaid known) before in
     let a = rw (← c.self.view_is) at c.requires.agrees in
-    λ _ _. (a.0, a.1 ∙ sym i.fit.cells, a.2, rw all a.3)
+    (a.0, a.1 ∙ sym i.fit.cells, a.2, rw all a.3)
 
 pub invariant_of-self-in-Err : goal.invariant_of-self-in-Err
 invariant_of-self-in-Err g c =
@@ -31,7 +31,7 @@ invariant_of-self-in-Err g c =
     let before : c.self.inside.part.batch ≡ log = i.room.scanning (rw (← c.self.view_is) at c.requires.scanning) in
     let all : overlaid known c.self.inside.part.batch ≡ overlaid known log = ap (overlaid known) before in
     let a = rw (← c.self.view_is) at c.requires.agrees in
-    let laws = g.met.W.Work g.world.𝓛 g.world.𝓜 g.world.𝓡 ((λ s x. x), (λ x. x), (λ x. x), λ x. x) in
+    let laws = g.met.W.Work in
     let M = g.W.Work.meaning c.self.inside.work in
     let S : Setup = setup_of c.self.inside.shape.callers c.self.inside.shape.cells c.self.inside.limit M in
     let L = g.W.Work.lawful c.self.inside.work in
@@ -69,7 +69,7 @@ returns-in-Ok g c =
     let before : c.self.inside.part.batch ≡ log = i.room.scanning (rw (← c.self.view_is) at c.requires.scanning) in
     let all : overlaid known c.self.inside.part.batch ≡ overlaid known log = ap (overlaid known) before in
     let a = rw (← c.self.view_is) at c.requires.agrees in
-    let laws = g.met.W.Work g.world.𝓛 g.world.𝓜 g.world.𝓡 ((λ s x. x), (λ x. x), (λ x. x), λ x. x) in
+    let laws = g.met.W.Work in
     let M = g.W.Work.meaning c.self.inside.work in
     let S : Setup = setup_of c.self.inside.shape.callers c.self.inside.shape.cells c.self.inside.limit M in
     let L = g.W.Work.lawful c.self.inside.work in

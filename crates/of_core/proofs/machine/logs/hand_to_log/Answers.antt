@@ -2,7 +2,7 @@ use Rattle.std.proofs.Common.{◌≡◌, ◌<◌, ℕ, List, length, get_or, ◌
 use Rattle.of_mem.specs.Part.{Part}
 use Rattle.of_mem.specs.WriteSet.{WriteSet}
 use Rattle.of_mem.specs.CellMap.{put_pair}
-use Rattle.of_mem.proofs.Cells.{put_all_take}
+use Rattle.of_mem.proofs.CellPlaces.{put_all_take}
 use Rattle.of_core.proofs.machine.logs.hand_to_log.Goals as goal
 
 pub loop-i-preserved : goal.loop-i-preserved

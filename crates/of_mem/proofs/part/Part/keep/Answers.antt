@@ -5,7 +5,7 @@ use Rattle.of_mem.specs.WriteSet.{WriteSet}
 use Rattle.of_mem.specs.Meaning.{HasDistinctCells}
 use Rattle.of_mem.specs.Newest.{HasNewest, part_of}
 use Rattle.of_mem.specs.Part.{Part, keep}
-use Rattle.of_mem.proofs.Cells.{put_all_take}
+use Rattle.of_mem.proofs.CellPlaces.{put_all_take}
 use Rattle.std.proofs.lemmas.List.{take_all}
 use Rattle.of_mem.proofs.Writes.{put_all_once}
 use Rattle.of_mem.proofs.Newest.{newest_kept}

@@ -33,8 +33,8 @@ turn-requires-2-clause-playing c =
     let r = c.requires.playing in
     record { plan = r.plan; events = _; stands = c.begin_next.ensures r.events r.stands }
 
-pub word-left-requires-after_bounds : goal.word-left-requires-after_bounds
-word-left-requires-after_bounds c κs =
+pub word-left-requires : goal.word-left-requires
+word-left-requires c =
     let p = c.args.plan.now in
     let r = c.requires.playing in
     let plan = playable p r.plan c.plan_keeps_laws.ensures.laws c.plan_keeps_laws.ensures.moments c.plan_keeps_laws.ensures.zeros in
@@ -42,8 +42,8 @@ word-left-requires-after_bounds c κs =
     let after = turned p plan c.args.caller c.requires.caller c.args.self.now c.begin_next.new.self c.turn-2.new.self c.begin_next.ensures c.in_ok-turn-2.ensures r.events r.stands in
     subst (λ (T : Setup). c.word_of-word.result < table_word_count T) (before.table ∙ sym after.table) (omega (arith, c.want-op.ensures.range, c.word_of-word.ensures))
 
-pub answer-requires-after_bounds : goal.answer-requires-after_bounds
-answer-requires-after_bounds c κs =
+pub answer-requires : goal.answer-requires
+answer-requires c =
     let p = c.args.plan.now in
     let r = c.requires.playing in
     let plan = playable p r.plan c.plan_keeps_laws.ensures.laws c.plan_keeps_laws.ensures.moments c.plan_keeps_laws.ensures.zeros in

@@ -7,7 +7,7 @@ pub first_words-requires-clause-owner : goal.first_words-requires-clause-owner
 first_words-requires-clause-owner g c = c.requires.row.may_start.start.owner_in
 
 pub open-requires-clause-words : goal.open-requires-clause-words
-open-requires-clause-words g c κs within =
+open-requires-clause-words g c =
     let a = c.args in
     record {
       start = start_on a.shape a.durable.now;

@@ -14,13 +14,13 @@ use Rattle.of_serial.proofs.KnownCells.{asked, width, nothing_needed, script_wor
 use Rattle.of_serial.proofs.serial_run.cells.Cells.run.Goals as goal
 
 pub run-requires-clause-agrees : goal.run-requires-clause-agrees
-run-requires-clause-agrees c _ = asked c.args.self.now c.requires.0 c.requires.1
+run-requires-clause-agrees c = asked c.args.self.now c.requires.0 c.requires.1
 
 pub run-requires-clause-cells : goal.run-requires-clause-cells
-run-requires-clause-cells c _ = width c.args.self.now c.requires.0 c.requires.1
+run-requires-clause-cells c = width c.args.self.now c.requires.0 c.requires.1
 
 pub run-requires-clause-some : goal.run-requires-clause-some
-run-requires-clause-some c _ =
+run-requires-clause-some c =
     let words = script_words c.args.script.now c.to_words.new.out (replicate _ 0) c.len.result c.len.ensures.len c.to_words.ensures.words in
     let many : length (take c.len.result c.to_words.new.out) ≡ length c.args.script.now = ap length words ∙ length-map c.args.script.now instr_word in
     omega (arith, many, c.len.ensures.len, c.len.ensures.some)

@@ -1,6 +1,6 @@
 use Rattle.std.proofs.Common.{refl, arith, None}
 use Rattle.of_mem.proofs.BucketPlaces.{some_buckets}
-use Rattle.of_mem.proofs.walk.front.Goals as goal
+use Rattle.of_mem.proofs.walk.Walk.front.Goals as goal
 
 pub at_front-requires-in-LeastFrom : goal.at_front-requires-in-LeastFrom
 at_front-requires-in-LeastFrom c = some_buckets c.args.plot.now.blocks

@@ -1,0 +1,39 @@
+-- The front of a run: the call as it was where its operation began to run.
+use Rattle.std.specs.Prelude.{◌≡◌, ℕ, true}
+use Rattle.std.specs.Borrow.{MutBor}
+use Rattle.of_mem.specs.Meaning.{Meaning}
+use Rattle.of_row.specs.declared.row.Row.{Row}
+use Rattle.of_caller.specs.declared.caller.Caller.{Caller}
+use Rattle.of_caller.specs.Going.{true_caller}
+
+-- the caller after the run that its machine owes, and the names of the references to the caller,
+-- the brake and the count of steps
+pub record Front (W B : Type 0) : Type 0 where
+  pub row : Row W
+  pub caller : Caller W
+  pub brake : B
+  pub steps : ℕ
+  pub caller_name : ℕ
+  pub brake_name : ℕ
+  pub steps_name : ℕ
+
+-- the front of a run that is lent these references
+abbrev pub front_now : {W B : Type 0} → (W → Meaning) → Row W → MutBor (Caller W) → MutBor B
+    → MutBor ℕ → Front W B
+front_now meaning r c b s = record {
+  row = r;
+  caller = true_caller meaning true c.now;
+  brake = b.now;
+  steps = s.now;
+  caller_name = c.ghost_name;
+  brake_name = b.ghost_name;
+  steps_name = s.ghost_name;
+}
+
+-- a run whose front is f still has the row and the references of its front
+pub record IsLent {W B : Type 0} (f : Front W B) (r : Row W)
+    (caller_name brake_name steps_name : ℕ) : Type 0 where
+  pub row : r ≡ f.row
+  pub caller : caller_name ≡ f.caller_name
+  pub brake : brake_name ≡ f.brake_name
+  pub steps : steps_name ≡ f.steps_name
