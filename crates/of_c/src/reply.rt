@@ -5,7 +5,7 @@ ghost use Rattle.std.specs.Bool.{then_some};
 ghost use Rattle.of_eval.specs.Reading.{marked_in};
 ghost use Rattle.of_c.specs.Replies.{given_flag, given_number, cause_number, ShowsEach};
 
-use of_memory::{Abort, Answer, Cause, RawAnswer, Reply};
+use of_memory::{Abort, Cause, RawAnswer, Reply};
 use of_script::MOST_INSTRS;
 
 /// A reply as C reads it.
@@ -131,18 +131,6 @@ impl CReply {
                 self.cause = 0;
             }
         }
-    }
-
-    /// Writes the answer of a call.
-    #[inline(always)]
-    pub(crate) fn tell(&mut self, answer: &Answer)
-        ensures { ShowsAnswer answer.now self.new }
-    {
-        self.show(&answer.reply);
-        self.seq = answer.seq;
-        self.announced = u32::from(answer.announced);
-        self.ticket = 0;
-        self.steps = answer.steps;
     }
 
     /// Writes the answer of a call, whose reply is as cells hold it: a shape, and a number for each
