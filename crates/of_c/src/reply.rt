@@ -145,7 +145,12 @@ impl CReply {
     {
         let raw = &answer.raw;
         self.len = reply_len(raw);
-        write_marked(reply_marks(raw), &raw.values, &mut self.given, &mut self.values);
+        write_marked(
+            reply_marks(raw),
+            &raw.values,
+            &mut self.given,
+            &mut self.values,
+        );
         let (place, cause) = numbers_of_abort(reply_abort(raw));
         self.place = place;
         self.cause = cause;

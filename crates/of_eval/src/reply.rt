@@ -162,7 +162,7 @@ pub fn reply_abort(raw: &RawReply) -> Option<Abort>
 fn told_abort(raw: &RawReply) -> Option<Abort>
     ensures { MatchOption result ((c : TheCause) → code_of c ≢ raw.now.shape / 2 ^ 26)
         (λ a. (a.place ≡ raw.now.shape / 2 ^ 21 % 32)
-            × (code_of a.cause ≡ raw.now.shape / 2 ^ 26)) }
+        × (code_of a.cause ≡ raw.now.shape / 2 ^ 26)) }
 {
     let place = raw.shape / (1 << 21) % 32;
     let cause = cause(raw.shape / (1 << 26))?;
