@@ -1,6 +1,6 @@
 //! The steps of a call, phase by phase. Each phase expects the places in their usual order, so that
-//! the compiler knows the place of most steps, and their code has no jump by the place. At any other
-//! place the phase ends.
+//! the compiler knows the place of most steps, and their code has no jump by the place. At any
+//! other place the phase ends.
 
 ghost use Rattle.std.specs.Prelude.{◌≡◌, ◌<◌, ◌≤◌, ℕ, OnOk, OnErr, Ok, Some, None, IsTrue, length};
 ghost use Rattle.of_mem.specs.declared.work.TheConstants.{MOST_INSTRS};
