@@ -134,3 +134,14 @@ pub record IsDeniedAt {W B : Type 0} (meaning : W → Meaning) (lawful : W → L
     (c : Caller W) (b : B) (s : ℕ) (c1 : Caller W) (b1 : B) (s1 : ℕ) : Type 0 where
   pub caller : IsCaller meaning r c1
   pub denied : LeadsToDenial meaning lawful denials left answers asks r c b s c1 b1 s1
+
+-- Steps of the open call have led from the caller c to the true caller c1, whose machine is still
+-- that of c: the call has come to the place p, after k steps that the machine hasn't counted.
+pub record LagsTo {W B : Type 0} (meaning : W → Meaning) (lawful : W → List ℕ → Type 0)
+    (denials : B → ℕ) (left : B → Option (Option ℕ)) (answers asks : B → Option ℕ) (r : Row W)
+    (c : Caller W) (b : B) (s : ℕ) (c1 : Caller W) (p : Place) (k : ℕ) (b1 : B) (s1 : ℕ)
+    : Type 0 where
+  pub machine : c1.machine ≡ c.machine
+  pub caller : IsCaller meaning r (lagging_caller c1 p k)
+  pub goes : LeadsOn meaning lawful denials left answers asks r c b s (lagging_caller c1 p k) b1 s1
+  pub falls : steps_left meaning (lagging_caller c1 p k) ≤ steps_left meaning c

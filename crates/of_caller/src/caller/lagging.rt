@@ -100,11 +100,9 @@ impl<W: Work> Caller<W> {
             return Ok(());
         };
         let words = self.machine.log_size(first);
-        let mut at = first;
         let mut more = 0;
-        while at < words {
+        for at in first..words {
             self.store_word(at, more, row, brake, steps)?;
-            at += 1;
             more += 2;
         }
         self.machine.go_to(Place::StoreRequest, more);
