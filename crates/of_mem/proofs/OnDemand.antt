@@ -3,10 +3,10 @@ use Rattle.std.proofs.Common.{◌≡◌, ℕ, List, Option, Some, None, Ok, Err,
 use Rattle.std.specs.Prelude.{Result, MatchResult}
 use Rattle.std.proofs.lemmas.Result.{MatchResult-weaker}
 use Rattle.of_mem.specs.declared.part.Need.{Need}
-use Rattle.of_mem.specs.Part.{Part, Extends, with_known, newest_at}
-use Rattle.of_mem.specs.Programs.{Program, Done, Read, Lacks, Ends, with_number, then_do, run_program, RunsAs, NeedsAt}
+use Rattle.of_mem.specs.Part.{Part, Extends, with_known, newest_at, write}
+use Rattle.of_mem.specs.Programs.{Program, Done, Read, Write, Lacks, Ends, with_number, then_do, run_program, RunsAs, NeedsAt}
 use Rattle.of_mem.specs.Calls.{RunsProgram}
-use Rattle.of_mem.specs.OnDemand.{Running, RunGoesOn, Always, ServesRun, RunsOn, MayRun, HasOnlyRead, resting, read_cell}
+use Rattle.of_mem.specs.OnDemand.{Running, RunGoesOn, Always, ServesRun, RunsOn, MayRun, HasOnlyRead, resting, read_cell, write_cell}
 use Rattle.of_mem.proofs.Runs.{run_then_gives, run_then_needs, run_unknown}
 use Rattle.of_mem.proofs.Extended.{ends_again, newest_more}
 
@@ -40,6 +40,31 @@ pub serves_second : {A B : Type 0} (f : Program A) (g : A → Program B) (c d : 
 serves_second f g c d r h first more e k a n =
     first.goes.lacks more a (h more (extends_on c.part.known d.part.known more first.goes.more e) (first.goes.may_know more k) a
     (run_then_gives f g (with_known more c.part) (with_known more d.part) r (ran_again f c d r more first e) ∙ n))
+
+-- the same of the call over the partial memories alone
+pub ran_alone : {A : Type 0} (f : Program A) (c d : Running) (r : A) (more : List (Option ℕ)) → RunsOn f c d (Ok r) → Extends more d.part.known → RunsProgram f (with_known more c.part) (with_known more d.part) (Ok r)
+ran_alone f c d r more h e = record { walk = ran_again f c d r more h e; known = refl; batch = h.batch }
+
+-- what the first call makes of what was always so, is always so behind it
+pub always_second : {A : Type 0} (f : Program A) (P Q : Part → Type 0) (c d : Running) (r : A) → ((p q : Part) → P p → RunsProgram f p q (Ok r) → Q q) → Always P c → RunsOn f c d (Ok r) → Always Q d
+always_second f P Q c d r leads h first more e k =
+    leads (with_known more c.part) (with_known more d.part) (h more (extends_on c.part.known d.part.known more first.goes.more e) (first.goes.may_know more k)) (ran_alone f c d r more first e)
+
+-- the first call of two may run where both together may
+pub may_first : {A B : Type 0} (f : Program A) (g : A → Program B) (P Q : Part → Type 0) (c : Running) → ((p : Part) → P p → Q p) → MayRun (then_do f g) P c → MayRun f Q c
+may_first f g P Q c leads h = record {
+  knows = h.knows;
+  always = λ more e k. leads (with_known more c.part) (h.always more e k);
+  serves = serves_first f g c h.serves;
+}
+
+-- and so may the second one behind the first, which answered r
+pub may_second : {A B : Type 0} (f : Program A) (g : A → Program B) (P Q : Part → Type 0) (c d : Running) (x r : A) → ((p q : Part) → P p → RunsProgram f p q (Ok x) → Q q) → MayRun (then_do f g) P c → RunsOn f c d (Ok x) → x ≡ r → MayRun (g r) Q d
+may_second {A} f g P Q c d x r leads h first is = record {
+  knows = first.goes.knows;
+  always = always_second f P Q c d x leads h.always first;
+  serves = subst (λ (y : A). ServesRun (g y) d) is (serves_second f g c d x h.serves first);
+}
 
 -- two calls ran as both together
 pub runs_both : {A B : Type 0} (f : Program A) (g : A → Program B) (c d e : Running) (x r : A) (result : Result B Need) → RunsOn f c d (Ok x) → x ≡ r → RunsOn (g r) d e result → RunsOn (then_do f g) c e result
@@ -104,6 +129,31 @@ read_lacked a c d need same h = subst (λ (p : Part). (newest_at p a ≡ None) �
     lacked None is e = let k : a ≡ need.addr = cc in (is, sym k)
     lacked (Some w) is e = absurd (let k : Ends w (with_known d.part.known c.part) ≡ Lacks need.addr = e in cc)
 
+pub lacks_read : {A : Type 0} (a : ℕ) (k : ℕ → Program A) (c d : Running) (need : Need) → RunsOn (read_cell a) c d (Err need) → RunsOn (Read a k) c d (Err need)
+lacks_read a k c d need h = lacks_first (read_cell a) k c d need h
+
+pub runs_read : {A : Type 0} (a v : ℕ) (k : ℕ → Program A) (c d e : Running) (result : Result A Need) → RunsOn (read_cell a) c d (Ok v) → RunsOn (k v) d e result → RunsOn (Read a k) c e result
+runs_read a v k c d e result first second = runs_both (read_cell a) k c d e v v result first refl second
+
+-- One write.
+
+-- behind a write the partial memory is one of before in which the cell is written
+pub always_write : (a v : ℕ) (R : Part → Type 0) (c d : Running) → Always R c → RunsOn (write_cell a v) c d (Ok tt) → Always (λ q. (p : Part) × R p × (q ≡ write p a v)) d
+always_write a v R c d h r = always_second (write_cell a v) R (λ q. (p : Part) × R p × (q ≡ write p a v)) c d tt (λ p q k w. (p, k, wrote p q w.walk)) h r
+  where
+    wrote : (p q : Part) → RunsAs (write_cell a v) p tt q → q ≡ write p a v
+    wrote p q e = let k : run_program (write_cell a v) p ≡ Ends tt q = e in cc
+
+pub may_after_write : {A : Type 0} (a v : ℕ) (f : Program A) (R : Part → Type 0) (c d : Running) → MayRun (Write a v f) R c → RunsOn (write_cell a v) c d (Ok tt) → MayRun f (λ q. (p : Part) × R p × (q ≡ write p a v)) d
+may_after_write a v f R c d h r = record {
+  knows = r.goes.knows;
+  always = always_write a v R c d h.always r;
+  serves = serves_second (write_cell a v) (λ (u : Unit {0}). f) c d tt h.serves r;
+}
+
+pub runs_write : {A : Type 0} (a v : ℕ) (f : Program A) (c d e : Running) (result : Result A Need) → RunsOn (write_cell a v) c d (Ok tt) → RunsOn f d e result → RunsOn (Write a v f) c e result
+runs_write a v f c d e result first second = runs_both (write_cell a v) (λ (u : Unit {0}). f) c d e tt tt result first refl second
+
 -- Where nothing was written.
 
 pub only_read_on : (p q n : Part) → HasOnlyRead p q → HasOnlyRead q n → HasOnlyRead p n
@@ -137,3 +187,10 @@ rests f p q result h =
 
 pub rests_same : (p q : Part) → HasOnlyRead p q → RunGoesOn (resting p) (resting q) → q ≡ p
 rests_same p q same g = same ∙ ap (λ (k : List (Option ℕ)). with_known k p) (g.may_know q.known refl)
+
+pub may_rest : {A : Type 0} (f : Program A) (R : Part → Type 0) (p : Part) → R p → MayRun f R (resting p)
+may_rest f R p h = record {
+  knows = refl;
+  always = λ more _ same. subst (λ (k : List (Option ℕ)). R (with_known k p)) (sym same) h;
+  serves = λ _ _ _ _ _. tt;
+}
