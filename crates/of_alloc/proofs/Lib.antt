@@ -4,4 +4,3 @@ pub mod Heaped
 pub mod Stored
 pub mod Staying
 pub mod Leaving
-pub mod TakingsOn

@@ -22,7 +22,6 @@ pub mod CallSteps
 pub mod CallerSteps
 pub mod BrakeCharges
 pub mod Phases
-pub mod Lagging
 pub mod Loadings
 pub mod SpentSteps
 pub mod Schedules

@@ -5,15 +5,11 @@ use Rattle.of_mem.specs.declared.part.Need.{Need}
 use Rattle.of_mem.specs.declared.work.RawReply.{RawReply}
 use Rattle.of_mem.specs.Meaning.{Meaning, Needs, KnowsSome, RunsAsWalked}
 use Rattle.of_mem.specs.Part.{Part, Extends, with_known}
-use Rattle.of_mem.specs.Programs.{Program, Done, Read, Write, RunsAs, NeedsAt}
+use Rattle.of_mem.specs.Programs.{Program, Done, Read, RunsAs, NeedsAt}
 
 -- the program that reads one cell and answers its number
 abbrev pub read_cell : ℕ → Program ℕ
 read_cell a = Read a Done
-
--- the program that writes one cell
-abbrev pub write_cell : ℕ → ℕ → Program (Unit {0})
-write_cell a v = Write a v (Done tt)
 
 -- A run of an operation on its way: its partial memory, which known cells it may come to have, and
 -- which cell the operation as a whole lacks if these cells are known.

@@ -7,4 +7,3 @@ pub mod Drops
 pub mod DropWalks
 pub mod LeastWalk
 pub mod Asking
-pub mod DropsOn
