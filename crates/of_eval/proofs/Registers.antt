@@ -1,10 +1,10 @@
 -- Instructions that write a register, on cells that they ask for.
-use Rattle.std.proofs.Common.{◌≡◌, ℕ, ◌+◌, ◌-◌, ◌<◌, ◌≤◌, ap, subst, sym, refl, ◌∙◌, Bool, true, false, None, Some, Ok, Err, lt-ltb, le-ltb, ltb}
+use Rattle.std.proofs.Common.{◌≡◌, ℕ, ◌+◌, ◌-◌, ◌<◌, ◌≤◌, subst, sym, refl, Bool, None, Some, Ok, Err, lt-ltb, le-ltb}
 use Rattle.of_mem.specs.declared.plot.Plot.{Plot}
 use Rattle.of_mem.specs.Numbers.{IsNumber}
 use Rattle.of_mem.specs.Plots.{base}
 use Rattle.of_mem.specs.Places.{register_at}
-use Rattle.of_mem.specs.Programs.{Program, Done}
+use Rattle.of_mem.specs.Programs.{Program}
 use Rattle.of_mem.specs.Calls.{HasStore}
 use Rattle.of_mem.specs.Part.{newest_at}
 use Rattle.of_mem.specs.OnDemand.{Running, MayRun, RunsOn, read_cell, write_cell}
@@ -13,7 +13,7 @@ use Rattle.of_script.specs.Language.{greatest}
 use Rattle.of_script.specs.declared.instr.Cause.TheVariants.{Overflow, Short}
 use Rattle.of_script.specs.declared.instr.Instr.TheVariants.{Store, Add, Sub}
 use Rattle.of_eval.specs.Calls.{step}
-use Rattle.of_eval.specs.ScriptPrograms.{InstrResult, answer_program, answers_number, write_register, add_to, add_unless, sub_from, sub_unless}
+use Rattle.of_eval.specs.ScriptPrograms.{answer_program, answers_number, write_register, add_to, add_unless, sub_from, sub_unless}
 use Rattle.of_eval.proofs.Walks.{register_small}
 
 pub stores : (plot : Plot) (r v : ℕ) (c d : Running) (a : ℕ) → a ≡ register_at (base plot) r → RunsOn (write_cell a v) c d (Ok tt) → RunsOn (step plot (Store r v)) c d (Ok (Ok None))
