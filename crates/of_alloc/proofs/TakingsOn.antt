@@ -6,10 +6,10 @@ use Rattle.of_mem.specs.declared.part.Need.{Need}
 use Rattle.of_mem.specs.declared.plot.Plot.{Plot}
 use Rattle.of_mem.specs.Plots.{base}
 use Rattle.of_mem.specs.Places.{fresh_at, free_at}
-use Rattle.of_mem.specs.Part.{newest_at, with_known}
+use Rattle.of_mem.specs.Part.{with_known}
 use Rattle.of_mem.specs.Programs.{Read}
 use Rattle.of_mem.specs.Stores.{link_at}
-use Rattle.of_mem.specs.OnDemand.{Running, MayRun, ServesRun, RunsOn, read_cell, write_cell}
+use Rattle.of_mem.specs.OnDemand.{Running, MayRun, RunsOn, read_cell, write_cell}
 use Rattle.of_mem.proofs.OnDemand.{may_after_read, read_gave, now, runs_read, runs_write, runs_done, lacks_read, runs_over}
 use Rattle.of_alloc.specs.Blocks.{HasFreeList, TakesFromMemory, GivesToMemory}
 use Rattle.of_alloc.specs.BlockPrograms.{take, give, with_free, with_free_link, take_fresh, with_fresh}

@@ -28,3 +28,4 @@ mod Looks
 pub mod Asking
 pub mod Answering
 pub mod ReadScripts
+pub mod Registers

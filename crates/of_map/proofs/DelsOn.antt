@@ -1,5 +1,5 @@
 -- A del where more cells come to be known.
-use Rattle.std.proofs.Common.{◌≡◌, ℕ, ◌-◌, ◌<◌, ◌≤◌, Option, Some, Ok, Err, refl, sym, ◌∙◌, ap, arith, length}
+use Rattle.std.proofs.Common.{◌≡◌, ℕ, ◌-◌, ◌<◌, Option, Some, Ok, Err, refl, ◌∙◌, ap, arith, length}
 use Rattle.std.specs.Prelude.{Result}
 use Rattle.std.specs.FinMap as fin
 use Rattle.of_mem.specs.declared.part.Need.{Need}
@@ -11,8 +11,7 @@ use Rattle.of_mem.specs.Programs.{Done}
 use Rattle.of_mem.specs.Stores.{second_at, link_at}
 use Rattle.of_mem.specs.Calls.{RunsProgram, ActsOnStore}
 use Rattle.of_mem.specs.OnDemand.{Running, MayRun, RunsOn, RunGoesOn, read_cell, write_cell}
-use Rattle.of_mem.proofs.OnDemand.{may_first, may_second, may_after_read, may_after_read_gave, may_past_write, runs_over, runs_read, runs_write, runs_done, lacks_read, fits_on, goes_further, now}
-use Rattle.of_alloc.specs.Blocks.{HasOut}
+use Rattle.of_mem.proofs.OnDemand.{may_second, may_after_read, may_after_read_gave, may_past_write, runs_over, runs_read, runs_write, runs_done, lacks_read, fits_on, now}
 use Rattle.of_alloc.specs.BlockPrograms.{give}
 use Rattle.of_alloc.proofs.Givings.{gives_to}
 use Rattle.of_map.specs.declared.answers.Position.{Position}
@@ -41,9 +40,6 @@ after_give plot p q b h r =
     }
 
 module _ (plot : Plot) (b v : ℕ) (c : Running) (h : MayRun (give_key_back plot b v) (λ p. IsUnlinked plot p b) c) where
-  pub may_give : MayRun (give plot b) (λ p. HasOut plot p b) c
-  may_give = may_first (give plot b) (value_after_give (base plot) v) (λ p. IsUnlinked plot p b) (λ p. HasOut plot p b) c (λ p k. k.block) h
-
   pub may_count_down : (d : Running) → RunsOn (give plot b) c d (Ok tt) → MayRun (count_key_down plot v) (CanCountDown plot) d
   may_count_down d r = may_second (give plot b) (value_after_give (base plot) v) (λ p. IsUnlinked plot p b) (CanCountDown plot) c d tt tt (λ p q k e. after_give plot p q b k e) h r refl
 

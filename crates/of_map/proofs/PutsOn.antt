@@ -1,5 +1,5 @@
 -- A put where more cells come to be known.
-use Rattle.std.proofs.Common.{◌≡◌, ℕ, Option, Some, None, Ok}
+use Rattle.std.proofs.Common.{◌≡◌, ℕ, Option, Some, Ok}
 use Rattle.std.specs.Prelude.{◌≢◌, Result, IfOk}
 use Rattle.std.proofs.lemmas.Result.{MatchResult-weaker}
 use Rattle.of_mem.specs.declared.part.Need.{Need}

@@ -1,6 +1,5 @@
-use Rattle.std.proofs.Common.{◌<◌, length, arith}
+use Rattle.std.proofs.Common.{◌<◌, arith}
 use Rattle.std.proofs.lemmas.Result.{err_from_is_err_and}
-use Rattle.of_mem.specs.Plots.{data_cell_count}
 use Rattle.of_mem.proofs.OnDemand.{goes_nowhere, goes_further}
 use Rattle.of_map.proofs.DelsOn.{block_below, fits, cell_below, link_lacks, may_give_back, unlinked_on}
 use Rattle.of_map.proofs.unlink.Goals as goal
