@@ -26,7 +26,11 @@ read_word-requires-clause-may g c =
 pub read_word-requires-clause-reads : goal.read_word-requires-clause-reads
 read_word-requires-clause-reads g c = word_reads_at c.args.op.now c.loop-i.i c.requires.reads c.loop-i-test.true
 
-use Rattle.of_mem.specs.Calls.{HasStore}
+pub returns-in-Err-clause-runs : goal.returns-in-Err-clause-runs
+returns-in-Err-clause-runs g c =
+    let h = c.loop-i.invariant in
+    word_lacked c.args.plot.now c.args.op.now c.requires.words.few (g.C.Cells.run c.args.cells.now) (g.C.Cells.run c.loop-i.cells) c.loop-i.i _ _ c.loop-i-test.true h.answered
+    (g.C.Cells.run c.read_word.new.cells) c.in-Err.need c.in-Err.ensures.runs
 
 pub returns-in-Ok-Err-clause-runs : goal.returns-in-Ok-Err-clause-runs
 returns-in-Ok-Err-clause-runs g c =
@@ -46,11 +50,11 @@ loop-i-preserved g c =
     let h = c.loop-i.invariant in
     let r : RunsOn (run_word c.args.plot.now (get_or c.args.op.now c.loop-i.i 0)) (g.C.Cells.run c.loop-i.cells) (g.C.Cells.run c.read_word.new.cells) (Ok (Ok c.in-Ok-Ok.answer)) = rw (← c.in-Ok-Ok.field-0-is) c.in-Ok-Ok.ensures.runs in
     record {
-      part = only_read_on (g.C.Cells.run c.args.cells.now).part (g.C.Cells.run c.loop-i.cells).part (g.C.Cells.run c.read_word.new.cells).part h.part c.in_ok-answer.ensures.part;
+      part = only_read_on (g.C.Cells.run c.args.cells.now).part (g.C.Cells.run c.loop-i.cells).part (g.C.Cells.run c.read_word.new.cells).part h.part c.in-Ok-Ok.ensures.part;
       answered = elim c.match-answer.branch [
-        | in-Some w ↦ rw (w.shape-is, w.values-is) (number_answered c.args.plot.now c.args.op.now c.requires.words.few (g.C.Cells.run c.args.cells.now) (g.C.Cells.run c.loop-i.cells) c.loop-i.i _ _ c.loop-i-test.true h.answered
+        | in-Some w ↦ rw w.out-is (number_answered c.args.plot.now c.args.op.now c.requires.words.few (g.C.Cells.run c.args.cells.now) (g.C.Cells.run c.loop-i.cells) c.loop-i.i _ _ c.loop-i-test.true h.answered
             (g.C.Cells.run c.read_word.new.cells) w.in-Some.value _ (bit_is c.loop-i.i (omega (arith, c.loop-i-test.true, c.requires.words.few))) (rw w.in-Some.is at r))
-        | in_default w ↦ rw (w.shape-is, w.values-is) (none_answered_at c.args.plot.now c.args.op.now c.requires.words.few (g.C.Cells.run c.args.cells.now) (g.C.Cells.run c.loop-i.cells) c.loop-i.i _ _ c.loop-i-test.true h.answered
+        | in_default w ↦ rw w.out-is (none_answered_at c.args.plot.now c.args.op.now c.requires.words.few (g.C.Cells.run c.args.cells.now) (g.C.Cells.run c.loop-i.cells) c.loop-i.i _ _ c.loop-i-test.true h.answered
             (g.C.Cells.run c.read_word.new.cells) (rw w.in_default.is at r))
       ];
     }
