@@ -40,7 +40,6 @@ module _ (plot : Plot) (c d : Running) (h : MayRun (take plot) (HasFreeList plot
     may_link : MayRun (Read (link_at (base plot) (front - 1)) (with_free_link (base plot) (front - 1))) (HasFreeList plot) d
     may_link = subst (λ (f : ℕ). MayRun (with_free (base plot) plot.blocks f) (HasFreeList plot) d) some may
 
-
     by_link : (e : Running) (result : Result (Option ℕ) Need) → RunsOn (Read b (with_free_link (base plot) (front - 1))) d e result → RunsOn (take plot) c e result
     by_link e result k = runs_read (free_at (base plot)) front (with_free (base plot) plot.blocks) c d e result was_read
         (subst (λ (f : ℕ). RunsOn (with_free (base plot) plot.blocks f) d e result) (sym some) (subst (λ (x : ℕ). RunsOn (Read x (with_free_link (base plot) (front - 1))) d e result) is k))

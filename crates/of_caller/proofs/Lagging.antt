@@ -68,7 +68,7 @@ module _ {W B : Type 0} (meaning : W → Meaning) (lawful : W → List ℕ → T
   word_stands c c1 c2 at k n1 n2 b b1 b2 s s1 s2 same1 same2 g h =
       let two : k + 1 + 1 ≡ k + 2 = omega arith in
       let leads : after_lagging meaning c1.machine (RaiseLog at) (k + 1) n2 ≡ at_place c1.machine (word_place (caller_call c) (at + 1)) (k + 2) =
-          word_raised meaning c1.machine (k + 1) n2 at ∙ (λ i. at_place c1.machine (word_place (same1 i).call (at + 1)) (two i)) in
+      word_raised meaning c1.machine (k + 1) n2 at ∙ (λ i. at_place c1.machine (word_place (same1 i).call (at + 1)) (two i)) in
       on_to (lagging_caller c (StoreLog at) k) (lagging_caller c1 (RaiseLog at) (k + 1)) (lagging_caller c2 (word_place (caller_call c) (at + 1)) (k + 2)) b b1 b2 s s1 s2
       (led_to c c1 (StoreLog at) (RaiseLog at) k (k + 1) n1 b b1 s s1 same1 (word_stored meaning c.machine k n1 at) g)
       (led_to c1 c2 (RaiseLog at) (word_place (caller_call c) (at + 1)) (k + 1) (k + 2) n2 b1 b2 s1 s2 same2 leads h)

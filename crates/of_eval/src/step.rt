@@ -26,11 +26,7 @@ pub(crate) type InstrResult = Result<Option<u32>, Cause>;
 
 /// Runs the instruction for which a word stands on cells that it asks for; a word that stands for
 /// none aborts. An error names a cell that must be read and is not known.
-pub(crate) fn run_word<C: Cells>(
-    plot: &Plot,
-    cells: &mut C,
-    word: u64,
-) -> Result<InstrResult, Need>
+pub(crate) fn run_word<C: Cells>(plot: &Plot, cells: &mut C, word: u64) -> Result<InstrResult, Need>
     requires { MayRun (run_word plot.now word) (HasStore plot.now) (C.run cells.old) }
     ensures { RunsOn (run_word plot.now word) (C.run cells.old) (C.run cells.new) result }
 {

@@ -163,13 +163,7 @@ fn insert<C: Cells>(plot: &Plot, cells: &mut C, key: u32, value: u32) -> Result<
 }
 
 // Makes a block that was taken the front of its key's bucket.
-fn fill<C: Cells>(
-    plot: &Plot,
-    cells: &mut C,
-    key: u32,
-    value: u32,
-    block: u32,
-) -> Result<Put, Need>
+fn fill<C: Cells>(plot: &Plot, cells: &mut C, key: u32, value: u32, block: u32) -> Result<Put, Need>
     requires { MayRun (fill plot.now key value block) (λ p. CanFill plot.now p block)
         (C.run cells.old) }
     ensures runs { RunsOn (fill plot.now key value block) (C.run cells.old) (C.run cells.new)

@@ -26,8 +26,11 @@ returns-in_err-link g c =
     rw (p.1, p.2) (link_lacks c.args.plot.now c.args.key c.args.place _ c.requires (g.C.Cells.run c.get.new.self) c.in_ok-value.value c.block-2.result c.block.result c.block.ensures c.block-2.ensures c.in_ok-value.ensures.runs _ _ c.in_err-link.ensures.runs)
 
 pub set-requires-clause-below : goal.set-requires-clause-below
-set-requires-clause-below g c = omega (arith, cell_below c.args.plot.now c.args.key c.args.place _ c.requires,
-    fits c.args.plot.now c.args.key c.args.place _ c.requires (g.C.Cells.run c.get-2.new.self) (goes_further (g.C.Cells.run c.args.cells.now) (g.C.Cells.run c.get.new.self) (g.C.Cells.run c.get-2.new.self) c.in_ok-value.ensures.runs.goes c.in_ok-link.ensures.runs.goes))
+set-requires-clause-below g c = omega (
+  arith,
+  cell_below c.args.plot.now c.args.key c.args.place _ c.requires,
+  fits c.args.plot.now c.args.key c.args.place _ c.requires (g.C.Cells.run c.get-2.new.self) (goes_further (g.C.Cells.run c.args.cells.now) (g.C.Cells.run c.get.new.self) (g.C.Cells.run c.get-2.new.self) c.in_ok-value.ensures.runs.goes c.in_ok-link.ensures.runs.goes),
+)
 
 pub give_back-requires : goal.give_back-requires
 give_back-requires g c = may_give_back c.args.plot.now c.args.key c.args.place _ c.requires (g.C.Cells.run c.get.new.self) c.in_ok-value.value c.block-2.result c.block.result c.block.ensures c.block-2.ensures c.in_ok-value.ensures.runs (g.C.Cells.run c.get-2.new.self) (g.C.Cells.run c.set.new.self) c.in_ok-link.link c.in_ok-link.ensures.runs c.set.ensures

@@ -49,14 +49,14 @@ returns-in_err-cause-clause-out c = let p = err_from_is_err_and c.from_residual.
 
 pub returns-in-Err-clause-runs : goal.returns-in-Err-clause-runs
 returns-in-Err-clause-runs c =
-  let r = rests (run_word c.args.plot.now (get_or c.args.op.now c.loop-i.i 0)) c.loop-i.part c.run_word.new.cells _ c.in_ok-cause.ensures in
-  rw c.abort_in_cells.ensures (record {
-  walk = ran_so (base c.args.plot.now) c.args.plot.now.blocks c.args.plot.now.few_blocks c.loop-i.kept (record c.args.part.now { script = [] }) c.loop-i.invariant.goes refl c.args.op.now c.loop-i.invariant.of.words c.requires.words.few c.loop-i.i c.loop-i.invariant.done c.loop-i.part c.loop-i.invariant.part
-      ∙ ran_aborts (base c.args.plot.now) c.args.plot.now.blocks (length c.args.op.now) c.args.op.now c.loop-i.i c.loop-i-test.true c.loop-i.kept.values c.loop-i.part c.run_word.new.cells c.in-Err.cause
-      (omega (arith, c.loop-i.invariant.goes.width, c.requires.words.few, c.loop-i-test.true)) (r.walk ∙ ap (λ (x : InstrResult). Ends x c.run_word.new.cells) c.in-Err.is);
-  known = r.known ∙ ap (λ (x : Part). x.known) c.loop-i.invariant.part;
-  batch = r.batch ∙ ap (λ (x : Part). x.batch) c.loop-i.invariant.part;
-})
+    let r = rests (run_word c.args.plot.now (get_or c.args.op.now c.loop-i.i 0)) c.loop-i.part c.run_word.new.cells _ c.in_ok-cause.ensures in
+    rw c.abort_in_cells.ensures (record {
+      walk = ran_so (base c.args.plot.now) c.args.plot.now.blocks c.args.plot.now.few_blocks c.loop-i.kept (record c.args.part.now { script = [] }) c.loop-i.invariant.goes refl c.args.op.now c.loop-i.invariant.of.words c.requires.words.few c.loop-i.i c.loop-i.invariant.done c.loop-i.part c.loop-i.invariant.part
+          ∙ ran_aborts (base c.args.plot.now) c.args.plot.now.blocks (length c.args.op.now) c.args.op.now c.loop-i.i c.loop-i-test.true c.loop-i.kept.values c.loop-i.part c.run_word.new.cells c.in-Err.cause
+          (omega (arith, c.loop-i.invariant.goes.width, c.requires.words.few, c.loop-i-test.true)) (r.walk ∙ ap (λ (x : InstrResult). Ends x c.run_word.new.cells) c.in-Err.is);
+      known = r.known ∙ ap (λ (x : Part). x.known) c.loop-i.invariant.part;
+      batch = r.batch ∙ ap (λ (x : Part). x.batch) c.loop-i.invariant.part;
+    })
 
 pub returns-in-Err-clause-holds : goal.returns-in-Err-clause-holds
 returns-in-Err-clause-holds c = holds_so c.args.plot.now c.loop-i.kept (record c.args.part.now { script = [] }) c.args.op.now c.loop-i.invariant.of c.requires.instrs c.loop-i.invariant.goes
