@@ -1,5 +1,6 @@
 //! One caller: it makes its calls with a member of a row.
 
+mod lagging;
 mod phases;
 mod reading;
 

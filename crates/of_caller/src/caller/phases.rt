@@ -312,13 +312,7 @@ impl<W: Work> Caller<W> {
             return Ok(());
         };
         self.turn(Place::RaiseOld, row, brake, steps)?;
-        while let Place::StoreLog(at) = self.machine.place() {
-            self.turn(Place::StoreLog(at), row, brake, steps)?;
-            let Place::RaiseLog(at) = self.machine.place() else {
-                return Ok(());
-            };
-            self.turn(Place::RaiseLog(at), row, brake, steps)?;
-        }
+        self.store_log(row, brake, steps)?;
         let Place::StoreRequest = self.machine.place() else {
             return Ok(());
         };

@@ -1,0 +1,111 @@
+//! The loops in which the machine lags behind: a step changes nothing of it but its place and its
+//! count of steps, and both are written once, when the loop ends or when the brake denies a step.
+
+ghost use Rattle.std.specs.Prelude.{◌≡◌, ◌+◌, ◌≤◌, IfOk, OnOk, OnErr};
+ghost use Rattle.of_core.specs.Lagging.{after_lagging, word_place, MayMake, MayLag};
+ghost use Rattle.of_core.specs.declared.place.Place.TheVariants.{StoreLog};
+
+use super::Caller;
+use of_brake::{Brake, Steps};
+use of_core::Place;
+use of_mem::Work;
+use of_row::{Row, Stopped};
+use std::sync::ledger::Ledger;
+
+impl<W: Work> Caller<W> {
+    ghost use Rattle.of_caller.specs.Callers.{IsCaller};
+    ghost use Rattle.of_caller.specs.Going.{LeadsOn, LeadsToDenial, GoesTo, IsDeniedAt};
+    ghost use Rattle.of_caller.specs.Going.{with_machine, lagging_caller, steps_left};
+
+    /// Makes one step of a call whose machine lags behind: the call has come to `place`, after `more`
+    /// steps that the machine hasn't counted. The answer is the word that the step found. If the
+    /// brake denies the step, the machine catches up.
+    #[inline(always)]
+    pub(super) fn turn_lagging<L: Ledger, B: Brake>(
+        &mut self,
+        place: Place,
+        more: u64,
+        row: &Row<W>,
+        brake: &mut B,
+        steps: &mut Steps<L>,
+    ) -> Result<u64, Stopped>
+        requires caller { IsCaller W.meaning row.now (lagging_caller self.old place more) }
+        requires may { MayMake W.meaning self.old.machine place }
+        requires lags { MayLag place }
+        ensures machine { OnOk result (self.new.machine ≡ self.old.machine) }
+        ensures goes { IfOk result (λ found. GoesTo W.meaning W.lawful B.denials B.left B.answers
+            B.asks row.now (lagging_caller self.old place more) brake.old steps.old
+            (with_machine self.new (after_lagging W.meaning self.old.machine place more found))
+            brake.new steps.new) }
+        ensures denied { OnErr result (IsDeniedAt W.meaning W.lawful B.denials B.left B.answers
+            B.asks row.now (lagging_caller self.old place more) brake.old steps.old self.new
+            brake.new steps.new) }
+    {
+        match row.step_lagging(place, more, &mut self.member, &self.machine, brake) {
+            Ok(found) => {
+                steps.tick();
+                Ok(found)
+            }
+            Err(stopped) => {
+                self.machine.go_to(place, more);
+                Err(stopped)
+            }
+        }
+    }
+
+    /// Stores word `at` of the log, and raises its durable word.
+    #[inline(always)]
+    fn store_word<L: Ledger, B: Brake>(
+        &mut self,
+        at: u32,
+        more: u64,
+        row: &Row<W>,
+        brake: &mut B,
+        steps: &mut Steps<L>,
+    ) -> Result<(), Stopped>
+        requires caller { IsCaller W.meaning row.now (lagging_caller self.old (StoreLog at) more) }
+        requires may { MayMake W.meaning self.old.machine (StoreLog at) }
+        ensures machine { OnOk result (self.new.machine ≡ self.old.machine) }
+        ensures goes { OnOk result (GoesTo W.meaning W.lawful B.denials B.left B.answers B.asks
+            row.now (lagging_caller self.old (StoreLog at) more) brake.old steps.old
+            (lagging_caller self.new (word_place self.old.machine.call (at + 1)) (more + 2))
+            brake.new steps.new) }
+        ensures denied { OnErr result (IsDeniedAt W.meaning W.lawful B.denials B.left B.answers
+            B.asks row.now (lagging_caller self.old (StoreLog at) more) brake.old steps.old self.new
+            brake.new steps.new) }
+    {
+        self.turn_lagging(Place::StoreLog(at), more, row, brake, steps)?;
+        self.turn_lagging(Place::RaiseLog(at), more + 1, row, brake, steps)?;
+        Ok(())
+    }
+
+    /// Stores the words of the log from the machine's place on, if the machine stores its log.
+    #[inline(always)]
+    pub(super) fn store_log<L: Ledger, B: Brake>(
+        &mut self,
+        row: &Row<W>,
+        brake: &mut B,
+        steps: &mut Steps<L>,
+    ) -> Result<(), Stopped>
+        requires caller { IsCaller W.meaning row.now self.old }
+        ensures caller { IsCaller W.meaning row.now self.new }
+        ensures goes { OnOk result (LeadsOn W.meaning W.lawful B.denials B.left B.answers B.asks
+            row.now self.old brake.old steps.old self.new brake.new steps.new) }
+        ensures denied { OnErr result (LeadsToDenial W.meaning W.lawful B.denials B.left B.answers
+            B.asks row.now self.old brake.old steps.old self.new brake.new steps.new) }
+        ensures falls { OnOk result
+            (steps_left W.meaning self.new ≤ steps_left W.meaning self.old) }
+    {
+        let Place::StoreLog(first) = self.machine.place() else {
+            return Ok(());
+        };
+        let words = self.machine.log_size(first);
+        let mut more = 0;
+        for at in first..words {
+            self.store_word(at, more, row, brake, steps)?;
+            more += 2;
+        }
+        self.machine.go_to(Place::StoreRequest, more);
+        Ok(())
+    }
+}

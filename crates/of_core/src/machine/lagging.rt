@@ -1,0 +1,45 @@
+//! A machine that lags behind: in a loop whose steps change only its place and its count of steps,
+//! both are written once, after the loop.
+
+ghost use Rattle.std.specs.Prelude.{◌≡◌, ◌+◌, ◌<◌, length};
+ghost use Rattle.of_core.specs.Machine.{log_words};
+ghost use Rattle.of_core.specs.Lagging.{at_place, MayMake, MayLag};
+ghost use Rattle.of_core.specs.declared.place.Place.TheVariants.{StoreLog};
+
+use crate::machine::Machine;
+use crate::place::Place;
+use of_mem::Work;
+
+impl<W: Work> Machine<W> {
+    /// The machine may make the step of its own place.
+    #[inline(always)]
+    pub fn may_step(&self)
+        ensures { MayMake W.meaning self.now self.now.call.place }
+    {
+        // a machine keeps this, whatever it holds
+        let _steps = self.steps;
+    }
+
+    /// Catches up: the machine has come to this place, by this number of steps more.
+    #[inline(always)]
+    pub fn go_to(&mut self, place: Place, more: u64)
+        requires may { MayMake W.meaning self.old place }
+        requires lags { MayLag place }
+        requires few { self.old.call.steps + more < 18446744073709551616 }
+        ensures { self.new ≡ at_place self.old place more }
+    {
+        self.place = place;
+        self.steps += more;
+    }
+
+    #[tactic(auto, using(crate::proofs::LogWords::word_laws))]
+    /// How many words the log has that the machine stores. The machine has come to the store of word
+    /// `at`.
+    pub fn log_size(&self, at: u32) -> u32
+        requires at { self.now.call.place ≡ StoreLog at }
+        ensures is { result ≡ length (log_words self.now.call.log) }
+        ensures may { MayMake W.meaning self.now (StoreLog at) }
+    {
+        2 * self.log.len() + 1
+    }
+}
