@@ -167,7 +167,13 @@ impl<W: Work> Caller<W> {
             return Ok(more + 4);
         }
         // another has brought the entry there
-        self.turn_lagging(Place::RaiseTarget(entry, found), more + 1, row, brake, steps)?;
+        self.turn_lagging(
+            Place::RaiseTarget(entry, found),
+            more + 1,
+            row,
+            brake,
+            steps,
+        )?;
         Ok(more + 2)
     }
 

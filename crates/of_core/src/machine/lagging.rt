@@ -34,9 +34,9 @@ impl<W: Work> Machine<W> {
         self.steps += more;
     }
 
-    #[tactic(auto, using(crate::proofs::LogWords::word_laws))]
     /// How many words the log has that the machine stores. The machine has come to the store of word
     /// `at`.
+    #[tactic(auto, using(crate::proofs::LogWords::word_laws))]
     pub fn log_size(&self, at: u32) -> u32
         requires at { self.now.call.place ≡ StoreLog at }
         ensures is { result ≡ length (log_words self.now.call.log) }
