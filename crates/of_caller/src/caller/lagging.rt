@@ -1,8 +1,8 @@
-//! The loops in which the machine lags behind: a step changes nothing of it but its place and its
+//! The loops in which the machine lags: a step changes nothing of it but its place and its
 //! count of steps, and both are written once, when the loop ends or when the brake denies a step.
 
 ghost use Rattle.std.specs.Prelude.{◌≡◌, ◌+◌, ◌≤◌, IfOk, OnOk, OnErr};
-ghost use Rattle.of_core.specs.Lagging.{after_lagging, word_place, entry_place, MayMake, MayLag};
+ghost use Rattle.of_core.specs.Lagging.{after_lagging, log_word_place, entry_place, MayMake, MayLag};
 ghost use Rattle.of_core.specs.declared.place.Place.TheVariants.{StoreLog, LoadTarget, ExchangeTarget};
 
 use super::Caller;
@@ -17,7 +17,7 @@ impl<W: Work> Caller<W> {
     ghost use Rattle.of_caller.specs.Going.{LeadsOn, LeadsToDenial, GoesTo, IsDeniedAt};
     ghost use Rattle.of_caller.specs.Going.{with_machine, lagging_caller, steps_left};
 
-    /// Makes one step of a call whose machine lags behind: the call has come to `place`, after `more`
+    /// Makes one step of a call whose machine lags: the call has come to `place`, after `more`
     /// steps that the machine hasn't counted. The answer is the word that the step found. If the
     /// brake denies the step, the machine catches up.
     #[inline(always)]
@@ -68,7 +68,7 @@ impl<W: Work> Caller<W> {
         ensures machine { OnOk result (self.new.machine ≡ self.old.machine) }
         ensures goes { OnOk result (GoesTo W.meaning W.lawful B.denials B.left B.answers B.asks
             row.now (lagging_caller self.old (StoreLog at) more) brake.old steps.old
-            (lagging_caller self.new (word_place self.old.machine.call (at + 1)) (more + 2))
+            (lagging_caller self.new (log_word_place self.old.machine.call (at + 1)) (more + 2))
             brake.new steps.new) }
         ensures denied { OnErr result (IsDeniedAt W.meaning W.lawful B.denials B.left B.answers
             B.asks row.now (lagging_caller self.old (StoreLog at) more) brake.old steps.old self.new

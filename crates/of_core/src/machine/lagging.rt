@@ -1,4 +1,4 @@
-//! A machine that lags behind: in a loop whose steps change only its place and its count of steps,
+//! A machine that lags: in a loop whose steps change only its place and its count of steps,
 //! both are written once, after the loop.
 
 ghost use Rattle.std.specs.Prelude.{◌≡◌, ◌+◌, ◌<◌, nat_lt, length};
